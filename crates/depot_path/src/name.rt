@@ -1,0 +1,91 @@
+//! Names of users, clients, hosts, groups, labels and counters.
+
+ghost use Rattle.std.specs.Prelude.{◌≡◌};
+ghost use Rattle.std.specs.List.{list_all, list_any};
+ghost use Rattle.depot_path.specs.Answers.{Answers};
+ghost use Rattle.depot_path.specs.Bytes.{is_digit};
+ghost use Rattle.depot_path.specs.Name.{is_barred, name_of, is_name as name_test};
+
+use crate::text::Text;
+use crate::utf8::is_utf8;
+use std::alloc::Global;
+use std::marker::Model;
+
+/// Why a text is no name.
+#[derive(Clone, Copy, Debug, PartialEq, Eq)]
+pub enum NameFault {
+    /// It isn't one.
+    NotAName,
+    /// No memory for it.
+    Memory,
+}
+
+/// A name of 1 to 128 bytes of UTF-8 without control bytes, spaces and `/@#*%"`, which doesn't begin
+/// with `-` and isn't all digits.
+#[derive(Clone, Debug, Drop)]
+pub struct Name {
+    text: Text,
+}
+
+impl Model for Name {
+    ghost use Rattle.std.specs.Prelude.{◌≡◌, List, ℕ, true};
+    ghost use Rattle.depot_path.specs.Name.{is_name};
+
+    ghost Value = { List ℕ };
+
+    ghost view = { λ name. name.text };
+
+    ghost invariant = { λ name. is_name name.text ≡ true };
+}
+
+fn is_barred_byte(byte: u8) -> bool
+    ensures { result ≡ is_barred byte }
+{
+    byte <= b' ' || byte == 0x7F || matches!(byte, b'/' | b'@' | b'#' | b'*' | b'%' | b'"')
+}
+
+fn has_barred_byte(bytes: &[u8]) -> bool
+    ensures { result ≡ list_any is_barred bytes.now }
+{
+    bytes.iter().any(|byte| is_barred_byte(*byte))
+}
+
+fn is_all_digits(bytes: &[u8]) -> bool
+    ensures { result ≡ list_all is_digit bytes.now }
+{
+    bytes.iter().all(|byte| *byte >= b'0' && *byte <= b'9')
+}
+
+/// Whether the bytes are a name.
+pub fn is_name(bytes: &[u8]) -> bool
+    ensures { result ≡ name_test bytes.now }
+{
+    !bytes.is_empty()
+        && bytes.len() <= 128
+        && bytes[0] != b'-'
+        && !has_barred_byte(bytes)
+        && !is_all_digits(bytes)
+        && is_utf8(bytes)
+}
+
+impl Name {
+    /// Reads a name.
+    pub fn read(alloc: Global, text: &[u8]) -> Result<Self, NameFault>
+        ensures { Answers NameFault.Memory result (name_of text.now) }
+    {
+        if !is_name(text) {
+            return Err(NameFault::NotAName);
+        }
+        match Text::from_bytes(alloc, text) {
+            Ok(text) => Ok(Name { text }),
+            Err(_) => Err(NameFault::Memory),
+        }
+    }
+
+    /// The bytes.
+    pub fn as_bytes(&self) -> &[u8]
+        ensures { result.now ≡ self.now }
+    {
+        self.text.as_bytes()
+    }
+}
