@@ -1,0 +1,18 @@
+//! The outside of the server: what gives it bytes, takes them, keeps them, tells the time and holds commands back.
+//!
+//! Each trait but [`Clock`] and [`Gate`] has a count of faults that never falls, and a call answers
+//! [`Failed`] only where that count has risen in the call. What a source, a sink or a door holds is told
+//! by an option: the clauses on content say something where it is told.
+#![tactic(auto)]
+
+mod disk;
+mod doors;
+mod link;
+mod stream;
+mod timing;
+
+pub use disk::Disk;
+pub use doors::Doors;
+pub use link::{Fetched, Link};
+pub use stream::{Failed, Sink, Source};
+pub use timing::{Clock, Gate};
