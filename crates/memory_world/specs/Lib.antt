@@ -1,0 +1,3 @@
+pub mod Stream
+pub mod Door
+pub mod Doors
