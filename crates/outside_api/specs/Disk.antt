@@ -28,21 +28,31 @@ pub record OnFile (file : ℕ) (step : List ℕ → List ℕ → Type 0) (old ne
   pub this : step (old file) (new file)
   pub others : (f : ℕ) → f ≢ file → new f ≡ old f
 
--- the files are the same
-abbrev pub Same : Files → Files → Type 0
-Same old new = (f : ℕ) → new f ≡ old f
+-- an old one after a step
+abbrev pub After : (Files → Files → Type 0) → (Files → Type 0) → Files → Type 0
+After step old c = (d : Files) × old d × step d c
 
--- each new image is an old one after a step
+-- each new one is an old one after a step
 abbrev pub Follows : (Files → Files → Type 0) → (Files → Type 0) → (Files → Type 0) → Type 0
-Follows step old new = (c : Files) → new c → (d : Files) × old d × step d c
+Follows step old new = (c : Files) → new c → After step old c
 
--- each new image is an old one
+-- each new one is an old one
 abbrev pub NoMore : (Files → Type 0) → (Files → Type 0) → Type 0
 NoMore old new = (c : Files) → new c → old c
 
--- a crash leaves these files and nothing else
-abbrev pub Only : Files → (Files → Type 0) → Type 0
-Only files images = (c : Files) → images c → (f : ℕ) → c f ≡ files f
+-- a disk that told what it reads still tells it
+abbrev pub StillTells : (Files → Type 0) → (Files → Type 0) → Type 0
+StillTells old new = (d : Files) → old d → (c : Files) × new c
+
+-- the files are the same
+pub record Same (old new : Files → Type 0) : Type 0 where
+  pub kept : (c : Files) → old c → new c
+  pub no_more : NoMore old new
+
+-- a step leads from each old one to a new one, and to no other
+pub record Leads (step : Files → Files → Type 0) (old new : Files → Type 0) : Type 0 where
+  pub to : (d : Files) → old d → (c : Files) × new c × step d c
+  pub from : Follows step old new
 
 -- Time goes on: a crash since t may have left what it may have left before, or what it may leave now.
 pub record Elapses (before now : ℕ) (past since : ℕ → Files → Type 0) (may_leave : Files → Type 0) : Type 0 where
@@ -64,7 +74,3 @@ pub record Reads (file : List ℕ) (at : ℕ) (old : List ℕ) (n : ℕ) (new : 
   pub there : n ≤ length (drop at file)
   pub rest : drop n new ≡ drop n old
   pub some : 0 < length old → at < length file → 0 < n
-
--- an old image after a step
-abbrev pub After : (Files → Files → Type 0) → (Files → Type 0) → Files → Type 0
-After step old c = (d : Files) × old d × step d c

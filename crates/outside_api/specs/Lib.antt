@@ -2,3 +2,4 @@ pub mod Count
 pub mod Told
 pub mod Disk
 pub mod Moments
+pub mod Link

@@ -1,17 +1,24 @@
 //! A disk of files by number: what a read gives, what a crash may leave, and how often it has failed.
 
-ghost use Rattle.std.specs.Prelude.{◌≡◌, ◌+◌, ◌<◌, ◌≤◌, ◌^◌, ℕ, List, length, take, slice_range, IfOk, OnOk};
-ghost use Rattle.outside_api.specs.Disk.{Files, Only, Follows, OnFile, Torn, Cut, Holds, Elapses, NoMore, Same, Reads};
+ghost use Rattle.std.specs.Prelude.{◌≡◌, ◌+◌, ◌<◌, ◌≤◌, ◌^◌, ℕ, length, take, IfOk, OnOk};
+ghost use Rattle.outside_api.specs.Disk.{Files, Follows, OnFile, Torn, Cut, Holds, Elapses, NoMore, Same, Leads, StillTells, Reads};
 ghost use Rattle.outside_api.specs.Count.{HasCause};
 
 use crate::stream::Failed;
 
-/// Files by number. A file that was never written has length 0.
+/// Files by number. A file that was never written has length 0, and none is longer than 2^63 - 1 bytes.
+///
+/// A disk tells what its files read (`seen`), what a crash now may leave of them (`may_leave`: the
+/// images), and what a crash at some moment since an earlier one may have left (`left_since`). Each
+/// of these is a set of files. A disk that tells nothing has no files in any of them, and then the
+/// clauses on content say nothing. Between two syncs a range that was written may hold any bytes, and
+/// so may all bytes past the least length that the file had; the length may be any that the file had
+/// or passed through. A failed call leaves its range in doubt.
 pub trait Disk {
-    /// What each file reads.
-    ghost seen: { Self → Files };
+    /// The files as a read gives them: none where the disk doesn't tell, and one else.
+    ghost seen: { Self → Files → Type 0 };
 
-    /// What a crash at this moment may leave: an image.
+    /// What a crash at this moment may leave: the images.
     ghost may_leave: { Self → Files → Type 0 };
 
     /// The moment, as a number that doesn't fall.
@@ -20,20 +27,23 @@ pub trait Disk {
     /// What a crash at some moment from that one on may have left, during a call or between two.
     ghost left_since: { Self → ℕ → Files → Type 0 };
 
-    /// How often a call failed. At its last value, 2 ^ 64 - 1, it stays, and there it counts as risen.
+    /// How often a call failed.
     ghost faults: { Self → ℕ };
 
-    /// The length of a file.
+    /// The length of a file in bytes.
     fn length(&mut self, file: u32) -> Result<u64, Failed>
-        ensures length { IfOk result (λ n. n ≡ length (seen self.old file)) }
+        ensures length { (files : Files) → seen self.old files → IfOk result (λ n. n ≡ length (files file)) }
+        ensures small { IfOk result (λ n. n < 2 ^ 63) }
         ensures same { Same (seen self.old) (seen self.new) }
         ensures crash { NoMore (may_leave self.old) (may_leave self.new) }
         ensures time { Elapses (moment self.old) (moment self.new) (left_since self.old) (left_since self.new) (may_leave self.new) }
         ensures cause { HasCause (faults self.old) (faults self.new) result };
 
-    /// Bytes of a file from a place on: at least 1 where there is one and room for it.
-    fn read(&mut self, file: u32, at: u64, buf: &mut [u8]) -> Result<usize, Failed>
-        ensures bytes { IfOk result (λ n. Reads (seen self.old file) at buf.old n buf.new) }
+    /// Puts bytes of a file from a place on at the front of the buffer, and answers how many: at
+    /// least 1 where the buffer isn't empty and the place is below the length, and 0 else.
+    fn read(&mut self, file: u32, at: u64, buffer: &mut [u8]) -> Result<usize, Failed>
+        ensures bytes { (files : Files) → seen self.old files → IfOk result (λ n. Reads (files file) at buffer.old n buffer.new) }
+        ensures fits { IfOk result (λ n. n ≤ length buffer.old) }
         ensures same { Same (seen self.old) (seen self.new) }
         ensures crash { NoMore (may_leave self.old) (may_leave self.new) }
         ensures time { Elapses (moment self.old) (moment self.new) (left_since self.old) (left_since self.new) (may_leave self.new) }
@@ -41,33 +51,40 @@ pub trait Disk {
 
     /// Writes over what is there, and past the end. Until a sync, a crash may leave any bytes in the range.
     fn write_at(&mut self, file: u32, at: u64, piece: &[u8]) -> Result<(), Failed>
-        requires { at ≤ length (seen self.old file) }
-        ensures written { OnOk result (OnFile file (Holds at piece.now) (seen self.old) (seen self.new)) }
+        requires { (files : Files) → seen self.old files → at ≤ length (files file) }
+        ensures written { OnOk result (Leads (OnFile file (Holds at piece.now)) (seen self.old) (seen self.new)) }
+        ensures small { OnOk result (at + length piece.now < 2 ^ 63) }
+        ensures told { StillTells (seen self.old) (seen self.new) }
         ensures crash { Follows (OnFile file (Torn at (length piece.now))) (may_leave self.old) (may_leave self.new) }
         ensures time { Elapses (moment self.old) (moment self.new) (left_since self.old) (left_since self.new) (may_leave self.new) }
         ensures cause { HasCause (faults self.old) (faults self.new) result };
 
-    /// Cuts a file to a length.
+    /// Cuts a file to a length. Until a sync, a crash may leave a longer file.
     fn cut(&mut self, file: u32, length: u64) -> Result<(), Failed>
-        requires { length ≤ Rattle.std.specs.Prelude.length (seen self.old file) }
-        ensures cut { OnOk result (OnFile file (λ old new. new ≡ take length old) (seen self.old) (seen self.new)) }
+        requires { (files : Files) → seen self.old files → length ≤ Rattle.std.specs.Prelude.length (files file) }
+        ensures cut { OnOk result (Leads (OnFile file (λ old new. new ≡ take length old)) (seen self.old) (seen self.new)) }
+        ensures told { StillTells (seen self.old) (seen self.new) }
         ensures crash { Follows (OnFile file (Cut length)) (may_leave self.old) (may_leave self.new) }
         ensures time { Elapses (moment self.old) (moment self.new) (left_since self.old) (left_since self.new) (may_leave self.new) }
         ensures cause { HasCause (faults self.old) (faults self.new) result };
 
     /// After it, a crash leaves what a read gives.
     fn sync(&mut self) -> Result<(), Failed>
-        ensures durable { OnOk result (Only (seen self.old) (may_leave self.new)) }
+        ensures durable { OnOk result (NoMore (seen self.new) (may_leave self.new)) }
         ensures same { OnOk result (Same (seen self.old) (seen self.new)) }
+        ensures told { StillTells (seen self.old) (seen self.new) }
         ensures crash { NoMore (may_leave self.old) (may_leave self.new) }
         ensures time { Elapses (moment self.old) (moment self.new) (left_since self.old) (left_since self.new) (may_leave self.new) }
         ensures cause { HasCause (faults self.old) (faults self.new) result };
 
     /// What the disk reads is one of its images.
-    ghost reads_an_image: { (disk : Self) → may_leave disk (seen disk) };
+    ghost reads_an_image: { (disk : Self) (c : Files) → seen disk c → may_leave disk c };
 
-    /// No file is longer.
-    ghost within: { (disk : Self) (file : ℕ) → length (seen disk file) < 2 ^ 63 };
+    /// The disk reads as no other files.
+    ghost reads_one: { (disk : Self) (c d : Files) → seen disk c → seen disk d → (file : ℕ) → c file ≡ d file };
+
+    /// No file of an image is longer.
+    ghost within: { (disk : Self) (c : Files) (file : ℕ) → may_leave disk c → length (c file) < 2 ^ 63 };
 
     /// This moment is one of those since an earlier one.
     ghost counts_now: { (disk : Self) (t : ℕ) (c : Files) → t ≤ moment disk → may_leave disk c → left_since disk t c };
