@@ -3,3 +3,4 @@ pub mod Touches
 pub mod Learning
 pub mod Keeps
 pub mod Forms
+mod Worked

@@ -1,5 +1,5 @@
 //! The words, and each kind of step on them.
-ghost use Rattle.std.specs.Prelude.{◌≡◌, ℕ, ◌+◌, ◌-◌, ◌^◌, ◌<◌, ◌≤◌, true, false, [], ◌∷◌, ◌++◌, length, IfOk, IsTrue};
+ghost use Rattle.std.specs.Prelude.{◌≡◌, ℕ, ◌+◌, ◌-◌, ◌^◌, ◌<◌, ◌≤◌, true, false, [], ◌∷◌, ◌++◌, length, IfOk, IsTrue, IsFalse};
 ghost use mathlib.Core.List.{IsPrefix};
 ghost use Rattle.order_words.specs.Lanes.{has_lane, last_touch, is_among};
 ghost use Rattle.order_words.specs.Seats.{lane_count, fresh_order, fresh_lane, fresh_lanes, order_note, lane_note, checked_with, longer};
@@ -175,6 +175,8 @@ impl<E: Entry> Orders<E> {
         requires checked { (lane : ℕ) → IsTrue (has_lane (E.lanes entry) lane) → IsTrue (is_among lane seat.old.checked) }
         ensures place { result ≡ length seat.old.list + 1 }
         ensures appended { seat.new ≡ record seat.old { list = seat.old.list ++ entry ∷ []; checked = [] } }
+        ensures touched { (lane : ℕ) → IsTrue (has_lane (E.lanes entry) lane) → last_touch E.lanes lane seat.new.list ≡ result }
+        ensures untouched { (lane : ℕ) → IsFalse (has_lane (E.lanes entry) lane) → last_touch E.lanes lane seat.new.list ≡ last_touch E.lanes lane seat.old.list }
     {
         let place = seat.places + 1;
         self.table
