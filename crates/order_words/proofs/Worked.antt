@@ -3,7 +3,7 @@ use Rattle.std.specs.Prelude.{◌≡◌, ℕ, ◌∷◌, [], List, true, false, 
 use Rattle.order_words.specs.Lanes.{has_lane, last_touch, is_among}
 use Rattle.order_words.specs.Seats.{checked_with, longer}
 
-bits : ℕ → ℕ
+abbrev bits : ℕ → ℕ
 bits lanes = lanes
 
 -- 5 has the lanes 0 and 2
@@ -39,8 +39,8 @@ checks = refl
 checks_not : checked_with 4 2 4 (0 ∷ []) ≡ 0 ∷ []
 checks_not = refl
 
-longer_first : longer (1 ∷ 2 ∷ []) (1 ∷ []) ≡ 1 ∷ 2 ∷ []
+longer_first : longer {E = ℕ} (1 ∷ 2 ∷ []) (1 ∷ []) ≡ 1 ∷ 2 ∷ []
 longer_first = refl
 
-longer_second : longer (1 ∷ []) (1 ∷ 2 ∷ []) ≡ 1 ∷ 2 ∷ []
+longer_second : longer {E = ℕ} (1 ∷ []) (1 ∷ 2 ∷ []) ≡ 1 ∷ 2 ∷ []
 longer_second = refl
