@@ -22,7 +22,7 @@ mod rule;
 mod seats;
 mod view;
 
-pub use lanes::Entry;
+pub use lanes::{Entry, with_lane};
 pub use orders::Orders;
 pub use seats::{LaneSeat, Note, OrderSeat};
 
