@@ -1,5 +1,5 @@
 -- Worked values of the definitions. An entry is the bits of its lanes.
-use Rattle.std.specs.Prelude.{◌≡◌, ℕ, ◌∷◌, [], List, true, false, refl}
+use Rattle.std.specs.Prelude.{◌≡◌, ℕ, ◌∷◌, [], true, false, refl}
 use Rattle.order_words.specs.Lanes.{has_lane, last_touch, is_among}
 use Rattle.order_words.specs.Seats.{checked_with, longer}
 

@@ -1,4 +1,4 @@
-use Rattle.std.proofs.Common.{◌≡◌, ℕ, true, sym, subst, refl}
+use Rattle.std.proofs.Common.{◌≡◌, ℕ, true, sym, subst}
 use Rattle.order_words.specs.Lanes.{is_among}
 use Rattle.order_words.proofs.Touches.{only_lane}
 use Rattle.order_words.proofs.tests.append_first.Goals as goal
