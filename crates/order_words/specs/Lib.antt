@@ -1,0 +1,4 @@
+pub mod Lanes
+pub mod Seats
+pub mod Rule
+pub mod Plays
