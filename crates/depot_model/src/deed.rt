@@ -3,7 +3,7 @@
 use depot_path::Name;
 
 /// One thing that happened to a depot.
-#[derive(Clone, Debug, Drop)]
+#[derive(Debug, Drop)]
 pub enum Deed {
     /// A counter was set, or removed where there is no value.
     Count {

@@ -1,9 +1,12 @@
 //! What a session asks.
 
+ghost use Rattle.std.specs.Prelude.{◌≡◌, IfOk};
+
 use depot_path::{Name, Sequence};
+use std::alloc::AllocError;
 
 /// Who asks: the names in the head of a session's script.
-#[derive(Clone, Debug, Drop)]
+#[derive(Debug, Drop)]
 pub struct Caller {
     /// The user.
     pub user: Name,
@@ -13,8 +16,21 @@ pub struct Caller {
     pub host: Name,
 }
 
+impl Caller {
+    /// The same caller once more.
+    pub fn copy(&self) -> Result<Caller, AllocError>
+        ensures { IfOk result (λ caller. caller ≡ self.now) }
+    {
+        Ok(Caller {
+            user: self.user.clone()?,
+            client: self.client.clone()?,
+            host: self.host.clone()?,
+        })
+    }
+}
+
 /// A command with its options and arguments, one variant for each form of the command table.
-#[derive(Clone, Debug, Drop)]
+#[derive(Debug, Drop)]
 pub enum Command {
     /// `counter NAME`: shows a counter.
     CounterShow {
@@ -28,6 +44,23 @@ pub enum Command {
         /// Its value from then on.
         value: u64,
     },
+}
+
+impl Command {
+    /// The same command once more.
+    pub fn copy(&self) -> Result<Command, AllocError>
+        ensures { IfOk result (λ command. command ≡ self.now) }
+    {
+        match self {
+            Command::CounterShow { name } => Ok(Command::CounterShow {
+                name: name.clone()?,
+            }),
+            Command::CounterSet { name, value } => Ok(Command::CounterSet {
+                name: name.clone()?,
+                value: *value,
+            }),
+        }
+    }
 }
 
 /// A session's commands, in the order of its script.

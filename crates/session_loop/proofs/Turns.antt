@@ -1,0 +1,146 @@
+-- One more command of a party.
+use Rattle.std.proofs.Common.{◌≡◌, ℕ, ◌+◌, ◌-◌, Bool, true, false, eqb, ◌&&◌, List, [], ◌++◌, get_or, Option, Some, Result, Ok, Err, refl, sym, ap, ◌∙◌, arith, inl, inr, add-one}
+use Rattle.std.specs.Prelude.{All, AllPairs, slice_get}
+use Rattle.std.specs.Prelude.{option_map}
+use Rattle.std.specs.Option.{option_flatten}
+use Rattle.std.proofs.lemmas.Bool.{ne_eqb, eq-eqb}
+use Rattle.std.proofs.lemmas.List.Elements.{All-push, recursion_from_All}
+use Rattle.std.proofs.lemmas.List.Quantifiers.{all_pairs_push}
+use Rattle.outside_api.specs.Told.{extended}
+use Rattle.depot_model.specs.declared.deed.Deed.{Deed}
+use Rattle.depot_model.specs.declared.reply.Row.{Row}
+use Rattle.depot_model.specs.declared.place.Place.{Place}
+use Rattle.depot_model.specs.declared.request.Command.{Command}
+use Rattle.depot_model.specs.Printed.{printed}
+use Rattle.depot_model.specs.declared.request.Request.{Request}
+use Rattle.depot_model.specs.declared.request.Session.{Session}
+use Rattle.depot_model.specs.Order.{Rises}
+use Rattle.depot_model.specs.Step.{after}
+use Rattle.depot_model.specs.Run.{step, asked, request_at, asked_of, deeds_at, rows_at, run, is_place_of, reply_to, output_of, outputs}
+use Rattle.session_loop.proofs.Orders.{IsUnplaced, run-push, reply_to-unplaced, reply_to-last, outputs-other}
+use Rattle.wire_text.proofs.Pieces.{both, extended-nil, extended-extended}
+use Rattle.session_loop.specs.Served.{IsTaken, IsUntaken, IsAnswered, IsTurn, IsServed}
+
+-- a party's first n commands were taken
+pub record HasRun (may_give : ℕ → Type 0) (sessions : List (Option Session)) (start : List Deed) (party n : ℕ) (depot : List Deed) (order : List Place) : Type 0 where
+  pub depot_is : depot ≡ run sessions start order
+  pub places : All (IsTurn may_give party n) order
+  pub rising : AllPairs Rises order
+
+pub run_none : (may_give : ℕ → Type 0) (sessions : List (Option Session)) (start : List Deed) (party : ℕ) → HasRun may_give sessions start party 0 start []
+run_none may_give sessions start party = record { depot_is = refl; places = λ k d lt. absurd (omega arith); rising = λ i j d lt1 lt2. absurd (omega arith) }
+
+and_false : (b : Bool) → (b && false) ≡ false
+and_false true = refl
+and_false false = refl
+
+-- a place of another number is no place of this command
+other_place : (party number : ℕ) (place : Place) → (place.number ≡ number → ⊥) → is_place_of party number place ≡ false
+other_place party number place ne = rw (ne_eqb place.number number ne) (and_false (eqb place.party party))
+
+this_place : (party number : ℕ) (place : Place) → place.party ≡ party → place.number ≡ number → is_place_of party number place ≡ true
+this_place party number place p n = rw (p, n, eq-eqb party party refl, eq-eqb number number refl) refl
+
+module _ (may_give : ℕ → Type 0) (sessions : List (Option Session)) (start : List Deed) (party n : ℕ) (session : Session) (command : Command) (depot depot' : List Deed) (order order' : List Place) (text : List ℕ) where
+  unplaced : HasRun may_give sessions start party n depot order → IsUnplaced party (n + 1) order
+  unplaced h = recursion_from_All (λ place. is_place_of party (n + 1) place ≡ false) order (λ k d lt. other_place party (n + 1) (get_or order k d) (λ e. let last = (h.places k d lt).last in absurd (omega arith)))
+
+  -- what its place names
+  named : slice_get sessions (party - 1) ≡ Some (Some session) → slice_get session.commands n ≡ Some command → (place : Place) → place.party ≡ party → place.number ≡ n + 1
+      → request_at sessions place ≡ Some (asked place session.caller command)
+  named has is place party_is number_is =
+      let number : place.number - 1 ≡ n = omega arith in
+      ap (λ (x : ℕ). asked_of place (option_flatten (slice_get sessions (x - 1)))) party_is
+      ∙ (ap (λ (s : Option (Option Session)). asked_of place (option_flatten s)) has
+      ∙ (ap (λ (x : ℕ). option_map (asked place session.caller) (slice_get session.commands x)) number
+      ∙ ap (option_map (asked place session.caller)) is))
+
+  -- the run, the earlier replies and the new one, where the command got a place
+  pub run_taken : slice_get sessions (party - 1) ≡ Some (Some session) → slice_get session.commands n ≡ Some command → HasRun may_give sessions start party n depot order → IsTaken may_give party (n + 1) session.caller command depot depot' order order' text
+      → HasRun may_give sessions start party (n + 1) depot' order'
+      × (outputs sessions start order' party n ≡ outputs sessions start order party n)
+      × (output_of sessions start order' party (n + 1) ≡ text)
+  run_taken has is h t =
+      let names = named has is t.place t.party_is t.number_is in
+      let asks : Request = asked t.place session.caller command in
+      let before : run sessions start order ≡ depot = sym h.depot_is in
+      let did : deeds_at sessions depot t.place ≡ (step depot asks).deeds = rw (t.no_fault, names) refl in
+      let says : rows_at sessions depot t.place ≡ (step depot asks).rows = rw (t.no_fault, names) refl in (
+        record {
+          depot_is = t.depot ∙ (ap (after depot) (sym did) ∙ (rw h.depot_is refl ∙ (sym (run-push sessions start order t.place) ∙ ap (run sessions start) (sym t.order))));
+          places = rw t.order (All-push (IsTurn may_give party (n + 1)) order t.place
+              (λ k d lt. let turn = h.places k d lt in record { party_is = turn.party_is; first = turn.first; last = omega arith; moment = turn.moment })
+              (record { party_is = t.party_is; first = omega arith; last = omega arith; moment = t.moment }));
+          rising = rw t.order (all_pairs_push Rises order t.place h.rising (λ k d lt same. let turn = h.places k d lt in omega arith));
+        },
+        rw t.order (outputs-other sessions start order t.place party n (λ k le. other_place party k t.place (λ e. omega arith))),
+        ap (λ (r : List Row). printed r (n + 1))
+            (ap (λ (o : List Place). reply_to sessions start o party (n + 1)) t.order
+            ∙ (reply_to-last sessions start order t.place party (n + 1) (unplaced h) (this_place party (n + 1) t.place t.party_is t.number_is)
+            ∙ (ap (λ (ds : List Deed). rows_at sessions ds t.place) before ∙ says)))
+            ∙ sym t.reply,
+      )
+
+  -- the same where it found no memory
+  pub run_untaken : HasRun may_give sessions start party n depot order → IsUntaken (n + 1) depot depot' order order' text
+      → HasRun may_give sessions start party (n + 1) depot' order'
+      × (outputs sessions start order' party n ≡ outputs sessions start order party n)
+      × (output_of sessions start order' party (n + 1) ≡ text)
+  run_untaken h t = (
+    record {
+      depot_is = t.depot ∙ (h.depot_is ∙ ap (run sessions start) (sym t.order));
+      places = rw t.order (λ k d lt. let turn = h.places k d lt in record { party_is = turn.party_is; first = turn.first; last = omega arith; moment = turn.moment });
+      rising = rw t.order h.rising;
+    },
+    rw t.order refl,
+    ap (λ (r : List Row). printed r (n + 1)) (ap (λ (o : List Place). reply_to sessions start o party (n + 1)) t.order ∙ reply_to-unplaced sessions start order party (n + 1) (unplaced h))
+        ∙ sym t.reply,
+  )
+
+-- a party's first n commands were taken, and the sink got the replies
+pub record HasServed (may_give : ℕ → Type 0) (sessions : List (Option Session)) (start : List Deed) (party n : ℕ) (before now : Option (List ℕ)) (depot : List Deed) (order : List Place) : Type 0 where
+  pub ran : HasRun may_give sessions start party n depot order
+  pub output : now ≡ extended before (outputs sessions start order party n)
+
+pub served_none : (may_give : ℕ → Type 0) (sessions : List (Option Session)) (start : List Deed) (party : ℕ) (given : Option (List ℕ)) → HasServed may_give sessions start party 0 given given start []
+served_none may_give sessions start party given = record { ran = run_none may_give sessions start party; output = sym (extended-nil given) }
+
+module _ {E : Type 0} (may_give : ℕ → Type 0) (sessions : List (Option Session)) (start : List Deed) (party n : ℕ) (session : Session) (command : Command) (depot depot' : List Deed) (order order' : List Place) (first before now : Option (List ℕ)) where
+  run_more : slice_get sessions (party - 1) ≡ Some (Some session) → slice_get session.commands n ≡ Some command → HasServed may_give sessions start party n first before depot order → (result : Result (Unit {0}) E) → (a : IsAnswered may_give party (n + 1) session.caller command depot depot' order order' before now result)
+      → HasRun may_give sessions start party (n + 1) depot' order'
+      × (outputs sessions start order' party n ≡ outputs sessions start order party n)
+      × (output_of sessions start order' party (n + 1) ≡ a.text)
+  run_more has is h result a =
+      elim a.taken [
+        | inl t ↦ run_taken may_give sessions start party n session command depot depot' order order' a.text has is h.ran t
+        | inr t ↦ run_untaken may_give sessions start party n session command depot depot' order order' a.text h.ran t
+      ]
+
+  pub served_more : slice_get sessions (party - 1) ≡ Some (Some session) → slice_get session.commands n ≡ Some command → HasServed may_give sessions start party n first before depot order → (x : Unit {0}) → IsAnswered {E = E} may_give party (n + 1) session.caller command depot depot' order order' before now (Ok x)
+      → HasServed may_give sessions start party (n + 1) first now depot' order'
+  served_more has is h x a =
+      let answer : Result (Unit {0}) E = Ok x in
+      let more = run_more has is h answer a in
+      record {
+        ran = more.0;
+        output = both first before now (outputs sessions start order party n) a.text h.output a.given.whole
+            ∙ ap (extended first) (ap (λ (o : List ℕ). o ++ a.text) (sym more.1) ∙ (ap (λ (o : List ℕ). outputs sessions start order' party n ++ o) (sym more.2) ∙ rw add-one refl));
+      }
+
+  pub served_last : slice_get sessions (party - 1) ≡ Some (Some session) → slice_get session.commands n ≡ Some command → HasServed may_give sessions start party n first before depot order → (x : E) → IsAnswered may_give party (n + 1) session.caller command depot depot' order order' before now (Err x)
+      → IsServed may_give sessions start party (n + 1) true first now order'
+  served_last has is h x a =
+      let more = run_more has is h (Err x) a in
+      let got = a.given.front in
+      record {
+        places = more.0.places;
+        rising = more.0.rising;
+        output = (
+          n,
+          add-one n,
+          got.0,
+          rw more.2 got.1,
+          got.2 ∙ (ap (λ (o : Option (List ℕ)). extended o got.0) h.output
+              ∙ (extended-extended first (outputs sessions start order party n) got.0 ∙ ap (λ (o : List ℕ). extended first (o ++ got.0)) (sym more.1))),
+        );
+      }

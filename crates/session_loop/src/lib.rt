@@ -1,0 +1,6 @@
+//! The run of a session: its commands are taken one after another, and each reply goes to the sink.
+#![tactic(auto)]
+
+mod session;
+
+pub use session::{SessionRun, run_session};
