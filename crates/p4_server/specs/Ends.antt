@@ -1,0 +1,44 @@
+-- How the ends of parties lead to the end of the program.
+use Rattle.std.specs.Prelude.{ℕ, Bool, true, false, List, if◌then◌else◌}
+use Rattle.std.specs.List.{list_any}
+use Rattle.wire_text.specs.declared.reader.ScriptEnd.{ScriptEnd}
+use Rattle.wire_text.specs.declared.reader.ScriptEnd.TheVariants as scripts
+use Rattle.p4_server.specs.declared.ended.PartyEnd.{PartyEnd}
+use Rattle.p4_server.specs.declared.ended.PartyCause.{PartyCause}
+use Rattle.p4_server.specs.declared.ended.PartyCause.TheVariants as ends
+use Rattle.p4_server.specs.declared.ended.Cause.{Cause}
+use Rattle.p4_server.specs.declared.ended.Cause.TheVariants as causes
+
+abbrev pub status_of : Cause → ℕ
+status_of causes.Done = 0
+status_of causes.Usage = 1
+status_of causes.Script = 3
+status_of causes.Fault = 4
+status_of causes.Memory = 5
+
+-- a failed sink ends the party, whatever the reading of its script found
+abbrev pub party_end : Bool → ScriptEnd → PartyCause
+party_end true end = ends.WriteFault
+party_end false scripts.Whole = ends.Whole
+party_end false (scripts.Fault fault) = ends.Script fault
+party_end false scripts.ReadFault = ends.ReadFault
+
+-- the party's source or sink failed
+abbrev pub is_failed : PartyCause → Bool
+is_failed ends.Whole = false
+is_failed (ends.Script fault) = false
+is_failed ends.ReadFault = true
+is_failed ends.WriteFault = true
+
+-- the party's script has a fault
+abbrev pub is_faulty : PartyCause → Bool
+is_faulty ends.Whole = false
+is_faulty (ends.Script fault) = true
+is_faulty ends.ReadFault = false
+is_faulty ends.WriteFault = false
+
+-- a fault of the outside counts before one of a script
+abbrev pub ends_cause : {K : Type 0} → List (PartyEnd K) → Cause
+ends_cause parties =
+    if list_any (λ party. is_failed party.end) parties then causes.Fault else
+    (if list_any (λ party. is_faulty party.end) parties then causes.Script else causes.Done)

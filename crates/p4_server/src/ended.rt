@@ -1,0 +1,140 @@
+//! How a run of the program ends.
+
+ghost use Rattle.std.specs.Prelude.{◌≡◌};
+ghost use Rattle.std.specs.List.{list_any};
+ghost use Rattle.p4_server.specs.Ends.{status_of, is_failed as failed_test, is_faulty as faulty_test, ends_cause, party_end};
+
+use depot_model::Place;
+use depot_path::Sequence;
+use wire_text::{ScriptEnd, ScriptFault};
+
+/// How a party ends.
+#[derive(Clone, Copy, Debug, PartialEq, Eq)]
+pub enum PartyCause {
+    /// Its script was read to its end, and every reply was given.
+    Whole,
+    /// Its script has a fault.
+    Script(ScriptFault),
+    /// Its source failed.
+    ReadFault,
+    /// Its sink failed.
+    WriteFault,
+}
+
+/// The end of a party.
+#[derive(Drop)]
+pub struct PartyEnd<K> {
+    /// The party, from 1.
+    pub party: u32,
+    /// What it was answered.
+    pub sink: K,
+    /// How many of its commands were taken or found no memory.
+    pub commands: u32,
+    /// Why it ended.
+    pub end: PartyCause,
+}
+
+/// Why the program ends.
+#[derive(Clone, Copy, Debug, PartialEq, Eq)]
+pub enum Cause {
+    /// All is done.
+    Done,
+    /// The words are those of no mode.
+    Usage,
+    /// A script has a fault.
+    Script,
+    /// The outside has failed.
+    Fault,
+    /// There was no memory.
+    Memory,
+}
+
+/// What a run of the program leaves.
+#[derive(Drop)]
+pub struct Ended<D, S, K> {
+    /// The status with which the program ends: 0 done, 1 usage, 3 a script's fault, 4 a fault of the
+    /// outside, 5 want of memory.
+    pub status: u8,
+    /// Why it ends.
+    pub cause: Cause,
+    /// The order in which the commands were taken.
+    pub order: Sequence<Place>,
+    /// The end of each party, in the order of the names.
+    pub parties: Sequence<PartyEnd<K>>,
+    /// The source of each of these parties.
+    pub sources: Sequence<S>,
+    /// The journal's disk.
+    pub journal: D,
+    /// The archive's disk.
+    pub archive: D,
+}
+
+/// The status of a cause.
+pub fn status_code(cause: Cause) -> u8
+    ensures { result ≡ status_of cause }
+{
+    match cause {
+        Cause::Done => 0,
+        Cause::Usage => 1,
+        Cause::Script => 3,
+        Cause::Fault => 4,
+        Cause::Memory => 5,
+    }
+}
+
+/// How a party ends of which a script was read so, and whose sink failed or not.
+pub fn end_of_party(failed: bool, end: ScriptEnd) -> PartyCause
+    ensures { result ≡ party_end failed end }
+{
+    if failed {
+        return PartyCause::WriteFault;
+    }
+    match end {
+        ScriptEnd::Whole => PartyCause::Whole,
+        ScriptEnd::Fault(fault) => PartyCause::Script(fault),
+        ScriptEnd::ReadFault => PartyCause::ReadFault,
+    }
+}
+
+fn is_failed(end: PartyCause) -> bool
+    ensures { result ≡ failed_test end }
+{
+    match end {
+        PartyCause::ReadFault | PartyCause::WriteFault => true,
+        PartyCause::Whole | PartyCause::Script(_) => false,
+    }
+}
+
+fn is_faulty(end: PartyCause) -> bool
+    ensures { result ≡ faulty_test end }
+{
+    match end {
+        PartyCause::Script(_) => true,
+        PartyCause::Whole | PartyCause::ReadFault | PartyCause::WriteFault => false,
+    }
+}
+
+fn any_failed<K>(parties: &[PartyEnd<K>]) -> bool
+    ensures { result ≡ list_any (λ party. failed_test party.end) parties.now }
+{
+    parties.iter().any(|party| is_failed(party.end))
+}
+
+fn any_faulty<K>(parties: &[PartyEnd<K>]) -> bool
+    ensures { result ≡ list_any (λ party. faulty_test party.end) parties.now }
+{
+    parties.iter().any(|party| is_faulty(party.end))
+}
+
+/// The cause to which the ends of the parties lead.
+pub fn cause_of<K>(parties: &[PartyEnd<K>]) -> Cause
+    ensures { result ≡ ends_cause parties.now }
+{
+    if any_failed(parties) {
+        Cause::Fault
+    } else if any_faulty(parties) {
+        Cause::Script
+    } else {
+        Cause::Done
+    }
+}
