@@ -1,0 +1,5 @@
+mod Calls
+mod Contents
+mod Images
+mod Redone
+mod Replays
