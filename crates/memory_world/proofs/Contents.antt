@@ -26,12 +26,12 @@ contents_push [] v (suc f) none = refl
 contents_push (w ∷ files) v zero none = refl
 contents_push (w ∷ files) v (suc f) none = contents_push files v f none
 
-set_same : (files : Vecs) (n : ℕ) (v : Vec ℕ Global) → n < length files → contents (set files n v) n ≡ v.items
+pub set_same : (files : Vecs) (n : ℕ) (v : Vec ℕ Global) → n < length files → contents (set files n v) n ≡ v.items
 set_same [] n v lt = absurd (omega arith)
 set_same (w ∷ files) zero v lt = refl
 set_same (w ∷ files) (suc n) v lt = set_same files n v (omega arith)
 
-set_other : (files : Vecs) (n f : ℕ) (v : Vec ℕ Global) → f ≢ n → contents (set files n v) f ≡ contents files f
+pub set_other : (files : Vecs) (n f : ℕ) (v : Vec ℕ Global) → f ≢ n → contents (set files n v) f ≡ contents files f
 set_other [] n f v other = refl
 set_other (w ∷ files) zero zero v other = absurd (other refl)
 set_other (w ∷ files) zero (suc f) v other = refl

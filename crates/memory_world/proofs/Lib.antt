@@ -1,5 +1,6 @@
 mod Calls
 mod Contents
+mod Filled
 mod Images
 mod Redone
 mod Replays

@@ -100,19 +100,24 @@ fn fill<'p>(bytes: &mut [u8], number: usize, ranges: &[OpenRange], pick: &'p [u8
     ensures picked { (k : ℕ) → k < length bytes.old → is_in ranges.now number k ≡ true → get_or bytes.new k 0 ≡ get_or pick.now (open_below (is_in ranges.now number) k) 0 }
     ensures rest { result.now ≡ drop (open_below (is_in ranges.now number) (length bytes.old)) pick.now }
 {
-    let mut rest = pick;
+    let mut used = 0;
     for (place, byte) in bytes.iter_mut().enumerate() {
         if is_open(ranges, number, place) {
-            match rest {
-                [next, after @ ..] => {
-                    *byte = *next;
-                    rest = after;
-                }
-                [] => *byte = 0,
-            }
+            *byte = byte_at(pick, used);
+            used += 1;
         }
     }
-    rest
+    &pick[used.min(pick.len())..]
+}
+
+// A byte of a text, and 0 behind its end.
+fn byte_at(text: &[u8], place: usize) -> u8
+    ensures { result ≡ get_or text.now place 0 }
+{
+    match text.get(place) {
+        Some(byte) => *byte,
+        None => 0,
+    }
 }
 
 // Whether a place of a file is open.
