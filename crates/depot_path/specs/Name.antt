@@ -1,6 +1,6 @@
 -- Names of users, clients, hosts, groups, labels and counters. Helix Core bars the same characters from the names of its
 -- specs (Command-Line Reference, "Limitations on characters in filenames and entities"); the most bytes are this project's own choice.
-use Rattle.std.specs.Prelude.{ℕ, Bool, not, ◌&&◌, ◌||◌, nat_le, List, [], ◌∷◌, length, codes, ◌==◌, true, false, if◌then◌else◌, Result, Ok, Err}
+use Rattle.std.specs.Prelude.{ℕ, Bool, not, ◌&&◌, ◌||◌, nat_le, List, [], ◌∷◌, length, codes, ◌==◌, false, if◌then◌else◌, Result, Ok, Err}
 use Rattle.std.specs.List.{list_any, list_all}
 use Rattle.depot_path.specs.Bytes.{is_among, is_control, is_digit}
 use Rattle.depot_path.specs.Utf8.{is_utf8}

@@ -1,5 +1,5 @@
 -- UTF-8, by the table of well-formed byte sequences (RFC 3629, section 4).
-use Rattle.std.specs.Prelude.{ℕ, ◌-◌, Bool, true, false, ◌&&◌, nat_le, List, [], ◌∷◌, if◌then◌else◌, ◌==◌, Option, Some, None}
+use Rattle.std.specs.Prelude.{ℕ, ◌-◌, Bool, false, ◌&&◌, nat_le, List, [], ◌∷◌, if◌then◌else◌, ◌==◌, Option, Some, None}
 use Rattle.depot_path.specs.declared.utf8.Tail.{Tail}
 
 abbrev pub is_between : ℕ → ℕ → ℕ → Bool

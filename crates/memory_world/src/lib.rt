@@ -3,8 +3,16 @@
 
 mod call;
 mod disk;
+mod door;
+mod doors;
 mod failing;
 mod files;
 mod image;
+mod stream;
+mod timing;
 
 pub use disk::MemoryDisk;
+pub use door::Door;
+pub use doors::MemoryDoors;
+pub use stream::{MemorySink, MemorySource};
+pub use timing::{FixedClock, OpenGate};

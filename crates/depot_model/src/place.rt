@@ -1,0 +1,14 @@
+//! The order in which the commands of all sessions were taken.
+
+/// The place of a command in the order.
+#[derive(Clone, Copy, Debug, PartialEq, Eq)]
+pub struct Place {
+    /// The party, from 1.
+    pub party: u32,
+    /// The command's number among those of the party, from 1.
+    pub number: u32,
+    /// The moment of its request, in seconds since 1970.
+    pub moment: u64,
+    /// Whether its commit failed.
+    pub fault: bool,
+}

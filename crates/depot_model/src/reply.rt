@@ -1,0 +1,28 @@
+//! What a command is answered.
+
+use depot_path::{Sequence, Text};
+
+/// A named value of a row.
+#[derive(Debug, Drop)]
+pub struct Field {
+    /// The field's name.
+    pub name: Text,
+    /// Its value.
+    pub value: Text,
+}
+
+/// A row of a reply: its fields in order, and the content of a file where one is printed.
+#[derive(Debug, Drop)]
+pub struct Row {
+    /// The fields.
+    pub fields: Sequence<Field>,
+    /// The content.
+    pub content: Option<Text>,
+}
+
+/// The answer to a command.
+#[derive(Debug, Drop)]
+pub struct Reply {
+    /// Its rows, in order.
+    pub rows: Sequence<Row>,
+}

@@ -1,0 +1,86 @@
+//! Doors to sources and sinks in memory.
+
+ghost use Rattle.std.specs.Prelude.{◌≡◌, ◌≢◌, ◌<◌, ℕ, List, length, slice_get, None, IfSome, IfNone};
+ghost use Rattle.memory_world.specs.Door.{door_among};
+
+use crate::door::Door;
+use crate::failing::Failing;
+use crate::stream::{MemorySink, MemorySource};
+use outside_api::{Doors, Failed};
+
+/// Doors of parties, each of which opens once.
+#[derive(Debug, Drop)]
+pub struct MemoryDoors {
+    doors: Vec<Door>,
+    calls: Failing,
+}
+
+/// The place of the first door of the name.
+fn place_of(doors: &[Door], name: &str) -> Option<usize>
+    ensures within { IfSome result (λ at. at < length doors.now) }
+    ensures found { IfSome result (λ at. door_among doors.now name.now ≡ slice_get doors.now at) }
+    ensures none { IfNone result (door_among doors.now name.now ≡ None) }
+{
+    for (at, door) in doors.iter().enumerate() {
+        if door.is_of(name) {
+            return Some(at);
+        }
+    }
+    None
+}
+
+/// Takes the first door of the name away.
+fn take_door(doors: &mut Vec<Door>, name: &str) -> Option<Door>
+    ensures found { result ≡ door_among doors.old.items name.now }
+    ensures others { (other : List ℕ) → other ≢ name.now → door_among doors.new.items other ≡ door_among doors.old.items other }
+{
+    match place_of(doors, name) {
+        Some(at) => Some(doors.remove(at)),
+        None => None,
+    }
+}
+
+impl MemoryDoors {
+    ghost use Rattle.memory_world.specs.Door.{input_among, output_among};
+    ghost use Rattle.memory_world.specs.Doors.{doors_input, doors_output, doors_faults};
+
+    /// These doors. The calls of these numbers, from 1, fail, and so does one for a name that isn't
+    /// left.
+    pub fn new(doors: Vec<Door>, fails: Vec<u64>) -> Self
+        ensures input { (name : List ℕ) → doors_input result name ≡ input_among doors.items name }
+        ensures output { (name : List ℕ) → doors_output result name ≡ output_among doors.items name }
+        ensures faults { doors_faults result ≡ 0 }
+    {
+        MemoryDoors {
+            doors,
+            calls: Failing::new(fails),
+        }
+    }
+}
+
+impl Doors for MemoryDoors {
+    ghost use Rattle.memory_world.specs.Doors.{doors_input, doors_output, doors_faults};
+
+    type In = MemorySource;
+
+    type Out = MemorySink;
+
+    ghost faults = { doors_faults };
+
+    ghost input = { doors_input };
+
+    ghost output = { doors_output };
+
+    fn come(&mut self, name: &str) -> Result<(MemorySource, MemorySink), Failed> {
+        if self.calls.call_fails() {
+            return Err(Failed);
+        }
+        match take_door(&mut self.doors, name) {
+            Some(door) => Ok(door.into_parts()),
+            None => {
+                self.calls.fault();
+                Err(Failed)
+            }
+        }
+    }
+}

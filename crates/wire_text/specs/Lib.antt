@@ -1,0 +1,4 @@
+pub mod Giving
+pub mod Line
+pub mod Script
+pub mod Reading
