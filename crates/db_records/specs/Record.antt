@@ -1,5 +1,5 @@
 -- The table and the key of a row, and whether it is of a live revision.
-use Rattle.std.specs.Prelude.{Bool, true, false, not, ◌&&◌, codes, bytes_eq}
+use Rattle.std.specs.Prelude.{Bool, false, not, ◌&&◌, codes, bytes_eq}
 use Rattle.db_records.specs.declared.key.Key.{Key}
 use Rattle.db_records.specs.declared.key.Key.TheVariants as keys
 use Rattle.db_records.specs.declared.record.Record.{Record}

@@ -14,7 +14,7 @@ pub enum Op {
 }
 
 /// A change of one row: the new one, or the one that goes away.
-#[derive(Clone, Debug, Drop, PartialEq, Eq)]
+#[derive(Clone, Drop, PartialEq, Eq)]
 pub struct Change {
     pub op: Op,
     pub row: Record,

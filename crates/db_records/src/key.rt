@@ -1,8 +1,10 @@
 //! Keys, and their order.
 
-ghost use Rattle.std.specs.Prelude.{◌≡◌, ◌↔◌};
+ghost use Rattle.std.specs.Prelude.{◌≡◌, refl};
+ghost use Rattle.std.specs.Cmp.{eq_by_cmp_equiv, partial_equiv_from_equiv, partial_order_from_total};
+ghost use Rattle.std.specs.Ordering.{eq_by_cmp, as_partial_cmp};
 ghost use Rattle.db_records.specs.Key.{key_cmp, key_table};
-ghost use Rattle.db_records.specs.KeyLaws.{KeysHaveOneOrder};
+ghost use Rattle.db_records.specs.KeyLaws.{KeysHaveOneOrder, keys_total};
 ghost use Rattle.db_records.specs.Fields.{key_of_fields};
 
 use crate::fields::KeyFields;
@@ -11,7 +13,7 @@ use depot_path::Text;
 use std::cmp::Ordering;
 
 /// What tells a row from all others of its table.
-#[derive(Clone, Debug, Drop, PartialEq, Eq)]
+#[derive(Clone, Drop)]
 pub enum Key {
     Counter {
         name: Text,
@@ -107,6 +109,44 @@ impl Key {
         ensures { result ≡ key_cmp self.now other.now }
     {
         self.fields().compare(&other.fields())
+    }
+}
+
+impl PartialEq for Key {
+    ghost eq = { eq_by_cmp key_cmp };
+
+    ghost laws = { partial_equiv_from_equiv (eq_by_cmp_equiv keys_total) };
+
+    fn eq(&self, other: &Key) -> bool {
+        self.compare(other) == Ordering::Equal
+    }
+}
+
+impl Eq for Key {
+    ghost laws = { eq_by_cmp_equiv keys_total };
+}
+
+impl PartialOrd for Key {
+    ghost partial_cmp = { as_partial_cmp key_cmp };
+
+    ghost laws = { partial_order_from_total keys_total };
+
+    fn partial_cmp(&self, other: &Key) -> Option<Ordering> {
+        Some(self.compare(other))
+    }
+}
+
+impl Ord for Key {
+    ghost cmp = { key_cmp };
+
+    ghost total = { keys_total };
+
+    ghost matches_partial_cmp = { λ a b. refl };
+
+    ghost matches_eq = { λ a b. refl };
+
+    fn cmp(&self, other: &Key) -> Ordering {
+        self.compare(other)
     }
 }
 

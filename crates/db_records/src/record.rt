@@ -16,7 +16,7 @@ use std::alloc::AllocError;
 use std::cmp::Ordering;
 
 /// A row of one of the tables.
-#[derive(Clone, Debug, Drop, PartialEq, Eq)]
+#[derive(Clone, Drop, PartialEq, Eq)]
 pub enum Record {
     Counter(CounterRecord),
     Group(GroupRecord),

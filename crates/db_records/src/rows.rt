@@ -3,21 +3,21 @@
 use depot_path::Text;
 
 /// A counter.
-#[derive(Clone, Debug, Drop, PartialEq, Eq)]
+#[derive(Clone, Drop, PartialEq, Eq)]
 pub struct CounterRecord {
     pub name: Text,
     pub value: u64,
 }
 
 /// A user of a group.
-#[derive(Clone, Debug, Drop, PartialEq, Eq)]
+#[derive(Clone, Drop, PartialEq, Eq)]
 pub struct GroupRecord {
     pub group: Text,
     pub user: Text,
 }
 
 /// A line of the protections table: its number from 1, and its five words as they were given.
-#[derive(Clone, Debug, Drop, PartialEq, Eq)]
+#[derive(Clone, Drop, PartialEq, Eq)]
 pub struct ProtectRecord {
     pub line: u32,
     pub mode: Text,
@@ -30,7 +30,7 @@ pub struct ProtectRecord {
 }
 
 /// A client or label with its form.
-#[derive(Clone, Debug, Drop, PartialEq, Eq)]
+#[derive(Clone, Drop, PartialEq, Eq)]
 pub struct DomainRecord {
     /// `client`, `label` or another word for what has a form.
     pub kind: Text,
@@ -39,7 +39,7 @@ pub struct DomainRecord {
 }
 
 /// A file that a client has.
-#[derive(Clone, Debug, Drop, PartialEq, Eq)]
+#[derive(Clone, Drop, PartialEq, Eq)]
 pub struct HaveRecord {
     pub client: Text,
     pub path: Text,
@@ -47,7 +47,7 @@ pub struct HaveRecord {
 }
 
 /// A file that a label holds.
-#[derive(Clone, Debug, Drop, PartialEq, Eq)]
+#[derive(Clone, Drop, PartialEq, Eq)]
 pub struct LabelRecord {
     pub label: Text,
     pub path: Text,
@@ -55,7 +55,7 @@ pub struct LabelRecord {
 }
 
 /// Revisions of one file that another file took, or that were taken from it.
-#[derive(Clone, Debug, Drop, PartialEq, Eq)]
+#[derive(Clone, Drop, PartialEq, Eq)]
 pub struct IntegedRecord {
     pub to_file: Text,
     pub from_file: Text,
@@ -69,7 +69,7 @@ pub struct IntegedRecord {
 }
 
 /// A resolve of revisions of a file, or of the opened file itself, into a client's opened file.
-#[derive(Clone, Debug, Drop, PartialEq, Eq)]
+#[derive(Clone, Drop, PartialEq, Eq)]
 pub struct ResolveRecord {
     pub client: Text,
     pub path: Text,
@@ -81,7 +81,7 @@ pub struct ResolveRecord {
 }
 
 /// A file that a client has opened.
-#[derive(Clone, Debug, Drop, PartialEq, Eq)]
+#[derive(Clone, Drop, PartialEq, Eq)]
 pub struct WorkingRecord {
     pub path: Text,
     pub client: Text,
@@ -102,7 +102,7 @@ pub struct WorkingRecord {
 }
 
 /// A changelist.
-#[derive(Clone, Debug, Drop, PartialEq, Eq)]
+#[derive(Clone, Drop, PartialEq, Eq)]
 pub struct ChangeRecord {
     pub change: u32,
     /// `pending` or `submitted`.
@@ -116,7 +116,7 @@ pub struct ChangeRecord {
 }
 
 /// A revision of a file.
-#[derive(Clone, Debug, Drop, PartialEq, Eq)]
+#[derive(Clone, Drop, PartialEq, Eq)]
 pub struct RevRecord {
     pub path: Text,
     pub rev: u32,
