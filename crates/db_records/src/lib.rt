@@ -19,3 +19,6 @@ pub use rows::{
     ProtectRecord, ResolveRecord, RevRecord, WorkingRecord,
 };
 pub use table::TableId;
+
+#[cfg(test)]
+mod tests;
