@@ -1,2 +1,8 @@
-mod Found
+mod Calls
+mod Contents
 mod DoorsLemmas
+mod Filled
+mod Found
+mod Images
+mod Redone
+mod Replays

@@ -1,10 +1,13 @@
 //! An outside in memory, which tells everything that it holds, and whose calls fail as it is told.
 #![tactic(auto)]
 
+mod call;
 mod disk;
 mod door;
 mod doors;
 mod failing;
+mod files;
+mod image;
 mod stream;
 mod timing;
 

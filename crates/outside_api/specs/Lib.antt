@@ -2,4 +2,5 @@ pub mod Count
 pub mod Told
 pub mod Disk
 pub mod Moments
+pub mod Steps
 pub mod Link

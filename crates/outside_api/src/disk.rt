@@ -83,8 +83,8 @@ pub trait Disk {
     /// The disk reads as no other files.
     ghost reads_one: { (disk : Self) (c d : Files) → seen disk c → seen disk d → (file : ℕ) → c file ≡ d file };
 
-    /// No file of an image is longer.
-    ghost within: { (disk : Self) (c : Files) (file : ℕ) → may_leave disk c → length (c file) < 2 ^ 63 };
+    /// No file that is read is longer.
+    ghost within: { (disk : Self) (c : Files) (file : ℕ) → seen disk c → length (c file) < 2 ^ 63 };
 
     /// This moment is one of those since an earlier one.
     ghost counts_now: { (disk : Self) (t : ℕ) (c : Files) → t ≤ moment disk → may_leave disk c → left_since disk t c };

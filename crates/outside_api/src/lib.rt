@@ -7,12 +7,16 @@
 
 mod disk;
 mod doors;
+mod fault;
 mod link;
 mod stream;
+mod through;
 mod timing;
 
 pub use disk::Disk;
 pub use doors::Doors;
+pub use fault::DiskFault;
 pub use link::{Fetched, Link};
 pub use stream::{Failed, Sink, Source};
+pub use through::write_through;
 pub use timing::{Clock, Gate};

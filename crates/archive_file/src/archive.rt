@@ -1,0 +1,110 @@
+//! The archive: contents at their spots in one file.
+
+ghost use Rattle.std.specs.Prelude.{◌≡◌, ◌+◌, ◌<◌, ◌≤◌, ◌^◌, List, ℕ, length, take, drop, max, IfOk};
+ghost use Rattle.outside_api.specs.Count.{HasCause};
+ghost use Rattle.outside_api.specs.Disk.{Files, LeavesOnly, NoMore, Same};
+ghost use Rattle.db_records.specs.declared.change.Spot.{Spot};
+ghost use Rattle.archive_file.specs.Archive.{disk_of, used_of, end_of, Has, AllHave, HasMemoryOr};
+
+use crate::filling::fill;
+use db_records::Spot;
+use depot_path::Text;
+use outside_api::{Disk, DiskFault, write_through};
+use std::alloc::Global;
+
+const FILE: u32 = 0;
+
+/// Why a content can't be given.
+#[derive(Clone, Copy, Debug, PartialEq, Eq)]
+pub enum ContentFault {
+    /// The disk has failed.
+    DiskFault,
+    /// There is no memory for the content.
+    Memory,
+}
+
+/// Contents at their spots in file 0 of a disk. Those below `used` are never written again.
+#[derive(Drop)]
+pub struct Archive<D: Disk> {
+    disk: D,
+    used: u64,
+}
+
+impl<D: Disk> Archive<D> {
+    /// The archive of a disk whose contents end at `used`, at most the length of the file in bytes.
+    /// Makes no call of the disk.
+    pub fn adopt(disk: D, used: u64) -> Self
+        requires { (files : Files) → D.seen disk files → used ≤ length (files 0) }
+        ensures disk { disk_of result ≡ disk }
+        ensures used { used_of result ≡ used }
+    {
+        Archive { disk, used }
+    }
+
+    /// Where the contents end.
+    pub fn used(&self) -> u64
+        ensures { result ≡ used_of self.now }
+    {
+        self.used
+    }
+
+    /// The disk.
+    pub fn into_disk(self) -> D
+        ensures { result ≡ disk_of self }
+    {
+        self.disk
+    }
+
+    /// Writes a content at a place that isn't below `used`, and syncs. After Ok each image has it at
+    /// the spot that is answered. Contents that end at or before the place stay, whatever is answered.
+    pub fn store(&mut self, at: u64, content: &[u8]) -> Result<Spot, DiskFault>
+        requires above { used_of self.old ≤ at }
+        requires room { (files : Files) → D.seen (disk_of self.old) files → at ≤ length (files 0) }
+        ensures spot { IfOk result (λ spot. spot ≡ record { at = at; length = length content.now }) }
+        ensures stored { IfOk result (λ spot. AllHave (D.may_leave (disk_of self.new)) spot content.now) }
+        ensures small { IfOk result (λ spot. end_of spot < 2 ^ 63) }
+        ensures kept { (spot : Spot) (bytes : List ℕ) → end_of spot ≤ at → AllHave (D.may_leave (disk_of self.old)) spot bytes → AllHave (D.may_leave (disk_of self.new)) spot bytes }
+        ensures any_moment { (spot : Spot) (bytes : List ℕ) → end_of spot ≤ at → AllHave (D.may_leave (disk_of self.old)) spot bytes → LeavesOnly D.moment D.left_since (disk_of self.old) (disk_of self.new) (λ c. Has (c 0) spot bytes) }
+        ensures used { used_of self.new ≡ used_of self.old }
+        ensures cause { HasCause (D.faults (disk_of self.old)) (D.faults (disk_of self.new)) result }
+    {
+        write_through(&mut self.disk, FILE, at, content)?;
+        Ok(Spot {
+            at,
+            length: content.len() as u64,
+        })
+    }
+
+    /// Counts a stored content as used, so that no later store is at a place below its end. Makes no
+    /// call of the disk.
+    pub fn keep(&mut self, spot: Spot)
+        requires { end_of spot < 2 ^ 63 }
+        ensures used { used_of self.new ≡ max (used_of self.old) (end_of spot) }
+        ensures disk { disk_of self.new ≡ disk_of self.old }
+    {
+        self.used = self.used.max(spot.at + spot.length);
+    }
+
+    /// The content at a spot that ends at or before `used`.
+    pub fn read(&mut self, alloc: Global, spot: Spot) -> Result<Text, ContentFault>
+        requires { end_of spot ≤ used_of self.old }
+        ensures content { (files : Files) → D.seen (disk_of self.old) files → IfOk result (λ text. text ≡ take spot.length (drop spot.at (files 0))) }
+        ensures same { Same (D.seen (disk_of self.old)) (D.seen (disk_of self.new)) }
+        ensures crash { NoMore (D.may_leave (disk_of self.old)) (D.may_leave (disk_of self.new)) }
+        ensures any_moment { LeavesOnly D.moment D.left_since (disk_of self.old) (disk_of self.new) (D.may_leave (disk_of self.old)) }
+        ensures used { used_of self.new ≡ used_of self.old }
+        ensures cause { HasMemoryOr (D.faults (disk_of self.old)) (D.faults (disk_of self.new)) result }
+    {
+        let mut bytes = match vec![in alloc; 0u8; spot.length as usize] {
+            Ok(bytes) => bytes,
+            Err(_) => return Err(ContentFault::Memory),
+        };
+        match fill(&mut self.disk, spot.at, bytes.as_mut_slice()) {
+            Ok(count) => {
+                bytes.truncate(count);
+                Ok(Text::from_vec(bytes))
+            }
+            Err(_) => Err(ContentFault::DiskFault),
+        }
+    }
+}
