@@ -10,9 +10,7 @@ mod words;
 use crate::ended::Ended;
 use crate::top::p4_top;
 use depot_path::Text;
-use memory_world::{
-    Door, FixedClock, MemoryDisk, MemoryDoors, MemorySink, MemorySource, OpenGate,
-};
+use memory_world::{Door, FixedClock, MemoryDisk, MemoryDoors, MemorySink, MemorySource, OpenGate};
 use std::alloc::{AllocError, Global};
 use std::io;
 

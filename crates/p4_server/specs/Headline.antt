@@ -1,0 +1,38 @@
+-- The headline: one order of the commands of all parties explains every party's output.
+use Rattle.std.specs.Prelude.{◌≡◌, ◌≤◌, ℕ, ◌+◌, Bool, true, false, List, length, map, slice_get, Option, Some}
+use Rattle.outside_api.specs.Count.{HasRisen}
+use Rattle.depot_model.specs.declared.deed.Deed.{Deed}
+use Rattle.depot_model.specs.declared.place.Place.{Place}
+use Rattle.depot_model.specs.declared.request.Session.{Session}
+use Rattle.depot_model.specs.Order.{IsOrder}
+use Rattle.wire_text.specs.declared.reader.ReadScript.{ReadScript}
+use Rattle.wire_text.specs.Reading.{IsReadScript, commands_of}
+use Rattle.session_loop.specs.Served.{IsOutput}
+use Rattle.p4_server.specs.declared.ended.PartyEnd.{PartyEnd}
+use Rattle.p4_server.specs.Ends.{party_end}
+
+-- One party, by its number from 1. What was read of its source is its session; it was served its first `commands`
+-- commands, all of them unless its sink failed; and its sink got what one thread answers to these, in order, when it takes
+-- the commands of all sessions in the order, from the depot `start` on.
+pub record IsPartyOf {S K : Type 0} (left : S → Option (List ℕ)) (source_faults : S → ℕ) (given : K → Option (List ℕ)) (sink_faults : K → ℕ) (start : List Deed) (sessions : List (Option Session)) (order : List Place) (input output : Option (List ℕ)) (number : ℕ) (session : Option Session) (source : S) (party : PartyEnd K) : Type 0 where
+  pub read : ReadScript
+  pub failed : Bool
+  pub read_is : IsReadScript input (left source) 0 (source_faults source) read
+  pub session_is : session ≡ read.session
+  pub number_is : party.party ≡ number
+  pub end : party.end ≡ party_end failed read.end
+  pub within : party.commands ≤ length (commands_of read.session)
+  pub all : failed ≡ false → party.commands ≡ length (commands_of read.session)
+  pub cause : failed ≡ true → HasRisen 0 (sink_faults party.sink)
+  pub replies : IsOutput sessions start order number party.commands failed output (given party.sink)
+
+-- Each name has its party, and there is one order of the commands of all parties, each up to its party's `commands` at most
+-- once, by which every party's output is that of one thread.
+pub record IsHeadline {S K : Type 0} (left : S → Option (List ℕ)) (source_faults : S → ℕ) (given : K → Option (List ℕ)) (sink_faults : K → ℕ) (may_give : ℕ → Type 0) (start : List Deed) (inputs outputs : List ℕ → Option (List ℕ)) (names : List (List ℕ)) (order : List Place) (parties : List (PartyEnd K)) (sources : List S) : Type 0 where
+  pub sessions : List (Option Session)
+  pub sessions_count : length sessions ≡ length names
+  pub parties_count : length parties ≡ length names
+  pub sources_count : length sources ≡ length names
+  pub places : IsOrder may_give (map (λ party. party.commands) parties) order
+  pub each : (i : ℕ) (name : List ℕ) (session : Option Session) (source : S) (party : PartyEnd K) → slice_get names i ≡ Some name → slice_get sessions i ≡ Some session → slice_get sources i ≡ Some source → slice_get parties i ≡ Some party
+      → IsPartyOf left source_faults given sink_faults start sessions order (inputs name) (outputs name) (i + 1) session source party

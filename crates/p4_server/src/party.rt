@@ -1,0 +1,107 @@
+//! The run of one party alone.
+
+ghost use Rattle.std.specs.Prelude.{◌≡◌, ◌≤◌, ◌∷◌, [], List, Option, Some, Err, length, slice_get, true, false, IfOk};
+ghost use Rattle.outside_api.specs.Count.{HasRisen};
+ghost use Rattle.depot_model.specs.declared.request.Session.{Session};
+ghost use Rattle.wire_text.specs.Reading.{commands_of};
+ghost use Rattle.session_loop.specs.Served.{IsServed};
+ghost use Rattle.p4_server.specs.Headline.{IsHeadline};
+
+use crate::ended::{PartyEnd, end_of_party};
+use depot_model::{Depot, Place, Session};
+use depot_path::Sequence;
+use outside_api::{Clock, Doors, Gate, Sink};
+use session_loop::{SessionRun, run_session};
+use std::alloc::Global;
+use wire_text::read_script;
+
+/// A party that was run, with its source and the order.
+#[derive(Drop)]
+pub struct PartyRun<S, K> {
+    /// What its script was read from.
+    pub source: S,
+    /// Its end.
+    pub party: PartyEnd<K>,
+    /// The places of its commands.
+    pub order: Sequence<Place>,
+}
+
+/// Why a party wasn't run.
+#[derive(Clone, Copy, Debug, PartialEq, Eq)]
+pub enum NotRun {
+    /// Its door failed.
+    Doors,
+    /// There was no memory for its script.
+    Memory,
+}
+
+/// Runs what was read of a script, which may have no session.
+fn run_read<K: Sink, C: Clock, G: Gate>(
+    alloc: Global,
+    session: &Option<Session>,
+    clock: &C,
+    gate: &G,
+    sink: &mut K,
+    depot: &mut Depot,
+    order: &mut Vec<Place>,
+) -> SessionRun
+    requires few { length (commands_of session.now) ≤ 67108864 }
+    requires no_places { order.old.items ≡ [] }
+    ensures served { IsServed (C.may_give clock.now) (session.now ∷ []) depot.old 1 result.commands result.failed (K.given sink.old) (K.given sink.new) order.new.items }
+    ensures all { result.failed ≡ false → result.commands ≡ length (commands_of session.now) }
+    ensures within { result.commands ≤ length (commands_of session.now) }
+    ensures counts { K.faults sink.old ≤ K.faults sink.new }
+    ensures cause { result.failed ≡ true → HasRisen (K.faults sink.old) (K.faults sink.new) }
+{
+    match session {
+        Some(session) => run_session(alloc, 1, session, clock, gate, sink, depot, order),
+        None => SessionRun {
+            commands: 0,
+            failed: false,
+        },
+    }
+}
+
+/// Opens the door of a name, reads its script and runs it as party 1, from the empty depot on.
+pub fn run_party<H: Doors, C: Clock, G: Gate>(
+    alloc: Global,
+    name: &str,
+    doors: &mut H,
+    clock: &C,
+    gate: &G,
+) -> Result<PartyRun<H::In, H::Out>, NotRun>
+    ensures run { IfOk result (λ run. IsHeadline H.In.left H.In.faults H.Out.given H.Out.faults (C.may_give clock.now) [] (H.input doors.old) (H.output doors.old) (name.now ∷ []) run.order (run.party ∷ []) (run.source ∷ [])) }
+    ensures doors { result ≡ Err NotRun.Doors → HasRisen (H.faults doors.old) (H.faults doors.new) }
+{
+    let (source, sink) = match doors.come(name) {
+        Ok(pair) => pair,
+        Err(_) => return Err(NotRun::Doors),
+    };
+    let mut source = source;
+    let mut sink = sink;
+    let read = match read_script(alloc, &mut source) {
+        Ok(read) => read,
+        Err(_) => return Err(NotRun::Memory),
+    };
+    let mut depot = Depot::new(alloc);
+    let mut order = Vec::new(alloc);
+    let run = run_read(
+        alloc,
+        &read.session,
+        clock,
+        gate,
+        &mut sink,
+        &mut depot,
+        &mut order,
+    );
+    Ok(PartyRun {
+        source,
+        party: PartyEnd {
+            party: 1,
+            sink,
+            commands: run.commands,
+            end: end_of_party(run.failed, read.end),
+        },
+        order: Sequence::from_vec(order),
+    })
+}
