@@ -5,7 +5,6 @@ ghost use Rattle.std.specs.Prelude.{◌≡◌, ◌≤◌, Some, [], drop, length
 use crate::failing::Failing;
 use depot_path::Text;
 use outside_api::{Failed, Sink, Source};
-use std::alloc::Global;
 
 /// A source of bytes in memory.
 #[derive(Debug, Drop)]
@@ -61,13 +60,13 @@ pub struct MemorySink {
 impl MemorySink {
     ghost use Rattle.memory_world.specs.Stream.{sink_given, sink_faults};
 
-    /// An empty sink. The calls of these numbers, from 1, fail.
-    pub fn new(alloc: Global, fails: Vec<u64>) -> Self
+    /// An empty sink, which takes no memory. The calls of these numbers, from 1, fail.
+    pub fn new(fails: Vec<u64>) -> Self
         ensures given { sink_given result ≡ Some [] }
         ensures faults { sink_faults result ≡ 0 }
     {
         MemorySink {
-            given: Text::new(alloc),
+            given: Text::new(*fails.allocator()),
             calls: Failing::new(fails),
         }
     }

@@ -4,6 +4,8 @@
 mod ended;
 mod lines;
 mod party;
+#[cfg(test)]
+mod tests;
 mod top;
 mod words;
 
@@ -22,7 +24,7 @@ type MemoryEnded = Ended<MemoryDisk, MemorySource, MemorySink>;
 /// The door to a session of that script.
 fn doors(alloc: Global) -> Result<MemoryDoors, AllocError> {
     let source = MemorySource::new(Text::from_bytes(alloc, SCRIPT)?, Vec::new(alloc));
-    let sink = MemorySink::new(alloc, Vec::new(alloc));
+    let sink = MemorySink::new(Vec::new(alloc));
     let mut doors = Vec::new(alloc);
     doors.push(Door::new(Text::from_bytes(alloc, b"a")?, source, sink))?;
     Ok(MemoryDoors::new(doors, Vec::new(alloc)))
@@ -31,7 +33,7 @@ fn doors(alloc: Global) -> Result<MemoryDoors, AllocError> {
 fn main(rt: HostRuntime) -> io::Result<()> {
     let alloc = rt.alloc();
     let mut doors = doors(alloc)?;
-    let mut out = MemorySink::new(alloc, Vec::new(alloc));
+    let mut out = MemorySink::new(Vec::new(alloc));
     let ended: MemoryEnded = p4_top(
         &rt,
         alloc,
