@@ -1,0 +1,5 @@
+pub mod Shapes
+pub mod Texts
+pub mod Form
+pub mod Reading
+pub mod Printing

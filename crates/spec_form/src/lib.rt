@@ -1,0 +1,14 @@
+//! Forms: the texts by which clients, labels, groups, the protections table, changes, shelved files,
+//! jobs and fixes are shown and saved.
+#![tactic(auto)]
+
+mod cut;
+mod fault;
+mod form;
+mod print;
+mod reader;
+mod shape;
+
+pub use fault::{FormFault, FormFaultKind};
+pub use form::{Field, Form};
+pub use shape::{FieldKind, Shape};
