@@ -1,3 +1,7 @@
 pub mod Cutting
 pub mod Utf8
 pub mod Trimming
+pub mod Good
+pub mod Names
+pub mod Printed
+pub mod With

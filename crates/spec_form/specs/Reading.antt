@@ -71,13 +71,15 @@ abbrev pub line_fault : FormFaultKind → ℕ → FormFault
 line_fault Memory n = record { what = Memory; line = 0 }
 line_fault kind n = record { what = kind; line = n }
 
+-- the fields after the n-th line, and after those behind it, or the first fault
+abbrev pub after_line : ℕ → (List Field → Result (List Field) FormFault) → Result (List Field) FormFaultKind → Result (List Field) FormFault
+after_line n behind (Err kind) = Err (line_fault kind n)
+after_line n behind (Ok fields) = behind fields
+
 -- the fields after some lines, of which the first is the n-th, or the first fault
 abbrev pub lines_read : Shape → ℕ → List (List ℕ) → List Field → Result (List Field) FormFault
 lines_read shape n [] fields = Ok fields
-lines_read shape n (line ∷ lines) fields = elim (line_read shape line fields) [
-  | Err kind ↦ Err (line_fault kind n)
-  | Ok more ↦ lines_read shape (n + 1) lines more
-]
+lines_read shape n (line ∷ lines) fields = after_line n (λ more. lines_read shape (n + 1) lines more) (line_read shape line fields)
 
 -- a required field is absent
 abbrev pub lacks : List FieldRow → List Field → Bool
