@@ -18,9 +18,9 @@ lines_cut (b ∷ text) =
 whole_rest : (b : ℕ) (text : List ℕ) → is_among text 0x0A ≡ false → onto_first b (text_lines text) ≡ (b ∷ text) ∷ []
 whole_rest b [] = λ h. refl
 whole_rest b (x ∷ text) = elim (x == 0x0A) as (λ t. (t || is_among text 0x0A) ≡ false → onto_first b (cond t ([] ∷ text_lines text) (onto_first x (text_lines text))) ≡ (b ∷ x ∷ text) ∷ []) [
-      | true ↦ λ h. absurd cc
-      | false ↦ λ h. rw (whole_rest x text h) refl
-    ]
+  | true ↦ λ h. absurd cc
+  | false ↦ λ h. rw (whole_rest x text h) refl
+]
 
 pub lines_whole : (b : ℕ) (text : List ℕ) → is_among (b ∷ text) 0x0A ≡ false → text_lines (b ∷ text) ≡ (b ∷ text) ∷ []
 lines_whole b text =
@@ -60,10 +60,10 @@ pub parts_at : (c : ℕ) (text : List ℕ) → is_among text c ≡ true → text
 parts_at c [] h = absurd cc
 parts_at c (b ∷ text) h =
     let step : (t : Bool) → (b == c) ≡ t → (t || is_among text c) ≡ true → b ∷ text ≡ cond t [] (b ∷ before c text) ++ c ∷ cond t text (behind c text) =
-      λ (t : Bool). elim t as (λ v. (b == c) ≡ v → (v || is_among text c) ≡ true → b ∷ text ≡ cond v [] (b ∷ before c text) ++ c ∷ cond v text (behind c text)) [
-        | true ↦ λ e k. ap (λ (x : ℕ). x ∷ text) (eqb_same b c e)
-        | false ↦ λ e k. ap (λ (xs : List ℕ). b ∷ xs) (parts_at c text k)
-      ] in
+    λ (t : Bool). elim t as (λ v. (b == c) ≡ v → (v || is_among text c) ≡ true → b ∷ text ≡ cond v [] (b ∷ before c text) ++ c ∷ cond v text (behind c text)) [
+      | true ↦ λ e k. ap (λ (x : ℕ). x ∷ text) (eqb_same b c e)
+      | false ↦ λ e k. ap (λ (xs : List ℕ). b ∷ xs) (parts_at c text k)
+    ] in
     step (b == c) refl h
 
 before_if : (c b : ℕ) (text : List ℕ) (v : Bool) → (b == c) ≡ v → is_among (before c text) c ≡ false → is_among (cond v [] (b ∷ before c text)) c ≡ false
@@ -140,9 +140,9 @@ clean_within zero (b ∷ text) le u = absurd (omega arith)
 clean_within (suc n) (b ∷ text) le u =
     clean_if n b text (is_among (b ∷ text) 0x0A) refl u
     (λ (h : is_among (b ∷ text) 0x0A ≡ true).
-      let l : length (behind 0x0A (b ∷ text)) < length (b ∷ text) = behind_shorter 0x0A (b ∷ text) h in
-      clean_within n (behind 0x0A (b ∷ text)) (omega arith)
-      (utf8_rest (before 0x0A (b ∷ text)) 0x0A (behind 0x0A (b ∷ text)) (omega arith) (sym (ap is_utf8 (parts_at 0x0A (b ∷ text) h)) ∙ u)))
+    let l : length (behind 0x0A (b ∷ text)) < length (b ∷ text) = behind_shorter 0x0A (b ∷ text) h in
+    clean_within n (behind 0x0A (b ∷ text)) (omega arith)
+    (utf8_rest (before 0x0A (b ∷ text)) 0x0A (behind 0x0A (b ∷ text)) (omega arith) (sym (ap is_utf8 (parts_at 0x0A (b ∷ text) h)) ∙ u)))
 
 pub clean_lines : (text : List ℕ) → is_utf8 text ≡ true → AllByRecursion Clean (text_lines text)
 clean_lines text u = clean_within (length text) text (omega arith) u

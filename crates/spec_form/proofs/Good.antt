@@ -109,7 +109,7 @@ good_read shape n [] fields out c g e = let same : fields ≡ out = cc in subst 
 good_read shape n (line ∷ lines) fields out c g e =
     good_step shape n (λ (more : List Field). lines_read shape (n + 1) lines more) (line_read shape line fields) out
     (λ (more : List Field) (k : line_read shape line fields ≡ Ok more) (h : lines_read shape (n + 1) lines more ≡ Ok out).
-      good_read shape (n + 1) lines more out c.1 (good_by shape line fields more (is_skipped line) (is_further line) c.0 g k) h) e
+    good_read shape (n + 1) lines more out c.1 (good_by shape line fields more (is_skipped line) (is_further line) c.0 g k) h) e
 
 -- a form that was read: its fields, the last one first
 pub record IsRead (form : FormValue) : Type 0 where

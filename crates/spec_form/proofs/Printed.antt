@@ -33,7 +33,7 @@ head_line shape name rest kind fields k h =
     let line = name ++ 0x3A ∷ rest in
     let begins = name_begins name (0x3A ∷ rest) n in
     let new : begun (kind_of shape (before 0x3A line)) (has_field (before 0x3A line) fields) (before 0x3A line) (behind 0x3A line) ≡ Ok (record { name = name; lines = first_lines kind rest }) =
-      rw (before_at 0x3A name rest n.no_colon, behind_at 0x3A name rest n.no_colon, k, h) refl in
+    rw (before_at 0x3A name rest n.no_colon, behind_at 0x3A name rest n.no_colon, k, h) refl in
     cond_false (is_skipped line) _ _ begins.0 ∙ cond_false (is_further line) _ _ begins.1
     ∙ ap (in_front fields) (cond_true (is_among line 0x3A) _ _ (among_at 0x3A name rest) ∙ new)
 
@@ -49,13 +49,14 @@ more_read shape n name done [] fields rest k g =
     (n + 1, ap (λ (ls : List (List ℕ)). lines_read shape (n + 1) (text_lines rest) (record { name = name; lines = ls } ∷ fields)) (sym (append-nil done)))
 more_read shape n name done (line ∷ more) fields rest k g =
     let next = more_read shape (n + 1) name (done ++ line ∷ []) more fields rest k g.1 in
-    let text : flat_map tabbed_line (line ∷ more) ++ 0x0A ∷ rest ≡ (0x09 ∷ line) ++ 0x0A ∷ (flat_map tabbed_line more ++ 0x0A ∷ rest) = simp append_assoc in
-    (next.0,
+    let text : flat_map tabbed_line (line ∷ more) ++ 0x0A ∷ rest ≡ (0x09 ∷ line) ++ 0x0A ∷ (flat_map tabbed_line more ++ 0x0A ∷ rest) = simp append_assoc in (
+      next.0,
       ap (λ (t : List ℕ). lines_read shape n (text_lines t) (record { name = name; lines = done } ∷ fields)) text
-      ∙ ap (λ (ls : List (List ℕ)). lines_read shape n ls (record { name = name; lines = done } ∷ fields)) (line_then (0x09 ∷ line) (flat_map tabbed_line more ++ 0x0A ∷ rest) g.0.clean.one)
-      ∙ read_step shape n (0x09 ∷ line) (text_lines (flat_map tabbed_line more ++ 0x0A ∷ rest)) (record { name = name; lines = done } ∷ fields) _ (further_line shape line (record { name = name; lines = done }) fields k g.0)
-      ∙ next.1
-      ∙ ap (λ (ls : List (List ℕ)). lines_read shape next.0 (text_lines rest) (record { name = name; lines = ls } ∷ fields)) (append_assoc done (line ∷ []) more))
+          ∙ ap (λ (ls : List (List ℕ)). lines_read shape n ls (record { name = name; lines = done } ∷ fields)) (line_then (0x09 ∷ line) (flat_map tabbed_line more ++ 0x0A ∷ rest) g.0.clean.one)
+          ∙ read_step shape n (0x09 ∷ line) (text_lines (flat_map tabbed_line more ++ 0x0A ∷ rest)) (record { name = name; lines = done } ∷ fields) _ (further_line shape line (record { name = name; lines = done }) fields k g.0)
+          ∙ next.1
+          ∙ ap (λ (ls : List (List ℕ)). lines_read shape next.0 (text_lines rest) (record { name = name; lines = ls } ∷ fields)) (append_assoc done (line ∷ []) more),
+    )
 
 -- what a field's text reads to
 abbrev FieldRead : Shape → ℕ → List ℕ → Field → List Field → List ℕ → Type 0
@@ -67,12 +68,13 @@ lines_field shape n f fields rest k h g =
     let next = more_read shape (n + 1) f.name [] f.lines fields rest k g in
     let name = field_name shape f.name Lines k in
     let head = f.name ++ 0x3A ∷ [] in
-    let text : printed_as (Some Lines) f ++ rest ≡ head ++ 0x0A ∷ (flat_map tabbed_line f.lines ++ 0x0A ∷ rest) = simp append_assoc in
-    (next.0,
+    let text : printed_as (Some Lines) f ++ rest ≡ head ++ 0x0A ∷ (flat_map tabbed_line f.lines ++ 0x0A ∷ rest) = simp append_assoc in (
+      next.0,
       ap (λ (t : List ℕ). lines_read shape n (text_lines t) fields) text
-      ∙ ap (λ (ls : List (List ℕ)). lines_read shape n ls fields) (line_then head (flat_map tabbed_line f.lines ++ 0x0A ∷ rest) (among-append 0x0A f.name (0x3A ∷ []) name.one_line refl))
-      ∙ read_step shape n head (text_lines (flat_map tabbed_line f.lines ++ 0x0A ∷ rest)) fields _ (head_line shape f.name [] Lines fields k h)
-      ∙ next.1)
+          ∙ ap (λ (ls : List (List ℕ)). lines_read shape n ls fields) (line_then head (flat_map tabbed_line f.lines ++ 0x0A ∷ rest) (among-append 0x0A f.name (0x3A ∷ []) name.one_line refl))
+          ∙ read_step shape n head (text_lines (flat_map tabbed_line f.lines ++ 0x0A ∷ rest)) fields _ (head_line shape f.name [] Lines fields k h)
+          ∙ next.1,
+    )
 
 -- ---- a single field
 
@@ -91,12 +93,13 @@ single_field shape n f fields rest k h g =
     let one : is_among tabs 0x0A ≡ false = ap (λ (ls : List (List ℕ)). is_among (flat_map tabbed ls) 0x0A) g.is ∙ value.1 in
     let lines : value_lines (trimmed_start tabs) ≡ f.lines = ap (λ (ls : List (List ℕ)). value_lines (trimmed_start (flat_map tabbed ls))) g.is ∙ value.0 ∙ sym g.is in
     let head = f.name ++ 0x3A ∷ tabs in
-    let text : printed_as (Some Single) f ++ rest ≡ head ++ 0x0A ∷ 0x0A ∷ rest = simp append_assoc in
-    (n + 1 + 1,
+    let text : printed_as (Some Single) f ++ rest ≡ head ++ 0x0A ∷ 0x0A ∷ rest = simp append_assoc in (
+      n + 1 + 1,
       ap (λ (t : List ℕ). lines_read shape n (text_lines t) fields) text
-      ∙ ap (λ (ls : List (List ℕ)). lines_read shape n ls fields) (line_then head (0x0A ∷ rest) (among-append 0x0A f.name (0x3A ∷ tabs) name.one_line one))
-      ∙ read_step shape n head (text_lines (0x0A ∷ rest)) fields _ (head_line shape f.name tabs Single fields k h)
-      ∙ ap (λ (ls : List (List ℕ)). lines_read shape (n + 1 + 1) (text_lines rest) (record { name = f.name; lines = ls } ∷ fields)) lines)
+          ∙ ap (λ (ls : List (List ℕ)). lines_read shape n ls fields) (line_then head (0x0A ∷ rest) (among-append 0x0A f.name (0x3A ∷ tabs) name.one_line one))
+          ∙ read_step shape n head (text_lines (0x0A ∷ rest)) fields _ (head_line shape f.name tabs Single fields k h)
+          ∙ ap (λ (ls : List (List ℕ)). lines_read shape (n + 1 + 1) (text_lines rest) (record { name = f.name; lines = ls } ∷ fields)) lines,
+    )
 
 one_field : (shape : Shape) (n : ℕ) (f : Field) (fields : List Field) (rest : List ℕ) (kind : Option FieldKind) → kind_of shape f.name ≡ kind → has_field f.name fields ≡ false → GoodField kind f.lines →
     FieldRead shape n (printed_as kind f) f fields rest

@@ -76,7 +76,7 @@ pub among_start : (line : List ℕ) (c : ℕ) → is_among line c ≡ false → 
 among_start [] c h = refl
 among_start (b ∷ line) c h = among_cond (is_blank b) (trimmed_start line) (b ∷ line) c (among_start line c (or_rest (b == c) (is_among line c) h)) h
 
-or_turn : (u v w : Bool) → (u || (v || w)) ≡ (v || (u || w))
+pub or_turn : (u v w : Bool) → (u || (v || w)) ≡ (v || (u || w))
 or_turn true true w = refl
 or_turn true false w = refl
 or_turn false true w = refl

@@ -50,10 +50,11 @@ good_if shape name value f false e k v g = g
 
 good_with : (shape : Shape) (name value : List ℕ) (fields : List Field) → kind_of shape name ≡ Some Single → GoodValue (value_lines value) → Good shape fields → Good shape (map (with_value name value) fields)
 good_with shape name value [] k v g = tt
-good_with shape name value (f ∷ fields) k v g =
-    (good_if shape name value f (bytes_eq f.name name) refl k v g.0,
-      ap (λ (n : List ℕ). has_field n (map (with_value name value) fields)) (with_name name value f) ∙ has_with f.name name value fields ∙ g.1,
-      good_with shape name value fields k v g.2)
+good_with shape name value (f ∷ fields) k v g = (
+  good_if shape name value f (bytes_eq f.name name) refl k v g.0,
+  ap (λ (n : List ℕ). has_field n (map (with_value name value) fields)) (with_name name value f) ∙ has_with f.name name value fields ∙ g.1,
+  good_with shape name value fields k v g.2,
+)
 
 good_value : (value : List ℕ) → is_value value ≡ true → GoodValue (value_lines value)
 good_value value h =

@@ -3,10 +3,11 @@
 ghost use Rattle.std.specs.Prelude.{◌≡◌, true, map, IfOk};
 ghost use Rattle.depot_path.specs.Answers.{Answers};
 ghost use Rattle.spec_form.specs.Shapes.{kind_of};
-ghost use Rattle.spec_form.specs.Form.{is_value, lines_in, lines_of, with_line, with_value};
+ghost use Rattle.spec_form.specs.Form.{is_value as value_test, lines_in, lines_of, with_line, with_value};
 ghost use Rattle.spec_form.specs.Reading.{form_of, no_memory};
 ghost use Rattle.spec_form.specs.Printing.{printed_form};
 
+use crate::cut::{cut_at, trim_start};
 use crate::fault::{FormFault, FormFaultKind};
 use crate::print::print_fields;
 use crate::reader::{lacks_required, read_fields, value_lines};
@@ -45,6 +46,14 @@ impl Model for Form {
     ghost invariant = { λ form. ReadsBack (record { shape = form.shape; fields = form.fields }) };
 }
 
+/// Whether a single field may have this value: one line of UTF-8 that begins with no blank. The empty
+/// line stands for no value.
+pub fn is_value(line: &[u8]) -> bool
+    ensures { result ≡ value_test line.now }
+{
+    is_utf8(line) && cut_at(line, b'\n').is_none() && trim_start(line) == line
+}
+
 fn copy_lines(alloc: Global, lines: &[Text]) -> Result<Sequence<Text>, AllocError>
     ensures { IfOk result (λ copy. copy ≡ lines.now) }
 {
@@ -56,12 +65,7 @@ fn copy_lines(alloc: Global, lines: &[Text]) -> Result<Sequence<Text>, AllocErro
 }
 
 /// A copy of a field, with a value in place of its own if it has the name.
-fn copy_field(
-    alloc: Global,
-    field: &Field,
-    name: &[u8],
-    value: &[u8],
-) -> Result<Field, AllocError>
+fn copy_field(alloc: Global, field: &Field, name: &[u8], value: &[u8]) -> Result<Field, AllocError>
     ensures { IfOk result (λ copy. copy ≡ with_value name.now value.now field.now) }
 {
     let lines = if field.name.as_bytes() == name {
@@ -94,7 +98,8 @@ impl Form {
     /// Reads a form of a shape. A fault is the first that a reader from the top meets: first that
     /// the text isn't UTF-8, then the first line that is wrong, then that a field is absent.
     pub fn read(alloc: Global, text: &[u8], shape: Shape) -> Result<Self, FormFault>
-        ensures { Answers no_memory result (form_of shape text.now) }
+        ensures read { Answers no_memory result (form_of shape text.now) }
+        ensures shape { IfOk result (λ form. form.shape ≡ shape) }
     {
         if !is_utf8(text) {
             return Err(FormFault::whole(FormFaultKind::NotUtf8));
@@ -142,7 +147,7 @@ impl Form {
     /// form doesn't have the field it stays as it is; an empty line leaves the field without a value.
     pub fn with(&self, alloc: Global, field: &str, line: &[u8]) -> Result<Self, AllocError>
         requires single { kind_of self.now.shape field.now ≡ Some FieldKind.Single }
-        requires value { is_value line.now ≡ true }
+        requires value { value_test line.now ≡ true }
         ensures { IfOk result (λ form. form ≡ with_line field.now line.now self.now) }
     {
         Ok(Form {

@@ -8,7 +8,9 @@ mod form;
 mod print;
 mod reader;
 mod shape;
+#[cfg(test)]
+mod tests;
 
 pub use fault::{FormFault, FormFaultKind};
-pub use form::{Field, Form};
+pub use form::{Field, Form, is_value};
 pub use shape::{FieldKind, Shape};

@@ -89,13 +89,7 @@ fn new_field(
 {
     match cut_at(line, b':') {
         None => Err(FormFaultKind::NoField),
-        Some((name, rest)) => begin(
-            alloc,
-            shape.kind(name),
-            has_field(fields, name),
-            name,
-            rest,
-        ),
+        Some((name, rest)) => begin(alloc, shape.kind(name), has_field(fields, name), name, rest),
     }
 }
 

@@ -28,4 +28,4 @@ invariant_of-result c =
     let l : lacks (fields_of c.args.shape) c.in_ok-fields.fields.items ≡ false = cc in
     rw c.from_vec.ensures
     (spelled_reads_back c.args.shape c.args.text.now (record { shape = c.args.shape; fields = c.in_ok-fields.fields.items })
-      (spelled c.args.shape c.args.text.now c.in_ok-fields.fields.items u c.in_ok-fields.ensures l))
+    (spelled c.args.shape c.args.text.now c.in_ok-fields.fields.items u c.in_ok-fields.ensures l))
