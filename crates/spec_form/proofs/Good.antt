@@ -1,5 +1,5 @@
 -- What is known of the fields of a form that was read.
-use Rattle.std.proofs.Common.{◌≡◌, ℕ, ◌+◌, ◌<◌, ◌==◌, Bool, true, false, ◌||◌, cond, List, [], ◌∷◌, ◌++◌, length, reverse, Option, Some, None, Result, Ok, Err, refl, sym, ap, subst, ◌∙◌, arith}
+use Rattle.std.proofs.Common.{◌≡◌, ℕ, ◌+◌, Bool, true, false, cond, List, [], ◌∷◌, ◌++◌, reverse, Option, Some, None, Result, Ok, Err, refl, sym, ap, subst, ◌∙◌, arith}
 use Rattle.std.specs.List.{AllByRecursion}
 use Rattle.depot_path.specs.Bytes.{is_among}
 use Rattle.depot_path.specs.Utf8.{is_utf8}
@@ -13,7 +13,7 @@ use Rattle.spec_form.specs.declared.fault.FormFault.{FormFault}
 use Rattle.spec_form.specs.Shapes.{kind_of, fields_of}
 use Rattle.spec_form.specs.Texts.{trimmed_start, trimmed_end, before, behind, text_lines}
 use Rattle.spec_form.specs.Form.{FormValue, has_field, value_lines}
-use Rattle.spec_form.specs.Reading.{is_skipped, is_further, first_lines, begun, new_field, longer_if, longer, in_front, continued, line_read, after_line, line_fault, lines_read, lacks, complete_if, complete, whole_fault, form_of}
+use Rattle.spec_form.specs.Reading.{is_skipped, is_further, first_lines, begun, new_field, longer_if, in_front, continued, line_read, after_line, lines_read, lacks, complete_if, complete, whole_fault, form_of}
 use Rattle.spec_form.proofs.Utf8.{utf8_rest}
 use Rattle.spec_form.proofs.Cutting.{Clean, clean_lines, parts_at, among_parts}
 use Rattle.spec_form.proofs.Trimming.{start_twice, trimmed_twice, among_start, among_end, utf8_start, utf8_end}

@@ -1,5 +1,5 @@
 -- What is printed of a form reads to it.
-use Rattle.std.proofs.Common.{◌≡◌, ℕ, ◌+◌, ◌<◌, ◌==◌, Bool, true, false, ◌||◌, cond, List, [], ◌∷◌, ◌++◌, length, reverse, Option, Some, None, Result, Ok, Err, refl, sym, ap, subst, ◌∙◌, arith, append_assoc}
+use Rattle.std.proofs.Common.{◌≡◌, ℕ, ◌+◌, Bool, true, false, List, [], ◌∷◌, ◌++◌, reverse, Option, Some, None, Ok, refl, sym, ap, subst, ◌∙◌, append_assoc}
 use Rattle.std.specs.List.{AllByRecursion, flat_map}
 use Rattle.std.proofs.lemmas.List.{append-nil, reverse-append}
 use Rattle.std.proofs.lemmas.List.Concat.{flat_map-append}
@@ -9,17 +9,15 @@ use Rattle.spec_form.specs.declared.shape.Shape.{Shape}
 use Rattle.spec_form.specs.declared.shape.FieldKind.{FieldKind}
 use Rattle.spec_form.specs.declared.shape.FieldKind.TheVariants.{Single, Lines}
 use Rattle.spec_form.specs.declared.form.Field.{Field}
-use Rattle.spec_form.specs.declared.fault.FormFaultKind.{FormFaultKind}
-use Rattle.spec_form.specs.declared.fault.FormFault.{FormFault}
 use Rattle.spec_form.specs.Shapes.{kind_of, fields_of}
-use Rattle.spec_form.specs.Texts.{trimmed_start, trimmed_end, before, behind, text_lines}
+use Rattle.spec_form.specs.Texts.{trimmed_start, before, behind, text_lines}
 use Rattle.spec_form.specs.Form.{FormValue, has_field, value_lines}
-use Rattle.spec_form.specs.Reading.{is_skipped, is_further, first_lines, begun, new_field, longer_if, in_front, continued, line_read, after_line, lines_read, lacks, complete_if, complete, form_of}
-use Rattle.spec_form.specs.Printing.{tabbed, tabbed_line, printed_as, printed_field, printed, printed_form, ReadsBack}
-use Rattle.spec_form.proofs.Utf8.{cond_true, cond_false, utf8-append, utf8_both}
+use Rattle.spec_form.specs.Reading.{is_skipped, is_further, first_lines, begun, in_front, line_read, after_line, lines_read, lacks, complete_if, complete, form_of}
+use Rattle.spec_form.specs.Printing.{tabbed, tabbed_line, printed_as, printed_field, printed, ReadsBack}
+use Rattle.spec_form.proofs.Utf8.{cond_true, cond_false, utf8_both}
 use Rattle.spec_form.proofs.Cutting.{Clean, before_at, behind_at, among_at, among-append, line_then}
 use Rattle.spec_form.proofs.Good.{GoodValue, GoodLine, GoodField, Good, IsRead, is_read}
-use Rattle.spec_form.proofs.Names.{IsFieldName, field_name, name_begins}
+use Rattle.spec_form.proofs.Names.{field_name, name_begins}
 
 -- ---- one line at a time
 

@@ -1,8 +1,7 @@
 -- Values that the definitions give, worked out by hand.
 use Rattle.std.proofs.Common.{◌≡◌, ◌++◌, ◌∷◌, ℕ, List, [], map, Result, Ok, Err, refl}
 use Rattle.std.specs.Prelude.{codes}
-use Rattle.spec_form.specs.declared.shape.Shape.{Shape}
-use Rattle.spec_form.specs.declared.shape.Shape.TheVariants.{Client, Label, Group, Protect, Change, Shelf, Job, Fix}
+use Rattle.spec_form.specs.declared.shape.Shape.TheVariants.{Client, Label, Group, Protect, Change, Fix}
 use Rattle.spec_form.specs.declared.form.Field.{Field}
 use Rattle.spec_form.specs.declared.fault.FormFault.{FormFault}
 use Rattle.spec_form.specs.declared.fault.FormFaultKind.{FormFaultKind}

@@ -1,11 +1,11 @@
 -- Lines without blanks at their ends.
-use Rattle.std.proofs.Common.{◌≡◌, ℕ, ◌<◌, ◌≤◌, ◌==◌, Bool, true, false, ◌||◌, cond, List, [], ◌∷◌, ◌++◌, length, reverse, refl, sym, ap, subst, ◌∙◌, arith}
+use Rattle.std.proofs.Common.{◌≡◌, ℕ, ◌<◌, ◌≤◌, ◌==◌, Bool, true, false, ◌||◌, cond, List, [], ◌∷◌, ◌++◌, length, reverse, refl, sym, ap, ◌∙◌, arith}
 use Rattle.std.proofs.lemmas.Bool.Decides.{nat_tests}
 use Rattle.std.proofs.lemmas.List.{reverse-append, reverse-reverse}
 use Rattle.depot_path.specs.Bytes.{is_among}
 use Rattle.depot_path.specs.Utf8.{is_utf8}
 use Rattle.spec_form.specs.Texts.{is_blank, trimmed_start, trimmed_end}
-use Rattle.spec_form.proofs.Utf8.{cond_true, cond_false, utf8_front, ascii-cons}
+use Rattle.spec_form.proofs.Utf8.{cond_false, utf8_front, ascii-cons}
 
 pub reverse_cons : (b : ℕ) (line : List ℕ) → reverse (b ∷ line) ≡ reverse line ++ b ∷ []
 reverse_cons b line = reverse-append (b ∷ []) line

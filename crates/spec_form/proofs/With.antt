@@ -1,18 +1,18 @@
 -- A form with another value in one of its fields.
-use Rattle.std.proofs.Common.{◌≡◌, ℕ, ◌==◌, Bool, true, false, ◌&&◌, ◌||◌, not, cond, List, [], ◌∷◌, ◌++◌, map, reverse, Option, Some, None, Ok, refl, sym, ap, subst, ◌∙◌}
+use Rattle.std.proofs.Common.{◌≡◌, ℕ, Bool, true, false, ◌&&◌, ◌||◌, not, cond, List, [], ◌∷◌, ◌++◌, map, reverse, Some, refl, sym, ap, ◌∙◌}
 use Rattle.std.specs.Str.{bytes_eq}
 use Rattle.std.proofs.lemmas.List.{reverse-append, map-append}
 use Rattle.depot_path.specs.Bytes.{is_among}
 use Rattle.depot_path.specs.Utf8.{is_utf8}
 use Rattle.spec_form.specs.declared.shape.Shape.{Shape}
-use Rattle.spec_form.specs.declared.shape.FieldKind.TheVariants.{Single, Lines}
+use Rattle.spec_form.specs.declared.shape.FieldKind.TheVariants.{Single}
 use Rattle.spec_form.specs.declared.form.Field.{Field}
 use Rattle.spec_form.specs.Shapes.{FieldRow, kind_of, fields_of}
 use Rattle.spec_form.specs.Texts.{trimmed_start}
 use Rattle.spec_form.specs.Form.{FormValue, has_field, value_lines, is_value, with_value, with_line}
 use Rattle.spec_form.specs.Reading.{lacks}
 use Rattle.spec_form.specs.Printing.{printed_form, ReadsBack}
-use Rattle.spec_form.proofs.Good.{GoodValue, GoodField, Good, IsRead, is_read}
+use Rattle.spec_form.proofs.Good.{GoodValue, GoodField, Good, is_read}
 use Rattle.spec_form.proofs.Names.{and_first, and_rest, not_true, same_bytes}
 use Rattle.spec_form.proofs.Printed.{read_reads_back}
 

@@ -1,6 +1,6 @@
 -- A form as a value, and what is asked of it.
-use Rattle.std.specs.Prelude.{ℕ, ◌≡◌, Bool, true, ◌&&◌, not, ◌==◌, List, [], ◌∷◌, map, if◌then◌else◌, Option, Some, None}
-use Rattle.std.specs.List.{list_any, find}
+use Rattle.std.specs.Prelude.{ℕ, Bool, ◌&&◌, not, List, [], ◌∷◌, map, if◌then◌else◌}
+use Rattle.std.specs.List.{list_any}
 use Rattle.std.specs.Str.{bytes_eq}
 use Rattle.depot_path.specs.Bytes.{is_among}
 use Rattle.depot_path.specs.Utf8.{is_utf8}

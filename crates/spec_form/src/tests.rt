@@ -19,7 +19,11 @@ fn a_client_form_is_read_and_printed(rt: HostRuntime) -> Result<(), Fail> {
     assert!(rt; view.iter().all(|line| line.as_bytes() == b"//depot/... //ws1/...".as_slice()));
     assert!(rt; form.lines("LineStart").is_empty());
     let text = form.print(alloc)?;
-    assert_eq!(rt; &text.as_bytes()[..text.len() - 1], &FIRST_DAY[36..]);
+    let printed = text.as_bytes();
+    let first_day = FIRST_DAY.as_slice();
+    assert_eq!(rt; printed.len(), 295);
+    assert!(rt; printed.starts_with(&first_day[36..]));
+    assert!(rt; printed.ends_with(b"\n\n"));
     Ok(())
 }
 

@@ -1,4 +1,4 @@
-use Rattle.std.proofs.Common.{◌≡◌, ℕ, false, List, [], ◌∷◌, refl, rules}
+use Rattle.std.proofs.Common.{◌≡◌, ℕ, false, List, [], ◌∷◌, refl}
 use Rattle.depot_path.specs.Bytes.{is_among}
 use Rattle.spec_form.specs.Texts.{text_lines}
 use Rattle.spec_form.proofs.Cutting.{lines_cut, lines_whole, behind_shorter}

@@ -1,4 +1,4 @@
-use Rattle.std.proofs.Common.{inl, inr, ◌≡◌, ℕ, Bool, true, false, List, [], reverse, Result, Ok, Err, sym, ap, refl, ◌∙◌}
+use Rattle.std.proofs.Common.{inl, inr, ◌≡◌, ℕ, Bool, true, false, List, [], reverse, Result, Ok, sym, ap, ◌∙◌}
 use Rattle.std.proofs.lemmas.List.{reverse-reverse}
 use Rattle.depot_path.specs.Answers.{Answers}
 use Rattle.depot_path.specs.Utf8.{is_utf8}

@@ -1,7 +1,7 @@
-use Rattle.std.proofs.Common.{◌≡◌, ℕ, Some, sym, ap, ◌∙◌, map}
+use Rattle.std.proofs.Common.{◌≡◌, Some, ap, ◌∙◌}
 use Rattle.spec_form.specs.declared.shape.FieldKind.TheVariants.{Single}
 use Rattle.spec_form.specs.Shapes.{kind_of}
-use Rattle.spec_form.specs.Form.{FormValue, with_value}
+use Rattle.spec_form.specs.Form.{FormValue}
 use Rattle.spec_form.proofs.With.{with_reads_back}
 use Rattle.spec_form.proofs.form.Form.with.Goals as goal
 
