@@ -146,3 +146,14 @@ clean_within (suc n) (b ∷ text) le u =
 
 pub clean_lines : (text : List ℕ) → is_utf8 text ≡ true → AllByRecursion Clean (text_lines text)
 clean_lines text u = clean_within (length text) text (omega arith) u
+
+-- where there is no byte c, all stands before it
+pub before_whole : (c : ℕ) (text : List ℕ) → is_among text c ≡ false → before c text ≡ text
+before_whole c [] h = refl
+before_whole c (b ∷ text) h =
+    cond_false (b == c) [] _ (or_first (b == c) (is_among text c) h) ∙ ap (λ (l : List ℕ). b ∷ l) (before_whole c text (or_rest (b == c) (is_among text c) h))
+
+pub behind_none : (c : ℕ) (text : List ℕ) → is_among text c ≡ false → behind c text ≡ []
+behind_none c [] h = refl
+behind_none c (b ∷ text) h =
+    cond_false (b == c) _ _ (or_first (b == c) (is_among text c) h) ∙ behind_none c text (or_rest (b == c) (is_among text c) h)

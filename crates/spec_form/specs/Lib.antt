@@ -3,3 +3,4 @@ pub mod Texts
 pub mod Form
 pub mod Reading
 pub mod Printing
+pub mod Places

@@ -5,6 +5,7 @@
 mod cut;
 mod fault;
 mod form;
+mod place;
 mod print;
 mod reader;
 mod shape;
@@ -13,4 +14,5 @@ mod tests;
 
 pub use fault::{FormFault, FormFaultKind};
 pub use form::{Field, Form, is_value};
+pub use place::{field_place, line_place};
 pub use shape::{FieldKind, Shape};
