@@ -10,6 +10,7 @@ use Rattle.spec_form.specs.Shapes.{fields_of}
 use Rattle.spec_form.specs.Form.{FormValue, lines_of, with_line}
 use Rattle.spec_form.specs.Reading.{form_of}
 use Rattle.spec_form.specs.Printing.{printed_form}
+use Rattle.spec_form.specs.Places.{line_place, field_place}
 
 abbrev value : List ℕ → List ℕ → Field
 value name line = record { name = name; lines = line ∷ [] }
@@ -106,3 +107,16 @@ twice = refl
 not_text : form_of Label (codes "Label: " ++ 0xFF ∷ codes "\nLabel:\n") ≡ fault NotUtf8 0
 unfolding fields_of
 not_text = refl
+
+-- places of lines
+abbrev blanks : List ℕ
+blanks = codes "# new\nDescription: \t a \t\n \t b c  \n  \n#x\n\td\nType:  \nChange: 7 "
+
+places : map (line_place blanks (codes "Description")) (0 ∷ 1 ∷ 2 ∷ 3 ∷ 4 ∷ []) ≡ 2 ∷ 3 ∷ 4 ∷ 6 ∷ 0 ∷ []
+places = refl
+
+heads : map (field_place blanks) (codes "Description" ∷ codes "Change" ∷ codes "Type" ∷ codes "b c" ∷ []) ≡ 2 ∷ 8 ∷ 7 ∷ 0 ∷ []
+heads = refl
+
+no_value_no_place : line_place blanks (codes "Type") 0 ≡ 0
+no_value_no_place = refl

@@ -1,6 +1,6 @@
 -- In which line of a text a field begins, and in which its lines stand: what a fault in one of a form's lines is told by. A form
 -- keeps no places, so these are of the text that it was read from. This project's own choice.
-use Rattle.std.specs.Prelude.{ℕ, zero, suc, ◌+◌, Bool, true, false, not, ◌&&◌, ◌||◌, List, [], ◌∷◌, ◌++◌, if◌then◌else◌}
+use Rattle.std.specs.Prelude.{ℕ, zero, suc, ◌+◌, Bool, true, false, not, ◌&&◌, ◌||◌, List, [], ◌∷◌, if◌then◌else◌}
 use Rattle.std.specs.Str.{bytes_eq}
 use Rattle.spec_form.specs.Texts.{before, behind, trimmed_start, text_lines}
 use Rattle.spec_form.specs.Reading.{is_skipped, is_further}

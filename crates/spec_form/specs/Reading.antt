@@ -66,14 +66,9 @@ line_read shape line fields =
     if is_skipped line then Ok fields else
     (if is_further line then continued shape line fields else in_front fields (new_field shape line fields))
 
--- a fault of the n-th line; want of memory is of no line
-abbrev pub line_fault : FormFaultKind → ℕ → FormFault
-line_fault Memory n = record { what = Memory; line = 0 }
-line_fault kind n = record { what = kind; line = n }
-
 -- the fields after the n-th line, and after those behind it, or the first fault
 abbrev pub after_line : ℕ → (List Field → Result (List Field) FormFault) → Result (List Field) FormFaultKind → Result (List Field) FormFault
-after_line n behind (Err kind) = Err (line_fault kind n)
+after_line n behind (Err kind) = Err (record { what = kind; line = n })
 after_line n behind (Ok fields) = behind fields
 
 -- the fields after some lines, of which the first is the n-th, or the first fault

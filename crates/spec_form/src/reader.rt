@@ -1,11 +1,12 @@
 //! Reading forms.
 
-ghost use Rattle.std.specs.Prelude.{◌≡◌, [], reverse, IfOk};
+ghost use Rattle.std.specs.Prelude.{◌≡◌, ◌≢◌, [], reverse, IfOk};
 ghost use Rattle.depot_path.specs.Answers.{Answers, on_ok};
 ghost use Rattle.spec_form.specs.Shapes.{seen_rows};
 ghost use Rattle.spec_form.specs.Texts.{text_lines};
 ghost use Rattle.spec_form.specs.Form.{has_field as has_field_of, value_lines as lines_of_value};
-ghost use Rattle.spec_form.specs.Reading.{begun, continued, first_lines as first_lines_of, in_front, lacks, line_fault, line_read, lines_read, longer, new_field as field_of_line, no_memory};
+ghost use Rattle.spec_form.specs.Reading.{begun, continued, first_lines as first_lines_of, in_front, lacks, line_read, lines_read, longer, new_field as field_of_line, no_memory};
+ghost use Rattle.spec_form.specs.declared.fault.FormFaultKind.TheVariants.{Memory};
 
 use crate::cut::{cut_at, first_line, trim_end, trim_start};
 use crate::fault::{FormFault, FormFaultKind};
@@ -162,9 +163,10 @@ fn read_line(
     }
 }
 
-/// A fault of a line, or want of memory.
+/// A fault of a line, or want of memory, which is of none.
 fn fault_at(what: FormFaultKind, line: usize) -> FormFault
-    ensures { result ≡ line_fault what line }
+    ensures memory { what ≡ Memory → result ≡ no_memory }
+    ensures other { what ≢ Memory → result ≡ record { what = what; line = line } }
 {
     match what {
         FormFaultKind::Memory => FormFault::whole(what),
