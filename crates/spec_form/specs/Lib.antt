@@ -1,0 +1,6 @@
+pub mod Shapes
+pub mod Texts
+pub mod Form
+pub mod Reading
+pub mod Printing
+pub mod Places

@@ -1,0 +1,58 @@
+//! What is wrong with a text that is no form.
+
+ghost use Rattle.std.specs.Prelude.{◌≡◌};
+ghost use Rattle.spec_form.specs.Reading.{whole_fault};
+ghost use Rattle.spec_form.specs.declared.fault.FormFaultKind.TheVariants.{Memory};
+
+use std::alloc::{AllocError, AllocFailed};
+
+/// What is wrong with a text that is no form, or with one of its lines.
+#[derive(Clone, Copy, Debug, PartialEq, Eq)]
+pub enum FormFaultKind {
+    /// The line begins no field and goes on with none.
+    NoField,
+    /// The line begins a field that forms of this shape don't have.
+    UnknownField,
+    /// The line begins a field that was there before.
+    Twice,
+    /// A field is absent that each form of this shape has.
+    Missing,
+    /// The text isn't UTF-8.
+    NotUtf8,
+    /// There is no memory for the form.
+    Memory,
+}
+
+/// Why a text is no form: what is wrong, and in which line.
+#[derive(Clone, Copy, Debug, PartialEq, Eq)]
+pub struct FormFault {
+    /// What is wrong.
+    pub what: FormFaultKind,
+    /// In which line, counted from 1; 0 where it is no single line that is wrong.
+    pub line: usize,
+}
+
+impl FormFault {
+    /// A fault of no single line.
+    pub fn whole(what: FormFaultKind) -> Self
+        ensures { result ≡ whole_fault what }
+    {
+        FormFault { what, line: 0 }
+    }
+}
+
+impl From<AllocError> for FormFaultKind {
+    ghost from_gives = { λ _ kind. kind ≡ Memory };
+
+    fn from(_error: AllocError) -> Self {
+        FormFaultKind::Memory
+    }
+}
+
+impl<T: Drop> From<AllocFailed<T>> for FormFaultKind {
+    ghost from_gives = { λ _ kind. kind ≡ Memory };
+
+    fn from(_error: AllocFailed<T>) -> Self {
+        FormFaultKind::Memory
+    }
+}

@@ -1,0 +1,18 @@
+//! Forms: the texts by which clients, labels, groups, the protections table, changes, shelved files,
+//! jobs and fixes are shown and saved.
+#![tactic(auto)]
+
+mod cut;
+mod fault;
+mod form;
+mod place;
+mod print;
+mod reader;
+mod shape;
+#[cfg(test)]
+mod tests;
+
+pub use fault::{FormFault, FormFaultKind};
+pub use form::{Field, Form, is_value};
+pub use place::{field_place, line_place};
+pub use shape::{FieldKind, Shape};
