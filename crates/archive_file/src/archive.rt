@@ -95,6 +95,7 @@ impl<D: Disk> Archive<D> {
         ensures used { used_of self.new ≡ used_of self.old }
         ensures cause { HasMemoryOr (D.faults (disk_of self.old)) (D.faults (disk_of self.new)) result }
     {
+        prove!(spot.at <= self.used);
         let mut bytes = match vec![in alloc; 0u8; spot.length as usize] {
             Ok(bytes) => bytes,
             Err(_) => return Err(ContentFault::Memory),

@@ -1,0 +1,6 @@
+mod Blocks
+mod Forms
+mod Images
+mod Made
+mod Opening
+mod Standing

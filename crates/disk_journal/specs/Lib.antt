@@ -1,0 +1,4 @@
+pub mod Images
+pub mod Made
+pub mod Stands
+pub mod Text
