@@ -68,6 +68,11 @@ module _ {D : Type 0} (seen may_leave : D → Files → Type 0) (reads : (disk :
     at_mark : journal.end.length + 1 ≡ length (blocks was.groups) + 1
     at_mark = omega (arith, in_mark)
 
+    pub mark_room : (files : Files) → seen mid files → journal.end.length + 1 ≤ length (files file)
+    mark_room files read =
+        let has = image_room was (group g) files (ready files (reads mid files read)) in
+        subst (λ f. journal.end.length + 1 ≤ length (files f)) (sym file_of) (omega (arith, has, in_mark))
+
     pub mark_ready : (c : Files) → After (OnFile file (Torn (journal.end.length + 1) 1)) (may_leave mid) c → IsReady was g c
     mark_ready c after = ready_torn was file file_of (journal.end.length + 1) at_mark g after.0 c (ready after.0 after.1) after.2
 
@@ -163,6 +168,9 @@ module _ {D : Type 0} (seen may_leave : D → Files → Type 0) (reads : (disk :
 
     pub root_opened : (checkpoint : List ℕ) (mid : D) → ((c : Files) → may_leave mid c → IsOpening was checkpoint c) → (c : Files) → After (OnFile 0 (Holds journal.end.generation (101 ∷ []))) (seen mid) c → IsAtRest (with_generation was checkpoint) c
     root_opened checkpoint mid is c after = opening_opened was checkpoint journal.end.generation stands.generation after.0 c (is after.0 (reads mid after.0 after.1)) after.2
+
+pub opening_room : (was : Committed) (checkpoint : List ℕ) (image : Files) → IsOpening was checkpoint image → length (image 0) ≡ 4095
+opening_room was checkpoint image is = is.root.long
 
 -- nothing is in doubt where the journal knows of nothing
 pub at_rest : {D : Type 0} (may_leave : D → Files → Type 0) (journal : Journal D) (was : Committed) (doubt : Doubtful) → journal.doubt ≡ Nothing → Stands may_leave journal was doubt → Stands may_leave journal was nothing
