@@ -204,9 +204,9 @@ module _ (file n : ℕ) (s : State) (c : Files) (ordered : s.least file ≤ s.gr
         front = agree (take n (c file)) (take n (take (length (c file)) bytes_uncut))
             (omega (arith, length-take n (c file), length-take n (take (length (c file)) bytes_uncut), length-take (length (c file)) bytes_uncut, length-uncut))
             (λ k lt.
-                let low : k < n = omega (arith, lt, length-take n (c file)) in
-                let within : k < length (c file) = omega (arith, lt, length-take n (c file)) in
-                get_or-take n (c file) k 0 low ∙ sym (in_front k low within) ∙ sym (get_or-take (length (c file)) bytes_uncut k 0 within) ∙ sym (get_or-take n (take (length (c file)) bytes_uncut) k 0 low));
+            let low : k < n = omega (arith, lt, length-take n (c file)) in
+            let within : k < length (c file) = omega (arith, lt, length-take n (c file)) in
+            get_or-take n (c file) k 0 low ∙ sym (in_front k low within) ∙ sym (get_or-take (length (c file)) bytes_uncut k 0 within) ∙ sym (get_or-take n (take (length (c file)) bytes_uncut) k 0 low));
       }
 
       no_shorter : (f : ℕ) → (f ≡ file) ⊎ (f ≢ file) → s.least f ≤ length (put file bytes_uncut c f)
