@@ -1,11 +1,10 @@
 -- What the writes of a commit, whole or torn, make of an image.
-use Rattle.std.proofs.Common.{◌≡◌, ◌≢◌, ◌⊎◌, inl, inr, ℕ, zero, suc, ◌+◌, ◌*◌, List, [], ◌∷◌, ◌++◌, Some, length, replicate, get_or, take, drop, refl, sym, ◌∙◌, ap, subst, arith, append_assoc, length-append}
+use Rattle.std.proofs.Common.{◌≡◌, ◌≢◌, inl, inr, ℕ, zero, suc, ◌+◌, ◌*◌, List, [], ◌∷◌, ◌++◌, length, replicate, get_or, drop, refl, sym, ◌∙◌, ap, subst, arith, append_assoc, length-append}
 use Rattle.std.proofs.lemmas.Bool.{cases_eq}
 use Rattle.std.proofs.lemmas.Bool.Decides.{nat_tests}
-use Rattle.std.proofs.lemmas.List.{append-nil}
 use Rattle.outside_api.specs.Disk.{Files, Holds, Torn, OnFile}
 use Rattle.disk_journal.specs.Text.{IsGroup, AreGroups, mark, blocks}
-use Rattle.disk_journal.specs.Images.{Committed, with_group, with_generation, generation_of, Begins, IsTail, IsRoot, IsRootWith, HasNext, IsOpening, HasCommitted, HasEither, HasForm, IsAtRest, IsReady}
+use Rattle.disk_journal.specs.Images.{Committed, with_group, generation_of, Begins, IsTail, IsRoot, HasCommitted, HasEither, HasForm, IsAtRest, IsReady}
 use Rattle.disk_journal.proofs.Blocks.{blocks-push, are_groups-push}
 use Rattle.disk_journal.proofs.Forms.{torn_behind, written_behind, torn_byte, written_byte, mark_split}
 

@@ -1,4 +1,5 @@
 mod Blocks
+mod Fetched
 mod Forms
 mod Images
 mod Made

@@ -1,12 +1,12 @@
 -- What the writes of a new generation, whole or torn, make of an image.
-use Rattle.std.proofs.Common.{◌≡◌, ◌≢◌, ◌⊎◌, inl, inr, ℕ, zero, suc, ◌+◌, ◌*◌, ◌<◌, List, [], ◌∷◌, ◌++◌, Some, length, replicate, get_or, take, drop, refl, sym, ◌∙◌, ap, subst, arith, append_assoc, length-append}
+use Rattle.std.proofs.Common.{◌≡◌, ◌≢◌, inl, inr, ℕ, zero, suc, ◌+◌, ◌*◌, ◌<◌, List, [], ◌∷◌, ◌++◌, length, replicate, get_or, drop, refl, sym, ◌∙◌, ap, subst, arith, length-append}
 use Rattle.std.proofs.lemmas.List.{length-replicate}
 use Rattle.std.proofs.lemmas.Bool.{cases_eq}
 use Rattle.outside_api.specs.Disk.{Files, Holds, Torn, OnFile}
-use Rattle.disk_journal.specs.Text.{AreGroups, mark, blocks}
-use Rattle.disk_journal.specs.Images.{Committed, with_generation, generation_of, Begins, HasCommitted, HasEither, IsTail, IsRoot, IsRootWith, HasForm, HasNext, IsAtRest, IsOpening}
+use Rattle.disk_journal.specs.Text.{AreGroups, mark}
+use Rattle.disk_journal.specs.Images.{Committed, with_generation, Begins, HasEither, IsTail, IsRoot, IsRootWith, HasForm, HasNext, IsAtRest, IsOpening}
 use Rattle.disk_journal.proofs.Forms.{torn_byte, written_byte}
-use Rattle.disk_journal.proofs.Images.{same_form, rest_holds, root_holds}
+use Rattle.disk_journal.proofs.Images.{same_form, rest_holds}
 
 -- closed bytes are a tail
 closed_tail : (rest : List ℕ) → rest ≡ replicate (length rest) 109 → IsTail rest

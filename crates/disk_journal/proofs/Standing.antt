@@ -1,9 +1,9 @@
 -- How a journal stands after each write of a commit, of a settling and of an opening.
-use Rattle.std.proofs.Common.{◌≡◌, ◌≢◌, ◌⊎◌, inl, inr, ℕ, ◌+◌, ◌*◌, ◌<◌, ◌≤◌, List, [], ◌∷◌, ◌++◌, length, subst, sym, arith, length-append}
+use Rattle.std.proofs.Common.{◌≡◌, ℕ, ◌+◌, ◌*◌, ◌<◌, ◌≤◌, List, [], ◌∷◌, ◌++◌, length, subst, sym, ap, ◌∙◌, append_assoc, arith, length-append}
 use Rattle.outside_api.specs.Disk.{Files, After, Holds, Torn, OnFile, LeavesOnly}
-use Rattle.outside_api.specs.Moments.{started, weaker}
+use Rattle.outside_api.specs.Moments.{started}
 use Rattle.disk_journal.specs.Text.{IsGroup, AreGroups, mark, blocks}
-use Rattle.disk_journal.specs.Images.{Committed, with_group, with_generation, IsOpening, HasCommitted, HasEither, HasForm, HasNext, IsAtRest, IsReady}
+use Rattle.disk_journal.specs.Images.{Committed, with_group, with_generation, IsOpening, HasForm, IsAtRest, IsReady}
 use Rattle.disk_journal.specs.Stands.{Doubtful, nothing, group, opening, Knows, IsImage, HasWithOrWithout, Stands}
 use Rattle.disk_journal.specs.declared.journal.Journal.{Journal}
 use Rattle.disk_journal.specs.declared.journal.Doubt.{Doubt}
@@ -14,7 +14,7 @@ use Rattle.disk_journal.proofs.Opening.{opening_holds, opening_torn, opening_ope
 -- the journal's file reaches past the mark
 form_room : (was : Committed) (byte : ℕ) (behind : List ℕ) (image : Files) → HasForm was byte behind image → length (blocks was.groups) + 5 ≤ length (image (1 + 2 * was.generation))
 form_room was byte behind image form =
-    omega (arith, Rattle.std.proofs.Common.ap length form.file, length-append (blocks was.groups ++ mark byte) behind, length-append (blocks was.groups) (mark byte))
+    omega (arith, ap length form.file, length-append (blocks was.groups ++ mark byte) behind, length-append (blocks was.groups) (mark byte))
 
 image_room : (was : Committed) (doubt : Doubtful) (image : Files) → IsImage was doubt image → length (blocks was.groups) + 5 ≤ length (image (1 + 2 * was.generation))
 image_room was nothing image is = form_room was is.byte is.behind image is.form
@@ -38,6 +38,12 @@ standing may_leave journal was doubt generation are count long known each = reco
   each = each;
   holds = λ image left. image_holds was doubt (journal.end.groups + 1) journal.doubt image (omega (arith, count)) are known (each image left);
 }
+
+-- the journal's file begins with the committed text
+pub image_text : (was : Committed) (doubt : Doubtful) (image : Files) → IsImage was doubt image → (rest : List ℕ) × (image (1 + 2 * was.generation) ≡ blocks was.groups ++ rest)
+image_text was nothing image is = (mark is.byte ++ is.behind, is.form.file ∙ append_assoc (blocks was.groups) (mark is.byte) is.behind)
+image_text was (opening checkpoint) image is = (mark is.byte ++ is.behind, is.form.file ∙ append_assoc (blocks was.groups) (mark is.byte) is.behind)
+image_text was (group g) image is = (mark is.byte ++ (g ++ mark 109 ++ is.behind), is.form.file ∙ append_assoc (blocks was.groups) (mark is.byte) (g ++ mark 109 ++ is.behind))
 
 module _ {D : Type 0} (seen may_leave : D → Files → Type 0) (reads : (disk : D) (c : Files) → seen disk c → may_leave disk c) (journal : Journal D) (was : Committed) where
   pub room : (doubt : Doubtful) (file : ℕ) → Stands may_leave journal was doubt → file ≡ 1 + 2 * journal.end.generation → (files : Files) → seen journal.disk files → journal.end.length + 5 ≤ length (files file)

@@ -5,6 +5,7 @@
 //! group that it opens, and then a mark with another byte, after which everything is ignored.
 #![tactic(auto)]
 
+mod fetch;
 mod journal;
 mod make;
 

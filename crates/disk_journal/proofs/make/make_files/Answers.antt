@@ -1,4 +1,4 @@
-use Rattle.std.proofs.Common.{◌≡◌, ℕ, refl, arith}
+use Rattle.std.proofs.Common.{refl, arith}
 use Rattle.outside_api.specs.Disk.{Files}
 use Rattle.disk_journal.specs.Images.{IsAtRest}
 use Rattle.disk_journal.specs.Made.{made}

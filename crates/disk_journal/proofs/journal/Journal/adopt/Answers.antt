@@ -1,4 +1,4 @@
-use Rattle.std.proofs.Common.{◌≤◌, ◌<◌, ◌+◌, ◌^◌, refl, arith}
+use Rattle.std.proofs.Common.{refl, arith}
 use Rattle.disk_journal.specs.Stands.{nothing}
 use Rattle.disk_journal.proofs.Blocks.{length-blocks}
 use Rattle.disk_journal.proofs.Standing.{standing}

@@ -1,9 +1,8 @@
-use Rattle.std.proofs.Common.{◌≡◌, ◌⊎◌, inl, inr, ◌+◌, ◌*◌, ◌≤◌, ℕ, List, [], ◌∷◌, length, refl, ap, arith}
-use Rattle.outside_api.specs.Disk.{Files, After, OnFile, Torn, LeavesOnly}
+use Rattle.std.proofs.Common.{inl, inr, length, refl, arith}
+use Rattle.outside_api.specs.Disk.{Files, After, OnFile, Torn}
 use Rattle.outside_api.specs.Moments.{weaker, then, started, goes_on}
-use Rattle.disk_journal.specs.Text.{mark}
-use Rattle.disk_journal.specs.Images.{Committed, HasCommitted, HasEither, with_generation, IsAtRest, IsOpening}
-use Rattle.disk_journal.specs.Stands.{nothing, opening, Stands}
+use Rattle.disk_journal.specs.Images.{HasCommitted, HasEither, with_generation, IsAtRest, IsOpening}
+use Rattle.disk_journal.specs.Stands.{nothing, opening}
 use Rattle.disk_journal.proofs.Images.{rest_holds}
 use Rattle.disk_journal.proofs.Opening.{opening_holds}
 use Rattle.disk_journal.proofs.Standing.{standing, first_file, second_file, both_files, root_torn, root_opened, opening_room}

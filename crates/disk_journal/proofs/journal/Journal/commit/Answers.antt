@@ -1,9 +1,9 @@
-use Rattle.std.proofs.Common.{◌≡◌, ◌⊎◌, inl, inr, ◌+◌, ◌*◌, ◌≤◌, ◌<◌, ◌^◌, ℕ, List, [], ◌∷◌, ◌++◌, length, refl, subst, ◌∙◌, ap, arith, rules, length-append}
-use Rattle.outside_api.specs.Disk.{Files, After, OnFile, Torn, Holds, LeavesOnly}
+use Rattle.std.proofs.Common.{◌≡◌, inl, inr, ◌+◌, ◌*◌, [], ◌∷◌, ◌++◌, length, refl, subst, ◌∙◌, ap, arith, length-append}
+use Rattle.outside_api.specs.Disk.{Files}
 use Rattle.outside_api.specs.Moments.{weaker, then}
-use Rattle.disk_journal.specs.Text.{mark, blocks, IsGroup}
-use Rattle.disk_journal.specs.Images.{Committed, HasCommitted, HasEither, with_group, IsReady, IsAtRest}
-use Rattle.disk_journal.specs.Stands.{nothing, group, Stands, group_of}
+use Rattle.disk_journal.specs.Text.{mark, IsGroup}
+use Rattle.disk_journal.specs.Images.{HasCommitted, HasEither, with_group, IsReady}
+use Rattle.disk_journal.specs.Stands.{nothing, group, group_of}
 use Rattle.disk_journal.proofs.Blocks.{are_groups-push, length_push}
 use Rattle.disk_journal.proofs.Images.{rest_holds, ready_holds}
 use Rattle.disk_journal.proofs.Standing.{standing, room, behind_rest, behind_ready, mark_room, mark_ready, mark_opened}

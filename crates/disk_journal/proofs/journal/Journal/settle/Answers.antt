@@ -1,7 +1,6 @@
-use Rattle.std.proofs.Common.{◌≡◌, ◌+◌, ◌≤◌, ℕ, List, [], ◌∷◌, length, refl, arith}
-use Rattle.outside_api.specs.Disk.{Files}
+use Rattle.std.proofs.Common.{refl, arith}
 use Rattle.outside_api.specs.Moments.{weaker}
-use Rattle.disk_journal.specs.Stands.{Doubtful, nothing, HasWithOrWithout, Stands}
+use Rattle.disk_journal.specs.Stands.{nothing, HasWithOrWithout}
 use Rattle.disk_journal.proofs.Standing.{standing, room, root_room, image_holds, root_settling, root_settled, settling, settled, at_rest, no_call}
 use Rattle.disk_journal.proofs.journal.Journal.settle.Goals as goal
 
