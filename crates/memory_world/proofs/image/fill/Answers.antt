@@ -1,5 +1,5 @@
-use Rattle.std.proofs.Common.{◌≡◌, ◌∙◌, ◌+◌, ◌-◌, ◌<◌, ◌≤◌, sym, ap, subst, List, ℕ, Bool, true, false, set, get_or, length, take, drop, min, arith, rules, length-drop}
-use Rattle.std.proofs.lemmas.List.{take_all, set-get_or}
+use Rattle.std.proofs.Common.{◌≡◌, ◌∙◌, ◌+◌, ◌<◌, sym, ap, List, ℕ, true, false, get_or, length, drop, arith}
+use Rattle.std.proofs.lemmas.List.{set-get_or}
 use Rattle.memory_world.specs.Ranges.{is_in, open_below}
 use Rattle.memory_world.proofs.Filled.{below_place, one_open, one_shut, kept_at, picked_at, picked_past, rest_from}
 use Rattle.memory_world.proofs.image.fill.Goals as goal
