@@ -4,6 +4,3 @@
 mod runs;
 
 pub use runs::commit_settled;
-
-#[cfg(test)]
-mod tests;

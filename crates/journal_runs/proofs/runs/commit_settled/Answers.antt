@@ -1,9 +1,8 @@
-use Rattle.std.proofs.Common.{◌≡◌, ◌⊎◌, inl, inr, refl, List, ℕ, subst, sym}
-use Rattle.outside_api.specs.Disk.{Files, LeavesOnly}
+use Rattle.std.proofs.Common.{◌⊎◌, inl, inr, refl, subst, sym}
+use Rattle.outside_api.specs.Disk.{Files}
 use Rattle.outside_api.specs.Moments.{weaker, then}
-use Rattle.disk_journal.specs.Images.{Committed, HasCommitted, HasEither, with_group}
-use Rattle.disk_journal.specs.Stands.{Doubtful, nothing, group, HasWithOrWithout, Stands, IsStill, IsPrepared, group_of}
-use Rattle.journal_runs.specs.Runs.{IsAfterFault}
+use Rattle.disk_journal.specs.Images.{HasEither, with_group}
+use Rattle.disk_journal.specs.Stands.{nothing, group, HasWithOrWithout, IsPrepared, group_of}
 use Rattle.journal_runs.proofs.runs.commit_settled.Goals as goal
 
 pub returns-in_err-settle-clause-fault : goal.returns-in_err-settle-clause-fault
