@@ -6,10 +6,9 @@ ghost use Rattle.outside_api.specs.Disk.{Files, LeavesOnly, NoMore, Same};
 ghost use Rattle.db_records.specs.declared.change.Spot.{Spot};
 ghost use Rattle.archive_file.specs.Archive.{disk_of, used_of, end_of, Has, AllHave, HasMemoryOr};
 
-use crate::filling::fill;
 use db_records::Spot;
 use depot_path::Text;
-use outside_api::{Disk, DiskFault, write_through};
+use outside_api::{Disk, DiskFault, fill, write_through};
 use std::alloc::Global;
 
 const FILE: u32 = 0;
@@ -95,11 +94,12 @@ impl<D: Disk> Archive<D> {
         ensures used { used_of self.new ≡ used_of self.old }
         ensures cause { HasMemoryOr (D.faults (disk_of self.old)) (D.faults (disk_of self.new)) result }
     {
+        prove!(spot.at <= self.used);
         let mut bytes = match vec![in alloc; 0u8; spot.length as usize] {
             Ok(bytes) => bytes,
             Err(_) => return Err(ContentFault::Memory),
         };
-        match fill(&mut self.disk, spot.at, bytes.as_mut_slice()) {
+        match fill(&mut self.disk, FILE, spot.at, bytes.as_mut_slice()) {
             Ok(count) => {
                 bytes.truncate(count);
                 Ok(Text::from_vec(bytes))

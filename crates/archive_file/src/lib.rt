@@ -3,7 +3,6 @@
 
 mod archive;
 mod digests;
-mod filling;
 
 pub use archive::{Archive, ContentFault};
 pub use digests::digest;

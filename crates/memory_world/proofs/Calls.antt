@@ -1,7 +1,7 @@
 -- What each call of a disk does to what it keeps and to what a stop may leave.
-use Rattle.std.proofs.Common.{◌≡◌, ◌≢◌, ◌⊎◌, inl, inr, ⊎_elim, ℕ, ◌+◌, ◌^◌, ◌<◌, ◌≤◌, min, max, false, List, [], ◌∷◌, ◌++◌, length, take, drop, get_or, Vec, refl, sym, ◌∙◌, ap, subst, arith, length-append, length-take, length-drop, get_or-take}
+use Rattle.std.proofs.Common.{◌≡◌, ◌≢◌, ◌⊎◌, inl, inr, ℕ, ◌+◌, ◌^◌, ◌<◌, ◌≤◌, min, max, false, List, [], ◌∷◌, ◌++◌, length, take, drop, get_or, Vec, refl, sym, ◌∙◌, ap, subst, arith, length-append, length-take, length-drop, get_or-take}
 use Rattle.std.proofs.lemmas.Bool.{cases_eq}
-use Rattle.std.proofs.lemmas.List.{places, take_all, take_min}
+use Rattle.std.proofs.lemmas.List.{places, take_all}
 use Rattle.std.specs.declared.alloc.Global.{Global}
 use Rattle.outside_api.specs.Disk.{Files, OnFile, Torn, Cut, Holds, After, Leads, StillTells}
 use Rattle.memory_world.specs.Files.{contents, put, written}

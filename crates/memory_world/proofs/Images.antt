@@ -1,11 +1,11 @@
 -- What a stop may leave after a call is what one may have left before it, and a step.
-use Rattle.std.proofs.Common.{◌≡◌, ◌≢◌, ◌⊎◌, inl, inr, ℕ, zero, suc, ◌+◌, ◌<◌, ◌≤◌, min, max, Bool, true, false, ◌&&◌, leb, ltb, List, [], ◌∷◌, ◌++◌, length, take, drop, get_or, if◌then◌else◌, refl, sym, ◌∙◌, ap, subst, arith, length-append, length-take, length-drop, get_or-take, get_or-drop}
+use Rattle.std.proofs.Common.{◌≡◌, ◌≢◌, ◌⊎◌, inl, inr, ℕ, zero, suc, ◌+◌, ◌<◌, ◌≤◌, min, max, Bool, true, false, ◌&&◌, leb, ltb, List, [], ◌∷◌, length, take, drop, get_or, if◌then◌else◌, refl, sym, ◌∙◌, ap, subst, arith, length-take, length-drop, get_or-take, get_or-drop}
 use Rattle.std.proofs.lemmas.Bool.{cases_eq, cases_lt}
 use Rattle.std.proofs.lemmas.Bool.Decides.{nat_tests}
 use Rattle.std.proofs.lemmas.List.{places, take_all}
 use Rattle.outside_api.specs.Disk.{Files, OnFile, Torn, Cut, After}
-use Rattle.memory_world.specs.Files.{put, written}
-use Rattle.memory_world.specs.Replay.{State, opened, all_behind, at_rest, broken_write, broken_cut, IsImage}
+use Rattle.memory_world.specs.Files.{put}
+use Rattle.memory_world.specs.Replay.{State, opened, all_behind, broken_write, broken_cut, IsImage}
 use Rattle.memory_world.proofs.Contents.{put_same, put_other}
 
 -- the list of n values of a function
@@ -204,9 +204,9 @@ module _ (file n : ℕ) (s : State) (c : Files) (ordered : s.least file ≤ s.gr
         front = agree (take n (c file)) (take n (take (length (c file)) bytes_uncut))
             (omega (arith, length-take n (c file), length-take n (take (length (c file)) bytes_uncut), length-take (length (c file)) bytes_uncut, length-uncut))
             (λ k lt.
-                let low : k < n = omega (arith, lt, length-take n (c file)) in
-                let within : k < length (c file) = omega (arith, lt, length-take n (c file)) in
-                get_or-take n (c file) k 0 low ∙ sym (in_front k low within) ∙ sym (get_or-take (length (c file)) bytes_uncut k 0 within) ∙ sym (get_or-take n (take (length (c file)) bytes_uncut) k 0 low));
+            let low : k < n = omega (arith, lt, length-take n (c file)) in
+            let within : k < length (c file) = omega (arith, lt, length-take n (c file)) in
+            get_or-take n (c file) k 0 low ∙ sym (in_front k low within) ∙ sym (get_or-take (length (c file)) bytes_uncut k 0 within) ∙ sym (get_or-take n (take (length (c file)) bytes_uncut) k 0 low));
       }
 
       no_shorter : (f : ℕ) → (f ≡ file) ⊎ (f ≢ file) → s.least f ≤ length (put file bytes_uncut c f)

@@ -1,5 +1,5 @@
 -- A call done again on files and ranges.
-use Rattle.std.proofs.Common.{◌≡◌, ℕ, ◌+◌, ◌-◌, Bool, true, false, ◌||◌, ◌&&◌, ◌==◌, leb, ltb, List, [], ◌∷◌, ◌++◌, length, take, Vec, refl, sym, ◌∙◌, ap}
+use Rattle.std.proofs.Common.{◌≡◌, ℕ, ◌+◌, Bool, true, false, ◌||◌, ◌&&◌, ◌==◌, leb, ltb, List, [], ◌∷◌, ◌++◌, length, take, Vec, refl, ◌∙◌, ap}
 use Rattle.std.specs.declared.alloc.Global.{Global}
 use Rattle.memory_world.specs.Files.{contents, put, written}
 use Rattle.memory_world.specs.Replay.{State, called, opened, all_behind}

@@ -1,6 +1,6 @@
 -- Laws of a disk's moments, which its ghost members cite.
-use Rattle.std.specs.Prelude.{◌≡◌, ℕ, zero, suc, ◌<◌, ◌≤◌, ◌^◌, List, [], ◌∷◌, length, take, get_or, Vec}
-use Rattle.std.proofs.Common.{refl, sym, ap, subst, arith, ◌∙◌}
+use Rattle.std.specs.Prelude.{◌≡◌, ℕ, zero, suc, ◌<◌, ◌≤◌, ◌^◌, List, [], ◌∷◌, length, get_or, Vec}
+use Rattle.std.proofs.Common.{sym, ap, subst, arith, ◌∙◌}
 use Rattle.std.proofs.lemmas.List.{take_all}
 use Rattle.std.specs.declared.alloc.Global.{Global}
 use Rattle.outside_api.specs.Disk.{Files}

@@ -168,14 +168,7 @@ impl Disk for MemoryDisk {
             keep(&mut self.log, Call::BrokenWrite { file, at, count });
             return Err(Failed);
         }
-        match write_kept(
-            self.alloc,
-            &mut self.files,
-            &mut self.log,
-            file,
-            at,
-            piece,
-        ) {
+        match write_kept(self.alloc, &mut self.files, &mut self.log, file, at, piece) {
             Ok(()) => Ok(()),
             Err(AllocError) => {
                 self.failing.fault();

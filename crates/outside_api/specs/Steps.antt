@@ -1,7 +1,7 @@
 -- How steps of a disk's files go on.
-use Rattle.std.proofs.Common.{◌≡◌, ℕ, List, length, take, drop, min, max, refl, arith}
+use Rattle.std.proofs.Common.{ℕ, refl, arith}
 use Rattle.std.proofs.lemmas.List.{take_min}
-use Rattle.outside_api.specs.Disk.{Files, Torn, OnFile, Leads, Same, NoMore, Follows, After}
+use Rattle.outside_api.specs.Disk.{Files, Torn, OnFile, Leads, Same}
 
 -- what a write leaves may be what was there
 pub stays : (file at n : ℕ) (c : Files) → OnFile file (Torn at n) c c

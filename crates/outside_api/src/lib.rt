@@ -8,6 +8,7 @@
 mod disk;
 mod doors;
 mod fault;
+mod filling;
 mod link;
 mod stream;
 mod through;
@@ -16,6 +17,7 @@ mod timing;
 pub use disk::Disk;
 pub use doors::Doors;
 pub use fault::DiskFault;
+pub use filling::fill;
 pub use link::{Fetched, Link};
 pub use stream::{Failed, Sink, Source};
 pub use through::write_through;

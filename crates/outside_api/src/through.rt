@@ -9,12 +9,7 @@ use crate::stream::Failed;
 
 /// Writes a piece and syncs: two calls of the disk. After Ok a crash leaves the piece; until then it
 /// may leave any bytes in the range, and nothing else that it couldn't leave before.
-pub fn write_through<D: Disk>(
-    disk: &mut D,
-    file: u32,
-    at: u64,
-    piece: &[u8],
-) -> Result<(), Failed>
+pub fn write_through<D: Disk>(disk: &mut D, file: u32, at: u64, piece: &[u8]) -> Result<(), Failed>
     requires { (files : Files) → D.seen disk.old files → at ≤ length (files file) }
     ensures durable { OnOk result (Follows (OnFile file (Holds at piece.now)) (D.seen disk.old) (D.may_leave disk.new)) }
     ensures written { OnOk result (Leads (OnFile file (Holds at piece.now)) (D.seen disk.old) (D.seen disk.new)) }

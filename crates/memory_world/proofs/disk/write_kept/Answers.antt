@@ -1,4 +1,4 @@
-use Rattle.std.proofs.Common.{◌≡◌, ◌++◌, ◌∷◌, [], rules, arith}
+use Rattle.std.proofs.Common.{◌≡◌, ◌++◌, ◌∷◌, [], rules}
 use Rattle.memory_world.specs.declared.call.Call.TheVariants.{Write}
 use Rattle.memory_world.proofs.disk.write_kept.Goals as goal
 

@@ -1,4 +1,4 @@
-use Rattle.std.proofs.Common.{◌≡◌, ◌∙◌, ◌<◌, ap, List, ℕ, length, take, get_or, arith, rules}
+use Rattle.std.proofs.Common.{◌≡◌, ◌∙◌, ◌<◌, ap, List, ℕ, length, take, rules}
 use Rattle.memory_world.proofs.Contents.{contents_at, contents_changed, put_none}
 use Rattle.memory_world.proofs.files.cut_file.Goals as goal
 

@@ -1,5 +1,5 @@
-use Rattle.std.proofs.Common.{◌≡◌, ◌∙◌, ◌<◌, ◌≤◌, ap, sym, subst, List, ℕ, length, get_or, arith, rules, if◌then◌else◌, ◌==◌}
-use Rattle.memory_world.specs.Files.{contents, put, written}
+use Rattle.std.proofs.Common.{◌≡◌, ◌∙◌, ◌<◌, ap, List, ℕ, length, rules}
+use Rattle.memory_world.specs.Files.{contents, written}
 use Rattle.memory_world.proofs.Contents.{contents_at, contents_changed, contents_unchanged, put_alike}
 use Rattle.memory_world.proofs.files.write_file.Goals as goal
 

@@ -1,9 +1,9 @@
-use Rattle.std.proofs.Common.{◌≡◌, ◌∙◌, ◌⊎◌, inl, inr, ◌+◌, ◌<◌, ◌≤◌, ap, sym, subst, ℕ, List, Vec, true, false, length, get_or, arith, rules, length-set}
+use Rattle.std.proofs.Common.{◌≡◌, ◌∙◌, ◌⊎◌, inl, inr, ◌<◌, ◌≤◌, ap, ℕ, List, Vec, length, get_or, arith, rules, length-set}
 use Rattle.std.proofs.lemmas.Bool.{cases_lt}
 use Rattle.std.proofs.lemmas.List.{with_items_is}
 use Rattle.std.specs.Vec.{with_items}
 use Rattle.memory_world.specs.Files.{contents}
-use Rattle.memory_world.specs.Ranges.{is_in, open_before, open_below}
+use Rattle.memory_world.specs.Ranges.{is_in}
 use Rattle.memory_world.proofs.Contents.{contents_at, contents_past, set_same, set_other}
 use Rattle.memory_world.proofs.Filled.{one_filled, one_rest}
 use Rattle.memory_world.proofs.image.fill_all.Goals as goal

@@ -1,6 +1,6 @@
-use Rattle.std.proofs.Common.{◌≡◌, ◌∙◌, refl, ap, sym, subst, ℕ, List, length, arith, rules, if◌then◌else◌, ◌==◌}
+use Rattle.std.proofs.Common.{◌≡◌, ◌∙◌, refl, ap, sym, subst, ℕ, List, length, rules}
 use Rattle.memory_world.specs.Files.{contents, put, written}
-use Rattle.memory_world.specs.Replay.{State, called}
+use Rattle.memory_world.specs.Replay.{called}
 use Rattle.memory_world.specs.Ranges.{Agrees}
 use Rattle.memory_world.proofs.Redone.{redone_write, redone_broken_write, redone_cut, redone_broken_cut}
 use Rattle.memory_world.proofs.image.redo.Goals as goal

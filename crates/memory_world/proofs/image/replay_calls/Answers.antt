@@ -1,7 +1,7 @@
-use Rattle.std.proofs.Common.{◌≡◌, ◌∙◌, ◌+◌, ◌++◌, [], ◌∷◌, ap, sym, subst, List, take, get_or}
+use Rattle.std.proofs.Common.{◌≡◌, ◌∙◌, ◌+◌, ◌++◌, [], ◌∷◌, ap, sym, subst, take}
 use Rattle.std.proofs.lemmas.List.{take_more}
 use Rattle.memory_world.specs.Files.{contents}
-use Rattle.memory_world.specs.Replay.{State, replay, called, at_rest}
+use Rattle.memory_world.specs.Replay.{replay, at_rest}
 use Rattle.memory_world.specs.Ranges.{Agrees}
 use Rattle.memory_world.specs.declared.call.Call.{Call}
 use Rattle.memory_world.proofs.Replays.{replayed}

@@ -1,4 +1,4 @@
-use Rattle.std.proofs.Common.{◌≡◌, ◌∙◌, ap, subst, ℕ, List, Vec, take}
+use Rattle.std.proofs.Common.{◌∙◌, ap, subst, ℕ, List, Vec, take}
 use Rattle.std.specs.declared.alloc.Global.{Global}
 use Rattle.memory_world.specs.Files.{contents}
 use Rattle.memory_world.specs.Disk.{state_at}

@@ -1,5 +1,5 @@
 use Rattle.memory_world.specs.Files.{contents}
-use Rattle.memory_world.specs.declared.call.Call.TheVariants.{Look, BrokenCut, Cut}
+use Rattle.memory_world.specs.declared.call.Call.TheVariants.{BrokenCut, Cut}
 use Rattle.memory_world.proofs.Calls.{broken_cut_sound, broken_cut_crash, cut_sound, cut_crash, cut_leads, still_tells}
 use Rattle.memory_world.proofs.Replays.{either_elapses, elapses}
 use Rattle.memory_world.proofs.disk.MemoryDiskDisk.cut.Goals as goal

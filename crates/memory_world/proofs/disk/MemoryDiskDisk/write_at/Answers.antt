@@ -2,7 +2,7 @@ use Rattle.std.proofs.Common.{length, refl}
 use Rattle.memory_world.specs.Files.{contents}
 use Rattle.memory_world.specs.declared.call.Call.TheVariants.{BrokenWrite, Write}
 use Rattle.memory_world.proofs.Calls.{broken_write_sound, broken_write_crash, write_sound, write_crash, write_leads, write_small, still_tells}
-use Rattle.memory_world.proofs.Replays.{either_elapses, same_elapses, elapses}
+use Rattle.memory_world.proofs.Replays.{either_elapses, elapses}
 use Rattle.memory_world.proofs.disk.MemoryDiskDisk.write_at.Goals as goal
 
 pub invariant_of-self : goal.invariant_of-self

@@ -1,0 +1,7 @@
+mod Blocks
+mod Fetched
+mod Forms
+mod Images
+mod Made
+mod Opening
+mod Standing

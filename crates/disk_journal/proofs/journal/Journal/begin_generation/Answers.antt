@@ -1,0 +1,93 @@
+use Rattle.std.proofs.Common.{inl, inr, length, refl, arith}
+use Rattle.outside_api.specs.Disk.{Files, After, OnFile, Torn}
+use Rattle.outside_api.specs.Moments.{weaker, then, started, goes_on}
+use Rattle.disk_journal.specs.Images.{HasCommitted, HasEither, with_generation, IsAtRest, IsOpening}
+use Rattle.disk_journal.specs.Stands.{nothing, opening}
+use Rattle.disk_journal.proofs.Images.{rest_holds}
+use Rattle.disk_journal.proofs.Opening.{opening_holds}
+use Rattle.disk_journal.proofs.Standing.{standing, first_file, second_file, both_files, root_torn, root_opened, opening_room}
+use Rattle.disk_journal.proofs.journal.Journal.begin_generation.Goals as goal
+
+pub write_through-requires-2 : goal.write_through-requires-2
+write_through-requires-2 g c =
+    let was = c.requires.rest.0 in
+    let stands = c.requires.rest.1 in
+    let first : (f : Files) → g.D.Disk.may_leave c.write_at.new.self f → IsAtRest was f = λ f left. first_file g.D.Disk.seen g.D.Disk.may_leave g.met.D.Disk.reads_an_image c.args.self.now was stands c.checkpoint_file.result (length c.args.checkpoint.now) f (omega (arith, c.checkpoint_file.ensures)) (c.write_at.ensures.crash f left) in
+    let both : (f : Files) → g.D.Disk.may_leave c.write_through.new.disk f → IsOpening was c.args.checkpoint.now f = λ f left. both_files g.D.Disk.seen g.D.Disk.may_leave g.met.D.Disk.reads_an_image c.args.self.now was stands c.write_at.new.self first c.args.checkpoint.now c.checkpoint_file.result c.journal_file.result (omega (arith, c.checkpoint_file.ensures)) (omega (arith, c.journal_file.ensures)) c.requires.below c.in_ok-write_at.ensures.written.from f (c.in_ok-write_through.ensures.durable f left) in
+    λ files read. omega (arith, opening_room was c.args.checkpoint.now files (both files (g.met.D.Disk.reads_an_image c.write_through.new.disk files read)), c.requires.below)
+
+pub returns-in_err-write_at-clause-err : goal.returns-in_err-write_at-clause-err
+returns-in_err-write_at-clause-err g c = λ was stands is_err.
+    let first : (f : Files) → g.D.Disk.may_leave c.write_at.new.self f → IsAtRest was f = λ f left. first_file g.D.Disk.seen g.D.Disk.may_leave g.met.D.Disk.reads_an_image c.args.self.now was stands c.checkpoint_file.result (length c.args.checkpoint.now) f (omega (arith, c.checkpoint_file.ensures)) (c.write_at.ensures.crash f left) in
+    let P : Files → Type 0 = HasCommitted was in
+    let at_start = started g.D.Disk.moment g.D.Disk.left_since c.args.self.now.disk P (λ f left. stands.holds f (g.met.D.Disk.only_now c.args.self.now.disk f left)) in
+    let run1 = goes_on g.D.Disk.moment g.D.Disk.left_since c.args.self.now.disk c.args.self.now.disk c.write_at.new.self P _ at_start c.write_at.ensures.time (λ f left. rest_holds was f stands.are_groups (first f left)) in
+    inl (record { stands = standing g.D.Disk.may_leave _ was nothing stands.generation stands.are_groups stands.count stands.length stands.known first; any_moment = run1 })
+
+pub returns-in_err-write_at-clause-any_moment : goal.returns-in_err-write_at-clause-any_moment
+returns-in_err-write_at-clause-any_moment g c = λ was stands.
+    let first : (f : Files) → g.D.Disk.may_leave c.write_at.new.self f → IsAtRest was f = λ f left. first_file g.D.Disk.seen g.D.Disk.may_leave g.met.D.Disk.reads_an_image c.args.self.now was stands c.checkpoint_file.result (length c.args.checkpoint.now) f (omega (arith, c.checkpoint_file.ensures)) (c.write_at.ensures.crash f left) in
+    let P : Files → Type 0 = HasEither was (with_generation was c.args.checkpoint.now) in
+    let at_start = started g.D.Disk.moment g.D.Disk.left_since c.args.self.now.disk P (λ f left. inl (stands.holds f (g.met.D.Disk.only_now c.args.self.now.disk f left))) in
+    let run1 = goes_on g.D.Disk.moment g.D.Disk.left_since c.args.self.now.disk c.args.self.now.disk c.write_at.new.self P _ at_start c.write_at.ensures.time (λ f left. inl (rest_holds was f stands.are_groups (first f left))) in
+    run1
+
+pub returns-in_err-write_through-clause-err : goal.returns-in_err-write_through-clause-err
+returns-in_err-write_through-clause-err g c = λ was stands is_err.
+    let first : (f : Files) → g.D.Disk.may_leave c.write_at.new.self f → IsAtRest was f = λ f left. first_file g.D.Disk.seen g.D.Disk.may_leave g.met.D.Disk.reads_an_image c.args.self.now was stands c.checkpoint_file.result (length c.args.checkpoint.now) f (omega (arith, c.checkpoint_file.ensures)) (c.write_at.ensures.crash f left) in
+    let second : (f : Files) → After (OnFile c.journal_file.result (Torn 0 5)) (g.D.Disk.may_leave c.write_at.new.self) f → IsAtRest was f = λ f after. second_file g.D.Disk.seen g.D.Disk.may_leave g.met.D.Disk.reads_an_image c.args.self.now was stands c.write_at.new.self first c.journal_file.result 5 f (omega (arith, c.journal_file.ensures)) after in
+    let P : Files → Type 0 = HasCommitted was in
+    let at_start = started g.D.Disk.moment g.D.Disk.left_since c.args.self.now.disk P (λ f left. stands.holds f (g.met.D.Disk.only_now c.args.self.now.disk f left)) in
+    let run1 = goes_on g.D.Disk.moment g.D.Disk.left_since c.args.self.now.disk c.args.self.now.disk c.write_at.new.self P _ at_start c.write_at.ensures.time (λ f left. rest_holds was f stands.are_groups (first f left)) in
+    let run2 = then g.D.Disk.moment g.D.Disk.left_since c.args.self.now.disk c.write_at.new.self c.write_through.new.disk P run1 (weaker g.D.Disk.moment g.D.Disk.left_since c.write_at.new.self c.write_through.new.disk _ P (λ f after. rest_holds was f stands.are_groups (second f after)) c.write_through.ensures.any_moment) in
+    inl (record { stands = standing g.D.Disk.may_leave _ was nothing stands.generation stands.are_groups stands.count stands.length stands.known (λ f left. second f (c.write_through.ensures.crash f left)); any_moment = run2 })
+
+pub returns-in_err-write_through-clause-any_moment : goal.returns-in_err-write_through-clause-any_moment
+returns-in_err-write_through-clause-any_moment g c = λ was stands.
+    let first : (f : Files) → g.D.Disk.may_leave c.write_at.new.self f → IsAtRest was f = λ f left. first_file g.D.Disk.seen g.D.Disk.may_leave g.met.D.Disk.reads_an_image c.args.self.now was stands c.checkpoint_file.result (length c.args.checkpoint.now) f (omega (arith, c.checkpoint_file.ensures)) (c.write_at.ensures.crash f left) in
+    let second : (f : Files) → After (OnFile c.journal_file.result (Torn 0 5)) (g.D.Disk.may_leave c.write_at.new.self) f → IsAtRest was f = λ f after. second_file g.D.Disk.seen g.D.Disk.may_leave g.met.D.Disk.reads_an_image c.args.self.now was stands c.write_at.new.self first c.journal_file.result 5 f (omega (arith, c.journal_file.ensures)) after in
+    let P : Files → Type 0 = HasEither was (with_generation was c.args.checkpoint.now) in
+    let at_start = started g.D.Disk.moment g.D.Disk.left_since c.args.self.now.disk P (λ f left. inl (stands.holds f (g.met.D.Disk.only_now c.args.self.now.disk f left))) in
+    let run1 = goes_on g.D.Disk.moment g.D.Disk.left_since c.args.self.now.disk c.args.self.now.disk c.write_at.new.self P _ at_start c.write_at.ensures.time (λ f left. inl (rest_holds was f stands.are_groups (first f left))) in
+    let run2 = then g.D.Disk.moment g.D.Disk.left_since c.args.self.now.disk c.write_at.new.self c.write_through.new.disk P run1 (weaker g.D.Disk.moment g.D.Disk.left_since c.write_at.new.self c.write_through.new.disk _ P (λ f after. inl (rest_holds was f stands.are_groups (second f after))) c.write_through.ensures.any_moment) in
+    run2
+
+pub returns-in_err-write_through-2-clause-err : goal.returns-in_err-write_through-2-clause-err
+returns-in_err-write_through-2-clause-err g c = λ was stands is_err.
+    let first : (f : Files) → g.D.Disk.may_leave c.write_at.new.self f → IsAtRest was f = λ f left. first_file g.D.Disk.seen g.D.Disk.may_leave g.met.D.Disk.reads_an_image c.args.self.now was stands c.checkpoint_file.result (length c.args.checkpoint.now) f (omega (arith, c.checkpoint_file.ensures)) (c.write_at.ensures.crash f left) in
+    let both : (f : Files) → g.D.Disk.may_leave c.write_through.new.disk f → IsOpening was c.args.checkpoint.now f = λ f left. both_files g.D.Disk.seen g.D.Disk.may_leave g.met.D.Disk.reads_an_image c.args.self.now was stands c.write_at.new.self first c.args.checkpoint.now c.checkpoint_file.result c.journal_file.result (omega (arith, c.checkpoint_file.ensures)) (omega (arith, c.journal_file.ensures)) c.requires.below c.in_ok-write_at.ensures.written.from f (c.in_ok-write_through.ensures.durable f left) in
+    let torn : (f : Files) → After (OnFile 0 (Torn c.args.self.now.end.generation 1)) (g.D.Disk.may_leave c.write_through.new.disk) f → IsOpening was c.args.checkpoint.now f = root_torn g.D.Disk.seen g.D.Disk.may_leave g.met.D.Disk.reads_an_image c.args.self.now was stands c.args.checkpoint.now c.write_through.new.disk both in
+    inr (standing g.D.Disk.may_leave _ was (opening c.args.checkpoint.now) stands.generation stands.are_groups stands.count stands.length refl (λ f left. torn f (c.write_through-2.ensures.crash f left)))
+
+pub returns-in_err-write_through-2-clause-any_moment : goal.returns-in_err-write_through-2-clause-any_moment
+returns-in_err-write_through-2-clause-any_moment g c = λ was stands.
+    let first : (f : Files) → g.D.Disk.may_leave c.write_at.new.self f → IsAtRest was f = λ f left. first_file g.D.Disk.seen g.D.Disk.may_leave g.met.D.Disk.reads_an_image c.args.self.now was stands c.checkpoint_file.result (length c.args.checkpoint.now) f (omega (arith, c.checkpoint_file.ensures)) (c.write_at.ensures.crash f left) in
+    let second : (f : Files) → After (OnFile c.journal_file.result (Torn 0 5)) (g.D.Disk.may_leave c.write_at.new.self) f → IsAtRest was f = λ f after. second_file g.D.Disk.seen g.D.Disk.may_leave g.met.D.Disk.reads_an_image c.args.self.now was stands c.write_at.new.self first c.journal_file.result 5 f (omega (arith, c.journal_file.ensures)) after in
+    let both : (f : Files) → g.D.Disk.may_leave c.write_through.new.disk f → IsOpening was c.args.checkpoint.now f = λ f left. both_files g.D.Disk.seen g.D.Disk.may_leave g.met.D.Disk.reads_an_image c.args.self.now was stands c.write_at.new.self first c.args.checkpoint.now c.checkpoint_file.result c.journal_file.result (omega (arith, c.checkpoint_file.ensures)) (omega (arith, c.journal_file.ensures)) c.requires.below c.in_ok-write_at.ensures.written.from f (c.in_ok-write_through.ensures.durable f left) in
+    let torn : (f : Files) → After (OnFile 0 (Torn c.args.self.now.end.generation 1)) (g.D.Disk.may_leave c.write_through.new.disk) f → IsOpening was c.args.checkpoint.now f = root_torn g.D.Disk.seen g.D.Disk.may_leave g.met.D.Disk.reads_an_image c.args.self.now was stands c.args.checkpoint.now c.write_through.new.disk both in
+    let P : Files → Type 0 = HasEither was (with_generation was c.args.checkpoint.now) in
+    let at_start = started g.D.Disk.moment g.D.Disk.left_since c.args.self.now.disk P (λ f left. inl (stands.holds f (g.met.D.Disk.only_now c.args.self.now.disk f left))) in
+    let run1 = goes_on g.D.Disk.moment g.D.Disk.left_since c.args.self.now.disk c.args.self.now.disk c.write_at.new.self P _ at_start c.write_at.ensures.time (λ f left. inl (rest_holds was f stands.are_groups (first f left))) in
+    let run2 = then g.D.Disk.moment g.D.Disk.left_since c.args.self.now.disk c.write_at.new.self c.write_through.new.disk P run1 (weaker g.D.Disk.moment g.D.Disk.left_since c.write_at.new.self c.write_through.new.disk _ P (λ f after. inl (rest_holds was f stands.are_groups (second f after))) c.write_through.ensures.any_moment) in
+    let run3 = then g.D.Disk.moment g.D.Disk.left_since c.args.self.now.disk c.write_through.new.disk c.write_through-2.new.disk P run2 (weaker g.D.Disk.moment g.D.Disk.left_since c.write_through.new.disk c.write_through-2.new.disk _ P (λ f after. opening_holds was c.args.checkpoint.now f stands.are_groups (torn f after)) c.write_through-2.ensures.any_moment) in
+    run3
+
+pub returns-clause-any_moment : goal.returns-clause-any_moment
+returns-clause-any_moment g c = λ was stands.
+    let first : (f : Files) → g.D.Disk.may_leave c.write_at.new.self f → IsAtRest was f = λ f left. first_file g.D.Disk.seen g.D.Disk.may_leave g.met.D.Disk.reads_an_image c.args.self.now was stands c.checkpoint_file.result (length c.args.checkpoint.now) f (omega (arith, c.checkpoint_file.ensures)) (c.write_at.ensures.crash f left) in
+    let second : (f : Files) → After (OnFile c.journal_file.result (Torn 0 5)) (g.D.Disk.may_leave c.write_at.new.self) f → IsAtRest was f = λ f after. second_file g.D.Disk.seen g.D.Disk.may_leave g.met.D.Disk.reads_an_image c.args.self.now was stands c.write_at.new.self first c.journal_file.result 5 f (omega (arith, c.journal_file.ensures)) after in
+    let both : (f : Files) → g.D.Disk.may_leave c.write_through.new.disk f → IsOpening was c.args.checkpoint.now f = λ f left. both_files g.D.Disk.seen g.D.Disk.may_leave g.met.D.Disk.reads_an_image c.args.self.now was stands c.write_at.new.self first c.args.checkpoint.now c.checkpoint_file.result c.journal_file.result (omega (arith, c.checkpoint_file.ensures)) (omega (arith, c.journal_file.ensures)) c.requires.below c.in_ok-write_at.ensures.written.from f (c.in_ok-write_through.ensures.durable f left) in
+    let torn : (f : Files) → After (OnFile 0 (Torn c.args.self.now.end.generation 1)) (g.D.Disk.may_leave c.write_through.new.disk) f → IsOpening was c.args.checkpoint.now f = root_torn g.D.Disk.seen g.D.Disk.may_leave g.met.D.Disk.reads_an_image c.args.self.now was stands c.args.checkpoint.now c.write_through.new.disk both in
+    let P : Files → Type 0 = HasEither was (with_generation was c.args.checkpoint.now) in
+    let at_start = started g.D.Disk.moment g.D.Disk.left_since c.args.self.now.disk P (λ f left. inl (stands.holds f (g.met.D.Disk.only_now c.args.self.now.disk f left))) in
+    let run1 = goes_on g.D.Disk.moment g.D.Disk.left_since c.args.self.now.disk c.args.self.now.disk c.write_at.new.self P _ at_start c.write_at.ensures.time (λ f left. inl (rest_holds was f stands.are_groups (first f left))) in
+    let run2 = then g.D.Disk.moment g.D.Disk.left_since c.args.self.now.disk c.write_at.new.self c.write_through.new.disk P run1 (weaker g.D.Disk.moment g.D.Disk.left_since c.write_at.new.self c.write_through.new.disk _ P (λ f after. inl (rest_holds was f stands.are_groups (second f after))) c.write_through.ensures.any_moment) in
+    let run3 = then g.D.Disk.moment g.D.Disk.left_since c.args.self.now.disk c.write_through.new.disk c.write_through-2.new.disk P run2 (weaker g.D.Disk.moment g.D.Disk.left_since c.write_through.new.disk c.write_through-2.new.disk _ P (λ f after. opening_holds was c.args.checkpoint.now f stands.are_groups (torn f after)) c.write_through-2.ensures.any_moment) in
+    run3
+
+pub returns-clause-ok : goal.returns-clause-ok
+returns-clause-ok g c = λ was stands.
+    let first : (f : Files) → g.D.Disk.may_leave c.write_at.new.self f → IsAtRest was f = λ f left. first_file g.D.Disk.seen g.D.Disk.may_leave g.met.D.Disk.reads_an_image c.args.self.now was stands c.checkpoint_file.result (length c.args.checkpoint.now) f (omega (arith, c.checkpoint_file.ensures)) (c.write_at.ensures.crash f left) in
+    let both : (f : Files) → g.D.Disk.may_leave c.write_through.new.disk f → IsOpening was c.args.checkpoint.now f = λ f left. both_files g.D.Disk.seen g.D.Disk.may_leave g.met.D.Disk.reads_an_image c.args.self.now was stands c.write_at.new.self first c.args.checkpoint.now c.checkpoint_file.result c.journal_file.result (omega (arith, c.checkpoint_file.ensures)) (omega (arith, c.journal_file.ensures)) c.requires.below c.in_ok-write_at.ensures.written.from f (c.in_ok-write_through.ensures.durable f left) in
+    let opened = root_opened g.D.Disk.seen g.D.Disk.may_leave g.met.D.Disk.reads_an_image c.args.self.now was stands c.args.checkpoint.now c.write_through.new.disk both in
+    standing g.D.Disk.may_leave _ (with_generation was c.args.checkpoint.now) nothing (omega (arith, stands.generation)) tt refl refl refl (λ f left. opened f (c.in_ok-write_through-2.ensures.durable f left))

@@ -1,0 +1,17 @@
+use Rattle.std.proofs.Common.{◌≡◌, ◌-◌, ◌≤◌, ◌∙◌, ◌++◌, length, take, drop, min, ap, subst, arith, length-take}
+use Rattle.disk_journal.specs.Text.{blocks}
+use Rattle.disk_journal.proofs.Fetched.{text_read}
+use Rattle.disk_journal.proofs.Standing.{image_text}
+use Rattle.disk_journal.proofs.journal.Journal.fetch.Goals as goal
+
+pub returns-clause-text : goal.returns-clause-text
+returns-clause-text g c = λ was doubt files stands read same.
+    let text = image_text was doubt files (stands.each files (g.met.D.Disk.reads_an_image c.args.self.now.disk files read)) in
+    let file : files c.journal_file-file-2.result ≡ blocks was.groups ++ text.0 = ap files (omega (arith, c.journal_file-file-2.ensures, same)) ∙ text.1 in
+    let room = c.room_for-room.result in
+    let slice : length (take room c.args.buffer.now) ≡ room = omega (arith, length-take room c.args.buffer.now, c.room_for-room.ensures) in
+    let part : length c.fill.new.buffer ≡ room = c.fill.auto.buffer ∙ slice in
+    let fits : c.in_ok-count.count ≤ room = subst (λ n. c.in_ok-count.count ≤ n) slice c.in_ok-count.ensures.fits in
+    let bytes : take c.in_ok-count.count c.fill.new.buffer ≡ take room (drop c.args.at (files c.journal_file-file-2.result)) = c.in_ok-count.ensures.bytes files read ∙ ap (λ n. take n (drop c.args.at (files c.journal_file-file-2.result))) slice in
+    text_read (blocks was.groups) text.0 (files c.journal_file-file-2.result) c.fill.new.buffer _ c.args.at (length c.args.buffer.now) room c.in_ok-count.count file
+    (omega (arith, c.if-at-self.false, stands.length)) c.requires.room (c.room_for-room.ensures ∙ ap (λ n. min (length c.args.buffer.now) (n - c.args.at)) stands.length) part fits bytes

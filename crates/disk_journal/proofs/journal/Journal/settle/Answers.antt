@@ -1,0 +1,60 @@
+use Rattle.std.proofs.Common.{refl, arith}
+use Rattle.outside_api.specs.Moments.{weaker}
+use Rattle.disk_journal.specs.Stands.{nothing, HasWithOrWithout}
+use Rattle.disk_journal.proofs.Standing.{standing, room, root_room, image_holds, root_settling, root_settled, settling, settled, at_rest, no_call}
+use Rattle.disk_journal.proofs.journal.Journal.settle.Goals as goal
+
+pub write_through-requires : goal.write_through-requires
+write_through-requires g c = λ files read.
+    let has = room g.D.Disk.seen g.D.Disk.may_leave g.met.D.Disk.reads_an_image c.args.self.now c.requires.0 c.requires.1.0 c.journal_file-file.result c.requires.1.1 c.journal_file-file.ensures files read in
+    omega (arith, has)
+
+pub write_through-requires-in-Generation : goal.write_through-requires-in-Generation
+write_through-requires-in-Generation g c = root_room g.D.Disk.seen g.D.Disk.may_leave g.met.D.Disk.reads_an_image c.args.self.now c.requires.0 c.requires.1.0 c.requires.1.1
+
+pub returns-in-Nothing-clause-any_moment : goal.returns-in-Nothing-clause-any_moment
+returns-in-Nothing-clause-any_moment g c = λ was doubt stands.
+    no_call g.D.Disk.may_leave g.D.Disk.moment g.D.Disk.left_since c.args.self.now was doubt (g.met.D.Disk.only_now c.args.self.now.disk) stands
+
+pub returns-in-Nothing-clause-ok : goal.returns-in-Nothing-clause-ok
+returns-in-Nothing-clause-ok g c = λ was doubt stands. at_rest g.D.Disk.may_leave c.args.self.now was doubt c.in-Nothing.is stands
+
+pub returns-in_err-write_through-in-Group-clause-err : goal.returns-in_err-write_through-in-Group-clause-err
+returns-in_err-write_through-in-Group-clause-err g c = λ was doubt stands is_err.
+    let each = settling g.D.Disk.seen g.D.Disk.may_leave g.met.D.Disk.reads_an_image c.args.self.now was c.journal_file-file.result c.journal_file-file.ensures c.in-Group.is doubt stands in
+    standing g.D.Disk.may_leave _ was doubt stands.generation stands.are_groups stands.count stands.length stands.known (λ image left. each image (c.write_through.ensures.crash image left))
+
+pub returns-in_err-write_through-in-Group-clause-any_moment : goal.returns-in_err-write_through-in-Group-clause-any_moment
+returns-in_err-write_through-in-Group-clause-any_moment g c = λ was doubt stands.
+    let each = settling g.D.Disk.seen g.D.Disk.may_leave g.met.D.Disk.reads_an_image c.args.self.now was c.journal_file-file.result c.journal_file-file.ensures c.in-Group.is doubt stands in
+    weaker g.D.Disk.moment g.D.Disk.left_since c.args.self.now.disk c.write_through.new.disk _ (HasWithOrWithout was doubt) (λ f after. image_holds was doubt _ c.args.self.now.doubt f (omega (arith, stands.count)) stands.are_groups stands.known (each f after)) c.write_through.ensures.any_moment
+
+pub returns-in_ok-write_through-in-Group-clause-ok : goal.returns-in_ok-write_through-in-Group-clause-ok
+returns-in_ok-write_through-in-Group-clause-ok g c = λ was doubt stands.
+    let each = settled g.D.Disk.seen g.D.Disk.may_leave g.met.D.Disk.reads_an_image c.args.self.now was c.journal_file-file.result c.journal_file-file.ensures c.in-Group.is doubt stands in
+    standing g.D.Disk.may_leave _ was nothing stands.generation stands.are_groups stands.count stands.length refl (λ image left. each image (c.in_ok-write_through-in-Group.ensures.durable image left))
+
+pub returns-in_ok-write_through-in-Group-clause-any_moment : goal.returns-in_ok-write_through-in-Group-clause-any_moment
+returns-in_ok-write_through-in-Group-clause-any_moment g c = λ was doubt stands.
+    let each = settling g.D.Disk.seen g.D.Disk.may_leave g.met.D.Disk.reads_an_image c.args.self.now was c.journal_file-file.result c.journal_file-file.ensures c.in-Group.is doubt stands in
+    weaker g.D.Disk.moment g.D.Disk.left_since c.args.self.now.disk c.write_through.new.disk _ (HasWithOrWithout was doubt) (λ f after. image_holds was doubt _ c.args.self.now.doubt f (omega (arith, stands.count)) stands.are_groups stands.known (each f after)) c.write_through.ensures.any_moment
+
+pub returns-in_err-write_through-in-Generation-clause-err : goal.returns-in_err-write_through-in-Generation-clause-err
+returns-in_err-write_through-in-Generation-clause-err g c = λ was doubt stands is_err.
+    let each = root_settling g.D.Disk.seen g.D.Disk.may_leave g.met.D.Disk.reads_an_image c.args.self.now was c.in-Generation.is doubt stands in
+    standing g.D.Disk.may_leave _ was doubt stands.generation stands.are_groups stands.count stands.length stands.known (λ image left. each image (c.write_through-in-Generation.ensures.crash image left))
+
+pub returns-in_err-write_through-in-Generation-clause-any_moment : goal.returns-in_err-write_through-in-Generation-clause-any_moment
+returns-in_err-write_through-in-Generation-clause-any_moment g c = λ was doubt stands.
+    let each = root_settling g.D.Disk.seen g.D.Disk.may_leave g.met.D.Disk.reads_an_image c.args.self.now was c.in-Generation.is doubt stands in
+    weaker g.D.Disk.moment g.D.Disk.left_since c.args.self.now.disk c.write_through-in-Generation.new.disk _ (HasWithOrWithout was doubt) (λ f after. image_holds was doubt _ c.args.self.now.doubt f (omega (arith, stands.count)) stands.are_groups stands.known (each f after)) c.write_through-in-Generation.ensures.any_moment
+
+pub returns-in_ok-write_through-in-Generation-clause-ok : goal.returns-in_ok-write_through-in-Generation-clause-ok
+returns-in_ok-write_through-in-Generation-clause-ok g c = λ was doubt stands.
+    let each = root_settled g.D.Disk.seen g.D.Disk.may_leave g.met.D.Disk.reads_an_image c.args.self.now was c.in-Generation.is doubt stands in
+    standing g.D.Disk.may_leave _ was nothing stands.generation stands.are_groups stands.count stands.length refl (λ image left. each image (c.in_ok-write_through-in-Generation.ensures.durable image left))
+
+pub returns-in_ok-write_through-in-Generation-clause-any_moment : goal.returns-in_ok-write_through-in-Generation-clause-any_moment
+returns-in_ok-write_through-in-Generation-clause-any_moment g c = λ was doubt stands.
+    let each = root_settling g.D.Disk.seen g.D.Disk.may_leave g.met.D.Disk.reads_an_image c.args.self.now was c.in-Generation.is doubt stands in
+    weaker g.D.Disk.moment g.D.Disk.left_since c.args.self.now.disk c.write_through-in-Generation.new.disk _ (HasWithOrWithout was doubt) (λ f after. image_holds was doubt _ c.args.self.now.doubt f (omega (arith, stands.count)) stands.are_groups stands.known (each f after)) c.write_through-in-Generation.ensures.any_moment
