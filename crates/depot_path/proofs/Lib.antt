@@ -1,2 +1,4 @@
 pub mod Answers
 pub mod Spelling
+pub mod Units
+pub mod Paths

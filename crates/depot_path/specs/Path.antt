@@ -80,6 +80,11 @@ abbrev pub first_fault : List (Bool × PathFault) → Option PathFault
 first_fault [] = None
 first_fault (test ∷ tests) = if test.0 then Some test.1 else first_fault tests
 
+-- the value, where there is no fault
+abbrev pub unless : {A : Type 0} → Option PathFault → A → Result A PathFault
+unless None value = Ok value
+unless (Some fault) value = Err fault
+
 -- why a text is no path
 abbrev pub path_fault : List ℕ → Option PathFault
 path_fault text = first_fault (
@@ -93,4 +98,4 @@ path_fault text = first_fault (
 
 -- the path that a text spells, or the first fault
 abbrev pub path_of : List ℕ → Result (List ℕ) PathFault
-path_of text = elim (path_fault text) [ None ↦ Ok (unescaped 0 text) | Some fault ↦ Err fault ]
+path_of text = unless (path_fault text) (unescaped 0 text)
