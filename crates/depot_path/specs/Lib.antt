@@ -4,3 +4,6 @@ pub mod Utf8
 pub mod Name
 pub mod Fault
 pub mod Path
+pub mod Pattern
+pub mod Fit
+pub mod Rows

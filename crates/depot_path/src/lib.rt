@@ -7,15 +7,20 @@
 mod component;
 mod escape;
 mod fault;
+mod fit;
 mod name;
 mod path;
+mod pattern;
+mod piece;
 mod sequence;
 mod text;
 mod utf8;
 
 pub use fault::PathFault;
 pub use name::{Name, NameFault, is_name};
-pub use path::{ClientPath, DepotPath};
+pub use path::{ClientPath, DepotPath, is_path};
+pub use pattern::{Pattern, texts_come_first};
+pub use piece::Piece;
 pub use sequence::Sequence;
 pub use text::Text;
 pub use utf8::{Tail, is_utf8};

@@ -1,16 +1,16 @@
 //! Depot paths.
 
-ghost use Rattle.std.specs.Prelude.{◌≡◌, drop, IfOk, codes};
+ghost use Rattle.std.specs.Prelude.{◌≡◌, drop, length, nat_le, if◌then◌else◌, IfOk, codes};
 ghost use Rattle.std.specs.List.{list_any};
 ghost use Rattle.depot_path.specs.Bytes.{is_among};
 ghost use Rattle.depot_path.specs.Answers.{Answers};
-ghost use Rattle.depot_path.specs.Path.{path_fault as fault_in, path_of, further_bytes, unescaped};
+ghost use Rattle.depot_path.specs.Path.{path_fault as fault_in, path_of, printed, further_bytes, unescaped, is_path as path_test};
 
 use crate::component::{
     begins_with_slashes, has_dot_component, has_empty_component, has_one_component, has_three_dots,
     is_text,
 };
-use crate::escape::{escape_at, has_bad_escape};
+use crate::escape::{escape_at, escape_length, has_bad_escape, print_bytes};
 use crate::fault::PathFault;
 use crate::text::Text;
 use std::alloc::{AllocError, Global};
@@ -90,6 +90,33 @@ fn unescape(alloc: Global, text: &[u8]) -> Result<Text, AllocError>
     Ok(Text::from_vec(bytes))
 }
 
+fn is_short_as_printed(path: &[u8]) -> bool
+    ensures { result ≡ nat_le (length (printed path.now)) 1024 }
+{
+    let mut room: usize = 1024;
+    for byte in path {
+        let taken = escape_length(*byte);
+        if taken > room {
+            return false;
+        }
+        room -= taken;
+    }
+    true
+}
+
+/// Whether bytes without escapes are a path. It takes no memory.
+pub fn is_path(bytes: &[u8]) -> bool
+    ensures { result ≡ path_test bytes.now }
+{
+    is_short_as_printed(bytes)
+        && begins_with_slashes(bytes)
+        && !has_one_component(bytes)
+        && !has_empty_component(bytes)
+        && is_text(bytes)
+        && !has_dot_component(bytes)
+        && !has_three_dots(bytes)
+}
+
 impl DepotPath {
     /// Reads a path as it is written. Of several faults it answers that which stands first in this order: `TooLong`, `NoSlashes`,
     /// `EmptyPart`, `BadEscape`, `BadByte`, `Dots`.
@@ -103,6 +130,25 @@ impl DepotPath {
             Ok(bytes) => Ok(DepotPath { bytes }),
             Err(_) => Err(PathFault::Memory),
         }
+    }
+
+    /// The path of these bytes, which have no escapes, if they are one's. It takes no memory.
+    pub fn from_text(bytes: Text) -> Option<Self>
+        ensures { result ≡ (if path_test bytes then Some bytes else None) }
+    {
+        if is_path(bytes.as_bytes()) {
+            Some(DepotPath { bytes })
+        } else {
+            None
+        }
+    }
+
+    /// The path as it is written, with escapes. Reading it gives the path.
+    pub fn print(&self, alloc: Global) -> Result<Text, AllocError>
+        ensures printed { IfOk result (λ text. text ≡ printed self.now) }
+        ensures read_again { path_of (printed self.now) ≡ Ok self.now }
+    {
+        print_bytes(alloc, self.bytes.as_bytes())
     }
 
     /// The bytes without escapes.
