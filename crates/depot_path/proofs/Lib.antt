@@ -4,3 +4,5 @@ pub mod Units
 pub mod Paths
 pub mod Texts
 pub mod Rows
+pub mod Dates
+pub mod Ends

@@ -7,3 +7,5 @@ pub mod Path
 pub mod Pattern
 pub mod Fit
 pub mod Rows
+pub mod Date
+pub mod Revision
