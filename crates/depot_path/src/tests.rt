@@ -1,4 +1,4 @@
-//! Each public call once with ample memory, and the faults of texts that have two.
+//! Each public call once with ample memory, and the faults of texts, also of such as have two.
 
 use super::*;
 use std::alloc::Global;
@@ -18,80 +18,126 @@ fn spec_fault(alloc: Global, text: &[u8]) -> u8 {
     }
 }
 
+/// A number that tells the form of a revision and what it holds.
+fn form_of(revision: RevSpec) -> i64 {
+    match revision {
+        RevSpec::Number(number) => i64::from(number),
+        RevSpec::Newest => -1,
+        RevSpec::Have => -2,
+        RevSpec::Zero => -3,
+        RevSpec::Named(_) => -4,
+        RevSpec::Change(number) => 10_000 + i64::from(number),
+        RevSpec::Only(number) => 20_000 + i64::from(number),
+        RevSpec::Moment(second) => second,
+    }
+}
+
+/// The forms of the revisions that a file specification asks for; -9 where there are none.
+fn forms_of(alloc: Global, text: &[u8]) -> Result<(i64, i64), PathFault> {
+    match FileSpec::read(alloc, text)?.wanted {
+        Wanted::Head => Ok((-9, -9)),
+        Wanted::One(revision) => Ok((form_of(revision), -9)),
+        Wanted::Range(first, second) => Ok((form_of(first), form_of(second))),
+    }
+}
+
+fn is_match(alloc: Global, pattern: &[u8], path: &[u8]) -> Result<bool, PathFault> {
+    let path = DepotPath::read(alloc, path)?;
+    Ok(Pattern::read(alloc, pattern, true)?.matches(&path))
+}
+
 #[test]
 fn paths_are_read_and_printed(rt: HostRuntime) -> Result<(), Fail> {
-    let alloc = rt.alloc();
-    let path = DepotPath::read(alloc, b"//ws1/a%40b%2a")?;
-    assert_eq!(rt; path.as_bytes(), b"//ws1/a@b*".as_slice());
-    assert_eq!(rt; path.print(alloc)?.as_bytes(), b"//ws1/a%40b%2A".as_slice());
-    let text = Text::from_bytes(alloc, b"//a/b#")?;
-    assert!(rt; DepotPath::from_text(text).is_some());
-    assert!(rt; is_path(b"//a/b"));
-    assert!(rt; !is_path(b"//a"));
+    let path = DepotPath::read(rt.alloc(), b"//ws1/a%40b%2a")?;
+    let text = path.print(rt.alloc())?;
+    assert_eq!(rt; text.as_bytes(), b"//ws1/a%40b%2A".as_slice());
     Ok(())
 }
 
 #[test]
-fn the_first_fault_of_a_path_is_answered(rt: HostRuntime) -> Result<(), Fail> {
-    let alloc = rt.alloc();
-    assert_eq!(rt; path_fault(alloc, b"/a/b"), 1);
-    assert_eq!(rt; path_fault(alloc, b"//a"), 2);
-    assert_eq!(rt; path_fault(alloc, b"//a//@"), 2);
-    assert_eq!(rt; path_fault(alloc, b"//ws1/a%4"), 3);
-    assert_eq!(rt; path_fault(alloc, b"//a/@%"), 3);
-    assert_eq!(rt; path_fault(alloc, b"//a/*/."), 4);
-    assert_eq!(rt; path_fault(alloc, b"//a/\xC3"), 4);
-    assert_eq!(rt; path_fault(alloc, b"//a/.."), 6);
-    assert_eq!(rt; path_fault(alloc, b"//a/b...c"), 6);
-    let mut long = Text::from_bytes(alloc, b"//a/")?;
-    long.append(&[b'b'; 1020])?;
-    assert_eq!(rt; path_fault(alloc, long.as_bytes()), 0);
-    long.append(b"%")?;
-    assert_eq!(rt; path_fault(alloc, long.as_bytes()), 5);
+fn the_first_fault_of_a_path_is_answered(rt: HostRuntime) {
+    let cases: [(&[u8], u8); 10] = [
+        (b"//a/b%2a", 0),
+        (b"/a/b", 1),
+        (b"//a", 2),
+        (b"//a//@", 2),
+        (b"//ws1/a%4", 3),
+        (b"//a/@%", 3),
+        (b"//a/*/.", 4),
+        (b"//a/\xC3", 4),
+        (b"//a/..", 6),
+        (b"//a/b...c", 6),
+    ];
+    for (text, fault) in cases {
+        assert_eq!(rt; path_fault(rt.alloc(), text), fault);
+    }
+}
+
+#[test]
+fn a_path_has_at_most_1024_bytes(rt: HostRuntime) -> Result<(), Fail> {
+    let mut text = Text::from_bytes(rt.alloc(), b"//a/")?;
+    text.append(&[b'b'; 1020])?;
+    assert_eq!(rt; path_fault(rt.alloc(), text.as_bytes()), 0);
+    text.append(b"%")?;
+    assert_eq!(rt; path_fault(rt.alloc(), text.as_bytes()), 5);
     Ok(())
 }
 
 #[test]
 fn patterns_match(rt: HostRuntime) -> Result<(), Fail> {
-    let alloc = rt.alloc();
-    let file = DepotPath::read(alloc, b"//depot/a%40/b.c")?;
-    let all = Pattern::read(alloc, b"//depot/a%40....c", false)?;
-    assert!(rt; all.matches(&file));
-    assert_eq!(rt;
-        all.beginning(alloc)?.as_bytes(),
-        b"//depot/a%40".as_slice()
-    );
-    assert!(rt; !Pattern::read(alloc, b"//depot/*.c", false)?.matches(&file));
-    let placed = Pattern::read(alloc, b"//%%1/*/%%2", true)?;
-    assert!(rt; placed.matches(&file));
-    assert_eq!(rt; placed.pieces().len(), 7);
-    assert!(rt; Pattern::read(alloc, b"//%%1/a", false).is_err());
+    let cases: [(&[u8], &[u8], bool); 5] = [
+        (b"//depot/a%40....c", b"//depot/a%40/b.c", true),
+        (b"//depot/*.c", b"//depot/a/b.c", false),
+        (b"//%%1/*/%%2", b"//depot/a/b.c", true),
+        (b"//depot/*a*b", b"//depot/aab", true),
+        (b"//depot/a", b"//depot/ab", false),
+    ];
+    for (pattern, path, fits) in cases {
+        assert_eq!(rt; is_match(rt.alloc(), pattern, path)?, fits);
+    }
     Ok(())
 }
 
 #[test]
-fn file_specifications_are_read(rt: HostRuntime) -> Result<(), Fail> {
-    let alloc = rt.alloc();
-    let spec = FileSpec::read(alloc, b"//depot/...@2023/11/14:22:13:20")?;
-    assert!(rt; matches!(spec.wanted, Wanted::One(RevSpec::Moment(1_700_000_000))));
-    let spec = FileSpec::read(alloc, b"//depot/a#3,5")?;
-    assert!(rt;
-        matches!(
-            spec.wanted,
-            Wanted::Range(RevSpec::Number(3), RevSpec::Number(5))
-        )
-    );
-    let spec = FileSpec::read(alloc, b"//depot/a@now")?;
-    assert!(rt; matches!(spec.wanted, Wanted::One(RevSpec::Named(_))));
-    let spec = FileSpec::read(alloc, b"//depot/a#0")?;
-    assert!(rt; matches!(spec.wanted, Wanted::One(RevSpec::Zero)));
-    let spec = FileSpec::read(alloc, b"//depot/a")?;
-    assert!(rt; matches!(spec.wanted, Wanted::Head));
-    assert_eq!(rt; spec_fault(alloc, b"//depot//a#x"), 2);
-    assert_eq!(rt; spec_fault(alloc, b"//depot/a#2147483648"), 7);
-    assert_eq!(rt; spec_fault(alloc, b"//depot/a@1,2,3"), 7);
-    assert_eq!(rt; spec_fault(alloc, b"//depot/a#1,@1"), 8);
-    assert_eq!(rt; spec_fault(alloc, b"//depot/a@2023/13/01,@5"), 8);
-    assert_eq!(rt; spec_fault(alloc, b"//depot/a@2023/13/01"), 9);
+fn a_pattern_begins_with_its_literal_text(rt: HostRuntime) -> Result<(), Fail> {
+    let pattern = Pattern::read(rt.alloc(), b"//depot/a%40...", false)?;
+    let text = pattern.beginning(rt.alloc())?;
+    assert_eq!(rt; text.as_bytes(), b"//depot/a%40".as_slice());
     Ok(())
+}
+
+#[test]
+fn revisions_are_read(rt: HostRuntime) -> Result<(), Fail> {
+    let cases: [(&[u8], (i64, i64)); 9] = [
+        (b"//depot/a", (-9, -9)),
+        (b"//depot/a#head", (-1, -9)),
+        (b"//depot/a#0", (-3, -9)),
+        (b"//depot/a#3,5", (3, 5)),
+        (b"//depot/a@30,@50", (10_030, 10_050)),
+        (b"//depot/a@=7", (20_007, -9)),
+        (b"//depot/a@now", (-4, -9)),
+        (b"//depot/a@2023/11/14:22:13:20", (1_700_000_000, -9)),
+        (b"//depot/a@1969/12/31,2000/03/01", (-86_400, 951_868_800)),
+    ];
+    for (text, forms) in cases {
+        assert_eq!(rt; forms_of(rt.alloc(), text)?, forms);
+    }
+    Ok(())
+}
+
+#[test]
+fn the_first_fault_of_a_file_specification_is_answered(rt: HostRuntime) {
+    let cases: [(&[u8], u8); 8] = [
+        (b"//depot//a#x", 2),
+        (b"//depot/a#2147483647", 0),
+        (b"//depot/a#2147483648", 7),
+        (b"//depot/a@1,2,3", 7),
+        (b"//depot/a#1,@1", 8),
+        (b"//depot/a#0,#3", 8),
+        (b"//depot/a@2023/13/01,@5", 8),
+        (b"//depot/a@2023/13/01", 9),
+    ];
+    for (text, fault) in cases {
+        assert_eq!(rt; spec_fault(rt.alloc(), text), fault);
+    }
 }
