@@ -1,12 +1,11 @@
 -- The calendar of dates, by the calendar of the library that reads them.
-use Rattle.std.proofs.Common.{◌≡◌, ℕ, zero, suc, ◌+◌, ◌-◌, ◌*◌, ◌/◌, ◌%◌, ◌<◌, ◌≤◌, Bool, true, false, cond, Option, Some, None, length, drop, List, [], ◌∷◌, fold, slice_index, get_or, refl, sym, ap, subst, ◌∙◌, inl, inr, arith, ℤ, pos, neg_ℤ, ◌+ℤ◌, ◌-ℤ◌, ◌*ℤ◌, ◌≤ℤ◌}
+use Rattle.std.proofs.Common.{◌≡◌, ℕ, zero, suc, ◌+◌, ◌-◌, ◌*◌, ◌/◌, ◌%◌, ◌<◌, ◌≤◌, Bool, true, false, cond, Some, None, length, drop, List, [], ◌∷◌, fold, slice_index, get_or, refl, sym, ap, subst, ◌∙◌, inl, inr, arith, ℤ, pos, ◌+ℤ◌, ◌-ℤ◌, ◌*ℤ◌}
 use Rattle.std.specs.Prelude.{◌==◌, ◌&&◌, ◌||◌, not, nat_lt, nat_le}
 use Rattle.std.proofs.lemmas.Bool.{cases_lt}
 use Rattle.std.proofs.lemmas.Bool.Decides.{eqb_tells, nat_tests}
 use Rattle.std.proofs.lemmas.Int.{ints}
-use Rattle.jiff_core.specs.Calendar.{day_count, days_in_year, days_from_civil, days_of_months, days_in_month as library_month}
+use Rattle.jiff_core.specs.Calendar.{day_count, days_from_civil, days_of_months, days_in_month as library_month}
 use Rattle.jiff_core.proofs.CalendarLemmas.{day_count-epoch, day_count-next_year, day_count-day_of_year, days_of_months_table}
-use Rattle.jiff_core.proofs.MarchLemmas.{leap_day}
 use Rattle.std.proofs.Math.Seq.{drop-cons}
 use Rattle.depot_path.specs.Date.{number_of, part_at, is_day, is_clock, is_date, moment_of, days_in_month, is_leap, days_before_year, days_before_month, day_number, seconds_of}
 

@@ -1,12 +1,11 @@
 -- What is read is a path, and what is printed is read again.
-use Rattle.std.proofs.Common.{◌≡◌, ℕ, ◌≤◌, Bool, true, false, cond, nat_le, List, [], ◌∷◌, length, drop, map, Option, Some, None, refl, sym, ap, subst, ◌∙◌, arith, Result, Ok, Err}
+use Rattle.std.proofs.Common.{◌≡◌, ℕ, Bool, true, false, cond, nat_le, List, [], ◌∷◌, length, drop, Option, Some, None, refl, sym, ap, subst, ◌∙◌, arith, Ok}
 use Rattle.std.specs.Prelude.{codes, ◌||◌, ◌&&◌, not, nat_lt, nat_eq}
 use Rattle.std.specs.List.{list_any}
 use Rattle.std.proofs.lemmas.Bool.Decides.{nat_tests}
 use Rattle.depot_path.specs.declared.fault.PathFault.{PathFault}
 use Rattle.depot_path.specs.declared.fault.PathFault.TheVariants.{NoSlashes, EmptyPart, BadEscape, BadByte, TooLong, Dots}
-use Rattle.depot_path.specs.Bytes.{is_among, is_control, same}
-use Rattle.depot_path.specs.Utf8.{is_utf8}
+use Rattle.depot_path.specs.Bytes.{is_among, same}
 use Rattle.depot_path.specs.Path.{printed, unescaped, components, begins_with_slashes, has_empty_component, has_dot_component, has_three_dots, has_bad_escape, is_text, is_path, first_fault, unless, path_fault, path_of}
 use Rattle.depot_path.proofs.Units.{Mark, Plain, At, Hash, Star, SmallStar, Percent, spelled, meant, AreMarks, AreMarksOf, find_marks, marks_of, marks_are, marks_spelled, marks_meant, reads, no_bad, none_barred, same_control, same_dots, same_chars, same_slashes, split_spelled, split_meant, parts_of, slash_split, any_part, count_parts, same_empty, is_dot, is_two_dots, same_length, both_or, start}
 

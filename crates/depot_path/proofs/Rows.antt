@@ -1,8 +1,8 @@
 -- How the rows of a match go on by one byte.
-use Rattle.std.proofs.Common.{◌≡◌, ℕ, zero, suc, ◌+◌, ◌<◌, ◌≤◌, Bool, true, false, cond, List, [], ◌∷◌, ◌++◌, length, slice_set, inl, inr, take, drop, Option, Some, None, refl, sym, ap, subst, get_or, ◌∙◌, add-one, arith}
+use Rattle.std.proofs.Common.{◌≡◌, ℕ, zero, suc, ◌+◌, ◌<◌, ◌≤◌, Bool, true, false, cond, List, [], ◌∷◌, ◌++◌, length, slice_set, inl, inr, take, drop, Option, Some, None, refl, sym, ap, subst, get_or, ◌∙◌, arith}
 use Rattle.std.specs.Prelude.{◌&&◌, ◌||◌, ◌==◌, not, is_some, option_map}
 use Rattle.std.specs.List.{list_any}
-use Rattle.depot_path.specs.Fit.{stands_for, is_specifier, texts, first_texts, fits}
+use Rattle.depot_path.specs.Fit.{stands_for, texts, first_texts, fits}
 use Rattle.std.specs.Prelude.{nat_eq}
 use Rattle.std.specs.Cmp.Lexicographic.{pointwise}
 use Rattle.std.proofs.lemmas.Bool.{cases_lt, eqb-true}

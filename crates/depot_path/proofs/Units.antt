@@ -1,5 +1,5 @@
 -- A text and the bytes that it spells, mark by mark: a mark is a byte that stands for itself, or an escape.
-use Rattle.std.proofs.Common.{◌≡◌, ℕ, zero, suc, ◌+◌, ◌-◌, ◌≤◌, Bool, true, false, cond, eqb, nat_le, List, [], ◌∷◌, ◌++◌, drop, take, length, map, Option, Some, None, refl, sym, ap, subst, ◌∙◌, arith, lit≤}
+use Rattle.std.proofs.Common.{◌≡◌, ℕ, zero, suc, ◌-◌, ◌≤◌, Bool, true, false, cond, nat_le, List, [], ◌∷◌, ◌++◌, drop, take, length, map, Option, Some, None, refl, sym, ap, ◌∙◌, arith, lit≤}
 use Rattle.std.proofs.lemmas.Bool.Decides.{nat_tests}
 use Rattle.std.proofs.lemmas.Bool.{eqb-true}
 use Rattle.std.specs.Prelude.{codes, ◌==◌, ◌||◌, ◌&&◌, nat_eq, is_none}
@@ -7,9 +7,9 @@ use Rattle.std.specs.List.{list_any, slice_split, onto_first, flat_map}
 use Rattle.std.specs.Cmp.Lexicographic.{pointwise, same_text}
 use Rattle.std.proofs.lemmas.List.{take-append-drop}
 use Rattle.depot_path.specs.declared.utf8.Tail.{Tail}
-use Rattle.depot_path.specs.Bytes.{is_among, is_control, same, begins_with, at_some_byte}
-use Rattle.depot_path.specs.Utf8.{goes_on, tail, tail_past, tail_of, is_between, is_utf8}
-use Rattle.depot_path.specs.Path.{escaped, printed, escape_at, unescaped, further_bytes, first_byte, has_bad_escape, has_three_dots}
+use Rattle.depot_path.specs.Bytes.{is_among, is_control, same, begins_with}
+use Rattle.depot_path.specs.Utf8.{goes_on, tail, tail_past, tail_of, is_between}
+use Rattle.depot_path.specs.Path.{escaped, printed, escape_at, unescaped, has_bad_escape, has_three_dots}
 
 pub data Mark : Type 0 where
   Plain : ℕ → Mark

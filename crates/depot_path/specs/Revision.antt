@@ -1,6 +1,6 @@
 -- The revisions of a file specification: nothing, one revision, or two ends with a comma between (Command-Line Reference, "File
 -- specifications"). Which ends a range may have, and which fault comes first, are this project's own choice.
-use Rattle.std.specs.Prelude.{ℕ, ◌+◌, Bool, true, false, not, ◌&&◌, ◌||◌, nat_le, List, [], length, take, drop, slice_index, position, ◌==◌, codes, if◌then◌else◌, Option, Some, None, Result, Ok, Err}
+use Rattle.std.specs.Prelude.{ℕ, ◌+◌, Bool, true, false, not, ◌&&◌, ◌||◌, nat_le, List, length, take, drop, slice_index, position, ◌==◌, codes, if◌then◌else◌, Option, Some, None, Result, Ok, Err}
 use Rattle.std.specs.List.{list_all}
 use Rattle.depot_path.specs.Answers.{◌>>=◌}
 use Rattle.depot_path.specs.Bytes.{same as same_text, is_among, begins_with, is_digit}

@@ -34,7 +34,9 @@ fn form_of(revision: RevSpec) -> i64 {
 
 /// The forms of the revisions that a file specification asks for; -9 where there are none.
 fn forms_of(alloc: Global, text: &[u8]) -> Result<(i64, i64), PathFault> {
-    match FileSpec::read(alloc, text)?.wanted {
+    let FileSpec { pattern, wanted } = FileSpec::read(alloc, text)?;
+    drop(pattern);
+    match wanted {
         Wanted::Head => Ok((-9, -9)),
         Wanted::One(revision) => Ok((form_of(revision), -9)),
         Wanted::Range(first, second) => Ok((form_of(first), form_of(second))),

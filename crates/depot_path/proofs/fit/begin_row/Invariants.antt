@@ -1,4 +1,4 @@
-use Rattle.std.proofs.Common.{◌≡◌, ◌≤◌, ◌<◌, ℕ, Bool, false, List, [], length, drop, get_or}
+use Rattle.std.proofs.Common.{◌≡◌, ◌≤◌, ℕ, Bool, false, List, [], length, drop, get_or}
 use Rattle.depot_path.specs.Fit.{fits}
 use Rattle.depot_path.specs.declared.piece.Piece.{Piece}
 use Rattle.depot_path.proofs.fit.begin_row.Given as goal
