@@ -1,1 +1,8 @@
 pub mod Answers
+pub mod Spelling
+pub mod Units
+pub mod Paths
+pub mod Texts
+pub mod Rows
+pub mod Dates
+pub mod Ends

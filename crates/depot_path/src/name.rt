@@ -50,7 +50,7 @@ fn has_barred_byte(bytes: &[u8]) -> bool
     bytes.iter().any(|byte| is_barred_byte(*byte))
 }
 
-fn is_all_digits(bytes: &[u8]) -> bool
+pub(crate) fn is_all_digits(bytes: &[u8]) -> bool
     ensures { result ≡ list_all is_digit bytes.now }
 {
     bytes.iter().all(|byte| *byte >= b'0' && *byte <= b'9')

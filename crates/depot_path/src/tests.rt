@@ -1,0 +1,145 @@
+//! Each public call once with ample memory, and the faults of texts, also of such as have two.
+
+use super::*;
+use std::alloc::Global;
+use std::test::Fail;
+
+fn path_fault(alloc: Global, text: &[u8]) -> u8 {
+    match DepotPath::read(alloc, text) {
+        Ok(_) => 0,
+        Err(fault) => fault.code(),
+    }
+}
+
+fn spec_fault(alloc: Global, text: &[u8]) -> u8 {
+    match FileSpec::read(alloc, text) {
+        Ok(_) => 0,
+        Err(fault) => fault.code(),
+    }
+}
+
+/// A number that tells the form of a revision and what it holds.
+fn form_of(revision: RevSpec) -> i64 {
+    match revision {
+        RevSpec::Number(number) => i64::from(number),
+        RevSpec::Newest => -1,
+        RevSpec::Have => -2,
+        RevSpec::Zero => -3,
+        RevSpec::Named(_) => -4,
+        RevSpec::Change(number) => 10_000 + i64::from(number),
+        RevSpec::Only(number) => 20_000 + i64::from(number),
+        RevSpec::Moment(second) => second,
+    }
+}
+
+/// The forms of the revisions that a file specification asks for; -9 where there are none.
+fn forms_of(alloc: Global, text: &[u8]) -> Result<(i64, i64), PathFault> {
+    let FileSpec { pattern, wanted } = FileSpec::read(alloc, text)?;
+    drop(pattern);
+    match wanted {
+        Wanted::Head => Ok((-9, -9)),
+        Wanted::One(revision) => Ok((form_of(revision), -9)),
+        Wanted::Range(first, second) => Ok((form_of(first), form_of(second))),
+    }
+}
+
+fn is_match(alloc: Global, pattern: &[u8], path: &[u8]) -> Result<bool, PathFault> {
+    let path = DepotPath::read(alloc, path)?;
+    Ok(Pattern::read(alloc, pattern, true)?.matches(&path))
+}
+
+#[test]
+fn paths_are_read_and_printed(rt: HostRuntime) -> Result<(), Fail> {
+    let path = DepotPath::read(rt.alloc(), b"//ws1/a%40b%2a")?;
+    let text = path.print(rt.alloc())?;
+    assert_eq!(rt; text.as_bytes(), b"//ws1/a%40b%2A".as_slice());
+    Ok(())
+}
+
+#[test]
+fn the_first_fault_of_a_path_is_answered(rt: HostRuntime) {
+    let cases: [(&[u8], u8); 10] = [
+        (b"//a/b%2a", 0),
+        (b"/a/b", 1),
+        (b"//a", 2),
+        (b"//a//@", 2),
+        (b"//ws1/a%4", 3),
+        (b"//a/@%", 3),
+        (b"//a/*/.", 4),
+        (b"//a/\xC3", 4),
+        (b"//a/..", 6),
+        (b"//a/b...c", 6),
+    ];
+    for (text, fault) in cases {
+        assert_eq!(rt; path_fault(rt.alloc(), text), fault);
+    }
+}
+
+#[test]
+fn a_path_has_at_most_1024_bytes(rt: HostRuntime) -> Result<(), Fail> {
+    let mut text = Text::from_bytes(rt.alloc(), b"//a/")?;
+    text.append(&[b'b'; 1020])?;
+    assert_eq!(rt; path_fault(rt.alloc(), text.as_bytes()), 0);
+    text.append(b"%")?;
+    assert_eq!(rt; path_fault(rt.alloc(), text.as_bytes()), 5);
+    Ok(())
+}
+
+#[test]
+fn patterns_match(rt: HostRuntime) -> Result<(), Fail> {
+    let cases: [(&[u8], &[u8], bool); 5] = [
+        (b"//depot/a%40....c", b"//depot/a%40/b.c", true),
+        (b"//depot/*.c", b"//depot/a/b.c", false),
+        (b"//%%1/*/%%2", b"//depot/a/b.c", true),
+        (b"//depot/*a*b", b"//depot/aab", true),
+        (b"//depot/a", b"//depot/ab", false),
+    ];
+    for (pattern, path, fits) in cases {
+        assert_eq!(rt; is_match(rt.alloc(), pattern, path)?, fits);
+    }
+    Ok(())
+}
+
+#[test]
+fn a_pattern_begins_with_its_literal_text(rt: HostRuntime) -> Result<(), Fail> {
+    let pattern = Pattern::read(rt.alloc(), b"//depot/a%40...", false)?;
+    let text = pattern.beginning(rt.alloc())?;
+    assert_eq!(rt; text.as_bytes(), b"//depot/a%40".as_slice());
+    Ok(())
+}
+
+#[test]
+fn revisions_are_read(rt: HostRuntime) -> Result<(), Fail> {
+    let cases: [(&[u8], (i64, i64)); 9] = [
+        (b"//depot/a", (-9, -9)),
+        (b"//depot/a#head", (-1, -9)),
+        (b"//depot/a#0", (-3, -9)),
+        (b"//depot/a#3,5", (3, 5)),
+        (b"//depot/a@30,@50", (10_030, 10_050)),
+        (b"//depot/a@=7", (20_007, -9)),
+        (b"//depot/a@now", (-4, -9)),
+        (b"//depot/a@2023/11/14:22:13:20", (1_700_000_000, -9)),
+        (b"//depot/a@1969/12/31,2000/03/01", (-86_400, 951_868_800)),
+    ];
+    for (text, forms) in cases {
+        assert_eq!(rt; forms_of(rt.alloc(), text)?, forms);
+    }
+    Ok(())
+}
+
+#[test]
+fn the_first_fault_of_a_file_specification_is_answered(rt: HostRuntime) {
+    let cases: [(&[u8], u8); 8] = [
+        (b"//depot//a#x", 2),
+        (b"//depot/a#2147483647", 0),
+        (b"//depot/a#2147483648", 7),
+        (b"//depot/a@1,2,3", 7),
+        (b"//depot/a#1,@1", 8),
+        (b"//depot/a#0,#3", 8),
+        (b"//depot/a@2023/13/01,@5", 8),
+        (b"//depot/a@2023/13/01", 9),
+    ];
+    for (text, fault) in cases {
+        assert_eq!(rt; spec_fault(rt.alloc(), text), fault);
+    }
+}
