@@ -74,6 +74,10 @@ common_front (x ∷ front) t b =
     let one : common ((x ∷ front) ++ t) ((x ∷ front) ++ b) ≡ suc (common (front ++ t) (front ++ b)) = ap (λ (c : Bool). cond c (suc (common (front ++ t) (front ++ b))) 0) same in
     omega arith
 
+pub common_none : (text : List ℕ) → common text [] ≡ 0
+common_none [] = refl
+common_none (x ∷ text) = refl
+
 greater_is : (m n : ℕ) → (m ≤ greater m n) × (n ≤ greater m n) × ((greater m n ≡ m) ⊎ (greater m n ≡ n))
 greater_is m n = by (leb m n) refl
   where
@@ -129,9 +133,9 @@ goes text Fits (v ∷ values) bytes all none =
     elim g.2 [
       | inl e ↦ inr (record { value = v; fits = all.0; apart = p.0; far = e })
       | inr e ↦ elim (goes text Fits values bytes all.1 p.1) [
-          | inl z ↦ inl (e ∙ z)
-          | inr w ↦ inr (record { value = w.value; fits = w.fits; apart = w.apart; far = e ∙ w.far })
-        ]
+        | inl z ↦ inl (e ∙ z)
+        | inr w ↦ inr (record { value = w.value; fits = w.fits; apart = w.apart; far = e ∙ w.far })
+      ]
     ]
 
 longer : {A : Type 0} (text : A → List ℕ) (Fits : A → Type 0) (v : A) (bytes front more after : List ℕ) → Fits v → starts_with nat_eq bytes (text v) ≡ false → bytes ≡ front ++ after → text v ≡ front ++ more → Begins Fits text front

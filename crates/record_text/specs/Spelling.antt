@@ -1,7 +1,7 @@
 -- The one spelling of a number and of a text, each with the byte that ends it, and how it is read. Numbers are decimal, and a
 -- text stands between two signs `@` with each sign in it doubled, as in a journal or checkpoint of Helix Core (System
 -- Administrator Guide, "Journal files"). That a number has no leading zero is this project's own choice.
-use Rattle.std.specs.Prelude.{ℕ, ◌+◌, ◌-◌, ◌*◌, ◌==◌, Bool, ◌&&◌, nat_le, nat_lt, List, [], ◌∷◌, ◌++◌, Option, Some, None, if◌then◌else◌}
+use Rattle.std.specs.Prelude.{ℕ, suc, ◌+◌, ◌-◌, ◌*◌, ◌==◌, Bool, ◌&&◌, nat_le, nat_lt, List, [], ◌∷◌, ◌++◌, Option, Some, None, if◌then◌else◌}
 use Rattle.std.specs.Fmt.{decimal}
 use Rattle.depot_path.specs.Bytes.{is_digit}
 use Rattle.record_text.specs.declared.fault.Part.TheVariants.{Field}
@@ -40,6 +40,11 @@ doubled (byte ∷ text) = doubled_byte byte ++ doubled text
 
 abbrev pub spelled_text : ℕ → List ℕ → List ℕ
 spelled_text ender text = sign ∷ (doubled text ++ sign ∷ ender ∷ [])
+
+-- how many bytes stand before the first sign, or at all
+abbrev pub before_sign : List ℕ → ℕ
+before_sign [] = 0
+before_sign (byte ∷ bytes) = if byte == sign then 0 else suc (before_sign bytes)
 
 -- before the text, within it, and behind a sign that ends it unless another sign follows
 pub data Place : Type 0 where

@@ -1,4 +1,10 @@
-//! The text of records: one spelling for each, and the first fault of what is none.
+//! The text of a row of a table, as it stands in journals and checkpoints.
+//!
+//! The text is `@OP@ VERSION @TABLE@`, a space and a field for each field, and a line feed. The operator is
+//! `pv` for a row that is put, `rv` for one that replaces another, and `dv` for one that goes away. A
+//! number is decimal without leading zeros; a text stands between `@` signs, with each `@` in it doubled. A
+//! db.working or db.rev row whose action is `move/add` or `move/delete` has version 2 and one more last
+//! field, the other file of the move; every other row has version 1.
 #![tactic(auto)]
 
 mod fault;
@@ -13,8 +19,8 @@ mod text;
 mod word;
 
 pub use fault::{Part, RecordFault};
-pub use laws::{numbers_have_one_spelling, records_have_one_spelling};
-pub use printing::print_record;
+pub use laws::records_have_one_spelling;
+pub use printing::{append_record, print_record};
 pub use reading::read_record;
 
 #[cfg(test)]

@@ -256,12 +256,22 @@ fn put_record(out: &mut Vec<u8>, row: &Record) -> Result<(), AllocError>
     }
 }
 
-/// The one spelling of a record with its operator.
-pub fn print_record(alloc: Global, op: Op, row: &Record) -> Result<Text, AllocError>
-    ensures { IfOk result (λ text. text ≡ spelling op row.now) }
+/// Writes a row with its operator behind a text. The one error is want of memory, and then the text is gone.
+pub fn append_record(text: Text, op: Op, row: &Record) -> Result<Text, AllocError>
+    ensures { IfOk result (λ longer. longer ≡ text ++ spelling op row.now) }
 {
-    let mut out = Vec::new(alloc);
+    let mut out = text.into_vec();
     out.extend_from_slice(op.text())?;
     put_record(&mut out, row)?;
     Ok(Text::from_vec(out))
+}
+
+/// The text of a row with its operator. The one error is want of memory.
+///
+/// Every row has one, but only the text of a row whose numbers are within their limits, and which has
+/// another path just where its action is of a move, is read again.
+pub fn print_record(alloc: Global, op: Op, row: &Record) -> Result<Text, AllocError>
+    ensures { IfOk result (λ text. text ≡ spelling op row.now) }
+{
+    append_record(Text::new(alloc), op, row)
 }

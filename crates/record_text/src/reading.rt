@@ -81,7 +81,10 @@ fn whole(alloc: Global, bytes: &[u8]) -> Result<(Op, Record, usize), RecordFault
     Ok((op, row, length))
 }
 
-/// The record with which the bytes begin, its operator, and the length of its text.
+/// The row with which the bytes begin, its operator, and the length of its text in bytes.
+///
+/// `Cut` says that the bytes end before a record does, and `Wrong` where the first byte stands that no
+/// record goes on with.
 pub fn read_record(alloc: Global, bytes: &[u8]) -> Result<(Op, Record, usize), RecordFault>
     // What is read is spelled so.
     ensures found { IfOk result (λ x. IsRecord x.1 × (take x.2 bytes.now ≡ spelling x.0 x.1) × (x.2 ≤ length bytes.now)) }

@@ -1,9 +1,9 @@
 //! Texts at the front.
 
-ghost use Rattle.std.specs.Prelude.{◌≡◌, []};
+ghost use Rattle.std.specs.Prelude.{◌≡◌, ◌≤◌, [], ◌∷◌, length, drop, MatchOption};
 ghost use Rattle.record_text.specs.declared.fault.Part.TheVariants.{Field};
 ghost use Rattle.record_text.specs.Machine.{run};
-ghost use Rattle.record_text.specs.Spelling.{text_at, text_step, Within};
+ghost use Rattle.record_text.specs.Spelling.{text_at, text_step, Within, before_sign};
 ghost use Rattle.record_text.specs.Layout.{is_move, Move};
 ghost use Rattle.record_text.specs.Grammar.{any, is_plain, field_at, spelled_move};
 ghost use Rattle.record_text.specs.Answers.{Gives};
@@ -31,33 +31,54 @@ impl Word for MoveAction {
     }
 }
 
-/// What follows the opening sign of a text: the text, and the bytes behind the byte that ends it.
-fn inner_of(alloc: Global, ender: u8, bytes: &[u8]) -> Result<(Vec<u8>, &[u8]), RecordFault>
-    ensures { Gives (λ x. x.0.items) (λ x. x.1.now) result (run (text_step any ender) Field (Within []) bytes.now) }
+/// How many bytes stand before the first sign, or at all.
+fn plain_length(bytes: &[u8]) -> usize
+    ensures value { result ≡ before_sign bytes.now }
+    ensures within { result ≤ length bytes.now }
 {
-    let mut kept: Vec<u8> = Vec::new(alloc);
-    let mut behind = false;
+    let mut count = 0;
+    while count < bytes.len() && bytes[count] != b'@' {
+        count += 1;
+    }
+    count
+}
+
+/// The byte behind a sign, and those behind it.
+fn behind_sign(bytes: &[u8]) -> Option<(u8, &[u8])>
+    ensures { MatchOption result (length bytes.now ≤ 1) (λ x. drop 1 bytes.now ≡ x.0 ∷ x.1.now) }
+{
+    match bytes {
+        [] => None,
+        [_, after @ ..] => match after {
+            [] => None,
+            [byte, behind @ ..] => Some((*byte, behind)),
+        },
+    }
+}
+
+/// What follows the opening sign of a text: the text, and the bytes behind the byte that ends it.
+fn inner_of(alloc: Global, ender: u8, bytes: &[u8]) -> Result<(Text, &[u8]), RecordFault>
+    ensures { Gives (λ x. x.0) (λ x. x.1.now) result (run (text_step any ender) Field (Within []) bytes.now) }
+{
+    let mut kept = Text::new(alloc);
     let mut rest = bytes;
-    while let [byte, after @ ..] = rest {
-        let byte = *byte;
-        if !behind {
-            if byte == b'@' {
-                behind = true;
-            } else {
-                kept.push(byte)?;
+    while !rest.is_empty() {
+        let (plain, after) = rest.split_at(plain_length(rest));
+        kept.append(plain)?;
+        let Some((byte, behind)) = behind_sign(after) else {
+            return Err(RecordFault::Cut);
+        };
+        if byte != b'@' {
+            if byte == ender {
+                return Ok((kept, behind));
             }
-        } else if byte == b'@' {
-            kept.push(byte)?;
-            behind = false;
-        } else if byte == ender {
-            return Ok((kept, after));
-        } else {
             return Err(RecordFault::Wrong {
                 part: Part::Field,
-                left: rest.len(),
+                left: behind.len() + 1,
             });
         }
-        rest = after;
+        kept.append(b"@")?;
+        rest = behind;
     }
     Err(RecordFault::Cut)
 }
@@ -68,10 +89,7 @@ pub(crate) fn text_of(alloc: Global, ender: u8, bytes: &[u8]) -> Result<(Text, &
 {
     match bytes {
         [] => Err(RecordFault::Cut),
-        [b'@', inner @ ..] => {
-            let (kept, rest) = inner_of(alloc, ender, inner)?;
-            Ok((Text::from_vec(kept), rest))
-        }
+        [b'@', inner @ ..] => inner_of(alloc, ender, inner),
         [_, ..] => Err(RecordFault::Wrong {
             part: Part::Field,
             left: bytes.len(),
