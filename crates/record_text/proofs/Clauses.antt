@@ -1,13 +1,13 @@
 -- What a record's reader says, from the laws.
-use Rattle.std.proofs.Common.{◌≡◌, ℕ, suc, ◌+◌, ◌-◌, ◌<◌, ◌≤◌, List, [], ◌∷◌, ◌++◌, length, take, drop, Result, Ok, Err, refl, sym, ap, subst, ◌∙◌, append_assoc, arith, length-append}
+use Rattle.std.proofs.Common.{◌≡◌, ℕ, ◌+◌, ◌-◌, ◌≤◌, List, [], ◌∷◌, ◌++◌, length, take, drop, Result, Ok, Err, refl, sym, ap, subst, ◌∙◌, append_assoc, arith, length-append}
 use Rattle.std.specs.Prelude.{IfOk, IsErrOf}
-use Rattle.std.proofs.lemmas.List.{take_at, drop_at, append_cancel_right, take-append-drop, append-nil, length-drop}
+use Rattle.std.proofs.lemmas.List.{drop_at, append_cancel_right, take-append-drop, append-nil, length-drop}
 use Rattle.db_records.specs.declared.change.Op.{Op}
 use Rattle.db_records.specs.declared.record.Record.{Record}
 use Rattle.record_text.specs.declared.fault.Part.{Part}
 use Rattle.record_text.specs.declared.fault.RecordFault.{RecordFault}
 use Rattle.record_text.specs.declared.fault.RecordFault.TheVariants as faults
-use Rattle.record_text.specs.Reading.{Reading, Done, Ends, Wrong, Begins, Stops}
+use Rattle.record_text.specs.Reading.{Reading, Done, Ends, Wrong}
 use Rattle.record_text.specs.Grammar.{record_at, IsRecord, spelling}
 use Rattle.record_text.specs.Answers.{Fails, Gives}
 use Rattle.record_text.specs.Clauses.{IsBeginning, StopsAt, IsAnswer, IsCut, IfWrong}

@@ -1,10 +1,10 @@
 -- Reading a text by its runs of bytes that are no sign.
-use Rattle.std.proofs.Common.{◌≡◌, ℕ, zero, suc, ◌+◌, ◌≤◌, Bool, true, false, cond, eqb, List, [], ◌∷◌, ◌++◌, length, take, drop, refl, sym, ap, ◌∙◌, append_assoc, add-one, arith}
+use Rattle.std.proofs.Common.{◌≡◌, ℕ, suc, ◌+◌, ◌≤◌, Bool, true, false, cond, eqb, List, [], ◌∷◌, ◌++◌, length, take, drop, refl, sym, ap, ◌∙◌, append_assoc, add-one, arith}
 use Rattle.std.proofs.lemmas.List.{append-nil}
 use Rattle.std.proofs.lemmas.Bool.{eq-eqb, ne_eqb}
 use Rattle.record_text.specs.declared.fault.Part.TheVariants.{Field}
 use Rattle.record_text.specs.Reading.{Reading, Done, Ends, Wrong}
-use Rattle.record_text.specs.Machine.{Step, Next, Last, Refuse, step_then, run}
+use Rattle.record_text.specs.Machine.{Next, step_then, run}
 use Rattle.record_text.specs.Spelling.{sign, before_sign, Place, Within, Behind, text_step}
 use Rattle.record_text.specs.Grammar.{any}
 

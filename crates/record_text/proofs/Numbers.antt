@@ -1,11 +1,10 @@
 -- The reader of a number reads what is spelled so.
-use Rattle.std.proofs.Common.{◌≡◌, ℕ, zero, suc, ◌+◌, ◌-◌, ◌*◌, ◌/◌, ◌%◌, ◌^◌, ◌<◌, ◌≤◌, Bool, true, false, cond, eqb, ltb, leb, ◌&&◌, List, [], ◌∷◌, ◌++◌, length, Option, Some, None, refl, sym, ap, subst, ◌∙◌, append_assoc, arith}
+use Rattle.std.proofs.Common.{◌≡◌, ℕ, ◌+◌, ◌-◌, ◌*◌, ◌/◌, ◌%◌, ◌^◌, ◌<◌, ◌≤◌, Bool, true, false, cond, eqb, ltb, leb, ◌&&◌, List, [], ◌∷◌, ◌++◌, Option, Some, None, refl, sym, ap, subst, ◌∙◌, append_assoc, arith}
 use Rattle.std.specs.Fmt.{decimal}
 use Rattle.std.proofs.lemmas.Bool.{and_parts, and_from, leb-true, ltb-true, eqb-true, eq-eqb, ne_eqb, le-leb, lt-ltb}
 use Rattle.std.proofs.lemmas.Fmt.{decimal_digit, decimal_step, decimal_by_steps}
-use Rattle.record_text.specs.declared.fault.Part.{Part}
 use Rattle.record_text.specs.declared.fault.Part.TheVariants.{Field}
-use Rattle.record_text.specs.Reading.{Reading, Done, Begins}
+use Rattle.record_text.specs.Reading.{Done, Begins}
 use Rattle.record_text.specs.Machine.{Step, Next, Last, Refuse, step_then, run}
 use Rattle.depot_path.specs.Bytes.{is_digit}
 use Rattle.record_text.specs.Spelling.{spelled_number, number_step, number_at}

@@ -4,8 +4,8 @@ use Rattle.record_text.specs.declared.fault.Part.TheVariants.{Field}
 use Rattle.record_text.specs.declared.fault.RecordFault.{RecordFault}
 use Rattle.record_text.specs.declared.fault.RecordFault.TheVariants as faults
 use Rattle.record_text.specs.Answers.{Fails}
-use Rattle.record_text.specs.Reading.{Reading, Done, Ends, Wrong, and_then}
-use Rattle.record_text.specs.Machine.{Step, Next, Last, Refuse, step_then, run}
+use Rattle.record_text.specs.Reading.{Reading, Done, Wrong, and_then}
+use Rattle.record_text.specs.Machine.{Next, Last, Refuse, step_then, run}
 use Rattle.record_text.specs.Spelling.{sign, Place, Before, Within, Behind, text_step, text_at}
 use Rattle.record_text.specs.Layout.{is_move}
 use Rattle.record_text.specs.Grammar.{any, is_plain}

@@ -1,5 +1,5 @@
 -- The reader of records reads what is spelled so: the parts' laws, one after another.
-use Rattle.std.proofs.Common.{◌≡◌, ℕ, zero, suc, ◌+◌, ◌≤◌, Bool, true, false, not, ◌||◌, List, [], ◌∷◌, ◌++◌, length, refl, sym, ap, subst, ◌∙◌, append_assoc, arith, ◌⊎◌, inl, inr, length-append}
+use Rattle.std.proofs.Common.{◌≡◌, ℕ, ◌+◌, ◌≤◌, Bool, true, false, List, [], ◌∷◌, ◌++◌, length, refl, sym, ap, subst, ◌∙◌, arith, ◌⊎◌, inl, inr, length-append}
 use Rattle.std.specs.Str.{bytes_eq}
 use Rattle.std.proofs.lemmas.Bool.{not-true, or_cases, or_from, not_from_false, false_from_ne_true, both_ways}
 use Rattle.db_records.specs.declared.change.Op.{Op}
@@ -17,7 +17,7 @@ use Rattle.record_text.specs.declared.layout.Version.{Version}
 use Rattle.record_text.specs.declared.layout.Version.TheVariants.{One, Two}
 use Rattle.record_text.specs.declared.text.MoveAction.{MoveAction}
 use Rattle.record_text.specs.declared.text.MoveAction.TheVariants.{Add, Delete}
-use Rattle.record_text.specs.Reading.{Reading, Done, Ends, Wrong, and_then, Begins, Reads}
+use Rattle.record_text.specs.Reading.{Reading, Done, Ends, Wrong, and_then, Reads}
 use Rattle.record_text.specs.Spelling.{spelled_text}
 use Rattle.record_text.specs.Words.{word_at}
 use Rattle.record_text.specs.Layout.{Kind, Line, Count, Wide, Word, Action, Move, Value, Values, version_text, versions, table_text, layouts, version_of, kinds_of, record_of, move_add, move_delete, is_move, Parts, working_parts, rev_parts, parts_of}

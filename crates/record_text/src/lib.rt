@@ -20,8 +20,10 @@ mod word;
 
 pub use fault::{Part, RecordFault};
 pub use laws::records_have_one_spelling;
+pub use number::number_of;
 pub use printing::{append_record, print_record};
 pub use reading::read_record;
+pub use word::common_front;
 
 #[cfg(test)]
 mod tests;

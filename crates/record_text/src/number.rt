@@ -21,7 +21,9 @@ fn grown(number: u64, digit: u64, most: u64) -> Option<u64>
 }
 
 /// The number at the front, from the least to the most, and the bytes behind the byte that ends it.
-pub(crate) fn number_of(
+///
+/// It is decimal without leading zeros. A fault is as for a record's field.
+pub fn number_of(
     least: u64,
     most: u64,
     ender: u8,

@@ -29,7 +29,7 @@ fn first_of<W: Word>(words: &[W], bytes: &[u8]) -> Option<W>
 }
 
 /// How many bytes the two have in common at their fronts.
-fn common_front(text: &[u8], bytes: &[u8]) -> usize
+pub fn common_front(text: &[u8], bytes: &[u8]) -> usize
     ensures { result ≡ common text.now bytes.now }
 {
     let mut count = 0;

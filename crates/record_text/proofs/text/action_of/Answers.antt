@@ -1,7 +1,5 @@
-use Rattle.std.proofs.Common.{◌≡◌, ◌+◌, suc, length, List, ℕ, ap, ◌∙◌, add-one, true, false, sym}
+use Rattle.std.proofs.Common.{◌≡◌, ◌∙◌, add-one, true, false, sym}
 use Rattle.std.proofs.lemmas.Result.{err_from_is_err_and}
-use Rattle.record_text.specs.declared.fault.Part.TheVariants.{Field}
-use Rattle.record_text.specs.Reading.{Reading, Wrong}
 use Rattle.record_text.specs.Layout.{is_move}
 use Rattle.record_text.proofs.Plain.{moved_is, plain_is, fails_is}
 use Rattle.record_text.proofs.text.action_of.Goals as goal

@@ -1,7 +1,6 @@
-use Rattle.std.proofs.Common.{◌≡◌, ◌+◌, suc, List, ℕ, ◌++◌, ◌∷◌, [], take, drop, length, sym, ap, ◌∙◌}
-use Rattle.record_text.specs.declared.fault.Part.TheVariants.{Field}
-use Rattle.record_text.specs.Reading.{Done, Wrong}
-use Rattle.record_text.specs.Spelling.{sign, before_sign, Within}
+use Rattle.std.proofs.Common.{List, ℕ, ◌++◌, ◌∷◌, [], take, drop, sym, ap, ◌∙◌}
+use Rattle.record_text.specs.Reading.{Done}
+use Rattle.record_text.specs.Spelling.{sign, Within}
 use Rattle.record_text.proofs.Inner.{go, two_signs, text_ends, text_stops, text_cut}
 use Rattle.record_text.proofs.text.inner_of.Goals as goal
 
