@@ -1,0 +1,4 @@
+pub mod Groups
+pub mod Committed
+pub mod Reading
+pub mod Reader

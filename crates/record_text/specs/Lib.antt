@@ -1,0 +1,9 @@
+pub mod Reading
+pub mod Machine
+pub mod Spelling
+pub mod Words
+pub mod Layout
+pub mod Grammar
+pub mod Answers
+pub mod Clauses
+pub mod Printing
