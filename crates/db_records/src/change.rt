@@ -1,0 +1,30 @@
+//! Changes of tables.
+
+use crate::record::Record;
+
+/// What is done with a row.
+#[derive(Clone, Copy, Debug, PartialEq, Eq)]
+pub enum Op {
+    /// A row is added. No row has its key.
+    Put,
+    /// A row takes the place of the one with its key.
+    Replace,
+    /// A row goes away.
+    Remove,
+}
+
+/// A change of one row: the new one, or the one that goes away.
+#[derive(Clone, Drop, PartialEq, Eq)]
+pub struct Change {
+    pub op: Op,
+    pub row: Record,
+}
+
+/// Where a content stands in the archive.
+#[derive(Clone, Copy, Debug, PartialEq, Eq)]
+pub struct Spot {
+    /// The place of its first byte.
+    pub at: u64,
+    /// How many bytes it has.
+    pub length: u64,
+}

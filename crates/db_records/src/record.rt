@@ -1,0 +1,137 @@
+//! The row of any table.
+
+ghost use Rattle.std.specs.Prelude.{◌≡◌, ◌↔◌, IsTrue, IfOk};
+ghost use Rattle.db_records.specs.Key.{key_cmp};
+ghost use Rattle.db_records.specs.Record.{table_of, key_of, is_live};
+ghost use Rattle.db_records.specs.Fields.{key_of_fields};
+
+use crate::fields::KeyFields;
+use crate::key::Key;
+use crate::rows::{
+    ChangeRecord, CounterRecord, DomainRecord, GroupRecord, HaveRecord, IntegedRecord, LabelRecord,
+    ProtectRecord, ResolveRecord, RevRecord, WorkingRecord,
+};
+use crate::table::TableId;
+use std::alloc::AllocError;
+use std::cmp::Ordering;
+
+/// A row of one of the tables.
+#[derive(Clone, Drop, PartialEq, Eq)]
+pub enum Record {
+    Counter(CounterRecord),
+    Group(GroupRecord),
+    Protect(ProtectRecord),
+    Domain(DomainRecord),
+    Have(HaveRecord),
+    Label(LabelRecord),
+    Integed(IntegedRecord),
+    Resolve(ResolveRecord),
+    Working(WorkingRecord),
+    Change(ChangeRecord),
+    Rev(RevRecord),
+}
+
+impl Record {
+    /// The fields of the row's key.
+    pub(crate) fn key_fields(&self) -> KeyFields
+        ensures { key_of_fields result ≡ key_of self.now }
+    {
+        match self {
+            Record::Counter(row) => KeyFields::Counter { name: &row.name },
+            Record::Group(row) => KeyFields::Group {
+                group: &row.group,
+                user: &row.user,
+            },
+            Record::Protect(row) => KeyFields::Protect { line: row.line },
+            Record::Domain(row) => KeyFields::Domain {
+                kind: &row.kind,
+                name: &row.name,
+            },
+            Record::Have(row) => KeyFields::Have {
+                client: &row.client,
+                path: &row.path,
+            },
+            Record::Label(row) => KeyFields::Label {
+                label: &row.label,
+                path: &row.path,
+            },
+            Record::Integed(row) => KeyFields::Integed {
+                to_file: &row.to_file,
+                from_file: &row.from_file,
+                start_from: row.start_from,
+                end_from: row.end_from,
+                start_to: row.start_to,
+                end_to: row.end_to,
+            },
+            Record::Resolve(row) => KeyFields::Resolve {
+                client: &row.client,
+                path: &row.path,
+                from: &row.from,
+            },
+            Record::Working(row) => KeyFields::Working {
+                path: &row.path,
+                client: &row.client,
+            },
+            Record::Change(row) => KeyFields::Change { change: row.change },
+            Record::Rev(row) => KeyFields::Rev {
+                path: &row.path,
+                rev: row.rev,
+            },
+        }
+    }
+
+    /// The table that the row stands in.
+    pub fn table(&self) -> TableId
+        ensures { result ≡ table_of self.now }
+    {
+        self.key_fields().table()
+    }
+
+    /// The key of the row. The one error is want of memory.
+    pub fn key(&self) -> Result<Key, AllocError>
+        ensures { IfOk result (λ key. key ≡ key_of self.now) }
+    {
+        self.key_fields().to_key()
+    }
+
+    /// How the row's key stands to another key.
+    pub fn compare_key(&self, key: &Key) -> Ordering
+        ensures { result ≡ key_cmp (key_of self.now) key.now }
+    {
+        self.key_fields().compare(&key.fields())
+    }
+
+    /// How the row's key stands to that of another row.
+    pub fn compare(&self, other: &Record) -> Ordering
+        ensures { result ≡ key_cmp (key_of self.now) (key_of other.now) }
+    {
+        self.key_fields().compare(&other.key_fields())
+    }
+
+    /// Whether the two rows are the same in every field.
+    pub fn same(&self, other: &Record) -> bool
+        ensures { IsTrue result ↔ (self.now ≡ other.now) }
+    {
+        self == other
+    }
+
+    /// The same row once more. The one error is want of memory.
+    pub fn copy(&self) -> Result<Record, AllocError>
+        ensures { IfOk result (λ row. row ≡ self.now) }
+    {
+        self.clone()
+    }
+
+    /// Whether the row is of a revision that isn't deleted.
+    pub fn live(&self) -> bool
+        ensures { result ≡ is_live self.now }
+    {
+        match self {
+            Record::Rev(row) => {
+                row.action.as_bytes() != b"delete".as_slice()
+                    && row.action.as_bytes() != b"move/delete".as_slice()
+            }
+            _ => false,
+        }
+    }
+}
