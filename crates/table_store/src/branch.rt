@@ -1,0 +1,199 @@
+ghost use Rattle.std.specs.Prelude.{◌≡◌, ◌≤◌, ◌<◌, ◌++◌, ◌==◌, [], IfOk, OnOk, OnErr, length, vec_len};
+ghost use Rattle.std.specs.Option.{option_copied};
+ghost use Rattle.table_store.specs.Rows.{IsPage, IsRising, first_order, row_at, rows_from, changed_once};
+ghost use Rattle.table_store.specs.Parts.{AreParts};
+ghost use Rattle.table_store.specs.Nodes.{rows_of, AllFilled, AreNodes, IsNodeCount, ReplacesNode};
+ghost use Rattle.table_store.specs.SearchKey.{sought_key};
+
+use crate::page::{PAGE_ROWS, Page};
+use crate::search_key::SearchKey;
+use db_records::{Change, Op, Record};
+use std::alloc::{AllocError, Global};
+use std::cmp::Ordering;
+use std::marker::Model;
+use std::sync::Arc;
+
+/// The number of pages at which they are parted.
+const PAGES: usize = 256;
+
+/// Branch of rows, one after another in key order.
+#[derive(Drop)]
+pub(crate) struct Branch {
+    list: Vec<Arc<Page, Global>>,
+}
+
+/// Branch that may have been parted.
+pub(crate) enum Parts {
+    One(Branch),
+    Two(Branch, Branch),
+}
+
+impl Model for Branch {
+    ghost use Rattle.std.specs.Prelude.{List};
+    ghost use Rattle.db_records.specs.declared.record.Record.{Record};
+    ghost use Rattle.table_store.specs.Nodes.{rows_of, AreNodes};
+
+    ghost Value = { List Record };
+
+    ghost view = { λ a. rows_of a.list.items };
+
+    ghost invariant = { λ a. AreNodes a.list.items };
+}
+
+impl Branch {
+    /// No pages.
+    pub(crate) fn empty(alloc: Global) -> Branch
+        ensures { result ≡ [] }
+    {
+        Branch {
+            list: Vec::new(alloc),
+        }
+    }
+
+    /// The same pages, shared.
+    pub(crate) fn share(&self, alloc: Global) -> Result<Branch, AllocError>
+        ensures { IfOk result (λ pages. pages ≡ self.now) }
+    {
+        let mut list = Vec::with_capacity(alloc, self.list.len())?;
+        for page in &self.list {
+            list.push(Arc::try_clone(page)?)?;
+        }
+        Ok(Branch { list })
+    }
+
+    /// The row that has the key.
+    pub(crate) fn get(&self, sought: SearchKey<'_>) -> Option<&Record>
+        ensures { option_copied result ≡ row_at (sought_key sought.entry) self.now }
+    {
+        let count = pages_up_to(&self.list, sought);
+        if count == 0 {
+            return None;
+        }
+        self.list[count - 1].get(sought)
+    }
+
+    /// The rows of one page from the first at or above the key, and the pages behind it.
+    pub(crate) fn from_key(&self, sought: SearchKey<'_>) -> (&[Record], &[Arc<Page, Global>])
+        ensures rows { result.0.now ++ rows_of result.1.now ≡ rows_from (sought_key sought.entry) self.now }
+        ensures filled { AllFilled result.1.now }
+    {
+        let count = pages_up_to(&self.list, sought);
+        if count == 0 {
+            return (&[], &self.list);
+        }
+        (self.list[count - 1].rows_from(sought), &self.list[count..])
+    }
+
+    /// Whether there are no rows.
+    pub(crate) fn is_empty(&self) -> bool
+        ensures { result ≡ (length self.now == 0) }
+    {
+        self.list.is_empty()
+    }
+
+    /// The order of the first row's key and the key that is looked for, and Less where there is no row.
+    pub(crate) fn first_order(&self, sought: SearchKey<'_>) -> Ordering
+        ensures { result ≡ first_order self.now (sought_key sought.entry) }
+    {
+        match self.list.first() {
+            Some(page) => page.first_order(sought),
+            None => Ordering::Less,
+        }
+    }
+
+    /// The pages.
+    pub(crate) fn list(&self) -> &[Arc<Page, Global>]
+        ensures rows { rows_of result.now ≡ self.now }
+        ensures filled { AllFilled result.now }
+    {
+        &self.list
+    }
+
+    /// The pages after a change. They share all pages but that of its key.
+    pub(crate) fn changed(&self, alloc: Global, change: &Change) -> Result<Branch, AllocError>
+        ensures { IfOk result (λ pages. pages ≡ changed_once self.now change.now) }
+    {
+        let mut pages = self.share(alloc)?;
+        pages.change(alloc, change)?;
+        Ok(pages)
+    }
+
+    /// These pages, or two parts of them where they are many.
+    pub(crate) fn parts(mut self) -> Result<Parts, AllocError>
+        ensures { IfOk result (AreParts self) }
+    {
+        if self.list.len() < PAGES {
+            return Ok(Parts::One(self));
+        }
+        let upper = self.list.split_off(PAGES / 2)?;
+        Ok(Parts::Two(self, Branch { list: upper }))
+    }
+
+    /// Makes one change. The page of its key is made anew.
+    pub(crate) fn change(&mut self, alloc: Global, change: &Change) -> Result<(), AllocError>
+        ensures { OnOk result (self.new ≡ changed_once self.old change.now) }
+    {
+        if self.list.is_empty() {
+            return begin_branch(&mut self.list, alloc, change);
+        }
+        let count = pages_up_to(&self.list, SearchKey::OfRow(&change.row));
+        let at = count.saturating_sub(1);
+        let rows = self.list[at].changed_rows(alloc, change)?;
+        replace_page(&mut self.list, alloc, at, rows)
+    }
+}
+
+/// How many pages begin at or below the key.
+fn pages_up_to(pages: &[Arc<Page, Global>], sought: SearchKey<'_>) -> usize
+    requires { AreNodes pages.now }
+    ensures { IsNodeCount (sought_key sought.entry) pages.now result }
+{
+    pages.partition_point(|page| page.first_order(sought).is_le())
+}
+
+/// Makes the first page.
+fn begin_branch(
+    list: &mut Vec<Arc<Page, Global>>,
+    alloc: Global,
+    change: &Change,
+) -> Result<(), AllocError>
+    requires { list.old.items ≡ [] }
+    ensures ok { OnOk result (rows_of list.new.items ≡ changed_once [] change.now) }
+    ensures shelf { AreNodes list.new.items }
+{
+    if change.op == Op::Remove {
+        return Ok(());
+    }
+    let mut rows = Vec::new(alloc);
+    rows.push(change.row.copy()?)?;
+    list.push(Arc::new(alloc, Page::from_rows(rows))?)?;
+    Ok(())
+}
+
+/// Puts rows in the place of those of a page: no page, one or two.
+fn replace_page(
+    list: &mut Vec<Arc<Page, Global>>,
+    alloc: Global,
+    at: usize,
+    mut rows: Vec<Record>,
+) -> Result<(), AllocError>
+    requires in_range { at < vec_len list.old }
+    requires short { vec_len rows ≤ 65 }
+    requires rising { IsRising rows.items }
+    ensures ok { OnOk result (ReplacesNode list.old.items at rows.items list.new.items) }
+    ensures err { OnErr result (list.new.items ≡ list.old.items) }
+{
+    if rows.is_empty() {
+        list.remove(at);
+        return Ok(());
+    }
+    if rows.len() <= PAGE_ROWS {
+        list[at] = Arc::new(alloc, Page::from_rows(rows))?;
+        return Ok(());
+    }
+    let upper = rows.split_off(PAGE_ROWS / 2)?;
+    let lower = Arc::new(alloc, Page::from_rows(rows))?;
+    list.insert(at + 1, Arc::new(alloc, Page::from_rows(upper))?)?;
+    list[at] = lower;
+    Ok(())
+}
