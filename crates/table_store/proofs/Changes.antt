@@ -1,5 +1,5 @@
 -- Changes, one after another.
-use Rattle.std.proofs.Common.{◌≡◌, ℕ, ◌+◌, ◌<◌, Bool, true, false, cond, List, [], ◌∷◌, ◌++◌, length, take, drop, get_or, refl, sym, ap, ◌∙◌, subst}
+use Rattle.std.proofs.Common.{◌≡◌, ℕ, ◌+◌, ◌<◌, Bool, true, false, cond, List, [], ◌∷◌, ◌++◌, length, take, drop, get_or, Result, Ok, Err, OnOk, OnErr, refl, sym, ap, ◌∙◌, subst}
 use Rattle.std.specs.List.{filter}
 use Rattle.std.proofs.lemmas.List.{take_more, drop_more}
 use Rattle.db_records.specs.declared.table.TableId.{TableId}
@@ -34,6 +34,11 @@ AllOfTable-changed table rows change all e =
     let key = key_of change.row in
     AllOfTable-append table (filter (is_below key) rows) (left_by change.op change.row ++ filter (is_above key) rows) (AllOfTable-filter table (is_below key) rows all)
     (AllOfTable-append table (left_by change.op change.row) (filter (is_above key) rows) (AllOfTable-left table change.op change.row e) (AllOfTable-filter table (is_above key) rows all))
+
+-- a change that was made, or for which there was no memory
+pub AllOfTable-tried : {A E : Type 0} (table : TableId) (rows new : List Record) (change : Change) (r : Result A E) → OnOk r (new ≡ changed_once rows change) → OnErr r (new ≡ rows) → AllOfTable table rows → table_of change.row ≡ table → AllOfTable table new
+AllOfTable-tried table rows new change (Ok a) ok err all e = subst (AllOfTable table) (sym ok) (AllOfTable-changed table rows change all e)
+AllOfTable-tried table rows new change (Err a) ok err all e = subst (AllOfTable table) (sym err) all
 
 -- one more change
 module _ (changes : List Change) (i : ℕ) (change : Change) (h : i < length changes) (is : change ≡ get_or changes i change) where

@@ -1,3 +1,5 @@
+//! Branches: pages, one after another.
+
 ghost use Rattle.std.specs.Prelude.{◌≡◌, ◌≤◌, ◌<◌, ◌++◌, ◌==◌, [], IfOk, OnOk, OnErr, length, vec_len};
 ghost use Rattle.std.specs.Option.{option_copied};
 ghost use Rattle.table_store.specs.Rows.{IsPage, IsRising, first_order, row_at, rows_from, changed_once};
@@ -13,8 +15,8 @@ use std::cmp::Ordering;
 use std::marker::Model;
 use std::sync::Arc;
 
-/// The number of pages at which they are parted.
-const PAGES: usize = 256;
+/// The number of pages at which a branch is parted.
+const BRANCH_PAGES: usize = 256;
 
 /// Branch of rows, one after another in key order.
 #[derive(Drop)]
@@ -22,7 +24,7 @@ pub(crate) struct Branch {
     list: Vec<Arc<Page, Global>>,
 }
 
-/// Branch that may have been parted.
+/// A branch, or the two into which it was parted.
 pub(crate) enum Parts {
     One(Branch),
     Two(Branch, Branch),
@@ -122,16 +124,17 @@ impl Branch {
     pub(crate) fn parts(mut self) -> Result<Parts, AllocError>
         ensures { IfOk result (AreParts self) }
     {
-        if self.list.len() < PAGES {
+        if self.list.len() < BRANCH_PAGES {
             return Ok(Parts::One(self));
         }
-        let upper = self.list.split_off(PAGES / 2)?;
+        let upper = self.list.split_off(BRANCH_PAGES / 2)?;
         Ok(Parts::Two(self, Branch { list: upper }))
     }
 
-    /// Makes one change. The page of its key is made anew.
+    /// Makes a change. The page of its key is made anew.
     pub(crate) fn change(&mut self, alloc: Global, change: &Change) -> Result<(), AllocError>
-        ensures { OnOk result (self.new ≡ changed_once self.old change.now) }
+        ensures ok { OnOk result (self.new ≡ changed_once self.old change.now) }
+        ensures err { OnErr result (self.new ≡ self.old) }
     {
         if self.list.is_empty() {
             return begin_branch(&mut self.list, alloc, change);
@@ -159,7 +162,8 @@ fn begin_branch(
 ) -> Result<(), AllocError>
     requires { list.old.items ≡ [] }
     ensures ok { OnOk result (rows_of list.new.items ≡ changed_once [] change.now) }
-    ensures shelf { AreNodes list.new.items }
+    ensures err { OnErr result (list.new.items ≡ list.old.items) }
+    ensures nodes { AreNodes list.new.items }
 {
     if change.op == Op::Remove {
         return Ok(());

@@ -7,6 +7,7 @@
 #![tactic(auto)]
 
 mod branch;
+mod draft;
 mod page;
 mod search_key;
 mod tables;
@@ -14,6 +15,10 @@ mod tree;
 mod version;
 mod walk;
 
+pub use draft::Draft;
 pub use tables::Tables;
 pub use version::Version;
 pub use walk::Walk;
+
+#[cfg(test)]
+mod tests;

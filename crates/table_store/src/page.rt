@@ -1,3 +1,5 @@
+//! Pages of rows.
+
 ghost use Rattle.std.specs.Prelude.{◌≡◌, ◌≤◌, ◌++◌, IfOk, OnOk, MatchResult, vec_len, length};
 ghost use Rattle.std.specs.Option.{option_copied};
 ghost use Rattle.table_store.specs.Rows.{IsAt, IsGap, IsCut, IsPage, IsRising, first_order, row_at, rows_from, changed_once, left_by};

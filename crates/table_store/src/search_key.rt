@@ -1,3 +1,5 @@
+//! Keys that are looked for.
+
 ghost use Rattle.std.specs.Prelude.{◌≡◌};
 ghost use Rattle.db_records.specs.Key.{key_cmp};
 ghost use Rattle.db_records.specs.Record.{key_of};

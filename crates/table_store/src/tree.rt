@@ -1,18 +1,21 @@
-ghost use Rattle.std.specs.Prelude.{◌≡◌, ◌<◌, [], IfOk, OnOk, OnErr, length, vec_len};
+//! The tree of a table: branches, one after another.
+
+ghost use Rattle.std.specs.Prelude.{◌≡◌, ◌↔◌, ◌<◌, [], IfOk, IsTrue, OnOk, OnErr, length, vec_len};
 ghost use Rattle.std.specs.Option.{option_copied};
-ghost use Rattle.table_store.specs.Rows.{row_at, rows_from, changed_once};
+ghost use Rattle.db_records.specs.Record.{key_of};
+ghost use Rattle.table_store.specs.Rows.{FitsAt, IsRising, row_at, rows_from, changed_once};
 ghost use Rattle.table_store.specs.Nodes.{rows_of, AreNodes, IsNodeCount, ReplacesNode};
 ghost use Rattle.table_store.specs.SearchKey.{sought_key};
 
 use crate::branch::{Branch, Parts};
 use crate::search_key::SearchKey;
 use crate::walk::Walk;
-use db_records::{Change, Record};
+use db_records::{Change, Op, Record};
 use std::alloc::{AllocError, Global};
 use std::marker::Model;
 use std::sync::Arc;
 
-/// Tree of pages, one after another in key order.
+/// Branches, one after another in key order.
 #[derive(Drop)]
 pub(crate) struct Tree {
     list: Vec<Arc<Branch, Global>>,
@@ -31,7 +34,7 @@ impl Model for Tree {
 }
 
 impl Tree {
-    /// No shelves.
+    /// No branches.
     pub(crate) fn empty(alloc: Global) -> Tree
         ensures { result ≡ [] }
     {
@@ -40,15 +43,22 @@ impl Tree {
         }
     }
 
-    /// The same shelves, shared.
+    /// The same branches, shared.
     pub(crate) fn share(&self, alloc: Global) -> Result<Tree, AllocError>
-        ensures { IfOk result (λ shelves. shelves ≡ self.now) }
+        ensures { IfOk result (λ tree. tree ≡ self.now) }
     {
         let mut list = Vec::with_capacity(alloc, self.list.len())?;
-        for page in &self.list {
-            list.push(Arc::try_clone(page)?)?;
+        for branch in &self.list {
+            list.push(Arc::try_clone(branch)?)?;
         }
         Ok(Tree { list })
+    }
+
+    /// The keys of the rows rise.
+    pub(crate) fn rows_rise(&self)
+        ensures { IsRising self.now }
+    {
+        let _list = &self.list;
     }
 
     /// The row that has the key.
@@ -74,29 +84,46 @@ impl Tree {
         Walk::new(rows, pages, &self.list[count..])
     }
 
-    /// Makes one change. The shelf and the page of its key are made anew.
+    /// Makes a change. The branch of its key is made anew, and shares all pages but that of the key.
     pub(crate) fn change(&mut self, alloc: Global, change: &Change) -> Result<(), AllocError>
-        ensures { OnOk result (self.new ≡ changed_once self.old change.now) }
+        ensures ok { OnOk result (self.new ≡ changed_once self.old change.now) }
+        ensures err { OnErr result (self.new ≡ self.old) }
     {
         if self.list.is_empty() {
             return begin_tree(&mut self.list, alloc, change);
         }
         let count = branches_up_to(&self.list, SearchKey::OfRow(&change.row));
         let at = count.saturating_sub(1);
-        let pages = self.list[at].changed(alloc, change)?;
-        replace_branch(&mut self.list, alloc, at, pages)
+        let branch = self.list[at].changed(alloc, change)?;
+        replace_branch(&mut self.list, alloc, at, branch)
+    }
+
+    /// Whether a change fits these rows: a Put of an absent key, a Replace of a present key, or a
+    /// Remove of a row that is there as given.
+    pub(crate) fn fits(&self, change: &Change) -> bool
+        ensures { IsTrue result ↔ FitsAt change.now.op change.now.row (row_at (key_of change.now.row) self.now) }
+    {
+        let there = self.get(SearchKey::OfRow(&change.row));
+        match change.op {
+            Op::Put => there.is_none(),
+            Op::Replace => there.is_some(),
+            Op::Remove => match there {
+                Some(row) => row.same(&change.row),
+                None => false,
+            },
+        }
     }
 }
 
-/// How many shelves begin at or below the key.
-fn branches_up_to(shelves: &[Arc<Branch, Global>], sought: SearchKey<'_>) -> usize
-    requires { AreNodes shelves.now }
-    ensures { IsNodeCount (sought_key sought.entry) shelves.now result }
+/// How many branches begin at or below the key.
+fn branches_up_to(branches: &[Arc<Branch, Global>], sought: SearchKey<'_>) -> usize
+    requires { AreNodes branches.now }
+    ensures { IsNodeCount (sought_key sought.entry) branches.now result }
 {
-    shelves.partition_point(|pages| pages.first_order(sought).is_le())
+    branches.partition_point(|branch| branch.first_order(sought).is_le())
 }
 
-/// Makes the first shelf.
+/// Makes the first branch.
 fn begin_tree(
     list: &mut Vec<Arc<Branch, Global>>,
     alloc: Global,
@@ -104,34 +131,35 @@ fn begin_tree(
 ) -> Result<(), AllocError>
     requires { list.old.items ≡ [] }
     ensures ok { OnOk result (rows_of list.new.items ≡ changed_once [] change.now) }
-    ensures shelf { AreNodes list.new.items }
+    ensures err { OnErr result (list.new.items ≡ list.old.items) }
+    ensures nodes { AreNodes list.new.items }
 {
-    let mut pages = Branch::empty(alloc);
-    pages.change(alloc, change)?;
-    if !pages.is_empty() {
-        list.push(Arc::new(alloc, pages)?)?;
+    let mut branch = Branch::empty(alloc);
+    branch.change(alloc, change)?;
+    if !branch.is_empty() {
+        list.push(Arc::new(alloc, branch)?)?;
     }
     Ok(())
 }
 
-/// Puts pages in the place of those of a shelf: no shelf, one or two.
+/// Puts a branch in the place of another: none where it has no pages, and two where it has many.
 fn replace_branch(
     list: &mut Vec<Arc<Branch, Global>>,
     alloc: Global,
     at: usize,
-    pages: Branch,
+    branch: Branch,
 ) -> Result<(), AllocError>
     requires { at < vec_len list.old }
-    ensures ok { OnOk result (ReplacesNode list.old.items at pages list.new.items) }
+    ensures ok { OnOk result (ReplacesNode list.old.items at branch list.new.items) }
     ensures err { OnErr result (list.new.items ≡ list.old.items) }
 {
-    if pages.is_empty() {
+    if branch.is_empty() {
         list.remove(at);
         return Ok(());
     }
-    match pages.parts()? {
-        Parts::One(pages) => {
-            list[at] = Arc::new(alloc, pages)?;
+    match branch.parts()? {
+        Parts::One(branch) => {
+            list[at] = Arc::new(alloc, branch)?;
         }
         Parts::Two(lower, upper) => {
             let lower = Arc::new(alloc, lower)?;

@@ -1,3 +1,5 @@
+//! Walks over rows.
+
 ghost use Rattle.std.specs.Prelude.{◌≡◌, ◌++◌, List};
 ghost use Rattle.std.specs.Iterator.{YieldsFirstRef, item_count};
 ghost use Rattle.table_store.specs.Nodes.{rows_of, AllFilled};
@@ -15,7 +17,7 @@ use std::sync::Arc;
 pub struct Walk<'a> {
     rows: slice::Iter<'a, Record>,
     pages: slice::Iter<'a, Arc<Page, Global>>,
-    shelves: slice::Iter<'a, Arc<Branch, Global>>,
+    branches: slice::Iter<'a, Arc<Branch, Global>>,
 }
 
 impl<'a> Model for Walk<'a> {
@@ -26,26 +28,26 @@ impl<'a> Model for Walk<'a> {
 
     ghost Value = { List Record };
 
-    ghost view = { λ a. iter_rest a.rows ++ (rows_of (iter_rest a.pages) ++ rows_of (iter_rest a.shelves)) };
+    ghost view = { λ a. iter_rest a.rows ++ (rows_of (iter_rest a.pages) ++ rows_of (iter_rest a.branches)) };
 
-    ghost invariant = { λ a. AllFilled (iter_rest a.pages) × AllFilled (iter_rest a.shelves) };
+    ghost invariant = { λ a. AllFilled (iter_rest a.pages) × AllFilled (iter_rest a.branches) };
 }
 
 impl<'a> Walk<'a> {
-    /// These rows, then those of the pages, and then those of the shelves.
+    /// These rows, then those of the pages, and then those of the branches.
     pub(crate) fn new(
         rows: &'a [Record],
         pages: &'a [Arc<Page, Global>],
-        shelves: &'a [Arc<Branch, Global>],
+        branches: &'a [Arc<Branch, Global>],
     ) -> Walk<'a>
         requires pages { AllFilled pages.now }
-        requires shelves { AllFilled shelves.now }
-        ensures { result ≡ rows.now ++ (rows_of pages.now ++ rows_of shelves.now) }
+        requires branches { AllFilled branches.now }
+        ensures { result ≡ rows.now ++ (rows_of pages.now ++ rows_of branches.now) }
     {
         Walk {
             rows: rows.iter(),
             pages: pages.iter(),
-            shelves: shelves.iter(),
+            branches: branches.iter(),
         }
     }
 }
@@ -65,7 +67,7 @@ impl<'a> Iterator for Walk<'a> {
             self.rows = page.rows().iter();
             return self.rows.next();
         }
-        let (first, pages) = self.shelves.next()?.list().split_first()?;
+        let (first, pages) = self.branches.next()?.list().split_first()?;
         self.rows = first.rows().iter();
         self.pages = pages.iter();
         self.rows.next()

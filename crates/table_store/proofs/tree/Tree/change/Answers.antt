@@ -8,11 +8,11 @@ use Rattle.table_store.proofs.tree.Tree.change.Goals as goal
 pub invariant_of-self-2 : goal.invariant_of-self-2
 invariant_of-self-2 c =
     let count = rw c.deref.ensures.value at c.branches_up_to-count.ensures in
-    let made = c.in_ok-pages.ensures ∙ ap (λ rows. changed_once rows c.args.change.now) (c.deref-2.ensures ∙ ap arc_value c.index.ensures) in
+    let made = c.in_ok-branch.ensures ∙ ap (λ rows. changed_once rows c.args.change.now) (c.deref-2.ensures ∙ ap arc_value c.index.ensures) in
     changed_nodes c.args.change.now _ _ c.branches_up_to-count.result _ c.index.result.now _ count c.saturating_sub-at.ensures (grind (arith, common_steps)) made c.self.invariant _ c.replace_branch.ensures.ok c.replace_branch.ensures.err
 
-pub returns : goal.returns
-returns c =
+pub returns-clause-ok : goal.returns-clause-ok
+returns-clause-ok c =
     let count = rw c.deref.ensures.value at c.branches_up_to-count.ensures in
-    let made = c.in_ok-pages.ensures ∙ ap (λ rows. changed_once rows c.args.change.now) (c.deref-2.ensures ∙ ap arc_value c.index.ensures) in
+    let made = c.in_ok-branch.ensures ∙ ap (λ rows. changed_once rows c.args.change.now) (c.deref-2.ensures ∙ ap arc_value c.index.ensures) in
     rw (← c.self.view_is) (changed_ok c.args.change.now _ _ c.branches_up_to-count.result _ c.index.result.now _ count c.saturating_sub-at.ensures (grind (arith, common_steps)) made c.self.invariant _ c.replace_branch.ensures.ok)

@@ -17,8 +17,8 @@ returns-then-count-eq0 c =
     ∙ sym (rows_from-before key _ _ count c.if-count-eq0.true)
     ∙ ap (rows_from key) c.self.view_is
 
-pub new-requires-2-clause-shelves : goal.new-requires-2-clause-shelves
-new-requires-2-clause-shelves c =
+pub new-requires-2-clause-branches : goal.new-requires-2-clause-branches
+new-requires-2-clause-branches c =
     let n = c.branches_up_to-count.result in
     let shelves = c.deref-3.result.now in
     AllFilled-take (length shelves - n) (drop n shelves) (AllFilled-drop n shelves (rw c.deref-3.ensures.value c.self.invariant.filled))
