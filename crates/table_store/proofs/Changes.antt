@@ -14,7 +14,7 @@ changed-append : (rows : List Record) (changes : List Change) (change : Change) 
 changed-append rows [] change = refl
 changed-append rows (first ∷ changes) change = changed-append (changed_once rows first) changes change
 
-AllOfTable-append : (table : TableId) (xs ys : List Record) → AllOfTable table xs → AllOfTable table ys → AllOfTable table (xs ++ ys)
+pub AllOfTable-append : (table : TableId) (xs ys : List Record) → AllOfTable table xs → AllOfTable table ys → AllOfTable table (xs ++ ys)
 AllOfTable-append table [] ys p q = q
 AllOfTable-append table (x ∷ xs) ys p q = (p.0, AllOfTable-append table xs ys p.1 q)
 

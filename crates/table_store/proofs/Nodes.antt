@@ -267,3 +267,11 @@ module _ {Z : Type 0} where
 
   pub two_parts : (n : ℕ) (xs : List (Arc (List Record) Z)) → AllFilled xs → 0 < n → n < length xs → (rows_of (take n xs) ++ rows_of (drop n xs) ≡ rows_of xs) × (0 < length (rows_of (take n xs))) × (0 < length (rows_of (drop n xs)))
   two_parts n xs p low h = (sym (parted n xs), rows_of-some (take n xs) (AllFilled-take n xs p) (omega (arith, length-take n xs)), rows_of-some (drop n xs) (AllFilled-drop n xs p) (omega (arith, length-drop n xs)))
+
+  -- a node before the others
+  pub node_before : (xs : List (Arc (List Record) Z)) (x : Arc (List Record) Z) (rows new node : List Record) → arc_value x ≡ node → new ++ node ≡ rows → new ++ rows_of (x ∷ xs) ≡ rows ++ rows_of xs
+  node_before xs x rows new node e split = ap (λ l. new ++ (l ++ rows_of xs)) e ∙ sym (append_assoc new node (rows_of xs)) ∙ ap (λ l. l ++ rows_of xs) split
+
+-- what stands before rows that rise
+pub rising_front : (rows new node : List Record) → new ++ node ≡ rows → IsRising rows → IsRising new
+rising_front rows new node e up = IsRising-left new node (subst IsRising (sym e) up)

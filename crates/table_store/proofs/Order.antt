@@ -215,7 +215,7 @@ IsRising-filter : (p : Record → Bool) (rows : List Record) → IsRising rows �
 IsRising-filter p [] up = tt
 IsRising-filter p (row ∷ rows) up = filter_cons p IsRising row rows (λ _. (AllAbove-filter (key_of row) p rows up.0, IsRising-filter p rows up.1)) (IsRising-filter p rows up.1)
 
-lt_less : (o : Ordering) → is_lt o ≡ true → o ≡ Less
+pub lt_less : (o : Ordering) → is_lt o ≡ true → o ≡ Less
 lt_less Less h = refl
 lt_less Equal h = cc
 lt_less Greater h = cc

@@ -34,7 +34,7 @@ all_above key [] high = tt
 all_above key (row ∷ rows) high = (high 0 row (omega arith), all_above key rows (λ j d lt. high (suc j) d (omega arith)))
 
 -- each row is above the one before it
-next_above : (rows : List Record) (k : ℕ) (d : Record) → IsRising rows → suc k < length rows → key_cmp (key_of (get_or rows (suc k) d)) (key_of (get_or rows k d)) ≡ Greater
+pub next_above : (rows : List Record) (k : ℕ) (d : Record) → IsRising rows → suc k < length rows → key_cmp (key_of (get_or rows (suc k) d)) (key_of (get_or rows k d)) ≡ Greater
 next_above [] k d up h = absurd (omega arith)
 next_above (x ∷ []) k d up h = absurd (omega arith)
 next_above (x ∷ (y ∷ rows)) zero d up h = up.0.0

@@ -131,6 +131,21 @@ impl Branch {
         Ok(Parts::Two(self, Branch { list: upper }))
     }
 
+    /// Takes the last rows, as many as fill half of the pages of a branch.
+    pub(crate) fn of_last(alloc: Global, rows: &mut Vec<Record>) -> Result<Branch, AllocError>
+        requires some { 0 < vec_len rows.old }
+        requires rising { IsRising rows.old.items }
+        ensures ok { IfOk result (λ branch. rows.new.items ++ branch ≡ rows.old.items) }
+        ensures filled { IfOk result (λ branch. 0 < length branch) }
+    {
+        let mut list = Vec::with_capacity(alloc, BRANCH_PAGES / 2)?;
+        add_last(&mut list, alloc, rows)?;
+        for _at in 1..BRANCH_PAGES / 2 {
+            add_last(&mut list, alloc, rows)?;
+        }
+        Ok(Branch { list })
+    }
+
     /// Makes a change. The page of its key is made anew.
     pub(crate) fn change(&mut self, alloc: Global, change: &Change) -> Result<(), AllocError>
         ensures ok { OnOk result (self.new ≡ changed_once self.old change.now) }
@@ -144,6 +159,27 @@ impl Branch {
         let rows = self.list[at].changed_rows(alloc, change)?;
         replace_page(&mut self.list, alloc, at, rows)
     }
+}
+
+/// Puts a page of the last rows before the pages, if there are rows.
+fn add_last(
+    list: &mut Vec<Arc<Page, Global>>,
+    alloc: Global,
+    rows: &mut Vec<Record>,
+) -> Result<(), AllocError>
+    requires rising { IsRising rows.old.items }
+    ensures rows { OnOk result (rows.new.items ++ rows_of list.new.items ≡ rows.old.items ++ rows_of list.old.items) }
+    ensures filled { OnOk result (AllFilled list.old.items → AllFilled list.new.items) }
+    ensures rising { OnOk result (IsRising rows.new.items) }
+    ensures longer { OnOk result (vec_len list.old ≤ vec_len list.new) }
+    ensures some { OnOk result (0 < vec_len rows.old → 0 < vec_len list.new) }
+{
+    if rows.is_empty() {
+        return Ok(());
+    }
+    let page = Page::of_last(rows)?;
+    list.insert(0, Arc::new(alloc, page)?)?;
+    Ok(())
 }
 
 /// How many pages begin at or below the key.

@@ -1,6 +1,6 @@
 //! Pages of rows.
 
-ghost use Rattle.std.specs.Prelude.{◌≡◌, ◌≤◌, ◌++◌, IfOk, OnOk, MatchResult, vec_len, length};
+ghost use Rattle.std.specs.Prelude.{◌≡◌, ◌<◌, ◌≤◌, ◌++◌, IfOk, OnOk, MatchResult, vec_len, length};
 ghost use Rattle.std.specs.Option.{option_copied};
 ghost use Rattle.table_store.specs.Rows.{IsAt, IsGap, IsCut, IsPage, IsRising, first_order, row_at, rows_from, changed_once, left_by};
 ghost use Rattle.table_store.specs.SearchKey.{sought_key};
@@ -101,6 +101,18 @@ impl Page {
             Ok(at) => (at, at + 1),
             Err(at) => (at, at),
         }
+    }
+
+    /// Takes the last 64 rows, or all where they are fewer.
+    pub(crate) fn of_last(rows: &mut Vec<Record>) -> Result<Page, AllocError>
+        requires some { 0 < vec_len rows.old }
+        requires rising { IsRising rows.old.items }
+        ensures ok { IfOk result (λ page. rows.new.items ++ page ≡ rows.old.items) }
+        ensures filled { IfOk result (λ page. 0 < length page) }
+    {
+        let at = rows.len().saturating_sub(PAGE_ROWS);
+        let last = rows.split_off(at)?;
+        Ok(Page::from_rows(last))
     }
 
     /// A page of these rows.

@@ -43,6 +43,19 @@ impl Tree {
         }
     }
 
+    /// The tree of these rows.
+    pub(crate) fn of_rows(alloc: Global, mut rows: Vec<Record>) -> Result<Tree, AllocError>
+        requires { IsRising rows.items }
+        ensures { IfOk result (λ tree. tree ≡ rows.items) }
+    {
+        let mut list = Vec::new(alloc);
+        while !rows.is_empty() {
+            let branch = Branch::of_last(alloc, &mut rows)?;
+            list.insert(0, Arc::new(alloc, branch)?)?;
+        }
+        Ok(Tree { list })
+    }
+
     /// The same branches, shared.
     pub(crate) fn share(&self, alloc: Global) -> Result<Tree, AllocError>
         ensures { IfOk result (λ tree. tree ≡ self.now) }

@@ -1,6 +1,6 @@
 //! Versions of a table.
 
-ghost use Rattle.std.specs.Prelude.{◌≡◌, [], IfOk, IsTrue, ◌↔◌};
+ghost use Rattle.std.specs.Prelude.{◌≡◌, [], ◌↔◌, IfOk, IfSome, IsSome, IsTrue};
 ghost use Rattle.std.specs.Option.{option_copied};
 ghost use Rattle.db_records.specs.declared.table.TableId.{TableId};
 ghost use Rattle.table_store.specs.Rows.{AllFit, AllOfTable, Fits, IsRising, row_at, rows_from, changed, with_rows};
@@ -38,6 +38,23 @@ impl Version {
         ensures { IfOk result (λ version. version ≡ record { table = table; rows = [] }) }
     {
         Version::of_tree(alloc, table, Tree::empty(alloc))
+    }
+
+    /// The version of these rows, or None exactly where one of them isn't of the table or their keys
+    /// don't rise. The one error is want of memory.
+    pub fn from_rows(
+        alloc: Global,
+        table: TableId,
+        rows: Vec<Record>,
+    ) -> Result<Option<Version>, AllocError>
+        ensures rows { IfOk result (λ found. IfSome found (λ version. version ≡ record { table = table; rows = rows.items })) }
+        ensures exactly { IfOk result (λ found. IsSome found ↔ (AllOfTable table rows.items × IsRising rows.items)) }
+    {
+        if !are_of_table(table, &rows) || !are_rising(&rows) {
+            return Ok(None);
+        }
+        let tree = Tree::of_rows(alloc, rows)?;
+        Ok(Some(Version::of_tree(alloc, table, tree)?))
     }
 
     /// The version that has the rows of the tree.
@@ -112,4 +129,23 @@ impl Version {
     {
         Ok(Draft::of_tree(self.table, self.tree.share(alloc)?))
     }
+}
+
+/// Whether all rows are of the table.
+fn are_of_table(table: TableId, rows: &[Record]) -> bool
+    ensures { IsTrue result ↔ AllOfTable table rows.now }
+{
+    for row in rows {
+        if row.table() != table {
+            return false;
+        }
+    }
+    true
+}
+
+/// Whether the keys of the rows rise.
+fn are_rising(rows: &[Record]) -> bool
+    ensures { IsTrue result ↔ IsRising rows.now }
+{
+    rows.is_sorted_by(|low, high| low.compare(high).is_lt())
 }
