@@ -3,13 +3,13 @@ use Rattle.std.proofs.Common.{◌≡◌, ◌↔◌, ℕ, zero, suc, ◌+◌, ◌
 use mathlib.Core.Bool.{false≢true}
 use Rattle.std.specs.List.{IsAllAdjacentAnswer}
 use Rattle.std.specs.Ordering.{is_lt}
-use Rattle.std.specs.declared.cmp.Ordering.TheVariants.{Less, Equal, Greater}
+use Rattle.std.specs.declared.cmp.Ordering.TheVariants.{Less}
 use Rattle.std.proofs.lemmas.List.{take_more}
 use Rattle.db_records.specs.declared.record.Record.{Record}
 use Rattle.db_records.specs.declared.table.TableId.{TableId}
 use Rattle.db_records.specs.Key.{key_cmp}
 use Rattle.db_records.specs.Record.{key_of, table_of}
-use Rattle.table_store.specs.Rows.{AllAbove, AllOfTable, IsRising}
+use Rattle.table_store.specs.Rows.{AllOfTable, IsRising}
 use Rattle.table_store.proofs.Order.{turned_less, turned_greater, AllAbove-lower, lt_less}
 use Rattle.table_store.proofs.Place.{next_above, some_row}
 use Rattle.table_store.proofs.Changes.{AllOfTable-append}

@@ -110,3 +110,20 @@ fn rows_of_many_pages_come_and_go(rt: HostRuntime) -> Result<(), Fail> {
     assert!(rt; draft.get(&Key::Protect { line: 5 }).is_none());
     Ok(())
 }
+
+/// The version of two lines of the protections table, if these are in the order of their numbers.
+fn two_lines(alloc: Global, first: u32, second: u32) -> Result<Option<Version>, AllocError> {
+    let mut rows = Vec::new(alloc);
+    rows.push(line(alloc, Op::Put, first)?.row)?;
+    rows.push(line(alloc, Op::Put, second)?.row)?;
+    Version::from_rows(alloc, TableId::Protect, rows)
+}
+
+#[test]
+fn a_version_of_rows_in_key_order(rt: HostRuntime) -> Result<(), Fail> {
+    let alloc = rt.alloc();
+    assert!(rt; two_lines(alloc, 9, 9)?.is_none());
+    let found = two_lines(alloc, 9, 10)?;
+    assert!(rt; found.is_some_and(|version| version.get(&Key::Protect { line: 10 }).is_some()));
+    Ok(())
+}

@@ -1,4 +1,3 @@
-use mathlib.Core.Bool.{false≢true}
 use Rattle.std.proofs.Common.{rules}
 use Rattle.db_records.specs.Record.{table_of}
 use Rattle.std.proofs.Common.{◌≡◌}
