@@ -1,0 +1,49 @@
+-- Changes, one after another.
+use Rattle.std.proofs.Common.{◌≡◌, ℕ, ◌+◌, ◌<◌, Bool, true, false, cond, List, [], ◌∷◌, ◌++◌, length, take, drop, get_or, Result, Ok, Err, OnOk, OnErr, refl, sym, ap, ◌∙◌, subst}
+use Rattle.std.specs.List.{filter}
+use Rattle.std.proofs.lemmas.List.{take_more, drop_more}
+use Rattle.db_records.specs.declared.table.TableId.{TableId}
+use Rattle.db_records.specs.declared.record.Record.{Record}
+use Rattle.db_records.specs.declared.change.Change.{Change}
+use Rattle.db_records.specs.declared.change.Op.{Op}
+use Rattle.db_records.specs.declared.change.Op.TheVariants.{Put, Replace, Remove}
+use Rattle.db_records.specs.Record.{key_of, table_of}
+use Rattle.table_store.specs.Rows.{TableRows, is_below, is_above, AllOfTable, AllFit, Fits, with_rows, left_by, changed_once, changed}
+
+changed-append : (rows : List Record) (changes : List Change) (change : Change) → changed rows (changes ++ change ∷ []) ≡ changed_once (changed rows changes) change
+changed-append rows [] change = refl
+changed-append rows (first ∷ changes) change = changed-append (changed_once rows first) changes change
+
+pub AllOfTable-append : (table : TableId) (xs ys : List Record) → AllOfTable table xs → AllOfTable table ys → AllOfTable table (xs ++ ys)
+AllOfTable-append table [] ys p q = q
+AllOfTable-append table (x ∷ xs) ys p q = (p.0, AllOfTable-append table xs ys p.1 q)
+
+AllOfTable-filter : (table : TableId) (test : Record → Bool) (rows : List Record) → AllOfTable table rows → AllOfTable table (filter test rows)
+AllOfTable-filter table test [] all = tt
+AllOfTable-filter table test (row ∷ rows) all =
+    let rest = AllOfTable-filter table test rows all.1 in
+    elim (test row) as (λ b. AllOfTable table (cond b (row ∷ filter test rows) (filter test rows))) [ true ↦ (all.0, rest) | false ↦ rest ]
+
+AllOfTable-left : (table : TableId) (op : Op) (row : Record) → table_of row ≡ table → AllOfTable table (left_by op row)
+AllOfTable-left table Put row e = (e, tt)
+AllOfTable-left table Replace row e = (e, tt)
+AllOfTable-left table Remove row e = tt
+
+pub AllOfTable-changed : (table : TableId) (rows : List Record) (change : Change) → AllOfTable table rows → table_of change.row ≡ table → AllOfTable table (changed_once rows change)
+AllOfTable-changed table rows change all e =
+    let key = key_of change.row in
+    AllOfTable-append table (filter (is_below key) rows) (left_by change.op change.row ++ filter (is_above key) rows) (AllOfTable-filter table (is_below key) rows all)
+    (AllOfTable-append table (left_by change.op change.row) (filter (is_above key) rows) (AllOfTable-left table change.op change.row e) (AllOfTable-filter table (is_above key) rows all))
+
+-- a change that was made, or for which there was no memory
+pub AllOfTable-tried : {A E : Type 0} (table : TableId) (rows new : List Record) (change : Change) (r : Result A E) → OnOk r (new ≡ changed_once rows change) → OnErr r (new ≡ rows) → AllOfTable table rows → table_of change.row ≡ table → AllOfTable table new
+AllOfTable-tried table rows new change (Ok a) ok err all e = subst (AllOfTable table) (sym ok) (AllOfTable-changed table rows change all e)
+AllOfTable-tried table rows new change (Err a) ok err all e = subst (AllOfTable table) (sym err) all
+
+-- one more change
+module _ (changes : List Change) (i : ℕ) (change : Change) (h : i < length changes) (is : change ≡ get_or changes i change) where
+  pub changed_more : (rows : List Record) → changed rows (take (i + 1) changes) ≡ changed_once (changed rows (take i changes)) change
+  changed_more rows = ap (changed rows) (take_more changes i change h ∙ ap (λ c. take i changes ++ c ∷ []) (sym is)) ∙ changed-append rows (take i changes) change
+
+  pub fit_more : (version : TableRows) → AllFit version (drop i changes) → Fits version change × AllFit (with_rows version (changed_once version.rows change)) (drop (i + 1) changes)
+  fit_more version all = subst (AllFit version) (drop_more changes i change h ∙ ap (λ c. c ∷ drop (i + 1) changes) (sym is)) all

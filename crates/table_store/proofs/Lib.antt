@@ -1,0 +1,5 @@
+pub mod Order
+pub mod Place
+pub mod Nodes
+pub mod Changes
+pub mod Rising

@@ -1,0 +1,5 @@
+pub mod Nodes
+pub mod Rows
+pub mod SearchKey
+pub mod Parts
+pub mod Tables

@@ -1,0 +1,33 @@
+-- Branch of rows, each shared by an `Arc`.
+use Rattle.std.specs.Prelude.{◌≡◌, ℕ, ◌+◌, ◌-◌, ◌<◌, ◌≤◌, List, [], ◌∷◌, ◌++◌, length, take, drop}
+use Rattle.std.specs.Arc.{arc_value}
+use Rattle.std.specs.declared.sync.Arc.{Arc}
+use Rattle.db_records.specs.declared.key.Key.{Key}
+use Rattle.db_records.specs.declared.record.Record.{Record}
+use Rattle.table_store.specs.Rows.{AllBelow, AllAbove, IsRising}
+
+module _ {Z : Type 0} where
+  -- the rows of the pages, one page after another
+  abbrev pub rows_of : List (Arc (List Record) Z) → List Record
+  rows_of [] = []
+  rows_of (page ∷ pages) = arc_value page ++ rows_of pages
+
+  -- each page has rows
+  abbrev pub AllFilled : List (Arc (List Record) Z) → Type 0
+  AllFilled [] = Unit {0}
+  AllFilled (page ∷ pages) = (0 < length (arc_value page)) × AllFilled pages
+
+  pub record AreNodes (pages : List (Arc (List Record) Z)) : Type 0 where
+    pub filled : AllFilled pages
+    pub rising : IsRising (rows_of pages)
+
+  -- all rows before the page at n - 1 are below the key, and all from the page at n on are above it
+  pub record IsNodeCount (key : Key) (pages : List (Arc (List Record) Z)) (n : ℕ) : Type 0 where
+    pub in_range : n ≤ length pages
+    pub below : AllBelow key (rows_of (take (n - 1) pages))
+    pub above : AllAbove key (rows_of (drop n pages))
+
+  -- rows stand in the place of those of the page at place i
+  pub record ReplacesNode (old : List (Arc (List Record) Z)) (i : ℕ) (rows : List Record) (new : List (Arc (List Record) Z)) : Type 0 where
+    pub same_rows : rows_of new ≡ rows_of (take i old) ++ (rows ++ rows_of (drop (i + 1) old))
+    pub filled : AllFilled old → AllFilled new

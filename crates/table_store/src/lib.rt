@@ -1,0 +1,24 @@
+//! The rows of a depot's tables in memory, in versions that never change and share what they have
+//! in common.
+//!
+//! A [`Version`] holds the rows of one table in the order of their keys. A change makes a new
+//! version and leaves the old one as it is, so that who reads a version goes on reading it while
+//! the next one is made. [`Tables`] has a version of each table.
+#![tactic(auto)]
+
+mod branch;
+mod draft;
+mod page;
+mod search_key;
+mod tables;
+mod tree;
+mod version;
+mod walk;
+
+pub use draft::Draft;
+pub use tables::Tables;
+pub use version::Version;
+pub use walk::Walk;
+
+#[cfg(test)]
+mod tests;

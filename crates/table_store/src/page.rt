@@ -1,0 +1,147 @@
+//! Pages of rows.
+
+ghost use Rattle.std.specs.Prelude.{◌≡◌, ◌<◌, ◌≤◌, ◌++◌, IfOk, OnOk, MatchResult, vec_len, length};
+ghost use Rattle.std.specs.Option.{option_copied};
+ghost use Rattle.table_store.specs.Rows.{IsAt, IsGap, IsCut, IsPage, IsRising, first_order, row_at, rows_from, changed_once, left_by};
+ghost use Rattle.table_store.specs.SearchKey.{sought_key};
+
+use crate::search_key::SearchKey;
+use db_records::{Change, Op, Record};
+use std::alloc::{AllocError, Global};
+use std::cmp::Ordering;
+use std::marker::Model;
+
+/// The greatest number of rows in a page.
+pub(crate) const PAGE_ROWS: usize = 64;
+
+/// From 1 to 64 rows, in key order.
+#[derive(Drop)]
+pub(crate) struct Page {
+    rows: Vec<Record>,
+}
+
+impl Model for Page {
+    ghost use Rattle.std.specs.Prelude.{List};
+    ghost use Rattle.db_records.specs.declared.record.Record.{Record};
+    ghost use Rattle.table_store.specs.Rows.{IsPage};
+
+    ghost Value = { List Record };
+
+    ghost view = { λ a. a.rows.items };
+
+    ghost invariant = { λ a. IsPage a.rows.items };
+}
+
+impl Page {
+    /// All rows of the page.
+    pub(crate) fn rows(&self) -> &[Record]
+        ensures { result.now ≡ self.now }
+    {
+        &self.rows
+    }
+
+    /// The order of the first row's key and the key that is looked for.
+    pub(crate) fn first_order(&self, sought: SearchKey<'_>) -> Ordering
+        ensures { result ≡ first_order self.now (sought_key sought.entry) }
+    {
+        sought.order_of(&self.rows[0])
+    }
+
+    /// Where the key is, or where it would go.
+    fn find(&self, sought: SearchKey<'_>) -> Result<usize, usize>
+        ensures place { MatchResult result (IsAt (sought_key sought.entry) self.now) (IsGap (sought_key sought.entry) self.now) }
+        ensures short { length self.now ≤ 64 }
+    {
+        self.rows.binary_search_by(|row| sought.order_of(row))
+    }
+
+    /// The row that has the key.
+    pub(crate) fn get(&self, sought: SearchKey<'_>) -> Option<&Record>
+        ensures { option_copied result ≡ row_at (sought_key sought.entry) self.now }
+    {
+        match self.find(sought) {
+            Ok(at) => Some(&self.rows[at]),
+            Err(_) => None,
+        }
+    }
+
+    /// The rows from the first at or above the key.
+    pub(crate) fn rows_from(&self, sought: SearchKey<'_>) -> &[Record]
+        ensures { result.now ≡ rows_from (sought_key sought.entry) self.now }
+    {
+        match self.find(sought) {
+            Ok(at) => &self.rows[at..],
+            Err(at) => &self.rows[at..],
+        }
+    }
+
+    /// The rows after a change, at most one more than before.
+    pub(crate) fn changed_rows(
+        &self,
+        alloc: Global,
+        change: &Change,
+    ) -> Result<Vec<Record>, AllocError>
+        ensures ok { IfOk result (λ rows. rows.items ≡ changed_once self.now change.now) }
+        ensures short { IfOk result (λ rows. vec_len rows ≤ 65) }
+        ensures rising { IfOk result (λ rows. IsRising rows.items) }
+    {
+        let (before, after) = self.cut(SearchKey::OfRow(&change.row));
+        let mut rows = Vec::with_capacity(alloc, self.rows.len() + 1)?;
+        append_copies(&mut rows, alloc, &self.rows[..before])?;
+        append_left(&mut rows, alloc, change)?;
+        append_copies(&mut rows, alloc, &self.rows[after..])?;
+        Ok(rows)
+    }
+
+    /// How many rows are below the key, and how many are below or at it.
+    fn cut(&self, sought: SearchKey<'_>) -> (usize, usize)
+        ensures { IsCut (sought_key sought.entry) self.now result.0 result.1 }
+    {
+        match self.find(sought) {
+            Ok(at) => (at, at + 1),
+            Err(at) => (at, at),
+        }
+    }
+
+    /// Takes the last 64 rows, or all where they are fewer.
+    pub(crate) fn of_last(rows: &mut Vec<Record>) -> Result<Page, AllocError>
+        requires some { 0 < vec_len rows.old }
+        requires rising { IsRising rows.old.items }
+        ensures ok { IfOk result (λ page. rows.new.items ++ page ≡ rows.old.items) }
+        ensures filled { IfOk result (λ page. 0 < length page) }
+    {
+        let at = rows.len().saturating_sub(PAGE_ROWS);
+        let last = rows.split_off(at)?;
+        Ok(Page::from_rows(last))
+    }
+
+    /// A page of these rows.
+    pub(crate) fn from_rows(rows: Vec<Record>) -> Page
+        requires { IsPage rows.items }
+        ensures { result ≡ rows.items }
+    {
+        Page { rows }
+    }
+}
+
+/// Puts the row that a change leaves, if it does, behind the rows.
+fn append_left(rows: &mut Vec<Record>, alloc: Global, change: &Change) -> Result<(), AllocError>
+    ensures { OnOk result (rows.new.items ≡ rows.old.items ++ left_by change.now.op change.now.row) }
+{
+    match change.op {
+        Op::Put => rows.push(change.row.copy()?)?,
+        Op::Replace => rows.push(change.row.copy()?)?,
+        Op::Remove => {}
+    }
+    Ok(())
+}
+
+/// Puts copies of more rows behind the rows.
+fn append_copies(rows: &mut Vec<Record>, alloc: Global, more: &[Record]) -> Result<(), AllocError>
+    ensures { OnOk result (rows.new.items ≡ rows.old.items ++ more.now) }
+{
+    for row in more {
+        rows.push(row.copy()?)?;
+    }
+    Ok(())
+}

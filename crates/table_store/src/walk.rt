@@ -1,0 +1,75 @@
+//! Walks over rows.
+
+ghost use Rattle.std.specs.Prelude.{◌≡◌, ◌++◌, List};
+ghost use Rattle.std.specs.Iterator.{YieldsFirstRef, item_count};
+ghost use Rattle.table_store.specs.Nodes.{rows_of, AllFilled};
+
+use crate::branch::Branch;
+use crate::page::Page;
+use db_records::Record;
+use std::alloc::Global;
+use std::marker::Model;
+use std::slice;
+use std::sync::Arc;
+
+/// The rows of a version from a place on, in key order.
+#[derive(Drop)]
+pub struct Walk<'a> {
+    rows: slice::Iter<'a, Record>,
+    pages: slice::Iter<'a, Arc<Page, Global>>,
+    branches: slice::Iter<'a, Arc<Branch, Global>>,
+}
+
+impl<'a> Model for Walk<'a> {
+    ghost use Rattle.std.specs.Prelude.{List, ◌++◌};
+    ghost use Rattle.std.specs.Slice.Iter.{iter_rest};
+    ghost use Rattle.db_records.specs.declared.record.Record.{Record};
+    ghost use Rattle.table_store.specs.Nodes.{rows_of, AllFilled};
+
+    ghost Value = { List Record };
+
+    ghost view = { λ a. iter_rest a.rows ++ (rows_of (iter_rest a.pages) ++ rows_of (iter_rest a.branches)) };
+
+    ghost invariant = { λ a. AllFilled (iter_rest a.pages) × AllFilled (iter_rest a.branches) };
+}
+
+impl<'a> Walk<'a> {
+    /// These rows, then those of the pages, and then those of the branches.
+    pub(crate) fn new(
+        rows: &'a [Record],
+        pages: &'a [Arc<Page, Global>],
+        branches: &'a [Arc<Branch, Global>],
+    ) -> Walk<'a>
+        requires pages { AllFilled pages.now }
+        requires branches { AllFilled branches.now }
+        ensures { result ≡ rows.now ++ (rows_of pages.now ++ rows_of branches.now) }
+    {
+        Walk {
+            rows: rows.iter(),
+            pages: pages.iter(),
+            branches: branches.iter(),
+        }
+    }
+}
+
+impl<'a> Iterator for Walk<'a> {
+    type Item = &'a Record;
+
+    ghost next_gives = { YieldsFirstRef (λ s. s) };
+
+    ghost remaining = { item_count (λ s. s) };
+
+    fn next(&mut self) -> Option<&'a Record> {
+        if let Some(row) = self.rows.next() {
+            return Some(row);
+        }
+        if let Some(page) = self.pages.next() {
+            self.rows = page.rows().iter();
+            return self.rows.next();
+        }
+        let (first, pages) = self.branches.next()?.list().split_first()?;
+        self.rows = first.rows().iter();
+        self.pages = pages.iter();
+        self.rows.next()
+    }
+}
