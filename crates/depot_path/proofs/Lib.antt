@@ -6,3 +6,5 @@ pub mod Texts
 pub mod Rows
 pub mod Dates
 pub mod Ends
+pub mod PathOrder
+mod Examples

@@ -402,13 +402,13 @@ none_barred (Percent ∷ marks) h = none_barred marks h.1
 
 -- ---- the marks of a path, as it is printed
 
-abbrev mark_of : ℕ → Mark
+abbrev pub mark_of : ℕ → Mark
 mark_of b = cond (b == 0x40) At (cond (b == 0x23) Hash (cond (b == 0x2A) Star (cond (b == 0x25) Percent (Plain b))))
 
-record IsMarkOf (b : ℕ) (m : Mark) : Type 0 where
-  is : IsMark m
-  source_is : source m ≡ escaped b
-  value_is : value m ≡ b
+pub record IsMarkOf (b : ℕ) (m : Mark) : Type 0 where
+  pub is : IsMark m
+  pub source_is : source m ≡ escaped b
+  pub value_is : value m ≡ b
 
 abbrev choice : ℕ → Bool → Bool → Bool → Bool → Mark
 choice b c d e f = cond c At (cond d Hash (cond e Star (cond f Percent (Plain b))))
@@ -426,7 +426,7 @@ choices b false false true f p q r t = (tt, refl, sym (eqb-true b 0x2A r))
 choices b false false false true p q r t = (tt, refl, sym (eqb-true b 0x25 t))
 choices b false false false false p q r t = (record { no_at = p; no_hash = q; no_star = r; no_percent = t }, refl, refl)
 
-mark_is : (b : ℕ) → IsMarkOf b (mark_of b)
+pub mark_is : (b : ℕ) → IsMarkOf b (mark_of b)
 mark_is b =
     let h : IsChoice b (b == 0x40) (b == 0x23) (b == 0x2A) (b == 0x25) = choices b (b == 0x40) (b == 0x23) (b == 0x2A) (b == 0x25) refl refl refl refl in
     record { is = h.0; source_is = h.1; value_is = h.2 }

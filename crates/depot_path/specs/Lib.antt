@@ -9,3 +9,4 @@ pub mod Fit
 pub mod Rows
 pub mod Date
 pub mod Revision
+pub mod Order

@@ -11,6 +11,7 @@ mod fault;
 mod file_spec;
 mod fit;
 mod name;
+mod order;
 mod path;
 mod pattern;
 mod piece;

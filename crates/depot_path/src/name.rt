@@ -1,6 +1,9 @@
 //! Names of users, clients, hosts, groups, labels and counters.
 
-ghost use Rattle.std.specs.Prelude.{◌≡◌};
+ghost use Rattle.std.specs.Prelude.{◌≡◌, nat_eq, Some, refl};
+ghost use Rattle.std.specs.Cmp.{partial_equiv_from_equiv};
+ghost use Rattle.std.specs.Cmp.Lexicographic.{pointwise, slice_cmp, nat_list_cmp_total, nat_list_eq_equiv, texts_ties, texts_po};
+ghost use Rattle.std.specs.Ordering.{nat_cmp};
 ghost use Rattle.std.specs.List.{list_all, list_any};
 ghost use Rattle.depot_path.specs.Answers.{Answers};
 ghost use Rattle.depot_path.specs.Bytes.{is_digit};
@@ -9,6 +12,7 @@ ghost use Rattle.depot_path.specs.Name.{is_barred, name_of, is_name as name_test
 use crate::text::Text;
 use crate::utf8::is_utf8;
 use std::alloc::Global;
+use std::cmp::Ordering;
 use std::marker::Model;
 
 /// Why a text is no name.
@@ -87,5 +91,43 @@ impl Name {
         ensures { result.now ≡ self.now }
     {
         self.text.as_bytes()
+    }
+}
+
+impl PartialEq for Name {
+    ghost eq = { pointwise nat_eq };
+
+    ghost laws = { partial_equiv_from_equiv nat_list_eq_equiv };
+
+    fn eq(&self, other: &Name) -> bool {
+        self.as_bytes() == other.as_bytes()
+    }
+}
+
+impl Eq for Name {
+    ghost laws = { nat_list_eq_equiv };
+}
+
+impl PartialOrd for Name {
+    ghost partial_cmp = { λ a b. Some (slice_cmp nat_cmp a b) };
+
+    ghost laws = { texts_po };
+
+    fn partial_cmp(&self, other: &Name) -> Option<Ordering> {
+        Some(self.cmp(other))
+    }
+}
+
+impl Ord for Name {
+    ghost cmp = { slice_cmp nat_cmp };
+
+    ghost total = { nat_list_cmp_total };
+
+    ghost matches_partial_cmp = { λ a b. refl };
+
+    ghost matches_eq = { texts_ties };
+
+    fn cmp(&self, other: &Name) -> Ordering {
+        self.as_bytes().cmp(other.as_bytes())
     }
 }
