@@ -2,3 +2,8 @@ pub mod Answers
 pub mod Bytes
 pub mod Utf8
 pub mod Name
+pub mod Fault
+pub mod Path
+pub mod Pattern
+pub mod Fit
+pub mod Rows

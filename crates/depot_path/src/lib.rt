@@ -1,15 +1,26 @@
-//! Texts, names and lists: what the values of every layer are made of.
+//! Texts, names and lists, which the values of every layer are made of; depot paths, the patterns that select them, and file specifications.
 //!
 //! Each of these types is seen by contracts as a plain list, so that a definition speaks of bytes
 //! and lists alone, and two values are compared by `≡`.
 #![tactic(auto)]
 
+mod component;
+mod escape;
+mod fault;
+mod fit;
 mod name;
+mod path;
+mod pattern;
+mod piece;
 mod sequence;
 mod text;
 mod utf8;
 
+pub use fault::PathFault;
 pub use name::{Name, NameFault, is_name};
+pub use path::{ClientPath, DepotPath, is_path};
+pub use pattern::{Pattern, texts_come_first};
+pub use piece::Piece;
 pub use sequence::Sequence;
 pub use text::Text;
 pub use utf8::{Tail, is_utf8};

@@ -1,0 +1,7 @@
+use Rattle.std.proofs.Common.{ap, sym, ◌∙◌}
+use Rattle.depot_path.specs.Path.{is_path}
+use Rattle.depot_path.proofs.Paths.{reads_path}
+use Rattle.depot_path.proofs.path.DepotPath.read.Goals as goal
+
+pub invariant_of-result : goal.invariant_of-result
+invariant_of-result c = ap is_path c.in-Ok.ensures ∙ reads_path c.args.text.now (sym c.path_fault.ensures ∙ c.in_default.is)
