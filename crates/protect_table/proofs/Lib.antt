@@ -1,0 +1,5 @@
+pub mod Places
+pub mod WordLemmas
+pub mod Standing
+pub mod Lines
+mod Values
