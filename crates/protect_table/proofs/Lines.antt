@@ -1,5 +1,6 @@
 -- How the lines read so far go on by one.
-use Rattle.std.proofs.Common.{◌≡◌, ◌⊎◌, inl, inr, ℕ, zero, suc, ◌+◌, ◌<◌, ◌≤◌, Bool, true, false, cond, List, [], ◌∷◌, ◌++◌, length, drop, get_or, refl, sym, ap, subst, ◌∙◌, append_assoc, append_nil, add-one, arith, Result, Ok, Err}
+use Rattle.std.proofs.Common.{◌≡◌, ◌⊎◌, inl, inr, ℕ, zero, suc, ◌+◌, ◌<◌, ◌≤◌, Bool, true, false, cond, List, [], ◌∷◌, ◌++◌, length, drop, get_or, refl, sym, ap, subst, ◌∙◌, append_assoc, add-one, arith, Result, Ok, Err}
+use Rattle.std.proofs.lemmas.List.{append-nil}
 use Rattle.depot_path.specs.Answers.{Answers, ◌>>=◌, on_ok, on_err}
 use Rattle.protect_table.specs.Line.{line_of, in_line, no_memory, is_memory, lines_from, table_of}
 use Rattle.protect_table.specs.declared.line.ProtectLine.{ProtectLine}
@@ -32,9 +33,9 @@ pub one_more : (texts : List (List ℕ)) (read : List ProtectLine) (i : ℕ) (d 
     Answers Memory (Ok line) (line_of (get_or texts i d)) → HasRead texts (read ++ line ∷ []) (i + 1)
 one_more texts read i d line low h is = record {
   goes_on =
-    sym (pushed read line (lines_from (i + 1 + 1) (drop (i + 1) texts)))
-    ∙ ap (λ r. after_these read (on_err (in_line (i + 1)) r >>= (λ line. on_ok (λ lines. line ∷ lines) (lines_from (i + 1 + 1) (drop (i + 1) texts))))) (sym (is_line line (line_of (get_or texts i d)) is))
-    ∙ ap (after_these read) (sym (at_step (i + 1) texts i d low)) ∙ h.goes_on
+      sym (pushed read line (lines_from (i + 1 + 1) (drop (i + 1) texts)))
+      ∙ ap (λ r. after_these read (on_err (in_line (i + 1)) r >>= (λ line. on_ok (λ lines. line ∷ lines) (lines_from (i + 1 + 1) (drop (i + 1) texts))))) (sym (is_line line (line_of (get_or texts i d)) is))
+      ∙ ap (after_these read) (sym (at_step (i + 1) texts i d low)) ∙ h.goes_on;
 }
 
 bad_line : (texts : List (List ℕ)) (read : List ProtectLine) (i : ℕ) (d : List ℕ) (what : LineFault) → i < length texts → HasRead texts read i →
@@ -75,4 +76,4 @@ no_more n (text ∷ texts) read zero low = absurd (omega arith)
 no_more n (text ∷ texts) read (suc i) low = no_more n texts read i (omega arith)
 
 pub all_read : (texts : List (List ℕ)) (read : List ProtectLine) (i : ℕ) → length texts ≤ i → HasRead texts read i → Answers no_memory (Ok read) (table_of texts)
-all_read texts read i low h = record { is = inr (ap Ok (sym (append_nil read)) ∙ sym (no_more (i + 1) texts read i low) ∙ h.goes_on) }
+all_read texts read i low h = record { is = inr (ap Ok (sym (append-nil read)) ∙ sym (no_more (i + 1) texts read i low) ∙ h.goes_on) }

@@ -49,8 +49,8 @@ pub begun : (text : List ℕ) (row : List Bool) (at : ℕ) → at ≡ length tex
 begun text row at e room = record {
   within = omega (arith, e);
   done = λ k low up.
-    let same : k ≡ at = omega (arith, e, low, up) in
-    get_or-set_at row at k true false same (omega (arith, e)) ∙ sym (at_drop_all is_empty text k (omega (arith, e, low)))
+      let same : k ≡ at = omega (arith, e, low, up) in
+      get_or-set_at row at k true false same (omega (arith, e)) ∙ sym (at_drop_all is_empty text k (omega (arith, e, low)));
 }
 
 pub begun_more : (text : List ℕ) (row : List Bool) (k at : ℕ) → at ≡ k + 1 → length text < length row → Begun text row at → Begun text (slice_set row k false) k
@@ -61,7 +61,7 @@ begun_more text row k at e room h = record {
     | inr le ↦
         let same : j ≡ k = omega (arith, low, le) in
         get_or-set_at row k j false false same (omega (arith, h.within, e)) ∙ sym (not_empty j text (omega (arith, h.within, e, same)))
-  ]
+  ];
 }
 
 -- ---- a row after one place more
@@ -83,11 +83,11 @@ adding_begins byte text row at below r e room b f = record {
     under = b ∙ is.at at (omega (arith, e));
     before = λ k low. other_place row at k r (λ same. omega (arith, same, low)) ∙ is.at k (omega (arith, e, low));
     done = λ k low up.
-      let same : k ≡ at = omega (arith, e, low, up) in
-      let here : below ≡ fits_word word [] = b ∙ is.at at (omega (arith, e)) ∙ at_drop_all (fits_word word) text at (omega (arith, e)) in
-      get_or-set_at row at k r false same (omega (arith, e)) ∙ f ∙ ap (at_end byte) here ∙ sym (end_step byte word)
-      ∙ sym (at_drop_all (fits_word (byte ∷ word)) text k (omega (arith, e, low)))
-  }
+        let same : k ≡ at = omega (arith, e, low, up) in
+        let here : below ≡ fits_word word [] = b ∙ is.at at (omega (arith, e)) ∙ at_drop_all (fits_word word) text at (omega (arith, e)) in
+        get_or-set_at row at k r false same (omega (arith, e)) ∙ f ∙ ap (at_end byte) here ∙ sym (end_step byte word)
+        ∙ sym (at_drop_all (fits_word (byte ∷ word)) text k (omega (arith, e, low)));
+  };
 }
 
 add_at : (byte : ℕ) (word text : List ℕ) (row : List Bool) (k : ℕ) (below r : Bool) (d : ℕ) → Added byte word text row (k + 1) below →
@@ -156,7 +156,18 @@ anywhere : (t : List ℕ) → at_some_place is_empty t ≡ true
 anywhere [] = refl
 anywhere (b ∷ t) = anywhere t
 
-pub any_text : (word text : List ℕ) → 1 ≤ length word → slice_index word 0 ≡ 42 → length (drop 1 word) ≡ 0 → fits_word word text ≡ true
-any_text [] text h e z = absurd (omega arith)
-any_text (b ∷ c ∷ word) text h e z = absurd (omega arith)
-any_text (b ∷ []) text h e z = ap (λ c. fits_word (c ∷ []) text) e ∙ anywhere text
+pub any_text : (word text : List ℕ) → length word ≡ 1 → slice_index word 0 ≡ 42 → fits_word word text ≡ true
+any_text [] text h e = absurd (omega arith)
+any_text (b ∷ c ∷ word) text h e = absurd (omega arith)
+any_text (b ∷ []) text h e = ap (λ c. fits_word (c ∷ []) text) e ∙ anywhere text
+
+pub step_up : (word text : List ℕ) → 1 ≤ length word → 1 ≤ length text →
+    fits_word word text ≡ with_place (slice_index word 0) (slice_index text 0) (fits_word (drop 1 word) text) (fits_word (drop 1 word) (drop 1 text)) (fits_word word (drop 1 text))
+step_up [] text h k = absurd (omega arith)
+step_up (b ∷ word) [] h k = absurd (omega arith)
+step_up (b ∷ word) (c ∷ text) h k = step b word c text
+
+pub end_step_up : (word text : List ℕ) → 1 ≤ length word → length text < 1 → fits_word word text ≡ at_end (slice_index word 0) (fits_word (drop 1 word) text)
+end_step_up [] text h k = absurd (omega arith)
+end_step_up (b ∷ word) (c ∷ text) h k = absurd (omega arith)
+end_step_up (b ∷ word) [] h k = end_step b word

@@ -49,7 +49,7 @@ pub record Undecided (g d : Test) (lines : List ProtectLine) (at : ℕ) : Type 0
   pub open_yet : stands g d lines ≡ stands g d (take at lines)
 
 pub undecided : (g d : Test) (lines : List ProtectLine) (at : ℕ) → at ≡ length lines → Undecided g d lines at
-undecided g d lines at e = record { within = omega (arith, e); open_yet = ap (stands g d) (sym (take_all lines at (omega (arith, e)))) }
+undecided g d lines at e = record { within = omega (arith, e); open_yet = ap (stands g d) (sym (take_all at lines (omega (arith, e)))) }
 
 none_bools : (g d s : Bool) → verdict g d ≡ None → (g || (not d && s)) ≡ s
 none_bools true d s e = absurd cc
@@ -71,7 +71,7 @@ pub undecided_more : (g d : Test) (lines : List ProtectLine) (k at : ℕ) (x : P
     verdict (g (get_or lines k x)) (d (get_or lines k x)) ≡ None → Undecided g d lines k
 undecided_more g d lines k at x e h no = record {
   within = omega (arith, h.within, e);
-  open_yet = here g d lines k at x e h ∙ none_bools (g (get_or lines k x)) (d (get_or lines k x)) (stands g d (take k lines)) no
+  open_yet = here g d lines k at x e h ∙ none_bools (g (get_or lines k x)) (d (get_or lines k x)) (stands g d (take k lines)) no;
 }
 
 some_lines : (g d : Test) (lines : List ProtectLine) → 1 ≤ length lines → granted g d lines ≡ stands g d lines

@@ -58,7 +58,7 @@ unfolding IsSplit
 split quoted [] = refl
 split quoted (b ∷ text) =
     split_by (parts_words quoted b) b text (word_length (quoted_after quoted b) text) (between_spaces (quoted_after quoted b) text)
-        (λ e. ap (λ q. between_spaces q text) (outside quoted b e)) (split (quoted_after quoted b) text)
+    (λ e. ap (λ q. between_spaces q text) (outside quoted b e)) (split (quoted_after quoted b) text)
 
 words_in : List (List ℕ) → List (List ℕ)
 words_in parts = filter is_word parts

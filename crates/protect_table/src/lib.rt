@@ -18,4 +18,3 @@ pub use mode::{Grantee, Mode};
 pub use protects::Protects;
 pub use who::{Level, Who};
 pub use words::line_words;
-

@@ -1,6 +1,7 @@
 //! The modes of lines, and whom a line is for.
 
 ghost use Rattle.std.specs.Prelude.{◌≡◌};
+ghost use Rattle.depot_path.specs.Bytes.{same};
 ghost use Rattle.protect_table.specs.Mode.{mode_of, single_mode_of, grantee_of, grants as mode_grants, denies as mode_denies, need_of, is_single};
 
 /// What a line grants, or denies where it is an exclusion (Command-Line Reference, "p4 protect", "Permission levels and access rights").
@@ -35,16 +36,25 @@ pub enum Grantee {
     Group,
 }
 
+fn is_same(word: &[u8], name: &[u8]) -> bool
+    ensures { result ≡ same word.now name.now }
+{
+    word == name
+}
+
 impl Mode {
     /// The mode of a single right that a word names.
     fn single_from_word(word: &[u8]) -> Option<Self>
         ensures { result ≡ single_mode_of word.now }
     {
-        match word {
-            b"=read" => Some(Mode::ReadAlone),
-            b"=open" => Some(Mode::OpenAlone),
-            b"=write" => Some(Mode::WriteAlone),
-            _ => None,
+        if is_same(word, b"=read") {
+            Some(Mode::ReadAlone)
+        } else if is_same(word, b"=open") {
+            Some(Mode::OpenAlone)
+        } else if is_same(word, b"=write") {
+            Some(Mode::WriteAlone)
+        } else {
+            None
         }
     }
 
@@ -52,14 +62,20 @@ impl Mode {
     pub(crate) fn from_word(word: &[u8]) -> Option<Self>
         ensures { result ≡ mode_of word.now }
     {
-        match word {
-            b"list" => Some(Mode::List),
-            b"read" => Some(Mode::Read),
-            b"open" => Some(Mode::Open),
-            b"write" => Some(Mode::Write),
-            b"admin" => Some(Mode::Admin),
-            b"super" => Some(Mode::Super),
-            _ => Self::single_from_word(word),
+        if is_same(word, b"list") {
+            Some(Mode::List)
+        } else if is_same(word, b"read") {
+            Some(Mode::Read)
+        } else if is_same(word, b"open") {
+            Some(Mode::Open)
+        } else if is_same(word, b"write") {
+            Some(Mode::Write)
+        } else if is_same(word, b"admin") {
+            Some(Mode::Admin)
+        } else if is_same(word, b"super") {
+            Some(Mode::Super)
+        } else {
+            Self::single_from_word(word)
         }
     }
 

@@ -4,7 +4,7 @@ use Rattle.protect_table.proofs.Places.{adding, adding_begins}
 use Rattle.protect_table.proofs.wildcard.add_byte.Goals as goal
 
 pub loop-at-init : goal.loop-at-init
-loop-at-init c = adding_begins c.args.byte c.args.text.now c.args.row.now c.len.result _ c.at_end.result (omega arith) (omega (arith, c.requires)) refl c.at_end.ensures
+loop-at-init c = adding_begins c.args.byte c.args.text.now c.args.row.now _ _ c.at_end.result refl (omega (arith, c.requires)) refl c.at_end.ensures
 
 pub loop-at-preserved : goal.loop-at-preserved
 loop-at-preserved c =
