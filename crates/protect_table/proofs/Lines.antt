@@ -54,8 +54,8 @@ fault_is n Memory expected e = record { is = inl refl }
 wants : (n : ℕ) (what : LineFault) (expected : Result (List ProtectLine) ProtectFault) → what ≡ Memory → Answers no_memory (Err (cond (is_memory what) no_memory (in_line n what))) expected
 wants n what expected e = record { is = inl (ap (λ w. Err (cond (is_memory w) no_memory (in_line n w))) e) }
 
-is_memory_fault : (fault : LineFault) → Err {T = ProtectLine} fault ≡ Err Memory → fault ≡ Memory
-is_memory_fault fault e = cc
+is_memory_fault : (fault : LineFault) (x y : Result ProtectLine LineFault) → x ≡ Err fault → y ≡ Err Memory → x ≡ y → fault ≡ Memory
+is_memory_fault fault x y e f h = cc
 
 is_that_fault : (fault : LineFault) (expected : Result ProtectLine LineFault) → Err fault ≡ expected → expected ≡ Err fault
 is_that_fault fault expected e = sym e
@@ -65,7 +65,7 @@ pub stops : (texts : List (List ℕ)) (read : List ProtectLine) (i : ℕ) (d : L
 stops texts read i d what fault low h is e =
     let P : ProtectFault → Type 0 = λ f. Answers no_memory (Err f) (table_of texts) in
     subst P (sym e) (elim is.is [
-      | inl m ↦ wants (i + 1) what (table_of texts) (is_memory_fault what m)
+      | inl m ↦ wants (i + 1) what (table_of texts) (is_memory_fault what _ _ refl refl m)
       | inr k ↦ fault_is (i + 1) what (table_of texts) (bad_line texts read i d what low h (sym k))
     ])
 

@@ -69,7 +69,7 @@ here g d lines k at x e h =
 
 pub undecided_more : (g d : Test) (lines : List ProtectLine) (k at : ℕ) (x : ProtectLine) → at ≡ k + 1 → Undecided g d lines at →
     verdict (g (get_or lines k x)) (d (get_or lines k x)) ≡ None → Undecided g d lines k
-undecided_more g d lines k at x e h no = record {
+undecided_more g d lines k at x e h still = record {
   within = omega (arith, h.within, e);
   open_yet = here g d lines k at x e h ∙ none_bools (g (get_or lines k x)) (d (get_or lines k x)) (stands g d (take k lines)) no;
 }
@@ -80,9 +80,9 @@ some_lines g d (y ∷ lines) long = refl
 
 pub decided : (g d : Test) (lines : List ProtectLine) (k at : ℕ) (x : ProtectLine) (r : Bool) → at ≡ k + 1 → Undecided g d lines at →
     verdict (g (get_or lines k x)) (d (get_or lines k x)) ≡ Some r → granted g d lines ≡ r
-decided g d lines k at x r e h yes =
+decided g d lines k at x r e h told =
     some_lines g d lines (omega (arith, h.within, e)) ∙ here g d lines k at x e h
-    ∙ some_bools (g (get_or lines k x)) (d (get_or lines k x)) (stands g d (take k lines)) r yes
+    ∙ some_bools (g (get_or lines k x)) (d (get_or lines k x)) (stands g d (take k lines)) r told
 
 pub nothing_decides : (g d : Test) (lines : List ProtectLine) (at : ℕ) → at ≡ 0 → Undecided g d lines at → granted g d lines ≡ is_none lines
 nothing_decides g d [] at e h = refl

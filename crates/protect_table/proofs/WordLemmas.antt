@@ -1,9 +1,10 @@
 -- How the words of a line follow from its first word and the rest.
-use Rattle.std.proofs.Common.{◌≡◌, ℕ, zero, suc, ◌+◌, ◌<◌, ◌≤◌, Bool, true, false, cond, eqb, List, [], ◌∷◌, length, take, drop, slice_index, refl, sym, ap, subst, ◌∙◌, arith}
-use Rattle.std.specs.Prelude.{◌&&◌, not, ◌==◌, filter, take_while}
+use Rattle.std.proofs.Common.{◌≡◌, ℕ, zero, suc, ◌+◌, ◌-◌, ◌<◌, ◌≤◌, Bool, true, false, cond, eqb, List, [], ◌∷◌, length, take, drop, slice_index, refl, sym, ap, subst, ◌∙◌, arith, length-drop}
+use Rattle.std.specs.Prelude.{◌&&◌, not, ◌==◌, filter}
 use Rattle.std.specs.List.{onto_first}
 use Rattle.std.proofs.lemmas.Bool.{eqb-true}
-use Rattle.protect_table.specs.Words.{parts_words, quoted_after, joined, between_spaces, is_word, is_comment, words_of, counted, word_length, at_first, without_spaces}
+use Rattle.std.proofs.lemmas.List.{take_all}
+use Rattle.protect_table.specs.Words.{parts_words, quoted_after, joined, between_spaces, is_word, is_comment, before_comment, words_of, counted, word_length, at_first, without_spaces}
 
 -- ---- the length of a word
 
@@ -112,40 +113,66 @@ first_kept : (w : List ℕ) (others : List (List ℕ)) → 1 ≤ length w → fi
 first_kept [] others long = absurd (omega arith)
 first_kept (b ∷ w) others long = refl
 
-no_comment : List ℕ → Bool
-no_comment word = not (is_comment word)
-
-kept_by : (p : Bool) (w : List ℕ) (words : List (List ℕ)) → is_comment w ≡ p → take_while (λ word. not (is_comment word)) (w ∷ words) ≡ cond (not p) (w ∷ take_while (λ word. not (is_comment word)) words) []
-kept_by p w words e = ap (λ c. cond (not c) (w ∷ take_while (λ word. not (is_comment word)) words) []) e
+kept_by : (p : Bool) (w : List ℕ) (words : List (List ℕ)) → is_comment w ≡ p → before_comment (w ∷ words) ≡ cond p [] (w ∷ before_comment words)
+kept_by p w words e = ap (λ c. cond c [] (w ∷ before_comment words)) e
 
 by_words : (t : List ℕ) → 1 ≤ length (first_of t) → filter is_word (between_spaces false t) ≡ first_of t ∷ filter is_word (between_spaces false (drop (word_length false t) t))
 unfolding HasSame
 by_words t long =
     ap (filter is_word) (split false t) ∙ first_kept (first_of t) (after_part (drop (word_length false t) t)) long ∙ ap (λ ws. first_of t ∷ ws) (same_rest false t)
 
-pub some_word : (text : List ℕ) → 1 ≤ length (take (word_length false (without_spaces text)) (without_spaces text)) →
-    is_comment (take (word_length false (without_spaces text)) (without_spaces text)) ≡ false →
-    words_of text ≡ take (word_length false (without_spaces text)) (without_spaces text) ∷ words_of (drop (word_length false (without_spaces text)) (without_spaces text))
-some_word text long no =
+some_word : (text : List ℕ) → 1 ≤ length (first_of (without_spaces text)) → is_comment (first_of (without_spaces text)) ≡ false →
+    words_of text ≡ first_of (without_spaces text) ∷ words_of (drop (word_length false (without_spaces text)) (without_spaces text))
+some_word text long plain =
     let t = without_spaces text in
-    sym (spaceless text) ∙ ap (take_while (λ word. not (is_comment word))) (by_words t long)
-    ∙ kept_by false (first_of t) (filter is_word (between_spaces false (drop (word_length false t) t))) no
+    sym (spaceless text) ∙ ap before_comment (by_words t long)
+    ∙ kept_by false (first_of t) (filter is_word (between_spaces false (drop (word_length false t) t))) plain
+
+not_zero : (n : ℕ) → (n == 0) ≡ false → 1 ≤ n
+not_zero zero e = absurd cc
+not_zero (suc n) e = omega arith
+
+is_zero : (n : ℕ) → (n == 0) ≡ true → n ≡ 0
+is_zero zero e = refl
+is_zero (suc n) e = absurd cc
+
+pub found_word : (text t : List ℕ) (n : ℕ) → t ≡ without_spaces text → n ≡ word_length false t → n ≤ length t → (length (take n t) == 0) ≡ false → is_comment (take n t) ≡ false →
+    words_of text ≡ take n t ∷ words_of (take (length t - n) (drop n t))
+found_word text t n e f low long plain =
+    let P : List ℕ → Type 0 = λ u. (length (first_of u) == 0) ≡ false → is_comment (first_of u) ≡ false → words_of text ≡ first_of u ∷ words_of (drop (word_length false u) u) in
+    let whole : take (length t - n) (drop n t) ≡ drop n t = take_all (length t - n) (drop n t) (omega (arith, length-drop {A = ℕ})) in
+    let Q : ℕ → Type 0 = λ k. (length (take k t) == 0) ≡ false → is_comment (take k t) ≡ false → words_of text ≡ take k t ∷ words_of (drop k t) in
+    let start : P (without_spaces text) = λ a b. some_word text (not_zero _ a) b in
+    let there : P t = subst P (sym e) start in
+    subst Q (sym f) there long plain ∙ ap (λ u. take n t ∷ words_of u) (sym whole)
 
 comment_long : (w : List ℕ) → is_comment w ≡ true → 1 ≤ length w
 comment_long [] e = absurd cc
 comment_long (b ∷ w) e = omega arith
 
-pub comment_word : (text : List ℕ) → is_comment (take (word_length false (without_spaces text)) (without_spaces text)) ≡ true → words_of text ≡ []
-comment_word text yes =
+comment_word : (text : List ℕ) → is_comment (first_of (without_spaces text)) ≡ true → words_of text ≡ []
+comment_word text marked =
     let t = without_spaces text in
-    sym (spaceless text) ∙ ap (take_while (λ word. not (is_comment word))) (by_words t (comment_long (first_of t) yes))
-    ∙ kept_by true (first_of t) (filter is_word (between_spaces false (drop (word_length false t) t))) yes
+    sym (spaceless text) ∙ ap before_comment (by_words t (comment_long (first_of t) marked))
+    ∙ kept_by true (first_of t) (filter is_word (between_spaces false (drop (word_length false t) t))) marked
 
 none_of : (n : ℕ) (t : List ℕ) → length (take n t) ≡ 0 → (n ≡ 0 → t ≡ []) → t ≡ []
 none_of n [] e h = refl
 none_of zero (b ∷ t) e h = h refl
 none_of (suc n) (b ∷ t) e h = absurd (omega arith)
 
-pub no_word : (text : List ℕ) → length (take (word_length false (without_spaces text)) (without_spaces text)) ≡ 0 → words_of text ≡ []
+no_word : (text : List ℕ) → length (first_of (without_spaces text)) ≡ 0 → words_of text ≡ []
 unfolding IsStart
 no_word text e = sym (spaceless text) ∙ ap words_of (none_of (word_length false (without_spaces text)) (without_spaces text) e (starts text))
+
+pub found_comment : (text t : List ℕ) (n : ℕ) → t ≡ without_spaces text → n ≡ word_length false t → is_comment (take n t) ≡ true → words_of text ≡ []
+found_comment text t n e f marked =
+    let P : List ℕ → Type 0 = λ u. is_comment (first_of u) ≡ true → words_of text ≡ [] in
+    let there : P t = subst P (sym e) (comment_word text) in
+    there (ap (λ k. is_comment (take k t)) (sym f) ∙ marked)
+
+pub found_none : (text t : List ℕ) (n : ℕ) → t ≡ without_spaces text → n ≡ word_length false t → (length (take n t) == 0) ≡ true → words_of text ≡ []
+found_none text t n e f short =
+    let P : List ℕ → Type 0 = λ u. (length (first_of u) == 0) ≡ true → words_of text ≡ [] in
+    let there : P t = subst P (sym e) (λ a. no_word text (is_zero _ a)) in
+    there (ap (λ k. length (take k t) == 0) (sym f) ∙ short)

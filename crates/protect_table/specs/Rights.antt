@@ -6,7 +6,7 @@ use Rattle.std.specs.List.{list_any}
 use Rattle.depot_path.specs.Fit.{fits}
 use Rattle.depot_path.specs.declared.piece.Piece.{Piece}
 use Rattle.depot_path.specs.declared.piece.Piece.TheVariants.{Byte, Dots}
-use Rattle.protect_table.specs.Mode.{grants, denies}
+use Rattle.protect_table.specs.Mode.{grants, denies, is_single}
 use Rattle.protect_table.specs.Wildcard.{fits_word}
 use Rattle.protect_table.specs.declared.mode.Grantee.{Grantee}
 use Rattle.protect_table.specs.declared.mode.Grantee.TheVariants.{User, Group}
@@ -86,3 +86,7 @@ verdict granting denying = if granting then Some true else (if denying then Some
 abbrev pub is_none : List ProtectLine → Bool
 is_none [] = true
 is_none (line ∷ lines) = false
+
+-- the line's mode is ordinary
+abbrev pub is_ordinary : ProtectLine → Bool
+is_ordinary line = not (is_single line.mode)

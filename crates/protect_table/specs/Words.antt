@@ -1,6 +1,6 @@
 -- The words of a protection line, parted by spaces; a path with spaces stands in double quotes, and a word that begins with `##` and all
 -- after it are a comment (Command-Line Reference, "p4 protect"). That spaces alone part words is this project's own choice.
-use Rattle.std.specs.Prelude.{ℕ, suc, Bool, true, false, not, ◌&&◌, List, [], ◌∷◌, filter, take_while, ◌==◌, codes, if◌then◌else◌}
+use Rattle.std.specs.Prelude.{ℕ, suc, Bool, true, false, not, ◌&&◌, List, [], ◌∷◌, filter, ◌==◌, codes, if◌then◌else◌}
 use Rattle.std.specs.List.{onto_first}
 use Rattle.depot_path.specs.Bytes.{begins_with}
 
@@ -28,9 +28,13 @@ is_word (b ∷ text) = true
 abbrev pub is_comment : List ℕ → Bool
 is_comment word = begins_with word (codes "##")
 
+abbrev pub before_comment : List (List ℕ) → List (List ℕ)
+before_comment [] = []
+before_comment (word ∷ words) = if is_comment word then [] else word ∷ before_comment words
+
 -- the words before the comment
 abbrev pub words_of : List ℕ → List (List ℕ)
-words_of line = take_while (λ word. not (is_comment word)) (filter is_word (between_spaces false line))
+words_of line = before_comment (filter is_word (between_spaces false line))
 
 -- how many bytes stand before the first space that parts words
 abbrev pub counted : Bool → ℕ → ℕ

@@ -55,20 +55,22 @@ fn is_comment(word: &[u8]) -> bool
 }
 
 /// The first word of a text and what follows it, unless nothing or a comment is left.
-#[tactic(auto, using(crate::proofs::WordLemmas::no_word, crate::proofs::WordLemmas::comment_word, crate::proofs::WordLemmas::some_word))]
+#[tactic(auto, using(crate::proofs::WordLemmas::found_none, crate::proofs::WordLemmas::found_comment, crate::proofs::WordLemmas::found_word))]
 fn next_word(text: &[u8]) -> Option<(&[u8], &[u8])>
     ensures none { IfNone result (words_of text.now ≡ []) }
     ensures some { IfSome result (λ found. words_of text.now ≡ found.0.now ∷ words_of found.1.now) }
     ensures shorter { IfSome result (λ found. length found.1.now < length text.now) }
 {
-    let text = without_spaces(text);
-    let end = word_length(text);
-    let word = &text[..end];
-    if word.is_empty() || is_comment(word) {
-        None
-    } else {
-        Some((word, &text[end..]))
+    let rest = without_spaces(text);
+    let end = word_length(rest);
+    let word = &rest[..end];
+    if word.is_empty() {
+        return None;
     }
+    if is_comment(word) {
+        return None;
+    }
+    Some((word, &rest[end..]))
 }
 
 /// The words of a line of the protections table, before its comment: five in a line that is one. A word in double quotes may hold spaces, and

@@ -1,10 +1,10 @@
-use Rattle.std.proofs.Common.{Bool, ◌-◌, arith}
+use Rattle.std.proofs.Common.{Bool, ◌-◌, refl, arith}
 use Rattle.std.proofs.Math.ListN.{length-set}
 use Rattle.protect_table.proofs.Places.{begun, begun_more}
 use Rattle.protect_table.proofs.wildcard.begin_row.Goals as goal
 
 pub loop-at-init : goal.loop-at-init
-loop-at-init c = begun c.args.text.now c.args.row.now c.len.result (omega arith) (omega (arith, c.requires))
+loop-at-init c = begun c.args.text.now c.args.row.now _ refl (omega (arith, c.requires))
 
 pub loop-at-preserved : goal.loop-at-preserved
 loop-at-preserved c =
