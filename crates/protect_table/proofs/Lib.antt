@@ -3,3 +3,4 @@ pub mod WordLemmas
 pub mod Standing
 pub mod Lines
 mod Values
+pub mod LawLemmas

@@ -71,7 +71,7 @@ pub undecided_more : (g d : Test) (lines : List ProtectLine) (k at : ℕ) (x : P
     verdict (g (get_or lines k x)) (d (get_or lines k x)) ≡ None → Undecided g d lines k
 undecided_more g d lines k at x e h still = record {
   within = omega (arith, h.within, e);
-  open_yet = here g d lines k at x e h ∙ none_bools (g (get_or lines k x)) (d (get_or lines k x)) (stands g d (take k lines)) no;
+  open_yet = here g d lines k at x e h ∙ none_bools (g (get_or lines k x)) (d (get_or lines k x)) (stands g d (take k lines)) still;
 }
 
 some_lines : (g d : Test) (lines : List ProtectLine) → 1 ≤ length lines → granted g d lines ≡ stands g d lines

@@ -133,8 +133,7 @@ not_zero zero e = absurd cc
 not_zero (suc n) e = omega arith
 
 is_zero : (n : ℕ) → (n == 0) ≡ true → n ≡ 0
-is_zero zero e = refl
-is_zero (suc n) e = absurd cc
+is_zero n e = eqb-true n 0 e
 
 pub found_word : (text t : List ℕ) (n : ℕ) → t ≡ without_spaces text → n ≡ word_length false t → n ≤ length t → (length (take n t) == 0) ≡ false → is_comment (take n t) ≡ false →
     words_of text ≡ take n t ∷ words_of (take (length t - n) (drop n t))

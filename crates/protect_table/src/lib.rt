@@ -5,6 +5,7 @@
 #![tactic(auto)]
 
 mod fault;
+mod laws;
 mod line;
 mod mode;
 mod protects;
@@ -13,6 +14,10 @@ mod wildcard;
 mod words;
 
 pub use fault::{LineFault, ProtectFault};
+pub use laws::{
+    levels_are_the_greatest, lower_needs_are_granted, other_lines_change_nothing,
+    whole_exclusions_deny,
+};
 pub use line::ProtectLine;
 pub use mode::{Grantee, Mode};
 pub use protects::Protects;
