@@ -241,7 +241,7 @@ greatest_passes test =
     by_cond P (test 3) 3 _ (λ e h. e) (λ _. by_cond P (test 2) 2 _ (λ e h. e) (λ _. by_cond P (test 1) 1 0 (λ e h. e) (λ _ h. absurd (omega arith)))))))
 
 less : (test : ℕ → Bool) (need k : ℕ) → test need ≡ true → need ≤ k + 1 → test (k + 1) ≡ false → need ≤ k
-less test need k e low no = elim (cases_lt need (k + 1)) [
+less test need k e low misses = elim (cases_lt need (k + 1)) [
   | inl lt ↦ omega (arith, lt)
   | inr le ↦ let same : need ≡ k + 1 = omega (arith, low, le) in absurd (cc (ap test same))
 ]

@@ -23,3 +23,6 @@ pub use mode::{Grantee, Mode};
 pub use protects::Protects;
 pub use who::{Level, Who};
 pub use words::line_words;
+
+#[cfg(test)]
+mod tests;
