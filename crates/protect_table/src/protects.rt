@@ -163,7 +163,7 @@ impl Protects {
                 return granted;
             }
         }
-        lines.is_empty()
+        self.lines.is_empty()
     }
 
     /// The greatest need that the caller has at the path, 0 where there is none. It takes no memory.
