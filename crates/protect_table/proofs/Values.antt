@@ -4,6 +4,7 @@ use Rattle.std.specs.Prelude.{Bool, true, false, codes, filter}
 use Rattle.protect_table.specs.Line.{table_of}
 use Rattle.protect_table.specs.Rights.{level, any_level, may}
 use Rattle.protect_table.specs.declared.line.ProtectLine.{ProtectLine}
+use Rattle.protect_table.specs.declared.fault.LineFault.TheVariants.{BadMode, BadPath}
 use Rattle.protect_table.specs.declared.who.Who.{Who}
 
 abbrev lines : List (List ℕ) → List ProtectLine
@@ -55,3 +56,28 @@ eve_outside = refl
 
 eve_anywhere : any_level single (user (codes "eve")) ≡ 2
 eve_anywhere = refl
+
+-- groups that disagree, `*` in a name and in hosts, a host that differs, an exclusion that a later line overrides, and one of a single right
+abbrev team : List ProtectLine
+team = lines (codes "read group dev* host* //depot/..." ∷ codes "write group ops * -//depot/..." ∷ codes "open group * *A //depot/a/..." ∷ codes "super user ann hostB //..." ∷ codes "=write group ops * -//depot/..." ∷ codes "write user ann * //depot/b" ∷ [])
+
+abbrev ann_in : List (List ℕ) → Who
+ann_in groups = record { user = codes "ann"; groups = groups; host = codes "hostA" }
+
+one_group : level team (ann_in (codes "devs" ∷ [])) (codes "//depot/c") ≡ 2
+one_group = refl
+
+two_groups : level team (ann_in (codes "devs" ∷ codes "ops" ∷ [])) (codes "//depot/c") ≡ 0
+two_groups = refl
+
+overridden : level team (ann_in (codes "devs" ∷ codes "ops" ∷ [])) (codes "//depot/a/c") ≡ 3
+overridden = refl
+
+after_single : level team (ann_in (codes "ops" ∷ [])) (codes "//depot/b") ≡ 4
+after_single = refl
+
+bad_lines : table_of (codes "list user * * //..." ∷ codes "## all" ∷ []) ≡ Err (record { what = BadMode; line = 2 })
+bad_lines = refl
+
+six_words : table_of (codes "list user * * //... more" ∷ []) ≡ Err (record { what = BadPath; line = 1 })
+six_words = refl
