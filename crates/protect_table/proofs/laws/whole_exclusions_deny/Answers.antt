@@ -1,0 +1,11 @@
+use Rattle.protect_table.proofs.LawLemmas.{whole_at, whole_somewhere, ordinary_denies}
+use Rattle.protect_table.proofs.laws.whole_exclusions_deny.Goals as goal
+
+pub returns-clause-at_a_path : goal.returns-clause-at_a_path
+returns-clause-at_a_path c = whole_at
+
+pub returns-clause-somewhere : goal.returns-clause-somewhere
+returns-clause-somewhere c = whole_somewhere
+
+pub returns-clause-ordinary : goal.returns-clause-ordinary
+returns-clause-ordinary c = ordinary_denies

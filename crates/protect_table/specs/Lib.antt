@@ -1,0 +1,5 @@
+pub mod Words
+pub mod Mode
+pub mod Wildcard
+pub mod Line
+pub mod Rights

@@ -1,0 +1,18 @@
+//! Whom the protections are asked about, and what for.
+
+use depot_path::{Name, Sequence};
+
+/// A caller.
+#[derive(Debug, Drop)]
+pub struct Who {
+    /// The user.
+    pub user: Name,
+    /// The groups that list the user.
+    pub groups: Sequence<Name>,
+    /// The host that the caller comes from.
+    pub host: Name,
+}
+
+/// A need, 1 list, 2 read, 3 open, 4 write, 5 admin or 6 super; or the greatest need that is granted, 0 where none is.
+#[derive(Clone, Copy, Debug, PartialEq, Eq, PartialOrd, Ord)]
+pub struct Level(pub u8);
