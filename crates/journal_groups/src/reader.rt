@@ -1,7 +1,7 @@
 //! The groups of a journal's text one after another, from bytes that come in pieces.
 
 ghost use Rattle.std.specs.Prelude.{◌≡◌, ◌++◌, ◌+◌, ◌<◌, ◌≤◌, ◌^◌, length, OnOk, OnErr};
-ghost use Rattle.journal_groups.specs.Reader.{State};
+ghost use Rattle.journal_groups.specs.Reader.{State, IsNext, HasBegun};
 
 use crate::body::Body;
 use crate::fault::GroupFault;
@@ -62,13 +62,72 @@ impl GroupReader {
         self.at
     }
 
+    /// The bytes that are left.
+    fn left(&self) -> &[u8]
+        ensures { result.now ≡ self.now.left }
+    {
+        let (_, left) = self.bytes.as_bytes().split_at(self.taken);
+        left
+    }
+
     /// Appends the next piece of the text. Without memory for it the reader stays as it was.
-    pub fn more(&mut self, piece: &[u8]) -> Result<(), AllocError>
+    pub fn more(&mut self, alloc: Global, piece: &[u8]) -> Result<(), AllocError>
         requires { self.old.at + length self.old.left + length piece.now < 2 ^ 63 }
         ensures ok { OnOk result (self.new ≡ record self.old { left = self.old.left ++ piece.now }) }
         ensures err { OnErr result (self.new ≡ self.old) }
     {
+        if self.taken > 0 {
+            let left = Text::from_bytes(alloc, self.left())?;
+            self.bytes = left;
+            self.taken = 0;
+        }
         self.bytes.append(piece)?;
         Ok(())
     }
+
+    /// The changes of the next group, or nothing at a mark that isn't open, where the committed text ends.
+    ///
+    /// After an error, and after nothing, the reader stays as it was. After `Short` it goes on with
+    /// [`GroupReader::more`]. The places of faults are those of the whole text.
+    pub fn next(&mut self, alloc: Global) -> Result<Option<Sequence<Change>>, GroupFault>
+        ensures { IsNext self.old self.new result }
+    {
+        let length = self.left().len();
+        let mut body = match self.body.take() {
+            Some(body) => body,
+            None => match begin(alloc, self.number, self.left()) {
+                Ok(Some(body)) => body,
+                Ok(None) => return Ok(None),
+                Err(fault) => return Err(fault_at(self.at, length, fault)),
+            },
+        };
+        match body.read_all(alloc, self.left()) {
+            Ok(()) => {
+                self.taken += body.read;
+                self.at += body.read as u64;
+                self.number += 1;
+                Ok(Some(body.changes))
+            }
+            Err(fault) => {
+                self.body = Some(body);
+                Err(fault_at(self.at, length, fault))
+            }
+        }
+    }
+}
+
+/// The mark and the head of the next group, or nothing at a mark that isn't open.
+fn begin(alloc: Global, number: u64, bytes: &[u8]) -> Result<Option<Body>, RecordFault>
+    ensures { HasBegun number bytes.now result }
+{
+    let (opened, rest) = mark_of(bytes)?;
+    if !opened {
+        return Ok(None);
+    }
+    let (size, rest) = head_of(number, rest)?;
+    Ok(Some(Body {
+        changes: Sequence::new(alloc),
+        size,
+        read: bytes.len() - rest.len(),
+    }))
 }
