@@ -214,7 +214,7 @@ moved_on front changes size read n change bytes rest more back pushed short e =
     ∙ ap (λ (t : List ℕ). with_front front (body_at size t)) all
 
 -- a fault of the next record is one of all
-pub all_fails : (bytes : List ℕ) (old mid new : Body) (fault : RecordFault) → (mid.read ≤ length bytes) × ReadsTheSame bytes old mid → (new ≡ mid) × Fails fault (goes_on mid (drop mid.read bytes)) → HasReadAll {X = Unit {0}} bytes old new (Err fault)
+pub all_fails : (bytes : List ℕ) (old mid new : Body) (fault : RecordFault) → (old.read ≤ mid.read) × (mid.read ≤ length bytes) × ReadsTheSame bytes old mid → (new ≡ mid) × Fails fault (goes_on mid (drop mid.read bytes)) → HasReadAll {X = Unit {0}} bytes old new (Err fault)
 all_fails bytes old mid new fault so_far e =
-    let here : goes_on mid (drop mid.read bytes) ≡ goes_on old (drop old.read bytes) = ap (goes_on mid) (sym (append-nil (drop mid.read bytes))) ∙ so_far.1 [] ∙ ap (goes_on old) (append-nil (drop old.read bytes)) in
-    (subst (λ (b : Body). b.read ≤ length bytes) (sym e.0) so_far.0, subst (Fails fault) here e.1, subst (ReadsTheSame bytes old) (sym e.0) so_far.1)
+    let here : goes_on mid (drop mid.read bytes) ≡ goes_on old (drop old.read bytes) = ap (goes_on mid) (sym (append-nil (drop mid.read bytes))) ∙ so_far.2 [] ∙ ap (goes_on old) (append-nil (drop old.read bytes)) in
+    (subst (λ (b : Body). old.read ≤ b.read) (sym e.0) so_far.0, subst (λ (b : Body). b.read ≤ length bytes) (sym e.0) so_far.1, subst (Fails fault) here e.1, subst (ReadsTheSame bytes old) (sym e.0) so_far.2)

@@ -23,7 +23,7 @@ Extended {A} more r s = (a : A) (rest : List ℕ) → r ≡ Done a rest → s �
 abbrev done : {A : Type 0} → A → List ℕ → Reading A
 done a rest = Done a rest
 
-parts_of : {A B : Type 0} (r : Reading A) (f : A → List ℕ → Reading B) (b : B) (rest : List ℕ) → and_then r f ≡ Done b rest → (a : A) × ((mid : List ℕ) × ((r ≡ Done a mid) × (f a mid ≡ Done b rest)))
+pub parts_of : {A B : Type 0} (r : Reading A) (f : A → List ℕ → Reading B) (b : B) (rest : List ℕ) → and_then r f ≡ Done b rest → (a : A) × ((mid : List ℕ) × ((r ≡ Done a mid) × (f a mid ≡ Done b rest)))
 parts_of (Done a mid) f b rest e = (a, (mid, (refl, e)))
 parts_of Ends f b rest e = absurd cc
 parts_of (Wrong part left) f b rest e = absurd cc
@@ -66,11 +66,14 @@ exactly_again word rest =
     let same : starts_with nat_eq (word ++ rest) word ≡ true = ap (bytes_eq word) (take-append_seam word rest) ∙ bytes_same word in
     ap (λ (b : Bool). chosen word (word ++ rest) b (greater (common word (word ++ rest)) 0)) same ∙ ap (done tt) (drop-append_seam word rest)
 
+pub exactly_whole : (word bytes rest : List ℕ) (a : Unit {0}) → exactly word bytes ≡ Done a rest → bytes ≡ word ++ rest
+exactly_whole word bytes rest a e =
+    let p = chosen_done word bytes (starts_with nat_eq bytes word) (greater (common word bytes) 0) a rest e in
+    sym (take-append-drop (length word) bytes) ∙ ap (λ (t : List ℕ). t ++ drop (length word) bytes) (sym (bytes_are word (take (length word) bytes) p.0)) ∙ ap (λ (t : List ℕ). word ++ t) p.1
+
 extended_exactly : (word more bytes : List ℕ) → Extended more (exactly word bytes) (exactly word (bytes ++ more))
 extended_exactly word more bytes a rest e =
-    let p = chosen_done word bytes (starts_with nat_eq bytes word) (greater (common word bytes) 0) a rest e in
-    let whole : bytes ≡ word ++ rest = sym (take-append-drop (length word) bytes) ∙ ap (λ (t : List ℕ). t ++ drop (length word) bytes) (sym (bytes_are word (take (length word) bytes) p.0)) ∙ ap (λ (t : List ℕ). word ++ t) p.1 in
-    ap (exactly word) (ap (λ (t : List ℕ). t ++ more) whole ∙ append_assoc word rest more) ∙ exactly_again word (rest ++ more)
+    ap (exactly word) (ap (λ (t : List ℕ). t ++ more) (exactly_whole word bytes rest a e) ∙ append_assoc word rest more) ∙ exactly_again word (rest ++ more)
 
 -- ---- marks and heads
 
@@ -81,8 +84,11 @@ extended_head number more bytes =
     (λ _ rest2. extended_then more (exactly (codes " ") rest2) (exactly (codes " ") (rest2 ++ more)) _ (extended_exactly (codes " ") more rest2)
     (λ _ rest. extended_read (number_at 0 largest_wide 0x0A) (λ n. (0 ≤ n) × (n ≤ largest_wide)) _ (number_reads 0 largest_wide 0x0A (omega arith) (omega arith) (omega arith) (omega arith)) more rest)))
 
+no_end : (a : Bool) (rest : List ℕ) → (let r : Reading Bool = Ends in r) ≡ Done a rest → ⊥
+no_end a rest e = cc
+
 extended_behind_sign : (more bytes : List ℕ) → Extended more (behind_sign bytes) (behind_sign (bytes ++ more))
-extended_behind_sign more [] a rest e = absurd cc
+extended_behind_sign more [] = λ a rest e. absurd (no_end a rest e)
 extended_behind_sign more (byte ∷ bytes) =
     extended_then more (exactly (codes "x@\n") bytes) (exactly (codes "x@\n") (bytes ++ more)) (λ _ after. Done (eqb byte open_byte) after) (extended_exactly (codes "x@\n") more bytes)
     (λ _ rest. extended_done more rest (eqb byte open_byte))

@@ -21,7 +21,8 @@ use Rattle.record_text.proofs.RecordLaws.{record_reads}
 use Rattle.record_text.proofs.Numbers.{number_reads}
 use Rattle.journal_groups.specs.Groups.{change_text, open_byte}
 use Rattle.journal_groups.specs.Reading.{exactly, head_at, change_of, window_read, window_at, body_below, body_at, group_at, behind_byte, behind_sign, mark_at, behind_mark, next_at, placed, IsWithin, FailsAt}
-use Rattle.journal_groups.proofs.Bodies.{window_done, behind_is}
+use Rattle.journal_groups.proofs.Bodies.{behind_is}
+use Rattle.journal_groups.proofs.Extended.{parts_of, exactly_whole}
 
 abbrev pub Inside : {A : Type 0} → List ℕ → Reading A → Type 0
 Inside bytes (Done a rest) = (front : List ℕ) × (bytes ≡ front ++ rest)
@@ -47,13 +48,13 @@ inside_read read Fits spell bytes (Wrong part left) laws e =
     let p : left ≡ suc (length s.after) = s.place in
     omega arith
 
-inside_tested : {A : Type 0} (bytes : List ℕ) (b : Bool) (n : ℕ) → Inside {A = A} bytes (cond b Ends (Wrong Field (length bytes - n)))
-inside_tested bytes true n = tt
-inside_tested bytes false n = omega arith
+inside_tested : (A : Type 0) (bytes : List ℕ) (b : Bool) (n : ℕ) → Inside {A = A} bytes (cond b Ends (Wrong Field (length bytes - n)))
+inside_tested A bytes true n = tt
+inside_tested A bytes false n = omega arith
 
 inside_word : (word bytes : List ℕ) (b : Bool) (n : ℕ) → Inside bytes (word_read (λ (x : Unit {0}). word) Field bytes (cond b (Some tt) None) n)
 inside_word word bytes true n = (take (length word) bytes, sym (take-append-drop (length word) bytes))
-inside_word word bytes false n = inside_tested bytes (leb (length bytes) n) n
+inside_word word bytes false n = inside_tested _ bytes (leb (length bytes) n) n
 
 inside_exactly : (word bytes : List ℕ) → Inside bytes (exactly word bytes)
 inside_exactly word bytes = inside_word word bytes (starts_with nat_eq bytes word) (greater (common word bytes) 0)
@@ -67,7 +68,7 @@ inside_head number bytes =
 
 inside_window_read : (size : ℕ) (bytes : List ℕ) (r : Reading (Op × Record)) → Inside (take size bytes) r → Inside bytes (window_read size bytes r)
 inside_window_read size bytes (Done x rest) i = (take (length (take size bytes) - length rest) bytes, sym (take-append-drop (length (take size bytes) - length rest) bytes))
-inside_window_read size bytes Ends i = inside_tested bytes (leb (length bytes) size) size
+inside_window_read size bytes Ends i = inside_tested _ bytes (leb (length bytes) size) size
 inside_window_read size bytes (Wrong part left) i =
     let le : left ≤ length (take size bytes) = i in
     let b : length bytes - length (take size bytes) ≡ length bytes - size = behind_is size bytes in
@@ -129,3 +130,12 @@ head_suffix number bytes size rest e = inside_suffix bytes (head_at number bytes
 
 pub mark_suffix : (bytes : List ℕ) (opened : Bool) (rest : List ℕ) → mark_at bytes ≡ Done opened rest → (length rest ≤ length bytes) × (rest ≡ drop (length bytes - length rest) bytes)
 mark_suffix bytes opened rest e = inside_suffix bytes (mark_at bytes) opened rest (inside_mark bytes) e
+
+-- a mark has a byte
+pub mark_long : (bytes : List ℕ) (opened : Bool) (rest : List ℕ) → mark_at bytes ≡ Done opened rest → length rest < length bytes
+mark_long bytes opened rest e =
+    let p = parts_of (exactly (sign ∷ []) bytes) (λ _ mid. behind_sign mid) opened rest e in
+    let whole = exactly_whole (sign ∷ []) bytes p.1.0 p.0 p.1.1.0 in
+    let l : length bytes ≡ 1 + length p.1.0 = ap length whole ∙ length-append (sign ∷ []) p.1.0 in
+    let s : length rest ≤ length p.1.0 = (inside_suffix p.1.0 (behind_sign p.1.0) opened rest (inside_behind_sign p.1.0) p.1.1.1).0 in
+    omega arith

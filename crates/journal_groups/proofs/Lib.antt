@@ -1,4 +1,4 @@
 pub mod Bodies
-pub mod Inside
 pub mod Extended
+pub mod Inside
 pub mod Whole

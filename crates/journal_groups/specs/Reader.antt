@@ -34,18 +34,18 @@ ReadsTheSame bytes old new = (more : List ℕ) → goes_on new (drop new.read by
 
 -- one record more was read, or none
 abbrev pub HasReadOne : {X : Type 0} → List ℕ → Body → Body → Result X RecordFault → Type 0
-HasReadOne bytes old new (Ok x) = (new.read ≤ length bytes) × (new.size < old.size) × ReadsTheSame bytes old new
+HasReadOne bytes old new (Ok x) = (old.read ≤ new.read) × (new.read ≤ length bytes) × (new.size < old.size) × ReadsTheSame bytes old new
 HasReadOne bytes old new (Err fault) = (new ≡ old) × Fails fault (goes_on old (drop old.read bytes))
 
 -- all records were read, or some of them up to a fault
 abbrev pub HasReadAll : {X : Type 0} → List ℕ → Body → Body → Result X RecordFault → Type 0
-HasReadAll bytes old new (Ok x) = (new.read ≤ length bytes) × (new.size ≡ 0) × ReadsTheSame bytes old new
-HasReadAll bytes old new (Err fault) = (new.read ≤ length bytes) × Fails fault (goes_on old (drop old.read bytes)) × ReadsTheSame bytes old new
+HasReadAll bytes old new (Ok x) = (old.read ≤ new.read) × (new.read ≤ length bytes) × (new.size ≡ 0) × ReadsTheSame bytes old new
+HasReadAll bytes old new (Err fault) = (old.read ≤ new.read) × (new.read ≤ length bytes) × Fails fault (goes_on old (drop old.read bytes)) × ReadsTheSame bytes old new
 
 -- what was read of the next group is what is read of all of its bytes, whatever follows
 abbrev pub IsBegun : ℕ → List ℕ → Option Body → Type 0
 IsBegun number bytes None = Unit {0}
-IsBegun number bytes (Some body) = (body.read ≤ length bytes) × ((more : List ℕ) → next_at number (bytes ++ more) ≡ as_next (goes_on body (drop body.read bytes ++ more)))
+IsBegun number bytes (Some body) = (0 < body.read) × (body.read ≤ length bytes) × ((more : List ℕ) → next_at number (bytes ++ more) ≡ as_next (goes_on body (drop body.read bytes ++ more)))
 
 -- a mark and a head were read, or a mark that isn't open
 abbrev pub HasBegun : ℕ → List ℕ → Result (Option Body) RecordFault → Type 0

@@ -19,4 +19,4 @@ returns c =
     let l : length rest ≡ length c.args.bytes.now - old.read = ap length back ∙ length-drop old.read c.args.bytes.now in
     let unread : 0 < old.size = c.requires.unread in
     let read : old.read ≤ length c.args.bytes.now = c.requires.within in
-    (omega arith, omega arith, λ more. moved_on old.changes c.push.new.self old.size old.read n c.in_ok-change.change c.args.bytes.now rest more back c.in_ok-push.ensures.ok short c.in_ok-change.ensures.exact)
+    (omega arith, omega arith, omega arith, λ more. moved_on old.changes c.push.new.self old.size old.read n c.in_ok-change.change c.args.bytes.now rest more back c.in_ok-push.ensures.ok short c.in_ok-change.ensures.exact)
