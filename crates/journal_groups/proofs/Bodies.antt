@@ -137,7 +137,7 @@ then_same_on (Done a rest) f g h = h a rest refl
 then_same_on Ends f g h = refl
 then_same_on (Wrong part left) f g h = refl
 
-abbrev before : Change → Reading (List Change) → Reading (List Change)
+abbrev pub before : Change → Reading (List Change) → Reading (List Change)
 before change reading = and_then reading (λ changes after. Done (change ∷ changes) after)
 
 same_below : (a b size : ℕ) (bytes : List ℕ) → size ≤ a → size ≤ b → body_below a size bytes ≡ body_below b size bytes

@@ -61,7 +61,7 @@ chosen_done : (word bytes : List ℕ) (b : Bool) (n : ℕ) (a : Unit {0}) (rest 
 chosen_done word bytes true n a rest e = (refl, cc)
 chosen_done word bytes false n a rest e = absurd (tested_done _ _ a rest e)
 
-exactly_again : (word rest : List ℕ) → exactly word (word ++ rest) ≡ Done tt rest
+pub exactly_again : (word rest : List ℕ) → exactly word (word ++ rest) ≡ Done tt rest
 exactly_again word rest =
     let same : starts_with nat_eq (word ++ rest) word ≡ true = ap (bytes_eq word) (take-append_seam word rest) ∙ bytes_same word in
     ap (λ (b : Bool). chosen word (word ++ rest) b (greater (common word (word ++ rest)) 0)) same ∙ ap (done tt) (drop-append_seam word rest)

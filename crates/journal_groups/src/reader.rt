@@ -63,6 +63,13 @@ impl GroupReader {
         self.at
     }
 
+    /// How many bytes are left.
+    pub fn waiting(&self) -> usize
+        ensures { result ≡ length self.now.left }
+    {
+        self.left().len()
+    }
+
     /// The bytes that are left.
     fn left(&self) -> &[u8]
         ensures { result.now ≡ self.now.left }
