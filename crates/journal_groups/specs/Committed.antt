@@ -14,14 +14,14 @@ pub record HasGroups (number : ℕ) (bytes : List ℕ) (groups : List (List Chan
   pub are_groups : AllByRecursion IsGroup groups
   pub parts : bytes ≡ groups_text number groups ++ (mark byte ++ after)
 
--- the groups as a recursion on the bytes: none where some open mark has no group and mark behind it. The first number only
--- bounds the recursion, since each group has a byte
-abbrev pub groups_below : ℕ → ℕ → List ℕ → Option (List (List Change))
-
 abbrev pub groups_then : (List ℕ → Option (List (List Change))) → readings.Reading (Option (List Change)) → Option (List (List Change))
 groups_then go (readings.Done (Some changes) rest) = option_map (λ groups. changes ∷ groups) (go rest)
 groups_then go (readings.Done None rest) = Some []
 groups_then go _ = None
+
+-- the groups as a recursion on the bytes: none where some open mark has no group and mark behind it. The first number only
+-- bounds the recursion, since each group has a byte
+abbrev pub groups_below : ℕ → ℕ → List ℕ → Option (List (List Change))
 groups_below zero number bytes = None
 groups_below (suc n) number bytes = groups_then (groups_below n (suc number)) (next_at number bytes)
 

@@ -1,4 +1,5 @@
 pub mod Groups
-pub mod Committed
 pub mod Reading
+pub mod Committed
 pub mod Reader
+pub mod Laws

@@ -1,10 +1,13 @@
 -- Reading a mark and a group from left to right.
-use Rattle.std.specs.Prelude.{◌≡◌, ℕ, zero, suc, ◌+◌, ◌-◌, ◌==◌, Bool, nat_le, List, [], ◌∷◌, ◌++◌, length, take, drop, codes, Option, Some, None, if◌then◌else◌, Result, Ok, Err}
+use Rattle.std.specs.Prelude.{◌≡◌, ◌≤◌, ℕ, zero, suc, ◌+◌, ◌-◌, ◌==◌, Bool, nat_le, List, [], ◌∷◌, ◌++◌, length, take, drop, codes, Option, Some, None, if◌then◌else◌, Result, Ok, Err}
 use Rattle.std.specs.Fmt.{decimal}
 use Rattle.db_records.specs.declared.change.Op.{Op}
 use Rattle.db_records.specs.declared.change.Change.{Change}
 use Rattle.db_records.specs.declared.record.Record.{Record}
+use Rattle.record_text.specs.declared.fault.Part.{Part}
 use Rattle.record_text.specs.declared.fault.Part.TheVariants.{Field}
+use Rattle.record_text.specs.declared.fault.RecordFault.{RecordFault}
+use Rattle.record_text.specs.declared.fault.RecordFault.TheVariants as records
 use Rattle.record_text.specs.Reading as readings
 use Rattle.record_text.specs.Reading.{Done, Ends, Wrong, and_then}
 use Rattle.record_text.specs.Spelling.{sign, number_at}
@@ -73,12 +76,21 @@ next_at number bytes = and_then (mark_at bytes) (behind_mark number)
 
 -- ---- what is answered of it
 
--- a fault and its place, where the bytes that are left begin at this one: no memory, or they end too early, or the first byte
--- that can't go on
+-- a fault where the bytes that are left, so many, begin at this place
+abbrev pub placed : ℕ → ℕ → RecordFault → GroupFault
+placed at size records.Memory = faults.Memory
+placed at size records.Cut = faults.Short (at + size)
+placed at size (records.Wrong part left) = faults.BadGroup (at + (size - left))
+
+abbrev pub IsWithin : ℕ → RecordFault → Type 0
+IsWithin size (records.Wrong part left) = left ≤ size
+IsWithin size _ = Unit {0}
+
+-- no memory, or the bytes end too early, or so many are left at the first byte that can't go on
 abbrev pub FailsAt : {A : Type 0} → ℕ → List ℕ → GroupFault → readings.Reading A → Type 0
 FailsAt at bytes faults.Memory reading = Unit {0}
 FailsAt at bytes (faults.Short place) reading = (reading ≡ Ends) × (place ≡ at + length bytes)
-FailsAt at bytes (faults.BadGroup place) reading = (left : ℕ) × ((reading ≡ Wrong Field left) × (place + left ≡ at + length bytes))
+FailsAt at bytes (faults.BadGroup place) reading = (part : Part) × ((left : ℕ) × ((reading ≡ Wrong part left) × (place + left ≡ at + length bytes)))
 
 abbrev pub GivesAt : {X A : Type 0} → ℕ → List ℕ → (X → A) → (X → List ℕ) → Result X GroupFault → readings.Reading A → Type 0
 GivesAt at bytes value rest (Ok x) reading = reading ≡ Done (value x) (rest x)

@@ -1,9 +1,9 @@
 //! The records of a group.
 
-ghost use Rattle.std.specs.Prelude.{◌≡◌, ◌≤◌, ◌<◌, ◌++◌, ℕ, List, length, drop, Ok, Err, tt, OnOk, IfOk};
+ghost use Rattle.std.specs.Prelude.{◌≡◌, ◌≤◌, ◌<◌, take, length, drop, IfOk};
 ghost use Rattle.record_text.specs.Answers.{Gives};
 ghost use Rattle.journal_groups.specs.Reading.{window_at};
-ghost use Rattle.journal_groups.specs.Reader.{goes_on};
+ghost use Rattle.journal_groups.specs.Reader.{HasReadOne, HasReadAll};
 
 use db_records::Change;
 use depot_path::Sequence;
@@ -21,18 +21,25 @@ pub(crate) struct Body {
     pub(crate) read: usize,
 }
 
+/// So many bytes, or all of them where there are fewer.
+fn window_of(size: u64, bytes: &[u8]) -> &[u8]
+    ensures { result.now ≡ take size bytes.now }
+{
+    if size < bytes.len() as u64 {
+        let (window, _) = bytes.split_at(size as usize);
+        window
+    } else {
+        bytes
+    }
+}
+
 /// The record at the front and its length, with so many bytes of the group still to come.
 fn change_of(alloc: Global, size: u64, bytes: &[u8]) -> Result<(Change, usize), RecordFault>
     ensures exact { Gives (λ x. x.0) (λ x. drop x.1 bytes.now) result (window_at size bytes.now) }
     ensures within { IfOk result (λ x. (x.1 ≤ length bytes.now) × (x.1 ≤ size) × (0 < x.1)) }
 {
-    let within = if size < bytes.len() as u64 {
-        size as usize
-    } else {
-        bytes.len()
-    };
-    let behind = bytes.len() - within;
-    let (window, _) = bytes.split_at(within);
+    let window = window_of(size, bytes);
+    let behind = bytes.len() - window.len();
     match read_record(alloc, window) {
         Ok((op, row, length)) => Ok((Change { op, row }, length)),
         Err(RecordFault::Memory) => Err(RecordFault::Memory),
@@ -58,6 +65,7 @@ impl Body {
     fn read_change(&mut self, alloc: Global, bytes: &[u8]) -> Result<(), RecordFault>
         requires within { self.old.read ≤ length bytes.now }
         requires unread { 0 < self.old.size }
+        ensures { HasReadOne bytes.now self.old self.new result }
     {
         let (_, rest) = bytes.split_at(self.read);
         let (change, length) = change_of(alloc, self.size, rest)?;
@@ -69,7 +77,8 @@ impl Body {
 
     /// Reads records until none is left.
     pub(crate) fn read_all(&mut self, alloc: Global, bytes: &[u8]) -> Result<(), RecordFault>
-        requires within { self.old.read ≤ length bytes.now }
+        requires { self.old.read ≤ length bytes.now }
+        ensures { HasReadAll bytes.now self.old self.new result }
     {
         while self.size > 0 {
             self.read_change(alloc, bytes)?;

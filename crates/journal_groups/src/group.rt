@@ -1,8 +1,9 @@
 //! One group.
 
-ghost use Rattle.std.specs.Prelude.{◌≡◌, ◌≤◌, ◌++◌, length, drop, OnOk, IfOk};
+ghost use Rattle.std.specs.Prelude.{◌≡◌, ◌+◌, ◌<◌, ◌≤◌, ◌^◌, length, drop, IfOk};
+ghost use Rattle.record_text.specs.Answers.{Gives};
 ghost use Rattle.journal_groups.specs.Groups.{body_of, head_of as head_text, group_text};
-ghost use Rattle.journal_groups.specs.Reading.{group_at, GivesAt};
+ghost use Rattle.journal_groups.specs.Reading.{group_at, placed, IsWithin, GivesAt};
 
 use crate::body::Body;
 use crate::fault::GroupFault;
@@ -49,7 +50,11 @@ pub fn print_group(alloc: Global, number: u64, changes: &[Change]) -> Result<Tex
 }
 
 /// The fault of bytes of this length, of which the first stands at this place.
-pub(crate) fn fault_at(at: u64, length: usize, fault: RecordFault) -> GroupFault {
+pub(crate) fn fault_at(at: u64, length: usize, fault: RecordFault) -> GroupFault
+    requires place { at + length < 2 ^ 64 }
+    requires within { IsWithin length fault }
+    ensures { result ≡ placed at length fault }
+{
     match fault {
         RecordFault::Memory => GroupFault::Memory,
         RecordFault::Cut => GroupFault::Short(at + length as u64),
@@ -62,7 +67,10 @@ fn group_of(
     alloc: Global,
     number: u64,
     bytes: &[u8],
-) -> Result<(Sequence<Change>, usize), RecordFault> {
+) -> Result<(Sequence<Change>, usize), RecordFault>
+    ensures within { IfOk result (λ x. x.1 ≤ length bytes.now) }
+    ensures exact { Gives (λ x. x.0) (λ x. drop x.1 bytes.now) result (group_at number bytes.now) }
+{
     let (size, rest) = head_of(number, bytes)?;
     let mut body = Body {
         changes: Sequence::new(alloc),

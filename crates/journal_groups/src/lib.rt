@@ -8,12 +8,14 @@
 mod body;
 mod fault;
 mod group;
+mod laws;
 mod mark;
 mod moved;
 mod reader;
 
 pub use fault::GroupFault;
 pub use group::{print_group, read_group};
+pub use laws::groups_have_one_text;
 pub use moved::Moved;
 pub use reader::GroupReader;
 

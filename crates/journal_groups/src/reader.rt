@@ -1,7 +1,8 @@
 //! The groups of a journal's text one after another, from bytes that come in pieces.
 
-ghost use Rattle.std.specs.Prelude.{◌≡◌, ◌++◌, ◌+◌, ◌<◌, ◌≤◌, ◌^◌, length, OnOk, OnErr};
-ghost use Rattle.journal_groups.specs.Reader.{State};
+ghost use Rattle.std.specs.Prelude.{◌≡◌, ◌++◌, ◌+◌, ◌<◌, ◌≤◌, ◌^◌, length, Some, OnOk, OnErr};
+ghost use Rattle.journal_groups.specs.Reading.{placed, IsWithin};
+ghost use Rattle.journal_groups.specs.Reader.{State, IsNext, IsBegun, HasBegun};
 
 use crate::body::Body;
 use crate::fault::GroupFault;
@@ -62,13 +63,113 @@ impl GroupReader {
         self.at
     }
 
+    /// How many bytes are left.
+    pub fn waiting(&self) -> usize
+        ensures { result ≡ length self.now.left }
+    {
+        self.left().len()
+    }
+
+    /// The bytes that are left.
+    fn left(&self) -> &[u8]
+        ensures { result.now ≡ self.now.left }
+    {
+        let (_, left) = self.bytes.as_bytes().split_at(self.taken);
+        left
+    }
+
+    /// Lets go of the bytes that were taken.
+    fn let_go(&mut self, alloc: Global) -> Result<(), AllocError>
+        ensures { self.new ≡ self.old }
+    {
+        if self.taken == 0 {
+            return Ok(());
+        }
+        let left = Text::from_bytes(alloc, self.left())?;
+        self.bytes = left;
+        self.taken = 0;
+        Ok(())
+    }
+
     /// Appends the next piece of the text. Without memory for it the reader stays as it was.
-    pub fn more(&mut self, piece: &[u8]) -> Result<(), AllocError>
+    pub fn more(&mut self, alloc: Global, piece: &[u8]) -> Result<(), AllocError>
         requires { self.old.at + length self.old.left + length piece.now < 2 ^ 63 }
         ensures ok { OnOk result (self.new ≡ record self.old { left = self.old.left ++ piece.now }) }
         ensures err { OnErr result (self.new ≡ self.old) }
     {
+        self.let_go(alloc)?;
         self.bytes.append(piece)?;
         Ok(())
     }
+
+    /// What was read of the next group, or what its mark and head say, or nothing at a mark that isn't open.
+    fn begun(&mut self, alloc: Global) -> Result<Option<Body>, RecordFault>
+        ensures same { self.new ≡ self.old }
+        ensures begun { HasBegun self.old.number self.old.left result }
+    {
+        match self.body.take() {
+            Some(body) => Ok(Some(body)),
+            None => begin(alloc, self.number, self.left()),
+        }
+    }
+
+    /// The fault with its place.
+    fn fault(&self, fault: RecordFault) -> GroupFault
+        requires { IsWithin (length self.now.left) fault }
+        ensures { result ≡ placed self.now.at (length self.now.left) fault }
+    {
+        fault_at(self.at, self.left().len(), fault)
+    }
+
+    /// Reads the rest of the next group.
+    fn finish(&mut self, alloc: Global, part: Body) -> Result<Option<Sequence<Change>>, GroupFault>
+        requires { IsBegun self.old.number self.old.left (Some part) }
+        ensures { IsNext self.old self.new result }
+    {
+        let mut body = part;
+        match body.read_all(alloc, self.left()) {
+            Ok(()) => {
+                let behind = self.left().len() - body.read;
+                self.taken = self.bytes.len() - behind;
+                self.body = None;
+                self.at += body.read as u64;
+                self.number += 1;
+                Ok(Some(body.changes))
+            }
+            Err(fault) => {
+                self.body = Some(body);
+                Err(self.fault(fault))
+            }
+        }
+    }
+
+    /// The changes of the next group, or nothing at a mark that isn't open, where the committed text ends.
+    ///
+    /// After an error, and after nothing, the reader stays as it was. After `Short` it goes on with
+    /// [`GroupReader::more`]. The places of faults are those of the whole text.
+    pub fn next(&mut self, alloc: Global) -> Result<Option<Sequence<Change>>, GroupFault>
+        ensures { IsNext self.old self.new result }
+    {
+        match self.begun(alloc) {
+            Ok(Some(body)) => self.finish(alloc, body),
+            Ok(None) => Ok(None),
+            Err(fault) => Err(self.fault(fault)),
+        }
+    }
+}
+
+/// The mark and the head of the next group, or nothing at a mark that isn't open.
+fn begin(alloc: Global, number: u64, bytes: &[u8]) -> Result<Option<Body>, RecordFault>
+    ensures { HasBegun number bytes.now result }
+{
+    let (opened, rest) = mark_of(bytes)?;
+    if !opened {
+        return Ok(None);
+    }
+    let (size, rest) = head_of(number, rest)?;
+    Ok(Some(Body {
+        changes: Sequence::new(alloc),
+        size,
+        read: bytes.len() - rest.len(),
+    }))
 }

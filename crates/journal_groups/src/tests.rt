@@ -18,3 +18,71 @@ fn a_group_is_printed_and_read(rt: HostRuntime) -> Result<(), Fail> {
     assert!(rt; read.as_slice()[0].row.same(&changes[0].row));
     Ok(())
 }
+
+/// The journal of a session that set one counter.
+const JOURNAL: &[u8] = b"@ex@\n@nx@ 1 31\n@pv@ 1 @db.counters@ @build@ 7\n@mx@\n";
+
+#[test]
+fn a_journal_is_read_at_once(rt: HostRuntime) -> Result<(), Fail> {
+    let bytes = Text::from_bytes(rt.alloc(), JOURNAL)?;
+    assert!(rt; bytes.len() == 51);
+    let mut reader = GroupReader::new(bytes, 0, 1);
+    let changes = reader
+        .next(rt.alloc())
+        .ok()
+        .ok_or("a group")?
+        .ok_or("a group")?;
+    assert_eq!(rt; changes.len(), 1);
+    assert_eq!(rt; reader.place(), 46);
+    assert!(rt; matches!(reader.next(rt.alloc()), Ok(None)));
+    assert_eq!(rt; reader.place(), 46);
+    Ok(())
+}
+
+#[test]
+fn a_journal_is_read_byte_by_byte(rt: HostRuntime) -> Result<(), Fail> {
+    let mut reader = GroupReader::new(Text::new(rt.alloc()), 0, 1);
+    let mut groups = 0;
+    for byte in JOURNAL {
+        assert!(rt; reader.place() < 100 && reader.waiting() < 100);
+        reader.more(rt.alloc(), &[*byte])?;
+        if let Ok(Some(_)) = reader.next(rt.alloc()) {
+            groups += 1;
+            assert_eq!(rt; reader.place(), 46);
+            assert!(rt; groups == 1);
+        }
+    }
+    assert_eq!(rt; groups, 1);
+    assert!(rt; matches!(reader.next(rt.alloc()), Ok(None)));
+    Ok(())
+}
+
+#[test]
+fn faults_have_their_places(rt: HostRuntime) {
+    let faults = [
+        (
+            b"@nx@ 1 31\n@pv@ 1 @db.counters@ @build@ 7".as_slice(),
+            GroupFault::Short(40),
+        ),
+        (b"@nx@ 2 31\n".as_slice(), GroupFault::BadGroup(5)),
+        (b"@nx@ 1 031\n".as_slice(), GroupFault::BadGroup(8)),
+        (
+            b"@nx@ 1 30\n@pv@ 1 @db.counters@ @build@ 7\n".as_slice(),
+            GroupFault::BadGroup(40),
+        ),
+        (
+            b"@nx@ 1 32\n@pv@ 1 @db.counters@ @build@ 7\n@mx@".as_slice(),
+            GroupFault::BadGroup(42),
+        ),
+        (
+            b"@nx@ 1 31\n@pv@ 1 @db.counters@ @build@ x".as_slice(),
+            GroupFault::BadGroup(39),
+        ),
+    ];
+    for (bytes, fault) in faults {
+        match read_group(rt.alloc(), bytes, 1) {
+            Ok(_) => assert!(rt; false),
+            Err(found) => assert_eq!(rt; found, fault),
+        }
+    }
+}

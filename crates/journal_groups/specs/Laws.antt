@@ -1,0 +1,26 @@
+-- What reading and printing have to do with each other.
+use Rattle.std.specs.Prelude.{◌≡◌, ◌≢◌, ◌≤◌, ℕ, List, ◌++◌, length, take, Option, Some, None, Result, Ok, Err}
+use Rattle.db_records.specs.declared.change.Change.{Change}
+use Rattle.record_text.specs.Reading.{Done}
+use Rattle.journal_groups.specs.declared.fault.GroupFault.{GroupFault}
+use Rattle.journal_groups.specs.declared.fault.GroupFault.TheVariants as faults
+use Rattle.journal_groups.specs.Groups.{IsGroup, group_text, mark, open_byte}
+use Rattle.journal_groups.specs.Reading.{next_at}
+use Rattle.journal_groups.specs.Committed.{HasGroups, groups_of}
+
+-- a group stands behind an open mark, and nothing else is read as one, whatever follows
+pub record GroupsHaveOneText : Type 0 where
+  pub found : (number : ℕ) (bytes : List ℕ) (changes : List Change) (rest : List ℕ) → next_at number bytes ≡ Done (Some changes) rest → IsGroup changes × (bytes ≡ mark open_byte ++ (group_text number changes ++ rest))
+  pub only : (number : ℕ) (changes : List Change) (rest : List ℕ) → IsGroup changes → next_at number (mark open_byte ++ (group_text number changes ++ rest)) ≡ Done (Some changes) rest
+  -- the committed text ends at a mark that isn't open, and nowhere else
+  pub ended : (number : ℕ) (bytes rest : List ℕ) → next_at number bytes ≡ Done None rest → (byte : ℕ) × ((byte ≢ open_byte) × (bytes ≡ mark byte ++ rest))
+  pub ends : (number : ℕ) (byte : ℕ) (rest : List ℕ) → byte ≢ open_byte → next_at number (mark byte ++ rest) ≡ Done None rest
+  -- the recursion on the bytes gives the groups that they are
+  pub are_groups : (bytes : List ℕ) (groups : List (List Change)) → groups_of bytes ≡ Some groups → HasGroups 1 bytes groups
+  pub groups_are : (bytes : List ℕ) (groups : List (List Change)) → HasGroups 1 bytes groups → groups_of bytes ≡ Some groups
+
+-- this group was answered, unless there was no memory
+abbrev pub IsAnswer : {X : Type 0} → Result X GroupFault → X → Type 0
+IsAnswer (Ok x) y = x ≡ y
+IsAnswer (Err faults.Memory) y = Unit {0}
+IsAnswer (Err _) y = ⊥
