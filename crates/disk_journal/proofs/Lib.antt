@@ -1,6 +1,7 @@
 mod Blocks
 mod Fetched
 mod Forms
+mod Grouped
 mod Images
 mod Made
 mod Opening

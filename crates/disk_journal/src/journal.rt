@@ -3,11 +3,14 @@
 ghost use Rattle.std.specs.Prelude.{◌≡◌, ◌≢◌, ◌⊎◌, ◌+◌, ◌*◌, ◌<◌, ◌≤◌, ◌^◌, length, OnOk, IfOk, IsErr, IsTrue, ◌↔◌};
 ghost use Rattle.outside_api.specs.Count.{HasCause};
 ghost use Rattle.outside_api.specs.Disk.{LeavesOnly};
+ghost use Rattle.journal_groups.specs.Groups.{group_text};
 ghost use Rattle.disk_journal.specs.Text.{IsGroup};
 
+use db_records::Change;
 use depot_path::Text;
+use journal_groups::print_group;
 use outside_api::{Disk, DiskFault, write_through};
-use std::alloc::AllocError;
+use std::alloc::{AllocError, Global};
 
 const MARK_LENGTH: u64 = 5;
 
@@ -81,6 +84,15 @@ impl<D: Disk> Journal<D> {
             },
             doubt: Doubt::Nothing,
         }
+    }
+
+    /// The text of the next group, of these changes, with a closed mark behind it.
+    pub fn prepare(&self, alloc: Global, changes: &[Change]) -> Result<Prepared, AllocError>
+        ensures group { IfOk result (λ prepared. group_of prepared ≡ group_text (next_number self.now) changes.now) }
+        ensures prepared { IfOk result (λ prepared. IsPrepared (next_number self.now) prepared) }
+    {
+        let text = print_group(alloc, self.end.groups + 1, changes)?;
+        self.prepare_text(text)
     }
 
     /// The text of the next group, with a closed mark behind it.
