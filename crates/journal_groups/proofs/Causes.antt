@@ -1,19 +1,15 @@
 -- Why a group, and what a call wants, isn't there.
-use Rattle.std.proofs.Common.{◌≡◌, ℕ, suc, ◌+◌, ◌-◌, ◌<◌, ◌≤◌, ◌^◌, Bool, true, false, eqb, List, [], ◌∷◌, ◌++◌, length, Option, Some, None, refl, sym, ap, subst, ◌∙◌, append_assoc, arith}
-use Rattle.std.specs.Prelude.{Result, Ok, Err, ◌≢◌}
-use Rattle.std.proofs.lemmas.Bool.{eqb-true, eqb-false, ne_eqb}
+use Rattle.std.proofs.Common.{◌≡◌, ℕ, suc, ◌<◌, ◌^◌, Bool, true, false, eqb, List, [], ◌∷◌, ◌++◌, length, Option, Some, None, refl, sym, ap, subst, ◌∙◌, append_assoc}
+use Rattle.std.proofs.lemmas.Bool.{eqb-true}
 use Rattle.db_records.specs.declared.change.Change.{Change}
 use Rattle.record_text.specs.declared.fault.Part.{Part}
-use Rattle.record_text.specs.Reading.{Reading, Done, Ends, Wrong, and_then, Begins}
-use Rattle.record_text.specs.Grammar.{largest_wide}
-use Rattle.journal_groups.specs.declared.fault.GroupFault.{GroupFault}
-use Rattle.journal_groups.specs.declared.fault.GroupFault.TheVariants as faults
-use Rattle.journal_groups.specs.Groups.{head_of, group_text, IsGroup, mark, open_byte}
-use Rattle.journal_groups.specs.Reading.{head_at, body_at, group_at, mark_at, behind_mark, next_at, FailsAt}
-use Rattle.journal_groups.specs.Causes.{GroupGoesOn, in_head, in_body, GoesOn, in_mark, in_group, BeginsWanted, closed, group, StopsAt, GroupStopsAt, IfShort, IfBad, IsShort}
+use Rattle.record_text.specs.Reading.{Reading, Done, Ends, Wrong, and_then}
+use Rattle.journal_groups.specs.Groups.{head_of, mark, open_byte}
+use Rattle.journal_groups.specs.Reading.{head_at, body_at, group_at, mark_at, behind_mark, next_at}
+use Rattle.journal_groups.specs.Causes.{GroupGoesOn, in_head, in_body, GoesOn, in_mark, in_group, BeginsWanted, closed, group, StopsAt, GroupStopsAt}
 use Rattle.journal_groups.proofs.Texts.{head_again, head_done, group_again, mark_again, mark_done, next_group, next_ends}
 use Rattle.journal_groups.proofs.Chained.{head_reads, marked_at, marked_reads, opened, mark_is}
-use Rattle.journal_groups.proofs.Halts.{IsWrong, begins_ends, none_wrong, wrong_then, Way, second, first_ends, first_wrong, way_of, no_done_ends, no_done_wrong, no_ends_wrong, body_ends, body_goes, BodyHalts, body_halts}
+use Rattle.journal_groups.proofs.Halts.{IsWrong, begins_ends, none_wrong, wrong_then, second, first_ends, first_wrong, way_of, no_done_ends, no_done_wrong, no_ends_wrong, body_ends, body_goes, body_halts}
 
 abbrev done : {A : Type 0} → A → List ℕ → Reading A
 done a rest = Done a rest

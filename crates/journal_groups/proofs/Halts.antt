@@ -9,9 +9,9 @@ use Rattle.db_records.specs.declared.change.Change.{Change}
 use Rattle.db_records.specs.declared.record.Record.{Record}
 use Rattle.record_text.specs.declared.fault.Part.{Part}
 use Rattle.record_text.specs.declared.fault.Part.TheVariants.{Field}
-use Rattle.record_text.specs.Reading.{Reading, Done, Ends, Wrong, and_then, Begins, NoneBegins, Stops, Reads}
+use Rattle.record_text.specs.Reading.{Reading, Done, Ends, Wrong, and_then, Begins, NoneBegins, Reads}
 use Rattle.record_text.specs.Clauses.{IsBeginning}
-use Rattle.record_text.specs.Grammar.{record_at, IsRecord, spelling}
+use Rattle.record_text.specs.Grammar.{record_at, IsRecord}
 use Rattle.record_text.proofs.RecordLaws.{record_reads}
 use Rattle.journal_groups.specs.Groups.{change_text, body_of, AreRecords}
 use Rattle.journal_groups.specs.Reading.{window_read, window_at, body_below, body_at}

@@ -7,3 +7,4 @@ pub mod Committed
 pub mod Chained
 pub mod Halts
 pub mod Causes
+pub mod Clauses

@@ -1,6 +1,6 @@
 -- Bytes that may still become what is wanted, and the first byte with which they no longer may. That a group's length is
 -- compared with its records at the group's end alone, and not while it is read, is this project's own choice.
-use Rattle.std.specs.Prelude.{◌≡◌, ◌≢◌, ℕ, suc, ◌<◌, ◌≤◌, List, [], ◌∷◌, ◌++◌, length, Result, Err}
+use Rattle.std.specs.Prelude.{◌≡◌, ◌≢◌, ℕ, suc, ◌<◌, ◌≤◌, List, [], ◌∷◌, ◌++◌, length, Result, Ok, Err}
 use Rattle.db_records.specs.declared.change.Change.{Change}
 use Rattle.record_text.specs.Reading.{Begins}
 use Rattle.record_text.specs.Clauses.{IsBeginning}
@@ -65,6 +65,12 @@ IfShort _ P = Unit {0}
 abbrev pub IfBad : {X : Type 0} → Result X GroupFault → (ℕ → Type 0) → Type 0
 IfBad (Err (faults.BadGroup place)) P = P place
 IfBad _ P = Unit {0}
+
+-- this was answered, unless there was no memory
+abbrev pub IsAnswer : {X : Type 0} → Result X GroupFault → X → Type 0
+IsAnswer (Ok x) y = x ≡ y
+IsAnswer (Err faults.Memory) y = Unit {0}
+IsAnswer (Err _) y = ⊥
 
 -- it ends at this place, unless there was no memory
 abbrev pub IsShort : {X : Type 0} → Result X GroupFault → ℕ → Type 0
