@@ -1,6 +1,6 @@
 -- The records of a group, one after another.
 use Rattle.std.proofs.Common.{◌≡◌, ℕ, zero, suc, ◌+◌, ◌-◌, ◌<◌, ◌≤◌, Bool, true, false, cond, leb, List, [], ◌∷◌, ◌++◌, length, take, drop, refl, sym, ap, subst, ◌∙◌, append_assoc, arith, length-append, length-drop}
-use Rattle.std.specs.Prelude.{Result, Ok, Err}
+use Rattle.std.specs.Prelude.{Err}
 use Rattle.std.proofs.Math.Seq.{take-append-add, drop-append_seam}
 use Rattle.std.proofs.lemmas.List.{take-append-drop, length-take-le, drop-drop, append-nil}
 use Rattle.std.proofs.lemmas.Bool.{le-leb, lt-leb}
@@ -14,8 +14,7 @@ use Rattle.record_text.specs.declared.fault.RecordFault.{RecordFault}
 use Rattle.record_text.specs.declared.fault.RecordFault.TheVariants as faults
 use Rattle.record_text.specs.Answers.{Fails}
 use Rattle.record_text.specs.Reading.{Reading, Done, Ends, Wrong, and_then}
-use Rattle.record_text.specs.Layout.{parts_of}
-use Rattle.record_text.specs.Grammar.{record_at, spelling, parts_spelling, IsRecord}
+use Rattle.record_text.specs.Grammar.{record_at, spelling, IsRecord}
 use Rattle.record_text.proofs.RecordLaws.{record_reads}
 use Rattle.journal_groups.specs.Groups.{change_text}
 use Rattle.journal_groups.specs.Reading.{change_of, window_read, window_at, body_below, body_at}

@@ -1,5 +1,5 @@
 -- What is read stays so when more bytes follow.
-use Rattle.std.proofs.Common.{◌≡◌, ℕ, ◌≤◌, Bool, true, false, cond, eqb, ◌&&◌, List, [], ◌∷◌, ◌++◌, length, take, drop, Option, Some, None, refl, sym, ap, subst, ◌∙◌, append_assoc, arith}
+use Rattle.std.proofs.Common.{◌≡◌, ℕ, ◌≤◌, Bool, true, false, cond, eqb, List, [], ◌∷◌, ◌++◌, length, take, drop, Some, None, refl, sym, ap, ◌∙◌, append_assoc, arith}
 use Rattle.std.specs.Prelude.{nat_eq, codes}
 use Rattle.std.specs.Str.{bytes_eq}
 use Rattle.std.specs.List.{starts_with}
@@ -15,7 +15,7 @@ use Rattle.record_text.specs.Grammar.{largest_wide}
 use Rattle.record_text.proofs.Numbers.{number_reads}
 use Rattle.record_text.proofs.Words.{bytes_are}
 use Rattle.journal_groups.specs.Groups.{open_byte}
-use Rattle.journal_groups.specs.Reading.{exactly, head_at, behind_byte, behind_sign, mark_at}
+use Rattle.journal_groups.specs.Reading.{exactly, head_at, behind_sign, mark_at}
 
 abbrev pub Extended : {A : Type 0} → List ℕ → Reading A → Reading A → Type 0
 Extended {A} more r s = (a : A) (rest : List ℕ) → r ≡ Done a rest → s ≡ Done a (rest ++ more)

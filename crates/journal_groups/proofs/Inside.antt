@@ -1,26 +1,24 @@
 -- What is read stands at the front of the bytes, and the first byte that can't go on is one of them.
-use Rattle.std.proofs.Common.{◌≡◌, ℕ, zero, suc, ◌+◌, ◌-◌, ◌<◌, ◌≤◌, Bool, true, false, cond, leb, eqb, List, [], ◌∷◌, ◌++◌, length, take, drop, Option, Some, None, refl, sym, ap, subst, ◌∙◌, append_assoc, arith, length-append, length-drop}
+use Rattle.std.proofs.Common.{◌≡◌, ℕ, zero, suc, ◌+◌, ◌-◌, ◌<◌, ◌≤◌, Bool, true, false, cond, leb, eqb, List, [], ◌∷◌, ◌++◌, length, take, drop, Some, None, refl, sym, ap, subst, ◌∙◌, append_assoc, arith, length-append}
 use Rattle.std.specs.Prelude.{nat_eq, codes}
 use Rattle.std.specs.List.{starts_with}
 use Rattle.std.specs.Fmt.{decimal}
 use Rattle.std.proofs.lemmas.List.{take-append-drop}
 use Rattle.std.proofs.Math.Seq.{drop-append_seam}
 use Rattle.db_records.specs.declared.change.Op.{Op}
-use Rattle.db_records.specs.declared.change.Change.{Change}
 use Rattle.db_records.specs.declared.record.Record.{Record}
-use Rattle.record_text.specs.declared.fault.Part.{Part}
 use Rattle.record_text.specs.declared.fault.Part.TheVariants.{Field}
 use Rattle.record_text.specs.declared.fault.RecordFault.{RecordFault}
 use Rattle.record_text.specs.declared.fault.RecordFault.TheVariants as faults
 use Rattle.record_text.specs.Answers.{Fails}
-use Rattle.record_text.specs.Reading.{Reading, Done, Ends, Wrong, and_then, Reads, Stops}
+use Rattle.record_text.specs.Reading.{Reading, Done, Ends, Wrong, and_then, Reads}
 use Rattle.record_text.specs.Spelling.{sign, number_at}
 use Rattle.record_text.specs.Words.{word_read, common, greater}
 use Rattle.record_text.specs.Grammar.{record_at, largest_wide}
 use Rattle.record_text.proofs.RecordLaws.{record_reads}
 use Rattle.record_text.proofs.Numbers.{number_reads}
-use Rattle.journal_groups.specs.Groups.{change_text, open_byte}
-use Rattle.journal_groups.specs.Reading.{exactly, head_at, change_of, window_read, window_at, body_below, body_at, group_at, behind_byte, behind_sign, mark_at, behind_mark, next_at, placed, IsWithin, FailsAt}
+use Rattle.journal_groups.specs.Groups.{open_byte}
+use Rattle.journal_groups.specs.Reading.{exactly, head_at, window_read, window_at, body_below, body_at, group_at, behind_byte, behind_sign, mark_at, behind_mark, next_at, placed, IsWithin, FailsAt}
 use Rattle.journal_groups.proofs.Bodies.{behind_is}
 use Rattle.journal_groups.proofs.Extended.{parts_of, exactly_whole}
 

@@ -4,3 +4,7 @@ pub mod Inside
 pub mod Whole
 pub mod Texts
 pub mod Committed
+pub mod Chained
+pub mod Halts
+pub mod Causes
+pub mod Clauses

@@ -1,17 +1,16 @@
 -- What is read is printed so, and what is printed so is read.
-use Rattle.std.proofs.Common.{◌≡◌, ℕ, zero, suc, ◌+◌, ◌-◌, ◌<◌, ◌≤◌, Bool, true, false, eqb, List, [], ◌∷◌, ◌++◌, length, take, drop, Option, Some, None, refl, sym, ap, subst, ◌∙◌, append_assoc, arith, length-append}
+use Rattle.std.proofs.Common.{◌≡◌, ℕ, zero, suc, ◌+◌, ◌-◌, ◌≤◌, Bool, true, false, eqb, List, [], ◌∷◌, ◌++◌, length, Option, Some, None, refl, sym, ap, subst, ◌∙◌, append_assoc, arith, length-append}
 use Rattle.std.specs.Prelude.{codes, ◌≢◌}
-use Rattle.std.specs.List.{AllByRecursion}
 use Rattle.std.specs.Fmt.{decimal}
 use Rattle.std.proofs.lemmas.Bool.{ne_eqb, eqb-true, eqb-false}
 use Rattle.std.proofs.lemmas.List.Concat.{flat_map-cons}
 use Rattle.db_records.specs.declared.change.Change.{Change}
-use Rattle.record_text.specs.Reading.{Reading, Done, Ends, Wrong, and_then}
+use Rattle.record_text.specs.Reading.{Reading, Done, Ends, and_then}
 use Rattle.record_text.specs.Spelling.{sign, spelled_number, number_at}
-use Rattle.record_text.specs.Grammar.{IsRecord, largest_wide}
+use Rattle.record_text.specs.Grammar.{largest_wide}
 use Rattle.record_text.proofs.Numbers.{number_reads}
 use Rattle.journal_groups.specs.Groups.{change_text, body_of, head_of, group_text, AreRecords, IsGroup, mark, open_byte}
-use Rattle.journal_groups.specs.Reading.{exactly, head_at, window_at, body_below, body_at, group_at, behind_byte, behind_sign, mark_at, behind_mark, next_at}
+use Rattle.journal_groups.specs.Reading.{exactly, head_at, window_at, body_below, body_at, group_at, behind_sign, mark_at, behind_mark, next_at}
 use Rattle.journal_groups.proofs.Bodies.{window_done, before, body_one}
 use Rattle.journal_groups.proofs.Extended.{parts_of, exactly_whole, exactly_again}
 

@@ -1,10 +1,10 @@
 -- A group whose records were read one after another.
-use Rattle.std.proofs.Common.{◌≡◌, ℕ, ◌+◌, ◌-◌, ◌<◌, ◌≤◌, Bool, true, false, List, [], ◌++◌, length, drop, Option, Some, None, refl, sym, ap, subst, ◌∙◌, append_assoc, arith, length-append}
+use Rattle.std.proofs.Common.{◌≡◌, ℕ, ◌+◌, ◌-◌, ◌<◌, ◌≤◌, true, false, List, [], ◌++◌, length, drop, Option, Some, None, refl, sym, ap, subst, ◌∙◌, append_assoc, arith, length-append}
 use Rattle.std.proofs.lemmas.List.{append-nil, drop-drop, drop-append-le}
 use Rattle.db_records.specs.declared.change.Change.{Change}
 use Rattle.record_text.specs.declared.fault.RecordFault.{RecordFault}
 use Rattle.record_text.specs.Answers.{Fails}
-use Rattle.record_text.specs.Reading.{Reading, Done, and_then}
+use Rattle.record_text.specs.Reading.{Done, and_then}
 use Rattle.journal_groups.specs.declared.body.Body.{Body}
 use Rattle.journal_groups.specs.Reading.{head_at, body_at, group_at, mark_at, behind_mark, next_at}
 use Rattle.journal_groups.specs.Reader.{with_front, goes_on, ReadsTheSame, as_next, IsBegun}

@@ -1,6 +1,6 @@
 -- The text of a journal: groups of records, each behind a mark that is open, and then a mark that isn't. The records are those
 -- of a Helix Core journal (System Administrator Guide, "Journal files"); heads and marks are this project's own choice.
-use Rattle.std.specs.Prelude.{◌≡◌, ℕ, suc, ◌≤◌, List, [], ◌∷◌, ◌++◌, length, codes}
+use Rattle.std.specs.Prelude.{ℕ, suc, ◌≤◌, List, [], ◌∷◌, ◌++◌, length, codes}
 use Rattle.std.specs.List.{flat_map, AllByRecursion}
 use Rattle.db_records.specs.declared.change.Change.{Change}
 use Rattle.record_text.specs.Spelling.{sign, spelled_number}

@@ -1,11 +1,11 @@
 -- What reading and printing have to do with each other.
-use Rattle.std.specs.Prelude.{◌≡◌, ◌≢◌, ◌≤◌, ℕ, List, ◌++◌, length, take, Option, Some, None, Result, Ok, Err}
+use Rattle.std.specs.Prelude.{◌≡◌, ◌≢◌, ◌↔◌, ◌<◌, ◌^◌, ℕ, List, ◌++◌, Some, None}
 use Rattle.db_records.specs.declared.change.Change.{Change}
-use Rattle.record_text.specs.Reading.{Done}
-use Rattle.journal_groups.specs.declared.fault.GroupFault.{GroupFault}
-use Rattle.journal_groups.specs.declared.fault.GroupFault.TheVariants as faults
+use Rattle.record_text.specs.Reading.{Done, Ends, Wrong}
+use Rattle.record_text.specs.declared.fault.Part.{Part}
 use Rattle.journal_groups.specs.Groups.{IsGroup, group_text, mark, open_byte}
-use Rattle.journal_groups.specs.Reading.{next_at}
+use Rattle.journal_groups.specs.Reading.{group_at, next_at}
+use Rattle.journal_groups.specs.Causes.{GroupGoesOn, GoesOn, StopsAt, GroupStopsAt}
 use Rattle.journal_groups.specs.Committed.{HasGroups, groups_of}
 
 -- a group stands behind an open mark, and nothing else is read as one, whatever follows
@@ -19,8 +19,9 @@ pub record GroupsHaveOneText : Type 0 where
   pub are_groups : (bytes : List ℕ) (groups : List (List Change)) → groups_of bytes ≡ Some groups → HasGroups 1 bytes groups
   pub groups_are : (bytes : List ℕ) (groups : List (List Change)) → HasGroups 1 bytes groups → groups_of bytes ≡ Some groups
 
--- this group was answered, unless there was no memory
-abbrev pub IsAnswer : {X : Type 0} → Result X GroupFault → X → Type 0
-IsAnswer (Ok x) y = x ≡ y
-IsAnswer (Err faults.Memory) y = Unit {0}
-IsAnswer (Err _) y = ⊥
+-- what bytes must be that end too early, and that can't go on
+pub record FaultsHaveTheirCause : Type 0 where
+  pub short : (number : ℕ) (bytes : List ℕ) → number < 2 ^ 64 → (next_at number bytes ≡ Ends) ↔ GoesOn number bytes
+  pub bad : (number : ℕ) (bytes : List ℕ) (part : Part) (left : ℕ) → number < 2 ^ 64 → next_at number bytes ≡ Wrong part left → StopsAt number bytes left
+  pub short_group : (number : ℕ) (bytes : List ℕ) → number < 2 ^ 64 → (group_at number bytes ≡ Ends) ↔ GroupGoesOn number bytes
+  pub bad_group : (number : ℕ) (bytes : List ℕ) (part : Part) (left : ℕ) → number < 2 ^ 64 → group_at number bytes ≡ Wrong part left → GroupStopsAt number bytes left

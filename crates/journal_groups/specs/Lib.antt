@@ -3,3 +3,4 @@ pub mod Reading
 pub mod Committed
 pub mod Reader
 pub mod Laws
+pub mod Causes

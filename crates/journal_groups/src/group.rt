@@ -1,8 +1,10 @@
 //! One group.
 
-ghost use Rattle.std.specs.Prelude.{◌≡◌, ◌+◌, ◌<◌, ◌≤◌, ◌^◌, length, drop, IfOk};
+ghost use Rattle.std.specs.Prelude.{◌≡◌, ◌+◌, ◌-◌, ◌<◌, ◌≤◌, ◌^◌, ◌++◌, ℕ, List, length, take, drop, IfOk};
+ghost use Rattle.db_records.specs.declared.change.Change.{Change};
 ghost use Rattle.record_text.specs.Answers.{Gives};
-ghost use Rattle.journal_groups.specs.Groups.{body_of, head_of as head_text, group_text};
+ghost use Rattle.journal_groups.specs.Groups.{body_of, head_of as head_text, group_text, IsGroup};
+ghost use Rattle.journal_groups.specs.Causes.{GroupGoesOn, GroupStopsAt, IsAnswer, IsShort, IfShort, IfBad};
 ghost use Rattle.journal_groups.specs.Reading.{group_at, placed, IsWithin, GivesAt};
 
 use crate::body::Body;
@@ -81,9 +83,8 @@ fn group_of(
     Ok((body.changes, body.read))
 }
 
-/// The changes of the group of this number with which the bytes begin, and the group's length in bytes.
-/// The places of faults count from 0.
-pub fn read_group(
+/// The group at the front, or the place of its fault.
+fn whole_group(
     alloc: Global,
     bytes: &[u8],
     number: u64,
@@ -95,4 +96,25 @@ pub fn read_group(
         Ok(group) => Ok(group),
         Err(fault) => Err(fault_at(0, bytes.len(), fault)),
     }
+}
+
+/// The changes of the group of this number with which the bytes begin, and the group's length in bytes.
+/// The places of faults count from 0.
+pub fn read_group(
+    alloc: Global,
+    bytes: &[u8],
+    number: u64,
+) -> Result<(Sequence<Change>, usize), GroupFault>
+    // What is read is the text of a group.
+    ensures found { IfOk result (λ x. IsGroup x.0 × (take x.1 bytes.now ≡ group_text number x.0) × (x.1 ≤ length bytes.now)) }
+    // The text of a group is read, whatever follows it, unless there is no memory.
+    ensures only { (changes : List Change) (rest : List ℕ) → IsGroup changes → bytes.now ≡ group_text number changes ++ rest → IsAnswer result (changes, length (group_text number changes)) }
+    // It is short just where all of the bytes may still become a group.
+    ensures short { IfShort result (λ place. GroupGoesOn number bytes.now × (place ≡ length bytes.now)) }
+    ensures goes { GroupGoesOn number bytes.now → IsShort result (length bytes.now) }
+    // Another fault is at the first byte that can't go on.
+    ensures bad { IfBad result (λ place. GroupStopsAt number bytes.now (length bytes.now - place)) }
+    ensures exact { GivesAt 0 bytes.now (λ x. x.0) (λ x. drop x.1 bytes.now) result (group_at number bytes.now) }
+{
+    whole_group(alloc, bytes, number)
 }

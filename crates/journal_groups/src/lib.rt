@@ -15,7 +15,7 @@ mod reader;
 
 pub use fault::GroupFault;
 pub use group::{print_group, read_group};
-pub use laws::groups_have_one_text;
+pub use laws::{faults_have_their_cause, groups_have_one_text};
 pub use moved::Moved;
 pub use reader::GroupReader;
 

@@ -1,7 +1,8 @@
 //! The groups of a journal's text one after another, from bytes that come in pieces.
 
-ghost use Rattle.std.specs.Prelude.{◌≡◌, ◌++◌, ◌+◌, ◌<◌, ◌≤◌, ◌^◌, length, Some, OnOk, OnErr};
+ghost use Rattle.std.specs.Prelude.{◌≡◌, ◌++◌, ◌+◌, ◌-◌, ◌<◌, ◌≤◌, ◌^◌, length, Some, OnOk, OnErr};
 ghost use Rattle.journal_groups.specs.Reading.{placed, IsWithin};
+ghost use Rattle.journal_groups.specs.Causes.{GoesOn, StopsAt, IsShort, IfShort, IfBad};
 ghost use Rattle.journal_groups.specs.Reader.{State, IsNext, IsBegun, HasBegun};
 
 use crate::body::Body;
@@ -104,6 +105,7 @@ impl GroupReader {
 
     /// What was read of the next group, or what its mark and head say, or nothing at a mark that isn't open.
     fn begun(&mut self, alloc: Global) -> Result<Option<Body>, RecordFault>
+        ensures small { self.old.number < 2 ^ 64 }
         ensures same { self.new ≡ self.old }
         ensures begun { HasBegun self.old.number self.old.left result }
     {
@@ -143,18 +145,31 @@ impl GroupReader {
         }
     }
 
-    /// The changes of the next group, or nothing at a mark that isn't open, where the committed text ends.
-    ///
-    /// After an error, and after nothing, the reader stays as it was. After `Short` it goes on with
-    /// [`GroupReader::more`]. The places of faults are those of the whole text.
-    pub fn next(&mut self, alloc: Global) -> Result<Option<Sequence<Change>>, GroupFault>
-        ensures { IsNext self.old self.new result }
+    /// Reads the next group.
+    fn advance(&mut self, alloc: Global) -> Result<Option<Sequence<Change>>, GroupFault>
+        ensures small { self.old.number < 2 ^ 64 }
+        ensures next { IsNext self.old self.new result }
     {
         match self.begun(alloc) {
             Ok(Some(body)) => self.finish(alloc, body),
             Ok(None) => Ok(None),
             Err(fault) => Err(self.fault(fault)),
         }
+    }
+
+    /// The changes of the next group, or nothing at a mark that isn't open, where the committed text ends.
+    ///
+    /// After an error, and after nothing, the reader stays as it was. After `Short` it goes on with
+    /// [`GroupReader::more`]. The places of faults are those of the whole text.
+    pub fn next(&mut self, alloc: Global) -> Result<Option<Sequence<Change>>, GroupFault>
+        ensures next { IsNext self.old self.new result }
+        // It is short just where all of the bytes may still become what is wanted.
+        ensures short { IfShort result (λ place. GoesOn self.old.number self.old.left × (place ≡ self.old.at + length self.old.left)) }
+        ensures goes { GoesOn self.old.number self.old.left → IsShort result (self.old.at + length self.old.left) }
+        // Another fault is at the first byte that can't go on.
+        ensures bad { IfBad result (λ place. StopsAt self.old.number self.old.left (self.old.at + length self.old.left - place)) }
+    {
+        self.advance(alloc)
     }
 }
 

@@ -15,7 +15,10 @@ fn a_group_is_printed_and_read(rt: HostRuntime) -> Result<(), Fail> {
     assert_eq!(rt; text.as_bytes(), line);
     let (read, length) = read_group(rt.alloc(), line, 1).ok().ok_or("a group")?;
     assert_eq!(rt; length, line.len());
-    assert!(rt; read.as_slice()[0].row.same(&changes[0].row));
+    assert_eq!(rt; read.len(), 1);
+    for change in read.as_slice() {
+        assert!(rt; change.row.same(&changes[0].row));
+    }
     Ok(())
 }
 
@@ -42,17 +45,16 @@ fn a_journal_is_read_at_once(rt: HostRuntime) -> Result<(), Fail> {
 #[test]
 fn a_journal_is_read_byte_by_byte(rt: HostRuntime) -> Result<(), Fail> {
     let mut reader = GroupReader::new(Text::new(rt.alloc()), 0, 1);
-    let mut groups = 0;
+    let mut found = false;
     for byte in JOURNAL {
         assert!(rt; reader.place() < 100 && reader.waiting() < 100);
         reader.more(rt.alloc(), &[*byte])?;
         if let Ok(Some(_)) = reader.next(rt.alloc()) {
-            groups += 1;
-            assert_eq!(rt; reader.place(), 46);
-            assert!(rt; groups == 1);
+            assert!(rt; !found && reader.place() == 46);
+            found = true;
         }
     }
-    assert_eq!(rt; groups, 1);
+    assert!(rt; found);
     assert!(rt; matches!(reader.next(rt.alloc()), Ok(None)));
     Ok(())
 }

@@ -1,4 +1,3 @@
-use Rattle.std.proofs.Common.{◌≡◌, ap}
 use Rattle.std.proofs.lemmas.Result.{err_from_is_err_and}
 use Rattle.journal_groups.proofs.Inside.{head_suffix}
 use Rattle.journal_groups.proofs.Whole.{group_whole, group_fails}

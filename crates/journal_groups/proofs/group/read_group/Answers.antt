@@ -1,13 +1,17 @@
-use Rattle.std.proofs.Common.{◌≡◌, length, sym, subst}
-use Rattle.journal_groups.specs.declared.fault.GroupFault.{GroupFault}
-use Rattle.journal_groups.specs.Reading.{group_at, FailsAt}
-use Rattle.journal_groups.proofs.Inside.{inside_group, within_of, fails_at}
+use Rattle.journal_groups.proofs.Clauses.{found_is, only_is, short_is, goes_is, bad_is}
 use Rattle.journal_groups.proofs.group.read_group.Goals as goal
 
-pub fault_at-requires-clause-within : goal.fault_at-requires-clause-within
-fault_at-requires-clause-within c = within_of c.args.bytes.now (group_at c.args.number c.args.bytes.now) c.in-Err.fault (inside_group c.args.number c.args.bytes.now) c.in-Err.ensures.exact
+pub returns-clause-found : goal.returns-clause-found
+returns-clause-found c = found_is c.args.bytes.now c.args.number c.whole_group.result c.whole_group.ensures.exact c.whole_group.ensures.within
 
-pub returns-in-Err-clause-exact : goal.returns-in-Err-clause-exact
-returns-in-Err-clause-exact c =
-    subst (λ (f : GroupFault). FailsAt 0 c.args.bytes.now f (group_at c.args.number c.args.bytes.now)) (sym c.fault_at.ensures)
-    (fails_at 0 c.args.bytes.now (group_at c.args.number c.args.bytes.now) c.in-Err.fault (inside_group c.args.number c.args.bytes.now) c.in-Err.ensures.exact)
+pub returns-clause-only : goal.returns-clause-only
+returns-clause-only c = λ changes rest is same. only_is c.args.bytes.now c.args.number c.whole_group.result changes rest c.whole_group.ensures.exact c.whole_group.ensures.within is same
+
+pub returns-clause-short : goal.returns-clause-short
+returns-clause-short c = short_is c.args.bytes.now c.args.number c.whole_group.result c.ranges.number.fits c.whole_group.ensures.exact
+
+pub returns-clause-goes : goal.returns-clause-goes
+returns-clause-goes c = λ g. goes_is c.args.bytes.now c.args.number c.whole_group.result c.ranges.number.fits c.whole_group.ensures.exact g
+
+pub returns-clause-bad : goal.returns-clause-bad
+returns-clause-bad c = bad_is c.args.bytes.now c.args.number c.whole_group.result c.ranges.number.fits c.whole_group.ensures.exact

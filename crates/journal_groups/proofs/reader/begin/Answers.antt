@@ -1,4 +1,4 @@
-use Rattle.std.proofs.Common.{◌≡◌, ◌-◌, ◌<◌, ◌≤◌, Bool, true, false, List, ℕ, length, drop, subst, arith}
+use Rattle.std.proofs.Common.{◌≡◌, ◌<◌, ◌≤◌, Bool, true, length, subst, arith}
 use Rattle.record_text.specs.Reading.{Done}
 use Rattle.journal_groups.specs.Reading.{mark_at}
 use Rattle.journal_groups.proofs.Inside.{mark_suffix, mark_long, head_suffix}

@@ -1,9 +1,5 @@
-use Rattle.std.proofs.Common.{◌≡◌, ◌+◌, ◌-◌, ◌<◌, ◌≤◌, List, ℕ, [], ◌∷◌, ◌++◌, length, drop, sym, ap, ◌∙◌, arith, length-drop}
-use Rattle.db_records.specs.declared.change.Change.{Change}
-use Rattle.journal_groups.specs.Groups.{change_text}
-use Rattle.journal_groups.specs.Reading.{body_at}
-use Rattle.journal_groups.specs.Reader.{with_front}
-use Rattle.journal_groups.proofs.Bodies.{window_done, moved_on}
+use Rattle.std.proofs.Common.{◌≡◌, ◌-◌, ◌<◌, ◌≤◌, length, drop, ap, ◌∙◌, arith, length-drop}
+use Rattle.journal_groups.proofs.Bodies.{moved_on}
 use Rattle.journal_groups.proofs.body.Body.read_change.Goals as goal
 
 pub returns : goal.returns
