@@ -109,10 +109,82 @@ fn a_counter_is_set_and_shown(rt: HostRuntime) -> Result<(), Fail> {
 
 #[test]
 fn a_script_ends_at_its_first_bad_line(rt: HostRuntime) -> Result<(), Fail> {
-    let cut = b"session ann ws1 hostA\np4 counter a 5\np4 frob\np4 counter a\n".as_slice();
+    let bad = b"session ann ws1 hostA\np4 counter a 5\np4 frob\np4 counter a\n".as_slice();
     let reply = b"... counter a\n... value 5\n\n... end 1\n\n".as_slice();
     let lines = b"place 1 1 1700000000\nscript 1 3 37\n".as_slice();
     runs(&rt, rt.alloc(), HEAD, NONE, 0, b"", b"")?;
-    runs(&rt, rt.alloc(), b"", NONE, 3, b"", b"script 1 3 0\n")?;
-    runs(&rt, rt.alloc(), cut, NONE, 3, reply, lines)
+    runs(&rt, rt.alloc(), bad, NONE, 3, reply, lines)?;
+    runs(
+        &rt,
+        rt.alloc(),
+        b"session ann\np4 counter a\n",
+        NONE,
+        3,
+        b"",
+        b"script 1 1 0\n",
+    )
+}
+
+/// A script that is cut anywhere ends whole behind a line feed and otherwise at its length, and every
+/// command before is run.
+#[test]
+fn a_script_is_cut_at_any_byte(rt: HostRuntime) -> Result<(), Fail> {
+    let one = b"... counter build\n... value 7\n\n... end 1\n\n".as_slice();
+    let both =
+        b"... counter build\n... value 7\n\n... end 1\n\n... counter build\n... value 7\n\n... end 2\n\n".as_slice();
+    for at in 0..SCRIPT.len() + 1 {
+        let mut lines = Text::new(rt.alloc());
+        let mut output = b"".as_slice();
+        if at >= 41 {
+            lines.append(b"place 1 1 1700000000\n")?;
+            output = one;
+        }
+        if at >= 58 {
+            lines.append(b"place 1 2 1700000000\n")?;
+            output = both;
+        }
+        let mut status = 0;
+        if at != 22 && at != 41 && at != 58 {
+            lines.append(b"script 1 4 ")?;
+            lines.append(itoa::Buffer::new().format(at).as_bytes())?;
+            lines.append(b"\n")?;
+            status = 3;
+        }
+        runs(
+            &rt,
+            rt.alloc(),
+            &SCRIPT[..at],
+            NONE,
+            status,
+            output,
+            lines.as_bytes(),
+        )?;
+    }
+    Ok(())
+}
+
+#[test]
+fn a_line_has_its_most_bytes(rt: HostRuntime) -> Result<(), Fail> {
+    let mut script = Text::from_bytes(rt.alloc(), HEAD)?;
+    script.append(b"p4 counter ")?;
+    script.append(&[b'a'; 8192 - 11])?;
+    runs(
+        &rt,
+        rt.alloc(),
+        script.as_bytes(),
+        NONE,
+        3,
+        b"",
+        b"script 1 4 8214\n",
+    )?;
+    script.append(b"a\n")?;
+    runs(
+        &rt,
+        rt.alloc(),
+        script.as_bytes(),
+        NONE,
+        3,
+        b"",
+        b"script 1 2 22\n",
+    )
 }

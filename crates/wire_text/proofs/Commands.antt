@@ -1,26 +1,27 @@
 -- What the commands of a script say, read from the front.
-use Rattle.std.proofs.Common.{◌≡◌, ℕ, ◌+◌, ◌<◌, ◌≤◌, true, false, cond, eqb, List, [], ◌∷◌, ◌++◌, length, length-append, Option, Some, None, refl, sym, ap, ◌∙◌, arith, append_assoc}
+use Rattle.std.proofs.Common.{◌≡◌, ℕ, ◌+◌, ◌<◌, ◌≤◌, true, false, cond, eqb, List, [], ◌∷◌, ◌++◌, length, length-append, Option, Some, None, Result, Ok, Err, refl, sym, ap, ◌∙◌, arith, append_assoc}
 use Rattle.std.specs.Prelude.{IfSome, Vec}
 use Rattle.std.specs.declared.alloc.Global.{Global}
 use Rattle.outside_api.specs.Count.{HasRisen}
 use Rattle.std.proofs.lemmas.List.{append-nil}
-use Rattle.std.proofs.lemmas.Bool.{lt-leb}
+use Rattle.std.proofs.lemmas.Bool.{lt-ltb}
 use Rattle.std.proofs.lemmas.List.Elements.{All-head, All-tail}
 use Rattle.outside_api.specs.Told.{prepended}
 use Rattle.depot_model.specs.declared.request.Command.{Command}
 use Rattle.wire_text.specs.declared.fault.ScriptFault.{ScriptFault}
-use Rattle.wire_text.specs.Script.{Commands, commands_from, command_at, after_line, bad_data, is_empty}
-use Rattle.wire_text.specs.declared.reader.ScriptEnd.TheVariants.{ReadFault}
+use Rattle.wire_text.specs.Script.{Commands, commands_from, command_at, after_line, over, end_at}
+use Rattle.wire_text.specs.declared.reader.ScriptEnd.TheVariants.{Fault, ReadFault}
 use Rattle.wire_text.specs.declared.reader.NextLine.TheVariants.{Line, End, TooLong, Failed}
-use Rattle.wire_text.specs.Reading.{IsOneLine, IsNextLine, IsReadCommands, bad_end, end_of}
+use Rattle.wire_text.specs.Reading.{IsOneLine, IsNextLine, IsReadCommands, end_of}
 use Rattle.wire_text.proofs.Reading.{prepended-prepended, prepended-nil}
 
 -- these commands, and what follows
 abbrev pub with_front : List Command → Commands → Commands
 with_front front rest = record { commands = front ++ rest.commands; fault = rest.fault }
 
-abbrev pub bad : ℕ → Commands
-bad place = record { commands = []; fault = bad_data place }
+-- no command, and a fault
+abbrev pub bad : ScriptFault → Commands
+bad fault = record { commands = []; fault = Some fault }
 
 -- what has been read up to a place: the bytes of its lines say these commands, whatever follows
 pub record Passed (old_left new_left : Option (List ℕ)) (old_held new_held : List ℕ) (start place : ℕ) (commands : List Command) : Type 0 where
@@ -50,22 +51,18 @@ one_line front (b ∷ line) place more h =
     (one_line (front ++ b ∷ []) line place more (All-tail (λ b. eqb b 10 ≡ false) b line h)
     ∙ ap (λ (f : List ℕ). commands_from f place more) (append_assoc front (b ∷ []) line))
 
-pub line_says : (line : List ℕ) (place : ℕ) (more : List ℕ) → IsOneLine line → commands_from [] place (line ++ 10 ∷ more) ≡ after_line place (command_at place line) (commands_from [] (place + length line + 1) more)
+pub line_says : (line : List ℕ) (place : ℕ) (more : List ℕ) → IsOneLine line → commands_from [] place (line ++ 10 ∷ more) ≡ after_line (command_at place line) (commands_from [] (place + length line + 1) more)
 line_says line place more h = one_line [] line place (10 ∷ more) h
 
-pub end_says : (line : List ℕ) (place : ℕ) → IsOneLine line → commands_from [] place line ≡ record { commands = []; fault = cond (is_empty line) None (bad_data place) }
+pub end_says : (line : List ℕ) (place : ℕ) → IsOneLine line → commands_from [] place line ≡ record { commands = []; fault = end_at place line }
 end_says line place h = ap (commands_from [] place) (sym (append-nil line)) ∙ one_line [] line place [] h
 
-pub is_empty-long : (line : List ℕ) → 0 < length line → is_empty line ≡ false
-is_empty-long [] h = absurd (omega arith)
-is_empty-long (b ∷ line) h = refl
-
--- a line that is too long is bad, whatever follows
-pub long_says : (line : List ℕ) (place : ℕ) (more : List ℕ) → 8192 < length line → commands_from line place more ≡ bad place
-long_says line place [] long = rw (is_empty-long line (omega arith)) refl
+-- a line that is too long ends the script, whatever follows
+pub long_says : (line : List ℕ) (place : ℕ) (more : List ℕ) → 8192 < length line → commands_from line place more ≡ bad (over place)
+long_says line place [] long = rw (lt-ltb 8192 (length line) long) refl
 long_says line place (b ∷ more) long =
-    elim (eqb b 10) as (λ t. cond t (after_line place (command_at place line) (commands_from [] (place + length line + 1) more)) (commands_from (line ++ b ∷ []) place more) ≡ bad place) [
-      | true ↦ rw (lt-leb (length line) 8192 long) refl
+    elim (eqb b 10) as (λ t. cond t (after_line (command_at place line) (commands_from [] (place + length line + 1) more)) (commands_from (line ++ b ∷ []) place more) ≡ bad (over place)) [
+      | true ↦ rw (lt-ltb 8192 (length line) long) refl
       | false ↦ long_says (line ++ b ∷ []) place more (omega (arith, length-append line (b ∷ [])))
     ]
 
@@ -91,7 +88,7 @@ module _ (left0 left left' : Option (List ℕ)) (before after : ℕ) (held0 held
   held_all p t = sym (append_assoc held0 p.taken t) ∙ (ap (λ (h : List ℕ). h ++ t) p.held ∙ append_assoc p.consumed held t)
 
   -- one more line
-  pub passed_line : (line : List ℕ) (command : Command) (t : List ℕ) → Passed left0 left held0 held start place commands → left ≡ prepended t left' → IsOneLine line → held ++ t ≡ line ++ 10 ∷ held' → command_at place line ≡ Some command
+  pub passed_line : (line : List ℕ) (command : Command) (t : List ℕ) → Passed left0 left held0 held start place commands → left ≡ prepended t left' → IsOneLine line → held ++ t ≡ line ++ 10 ∷ held' → command_at place line ≡ Ok command
       → Passed left0 left' held0 held' start (place + length line + 1) (commands ++ command ∷ [])
   passed_line line command t p e one came is =
       record {
@@ -102,7 +99,7 @@ module _ (left0 left left' : Option (List ℕ)) (before after : ℕ) (held0 held
         says = λ more.
             ap (commands_from [] start) (sym (regroup p.consumed line more))
             ∙ (p.says (line ++ 10 ∷ more)
-            ∙ (ap (with_front commands) (line_says line place more one ∙ ap (λ (c : Option Command). after_line place c (commands_from [] (place + length line + 1) more)) is)
+            ∙ (ap (with_front commands) (line_says line place more one ∙ ap (λ (c : Result Command ScriptFault). after_line c (commands_from [] (place + length line + 1) more)) is)
             ∙ ap (λ (cs : List Command). record { commands = cs; fault = (commands_from [] (place + length line + 1) more).fault }) (sym (append_assoc commands (command ∷ []) (commands_from [] (place + length line + 1) more).commands))));
       }
 
@@ -120,43 +117,43 @@ module _ (left0 left left' : Option (List ℕ)) (before after : ℕ) (held0 held
       → IsReadCommands left0 left' first after (λ bytes. commands_from [] start (held0 ++ bytes)) commands ReadFault
   read_failed first p n le =
       let t = n.taken in
-      let says : commands_from [] start (held0 ++ (p.taken ++ t)) ≡ with_front commands (record { commands = []; fault = cond (is_empty held') None (bad_data place) }) =
+      let says : commands_from [] start (held0 ++ (p.taken ++ t)) ≡ with_front commands (record { commands = []; fault = end_at place held' }) =
       ap (commands_from [] start) (held_all p t) ∙ (p.says (held ++ t) ∙ ap (with_front commands) (ap (commands_from [] place) n.line.0 ∙ end_says held' place n.line.1)) in
       (risen_before first before after le n.line.2, (p.taken ++ t, taken_all p t n.source, ap (λ (c : Commands). c.commands) says ∙ append-nil commands))
 
   -- a line is too long
   pub read_long : (first : ℕ) → Passed left0 left held0 held start place commands → IsNextLine left left' before after held held' TooLong
-      → IsReadCommands left0 left' first after (λ bytes. commands_from [] start (held0 ++ bytes)) commands (bad_end place)
+      → IsReadCommands left0 left' first after (λ bytes. commands_from [] start (held0 ++ bytes)) commands (Fault (over place))
   read_long first p n =
-      all_says n.taken p n.source (bad_data place) (λ rest is.
+      all_says n.taken p n.source (Some (over place)) (λ rest is.
       ap (λ (h : List ℕ). commands_from [] place (h ++ rest)) n.line.0 ∙ (one_line [] held' place rest n.line.1 ∙ long_says held' place rest n.line.2))
 
   -- the source is at its end
   pub read_end : Passed left0 left held0 held start place commands → IsNextLine left left' before after held held' End
-      → IfSome left0 (λ bytes. commands_from [] start (held0 ++ bytes) ≡ record { commands = commands; fault = cond (is_empty held') None (bad_data place) })
+      → IfSome left0 (λ bytes. commands_from [] start (held0 ++ bytes) ≡ record { commands = commands; fault = end_at place held' })
   read_end p n =
-      all_says n.taken p n.source (cond (is_empty held') None (bad_data place)) (λ rest is.
+      all_says n.taken p n.source (end_at place held') (λ rest is.
       let none : rest ≡ [] = let h : IfSome left' (λ (bytes : List ℕ). bytes ≡ []) = n.line.2 in rw is at h in
       rw none (ap (commands_from [] place) (append-nil (held ++ n.taken) ∙ n.line.0) ∙ end_says held' place n.line.1))
 
   -- a line says nothing
-  pub read_bad : (first : ℕ) (line : Vec ℕ Global) → Passed left0 left held0 held start place commands → IsNextLine left left' before after held held' (Line line) → command_at place line.items ≡ None
-      → IsReadCommands left0 left' first after (λ bytes. commands_from [] start (held0 ++ bytes)) commands (bad_end place)
-  read_bad first line p n is =
-      all_says n.taken p n.source (bad_data place) (λ rest e.
+  pub read_bad : (first : ℕ) (line : Vec ℕ Global) (fault : ScriptFault) → Passed left0 left held0 held start place commands → IsNextLine left left' before after held held' (Line line) → command_at place line.items ≡ Err fault
+      → IsReadCommands left0 left' first after (λ bytes. commands_from [] start (held0 ++ bytes)) commands (Fault fault)
+  read_bad first line fault p n is =
+      all_says n.taken p n.source (Some fault) (λ rest e.
       ap (λ (h : List ℕ). commands_from [] place (h ++ rest)) n.line.1
       ∙ (ap (commands_from [] place) (append_assoc line.items (10 ∷ held') rest)
       ∙ (line_says line.items place (held' ++ rest) n.line.0
-      ∙ ap (λ (c : Option Command). after_line place c (commands_from [] (place + length line.items + 1) (held' ++ rest))) is)))
+      ∙ ap (λ (c : Result Command ScriptFault). after_line c (commands_from [] (place + length line.items + 1) (held' ++ rest))) is)))
 
   -- a line is a command
-  pub read_line : (line : Vec ℕ Global) (command : Command) (next_place : ℕ) (next_commands : List Command) → Passed left0 left held0 held start place commands → IsNextLine left left' before after held held' (Line line) → command_at place line.items ≡ Some command
+  pub read_line : (line : Vec ℕ Global) (command : Command) (next_place : ℕ) (next_commands : List Command) → Passed left0 left held0 held start place commands → IsNextLine left left' before after held held' (Line line) → command_at place line.items ≡ Ok command
       → next_place ≡ place + length line.items + 1 → next_commands ≡ commands ++ command ∷ [] → Passed left0 left' held0 held' start next_place next_commands
   read_line line command next_place next_commands p n is e f = rw (e, f) (passed_line line.items command n.taken p n.source n.line.0 n.line.1 is)
 
--- an end without bytes is whole, and one with bytes is bad
-pub end_by : (left0 left' : Option (List ℕ)) (before after place : ℕ) (says : List ℕ → Commands) (commands : List Command) (held : List ℕ)
-    → IfSome left0 (λ bytes. says bytes ≡ record { commands = commands; fault = cond (is_empty held) None (bad_data place) })
-    → IsReadCommands left0 left' before after says commands (end_of held place)
-end_by left0 left' before after place says commands [] h = h
-end_by left0 left' before after place says commands (b ∷ held) h = h
+-- the end that the bytes say
+pub end_by : (left0 left' : Option (List ℕ)) (before after : ℕ) (says : List ℕ → Commands) (commands : List Command) (fault : Option ScriptFault)
+    → IfSome left0 (λ bytes. says bytes ≡ record { commands = commands; fault = fault })
+    → IsReadCommands left0 left' before after says commands (end_of fault)
+end_by left0 left' before after says commands None h = h
+end_by left0 left' before after says commands (Some fault) h = h

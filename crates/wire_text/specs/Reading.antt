@@ -5,7 +5,7 @@ use Rattle.outside_api.specs.Count.{HasRisen}
 use Rattle.outside_api.specs.Told.{prepended, IsAtEnd}
 use Rattle.depot_model.specs.declared.request.Command.{Command}
 use Rattle.depot_model.specs.declared.request.Session.{Session}
-use Rattle.wire_text.specs.declared.fault.ScriptFaultKind.TheVariants.{BadData}
+use Rattle.wire_text.specs.declared.fault.ScriptFault.{ScriptFault}
 use Rattle.wire_text.specs.Script.{Commands, script_of}
 use Rattle.wire_text.specs.declared.reader.ReadScript.{ReadScript}
 use Rattle.wire_text.specs.declared.reader.ScriptEnd.{ScriptEnd}
@@ -37,12 +37,9 @@ pub record IsNextLine (old_left new_left : Option (List ℕ)) (before after : �
 
 -- ---- the commands
 
-abbrev pub bad_end : ℕ → ScriptEnd
-bad_end place = Fault (record { what = BadData; place = place })
-
-abbrev pub end_of : List ℕ → ℕ → ScriptEnd
-end_of [] place = Whole
-end_of (b ∷ bytes) place = bad_end place
+abbrev pub end_of : Option ScriptFault → ScriptEnd
+end_of None = Whole
+end_of (Some fault) = Fault fault
 
 -- what the bytes of the source, where they are told, say by `says`: these commands and this end. Where the source failed,
 -- these are the commands of the bytes that were taken from it.

@@ -1,8 +1,9 @@
 //! Reading a session's script from a source.
 
-ghost use Rattle.std.specs.Prelude.{◌≡◌, ◌<◌, ◌≤◌, ◌+◌, ◌∷◌, [], ◌++◌, length, take, slice_index, IfOk, OnOk, IfSome, IfNone};
-ghost use Rattle.wire_text.specs.Reading.{IsOneLine, Cuts, IsNextLine, IsReadCommands, bad_end, end_of, commands_of, IsReadScript};
-ghost use Rattle.wire_text.specs.Script.{command_at as command_of_line, caller_at as caller_of_line, commands_from};
+ghost use Rattle.std.specs.Prelude.{◌≡◌, ◌<◌, ◌≤◌, ◌+◌, [], ◌++◌, length, take, slice_index, IfOk, OnOk, IfSome, IfNone};
+ghost use Rattle.wire_text.specs.Reading.{IsOneLine, Cuts, IsNextLine, IsReadCommands, end_of, commands_of, IsReadScript};
+ghost use Rattle.wire_text.specs.Script as spec;
+ghost use Rattle.wire_text.specs.Script.{commands_from};
 
 use crate::fault::{ScriptFault, ScriptFaultKind};
 use crate::line::{read_caller, read_command};
@@ -105,44 +106,99 @@ fn next_line<S: Source>(
     }
 }
 
-/// The command of a line at a place, if the line may stand there.
-fn command_at(alloc: Global, place: u64, line: &[u8]) -> Result<Option<Command>, AllocError>
-    requires { place ≤ 67108864 }
-    ensures command { IfOk result (λ command. command ≡ command_of_line place line.now) }
-    ensures fits { IfOk result (λ command. IfSome command (λ _. place + length line.now + 1 ≤ 67108864)) }
+fn fault(what: ScriptFaultKind, place: u64) -> ScriptFault
+    ensures { result ≡ spec.fault what place }
 {
-    if line.len() > MAX_LINE || line.len() as u64 >= MAX_SCRIPT - place {
-        return Ok(None);
-    }
-    read_command(alloc, line)
+    ScriptFault { what, place }
 }
 
-/// The caller of the first line, if it is a head.
-fn caller_at(alloc: Global, line: &[u8]) -> Result<Option<Caller>, AllocError>
-    ensures { IfOk result (λ caller. caller ≡ caller_of_line line.now) }
+/// The fault of a line at a place that has too many bytes, or with which the script has too many.
+fn over(place: u64) -> ScriptFault
+    requires { place ≤ 67108864 }
+    ensures { result ≡ spec.over place }
+{
+    if place + (MAX_LINE as u64) < MAX_SCRIPT {
+        fault(ScriptFaultKind::LongLine, place)
+    } else {
+        fault(ScriptFaultKind::LongData, MAX_SCRIPT)
+    }
+}
+
+/// The first limit that a line at a place passes, with so many bytes of the script from there on.
+fn passed_limit(place: u64, line: &[u8], bytes: u64) -> Option<ScriptFault>
+    requires place { place ≤ 67108864 }
+    requires bytes { bytes ≤ length line.now + 1 }
+    ensures { result ≡ spec.passed_limit place line.now bytes }
 {
     if line.len() > MAX_LINE {
-        return Ok(None);
+        Some(over(place))
+    } else if place + bytes > MAX_SCRIPT {
+        Some(fault(ScriptFaultKind::LongData, MAX_SCRIPT))
+    } else {
+        None
     }
-    read_caller(alloc, line)
 }
 
-fn bad_data(place: u64) -> ScriptEnd
-    ensures { result ≡ bad_end place }
+/// The command of a line at a place, or the fault with which the script ends there.
+fn command_at(
+    alloc: Global,
+    place: u64,
+    line: &[u8],
+) -> Result<Result<Command, ScriptFault>, AllocError>
+    requires { place ≤ 67108864 }
+    ensures command { IfOk result (λ command. command ≡ spec.command_at place line.now) }
+    ensures fits { IfOk result (λ command. IfOk command (λ _. place + length line.now + 1 ≤ 67108864)) }
 {
-    ScriptEnd::Fault(ScriptFault {
-        what: ScriptFaultKind::BadData,
-        place,
-    })
+    if let Some(fault) = passed_limit(place, line, line.len() as u64 + 1) {
+        return Ok(Err(fault));
+    }
+    match read_command(alloc, line)? {
+        Some(command) => Ok(Ok(command)),
+        None => Ok(Err(fault(ScriptFaultKind::BadData, place))),
+    }
+}
+
+/// The caller of the first line, or the fault with which the script ends there.
+fn caller_at(alloc: Global, line: &[u8]) -> Result<Result<Caller, ScriptFault>, AllocError>
+    ensures { IfOk result (λ caller. caller ≡ spec.caller_at line.now) }
+{
+    if let Some(fault) = passed_limit(0, line, line.len() as u64 + 1) {
+        return Ok(Err(fault));
+    }
+    match read_caller(alloc, line)? {
+        Some(caller) => Ok(Ok(caller)),
+        None => Ok(Err(fault(ScriptFaultKind::BadHead, 0))),
+    }
 }
 
 /// How a script ends that has these bytes left, in which no line ends.
-fn end_at(held: &[u8], place: u64) -> ScriptEnd
-    ensures { result ≡ end_of held.now place }
+fn end_at(place: u64, held: &[u8]) -> ScriptEnd
+    requires { place ≤ 67108864 }
+    ensures { result ≡ end_of (spec.end_at place held.now) }
+{
+    match passed_limit(place, held, held.len() as u64) {
+        Some(fault) => ScriptEnd::Fault(fault),
+        None => cut_at(place, held),
+    }
+}
+
+fn cut_at(place: u64, held: &[u8]) -> ScriptEnd
+    requires { place ≤ 67108864 }
+    ensures { result ≡ end_of (spec.cut_at place held.now) }
 {
     match held {
         [] => ScriptEnd::Whole,
-        [_, ..] => bad_data(place),
+        [_, ..] => ScriptEnd::Fault(fault(ScriptFaultKind::Cut, place + held.len() as u64)),
+    }
+}
+
+/// The fault of a script in whose first line no line ends.
+fn head_end(held: &[u8]) -> ScriptFault
+    ensures { result ≡ spec.head_end held.now }
+{
+    match passed_limit(0, held, held.len() as u64) {
+        Some(fault) => fault,
+        None => fault(ScriptFaultKind::Cut, held.len() as u64),
     }
 }
 
@@ -164,11 +220,11 @@ fn read_commands<S: Source>(
     loop {
         match next_line(alloc, source, &mut held)? {
             NextLine::Failed => return Ok((commands, ScriptEnd::ReadFault)),
-            NextLine::TooLong => return Ok((commands, bad_data(place))),
-            NextLine::End => return Ok((commands, end_at(&held, place))),
+            NextLine::TooLong => return Ok((commands, ScriptEnd::Fault(over(place)))),
+            NextLine::End => return Ok((commands, end_at(place, &held))),
             NextLine::Line(line) => match command_at(alloc, place, &line)? {
-                None => return Ok((commands, bad_data(place))),
-                Some(command) => {
+                Err(fault) => return Ok((commands, ScriptEnd::Fault(fault))),
+                Ok(command) => {
                     commands.push(command)?;
                     place += line.len() as u64 + 1;
                 }
@@ -186,12 +242,13 @@ pub fn read_script<S: Source>(alloc: Global, source: &mut S) -> Result<ReadScrip
     let mut held = Vec::new(alloc);
     let line = match next_line(alloc, source, &mut held)? {
         NextLine::Failed => return Ok(without_head(ScriptEnd::ReadFault)),
-        NextLine::TooLong | NextLine::End => return Ok(without_head(bad_data(0))),
+        NextLine::TooLong => return Ok(without_head(ScriptEnd::Fault(over(0)))),
+        NextLine::End => return Ok(without_head(ScriptEnd::Fault(head_end(&held)))),
         NextLine::Line(line) => line,
     };
     match caller_at(alloc, &line)? {
-        None => Ok(without_head(bad_data(0))),
-        Some(caller) => {
+        Err(fault) => Ok(without_head(ScriptEnd::Fault(fault))),
+        Ok(caller) => {
             let start = line.len() as u64 + 1;
             let (commands, end) = read_commands(alloc, source, held, start)?;
             Ok(ReadScript {
