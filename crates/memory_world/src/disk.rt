@@ -210,7 +210,7 @@ impl Disk for MemoryDisk {
 }
 
 // Copies as many bytes as there are from a place on and as fit.
-fn copy_from(bytes: &[u8], at: u64, buffer: &mut [u8]) -> usize
+pub(crate) fn copy_from(bytes: &[u8], at: u64, buffer: &mut [u8]) -> usize
     ensures { Reads bytes.now at buffer.old result buffer.new }
 {
     let at = at as usize;
