@@ -1,11 +1,11 @@
 -- Journals as they were at earlier moments.
-use Rattle.std.proofs.Common.{◌≡◌, ◌≤◌, ◌<◌, ◌+◌, ◌-◌, ◌++◌, ℕ, zero, suc, List, [], ◌∷◌, length, take, drop, min, get_or, refl, sym, ap, subst, ◌∙◌, arith, length-append, length-take}
+use Rattle.std.proofs.Common.{◌≡◌, ◌≤◌, ◌<◌, ◌+◌, ◌-◌, ◌++◌, ℕ, zero, suc, List, [], ◌∷◌, length, take, min, get_or, refl, sym, ap, subst, ◌∙◌, arith, length-append, length-take}
 use Rattle.std.specs.List.{concat}
 use Rattle.std.proofs.lemmas.List.{take_more, take_all, get_or_append_left, get_or_past, get_or-take}
 use Rattle.std.proofs.Math.Seq.{get_or-append_seam}
 use Rattle.std.proofs.lemmas.List.Folds.{concat-append}
 use Rattle.outside_api.specs.Link.{text_of, IsEarlier}
-use Rattle.memory_world.specs.Link.{journal_of, journal_then, IsJournalAt}
+use Rattle.memory_world.specs.Link.{journal_of, journal_then}
 
 -- the whole journal
 pub whole_then : (texts : List (List ℕ)) (newest bytes : ℕ) → newest ≡ length texts - 1 → bytes ≡ length (text_of texts newest) → journal_then texts newest bytes ≡ journal_of texts

@@ -1,12 +1,12 @@
 -- What a short piece of an answer says.
-use Rattle.std.proofs.Common.{◌≡◌, ◌≤◌, ◌++◌, ℕ, List, [], ◌∷◌, length, take, drop, max, Some, sym, subst, ◌∙◌, arith}
+use Rattle.std.proofs.Common.{◌≡◌, ◌≤◌, ◌++◌, ℕ, List, [], ◌∷◌, length, max, Some, subst, ◌∙◌, arith}
 use Rattle.std.specs.Prelude.{slice_get}
 use Rattle.std.proofs.lemmas.List.{take-append-le}
 use Rattle.outside_api.specs.declared.link.Fetched.{Fetched}
 use Rattle.outside_api.specs.declared.link.Fetched.TheVariants.{Bytes, End, Next}
 use Rattle.outside_api.specs.Link.{Answers, Fits}
 use Rattle.memory_world.specs.declared.lossy.Loss.{Loss}
-use Rattle.memory_world.specs.declared.lossy.Loss.TheVariants.{Fail, Short, Old}
+use Rattle.memory_world.specs.declared.lossy.Loss.TheVariants.{Short}
 use Rattle.memory_world.specs.Lossy.{Passes}
 
 -- what fits fits more

@@ -1,9 +1,8 @@
 -- What links in memory hold, what they are about to lose, and how often they have failed.
 -- Which faults a link in memory plays is this project's own choice.
-use Rattle.std.specs.Prelude.{◌≡◌, ◌≤◌, ◌-◌, ◌+◌, ℕ, List, [], ◌∷◌, ◌++◌, length, take, drop, min, max}
+use Rattle.std.specs.Prelude.{◌≡◌, ℕ, List, [], ◌∷◌, ◌++◌, length, take, min}
 use Rattle.std.specs.List.{concat}
-use Rattle.outside_api.specs.declared.link.Fetched.{Fetched}
-use Rattle.outside_api.specs.Link.{text_of, IsEarlier, Answers, Fits}
+use Rattle.outside_api.specs.Link.{text_of, IsEarlier}
 use Rattle.memory_world.specs.declared.link.MemoryLink.{MemoryLink}
 
 -- the journal of these texts: where there is none, its generation 0 has no byte yet

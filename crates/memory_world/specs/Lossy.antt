@@ -1,6 +1,6 @@
 -- What a link that loses some of what another brings is about to lose, and what it answers then.
 -- The losses are this project's own choice.
-use Rattle.std.specs.Prelude.{◌≡◌, ℕ, List, [], ◌∷◌, drop, max}
+use Rattle.std.specs.Prelude.{ℕ, List, [], ◌∷◌, drop, max}
 use Rattle.outside_api.specs.declared.link.Fetched.{Fetched}
 use Rattle.outside_api.specs.Link.{Answers, Fits}
 use Rattle.memory_world.specs.declared.lossy.Loss.{Loss}

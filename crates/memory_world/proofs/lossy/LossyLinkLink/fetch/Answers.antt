@@ -1,4 +1,4 @@
-use Rattle.std.proofs.Common.{◌≡◌, ◌≤◌, ◌∙◌, ◌++◌, List, ℕ, length, drop, take, max, Some, subst, sym, ap, arith, rules, length-take}
+use Rattle.std.proofs.Common.{◌≡◌, ◌∙◌, ◌++◌, List, ℕ, length, drop, max, Some, subst, sym, ap, arith, rules, length-take}
 use Rattle.std.specs.Prelude.{slice_get}
 use Rattle.memory_world.specs.declared.link.MemoryLink.{MemoryLink}
 use Rattle.outside_api.specs.Link.{IsEarlier, Answers, Fits}
