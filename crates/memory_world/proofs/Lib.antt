@@ -4,5 +4,7 @@ mod DoorsLemmas
 mod Filled
 mod Found
 mod Images
+mod Journals
+mod Losses
 mod Redone
 mod Replays

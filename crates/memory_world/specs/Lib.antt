@@ -3,6 +3,8 @@ pub mod Door
 pub mod Doors
 pub mod Files
 pub mod Laws
+pub mod Link
+pub mod Lossy
 pub mod Ranges
 pub mod Replay
 pub mod Stream

@@ -1,6 +1,6 @@
 //! A disk in memory. It keeps the files that it began with and each call, so that it can tell what a stop leaves.
 
-ghost use Rattle.std.specs.Prelude.{◌≡◌, ◌⊎◌, ◌≤◌, ◌<◌, ◌+◌, ◌^◌, ℕ, [], ◌∷◌, ◌++◌, length, OnOk, OnErr};
+ghost use Rattle.std.specs.Prelude.{◌≡◌, ◌⊎◌, ◌≤◌, ◌<◌, ◌+◌, ◌^◌, ℕ, [], ◌∷◌, ◌++◌, length, take, OnOk, OnErr};
 ghost use Rattle.outside_api.specs.Count.{HasCause};
 ghost use Rattle.outside_api.specs.Disk.{Reads};
 ghost use Rattle.memory_world.specs.Files.{contents, put, written};
@@ -46,10 +46,10 @@ impl MemoryDisk {
         }
     }
 
-    /// The disk that a stop after so many calls leaves: with the lengths that it read then, and with
-    /// the open bytes, in order of file and place, taken from `pick` and then 0.
+    /// The disk that a stop after so many calls leaves, or a stop now where there were fewer: with the
+    /// lengths that it read then, and with the open bytes, in order of file and place, taken from
+    /// `pick` and then 0.
     pub fn image(&self, moment: u64, pick: &[u8]) -> Result<MemoryDisk, AllocError>
-        requires { moment ≤ calls_of self.now }
         ensures filled { let state = state_at self.now moment in IfOk result (λ disk. IsFilled state.is_open pick.now state.files (files_of disk)) }
         ensures calls { IfOk result (λ disk. calls_of disk ≡ 0) }
         ensures faults { IfOk result (λ disk. disk_faults disk ≡ 0) }
@@ -58,7 +58,7 @@ impl MemoryDisk {
         let Replayed {
             files: mut start,
             ranges,
-        } = replay_calls(alloc, &self.start, &self.log[..moment as usize])?;
+        } = replay_calls(alloc, &self.start, until(&self.log, moment))?;
         fill_all(&mut start, &ranges, pick);
         let files = copy_files(alloc, &start)?;
         Ok(MemoryDisk {
@@ -69,6 +69,13 @@ impl MemoryDisk {
             log: Vec::new(alloc),
         })
     }
+}
+
+// The first so many calls.
+fn until(log: &[Call], moment: u64) -> &[Call]
+    ensures { result.now ≡ take moment log.now }
+{
+    &log[..(moment as usize).min(log.len())]
 }
 
 // Keeps a call if there is memory for it.
@@ -210,7 +217,7 @@ impl Disk for MemoryDisk {
 }
 
 // Copies as many bytes as there are from a place on and as fit.
-fn copy_from(bytes: &[u8], at: u64, buffer: &mut [u8]) -> usize
+pub(crate) fn copy_from(bytes: &[u8], at: u64, buffer: &mut [u8]) -> usize
     ensures { Reads bytes.now at buffer.old result buffer.new }
 {
     let at = at as usize;

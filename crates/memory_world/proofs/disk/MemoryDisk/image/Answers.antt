@@ -16,7 +16,8 @@ returns-clause-filled c =
     subst (λ (start : List (Vec ℕ Global)). Agrees c.in_ok-start.start.items c.in_ok-start.ranges.items (replay (take n c.args.self.now.log.items) (at_rest (contents start)))) c.deref.ensures.value
     (subst (λ (log : List Call). Agrees c.in_ok-start.start.items c.in_ok-start.ranges.items (replay (take n log) (at_rest (contents c.deref.result.now)))) c.deref-2.ensures.value
     (subst (λ (files : Vec (Vec ℕ Global) Global). Agrees files.items c.in_ok-start.ranges.items (replay (take n c.deref-2.result.now) (at_rest (contents c.deref.result.now)))) c.in_ok-start.start-is
-    (subst (λ (ranges : Vec OpenRange Global). Agrees c.in_ok-start.field-0.files.items ranges.items (replay (take n c.deref-2.result.now) (at_rest (contents c.deref.result.now)))) c.in_ok-start.ranges-is c.in_ok-start.ensures))) in
+    (subst (λ (ranges : Vec OpenRange Global). Agrees c.in_ok-start.field-0.files.items ranges.items (replay (take n c.deref-2.result.now) (at_rest (contents c.deref.result.now)))) c.in_ok-start.ranges-is
+    (subst (λ (calls : List Call). Agrees c.in_ok-start.field-0.files.items c.in_ok-start.field-0.ranges.items (replay calls (at_rest (contents c.deref.result.now)))) c.until.ensures c.in_ok-start.ensures)))) in
     filled_alike (is_in c.in_ok-start.ranges.items) (state_at c.args.self.now c.args.moment).is_open c.args.pick.now (contents c.in_ok-start.start.items) (state_at c.args.self.now c.args.moment).files (contents c.fill_all.new.files.items) (contents c.in_ok-files.files.items)
     agrees.places agrees.same
     (λ f. c.in_ok-files.ensures f ∙ ap (λ (l : List (Vec ℕ Global)). contents l f) c.deref-4.ensures.value)
