@@ -4,3 +4,6 @@
 mod runs;
 
 pub use runs::commit_settled;
+
+#[cfg(test)]
+mod tests;
