@@ -4,11 +4,12 @@ ghost use Rattle.std.specs.Prelude.{IfOk, IsTrue};
 ghost use Rattle.table_store.specs.Rows.{AllFit};
 
 use crate::rows::{revision, spread};
+use crate::taken::{Began, Taken};
 use db_records::{Change, Op};
 use std::alloc::{AllocError, Global};
 use std::io;
 use std::rt::Clock;
-use std::time::{Duration, Instant};
+use std::time::CpuClock;
 use table_store::Version;
 
 /// How many versions are made, one after another.
@@ -23,32 +24,32 @@ pub struct Rounds {
     /// How many there were.
     pub count: u32,
     /// How long it took to make them.
-    pub making: Duration,
+    pub making: Taken,
     /// How long it took to let each go when the next one was made.
-    pub dropping: Duration,
+    pub dropping: Taken,
 }
 
 /// Makes many versions, each with a new revision of three files, far apart, of that many.
 pub fn make_rounds(
-    clock: &impl Clock,
+    clocks: &(impl Clock + CpuClock),
     alloc: Global,
     mut version: Version,
     count: u32,
 ) -> io::Result<Rounds> {
     let mut made = 0u32;
-    let mut making = Duration::ZERO;
-    let mut dropping = Duration::ZERO;
+    let mut making = Taken::NOTHING;
+    let mut dropping = Taken::NOTHING;
     for round in 0..ROUNDS {
         let changes = new_revisions(alloc, round, count)?;
         if !all_fit(alloc, &version, &changes)? {
             continue;
         }
-        let start = Instant::now(clock)?;
+        let began = Began::now(clocks)?;
         let next = version.with_changes(alloc, &changes)?;
-        making = making.saturating_add(start.elapsed(clock)?);
-        let start = Instant::now(clock)?;
+        making = making.and(began.taken(clocks)?);
+        let began = Began::now(clocks)?;
         version = next;
-        dropping = dropping.saturating_add(start.elapsed(clock)?);
+        dropping = dropping.and(began.taken(clocks)?);
         made = made.saturating_add(1);
     }
     Ok(Rounds {

@@ -9,21 +9,35 @@ mod changes;
 mod make;
 mod reads;
 mod rows;
+mod taken;
 
 use crate::make::Way;
+use crate::taken::Taken;
 use std::rt::Clock;
-use std::time::Duration;
+use std::time::{CpuClock, Duration};
 use std::{env, io};
 
-/// Prints how long one of many steps took, in nanoseconds.
-fn show(rt: &impl Print, step: &str, taken: Duration, count: u32) -> io::Result<()> {
+/// The nanoseconds of one of many steps.
+fn each(taken: Duration, count: u32) -> u64 {
     let nanoseconds = u64::try_from(taken.as_nanos()).unwrap_or(u64::MAX);
-    let each = nanoseconds.checked_div(u64::from(count)).unwrap_or(0);
-    rt.println(format_args!("  {step}: {each} ns each, {count} times"))
+    nanoseconds.checked_div(u64::from(count)).unwrap_or(0)
+}
+
+/// Prints how long one of many steps took: the time that passed, and the processor's.
+fn show(rt: &impl Print, step: &str, taken: Taken, count: u32) -> io::Result<()> {
+    let passed = each(taken.passed, count);
+    let processor = each(taken.processor, count);
+    rt.println(format_args!(
+        "  {step}: {passed} ns, of the processor {processor} ns, {count} times"
+    ))
 }
 
 /// Measures a version of that many rows, made in that way.
-fn measure(rt: &(impl Print + Clock + AllocGlobal), way: Way, count: u32) -> io::Result<()> {
+fn measure(
+    rt: &(impl Print + Clock + CpuClock + AllocGlobal),
+    way: Way,
+    count: u32,
+) -> io::Result<()> {
     let alloc = rt.alloc();
     let rows = rows::first_revisions(alloc, count)?;
     let (found, making) = way.make(rt, alloc, rows)?;

@@ -1,10 +1,11 @@
 //! Versions are made.
 
+use crate::taken::{Began, Taken};
 use db_records::{Change, Op, Record, TableId};
 use std::alloc::{AllocError, Global};
 use std::io;
 use std::rt::Clock;
-use std::time::{Duration, Instant};
+use std::time::CpuClock;
 use table_store::Version;
 
 /// How a version is made.
@@ -20,16 +21,16 @@ impl Way {
     /// Makes the version of these revisions, and tells how long that took.
     pub fn make(
         self,
-        clock: &impl Clock,
+        clocks: &(impl Clock + CpuClock),
         alloc: Global,
         rows: Vec<Record>,
-    ) -> io::Result<(Option<Version>, Duration)> {
-        let start = Instant::now(clock)?;
+    ) -> io::Result<(Option<Version>, Taken)> {
+        let began = Began::now(clocks)?;
         let made = match self {
             Way::Rows => Version::from_rows(alloc, TableId::Rev, rows)?,
             Way::Draft => Some(drafted(alloc, rows)?),
         };
-        Ok((made, start.elapsed(clock)?))
+        Ok((made, began.taken(clocks)?))
     }
 }
 

@@ -1,11 +1,12 @@
 //! Rows are looked for and walked over.
 
 use crate::rows::{first_key, spread};
+use crate::taken::{Began, Taken};
 use db_records::{Key, Record};
 use std::alloc::{AllocError, Global};
 use std::io;
 use std::rt::Clock;
-use std::time::{Duration, Instant};
+use std::time::CpuClock;
 use table_store::Version;
 
 /// How many gets are measured.
@@ -19,36 +20,36 @@ const WALK_ROWS: usize = 100;
 
 /// Looks for many keys, and tells how many were found and how long that took.
 pub fn gets(
-    clock: &impl Clock,
+    clocks: &(impl Clock + CpuClock),
     alloc: Global,
     version: &Version,
     count: u32,
-) -> io::Result<(u32, Duration)> {
+) -> io::Result<(u32, Taken)> {
     let keys = keys(alloc, GETS, count)?;
-    let start = Instant::now(clock)?;
+    let began = Began::now(clocks)?;
     let mut found = 0u32;
     for key in &keys {
         if version.get(key).is_some() {
             found = found.saturating_add(1);
         }
     }
-    Ok((found, start.elapsed(clock)?))
+    Ok((found, began.taken(clocks)?))
 }
 
 /// Walks from many keys on, and tells how many rows came and how long that took.
 pub fn walks(
-    clock: &impl Clock,
+    clocks: &(impl Clock + CpuClock),
     alloc: Global,
     version: &Version,
     count: u32,
-) -> io::Result<(u32, Duration)> {
+) -> io::Result<(u32, Taken)> {
     let keys = keys(alloc, WALKS, count)?;
-    let start = Instant::now(clock)?;
+    let began = Began::now(clocks)?;
     let mut walked = 0u32;
     for key in &keys {
         walked = walked.saturating_add(first_revisions_from(version, key));
     }
-    Ok((walked, start.elapsed(clock)?))
+    Ok((walked, began.taken(clocks)?))
 }
 
 /// How many of the rows of a walk are first revisions.
