@@ -1,4 +1,8 @@
 -- The rows of a table as a list in key order.
+--
+-- Which changes a table takes, and what each leaves, is this project's own choice: a Put adds a row, a
+-- Replace puts a row in the place of the one with its key, and a Remove takes one away as it is given.
+-- That no two rows of a table have one key is the database's (Helix Core database schema reference).
 use Rattle.std.specs.Prelude.{◌≡◌, ℕ, ◌+◌, ◌<◌, ◌≤◌, Bool, not, List, [], ◌∷◌, ◌++◌, length, take, drop, Option, Some, None, IsSome, slice_index_or}
 use Rattle.std.specs.List.{filter, find}
 use Rattle.std.specs.Ordering.{is_lt, is_eq, is_gt}

@@ -14,8 +14,8 @@ use std::marker::Model;
 
 /// The rows of one table, changed one after another until they are a version.
 ///
-/// It is for who tests and makes many changes, each against the rows that those before it left. A
-/// page that the draft has alone is changed in place.
+/// It is for who tests and makes many changes, each against the rows that those before it left. Each
+/// change copies the rows of one page, that of its key, and the handles of one branch of pages.
 #[derive(Drop)]
 pub struct Draft {
     table: TableId,
