@@ -1,7 +1,7 @@
 -- Values that the definitions give.
 use Rattle.std.proofs.Common.{◌≡◌, [], ◌∷◌, Some, None, refl, Ok, Err, true, false, pos}
 use Rattle.std.specs.Prelude.{codes}
-use Rattle.depot_path.specs.Path.{path_of, printed, is_path}
+use Rattle.depot_path.specs.Path.{path_of, printed}
 use Rattle.depot_path.specs.Pattern.{pattern_of, literal}
 use Rattle.depot_path.specs.Fit.{texts}
 use Rattle.depot_path.specs.Revision.{wanted_of}

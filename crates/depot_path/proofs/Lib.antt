@@ -4,6 +4,7 @@ pub mod Units
 pub mod Paths
 pub mod Texts
 pub mod Rows
+pub mod Columns
 pub mod Dates
 pub mod Ends
 pub mod PathOrder

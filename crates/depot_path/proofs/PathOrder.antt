@@ -1,38 +1,15 @@
 -- The order of paths is one, and what decides it.
-use Rattle.std.proofs.Common.{◌≡◌, ◌≢◌, ℕ, ◌+◌, ◌≤◌, Bool, true, false, cond, List, [], ◌∷◌, ◌++◌, length, drop, slice_index, Some, refl, sym, ap, ◌∙◌, arith}
-use Rattle.std.specs.Prelude.{◌==◌, nat_eq}
-use Rattle.std.specs.Bool.{MatchBool}
-use Rattle.std.specs.Cmp.{IsPartialOrder, partial_order_from_agreeing_total, ranked}
-use Rattle.std.specs.Cmp.Lexicographic.{pointwise, slice_cmp, on_texts, told_text, texts_ties}
-use Rattle.std.specs.Ordering.{nat_cmp, on, ordering_then, eq_by_cmp}
+use Rattle.std.proofs.Common.{◌≡◌, ◌≢◌, ℕ, ◌≤◌, Bool, true, false, List, [], ◌∷◌, ◌++◌, length, drop, slice_index, refl, sym, ap, ◌∙◌, arith}
+use Rattle.std.specs.Prelude.{◌==◌}
+use Rattle.std.specs.Cmp.{ranked}
+use Rattle.std.specs.Cmp.Lexicographic.{slice_cmp}
+use Rattle.std.specs.Ordering.{nat_cmp, ordering_then}
 use Rattle.std.specs.declared.cmp.Ordering.{Ordering}
 use Rattle.std.specs.declared.cmp.Ordering.TheVariants.{Less, Equal, Greater}
 use Rattle.std.proofs.lemmas.Bool.{eq-eqb, eqb-true}
 use Rattle.depot_path.specs.Order.{path_cmp}
-use Rattle.depot_path.specs.Path.{escaped, printed, unescaped}
-use Rattle.depot_path.proofs.Units.{Mark, Plain, At, Hash, Star, SmallStar, Percent, IsMark, IsPlain, source, IsMarkOf, mark_of, mark_is, marks_of, marks_are, marks_spelled, marks_meant, reads}
-
--- ---- printed texts tell paths apart
-
-read_again : (path : List ℕ) → unescaped 0 (printed path) ≡ path
-read_again path = ap (λ t. unescaped 0 t) (sym (marks_spelled path)) ∙ reads (marks_of path) (marks_are path) ∙ marks_meant path
-
-injective : (x y : List ℕ) → printed x ≡ printed y → x ≡ y
-injective x y e = sym (read_again x) ∙ ap (λ t. unescaped 0 t) e ∙ read_again y
-
-same_test : (x y : List ℕ) (b c : Bool) → MatchBool b (x ≡ y) (x ≢ y) → MatchBool c (printed x ≡ printed y) (printed x ≢ printed y) → b ≡ c
-same_test x y true true h k = refl
-same_test x y true false h k = absurd (k (ap printed h))
-same_test x y false true h k = absurd (h (injective x y k))
-same_test x y false false h k = refl
-
-pub paths_ties : (x y : List ℕ) → pointwise nat_eq x y ≡ eq_by_cmp path_cmp x y
-paths_ties x y =
-    same_test x y (pointwise nat_eq x y) (pointwise nat_eq (printed x) (printed y)) (told_text x y (pointwise nat_eq x y) refl) (told_text (printed x) (printed y) (pointwise nat_eq (printed x) (printed y)) refl)
-    ∙ texts_ties (printed x) (printed y)
-
-pub paths_po : IsPartialOrder (pointwise nat_eq) (λ x y. Some (path_cmp x y))
-paths_po = partial_order_from_agreeing_total path_cmp (on_texts printed) (λ x y. refl) paths_ties
+use Rattle.depot_path.specs.Path.{escaped, printed}
+use Rattle.depot_path.proofs.Units.{Mark, Plain, At, Hash, Star, SmallStar, Percent, IsMark, IsPlain, source, IsMarkOf, mark_of, mark_is}
 
 -- ---- the first printed byte that differs decides
 

@@ -7,6 +7,8 @@ pub mod Path
 pub mod Pattern
 pub mod Fit
 pub mod Rows
+pub mod Filling
 pub mod Date
 pub mod Revision
 pub mod Order
+pub mod OrderLaws

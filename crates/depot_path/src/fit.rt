@@ -12,7 +12,7 @@ const ROW: usize = 1025;
 
 /// Whether the pieces from one on fit the text from a byte on, given whether they fit what follows the byte (`here`), and whether the pieces
 /// after that one fit what follows the byte (`below`) and the text from the byte on (`next`).
-fn with_byte(piece: Piece, byte: u8, here: bool, below: bool, next: bool) -> bool
+pub(crate) fn with_byte(piece: Piece, byte: u8, here: bool, below: bool, next: bool) -> bool
     ensures { result ≡ byte_step piece byte here below next }
 {
     match piece {
@@ -23,7 +23,7 @@ fn with_byte(piece: Piece, byte: u8, here: bool, below: bool, next: bool) -> boo
 }
 
 /// Whether the pieces from one on fit no text, given whether those after it do.
-fn without_byte(piece: Piece, next: bool) -> bool
+pub(crate) fn without_byte(piece: Piece, next: bool) -> bool
     ensures { result ≡ no_byte piece next }
 {
     match piece {

@@ -9,6 +9,7 @@ mod date;
 mod escape;
 mod fault;
 mod file_spec;
+mod filling;
 mod fit;
 mod name;
 mod order;

@@ -1,9 +1,12 @@
 //! Names of users, clients, hosts, groups, labels and counters.
 
-ghost use Rattle.std.specs.Prelude.{◌≡◌, nat_eq, Some, refl};
+ghost use Rattle.std.specs.Prelude.{◌≡◌, true, nat_eq, Some, refl};
 ghost use Rattle.std.specs.Cmp.{partial_equiv_from_equiv};
 ghost use Rattle.std.specs.Cmp.Lexicographic.{pointwise, slice_cmp, nat_list_cmp_total, nat_list_eq_equiv, texts_ties, texts_po};
 ghost use Rattle.std.specs.Ordering.{nat_cmp};
+ghost use Rattle.std.specs.Cmp.Rules.{hashing};
+ghost use Rattle.std.specs.Hash as fed;
+ghost use Rattle.std.proofs.Common.{rules};
 ghost use Rattle.std.specs.List.{list_all, list_any};
 ghost use Rattle.depot_path.specs.Answers.{Answers};
 ghost use Rattle.depot_path.specs.Bytes.{is_digit};
@@ -13,6 +16,7 @@ use crate::text::Text;
 use crate::utf8::is_utf8;
 use std::alloc::Global;
 use std::cmp::Ordering;
+use std::hash::{Hash, Hasher};
 use std::marker::Model;
 
 /// Why a text is no name.
@@ -86,9 +90,10 @@ impl Name {
         }
     }
 
-    /// The bytes.
+    /// The bytes, which are a name.
     pub fn as_bytes(&self) -> &[u8]
-        ensures { result.now ≡ self.now }
+        ensures value { result.now ≡ self.now }
+        ensures named { name_test result.now ≡ true }
     {
         self.text.as_bytes()
     }
@@ -129,5 +134,15 @@ impl Ord for Name {
 
     fn cmp(&self, other: &Name) -> Ordering {
         self.as_bytes().cmp(other.as_bytes())
+    }
+}
+
+impl Hash for Name {
+    ghost hash_input = { fed.slice fed.u8 };
+
+    ghost respects_eq = { Prim.search (hashing, rules) };
+
+    fn hash<H: Hasher>(&self, state: &mut H) {
+        self.as_bytes().hash(state);
     }
 }

@@ -1,13 +1,18 @@
 //! The order of paths, which is that of the bytes of their printed texts.
 
-ghost use Rattle.std.specs.Prelude.{◌≡◌, ◌≤◌, nat_eq, length, slice_index};
+ghost use Rattle.std.specs.Prelude.{◌≡◌, ◌≤◌, Some, nat_eq, length, slice_index, refl};
 ghost use Rattle.std.specs.Cmp.{partial_equiv_from_equiv};
 ghost use Rattle.std.specs.Cmp.Lexicographic.{pointwise, nat_list_eq_equiv};
+ghost use Rattle.std.specs.Cmp.Rules.{hashing};
+ghost use Rattle.std.specs.Hash as fed;
+ghost use Rattle.std.proofs.Common.{rules};
 ghost use Rattle.depot_path.specs.Order.{path_cmp};
+ghost use Rattle.depot_path.specs.OrderLaws.{paths_po, paths_total, paths_ties};
 ghost use Rattle.depot_path.specs.Path.{escaped};
 
 use crate::path::DepotPath;
 use std::cmp::Ordering;
+use std::hash::{Hash, Hasher};
 
 /// The first byte of a text as it is printed.
 fn printed_first(text: &[u8]) -> &[u8]
@@ -60,6 +65,40 @@ impl PartialEq for DepotPath {
 
 impl Eq for DepotPath {
     ghost laws = { nat_list_eq_equiv };
+}
+
+impl PartialOrd for DepotPath {
+    ghost partial_cmp = { λ a b. Some (path_cmp a b) };
+
+    ghost laws = { paths_po };
+
+    fn partial_cmp(&self, other: &DepotPath) -> Option<Ordering> {
+        Some(self.cmp(other))
+    }
+}
+
+impl Ord for DepotPath {
+    ghost cmp = { path_cmp };
+
+    ghost total = { paths_total };
+
+    ghost matches_partial_cmp = { λ a b. refl };
+
+    ghost matches_eq = { paths_ties };
+
+    fn cmp(&self, other: &DepotPath) -> Ordering {
+        self.compare(other)
+    }
+}
+
+impl Hash for DepotPath {
+    ghost hash_input = { fed.slice fed.u8 };
+
+    ghost respects_eq = { Prim.search (hashing, rules) };
+
+    fn hash<H: Hasher>(&self, state: &mut H) {
+        self.as_bytes().hash(state);
+    }
 }
 
 impl DepotPath {

@@ -1,6 +1,6 @@
 //! Depot paths.
 
-ghost use Rattle.std.specs.Prelude.{◌≡◌, drop, length, nat_le, if◌then◌else◌, IfOk, codes};
+ghost use Rattle.std.specs.Prelude.{◌≡◌, true, drop, length, nat_le, if◌then◌else◌, IfOk, codes};
 ghost use Rattle.std.specs.List.{list_any};
 ghost use Rattle.depot_path.specs.Bytes.{is_among};
 ghost use Rattle.depot_path.specs.Answers.{Answers};
@@ -151,9 +151,10 @@ impl DepotPath {
         print_bytes(alloc, self.bytes.as_bytes())
     }
 
-    /// The bytes without escapes.
+    /// The bytes without escapes, which are a path.
     pub fn as_bytes(&self) -> &[u8]
-        ensures { result.now ≡ self.now }
+        ensures value { result.now ≡ self.now }
+        ensures path { path_test result.now ≡ true }
     {
         self.bytes.as_bytes()
     }

@@ -1,10 +1,10 @@
 //! Patterns, which select files by their paths.
 
-ghost use Rattle.std.specs.Prelude.{◌≡◌, ◌≤◌, ◌+◌, ◌==◌, ◌&&◌, ℕ, List, drop, length, codes, true, Some, IfOk};
+ghost use Rattle.std.specs.Prelude.{◌≡◌, ◌≤◌, ◌+◌, ◌==◌, ◌&&◌, ℕ, List, drop, length, codes, true, Some, IfOk, OnErr};
 ghost use Rattle.std.specs.List.{list_any};
 ghost use Rattle.depot_path.specs.Answers.{Answers};
 ghost use Rattle.depot_path.specs.Bytes.{is_among, begins_with};
-ghost use Rattle.depot_path.specs.Fit.{fits, texts, AreTexts, IsFilling};
+ghost use Rattle.depot_path.specs.Fit.{fits, texts, filled, AreTexts, IsFilling};
 ghost use Rattle.depot_path.specs.Path.{printed};
 ghost use Rattle.depot_path.specs.declared.piece.Piece.{Piece};
 ghost use Rattle.depot_path.specs.Pattern.{place_at as place_in, piece_at as piece_in, more_bytes, pieces as pieces_in, has_bad_percent as bad_percent, pattern_fault as fault_in, pattern_of, literal};
@@ -12,6 +12,7 @@ ghost use Rattle.depot_path.specs.Pattern.{place_at as place_in, piece_at as pie
 use crate::component::{begins_with_slashes, has_dot_component, has_empty_component, is_text};
 use crate::escape::{escape_at, print_bytes};
 use crate::fault::PathFault;
+use crate::filling::{fill, texts_for};
 use crate::fit::fits;
 use crate::path::DepotPath;
 use crate::piece::Piece;
@@ -21,7 +22,7 @@ use std::alloc::{AllocError, Global};
 use std::marker::Model;
 
 /// A pattern of paths, as of a file specification or of a side of a view line.
-#[derive(Clone, Debug, Drop)]
+#[derive(Clone, Debug, Drop, PartialEq, Eq)]
 pub struct Pattern {
     pieces: Sequence<Piece>,
 }
@@ -33,6 +34,8 @@ impl Model for Pattern {
     ghost Value = { List Piece };
 
     ghost view = { λ pattern. pattern.pieces };
+
+    ghost inverse = { λ pieces. record { pieces = pieces } };
 
     ghost invariant = { λ pattern. length pattern.pieces ≤ 1024 };
 }
@@ -195,6 +198,24 @@ impl Pattern {
         ensures { result ≡ fits self.now path.now }
     {
         fits(self.pieces.as_slice(), path.as_bytes())
+    }
+
+    /// The texts for which the specifiers stand in a text without escapes, in their order; None where it doesn't fit. The leftmost specifier
+    /// takes the shortest text that lets the rest fit. The cost is at most the product of the two lengths. A text that doesn't fit takes no
+    /// memory.
+    pub fn texts(&self, alloc: Global, text: &[u8]) -> Result<Option<Sequence<Text>>, AllocError>
+        ensures value { IfOk result (λ found. found ≡ texts self.now text.now) }
+        ensures memory { OnErr result (fits self.now text.now ≡ true) }
+    {
+        texts_for(alloc, self.pieces.as_slice(), text)
+    }
+
+    /// The pattern with its specifiers replaced by texts, in order, as bytes without escapes. A specifier for which no text is left stands for
+    /// nothing, and texts beyond the last specifier are left out.
+    pub fn filled(&self, alloc: Global, texts: &[Text]) -> Result<Text, AllocError>
+        ensures { IfOk result (λ text. text ≡ filled self.now texts.now) }
+    {
+        fill(alloc, self.pieces.as_slice(), texts)
     }
 
     /// The text with which every path that fits begins as it is printed: what stands before the first specifier. In path order the paths that

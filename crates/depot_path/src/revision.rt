@@ -12,7 +12,7 @@ use crate::name::{Name, is_all_digits, is_name};
 use std::alloc::Global;
 
 /// One revision of a file.
-#[derive(Clone, Debug, Drop)]
+#[derive(Clone, Debug, Drop, PartialEq, Eq)]
 pub enum RevSpec {
     /// `#n`: the n-th revision, from 1.
     Number(u32),
@@ -33,7 +33,7 @@ pub enum RevSpec {
 }
 
 /// The revisions that a file specification asks for.
-#[derive(Clone, Debug, Drop)]
+#[derive(Clone, Debug, Drop, PartialEq, Eq)]
 pub enum Wanted {
     /// None is given.
     Head,

@@ -2,6 +2,8 @@
 
 use super::*;
 use std::alloc::Global;
+use std::cmp::Ordering;
+use std::collections::HashMap;
 use std::test::Fail;
 
 fn path_fault(alloc: Global, text: &[u8]) -> u8 {
@@ -100,6 +102,56 @@ fn patterns_match(rt: HostRuntime) -> Result<(), Fail> {
     Ok(())
 }
 
+/// The texts of a pattern's specifiers in a text, with a `|` behind each.
+fn texts_in(alloc: Global, pattern: &[u8], text: &[u8]) -> Result<Text, PathFault> {
+    let pattern = Pattern::read(alloc, pattern, true)?;
+    let mut joined = Text::new(alloc);
+    match pattern.texts(alloc, text) {
+        Ok(Some(texts)) => {
+            for part in texts.as_slice() {
+                if joined.append(part.as_bytes()).is_err() || joined.append(b"|").is_err() {
+                    return Err(PathFault::Memory);
+                }
+            }
+            Ok(joined)
+        }
+        Ok(None) => Text::from_bytes(alloc, b"none").map_err(|_| PathFault::Memory),
+        Err(_) => Err(PathFault::Memory),
+    }
+}
+
+#[test]
+fn the_leftmost_specifier_takes_the_shortest_text(rt: HostRuntime) -> Result<(), Fail> {
+    let cases: [(&[u8], &[u8], &[u8]); 8] = [
+        (b"//a/b", b"//a/b", b""),
+        (b"//a/...", b"//a/b/c", b"b/c|"),
+        (b"//*a*", b"//aab", b"|ab|"),
+        (b"//*...a", b"//b/a/ca", b"|b/a/c|"),
+        (b"//...*/%%1", b"//x/y/z", b"x/|y|z|"),
+        (b"//*/.../*.c", b"//x/.c/y/.c", b"x|.c/y||"),
+        (b"//*a", b"//b/a", b"none"),
+        (b"//...", b"//", b"|"),
+    ];
+    for (pattern, text, parts) in cases {
+        let found = texts_in(rt.alloc(), pattern, text)?;
+        assert_eq!(rt; found.as_bytes(), parts);
+    }
+    Ok(())
+}
+
+#[test]
+fn a_pattern_is_filled_in_order(rt: HostRuntime) -> Result<(), Fail> {
+    let pattern = Pattern::read(rt.alloc(), b"//ws1/%%2%40/*/%%1x...", true)?;
+    let texts = vec![in rt.alloc();
+        Text::from_bytes(rt.alloc(), b"a")?,
+        Text::from_bytes(rt.alloc(), b"")?,
+        Text::from_bytes(rt.alloc(), b"b/c")?,
+    ]?;
+    let text = pattern.filled(rt.alloc(), &texts)?;
+    assert_eq!(rt; text.as_bytes(), b"//ws1/a@//b/cx".as_slice());
+    Ok(())
+}
+
 #[test]
 fn a_pattern_begins_with_its_literal_text(rt: HostRuntime) -> Result<(), Fail> {
     let pattern = Pattern::read(rt.alloc(), b"//depot/a%40...", false)?;
@@ -142,4 +194,33 @@ fn the_first_fault_of_a_file_specification_is_answered(rt: HostRuntime) {
     for (text, fault) in cases {
         assert_eq!(rt; spec_fault(rt.alloc(), text), fault);
     }
+}
+
+#[test]
+fn values_are_equal_by_what_they_hold(rt: HostRuntime) -> Result<(), Fail> {
+    let spec = FileSpec::read(rt.alloc(), b"//depot/a...#1,#head")?;
+    assert!(rt; spec == FileSpec::read(rt.alloc(), b"//depot/a...#1,head")?);
+    assert!(rt; spec != FileSpec::read(rt.alloc(), b"//depot/a...#2,#head")?);
+    assert!(rt; spec != FileSpec::read(rt.alloc(), b"//depot/a*#1,#head")?);
+    let mut words = Sequence::new(rt.alloc());
+    words.push(Text::from_bytes(rt.alloc(), b"a")?)?;
+    let mut others = Sequence::new(rt.alloc());
+    others.push(Text::from_bytes(rt.alloc(), b"b")?)?;
+    assert!(rt; words != others);
+    assert!(rt; words == words.clone()?);
+    Ok(())
+}
+
+#[test]
+fn paths_and_names_are_keys(rt: HostRuntime) -> Result<(), Fail> {
+    let mut contents = HashMap::new(rt.alloc());
+    contents.insert(DepotPath::read(rt.alloc(), b"//ws1/a%40")?, 1u8)?;
+    contents.insert(DepotPath::read(rt.alloc(), b"//ws1/b")?, 2u8)?;
+    let path = DepotPath::read(rt.alloc(), b"//ws1/a%40")?;
+    assert!(rt; contents.get(&path) == Some(&1));
+    assert!(rt; path.cmp(&DepotPath::read(rt.alloc(), b"//ws1/a0")?) == Ordering::Less);
+    let mut names = HashMap::new(rt.alloc());
+    names.insert(Name::read(rt.alloc(), b"ws1")?, 3u8)?;
+    assert!(rt; names.get(&Name::read(rt.alloc(), b"ws2")?).is_none());
+    Ok(())
 }
