@@ -354,6 +354,24 @@ pub byte_at : (pieces : List Piece) (text : List ℕ) (k : ℕ) (d : Piece) (at 
 byte_at pieces text k d at columns done low e h =
     walk_other pieces text (get_or pieces k d) (drop (k + 1) pieces) at columns done e (subst (λ p. Walking pieces text p at columns done) (drop_more pieces k d low) h)
 
+-- a byte passed before the first specifier
+abbrev pub Behind : List Piece → ℕ → Type 0
+Behind pieces k = (text : List ℕ) → fits pieces text ≡ true → texts (drop k pieces) (drop k text) ≡ texts pieces text
+
+behind_byte : (s : Piece) (p : List Piece) (t : List ℕ) → is_specifier s ≡ false → fits (s ∷ p) t ≡ true → texts (s ∷ p) t ≡ texts p (drop 1 t)
+behind_byte (Byte b) p t e h = let f = byte_fits b p t h in f.1
+behind_byte Star p t e h = absurd cc
+behind_byte Dots p t e h = absurd cc
+behind_byte (Place k) p t e h = absurd cc
+
+pub behind_more : (pieces : List Piece) (k : ℕ) (d : Piece) → k < length pieces → is_specifier (get_or pieces k d) ≡ false → Behind pieces k → Behind pieces (k + 1)
+behind_more pieces k d low e h text fit =
+    let here = drop_more pieces k d low in
+    let as_before = ap (λ p. texts p (drop k text)) (sym here) ∙ h text fit in
+    ap (λ t. texts (drop (k + 1) pieces) t) (sym (drop-drop 1 k text))
+    ∙ sym (behind_byte (get_or pieces k d) (drop (k + 1) pieces) (drop k text) e (ap is_some as_before ∙ fit))
+    ∙ as_before
+
 nothing_left : (t : List ℕ) → fits [] t ≡ true → texts [] t ≡ Some []
 nothing_left [] e = refl
 nothing_left (x ∷ t) e = absurd cc

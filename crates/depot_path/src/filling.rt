@@ -127,6 +127,17 @@ fn texts_by_columns(
     Ok(Sequence::from_vec(texts))
 }
 
+/// How many bytes stand before the first specifier. What fits begins with them, and has its texts behind them.
+fn literal_length(pieces: &[Piece]) -> usize
+    ensures { (text : List ℕ) → fit_test pieces.now text ≡ true → texts_in (drop result pieces.now) (drop result text) ≡ texts_in pieces.now text }
+{
+    let mut count = 0;
+    while count < pieces.len() && !is_specifier(pieces[count]) {
+        count += 1;
+    }
+    count
+}
+
 /// The texts for which the specifiers stand in a text, if it fits. The cost is at most the product of the two lengths, and what doesn't fit
 /// takes no memory.
 pub(crate) fn texts_for(
@@ -141,6 +152,9 @@ pub(crate) fn texts_for(
     if !fits(pieces, text) {
         return Ok(None);
     }
+    let first = literal_length(pieces);
+    let pieces = pieces.get(first..).unwrap_or(&[]);
+    let text = text.get(first..).unwrap_or(&[]);
     let columns = columns_of(alloc, pieces, text)?;
     Ok(Some(texts_by_columns(alloc, pieces, text, columns)?))
 }
