@@ -1,17 +1,17 @@
 -- What the readers of groups say to their callers.
 use Rattle.std.proofs.Common.{◌≡◌, ℕ, ◌+◌, ◌-◌, ◌<◌, ◌≤◌, ◌^◌, List, ◌++◌, length, take, drop, Option, Some, None, refl, sym, ap, subst, ◌∙◌, arith, length-append, length-drop}
-use Rattle.std.specs.Prelude.{Result, Ok, Err, IfOk}
+use Rattle.std.specs.Prelude.{Result, Ok, Err, IfOk, OnErr, ◌≢◌}
 use Rattle.std.proofs.lemmas.List.{take-append-drop, append_cancel_right}
 use Rattle.db_records.specs.declared.change.Change.{Change}
 use Rattle.record_text.specs.declared.fault.Part.{Part}
 use Rattle.record_text.specs.Reading.{Reading, Done, Ends, Wrong}
 use Rattle.journal_groups.specs.declared.fault.GroupFault.{GroupFault}
 use Rattle.journal_groups.specs.declared.fault.GroupFault.TheVariants as faults
-use Rattle.journal_groups.specs.Groups.{group_text, IsGroup}
-use Rattle.journal_groups.specs.Reading.{group_at, GivesAt}
-use Rattle.journal_groups.specs.Reader.{State, IsNext}
+use Rattle.journal_groups.specs.Groups.{group_text, IsGroup, mark, open_byte}
+use Rattle.journal_groups.specs.Reading.{group_at, next_at, GivesAt}
+use Rattle.journal_groups.specs.Reader.{State, IsNext, HasTaken}
 use Rattle.journal_groups.specs.Causes.{GroupGoesOn, GoesOn, StopsAt, GroupStopsAt, IfShort, IfBad, IsShort, IsAnswer}
-use Rattle.journal_groups.proofs.Texts.{group_again, group_done}
+use Rattle.journal_groups.proofs.Texts.{group_again, group_done, next_group, next_ends, next_found, next_ended}
 use Rattle.journal_groups.proofs.Causes.{group_ends, group_goes, group_stops, next_goes_on, goes_next, next_stops}
 
 abbrev pub Answer : Type 0
@@ -104,3 +104,26 @@ next_bad old new (Err (faults.BadGroup place)) small e =
     let p : place + e.1.1.0 ≡ old.at + length old.left = e.1.1.1.1 in
     let n : e.1.1.0 ≡ old.at + length old.left - place = omega arith in
     subst (StopsAt old.number old.left) n (next_stops old.number old.left e.1.0 e.1.1.0 small e.1.1.1.0)
+
+pub next_taken : (old new : State) (result : Next) → IsNext old new result → IfOk result (HasTaken old new)
+next_taken old new (Ok (Some changes)) e = let f = next_found old.number old.left changes new.left e.0 in (f.0, f.1, e.1, e.2)
+next_taken old new (Ok None) e = let f = next_ended old.number old.left e.1.0 e.1.1 in (e.0, (f.0, (e.1.0, f.1)))
+next_taken old new (Err fault) e = tt
+
+pub next_kept : (old new : State) (result : Next) → IsNext old new result → OnErr result (new ≡ old)
+next_kept old new (Ok x) e = tt
+next_kept old new (Err fault) e = e.0
+
+-- what stands there is answered
+answered : (old new : State) (result : Next) (value : Option (List Change)) (rest : List ℕ) → IsNext old new result → next_at old.number old.left ≡ Done value rest → IsAnswer result value
+answered old new (Ok (Some changes)) value rest e is = sym (done_is value (Some changes) rest new.left (sym is ∙ e.0)).0
+answered old new (Ok None) value rest e is = sym (done_is value None rest e.1.0 (sym is ∙ e.1.1)).0
+answered old new (Err faults.Memory) value rest e is = tt
+answered old new (Err (faults.Short place)) value rest e is = no_ends value rest (sym is ∙ e.1.0)
+answered old new (Err (faults.BadGroup place)) value rest e is = no_wrong value rest e.1.0 e.1.1.0 (sym is ∙ e.1.1.1.0)
+
+pub next_only : (old new : State) (result : Next) (changes : List Change) (rest : List ℕ) → IsNext old new result → IsGroup changes → old.left ≡ mark open_byte ++ (group_text old.number changes ++ rest) → IsAnswer result (Some changes)
+next_only old new result changes rest e is same = answered old new result (Some changes) rest e (ap (next_at old.number) same ∙ next_group old.number changes rest is)
+
+pub next_at_closed : (old new : State) (result : Next) (byte : ℕ) (rest : List ℕ) → IsNext old new result → byte ≢ open_byte → old.left ≡ mark byte ++ rest → IsAnswer result None
+next_at_closed old new result byte rest e shut same = answered old new result None rest e (ap (next_at old.number) same ∙ next_ends old.number byte rest shut)

@@ -1,5 +1,5 @@
 -- What a reader of groups has before it.
-use Rattle.std.specs.Prelude.{◌≡◌, ℕ, ◌+◌, ◌<◌, ◌≤◌, List, ◌++◌, length, drop, Option, Some, None, Result, Ok, Err}
+use Rattle.std.specs.Prelude.{◌≡◌, ◌≢◌, ℕ, ◌+◌, ◌<◌, ◌≤◌, List, ◌++◌, length, drop, Option, Some, None, Result, Ok, Err}
 use Rattle.db_records.specs.declared.change.Change.{Change}
 use Rattle.record_text.specs.declared.fault.RecordFault.{RecordFault}
 use Rattle.record_text.specs.Answers.{Fails}
@@ -7,6 +7,7 @@ use Rattle.record_text.specs.Reading as readings
 use Rattle.record_text.specs.Reading.{Done, and_then}
 use Rattle.journal_groups.specs.declared.body.Body.{Body}
 use Rattle.journal_groups.specs.declared.fault.GroupFault.{GroupFault}
+use Rattle.journal_groups.specs.Groups.{IsGroup, group_text, mark, open_byte}
 use Rattle.journal_groups.specs.Reading.{body_at, next_at, FailsAt}
 
 pub record State : Type 0 where
@@ -59,3 +60,8 @@ abbrev pub IsNext : State → State → Result (Option (List Change)) GroupFault
 IsNext old new (Ok (Some changes)) = (next_at old.number old.left ≡ Done (Some changes) new.left) × (new.at + length new.left ≡ old.at + length old.left) × (new.number ≡ old.number + 1)
 IsNext old new (Ok None) = (new ≡ old) × ((rest : List ℕ) × (next_at old.number old.left ≡ Done None rest))
 IsNext old new (Err fault) = (new ≡ old) × FailsAt old.at old.left fault (next_at old.number old.left)
+
+-- An open mark and the group behind it were taken from the front; or a mark that isn't open stands there, and all stayed as it was.
+abbrev pub HasTaken : State → State → Option (List Change) → Type 0
+HasTaken old new (Some changes) = IsGroup changes × (old.left ≡ mark open_byte ++ (group_text old.number changes ++ new.left)) × (new.at + length new.left ≡ old.at + length old.left) × (new.number ≡ old.number + 1)
+HasTaken old new None = (new ≡ old) × ((byte : ℕ) × ((rest : List ℕ) × ((byte ≢ open_byte) × (old.left ≡ mark byte ++ rest))))

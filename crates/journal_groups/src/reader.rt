@@ -1,9 +1,11 @@
 //! The groups of a journal's text one after another, from bytes that come in pieces.
 
-ghost use Rattle.std.specs.Prelude.{◌≡◌, ◌++◌, ◌+◌, ◌-◌, ◌<◌, ◌≤◌, ◌^◌, length, Some, OnOk, OnErr};
+ghost use Rattle.std.specs.Prelude.{◌≡◌, ◌≢◌, ◌++◌, ◌+◌, ◌-◌, ◌<◌, ◌≤◌, ◌^◌, ℕ, List, length, Some, None, IfOk, OnOk, OnErr};
+ghost use Rattle.db_records.specs.declared.change.Change.{Change};
 ghost use Rattle.journal_groups.specs.Reading.{placed, IsWithin};
-ghost use Rattle.journal_groups.specs.Causes.{GoesOn, StopsAt, IsShort, IfShort, IfBad};
-ghost use Rattle.journal_groups.specs.Reader.{State, IsNext, IsBegun, HasBegun};
+ghost use Rattle.journal_groups.specs.Groups.{IsGroup, group_text, mark, open_byte};
+ghost use Rattle.journal_groups.specs.Causes.{GoesOn, StopsAt, IsAnswer, IsShort, IfShort, IfBad};
+ghost use Rattle.journal_groups.specs.Reader.{State, IsNext, IsBegun, HasBegun, HasTaken};
 
 use crate::body::Body;
 use crate::fault::GroupFault;
@@ -163,6 +165,12 @@ impl GroupReader {
     /// [`GroupReader::more`]. The places of faults are those of the whole text.
     pub fn next(&mut self, alloc: Global) -> Result<Option<Sequence<Change>>, GroupFault>
         ensures next { IsNext self.old self.new result }
+        // What is answered is the group whose text stands there.
+        ensures found { IfOk result (HasTaken self.old self.new) }
+        // Where the text of a group of the next number stands behind an open mark, it is answered, unless there is no memory.
+        ensures only { (changes : List Change) (rest : List ℕ) → IsGroup changes → self.old.left ≡ mark open_byte ++ (group_text self.old.number changes ++ rest) → IsAnswer result (Some changes) }
+        ensures closed { (byte : ℕ) (rest : List ℕ) → byte ≢ open_byte → self.old.left ≡ mark byte ++ rest → IsAnswer result None }
+        ensures kept { OnErr result (self.new ≡ self.old) }
         // It is short just where all of the bytes may still become what is wanted.
         ensures short { IfShort result (λ place. GoesOn self.old.number self.old.left × (place ≡ self.old.at + length self.old.left)) }
         ensures goes { GoesOn self.old.number self.old.left → IsShort result (self.old.at + length self.old.left) }

@@ -3,15 +3,16 @@ use Rattle.std.specs.Prelude.{◌≡◌, ℕ, length, take}
 use Rattle.outside_api.specs.Disk.{Files}
 use Rattle.memory_world.specs.Files.{contents}
 use Rattle.memory_world.specs.Replay.{State, at_rest, replay, IsImage, IsImageSince}
+use Rattle.memory_world.specs.Failing.{Calls, calls_of}
 use Rattle.memory_world.specs.declared.disk.MemoryDisk.{MemoryDisk}
 
 -- what each file reads
 abbrev pub files_of : MemoryDisk → Files
 files_of disk = contents disk.files.items
 
--- how many calls it was asked
-abbrev pub calls_of : MemoryDisk → ℕ
-calls_of disk = length disk.log.items
+-- the moment: how many of its calls it has kept
+abbrev pub moment_of : MemoryDisk → ℕ
+moment_of disk = length disk.log.items
 
 -- what it read after so many calls, and what of it a stop might have left otherwise
 abbrev pub state_at : MemoryDisk → ℕ → State
@@ -28,3 +29,7 @@ left_since disk t c = IsImageSince (contents disk.start.items) disk.log.items t 
 
 abbrev pub disk_faults : MemoryDisk → ℕ
 disk_faults disk = disk.failing.faults
+
+-- its calls, and which of them fail
+abbrev pub disk_calls : MemoryDisk → Calls
+disk_calls disk = calls_of disk.failing

@@ -1,6 +1,7 @@
 pub mod Disk
 pub mod Door
 pub mod Doors
+pub mod Failing
 pub mod Files
 pub mod Laws
 pub mod Link

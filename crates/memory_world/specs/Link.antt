@@ -1,8 +1,9 @@
--- What links in memory hold, what they are about to lose, and how often they have failed.
+-- What links in memory hold, how often they have failed, and which of their calls fail.
 -- Which faults a link in memory plays is this project's own choice.
 use Rattle.std.specs.Prelude.{◌≡◌, ℕ, List, [], ◌∷◌, ◌++◌, length, take, min}
 use Rattle.std.specs.List.{concat}
 use Rattle.outside_api.specs.Link.{text_of, IsEarlier}
+use Rattle.memory_world.specs.Failing.{Calls, calls_of}
 use Rattle.memory_world.specs.declared.link.MemoryLink.{MemoryLink}
 
 -- the journal of these texts: where there is none, its generation 0 has no byte yet
@@ -24,3 +25,6 @@ link_journal link = journal_of link.texts.items
 
 abbrev pub link_faults : MemoryLink → ℕ
 link_faults link = link.calls.faults
+
+abbrev pub link_calls : MemoryLink → Calls
+link_calls link = calls_of link.calls

@@ -1,12 +1,13 @@
 -- What a link that loses some of what another brings is about to lose, and what it answers then.
 -- The losses are this project's own choice.
-use Rattle.std.specs.Prelude.{ℕ, List, [], ◌∷◌, drop, max}
+use Rattle.std.specs.Prelude.{ℕ, Bool, true, false, List, [], ◌∷◌, drop, max}
 use Rattle.outside_api.specs.declared.link.Fetched.{Fetched}
 use Rattle.outside_api.specs.Link.{Answers, Fits}
 use Rattle.memory_world.specs.declared.lossy.Loss.{Loss}
 use Rattle.memory_world.specs.declared.lossy.Loss.TheVariants.{Fail, Short, Old}
 use Rattle.memory_world.specs.declared.lossy.LossyLink.{LossyLink}
-use Rattle.memory_world.specs.Link.{link_journal, link_faults, IsJournalAt}
+use Rattle.memory_world.specs.Failing.{Calls}
+use Rattle.memory_world.specs.Link.{link_journal, link_faults, link_calls, IsJournalAt}
 
 abbrev pub lossy_journal : LossyLink → List (List ℕ)
 lossy_journal link = link_journal link.inner
@@ -14,9 +15,19 @@ lossy_journal link = link_journal link.inner
 abbrev pub lossy_faults : LossyLink → ℕ
 lossy_faults link = link_faults link.inner
 
+abbrev pub lossy_calls : LossyLink → Calls
+lossy_calls link = link_calls link.inner
+
 -- the losses of the calls to come, in order
 abbrev pub losses_left : LossyLink → List Loss
 losses_left link = drop link.next link.losses.items
+
+-- the next loss is a failure
+abbrev pub begins_with_fail : List Loss → Bool
+begins_with_fail [] = false
+begins_with_fail (Fail ∷ later) = true
+begins_with_fail (Short most ∷ later) = false
+begins_with_fail (Old count ∷ later) = false
 
 -- What an answer is, given that it comes, where these losses are left: none of a failure, a short one of few bytes, that
 -- of an earlier journal, and that of the journal as it is where none is left.

@@ -1,9 +1,10 @@
 //! A disk in memory. It keeps the files that it began with and each call, so that it can tell what a stop leaves.
 
-ghost use Rattle.std.specs.Prelude.{◌≡◌, ◌⊎◌, ◌≤◌, ◌<◌, ◌+◌, ◌^◌, ℕ, [], ◌∷◌, ◌++◌, length, take, OnOk, OnErr};
-ghost use Rattle.outside_api.specs.Count.{HasCause};
-ghost use Rattle.outside_api.specs.Disk.{Reads};
+ghost use Rattle.std.specs.Prelude.{◌≡◌, ◌⊎◌, ◌≤◌, ◌<◌, ◌+◌, ◌^◌, ℕ, [], ◌∷◌, ◌++◌, length, take, IfOk, OnOk, OnErr, IsErr, IsTrue};
+ghost use Rattle.outside_api.specs.Count.{HasCause, counted};
+ghost use Rattle.outside_api.specs.Disk.{Files, Follows, OnFile, Torn, Cut, Holds, Elapses, NoMore, Same, Leads, StillTells, Reads};
 ghost use Rattle.memory_world.specs.Files.{contents, put, written};
+ghost use Rattle.memory_world.specs.Failing.{Calls, calls_of, no_call, one_more, fails_next};
 ghost use Rattle.memory_world.specs.Replay.{IsSound};
 ghost use Rattle.memory_world.specs.declared.call.Call.TheVariants.{Look, Write, Sync};
 
@@ -26,15 +27,15 @@ pub struct MemoryDisk {
 }
 
 impl MemoryDisk {
-    ghost use Rattle.std.specs.Prelude.{IfOk};
     ghost use Rattle.memory_world.specs.Ranges.{IsFilled};
-    ghost use Rattle.memory_world.specs.Disk.{files_of, disk_faults, state_at, calls_of};
+    ghost use Rattle.memory_world.specs.Disk.{files_of, disk_faults, disk_calls, state_at, moment_of};
 
     /// A disk of empty files, which takes no memory. The calls of these numbers, from 1, fail.
     pub fn new(fails: Vec<u64>) -> Self
         ensures files { (f : ℕ) → files_of result f ≡ [] }
-        ensures calls { calls_of result ≡ 0 }
+        ensures moment { moment_of result ≡ 0 }
         ensures faults { disk_faults result ≡ 0 }
+        ensures calls { disk_calls result ≡ no_call fails.items }
     {
         let alloc = *fails.allocator();
         MemoryDisk {
@@ -51,8 +52,9 @@ impl MemoryDisk {
     /// `pick` and then 0.
     pub fn image(&self, moment: u64, pick: &[u8]) -> Result<MemoryDisk, AllocError>
         ensures filled { let state = state_at self.now moment in IfOk result (λ disk. IsFilled state.is_open pick.now state.files (files_of disk)) }
-        ensures calls { IfOk result (λ disk. calls_of disk ≡ 0) }
+        ensures moment { IfOk result (λ disk. moment_of disk ≡ 0) }
         ensures faults { IfOk result (λ disk. disk_faults disk ≡ 0) }
+        ensures calls { IfOk result (λ disk. disk_calls disk ≡ no_call []) }
     {
         let alloc = self.alloc;
         let Replayed {
@@ -98,6 +100,8 @@ fn note(log: &mut Vec<Call>, call: Call) -> Result<(), AllocError>
 fn look(failing: &mut Failing, log: &mut Vec<Call>) -> Result<(), Failed>
     ensures log { (log.new.items ≡ log.old.items) ⊎ (log.new.items ≡ log.old.items ++ Look ∷ []) }
     ensures cause { HasCause failing.old.faults failing.new.faults result }
+    ensures fails { IsTrue (fails_next (calls_of failing.old)) → IsErr result }
+    ensures calls { calls_of failing.new ≡ one_more (calls_of failing.old) }
 {
     if failing.call_fails() {
         keep(log, Call::Look);
@@ -136,18 +140,20 @@ fn write_kept(
 }
 
 impl Disk for MemoryDisk {
-    ghost use Rattle.memory_world.specs.Disk.{is_read, may_be_left, calls_of, left_since, disk_faults};
+    ghost use Rattle.memory_world.specs.Disk.{is_read, may_be_left, moment_of, left_since, disk_faults, disk_calls};
     ghost use Rattle.memory_world.specs.Laws.{read_now, read_alike, short, image_now, only_now};
 
     ghost seen = { is_read };
 
     ghost may_leave = { may_be_left };
 
-    ghost moment = { calls_of };
+    ghost moment = { moment_of };
 
     ghost left_since = { left_since };
 
     ghost faults = { disk_faults };
+
+    ghost calls = { λ d. (disk_calls d).count };
 
     ghost reads_an_image = { λ d c read. read_now (contents d.start.items) d.log.items (contents d.files.items) d.sound c read };
 
@@ -159,17 +165,48 @@ impl Disk for MemoryDisk {
 
     ghost only_now = { λ d c left. only_now (contents d.start.items) d.log.items c left };
 
-    fn length(&mut self, file: u32) -> Result<u64, Failed> {
+    fn length(&mut self, file: u32) -> Result<u64, Failed>
+        ensures length { (files : Files) → is_read self.old files → IfOk result (λ n. n ≡ length (files file)) }
+        ensures small { IfOk result (λ n. n < 2 ^ 63) }
+        ensures same { Same (is_read self.old) (is_read self.new) }
+        ensures crash { NoMore (may_be_left self.old) (may_be_left self.new) }
+        ensures time { Elapses (moment_of self.old) (moment_of self.new) (left_since self.old) (left_since self.new) (may_be_left self.new) }
+        ensures asked { (disk_calls self.new).count ≡ counted 1 (disk_calls self.old).count }
+        ensures cause { HasCause (disk_faults self.old) (disk_faults self.new) result }
+        ensures fails { IsTrue (fails_next (disk_calls self.old)) → IsErr result }
+        ensures calls { disk_calls self.new ≡ one_more (disk_calls self.old) }
+    {
         look(&mut self.failing, &mut self.log)?;
         Ok(file_bytes(&self.files, file).len() as u64)
     }
 
-    fn read(&mut self, file: u32, at: u64, buffer: &mut [u8]) -> Result<usize, Failed> {
+    fn read(&mut self, file: u32, at: u64, buffer: &mut [u8]) -> Result<usize, Failed>
+        ensures bytes { (files : Files) → is_read self.old files → IfOk result (λ n. Reads (files file) at buffer.old n buffer.new) }
+        ensures fits { IfOk result (λ n. n ≤ length buffer.old) }
+        ensures same { Same (is_read self.old) (is_read self.new) }
+        ensures crash { NoMore (may_be_left self.old) (may_be_left self.new) }
+        ensures time { Elapses (moment_of self.old) (moment_of self.new) (left_since self.old) (left_since self.new) (may_be_left self.new) }
+        ensures asked { (disk_calls self.new).count ≡ counted 1 (disk_calls self.old).count }
+        ensures cause { HasCause (disk_faults self.old) (disk_faults self.new) result }
+        ensures fails { IsTrue (fails_next (disk_calls self.old)) → IsErr result }
+        ensures calls { disk_calls self.new ≡ one_more (disk_calls self.old) }
+    {
         look(&mut self.failing, &mut self.log)?;
         Ok(copy_from(file_bytes(&self.files, file), at, buffer))
     }
 
-    fn write_at(&mut self, file: u32, at: u64, piece: &[u8]) -> Result<(), Failed> {
+    fn write_at(&mut self, file: u32, at: u64, piece: &[u8]) -> Result<(), Failed>
+        requires { (files : Files) → is_read self.old files → at ≤ length (files file) }
+        ensures written { OnOk result (Leads (OnFile file (Holds at piece.now)) (is_read self.old) (is_read self.new)) }
+        ensures small { OnOk result (at + length piece.now < 2 ^ 63) }
+        ensures told { StillTells (is_read self.old) (is_read self.new) }
+        ensures crash { Follows (OnFile file (Torn at (length piece.now))) (may_be_left self.old) (may_be_left self.new) }
+        ensures time { Elapses (moment_of self.old) (moment_of self.new) (left_since self.old) (left_since self.new) (may_be_left self.new) }
+        ensures asked { (disk_calls self.new).count ≡ counted 1 (disk_calls self.old).count }
+        ensures cause { HasCause (disk_faults self.old) (disk_faults self.new) result }
+        ensures fails { IsTrue (fails_next (disk_calls self.old)) → IsErr result }
+        ensures calls { disk_calls self.new ≡ one_more (disk_calls self.old) }
+    {
         if self.failing.call_fails() {
             let count = piece.len() as u64;
             keep(&mut self.log, Call::BrokenWrite { file, at, count });
@@ -184,7 +221,17 @@ impl Disk for MemoryDisk {
         }
     }
 
-    fn cut(&mut self, file: u32, length: u64) -> Result<(), Failed> {
+    fn cut(&mut self, file: u32, length: u64) -> Result<(), Failed>
+        requires { (files : Files) → is_read self.old files → length ≤ Rattle.std.specs.Prelude.length (files file) }
+        ensures cut { OnOk result (Leads (OnFile file (λ old new. new ≡ take length old)) (is_read self.old) (is_read self.new)) }
+        ensures told { StillTells (is_read self.old) (is_read self.new) }
+        ensures crash { Follows (OnFile file (Cut length)) (may_be_left self.old) (may_be_left self.new) }
+        ensures time { Elapses (moment_of self.old) (moment_of self.new) (left_since self.old) (left_since self.new) (may_be_left self.new) }
+        ensures asked { (disk_calls self.new).count ≡ counted 1 (disk_calls self.old).count }
+        ensures cause { HasCause (disk_faults self.old) (disk_faults self.new) result }
+        ensures fails { IsTrue (fails_next (disk_calls self.old)) → IsErr result }
+        ensures calls { disk_calls self.new ≡ one_more (disk_calls self.old) }
+    {
         if self.failing.call_fails() {
             keep(&mut self.log, Call::BrokenCut { file, length });
             return Err(Failed);
@@ -201,7 +248,17 @@ impl Disk for MemoryDisk {
         }
     }
 
-    fn sync(&mut self) -> Result<(), Failed> {
+    fn sync(&mut self) -> Result<(), Failed>
+        ensures durable { OnOk result (NoMore (is_read self.new) (may_be_left self.new)) }
+        ensures same { OnOk result (Same (is_read self.old) (is_read self.new)) }
+        ensures told { StillTells (is_read self.old) (is_read self.new) }
+        ensures crash { NoMore (may_be_left self.old) (may_be_left self.new) }
+        ensures time { Elapses (moment_of self.old) (moment_of self.new) (left_since self.old) (left_since self.new) (may_be_left self.new) }
+        ensures asked { (disk_calls self.new).count ≡ counted 1 (disk_calls self.old).count }
+        ensures cause { HasCause (disk_faults self.old) (disk_faults self.new) result }
+        ensures fails { IsTrue (fails_next (disk_calls self.old)) → IsErr result }
+        ensures calls { disk_calls self.new ≡ one_more (disk_calls self.old) }
+    {
         if self.failing.call_fails() {
             keep(&mut self.log, Call::Look);
             return Err(Failed);

@@ -1,7 +1,9 @@
 //! Doors to sources and sinks in memory.
 
-ghost use Rattle.std.specs.Prelude.{◌≡◌, ◌≢◌, ◌<◌, ℕ, List, length, slice_get, None, IfSome, IfNone};
+ghost use Rattle.std.specs.Prelude.{◌≡◌, ◌≢◌, ◌<◌, ◌||◌, ℕ, List, length, slice_get, is_err, None, IfSome, IfNone, IfOk};
+ghost use Rattle.outside_api.specs.Count.{HasCause};
 ghost use Rattle.memory_world.specs.Door.{door_among};
+ghost use Rattle.memory_world.specs.Failing.{no_call, one_more, fails_next};
 
 use crate::door::Door;
 use crate::failing::Failing;
@@ -42,7 +44,7 @@ fn take_door(doors: &mut Vec<Door>, name: &str) -> Option<Door>
 
 impl MemoryDoors {
     ghost use Rattle.memory_world.specs.Door.{input_among, output_among};
-    ghost use Rattle.memory_world.specs.Doors.{doors_input, doors_output, doors_faults};
+    ghost use Rattle.memory_world.specs.Doors.{doors_input, doors_output, doors_faults, doors_calls};
 
     /// These doors. The calls of these numbers, from 1, fail, and so does one for a name that isn't
     /// left.
@@ -50,6 +52,7 @@ impl MemoryDoors {
         ensures input { (name : List ℕ) → doors_input result name ≡ input_among doors.items name }
         ensures output { (name : List ℕ) → doors_output result name ≡ output_among doors.items name }
         ensures faults { doors_faults result ≡ 0 }
+        ensures calls { doors_calls result ≡ no_call fails.items }
     {
         MemoryDoors {
             doors,
@@ -59,7 +62,8 @@ impl MemoryDoors {
 }
 
 impl Doors for MemoryDoors {
-    ghost use Rattle.memory_world.specs.Doors.{doors_input, doors_output, doors_faults};
+    ghost use Rattle.memory_world.specs.Stream.{source_left, source_faults, sink_given, sink_faults};
+    ghost use Rattle.memory_world.specs.Doors.{doors_input, doors_output, doors_faults, doors_calls, is_gone};
 
     type In = MemorySource;
 
@@ -71,7 +75,17 @@ impl Doors for MemoryDoors {
 
     ghost output = { doors_output };
 
-    fn come(&mut self, name: &str) -> Result<(MemorySource, MemorySink), Failed> {
+    fn come(&mut self, name: &str) -> Result<(MemorySource, MemorySink), Failed>
+        ensures source { IfOk result (λ pair. source_left pair.0 ≡ doors_input self.old name.now) }
+        ensures sink { IfOk result (λ pair. sink_given pair.1 ≡ doors_output self.old name.now) }
+        ensures new_source { IfOk result (λ pair. source_faults pair.0 ≡ 0) }
+        ensures new_sink { IfOk result (λ pair. sink_faults pair.1 ≡ 0) }
+        ensures other_inputs { (other : List ℕ) → other ≢ name.now → doors_input self.new other ≡ doors_input self.old other }
+        ensures other_outputs { (other : List ℕ) → other ≢ name.now → doors_output self.new other ≡ doors_output self.old other }
+        ensures cause { HasCause (doors_faults self.old) (doors_faults self.new) result }
+        ensures exactly { is_err result ≡ (fails_next (doors_calls self.old) || is_gone self.old name.now) }
+        ensures calls { doors_calls self.new ≡ one_more (doors_calls self.old) }
+    {
         if self.calls.call_fails() {
             return Err(Failed);
         }

@@ -1,8 +1,10 @@
 //! A link to a journal in memory.
 
-ghost use Rattle.std.specs.Prelude.{◌≡◌, ◌≤◌, ◌<◌, ◌-◌, ◌+◌, ℕ, List, length, min};
+ghost use Rattle.std.specs.Prelude.{◌≡◌, ◌≤◌, ◌<◌, ◌-◌, ◌+◌, ℕ, List, length, min, is_err, IfOk};
+ghost use Rattle.outside_api.specs.Count.{HasCause};
 ghost use Rattle.std.specs.List.{concat};
-ghost use Rattle.outside_api.specs.Link.{text_of, Answers, Fits};
+ghost use Rattle.outside_api.specs.Link.{text_of, IsEarlier, Answers, Fits};
+ghost use Rattle.memory_world.specs.Failing.{no_call, one_more, fails_next};
 ghost use Rattle.memory_world.specs.Link.{journal_of, journal_then, IsJournalAt};
 
 use crate::disk::copy_from;
@@ -90,13 +92,14 @@ fn text_then(texts: &[Text], moment: Moment, generation: usize) -> &[u8]
 }
 
 impl MemoryLink {
-    ghost use Rattle.memory_world.specs.Link.{link_journal, link_faults};
+    ghost use Rattle.memory_world.specs.Link.{link_journal, link_faults, link_calls};
 
     /// A link to the journal of these texts, one for each generation from 0 on. The calls of these
     /// numbers, from 1, fail.
     pub fn new(texts: Vec<Text>, fails: Vec<u64>) -> Self
         ensures journal { link_journal result ≡ journal_of texts.items }
         ensures faults { link_faults result ≡ 0 }
+        ensures calls { link_calls result ≡ no_call fails.items }
     {
         MemoryLink {
             texts,
@@ -147,13 +150,22 @@ impl MemoryLink {
 }
 
 impl Link for MemoryLink {
-    ghost use Rattle.memory_world.specs.Link.{link_journal, link_faults};
+    ghost use Rattle.memory_world.specs.Link.{link_journal, link_faults, link_calls};
 
     ghost faults = { link_faults };
 
     ghost tells = { λ link now. now ≡ link_journal link };
 
-    fn fetch(&mut self, generation: u32, at: u64, buffer: &mut [u8]) -> Result<Fetched, Failed> {
+    fn fetch(&mut self, generation: u32, at: u64, buffer: &mut [u8]) -> Result<Fetched, Failed>
+        requires { 0 < length buffer.old }
+        ensures answer { (now : List (List ℕ)) → now ≡ link_journal self.new → IfOk result (λ fetched. (earlier : List (List ℕ)) × IsEarlier earlier now × Answers earlier generation at fetched buffer.new) }
+        ensures fits { IfOk result (λ fetched. Fits fetched (length buffer.old)) }
+        ensures grows { (before : List (List ℕ)) → before ≡ link_journal self.old → (now : List (List ℕ)) × (now ≡ link_journal self.new) × IsEarlier before now }
+        ensures cause { HasCause (link_faults self.old) (link_faults self.new) result }
+        ensures newest { IfOk result (λ fetched. Answers (link_journal self.old) generation at fetched buffer.new) }
+        ensures exactly { is_err result ≡ fails_next (link_calls self.old) }
+        ensures calls { link_calls self.new ≡ one_more (link_calls self.old) }
+    {
         if self.calls.call_fails() {
             return Err(Failed);
         }

@@ -1,8 +1,9 @@
 //! A link that loses some of what another brings.
 
-ghost use Rattle.std.specs.Prelude.{◌≡◌, ◌<◌, List, ℕ, length, drop, IfOk};
+ghost use Rattle.std.specs.Prelude.{◌≡◌, ◌<◌, ◌||◌, List, ℕ, length, drop, is_err, IfOk};
 ghost use Rattle.outside_api.specs.Count.{HasCause};
 ghost use Rattle.outside_api.specs.Link.{IsEarlier, Answers, Fits};
+ghost use Rattle.memory_world.specs.Failing.{one_more, fails_next};
 
 use crate::link::MemoryLink;
 use outside_api::{Failed, Fetched, Link};
@@ -28,8 +29,8 @@ pub struct LossyLink {
 
 impl LossyLink {
     ghost use Rattle.std.specs.Prelude.{slice_get};
-    ghost use Rattle.memory_world.specs.Link.{link_journal, link_faults};
-    ghost use Rattle.memory_world.specs.Lossy.{lossy_journal, lossy_faults, losses_left};
+    ghost use Rattle.memory_world.specs.Link.{link_journal, link_faults, link_calls};
+    ghost use Rattle.memory_world.specs.Lossy.{lossy_journal, lossy_faults, lossy_calls, losses_left};
 
     /// A link over another. A call counts as one of the inner link too, and fails also where that
     /// one does.
@@ -37,6 +38,7 @@ impl LossyLink {
         ensures journal { lossy_journal result ≡ link_journal inner }
         ensures losses { losses_left result ≡ losses.items }
         ensures faults { lossy_faults result ≡ link_faults inner }
+        ensures calls { lossy_calls result ≡ link_calls inner }
     {
         LossyLink {
             inner,
@@ -60,7 +62,7 @@ impl LossyLink {
 }
 
 impl Link for LossyLink {
-    ghost use Rattle.memory_world.specs.Lossy.{lossy_journal, lossy_faults, losses_left, Passes};
+    ghost use Rattle.memory_world.specs.Lossy.{lossy_journal, lossy_faults, lossy_calls, losses_left, begins_with_fail, Passes};
 
     ghost faults = { lossy_faults };
 
@@ -72,6 +74,8 @@ impl Link for LossyLink {
         ensures fits { IfOk result (λ fetched. Fits fetched (length buffer.old)) }
         ensures grows { (before : List (List ℕ)) → before ≡ lossy_journal self.old → (now : List (List ℕ)) × (now ≡ lossy_journal self.new) × IsEarlier before now }
         ensures cause { HasCause (lossy_faults self.old) (lossy_faults self.new) result }
+        ensures exactly { is_err result ≡ (fails_next (lossy_calls self.old) || begins_with_fail (losses_left self.old)) }
+        ensures calls { lossy_calls self.new ≡ one_more (lossy_calls self.old) }
         ensures spent { losses_left self.new ≡ drop 1 (losses_left self.old) }
         ensures loss { IfOk result (λ fetched. Passes (losses_left self.old) (lossy_journal self.old) generation at fetched buffer.new) }
     {

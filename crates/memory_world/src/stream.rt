@@ -1,6 +1,9 @@
 //! Bytes in memory that come and go.
 
-ghost use Rattle.std.specs.Prelude.{◌≡◌, ◌≤◌, Some, [], drop, length};
+ghost use Rattle.std.specs.Prelude.{◌≡◌, ◌≤◌, ◌<◌, Some, [], drop, take, length, is_err, IsErr, IsTrue, IfOk, OnErr};
+ghost use Rattle.outside_api.specs.Count.{HasCause};
+ghost use Rattle.outside_api.specs.Told.{prepended, extended, IsAtEnd};
+ghost use Rattle.memory_world.specs.Failing.{no_call, one_more, fails_next};
 
 use crate::failing::Failing;
 use depot_path::Text;
@@ -16,12 +19,13 @@ pub struct MemorySource {
 }
 
 impl MemorySource {
-    ghost use Rattle.memory_world.specs.Stream.{source_left, source_faults};
+    ghost use Rattle.memory_world.specs.Stream.{source_left, source_faults, source_calls};
 
     /// A source of these bytes. The calls of these numbers, from 1, fail.
     pub fn new(bytes: Text, fails: Vec<u64>) -> Self
         ensures left { source_left result ≡ Some bytes }
         ensures faults { source_faults result ≡ 0 }
+        ensures calls { source_calls result ≡ no_call fails.items }
     {
         MemorySource {
             bytes,
@@ -32,13 +36,21 @@ impl MemorySource {
 }
 
 impl Source for MemorySource {
-    ghost use Rattle.memory_world.specs.Stream.{source_left, source_faults};
+    ghost use Rattle.memory_world.specs.Stream.{source_left, source_faults, source_calls};
 
     ghost faults = { source_faults };
 
     ghost left = { source_left };
 
-    fn take(&mut self, buffer: &mut [u8]) -> Result<usize, Failed> {
+    fn take(&mut self, buffer: &mut [u8]) -> Result<usize, Failed>
+        ensures fits { IfOk result (λ n. n ≤ length buffer.new) }
+        ensures taken { IfOk result (λ n. source_left self.old ≡ prepended (take n buffer.new) (source_left self.new)) }
+        ensures end { IfOk result (λ n. n ≡ 0 → 0 < length buffer.new → IsAtEnd (source_left self.old)) }
+        ensures kept { OnErr result (source_left self.new ≡ source_left self.old) }
+        ensures cause { HasCause (source_faults self.old) (source_faults self.new) result }
+        ensures exactly { is_err result ≡ fails_next (source_calls self.old) }
+        ensures calls { source_calls self.new ≡ one_more (source_calls self.old) }
+    {
         if self.calls.call_fails() {
             return Err(Failed);
         }
@@ -58,12 +70,13 @@ pub struct MemorySink {
 }
 
 impl MemorySink {
-    ghost use Rattle.memory_world.specs.Stream.{sink_given, sink_faults};
+    ghost use Rattle.memory_world.specs.Stream.{sink_given, sink_faults, sink_calls};
 
     /// An empty sink, which takes no memory. The calls of these numbers, from 1, fail.
     pub fn new(fails: Vec<u64>) -> Self
         ensures given { sink_given result ≡ Some [] }
         ensures faults { sink_faults result ≡ 0 }
+        ensures calls { sink_calls result ≡ no_call fails.items }
     {
         MemorySink {
             given: Text::new(*fails.allocator()),
@@ -80,14 +93,22 @@ impl MemorySink {
 }
 
 impl Sink for MemorySink {
-    ghost use Rattle.memory_world.specs.Stream.{sink_given, sink_faults};
+    ghost use Rattle.memory_world.specs.Stream.{sink_given, sink_faults, sink_calls};
 
     ghost faults = { sink_faults };
 
     ghost given = { sink_given };
 
     /// Without memory for the piece the sink has failed as well.
-    fn give(&mut self, piece: &[u8]) -> Result<usize, Failed> {
+    fn give(&mut self, piece: &[u8]) -> Result<usize, Failed>
+        ensures fits { IfOk result (λ n. n ≤ length piece.now) }
+        ensures some { IfOk result (λ n. 0 < length piece.now → 0 < n) }
+        ensures given { IfOk result (λ n. sink_given self.new ≡ extended (sink_given self.old) (take n piece.now)) }
+        ensures kept { OnErr result (sink_given self.new ≡ sink_given self.old) }
+        ensures cause { HasCause (sink_faults self.old) (sink_faults self.new) result }
+        ensures fails { IsTrue (fails_next (sink_calls self.old)) → IsErr result }
+        ensures calls { sink_calls self.new ≡ one_more (sink_calls self.old) }
+    {
         if self.calls.call_fails() {
             return Err(Failed);
         }

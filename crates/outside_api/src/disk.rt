@@ -2,7 +2,7 @@
 
 ghost use Rattle.std.specs.Prelude.{◌≡◌, ◌+◌, ◌<◌, ◌≤◌, ◌^◌, ℕ, length, take, IfOk, OnOk};
 ghost use Rattle.outside_api.specs.Disk.{Files, Follows, OnFile, Torn, Cut, Holds, Elapses, NoMore, Same, Leads, StillTells, Reads};
-ghost use Rattle.outside_api.specs.Count.{HasCause};
+ghost use Rattle.outside_api.specs.Count.{HasCause, counted};
 
 use crate::stream::Failed;
 
@@ -30,6 +30,9 @@ pub trait Disk {
     /// How often a call failed.
     ghost faults: { Self → ℕ };
 
+    /// How many calls it was asked, of the five below. The count stays at its last value, 2^64 - 1.
+    ghost calls: { Self → ℕ };
+
     /// The length of a file in bytes.
     fn length(&mut self, file: u32) -> Result<u64, Failed>
         ensures length { (files : Files) → seen self.old files → IfOk result (λ n. n ≡ length (files file)) }
@@ -37,6 +40,7 @@ pub trait Disk {
         ensures same { Same (seen self.old) (seen self.new) }
         ensures crash { NoMore (may_leave self.old) (may_leave self.new) }
         ensures time { Elapses (moment self.old) (moment self.new) (left_since self.old) (left_since self.new) (may_leave self.new) }
+        ensures asked { calls self.new ≡ counted 1 (calls self.old) }
         ensures cause { HasCause (faults self.old) (faults self.new) result };
 
     /// Puts bytes of a file from a place on at the front of the buffer, and answers how many: at
@@ -47,6 +51,7 @@ pub trait Disk {
         ensures same { Same (seen self.old) (seen self.new) }
         ensures crash { NoMore (may_leave self.old) (may_leave self.new) }
         ensures time { Elapses (moment self.old) (moment self.new) (left_since self.old) (left_since self.new) (may_leave self.new) }
+        ensures asked { calls self.new ≡ counted 1 (calls self.old) }
         ensures cause { HasCause (faults self.old) (faults self.new) result };
 
     /// Writes over what is there, and past the end. Until a sync, a crash may leave any bytes in the range.
@@ -57,6 +62,7 @@ pub trait Disk {
         ensures told { StillTells (seen self.old) (seen self.new) }
         ensures crash { Follows (OnFile file (Torn at (length piece.now))) (may_leave self.old) (may_leave self.new) }
         ensures time { Elapses (moment self.old) (moment self.new) (left_since self.old) (left_since self.new) (may_leave self.new) }
+        ensures asked { calls self.new ≡ counted 1 (calls self.old) }
         ensures cause { HasCause (faults self.old) (faults self.new) result };
 
     /// Cuts a file to a length. Until a sync, a crash may leave a longer file.
@@ -66,6 +72,7 @@ pub trait Disk {
         ensures told { StillTells (seen self.old) (seen self.new) }
         ensures crash { Follows (OnFile file (Cut length)) (may_leave self.old) (may_leave self.new) }
         ensures time { Elapses (moment self.old) (moment self.new) (left_since self.old) (left_since self.new) (may_leave self.new) }
+        ensures asked { calls self.new ≡ counted 1 (calls self.old) }
         ensures cause { HasCause (faults self.old) (faults self.new) result };
 
     /// After it, a crash leaves what a read gives.
@@ -75,6 +82,7 @@ pub trait Disk {
         ensures told { StillTells (seen self.old) (seen self.new) }
         ensures crash { NoMore (may_leave self.old) (may_leave self.new) }
         ensures time { Elapses (moment self.old) (moment self.new) (left_since self.old) (left_since self.new) (may_leave self.new) }
+        ensures asked { calls self.new ≡ counted 1 (calls self.old) }
         ensures cause { HasCause (faults self.old) (faults self.new) result };
 
     /// What the disk reads is one of its images.

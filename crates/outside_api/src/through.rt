@@ -1,7 +1,7 @@
 //! A write with the sync after it, as one step.
 
-ghost use Rattle.std.specs.Prelude.{◌+◌, ◌<◌, ◌≤◌, ◌^◌, length, OnOk};
-ghost use Rattle.outside_api.specs.Count.{HasCause};
+ghost use Rattle.std.specs.Prelude.{◌≡◌, ◌+◌, ◌<◌, ◌≤◌, ◌^◌, length, OnOk};
+ghost use Rattle.outside_api.specs.Count.{HasCause, counted};
 ghost use Rattle.outside_api.specs.Disk.{Files, After, Follows, Holds, Leads, LeavesOnly, OnFile, StillTells, Torn};
 
 use crate::disk::Disk;
@@ -17,6 +17,8 @@ pub fn write_through<D: Disk>(disk: &mut D, file: u32, at: u64, piece: &[u8]) ->
     ensures told { StillTells (D.seen disk.old) (D.seen disk.new) }
     ensures crash { Follows (OnFile file (Torn at (length piece.now))) (D.may_leave disk.old) (D.may_leave disk.new) }
     ensures any_moment { LeavesOnly D.moment D.left_since disk.old disk.new (After (OnFile file (Torn at (length piece.now))) (D.may_leave disk.old)) }
+    ensures asked { OnOk result (D.calls disk.new ≡ counted 2 (D.calls disk.old)) }
+    ensures at_most { D.calls disk.new ≤ counted 2 (D.calls disk.old) }
     ensures cause { HasCause (D.faults disk.old) (D.faults disk.new) result }
 {
     disk.write_at(file, at, piece)?;
