@@ -2,13 +2,71 @@
 
 ghost use Rattle.std.specs.Prelude.{◌≡◌, IfOk};
 ghost use Rattle.db_records.specs.Key.{key_cmp, key_table};
+ghost use Rattle.db_records.specs.Record.{key_of};
 ghost use Rattle.db_records.specs.Fields.{key_of_fields};
 
 use crate::key::Key;
+use crate::record::Record;
 use crate::table::TableId;
 use depot_path::Text;
 use std::alloc::AllocError;
 use std::cmp::Ordering;
+
+/// Calls a macro on a value and on the table of keys: each table with the fields of its key, in their order,
+/// and whether a field is a text or a number.
+macro_rules! with_key_table {
+    ($arms:ident, $value:expr) => {
+        $arms! {
+            $value;
+            Counter(name: text)
+            Group(group: text, user: text)
+            Protect(line: number)
+            Domain(kind: text, name: text)
+            Have(client: text, path: text)
+            Label(label: text, path: text)
+            Integed(
+                to_file: text, from_file: text, start_from: number, end_from: number, start_to: number, end_to: number
+            )
+            Resolve(client: text, path: text, from: text)
+            Working(path: text, client: text)
+            Change(change: number)
+            Rev(path: text, rev: number)
+        }
+    };
+}
+
+/// The fields of the key of a row.
+macro_rules! fields_of_row {
+    ($row:expr; $($table:ident($($field:ident: $kind:ident),*))*) => {
+        match $row {
+            $(Record::$table(row) => KeyFields::$table { $($field: &row.$field),* },)*
+        }
+    };
+}
+
+/// The fields of a key.
+macro_rules! fields_of_key {
+    ($key:expr; $($table:ident($($field:ident: $kind:ident),*))*) => {
+        match $key {
+            $(Key::$table { $($field),* } => KeyFields::$table { $($field),* },)*
+        }
+    };
+}
+
+/// The key of these fields.
+macro_rules! key_from_fields {
+    ($fields:expr; $($table:ident($($field:ident: $kind:ident),*))*) => {
+        match $fields {
+            $(KeyFields::$table { $($field),* } => Key::$table { $($field: owned!($field, $kind)),* },)*
+        }
+    };
+}
+
+/// A field of its own.
+macro_rules! owned {
+    ($field:ident, text) => { $field.clone()? };
+    ($field:ident, number) => { *$field };
+}
 
 /// The fields of a key. The order of the variants and of their fields is the order of keys.
 #[derive(Clone, Copy, PartialEq, Eq, PartialOrd, Ord)]
@@ -21,7 +79,7 @@ pub(crate) enum KeyFields<'a> {
         user: &'a Text,
     },
     Protect {
-        line: u32,
+        line: &'a u32,
     },
     Domain {
         kind: &'a Text,
@@ -38,10 +96,10 @@ pub(crate) enum KeyFields<'a> {
     Integed {
         to_file: &'a Text,
         from_file: &'a Text,
-        start_from: u32,
-        end_from: u32,
-        start_to: u32,
-        end_to: u32,
+        start_from: &'a u32,
+        end_from: &'a u32,
+        start_to: &'a u32,
+        end_to: &'a u32,
     },
     Resolve {
         client: &'a Text,
@@ -53,15 +111,29 @@ pub(crate) enum KeyFields<'a> {
         client: &'a Text,
     },
     Change {
-        change: u32,
+        change: &'a u32,
     },
     Rev {
         path: &'a Text,
-        rev: u32,
+        rev: &'a u32,
     },
 }
 
-impl KeyFields<'_> {
+impl<'a> KeyFields<'a> {
+    /// The fields of the key of a row.
+    pub(crate) fn of_row(row: &'a Record) -> KeyFields<'a>
+        ensures { key_of_fields result ≡ key_of row.now }
+    {
+        with_key_table!(fields_of_row, row)
+    }
+
+    /// The fields of a key.
+    pub(crate) fn of_key(key: &'a Key) -> KeyFields<'a>
+        ensures { key_of_fields result ≡ key.now }
+    {
+        with_key_table!(fields_of_key, key)
+    }
+
     /// The table of the rows with such a key.
     pub(crate) fn table(&self) -> TableId
         ensures { result ≡ key_table (key_of_fields self.now) }
@@ -92,56 +164,6 @@ impl KeyFields<'_> {
     pub(crate) fn to_key(&self) -> Result<Key, AllocError>
         ensures { IfOk result (λ key. key ≡ key_of_fields self.now) }
     {
-        Ok(match *self {
-            KeyFields::Counter { name } => Key::Counter {
-                name: name.clone()?,
-            },
-            KeyFields::Group { group, user } => Key::Group {
-                group: group.clone()?,
-                user: user.clone()?,
-            },
-            KeyFields::Protect { line } => Key::Protect { line },
-            KeyFields::Domain { kind, name } => Key::Domain {
-                kind: kind.clone()?,
-                name: name.clone()?,
-            },
-            KeyFields::Have { client, path } => Key::Have {
-                client: client.clone()?,
-                path: path.clone()?,
-            },
-            KeyFields::Label { label, path } => Key::Label {
-                label: label.clone()?,
-                path: path.clone()?,
-            },
-            KeyFields::Integed {
-                to_file,
-                from_file,
-                start_from,
-                end_from,
-                start_to,
-                end_to,
-            } => Key::Integed {
-                to_file: to_file.clone()?,
-                from_file: from_file.clone()?,
-                start_from,
-                end_from,
-                start_to,
-                end_to,
-            },
-            KeyFields::Resolve { client, path, from } => Key::Resolve {
-                client: client.clone()?,
-                path: path.clone()?,
-                from: from.clone()?,
-            },
-            KeyFields::Working { path, client } => Key::Working {
-                path: path.clone()?,
-                client: client.clone()?,
-            },
-            KeyFields::Change { change } => Key::Change { change },
-            KeyFields::Rev { path, rev } => Key::Rev {
-                path: path.clone()?,
-                rev,
-            },
-        })
+        Ok(with_key_table!(key_from_fields, *self))
     }
 }

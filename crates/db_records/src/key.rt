@@ -5,7 +5,6 @@ ghost use Rattle.std.specs.Cmp.{eq_by_cmp_equiv, partial_equiv_from_equiv, parti
 ghost use Rattle.std.specs.Ordering.{eq_by_cmp, as_partial_cmp};
 ghost use Rattle.db_records.specs.Key.{key_cmp, key_table};
 ghost use Rattle.db_records.specs.KeyLaws.{KeysHaveOneOrder, keys_total};
-ghost use Rattle.db_records.specs.Fields.{key_of_fields};
 
 use crate::fields::KeyFields;
 use crate::table::TableId;
@@ -64,51 +63,18 @@ pub enum Key {
 }
 
 impl Key {
-    /// The fields of the key.
-    pub(crate) fn fields(&self) -> KeyFields
-        ensures { key_of_fields result ≡ self.now }
-    {
-        match self {
-            Key::Counter { name } => KeyFields::Counter { name },
-            Key::Group { group, user } => KeyFields::Group { group, user },
-            Key::Protect { line } => KeyFields::Protect { line: *line },
-            Key::Domain { kind, name } => KeyFields::Domain { kind, name },
-            Key::Have { client, path } => KeyFields::Have { client, path },
-            Key::Label { label, path } => KeyFields::Label { label, path },
-            Key::Integed {
-                to_file,
-                from_file,
-                start_from,
-                end_from,
-                start_to,
-                end_to,
-            } => KeyFields::Integed {
-                to_file,
-                from_file,
-                start_from: *start_from,
-                end_from: *end_from,
-                start_to: *start_to,
-                end_to: *end_to,
-            },
-            Key::Resolve { client, path, from } => KeyFields::Resolve { client, path, from },
-            Key::Working { path, client } => KeyFields::Working { path, client },
-            Key::Change { change } => KeyFields::Change { change: *change },
-            Key::Rev { path, rev } => KeyFields::Rev { path, rev: *rev },
-        }
-    }
-
     /// The table of the rows with such a key.
     pub fn table(&self) -> TableId
         ensures { result ≡ key_table self.now }
     {
-        self.fields().table()
+        KeyFields::of_key(self).table()
     }
 
     /// How the key stands to another one: by table, then by the first field in which they differ.
     pub fn compare(&self, other: &Key) -> Ordering
         ensures { result ≡ key_cmp self.now other.now }
     {
-        self.fields().compare(&other.fields())
+        KeyFields::of_key(self).compare(&KeyFields::of_key(other))
     }
 }
 

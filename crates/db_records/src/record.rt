@@ -3,7 +3,6 @@
 ghost use Rattle.std.specs.Prelude.{◌≡◌, ◌↔◌, IsTrue, IfOk};
 ghost use Rattle.db_records.specs.Key.{key_cmp};
 ghost use Rattle.db_records.specs.Record.{table_of, key_of, is_live};
-ghost use Rattle.db_records.specs.Fields.{key_of_fields};
 
 use crate::fields::KeyFields;
 use crate::key::Key;
@@ -32,80 +31,32 @@ pub enum Record {
 }
 
 impl Record {
-    /// The fields of the row's key.
-    pub(crate) fn key_fields(&self) -> KeyFields
-        ensures { key_of_fields result ≡ key_of self.now }
-    {
-        match self {
-            Record::Counter(row) => KeyFields::Counter { name: &row.name },
-            Record::Group(row) => KeyFields::Group {
-                group: &row.group,
-                user: &row.user,
-            },
-            Record::Protect(row) => KeyFields::Protect { line: row.line },
-            Record::Domain(row) => KeyFields::Domain {
-                kind: &row.kind,
-                name: &row.name,
-            },
-            Record::Have(row) => KeyFields::Have {
-                client: &row.client,
-                path: &row.path,
-            },
-            Record::Label(row) => KeyFields::Label {
-                label: &row.label,
-                path: &row.path,
-            },
-            Record::Integed(row) => KeyFields::Integed {
-                to_file: &row.to_file,
-                from_file: &row.from_file,
-                start_from: row.start_from,
-                end_from: row.end_from,
-                start_to: row.start_to,
-                end_to: row.end_to,
-            },
-            Record::Resolve(row) => KeyFields::Resolve {
-                client: &row.client,
-                path: &row.path,
-                from: &row.from,
-            },
-            Record::Working(row) => KeyFields::Working {
-                path: &row.path,
-                client: &row.client,
-            },
-            Record::Change(row) => KeyFields::Change { change: row.change },
-            Record::Rev(row) => KeyFields::Rev {
-                path: &row.path,
-                rev: row.rev,
-            },
-        }
-    }
-
     /// The table that the row stands in.
     pub fn table(&self) -> TableId
         ensures { result ≡ table_of self.now }
     {
-        self.key_fields().table()
+        KeyFields::of_row(self).table()
     }
 
     /// The key of the row. The one error is want of memory.
     pub fn key(&self) -> Result<Key, AllocError>
         ensures { IfOk result (λ key. key ≡ key_of self.now) }
     {
-        self.key_fields().to_key()
+        KeyFields::of_row(self).to_key()
     }
 
     /// How the row's key stands to another key.
     pub fn compare_key(&self, key: &Key) -> Ordering
         ensures { result ≡ key_cmp (key_of self.now) key.now }
     {
-        self.key_fields().compare(&key.fields())
+        KeyFields::of_row(self).compare(&KeyFields::of_key(key))
     }
 
     /// How the row's key stands to that of another row.
     pub fn compare(&self, other: &Record) -> Ordering
         ensures { result ≡ key_cmp (key_of self.now) (key_of other.now) }
     {
-        self.key_fields().compare(&other.key_fields())
+        KeyFields::of_row(self).compare(&KeyFields::of_row(other))
     }
 
     /// Whether the two rows are the same in every field.

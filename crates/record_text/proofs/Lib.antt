@@ -7,3 +7,4 @@ pub mod Words
 pub mod Plain
 pub mod RecordLaws
 pub mod Clauses
+mod Examples

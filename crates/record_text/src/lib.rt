@@ -15,6 +15,7 @@ mod number;
 mod printing;
 mod reading;
 mod rows;
+mod tables;
 mod text;
 mod word;
 

@@ -8,12 +8,26 @@ ghost use Rattle.record_text.specs.Printing.{spelled_field, fields_spelled};
 
 use crate::field::Field;
 use crate::layout::Layout;
+use crate::tables::with_fields;
 use crate::text::moves;
 use crate::word::Word;
 use db_records::{Op, Record, RevRecord, WorkingRecord};
 use depot_path::Text;
 use itoa::Buffer;
 use std::alloc::{AllocError, Global};
+
+/// A field of a row as it is written.
+macro_rules! shown {
+    ($row:ident, $field:ident, line) => { Field::Number($row.$field as u64) };
+    ($row:ident, $field:ident, count) => { Field::Number($row.$field as u64) };
+    ($row:ident, $field:ident, wide) => { Field::Number($row.$field) };
+    ($row:ident, $field:ident, $kind:ident) => { Field::Text(&$row.$field) };
+}
+
+/// The fields of a row as they are written.
+macro_rules! fields {
+    ($row:ident, $($field:ident: $kind:ident),+) => { &[$(shown!($row, $field, $kind)),+] };
+}
 
 /// Writes a number and the byte that ends it.
 fn put_number(out: &mut Vec<u8>, number: u64, ender: u8) -> Result<(), AllocError>
@@ -81,7 +95,7 @@ fn put_fields(out: &mut Vec<u8>, fields: &[Field]) -> Result<(), AllocError>
     Ok(())
 }
 
-/// Writes the version, the table and the fields of such a record.
+/// Writes the version, the table and the fields of an opened file.
 fn put_working(out: &mut Vec<u8>, row: &WorkingRecord) -> Result<(), AllocError>
     ensures { OnOk result (out.new.items ≡ out.old.items ++ parts_spelling (working_parts (is_move row.now.action) row.now)) }
 {
@@ -89,73 +103,21 @@ fn put_working(out: &mut Vec<u8>, row: &WorkingRecord) -> Result<(), AllocError>
         put_row(
             out,
             Layout::MovedWorking,
-            &[
-                Field::Text(&row.path),
-                Field::Text(&row.client),
-                Field::Number(row.base as u64),
-                Field::Text(&row.action),
-                Field::Text(&row.file_type),
-                Field::Number(row.change as u64),
-                Field::Number(row.lock as u64),
-                Field::Text(&row.source),
-                Field::Number(row.source_rev as u64),
-                Field::Text(&row.moved),
-            ],
+            with_fields!(MovedWorking, fields, row),
         )
     } else {
-        put_row(
-            out,
-            Layout::Working,
-            &[
-                Field::Text(&row.path),
-                Field::Text(&row.client),
-                Field::Number(row.base as u64),
-                Field::Text(&row.action),
-                Field::Text(&row.file_type),
-                Field::Number(row.change as u64),
-                Field::Number(row.lock as u64),
-                Field::Text(&row.source),
-                Field::Number(row.source_rev as u64),
-            ],
-        )
+        put_row(out, Layout::Working, with_fields!(Working, fields, row))
     }
 }
 
-/// Writes the version, the table and the fields of such a record.
+/// Writes the version, the table and the fields of a revision.
 fn put_rev(out: &mut Vec<u8>, row: &RevRecord) -> Result<(), AllocError>
     ensures { OnOk result (out.new.items ≡ out.old.items ++ parts_spelling (rev_parts (is_move row.now.action) row.now)) }
 {
     if moves(&row.action) {
-        put_row(
-            out,
-            Layout::MovedRev,
-            &[
-                Field::Text(&row.path),
-                Field::Number(row.rev as u64),
-                Field::Number(row.change as u64),
-                Field::Text(&row.action),
-                Field::Text(&row.file_type),
-                Field::Text(&row.digest),
-                Field::Number(row.length),
-                Field::Number(row.at),
-                Field::Text(&row.moved),
-            ],
-        )
+        put_row(out, Layout::MovedRev, with_fields!(MovedRev, fields, row))
     } else {
-        put_row(
-            out,
-            Layout::Rev,
-            &[
-                Field::Text(&row.path),
-                Field::Number(row.rev as u64),
-                Field::Number(row.change as u64),
-                Field::Text(&row.action),
-                Field::Text(&row.file_type),
-                Field::Text(&row.digest),
-                Field::Number(row.length),
-                Field::Number(row.at),
-            ],
-        )
+        put_row(out, Layout::Rev, with_fields!(Rev, fields, row))
     }
 }
 
@@ -164,94 +126,16 @@ fn put_record(out: &mut Vec<u8>, row: &Record) -> Result<(), AllocError>
     ensures { OnOk result (out.new.items ≡ out.old.items ++ parts_spelling (parts_of row.now)) }
 {
     match row {
-        Record::Counter(row) => put_row(
-            out,
-            Layout::Counter,
-            &[Field::Text(&row.name), Field::Number(row.value)],
-        ),
-        Record::Group(row) => put_row(
-            out,
-            Layout::Group,
-            &[Field::Text(&row.group), Field::Text(&row.user)],
-        ),
-        Record::Protect(row) => put_row(
-            out,
-            Layout::Protect,
-            &[
-                Field::Number(row.line as u64),
-                Field::Text(&row.mode),
-                Field::Text(&row.kind),
-                Field::Text(&row.name),
-                Field::Text(&row.host),
-                Field::Text(&row.path),
-            ],
-        ),
-        Record::Domain(row) => put_row(
-            out,
-            Layout::Domain,
-            &[
-                Field::Text(&row.kind),
-                Field::Text(&row.name),
-                Field::Text(&row.form),
-            ],
-        ),
-        Record::Have(row) => put_row(
-            out,
-            Layout::Have,
-            &[
-                Field::Text(&row.client),
-                Field::Text(&row.path),
-                Field::Number(row.rev as u64),
-            ],
-        ),
-        Record::Label(row) => put_row(
-            out,
-            Layout::Label,
-            &[
-                Field::Text(&row.label),
-                Field::Text(&row.path),
-                Field::Number(row.rev as u64),
-            ],
-        ),
-        Record::Integed(row) => put_row(
-            out,
-            Layout::Integed,
-            &[
-                Field::Text(&row.to_file),
-                Field::Text(&row.from_file),
-                Field::Number(row.start_from as u64),
-                Field::Number(row.end_from as u64),
-                Field::Number(row.start_to as u64),
-                Field::Number(row.end_to as u64),
-                Field::Text(&row.how),
-                Field::Number(row.change as u64),
-            ],
-        ),
-        Record::Resolve(row) => put_row(
-            out,
-            Layout::Resolve,
-            &[
-                Field::Text(&row.client),
-                Field::Text(&row.path),
-                Field::Text(&row.from),
-                Field::Number(row.first as u64),
-                Field::Number(row.last as u64),
-                Field::Text(&row.how),
-            ],
-        ),
+        Record::Counter(row) => put_row(out, Layout::Counter, with_fields!(Counter, fields, row)),
+        Record::Group(row) => put_row(out, Layout::Group, with_fields!(Group, fields, row)),
+        Record::Protect(row) => put_row(out, Layout::Protect, with_fields!(Protect, fields, row)),
+        Record::Domain(row) => put_row(out, Layout::Domain, with_fields!(Domain, fields, row)),
+        Record::Have(row) => put_row(out, Layout::Have, with_fields!(Have, fields, row)),
+        Record::Label(row) => put_row(out, Layout::Label, with_fields!(Label, fields, row)),
+        Record::Integed(row) => put_row(out, Layout::Integed, with_fields!(Integed, fields, row)),
+        Record::Resolve(row) => put_row(out, Layout::Resolve, with_fields!(Resolve, fields, row)),
         Record::Working(row) => put_working(out, row),
-        Record::Change(row) => put_row(
-            out,
-            Layout::Change,
-            &[
-                Field::Number(row.change as u64),
-                Field::Text(&row.status),
-                Field::Text(&row.user),
-                Field::Text(&row.client),
-                Field::Number(row.moment),
-                Field::Text(&row.text),
-            ],
-        ),
+        Record::Change(row) => put_row(out, Layout::Change, with_fields!(Change, fields, row)),
         Record::Rev(row) => put_rev(out, row),
     }
 }

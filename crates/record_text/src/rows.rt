@@ -8,6 +8,7 @@ ghost use Rattle.record_text.specs.Answers.{Gives};
 use crate::fault::RecordFault;
 use crate::layout::Layout;
 use crate::number::{count_of, line_of, wide_of};
+use crate::tables::with_fields;
 use crate::text::{action_of, move_of, text_of};
 use db_records::{
     ChangeRecord, CounterRecord, DomainRecord, GroupRecord, HaveRecord, IntegedRecord, LabelRecord,
@@ -21,15 +22,42 @@ const SPACE: u8 = b' ';
 /// The byte that ends the last field.
 const LINE: u8 = b'\n';
 
+/// The field of a kind at the front, and the bytes behind the byte that ends it.
+macro_rules! field_of {
+    (line, $alloc:expr, $ender:expr, $bytes:expr) => { line_of($ender, $bytes) };
+    (count, $alloc:expr, $ender:expr, $bytes:expr) => { count_of($ender, $bytes) };
+    (wide, $alloc:expr, $ender:expr, $bytes:expr) => { wide_of($ender, $bytes) };
+    (text, $alloc:expr, $ender:expr, $bytes:expr) => { text_of($alloc, $ender, $bytes) };
+    (plain, $alloc:expr, $ender:expr, $bytes:expr) => { action_of($alloc, $ender, $bytes) };
+    (moving, $alloc:expr, $ender:expr, $bytes:expr) => { move_of($alloc, $bytes) };
+}
+
+/// Reads fields one after another, and makes a row of them, where need be with one more field of this value.
+macro_rules! read_fields {
+    ($alloc:expr, $bytes:expr => $table:ident $row:tt, $($fields:tt)+) => {
+        read_fields!($alloc, $bytes, $table $row, [], $($fields)+)
+    };
+    // Behind the fields in brackets stands the last one.
+    (
+        $alloc:expr, $bytes:expr, $table:ident($Row:ident { $($other:ident: $value:expr)? }), [$($read:ident)*],
+        $field:ident: $kind:ident
+    ) => {{
+        let ($field, rest) = field_of!($kind, $alloc, LINE, $bytes)?;
+        let row = $Row { $($read,)* $field, $($other: $value,)? };
+        Ok((Record::$table(row), rest))
+    }};
+    ($alloc:expr, $bytes:expr, $table:ident $row:tt, [$($read:ident)*], $field:ident: $kind:ident, $($fields:tt)+) => {{
+        let ($field, rest) = field_of!($kind, $alloc, SPACE, $bytes)?;
+        read_fields!($alloc, rest, $table $row, [$($read)* $field], $($fields)+)
+    }};
+}
+
 /// The fields of a row of this layout.
 #[tactic(auto, unfolding(crate::specs::Grammar::row_at))]
 fn counter_of(alloc: Global, bytes: &[u8]) -> Result<(Record, &[u8]), RecordFault>
     ensures { Gives (λ x. x.0) (λ x. x.1.now) result (row_at layouts.Counter bytes.now) }
 {
-    let (name, rest) = text_of(alloc, SPACE, bytes)?;
-    let (value, rest) = wide_of(LINE, rest)?;
-    let row = CounterRecord { name, value };
-    Ok((Record::Counter(row), rest))
+    with_fields!(Counter, read_fields, alloc, bytes => Counter(CounterRecord {}))
 }
 
 /// The fields of a row of this layout.
@@ -37,10 +65,7 @@ fn counter_of(alloc: Global, bytes: &[u8]) -> Result<(Record, &[u8]), RecordFaul
 fn group_of(alloc: Global, bytes: &[u8]) -> Result<(Record, &[u8]), RecordFault>
     ensures { Gives (λ x. x.0) (λ x. x.1.now) result (row_at layouts.Group bytes.now) }
 {
-    let (group, rest) = text_of(alloc, SPACE, bytes)?;
-    let (user, rest) = text_of(alloc, LINE, rest)?;
-    let row = GroupRecord { group, user };
-    Ok((Record::Group(row), rest))
+    with_fields!(Group, read_fields, alloc, bytes => Group(GroupRecord {}))
 }
 
 /// The fields of a row of this layout.
@@ -48,21 +73,7 @@ fn group_of(alloc: Global, bytes: &[u8]) -> Result<(Record, &[u8]), RecordFault>
 fn protect_of(alloc: Global, bytes: &[u8]) -> Result<(Record, &[u8]), RecordFault>
     ensures { Gives (λ x. x.0) (λ x. x.1.now) result (row_at layouts.Protect bytes.now) }
 {
-    let (line, rest) = line_of(SPACE, bytes)?;
-    let (mode, rest) = text_of(alloc, SPACE, rest)?;
-    let (kind, rest) = text_of(alloc, SPACE, rest)?;
-    let (name, rest) = text_of(alloc, SPACE, rest)?;
-    let (host, rest) = text_of(alloc, SPACE, rest)?;
-    let (path, rest) = text_of(alloc, LINE, rest)?;
-    let row = ProtectRecord {
-        line,
-        mode,
-        kind,
-        name,
-        host,
-        path,
-    };
-    Ok((Record::Protect(row), rest))
+    with_fields!(Protect, read_fields, alloc, bytes => Protect(ProtectRecord {}))
 }
 
 /// The fields of a row of this layout.
@@ -70,11 +81,7 @@ fn protect_of(alloc: Global, bytes: &[u8]) -> Result<(Record, &[u8]), RecordFaul
 fn domain_of(alloc: Global, bytes: &[u8]) -> Result<(Record, &[u8]), RecordFault>
     ensures { Gives (λ x. x.0) (λ x. x.1.now) result (row_at layouts.Domain bytes.now) }
 {
-    let (kind, rest) = text_of(alloc, SPACE, bytes)?;
-    let (name, rest) = text_of(alloc, SPACE, rest)?;
-    let (form, rest) = text_of(alloc, LINE, rest)?;
-    let row = DomainRecord { kind, name, form };
-    Ok((Record::Domain(row), rest))
+    with_fields!(Domain, read_fields, alloc, bytes => Domain(DomainRecord {}))
 }
 
 /// The fields of a row of this layout.
@@ -82,11 +89,7 @@ fn domain_of(alloc: Global, bytes: &[u8]) -> Result<(Record, &[u8]), RecordFault
 fn have_of(alloc: Global, bytes: &[u8]) -> Result<(Record, &[u8]), RecordFault>
     ensures { Gives (λ x. x.0) (λ x. x.1.now) result (row_at layouts.Have bytes.now) }
 {
-    let (client, rest) = text_of(alloc, SPACE, bytes)?;
-    let (path, rest) = text_of(alloc, SPACE, rest)?;
-    let (rev, rest) = count_of(LINE, rest)?;
-    let row = HaveRecord { client, path, rev };
-    Ok((Record::Have(row), rest))
+    with_fields!(Have, read_fields, alloc, bytes => Have(HaveRecord {}))
 }
 
 /// The fields of a row of this layout.
@@ -94,11 +97,7 @@ fn have_of(alloc: Global, bytes: &[u8]) -> Result<(Record, &[u8]), RecordFault>
 fn label_of(alloc: Global, bytes: &[u8]) -> Result<(Record, &[u8]), RecordFault>
     ensures { Gives (λ x. x.0) (λ x. x.1.now) result (row_at layouts.Label bytes.now) }
 {
-    let (label, rest) = text_of(alloc, SPACE, bytes)?;
-    let (path, rest) = text_of(alloc, SPACE, rest)?;
-    let (rev, rest) = count_of(LINE, rest)?;
-    let row = LabelRecord { label, path, rev };
-    Ok((Record::Label(row), rest))
+    with_fields!(Label, read_fields, alloc, bytes => Label(LabelRecord {}))
 }
 
 /// The fields of a row of this layout.
@@ -106,25 +105,7 @@ fn label_of(alloc: Global, bytes: &[u8]) -> Result<(Record, &[u8]), RecordFault>
 fn integed_of(alloc: Global, bytes: &[u8]) -> Result<(Record, &[u8]), RecordFault>
     ensures { Gives (λ x. x.0) (λ x. x.1.now) result (row_at layouts.Integed bytes.now) }
 {
-    let (to_file, rest) = text_of(alloc, SPACE, bytes)?;
-    let (from_file, rest) = text_of(alloc, SPACE, rest)?;
-    let (start_from, rest) = count_of(SPACE, rest)?;
-    let (end_from, rest) = count_of(SPACE, rest)?;
-    let (start_to, rest) = count_of(SPACE, rest)?;
-    let (end_to, rest) = count_of(SPACE, rest)?;
-    let (how, rest) = text_of(alloc, SPACE, rest)?;
-    let (change, rest) = count_of(LINE, rest)?;
-    let row = IntegedRecord {
-        to_file,
-        from_file,
-        start_from,
-        end_from,
-        start_to,
-        end_to,
-        how,
-        change,
-    };
-    Ok((Record::Integed(row), rest))
+    with_fields!(Integed, read_fields, alloc, bytes => Integed(IntegedRecord {}))
 }
 
 /// The fields of a row of this layout.
@@ -132,21 +113,7 @@ fn integed_of(alloc: Global, bytes: &[u8]) -> Result<(Record, &[u8]), RecordFaul
 fn resolve_of(alloc: Global, bytes: &[u8]) -> Result<(Record, &[u8]), RecordFault>
     ensures { Gives (λ x. x.0) (λ x. x.1.now) result (row_at layouts.Resolve bytes.now) }
 {
-    let (client, rest) = text_of(alloc, SPACE, bytes)?;
-    let (path, rest) = text_of(alloc, SPACE, rest)?;
-    let (from, rest) = text_of(alloc, SPACE, rest)?;
-    let (first, rest) = count_of(SPACE, rest)?;
-    let (last, rest) = count_of(SPACE, rest)?;
-    let (how, rest) = text_of(alloc, LINE, rest)?;
-    let row = ResolveRecord {
-        client,
-        path,
-        from,
-        first,
-        last,
-        how,
-    };
-    Ok((Record::Resolve(row), rest))
+    with_fields!(Resolve, read_fields, alloc, bytes => Resolve(ResolveRecord {}))
 }
 
 /// The fields of a row of this layout.
@@ -154,28 +121,7 @@ fn resolve_of(alloc: Global, bytes: &[u8]) -> Result<(Record, &[u8]), RecordFaul
 fn working_of(alloc: Global, bytes: &[u8]) -> Result<(Record, &[u8]), RecordFault>
     ensures { Gives (λ x. x.0) (λ x. x.1.now) result (row_at layouts.Working bytes.now) }
 {
-    let (path, rest) = text_of(alloc, SPACE, bytes)?;
-    let (client, rest) = text_of(alloc, SPACE, rest)?;
-    let (base, rest) = count_of(SPACE, rest)?;
-    let (action, rest) = action_of(alloc, SPACE, rest)?;
-    let (file_type, rest) = text_of(alloc, SPACE, rest)?;
-    let (change, rest) = count_of(SPACE, rest)?;
-    let (lock, rest) = count_of(SPACE, rest)?;
-    let (source, rest) = text_of(alloc, SPACE, rest)?;
-    let (source_rev, rest) = count_of(LINE, rest)?;
-    let row = WorkingRecord {
-        path,
-        client,
-        base,
-        action,
-        file_type,
-        change,
-        lock,
-        source,
-        source_rev,
-        moved: Text::new(alloc),
-    };
-    Ok((Record::Working(row), rest))
+    with_fields!(Working, read_fields, alloc, bytes => Working(WorkingRecord { moved: Text::new(alloc) }))
 }
 
 /// The fields of a row of this layout.
@@ -183,29 +129,7 @@ fn working_of(alloc: Global, bytes: &[u8]) -> Result<(Record, &[u8]), RecordFaul
 fn moved_working_of(alloc: Global, bytes: &[u8]) -> Result<(Record, &[u8]), RecordFault>
     ensures { Gives (λ x. x.0) (λ x. x.1.now) result (row_at layouts.MovedWorking bytes.now) }
 {
-    let (path, rest) = text_of(alloc, SPACE, bytes)?;
-    let (client, rest) = text_of(alloc, SPACE, rest)?;
-    let (base, rest) = count_of(SPACE, rest)?;
-    let (action, rest) = move_of(alloc, rest)?;
-    let (file_type, rest) = text_of(alloc, SPACE, rest)?;
-    let (change, rest) = count_of(SPACE, rest)?;
-    let (lock, rest) = count_of(SPACE, rest)?;
-    let (source, rest) = text_of(alloc, SPACE, rest)?;
-    let (source_rev, rest) = count_of(SPACE, rest)?;
-    let (moved, rest) = text_of(alloc, LINE, rest)?;
-    let row = WorkingRecord {
-        path,
-        client,
-        base,
-        action,
-        file_type,
-        change,
-        lock,
-        source,
-        source_rev,
-        moved,
-    };
-    Ok((Record::Working(row), rest))
+    with_fields!(MovedWorking, read_fields, alloc, bytes => Working(WorkingRecord {}))
 }
 
 /// The fields of a row of this layout.
@@ -213,21 +137,7 @@ fn moved_working_of(alloc: Global, bytes: &[u8]) -> Result<(Record, &[u8]), Reco
 fn change_of(alloc: Global, bytes: &[u8]) -> Result<(Record, &[u8]), RecordFault>
     ensures { Gives (λ x. x.0) (λ x. x.1.now) result (row_at layouts.Change bytes.now) }
 {
-    let (change, rest) = count_of(SPACE, bytes)?;
-    let (status, rest) = text_of(alloc, SPACE, rest)?;
-    let (user, rest) = text_of(alloc, SPACE, rest)?;
-    let (client, rest) = text_of(alloc, SPACE, rest)?;
-    let (moment, rest) = wide_of(SPACE, rest)?;
-    let (text, rest) = text_of(alloc, LINE, rest)?;
-    let row = ChangeRecord {
-        change,
-        status,
-        user,
-        client,
-        moment,
-        text,
-    };
-    Ok((Record::Change(row), rest))
+    with_fields!(Change, read_fields, alloc, bytes => Change(ChangeRecord {}))
 }
 
 /// The fields of a row of this layout.
@@ -235,26 +145,7 @@ fn change_of(alloc: Global, bytes: &[u8]) -> Result<(Record, &[u8]), RecordFault
 fn rev_of(alloc: Global, bytes: &[u8]) -> Result<(Record, &[u8]), RecordFault>
     ensures { Gives (λ x. x.0) (λ x. x.1.now) result (row_at layouts.Rev bytes.now) }
 {
-    let (path, rest) = text_of(alloc, SPACE, bytes)?;
-    let (rev, rest) = count_of(SPACE, rest)?;
-    let (change, rest) = count_of(SPACE, rest)?;
-    let (action, rest) = action_of(alloc, SPACE, rest)?;
-    let (file_type, rest) = text_of(alloc, SPACE, rest)?;
-    let (digest, rest) = text_of(alloc, SPACE, rest)?;
-    let (length, rest) = wide_of(SPACE, rest)?;
-    let (at, rest) = wide_of(LINE, rest)?;
-    let row = RevRecord {
-        path,
-        rev,
-        change,
-        action,
-        file_type,
-        digest,
-        length,
-        at,
-        moved: Text::new(alloc),
-    };
-    Ok((Record::Rev(row), rest))
+    with_fields!(Rev, read_fields, alloc, bytes => Rev(RevRecord { moved: Text::new(alloc) }))
 }
 
 /// The fields of a row of this layout.
@@ -262,27 +153,7 @@ fn rev_of(alloc: Global, bytes: &[u8]) -> Result<(Record, &[u8]), RecordFault>
 fn moved_rev_of(alloc: Global, bytes: &[u8]) -> Result<(Record, &[u8]), RecordFault>
     ensures { Gives (λ x. x.0) (λ x. x.1.now) result (row_at layouts.MovedRev bytes.now) }
 {
-    let (path, rest) = text_of(alloc, SPACE, bytes)?;
-    let (rev, rest) = count_of(SPACE, rest)?;
-    let (change, rest) = count_of(SPACE, rest)?;
-    let (action, rest) = move_of(alloc, rest)?;
-    let (file_type, rest) = text_of(alloc, SPACE, rest)?;
-    let (digest, rest) = text_of(alloc, SPACE, rest)?;
-    let (length, rest) = wide_of(SPACE, rest)?;
-    let (at, rest) = wide_of(SPACE, rest)?;
-    let (moved, rest) = text_of(alloc, LINE, rest)?;
-    let row = RevRecord {
-        path,
-        rev,
-        change,
-        action,
-        file_type,
-        digest,
-        length,
-        at,
-        moved,
-    };
-    Ok((Record::Rev(row), rest))
+    with_fields!(MovedRev, read_fields, alloc, bytes => Rev(RevRecord {}))
 }
 
 /// The fields of a record of this layout at the front, and the bytes behind them.
