@@ -1,0 +1,5 @@
+pub mod Specifiers
+pub mod Carry
+pub mod Mapping
+pub mod Reading
+pub mod Beginnings
