@@ -1,6 +1,6 @@
 -- Values that the definitions give.
 use Rattle.std.proofs.Common.{◌≡◌, ℕ, List, [], ◌∷◌, refl, Ok, Err}
-use Rattle.std.specs.Prelude.{Bool, true, false, codes, filter}
+use Rattle.std.specs.Prelude.{true, false, codes, filter}
 use Rattle.protect_table.specs.Line.{table_of}
 use Rattle.protect_table.specs.Rights.{level, any_level, may, may_any}
 use Rattle.protect_table.specs.Wildcard.{fits_word}

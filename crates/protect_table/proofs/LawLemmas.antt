@@ -1,5 +1,5 @@
 -- The laws of the rights.
-use Rattle.std.proofs.Common.{◌≡◌, ◌⊎◌, inl, inr, ℕ, zero, suc, ◌+◌, ◌<◌, ◌≤◌, nat_le, Bool, true, false, cond, List, [], ◌∷◌, ◌++◌, length, refl, sym, ap, subst, ◌∙◌, arith, length-append}
+use Rattle.std.proofs.Common.{◌≡◌, inl, inr, ℕ, ◌+◌, ◌≤◌, nat_le, Bool, true, false, cond, List, [], ◌∷◌, ◌++◌, length, refl, sym, ap, ◌∙◌, arith}
 use Rattle.std.specs.Prelude.{◌&&◌, ◌||◌, ◌==◌, not, nat_eq}
 use Rattle.std.specs.List.{list_any, list_all}
 use Rattle.std.proofs.lemmas.Bool.{cases_lt, eqb-true}
@@ -8,9 +8,9 @@ use Rattle.depot_path.specs.Path.{begins_with_slashes}
 use Rattle.depot_path.specs.Fit.{fits}
 use Rattle.depot_path.proofs.Rows.{step, begin}
 use Rattle.depot_path.specs.declared.piece.Piece.{Piece}
-use Rattle.depot_path.specs.declared.piece.Piece.TheVariants.{Byte, Star, Dots, Place}
+use Rattle.depot_path.specs.declared.piece.Piece.TheVariants.{Byte, Dots}
 use Rattle.protect_table.specs.Mode.{grants, denies, is_single, need_of}
-use Rattle.protect_table.specs.Rights.{names, matches, is_whole, is_ordinary, grants_at, denies_at, grants_somewhere, denies_everywhere, stands, granted, may, may_any, greatest, level, any_level}
+use Rattle.protect_table.specs.Rights.{names, matches, is_whole, is_ordinary, grants_at, denies_at, grants_somewhere, denies_everywhere, stands, granted, may, may_any, greatest}
 use Rattle.protect_table.specs.declared.line.ProtectLine.{ProtectLine}
 use Rattle.protect_table.specs.declared.who.Who.{Who}
 

@@ -1,13 +1,13 @@
 -- How the rows of a word go on by one byte.
-use Rattle.std.proofs.Common.{◌≡◌, ◌≢◌, ℕ, zero, suc, ◌+◌, ◌<◌, ◌≤◌, Bool, true, false, cond, eqb, List, [], ◌∷◌, length, slice_set, slice_index, inl, inr, drop, refl, sym, ap, subst, get_or, ◌∙◌, arith}
+use Rattle.std.proofs.Common.{◌≡◌, ◌≢◌, ℕ, zero, suc, ◌+◌, ◌<◌, ◌≤◌, Bool, true, false, cond, List, [], ◌∷◌, length, slice_set, slice_index, inl, inr, drop, refl, sym, ap, subst, get_or, ◌∙◌, arith}
 use Rattle.std.specs.Prelude.{◌&&◌, ◌||◌, ◌==◌, nat_le}
-use Rattle.std.proofs.lemmas.Bool.{cases_lt, eqb-true}
+use Rattle.std.proofs.lemmas.Bool.{cases_lt}
 use Rattle.std.proofs.lemmas.Bool.Decides.{nat_tests}
 use Rattle.std.proofs.lemmas.Grind.{get_or-set_at}
 use Rattle.std.proofs.lemmas.List.{get_or-set_other, at_drop_all}
 use Rattle.std.proofs.Math.Seq.{drop-cons}
 use Rattle.depot_path.specs.Name.{is_name}
-use Rattle.protect_table.specs.Wildcard.{is_empty, at_some_place, after_byte, fits_next, fits_word, IsRow, with_place, at_end}
+use Rattle.protect_table.specs.Wildcard.{is_empty, at_some_place, fits_next, fits_word, IsRow, with_place, at_end}
 
 next_step : (star : Bool) (b c : ℕ) (rest : List ℕ → Bool) (text : List ℕ) →
     fits_next star b rest (c ∷ text) ≡ cond star (rest (c ∷ text) || fits_next star b rest text) ((b == c) && rest text)
