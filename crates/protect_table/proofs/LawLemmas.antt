@@ -1,5 +1,5 @@
 -- The laws of the rights.
-use Rattle.std.proofs.Common.{◌≡◌, ◌⊎◌, inl, inr, ℕ, zero, suc, ◌+◌, ◌<◌, ◌≤◌, nat_le, Bool, true, false, cond, List, [], ◌∷◌, ◌++◌, length, refl, sym, ap, subst, ◌∙◌, arith, length-append}
+use Rattle.std.proofs.Common.{◌≡◌, inl, inr, ℕ, ◌+◌, ◌≤◌, nat_le, Bool, true, false, cond, List, [], ◌∷◌, ◌++◌, length, refl, sym, ap, ◌∙◌, arith}
 use Rattle.std.specs.Prelude.{◌&&◌, ◌||◌, ◌==◌, not, nat_eq}
 use Rattle.std.specs.List.{list_any, list_all}
 use Rattle.std.proofs.lemmas.Bool.{cases_lt, eqb-true}
@@ -8,9 +8,9 @@ use Rattle.depot_path.specs.Path.{begins_with_slashes}
 use Rattle.depot_path.specs.Fit.{fits}
 use Rattle.depot_path.proofs.Rows.{step, begin}
 use Rattle.depot_path.specs.declared.piece.Piece.{Piece}
-use Rattle.depot_path.specs.declared.piece.Piece.TheVariants.{Byte, Star, Dots, Place}
+use Rattle.depot_path.specs.declared.piece.Piece.TheVariants.{Byte, Dots}
 use Rattle.protect_table.specs.Mode.{grants, denies, is_single, need_of}
-use Rattle.protect_table.specs.Rights.{names, matches, is_whole, is_ordinary, grants_at, denies_at, grants_somewhere, denies_everywhere, stands, granted, may, may_any, greatest, level, any_level}
+use Rattle.protect_table.specs.Rights.{names, matches, is_whole, is_ordinary, grants_at, denies_at, grants_somewhere, denies_everywhere, stands, granted, may, may_any, greatest}
 use Rattle.protect_table.specs.declared.line.ProtectLine.{ProtectLine}
 use Rattle.protect_table.specs.declared.who.Who.{Who}
 
@@ -73,28 +73,31 @@ other_somewhere before after line who need e long =
     (no_name (not line.excludes) (grants line.mode need) (names who line) e)
     (no_whole line.excludes (denies line.mode need) (is_whole line.path) (names who line) e) long
 
--- ---- a last line that denies
+-- ---- a line that denies
 
-any_last : (d : Test) (lines : List ProtectLine) (line : ProtectLine) → d line ≡ true → list_any d (lines ++ line ∷ []) ≡ true
-any_last d [] line e = ap (λ c. c || false) e
-any_last d (y ∷ lines) line e = ap (λ c. d y || c) (any_last d lines line e) ∙ or_true (d y)
-  where
-    or_true : (a : Bool) → (a || true) ≡ true
-    or_true true = refl
-    or_true false = refl
+or_true : (a : Bool) → (a || true) ≡ true
+or_true true = refl
+or_true false = refl
 
-no_later : (a : Bool) → ((a && false) || false) ≡ false
-no_later true = refl
-no_later false = refl
+any_within : (d : Test) (before after : List ProtectLine) (line : ProtectLine) → d line ≡ true → list_any d (before ++ line ∷ after) ≡ true
+any_within d [] after line e = ap (λ c. c || list_any d after) e
+any_within d (y ∷ before) after line e = ap (λ c. d y || c) (any_within d before after line e) ∙ or_true (d y)
 
-last_denies : (g d : Test) (lines : List ProtectLine) (line : ProtectLine) → g line ≡ false → d line ≡ true → stands g d (lines ++ line ∷ []) ≡ false
-last_denies g d [] line e f = ap (λ c. (c && true) || false) e
-last_denies g d (y ∷ lines) line e f =
-    ap (λ c. (g y && not c) || stands g d (lines ++ line ∷ [])) (any_last d lines line f)
-    ∙ ap (λ c. (g y && false) || c) (last_denies g d lines line e f) ∙ no_later (g y)
+no_earlier : (a s : Bool) → ((a && false) || s) ≡ s
+no_earlier true s = refl
+no_earlier false s = refl
+
+stands_from : (g d : Test) (before after : List ProtectLine) (line : ProtectLine) → d line ≡ true → stands g d (before ++ line ∷ after) ≡ stands g d (line ∷ after)
+stands_from g d [] after line e = refl
+stands_from g d (y ∷ before) after line e =
+    ap (λ c. (g y && not c) || stands g d (before ++ line ∷ after)) (any_within d before after line e)
+    ∙ ap (λ c. (g y && false) || c) (stands_from g d before after line e) ∙ no_earlier (g y) (stands g d (line ∷ after))
+
+granted_from : (g d : Test) (before after : List ProtectLine) (line : ProtectLine) → d line ≡ true → granted g d (before ++ line ∷ after) ≡ granted g d (line ∷ after)
+granted_from g d before after line e = some_lines g d (before ++ line ∷ after) (with_line before after line) ∙ stands_from g d before after line e
 
 denied : (g d : Test) (lines : List ProtectLine) (line : ProtectLine) → g line ≡ false → d line ≡ true → granted g d (lines ++ line ∷ []) ≡ false
-denied g d lines line e f = some_lines g d (lines ++ line ∷ []) (with_line lines [] line) ∙ last_denies g d lines line e f
+denied g d lines line e f = granted_from g d lines [] line f ∙ ap (λ c. (c && true) || false) e
 
 dots_fit : (t : List ℕ) → fits (Dots ∷ []) t ≡ true
 dots_fit [] = begin Dots []
@@ -133,12 +136,29 @@ not_granting : (a b c : Bool) → a ≡ true → (not a && b && c) ≡ false
 not_granting true b c e = refl
 not_granting false b c e = absurd cc
 
+whole_denies_at : (line : ProtectLine) (who : Who) (path : List ℕ) (need : ℕ) →
+    line.excludes ≡ true → is_whole line.path ≡ true → names who line ≡ true → denies line.mode need ≡ true → begins_with_slashes path ≡ true → denies_at who path need line ≡ true
+whole_denies_at line who path need e w n d s =
+    all_three line.excludes (denies line.mode need) (fits line.path path) (names who line) e d (ap (λ p. fits p path) (whole_is line.path w) ∙ whole_fits path s) n
+
+pub earlier_at : (before after : List ProtectLine) (line : ProtectLine) (who : Who) (path : List ℕ) (need : ℕ) →
+    line.excludes ≡ true → is_whole line.path ≡ true → names who line ≡ true → denies line.mode need ≡ true → begins_with_slashes path ≡ true →
+    may (before ++ line ∷ after) who path need ≡ may (line ∷ after) who path need
+earlier_at before after line who path need e w n d s =
+    granted_from (grants_at who path need) (denies_at who path need) before after line (whole_denies_at line who path need e w n d s)
+
+pub earlier_somewhere : (before after : List ProtectLine) (line : ProtectLine) (who : Who) (need : ℕ) →
+    line.excludes ≡ true → is_whole line.path ≡ true → names who line ≡ true → denies line.mode need ≡ true →
+    may_any (before ++ line ∷ after) who need ≡ may_any (line ∷ after) who need
+earlier_somewhere before after line who need e w n d =
+    granted_from (grants_somewhere who need) (denies_everywhere who need) before after line
+    (all_four line.excludes (denies line.mode need) (is_whole line.path) (names who line) e d w n)
+
 pub whole_at : (lines : List ProtectLine) (line : ProtectLine) (who : Who) (path : List ℕ) (need : ℕ) →
     line.excludes ≡ true → is_whole line.path ≡ true → names who line ≡ true → denies line.mode need ≡ true → begins_with_slashes path ≡ true → may (lines ++ line ∷ []) who path need ≡ false
 whole_at lines line who path need e w n d s =
     denied (grants_at who path need) (denies_at who path need) lines line
-    (not_granting line.excludes (grants line.mode need) (matches who path line) e)
-    (all_three line.excludes (denies line.mode need) (fits line.path path) (names who line) e d (ap (λ p. fits p path) (whole_is line.path w) ∙ whole_fits path s) n)
+    (not_granting line.excludes (grants line.mode need) (matches who path line) e) (whole_denies_at line who path need e w n d s)
 
 pub whole_somewhere : (lines : List ProtectLine) (line : ProtectLine) (who : Who) (need : ℕ) →
     line.excludes ≡ true → is_whole line.path ≡ true → names who line ≡ true → denies line.mode need ≡ true → may_any (lines ++ line ∷ []) who need ≡ false

@@ -2,5 +2,5 @@ pub mod Places
 pub mod WordLemmas
 pub mod Standing
 pub mod Lines
-mod Values
+mod Examples
 pub mod LawLemmas

@@ -1,12 +1,13 @@
 -- How the rows of a word go on by one byte.
-use Rattle.std.proofs.Common.{◌≡◌, ◌≢◌, ℕ, zero, suc, ◌+◌, ◌<◌, ◌≤◌, Bool, true, false, cond, eqb, List, [], ◌∷◌, length, slice_set, slice_index, inl, inr, drop, refl, sym, ap, subst, get_or, ◌∙◌, arith}
-use Rattle.std.specs.Prelude.{◌&&◌, ◌||◌, ◌==◌}
-use Rattle.std.proofs.lemmas.Bool.{cases_lt, eqb-true}
+use Rattle.std.proofs.Common.{◌≡◌, ◌≢◌, ℕ, zero, suc, ◌+◌, ◌<◌, ◌≤◌, Bool, true, false, cond, List, [], ◌∷◌, length, slice_set, slice_index, inl, inr, drop, refl, sym, ap, subst, get_or, ◌∙◌, arith}
+use Rattle.std.specs.Prelude.{◌&&◌, ◌||◌, ◌==◌, nat_le}
+use Rattle.std.proofs.lemmas.Bool.{cases_lt}
 use Rattle.std.proofs.lemmas.Bool.Decides.{nat_tests}
 use Rattle.std.proofs.lemmas.Grind.{get_or-set_at}
 use Rattle.std.proofs.lemmas.List.{get_or-set_other, at_drop_all}
 use Rattle.std.proofs.Math.Seq.{drop-cons}
-use Rattle.protect_table.specs.Wildcard.{is_empty, at_some_place, after_byte, fits_next, fits_word, IsRow, with_place, at_end}
+use Rattle.depot_path.specs.Name.{is_name}
+use Rattle.protect_table.specs.Wildcard.{is_empty, at_some_place, fits_next, fits_word, IsRow, with_place, at_end}
 
 next_step : (star : Bool) (b c : ℕ) (rest : List ℕ → Bool) (text : List ℕ) →
     fits_next star b rest (c ∷ text) ≡ cond star (rest (c ∷ text) || fits_next star b rest text) ((b == c) && rest text)
@@ -161,13 +162,15 @@ any_text [] text h e = absurd (omega arith)
 any_text (b ∷ c ∷ word) text h e = absurd (omega arith)
 any_text (b ∷ []) text h e = ap (λ c. fits_word (c ∷ []) text) e ∙ anywhere text
 
-pub step_up : (word text : List ℕ) → 1 ≤ length word → 1 ≤ length text →
-    fits_word word text ≡ with_place (slice_index word 0) (slice_index text 0) (fits_word (drop 1 word) text) (fits_word (drop 1 word) (drop 1 text)) (fits_word word (drop 1 text))
-step_up [] text h k = absurd (omega arith)
-step_up (b ∷ word) [] h k = absurd (omega arith)
-step_up (b ∷ word) (c ∷ text) h k = step b word c text
+-- ---- names
 
-pub end_step_up : (word text : List ℕ) → 1 ≤ length word → length text < 1 → fits_word word text ≡ at_end (slice_index word 0) (fits_word (drop 1 word) text)
-end_step_up [] text h k = absurd (omega arith)
-end_step_up (b ∷ word) (c ∷ text) h k = absurd (omega arith)
-end_step_up (b ∷ word) [] h k = end_step b word
+first_of_both : (a b : Bool) → (a && b) ≡ true → a ≡ true
+first_of_both true b e = refl
+first_of_both false b e = absurd cc
+
+at_most : (a : Bool) (n : ℕ) → (a && nat_le n 128) ≡ true → n ≤ 128
+at_most true n e = grind (arith, nat_tests)
+at_most false n e = absurd cc
+
+pub short_name : (text : List ℕ) → is_name text ≡ true → length text ≤ 128
+short_name text e = at_most _ (length text) (first_of_both _ _ (first_of_both _ _ (first_of_both _ _ (first_of_both _ _ e))))

@@ -1,8 +1,8 @@
 -- The lines of the protections table: `MODE user|group NAME HOST PATH` (Command-Line Reference, "p4 protect"). Which fault comes first is this
 -- project's own choice.
-use Rattle.std.specs.Prelude.{ℕ, ◌+◌, ◌-◌, Bool, true, false, not, ◌&&◌, ◌||◌, nat_le, nat_lt, List, [], ◌∷◌, length, drop, take, slice_get, slice_index, ◌==◌, codes, if◌then◌else◌, Option, Some, None, option_and_then, Result, Ok, Err}
+use Rattle.std.specs.Prelude.{ℕ, ◌+◌, ◌-◌, Bool, true, false, ◌&&◌, ◌||◌, nat_le, nat_lt, List, [], ◌∷◌, length, drop, take, slice_get, slice_index, ◌==◌, codes, if◌then◌else◌, Option, Some, None, option_and_then, Result, Ok, Err}
 use Rattle.depot_path.specs.Answers.{◌>>=◌, on_ok, on_err}
-use Rattle.depot_path.specs.Bytes.{begins_with, is_among}
+use Rattle.depot_path.specs.Bytes.{begins_with}
 use Rattle.std.specs.List.{list_any}
 use Rattle.depot_path.specs.Pattern.{pattern_of}
 use Rattle.depot_path.specs.declared.fault.PathFault.{PathFault}

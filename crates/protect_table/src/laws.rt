@@ -18,9 +18,15 @@ pub fn other_lines_change_nothing()
         may_any (before ++ line ∷ after) who need ≡ may_any (before ++ after) who need }
 {}
 
-/// An exclusion of the whole tree for the caller that stands last takes every need that it denies away everywhere: all needs, where its mode
-/// is ordinary.
+/// An exclusion of the whole tree for the caller takes every need that it denies away everywhere, which are all needs where its mode is ordinary:
+/// the lines before it count for nothing, and where it stands last nothing is granted.
 pub fn whole_exclusions_deny()
+    ensures earlier_at_a_path { (before after : List ProtectLine) (line : ProtectLine) (who : Who) (path : List ℕ) (need : ℕ) →
+        line.excludes ≡ true → is_whole line.path ≡ true → names who line ≡ true → denies line.mode need ≡ true → begins_with_slashes path ≡ true →
+        may (before ++ line ∷ after) who path need ≡ may (line ∷ after) who path need }
+    ensures earlier_somewhere { (before after : List ProtectLine) (line : ProtectLine) (who : Who) (need : ℕ) →
+        line.excludes ≡ true → is_whole line.path ≡ true → names who line ≡ true → denies line.mode need ≡ true →
+        may_any (before ++ line ∷ after) who need ≡ may_any (line ∷ after) who need }
     ensures at_a_path { (lines : List ProtectLine) (line : ProtectLine) (who : Who) (path : List ℕ) (need : ℕ) →
         line.excludes ≡ true → is_whole line.path ≡ true → names who line ≡ true → denies line.mode need ≡ true → begins_with_slashes path ≡ true →
         may (lines ++ line ∷ []) who path need ≡ false }

@@ -73,7 +73,7 @@ fn fits_by_rows(word: &[u8], text: &[u8]) -> bool
     row[0]
 }
 
-/// Whether the text fits the word. It takes no memory, and a word without `*` costs one comparison.
+/// Whether the text, as short as a name, fits the word. It takes no memory, and a word without `*` costs one comparison.
 #[tactic(auto, using(crate::proofs::Places::passes, crate::proofs::Places::differs, crate::proofs::Places::ends, crate::proofs::Places::any_text))]
 pub(crate) fn fits_word(word: &[u8], text: &[u8]) -> bool
     requires short { length text.now ≤ 128 }
@@ -96,36 +96,11 @@ pub(crate) fn fits_word(word: &[u8], text: &[u8]) -> bool
     left.is_empty()
 }
 
-/// Whether the text fits the word, step by step: for texts that are longer than any name.
-#[tactic(auto, using(crate::proofs::Places::step_up, crate::proofs::Places::end_step_up))]
-fn fits_step_by_step(word: &[u8], text: &[u8]) -> bool
-    ensures { result ≡ word_fits word.now text.now }
-{
-    match word {
-        [] => text.is_empty(),
-        [first, word_after @ ..] => match text {
-            [] => at_end(*first, fits_step_by_step(word_after, text)),
-            [byte, text_after @ ..] => with_place(
-                *first,
-                *byte,
-                fits_step_by_step(word_after, text),
-                fits_step_by_step(word_after, text_after),
-                fits_step_by_step(word, text_after),
-            ),
-        },
-    }
-}
-
 /// Whether the name fits the word.
 pub(crate) fn fits_name(word: &[u8], name: &Name) -> bool
     ensures { result ≡ word_fits word.now name.now }
 {
-    let text = name.as_bytes();
-    if text.len() <= 128 {
-        fits_word(word, text)
-    } else {
-        fits_step_by_step(word, text)
-    }
+    fits_word(word, name.as_bytes())
 }
 
 /// Whether one of the names fits the word.

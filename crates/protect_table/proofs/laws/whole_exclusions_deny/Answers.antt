@@ -1,5 +1,11 @@
-use Rattle.protect_table.proofs.LawLemmas.{whole_at, whole_somewhere, ordinary_denies}
+use Rattle.protect_table.proofs.LawLemmas.{earlier_at, earlier_somewhere, whole_at, whole_somewhere, ordinary_denies}
 use Rattle.protect_table.proofs.laws.whole_exclusions_deny.Goals as goal
+
+pub returns-clause-earlier_at_a_path : goal.returns-clause-earlier_at_a_path
+returns-clause-earlier_at_a_path c = earlier_at
+
+pub returns-clause-earlier_somewhere : goal.returns-clause-earlier_somewhere
+returns-clause-earlier_somewhere c = earlier_somewhere
 
 pub returns-clause-at_a_path : goal.returns-clause-at_a_path
 returns-clause-at_a_path c = whole_at

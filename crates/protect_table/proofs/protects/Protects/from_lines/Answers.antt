@@ -1,4 +1,4 @@
-use Rattle.std.proofs.Common.{◌≡◌, ◌+◌, ℕ, Bool, false, List, sym, ap, subst, ◌∙◌, arith, Result, Ok, Err, OnOk}
+use Rattle.std.proofs.Common.{◌≡◌, ◌+◌, ℕ, false, List, sym, subst, ◌∙◌, arith, Result, Ok, Err, OnOk}
 use Rattle.std.specs.Prelude.{is_err}
 use Rattle.depot_path.specs.Answers.{Answers}
 use Rattle.protect_table.specs.Line.{line_of}

@@ -1,4 +1,4 @@
-use Rattle.std.proofs.Common.{◌≡◌, ◌-◌, Bool, List, Some, sym, ap, ◌∙◌, arith}
+use Rattle.std.proofs.Common.{◌≡◌, ◌-◌, Bool, List, sym, ap, ◌∙◌, arith}
 use Rattle.protect_table.specs.Rights.{grants_at, denies_at, may, verdict}
 use Rattle.protect_table.specs.declared.line.ProtectLine.{ProtectLine}
 use Rattle.protect_table.proofs.Standing.{decided, undecided_more}
