@@ -2,7 +2,11 @@ mod Blocks
 mod Fetched
 mod Forms
 mod Grouped
+mod Heads
 mod Images
 mod Made
+mod Linked
 mod Opening
+mod Runs
+mod Scanning
 mod Standing

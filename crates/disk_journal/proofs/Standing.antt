@@ -1,5 +1,5 @@
 -- How a journal stands after each write of a commit, of a settling and of an opening.
-use Rattle.std.proofs.Common.{◌≡◌, ℕ, ◌+◌, ◌*◌, ◌<◌, ◌≤◌, List, [], ◌∷◌, ◌++◌, length, subst, sym, ap, ◌∙◌, append_assoc, arith, length-append}
+use Rattle.std.proofs.Common.{◌≡◌, ◌≢◌, ℕ, ◌+◌, ◌*◌, ◌<◌, ◌≤◌, List, [], ◌∷◌, ◌++◌, length, refl, subst, sym, ap, ◌∙◌, append_assoc, arith, length-append}
 use Rattle.outside_api.specs.Disk.{Files, After, Holds, Torn, OnFile, LeavesOnly}
 use Rattle.outside_api.specs.Moments.{started}
 use Rattle.disk_journal.specs.Text.{IsGroup, AreGroups, mark, blocks}
@@ -195,3 +195,15 @@ pub no_call : {D : Type 0} (may_leave : D → Files → Type 0) (moment : D → 
     → ((c : Files) → left_since journal.disk (moment journal.disk) c → may_leave journal.disk c) → Stands may_leave journal was doubt → LeavesOnly moment left_since journal.disk journal.disk (HasWithOrWithout was doubt)
 no_call may_leave moment left_since journal was doubt only_now stands =
     started moment left_since journal.disk (HasWithOrWithout was doubt) (λ c left. stands.holds c (only_now c left))
+
+-- the journal knows what is in doubt
+pub known_doubt : {D : Type 0} (may_leave : D → Files → Type 0) (journal : Journal D) (was : Committed) (doubt : Doubtful) → journal.doubt ≡ Nothing → Stands may_leave journal was doubt → doubt ≢ nothing → ⊥
+known_doubt may_leave journal was nothing is stands some = some refl
+known_doubt may_leave journal was (opening checkpoint) is stands some = never stands.known
+  where
+    never : journal.doubt ≡ Generation → ⊥
+    never known = cc
+known_doubt may_leave journal was (group g) is stands some = never stands.known.0
+  where
+    never : journal.doubt ≡ Group → ⊥
+    never known = cc

@@ -1,10 +1,11 @@
 //! The journal of one generation, and the group that may be in doubt.
 
 ghost use Rattle.std.specs.Prelude.{◌≡◌, ◌≢◌, ◌⊎◌, ◌+◌, ◌*◌, ◌<◌, ◌≤◌, ◌^◌, length, OnOk, IfOk, IsErr, IsTrue, ◌↔◌};
-ghost use Rattle.outside_api.specs.Count.{HasCause};
-ghost use Rattle.outside_api.specs.Disk.{LeavesOnly};
+ghost use Rattle.outside_api.specs.Count.{HasCause, counted};
+ghost use Rattle.outside_api.specs.Disk.{After, Follows, LeavesOnly};
 ghost use Rattle.journal_groups.specs.Groups.{group_text};
 ghost use Rattle.disk_journal.specs.Text.{IsGroup};
+ghost use Rattle.disk_journal.specs.Older.{SameBefore};
 
 use db_records::Change;
 use depot_path::Text;
@@ -139,6 +140,12 @@ impl<D: Disk> Journal<D> {
         ensures any_moment { (was : Committed) → Stands D.may_leave self.old was nothing →
             LeavesOnly D.moment D.left_since (disk_of self.old) (disk_of self.new) (HasEither was (with_group was (group_of prepared))) }
 
+        // The files of the generations before stay as they are, at every moment.
+        ensures older { Follows (SameBefore (1 + 2 * generation_of_journal self.old)) (D.may_leave (disk_of self.old)) (D.may_leave (disk_of self.new)) }
+        ensures any_older { LeavesOnly D.moment D.left_since (disk_of self.old) (disk_of self.new) (After (SameBefore (1 + 2 * generation_of_journal self.old)) (D.may_leave (disk_of self.old))) }
+
+        ensures asked { OnOk result (D.calls (disk_of self.new) ≡ counted 4 (D.calls (disk_of self.old))) }
+        ensures at_most { D.calls (disk_of self.new) ≤ counted 4 (D.calls (disk_of self.old)) }
         ensures cause { HasCause (D.faults (disk_of self.old)) (D.faults (disk_of self.new)) result }
     {
         let file = journal_file(self.end.generation);
@@ -176,6 +183,13 @@ impl<D: Disk> Journal<D> {
             LeavesOnly D.moment D.left_since (disk_of self.old) (disk_of self.new) (HasWithOrWithout was doubt) }
         ensures no_call { (was : Committed) → Stands D.may_leave self.old was nothing → disk_of self.new ≡ disk_of self.old }
         ensures number { next_number self.new ≡ next_number self.old }
+        // The files of the generations before stay as they are, at every moment.
+        ensures older { Follows (SameBefore (1 + 2 * generation_of_journal self.old)) (D.may_leave (disk_of self.old)) (D.may_leave (disk_of self.new)) }
+        ensures any_older { LeavesOnly D.moment D.left_since (disk_of self.old) (disk_of self.new) (After (SameBefore (1 + 2 * generation_of_journal self.old)) (D.may_leave (disk_of self.old))) }
+        ensures asked { (was : Committed) (doubt : Doubtful) → Stands D.may_leave self.old was doubt → doubt ≢ nothing →
+            OnOk result (D.calls (disk_of self.new) ≡ counted 2 (D.calls (disk_of self.old))) }
+        ensures at_most { (was : Committed) (doubt : Doubtful) → Stands D.may_leave self.old was doubt → doubt ≢ nothing →
+            D.calls (disk_of self.new) ≤ counted 2 (D.calls (disk_of self.old)) }
         ensures cause { HasCause (D.faults (disk_of self.old)) (D.faults (disk_of self.new)) result }
     {
         match self.doubt {
@@ -212,6 +226,12 @@ impl<D: Disk> Journal<D> {
         ensures any_moment { (was : Committed) → Stands D.may_leave self.old was nothing →
             LeavesOnly D.moment D.left_since (disk_of self.old) (disk_of self.new) (HasEither was (with_generation was checkpoint.now)) }
 
+        // The files of the generations before stay as they are, and so do this one's, at every moment.
+        ensures older { Follows (SameBefore (3 + 2 * generation_of_journal self.old)) (D.may_leave (disk_of self.old)) (D.may_leave (disk_of self.new)) }
+        ensures any_older { LeavesOnly D.moment D.left_since (disk_of self.old) (disk_of self.new) (After (SameBefore (3 + 2 * generation_of_journal self.old)) (D.may_leave (disk_of self.old))) }
+
+        ensures asked { OnOk result (D.calls (disk_of self.new) ≡ counted 5 (D.calls (disk_of self.old))) }
+        ensures at_most { D.calls (disk_of self.new) ≤ counted 5 (D.calls (disk_of self.old)) }
         ensures cause { HasCause (D.faults (disk_of self.old)) (D.faults (disk_of self.new)) result }
     {
         let next = self.end.generation + 1;

@@ -6,6 +6,7 @@
 #![tactic(auto)]
 
 mod fetch;
+mod head;
 mod journal;
 mod make;
 

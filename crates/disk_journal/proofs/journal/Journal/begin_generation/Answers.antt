@@ -1,4 +1,4 @@
-use Rattle.std.proofs.Common.{inl, inr, length, refl, arith}
+use Rattle.std.proofs.Common.{◌+◌, ◌*◌, inl, inr, length, refl, arith}
 use Rattle.outside_api.specs.Disk.{Files, After, OnFile, Torn}
 use Rattle.outside_api.specs.Moments.{weaker, then, started, goes_on}
 use Rattle.disk_journal.specs.Images.{HasCommitted, HasEither, with_generation, IsAtRest, IsOpening}
@@ -6,6 +6,7 @@ use Rattle.disk_journal.specs.Stands.{nothing, opening}
 use Rattle.disk_journal.proofs.Images.{rest_holds}
 use Rattle.disk_journal.proofs.Opening.{opening_holds}
 use Rattle.disk_journal.proofs.Standing.{standing, first_file, second_file, both_files, root_torn, root_opened, opening_room}
+use Rattle.disk_journal.proofs.Runs.{IsApart, Keeps, KeepsAlways, kept_one, kept_two, always_call, always_one, always_two}
 use Rattle.disk_journal.proofs.journal.Journal.begin_generation.Goals as goal
 
 pub write_through-requires-2 : goal.write_through-requires-2
@@ -91,3 +92,74 @@ returns-clause-ok g c = λ was stands.
     let both : (f : Files) → g.D.Disk.may_leave c.write_through.new.disk f → IsOpening was c.args.checkpoint.now f = λ f left. both_files g.D.Disk.seen g.D.Disk.may_leave g.met.D.Disk.reads_an_image c.args.self.now was stands c.write_at.new.self first c.args.checkpoint.now c.checkpoint_file.result c.journal_file.result (omega (arith, c.checkpoint_file.ensures)) (omega (arith, c.journal_file.ensures)) c.requires.below c.in_ok-write_at.ensures.written.from f (c.in_ok-write_through.ensures.durable f left) in
     let opened = root_opened g.D.Disk.seen g.D.Disk.may_leave g.met.D.Disk.reads_an_image c.args.self.now was stands c.args.checkpoint.now c.write_through.new.disk both in
     standing g.D.Disk.may_leave _ (with_generation was c.args.checkpoint.now) nothing (omega (arith, stands.generation)) tt refl refl refl (λ f left. opened f (c.in_ok-write_through-2.ensures.durable f left))
+
+pub returns-in_err-write_at-clause-older : goal.returns-in_err-write_at-clause-older
+returns-in_err-write_at-clause-older g c =
+    let first : IsApart (3 + 2 * c.args.self.now.end.generation) c.checkpoint_file.result = λ f some lt e. omega (arith, lt, e, c.checkpoint_file.ensures) in
+    kept_one g.D.Disk.moment g.D.Disk.left_since g.D.Disk.may_leave (3 + 2 * c.args.self.now.end.generation) c.checkpoint_file.result (Torn 0 (length c.args.checkpoint.now)) first c.args.self.now.disk c.write_at.new.self c.write_at.ensures.crash
+
+pub returns-in_err-write_at-clause-any_older : goal.returns-in_err-write_at-clause-any_older
+returns-in_err-write_at-clause-any_older g c =
+    let first : IsApart (3 + 2 * c.args.self.now.end.generation) c.checkpoint_file.result = λ f some lt e. omega (arith, lt, e, c.checkpoint_file.ensures) in
+    always_call g.D.Disk.moment g.D.Disk.left_since g.D.Disk.may_leave (3 + 2 * c.args.self.now.end.generation) c.checkpoint_file.result (Torn 0 (length c.args.checkpoint.now)) first c.args.self.now.disk c.write_at.new.self (g.met.D.Disk.only_now c.args.self.now.disk) c.write_at.ensures.time c.write_at.ensures.crash
+
+pub returns-in_err-write_through-clause-older : goal.returns-in_err-write_through-clause-older
+returns-in_err-write_through-clause-older g c =
+    let first : IsApart (3 + 2 * c.args.self.now.end.generation) c.checkpoint_file.result = λ f some lt e. omega (arith, lt, e, c.checkpoint_file.ensures) in
+    let second : IsApart (3 + 2 * c.args.self.now.end.generation) c.journal_file.result = λ f some lt e. omega (arith, lt, e, c.journal_file.ensures) in
+    let kept1 : Keeps g.D.Disk.moment g.D.Disk.left_since g.D.Disk.may_leave (3 + 2 * c.args.self.now.end.generation) c.args.self.now.disk c.write_at.new.self = kept_one g.D.Disk.moment g.D.Disk.left_since g.D.Disk.may_leave (3 + 2 * c.args.self.now.end.generation) c.checkpoint_file.result (Torn 0 (length c.args.checkpoint.now)) first c.args.self.now.disk c.write_at.new.self c.write_at.ensures.crash in
+    let kept2 : Keeps g.D.Disk.moment g.D.Disk.left_since g.D.Disk.may_leave (3 + 2 * c.args.self.now.end.generation) c.args.self.now.disk c.write_through.new.disk = kept_two g.D.Disk.moment g.D.Disk.left_since g.D.Disk.may_leave (3 + 2 * c.args.self.now.end.generation) c.args.self.now.disk c.write_at.new.self c.write_through.new.disk kept1 (kept_one g.D.Disk.moment g.D.Disk.left_since g.D.Disk.may_leave (3 + 2 * c.args.self.now.end.generation) c.journal_file.result (Torn 0 5) second c.write_at.new.self c.write_through.new.disk c.write_through.ensures.crash) in
+    kept2
+
+pub returns-in_err-write_through-clause-any_older : goal.returns-in_err-write_through-clause-any_older
+returns-in_err-write_through-clause-any_older g c =
+    let first : IsApart (3 + 2 * c.args.self.now.end.generation) c.checkpoint_file.result = λ f some lt e. omega (arith, lt, e, c.checkpoint_file.ensures) in
+    let second : IsApart (3 + 2 * c.args.self.now.end.generation) c.journal_file.result = λ f some lt e. omega (arith, lt, e, c.journal_file.ensures) in
+    let kept1 : Keeps g.D.Disk.moment g.D.Disk.left_since g.D.Disk.may_leave (3 + 2 * c.args.self.now.end.generation) c.args.self.now.disk c.write_at.new.self = kept_one g.D.Disk.moment g.D.Disk.left_since g.D.Disk.may_leave (3 + 2 * c.args.self.now.end.generation) c.checkpoint_file.result (Torn 0 (length c.args.checkpoint.now)) first c.args.self.now.disk c.write_at.new.self c.write_at.ensures.crash in
+    let always1 : KeepsAlways g.D.Disk.moment g.D.Disk.left_since g.D.Disk.may_leave (3 + 2 * c.args.self.now.end.generation) c.args.self.now.disk c.write_at.new.self = always_call g.D.Disk.moment g.D.Disk.left_since g.D.Disk.may_leave (3 + 2 * c.args.self.now.end.generation) c.checkpoint_file.result (Torn 0 (length c.args.checkpoint.now)) first c.args.self.now.disk c.write_at.new.self (g.met.D.Disk.only_now c.args.self.now.disk) c.write_at.ensures.time c.write_at.ensures.crash in
+    let always2 : KeepsAlways g.D.Disk.moment g.D.Disk.left_since g.D.Disk.may_leave (3 + 2 * c.args.self.now.end.generation) c.args.self.now.disk c.write_through.new.disk = always_two g.D.Disk.moment g.D.Disk.left_since g.D.Disk.may_leave (3 + 2 * c.args.self.now.end.generation) c.args.self.now.disk c.write_at.new.self c.write_through.new.disk kept1 always1 (always_one g.D.Disk.moment g.D.Disk.left_since g.D.Disk.may_leave (3 + 2 * c.args.self.now.end.generation) c.journal_file.result (Torn 0 5) second c.write_at.new.self c.write_through.new.disk c.write_through.ensures.any_moment) in
+    always2
+
+pub returns-in_err-write_through-2-clause-older : goal.returns-in_err-write_through-2-clause-older
+returns-in_err-write_through-2-clause-older g c =
+    let first : IsApart (3 + 2 * c.args.self.now.end.generation) c.checkpoint_file.result = λ f some lt e. omega (arith, lt, e, c.checkpoint_file.ensures) in
+    let second : IsApart (3 + 2 * c.args.self.now.end.generation) c.journal_file.result = λ f some lt e. omega (arith, lt, e, c.journal_file.ensures) in
+    let third : IsApart (3 + 2 * c.args.self.now.end.generation) 0 = λ f some lt e. omega (arith, some, e) in
+    let kept1 : Keeps g.D.Disk.moment g.D.Disk.left_since g.D.Disk.may_leave (3 + 2 * c.args.self.now.end.generation) c.args.self.now.disk c.write_at.new.self = kept_one g.D.Disk.moment g.D.Disk.left_since g.D.Disk.may_leave (3 + 2 * c.args.self.now.end.generation) c.checkpoint_file.result (Torn 0 (length c.args.checkpoint.now)) first c.args.self.now.disk c.write_at.new.self c.write_at.ensures.crash in
+    let kept2 : Keeps g.D.Disk.moment g.D.Disk.left_since g.D.Disk.may_leave (3 + 2 * c.args.self.now.end.generation) c.args.self.now.disk c.write_through.new.disk = kept_two g.D.Disk.moment g.D.Disk.left_since g.D.Disk.may_leave (3 + 2 * c.args.self.now.end.generation) c.args.self.now.disk c.write_at.new.self c.write_through.new.disk kept1 (kept_one g.D.Disk.moment g.D.Disk.left_since g.D.Disk.may_leave (3 + 2 * c.args.self.now.end.generation) c.journal_file.result (Torn 0 5) second c.write_at.new.self c.write_through.new.disk c.write_through.ensures.crash) in
+    let kept3 : Keeps g.D.Disk.moment g.D.Disk.left_since g.D.Disk.may_leave (3 + 2 * c.args.self.now.end.generation) c.args.self.now.disk c.write_through-2.new.disk = kept_two g.D.Disk.moment g.D.Disk.left_since g.D.Disk.may_leave (3 + 2 * c.args.self.now.end.generation) c.args.self.now.disk c.write_through.new.disk c.write_through-2.new.disk kept2 (kept_one g.D.Disk.moment g.D.Disk.left_since g.D.Disk.may_leave (3 + 2 * c.args.self.now.end.generation) 0 (Torn c.args.self.now.end.generation 1) third c.write_through.new.disk c.write_through-2.new.disk c.write_through-2.ensures.crash) in
+    kept3
+
+pub returns-in_err-write_through-2-clause-any_older : goal.returns-in_err-write_through-2-clause-any_older
+returns-in_err-write_through-2-clause-any_older g c =
+    let first : IsApart (3 + 2 * c.args.self.now.end.generation) c.checkpoint_file.result = λ f some lt e. omega (arith, lt, e, c.checkpoint_file.ensures) in
+    let second : IsApart (3 + 2 * c.args.self.now.end.generation) c.journal_file.result = λ f some lt e. omega (arith, lt, e, c.journal_file.ensures) in
+    let third : IsApart (3 + 2 * c.args.self.now.end.generation) 0 = λ f some lt e. omega (arith, some, e) in
+    let kept1 : Keeps g.D.Disk.moment g.D.Disk.left_since g.D.Disk.may_leave (3 + 2 * c.args.self.now.end.generation) c.args.self.now.disk c.write_at.new.self = kept_one g.D.Disk.moment g.D.Disk.left_since g.D.Disk.may_leave (3 + 2 * c.args.self.now.end.generation) c.checkpoint_file.result (Torn 0 (length c.args.checkpoint.now)) first c.args.self.now.disk c.write_at.new.self c.write_at.ensures.crash in
+    let kept2 : Keeps g.D.Disk.moment g.D.Disk.left_since g.D.Disk.may_leave (3 + 2 * c.args.self.now.end.generation) c.args.self.now.disk c.write_through.new.disk = kept_two g.D.Disk.moment g.D.Disk.left_since g.D.Disk.may_leave (3 + 2 * c.args.self.now.end.generation) c.args.self.now.disk c.write_at.new.self c.write_through.new.disk kept1 (kept_one g.D.Disk.moment g.D.Disk.left_since g.D.Disk.may_leave (3 + 2 * c.args.self.now.end.generation) c.journal_file.result (Torn 0 5) second c.write_at.new.self c.write_through.new.disk c.write_through.ensures.crash) in
+    let always1 : KeepsAlways g.D.Disk.moment g.D.Disk.left_since g.D.Disk.may_leave (3 + 2 * c.args.self.now.end.generation) c.args.self.now.disk c.write_at.new.self = always_call g.D.Disk.moment g.D.Disk.left_since g.D.Disk.may_leave (3 + 2 * c.args.self.now.end.generation) c.checkpoint_file.result (Torn 0 (length c.args.checkpoint.now)) first c.args.self.now.disk c.write_at.new.self (g.met.D.Disk.only_now c.args.self.now.disk) c.write_at.ensures.time c.write_at.ensures.crash in
+    let always2 : KeepsAlways g.D.Disk.moment g.D.Disk.left_since g.D.Disk.may_leave (3 + 2 * c.args.self.now.end.generation) c.args.self.now.disk c.write_through.new.disk = always_two g.D.Disk.moment g.D.Disk.left_since g.D.Disk.may_leave (3 + 2 * c.args.self.now.end.generation) c.args.self.now.disk c.write_at.new.self c.write_through.new.disk kept1 always1 (always_one g.D.Disk.moment g.D.Disk.left_since g.D.Disk.may_leave (3 + 2 * c.args.self.now.end.generation) c.journal_file.result (Torn 0 5) second c.write_at.new.self c.write_through.new.disk c.write_through.ensures.any_moment) in
+    let always3 : KeepsAlways g.D.Disk.moment g.D.Disk.left_since g.D.Disk.may_leave (3 + 2 * c.args.self.now.end.generation) c.args.self.now.disk c.write_through-2.new.disk = always_two g.D.Disk.moment g.D.Disk.left_since g.D.Disk.may_leave (3 + 2 * c.args.self.now.end.generation) c.args.self.now.disk c.write_through.new.disk c.write_through-2.new.disk kept2 always2 (always_one g.D.Disk.moment g.D.Disk.left_since g.D.Disk.may_leave (3 + 2 * c.args.self.now.end.generation) 0 (Torn c.args.self.now.end.generation 1) third c.write_through.new.disk c.write_through-2.new.disk c.write_through-2.ensures.any_moment) in
+    always3
+
+pub returns-clause-older : goal.returns-clause-older
+returns-clause-older g c =
+    let first : IsApart (3 + 2 * c.args.self.now.end.generation) c.checkpoint_file.result = λ f some lt e. omega (arith, lt, e, c.checkpoint_file.ensures) in
+    let second : IsApart (3 + 2 * c.args.self.now.end.generation) c.journal_file.result = λ f some lt e. omega (arith, lt, e, c.journal_file.ensures) in
+    let third : IsApart (3 + 2 * c.args.self.now.end.generation) 0 = λ f some lt e. omega (arith, some, e) in
+    let kept1 : Keeps g.D.Disk.moment g.D.Disk.left_since g.D.Disk.may_leave (3 + 2 * c.args.self.now.end.generation) c.args.self.now.disk c.write_at.new.self = kept_one g.D.Disk.moment g.D.Disk.left_since g.D.Disk.may_leave (3 + 2 * c.args.self.now.end.generation) c.checkpoint_file.result (Torn 0 (length c.args.checkpoint.now)) first c.args.self.now.disk c.write_at.new.self c.write_at.ensures.crash in
+    let kept2 : Keeps g.D.Disk.moment g.D.Disk.left_since g.D.Disk.may_leave (3 + 2 * c.args.self.now.end.generation) c.args.self.now.disk c.write_through.new.disk = kept_two g.D.Disk.moment g.D.Disk.left_since g.D.Disk.may_leave (3 + 2 * c.args.self.now.end.generation) c.args.self.now.disk c.write_at.new.self c.write_through.new.disk kept1 (kept_one g.D.Disk.moment g.D.Disk.left_since g.D.Disk.may_leave (3 + 2 * c.args.self.now.end.generation) c.journal_file.result (Torn 0 5) second c.write_at.new.self c.write_through.new.disk c.write_through.ensures.crash) in
+    let kept3 : Keeps g.D.Disk.moment g.D.Disk.left_since g.D.Disk.may_leave (3 + 2 * c.args.self.now.end.generation) c.args.self.now.disk c.write_through-2.new.disk = kept_two g.D.Disk.moment g.D.Disk.left_since g.D.Disk.may_leave (3 + 2 * c.args.self.now.end.generation) c.args.self.now.disk c.write_through.new.disk c.write_through-2.new.disk kept2 (kept_one g.D.Disk.moment g.D.Disk.left_since g.D.Disk.may_leave (3 + 2 * c.args.self.now.end.generation) 0 (Torn c.args.self.now.end.generation 1) third c.write_through.new.disk c.write_through-2.new.disk c.write_through-2.ensures.crash) in
+    kept3
+
+pub returns-clause-any_older : goal.returns-clause-any_older
+returns-clause-any_older g c =
+    let first : IsApart (3 + 2 * c.args.self.now.end.generation) c.checkpoint_file.result = λ f some lt e. omega (arith, lt, e, c.checkpoint_file.ensures) in
+    let second : IsApart (3 + 2 * c.args.self.now.end.generation) c.journal_file.result = λ f some lt e. omega (arith, lt, e, c.journal_file.ensures) in
+    let third : IsApart (3 + 2 * c.args.self.now.end.generation) 0 = λ f some lt e. omega (arith, some, e) in
+    let kept1 : Keeps g.D.Disk.moment g.D.Disk.left_since g.D.Disk.may_leave (3 + 2 * c.args.self.now.end.generation) c.args.self.now.disk c.write_at.new.self = kept_one g.D.Disk.moment g.D.Disk.left_since g.D.Disk.may_leave (3 + 2 * c.args.self.now.end.generation) c.checkpoint_file.result (Torn 0 (length c.args.checkpoint.now)) first c.args.self.now.disk c.write_at.new.self c.write_at.ensures.crash in
+    let kept2 : Keeps g.D.Disk.moment g.D.Disk.left_since g.D.Disk.may_leave (3 + 2 * c.args.self.now.end.generation) c.args.self.now.disk c.write_through.new.disk = kept_two g.D.Disk.moment g.D.Disk.left_since g.D.Disk.may_leave (3 + 2 * c.args.self.now.end.generation) c.args.self.now.disk c.write_at.new.self c.write_through.new.disk kept1 (kept_one g.D.Disk.moment g.D.Disk.left_since g.D.Disk.may_leave (3 + 2 * c.args.self.now.end.generation) c.journal_file.result (Torn 0 5) second c.write_at.new.self c.write_through.new.disk c.write_through.ensures.crash) in
+    let always1 : KeepsAlways g.D.Disk.moment g.D.Disk.left_since g.D.Disk.may_leave (3 + 2 * c.args.self.now.end.generation) c.args.self.now.disk c.write_at.new.self = always_call g.D.Disk.moment g.D.Disk.left_since g.D.Disk.may_leave (3 + 2 * c.args.self.now.end.generation) c.checkpoint_file.result (Torn 0 (length c.args.checkpoint.now)) first c.args.self.now.disk c.write_at.new.self (g.met.D.Disk.only_now c.args.self.now.disk) c.write_at.ensures.time c.write_at.ensures.crash in
+    let always2 : KeepsAlways g.D.Disk.moment g.D.Disk.left_since g.D.Disk.may_leave (3 + 2 * c.args.self.now.end.generation) c.args.self.now.disk c.write_through.new.disk = always_two g.D.Disk.moment g.D.Disk.left_since g.D.Disk.may_leave (3 + 2 * c.args.self.now.end.generation) c.args.self.now.disk c.write_at.new.self c.write_through.new.disk kept1 always1 (always_one g.D.Disk.moment g.D.Disk.left_since g.D.Disk.may_leave (3 + 2 * c.args.self.now.end.generation) c.journal_file.result (Torn 0 5) second c.write_at.new.self c.write_through.new.disk c.write_through.ensures.any_moment) in
+    let always3 : KeepsAlways g.D.Disk.moment g.D.Disk.left_since g.D.Disk.may_leave (3 + 2 * c.args.self.now.end.generation) c.args.self.now.disk c.write_through-2.new.disk = always_two g.D.Disk.moment g.D.Disk.left_since g.D.Disk.may_leave (3 + 2 * c.args.self.now.end.generation) c.args.self.now.disk c.write_through.new.disk c.write_through-2.new.disk kept2 always2 (always_one g.D.Disk.moment g.D.Disk.left_since g.D.Disk.may_leave (3 + 2 * c.args.self.now.end.generation) 0 (Torn c.args.self.now.end.generation 1) third c.write_through.new.disk c.write_through-2.new.disk c.write_through-2.ensures.any_moment) in
+    always3

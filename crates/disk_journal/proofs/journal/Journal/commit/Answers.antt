@@ -1,5 +1,5 @@
 use Rattle.std.proofs.Common.{◌≡◌, inl, inr, ◌+◌, ◌*◌, [], ◌∷◌, ◌++◌, length, refl, subst, ◌∙◌, ap, arith, length-append}
-use Rattle.outside_api.specs.Disk.{Files}
+use Rattle.outside_api.specs.Disk.{Files, Torn}
 use Rattle.outside_api.specs.Moments.{weaker, then}
 use Rattle.disk_journal.specs.Text.{mark, IsGroup}
 use Rattle.disk_journal.specs.Images.{HasCommitted, HasEither, with_group, IsReady}
@@ -7,6 +7,7 @@ use Rattle.disk_journal.specs.Stands.{nothing, group, group_of}
 use Rattle.disk_journal.proofs.Blocks.{are_groups-push, length_push}
 use Rattle.disk_journal.proofs.Images.{rest_holds, ready_holds}
 use Rattle.disk_journal.proofs.Standing.{standing, room, behind_rest, behind_ready, mark_room, mark_ready, mark_opened}
+use Rattle.disk_journal.proofs.Runs.{IsApart, kept_one, kept_two, always_one, always_two}
 use Rattle.disk_journal.proofs.journal.Journal.commit.Goals as goal
 
 pub write_through-requires : goal.write_through-requires
@@ -81,3 +82,33 @@ returns-clause-ok g c = λ was stands.
 
 pub returns-clause-receipt : goal.returns-clause-receipt
 returns-clause-receipt g c = λ was stands. (stands.generation, omega (arith, stands.count))
+
+pub returns-in_err-write_through-clause-older : goal.returns-in_err-write_through-clause-older
+returns-in_err-write_through-clause-older g c =
+    let apart : IsApart (1 + 2 * c.args.self.now.end.generation) c.journal_file-file.result = λ f some lt e. omega (arith, lt, e, c.journal_file-file.ensures) in
+    kept_one g.D.Disk.moment g.D.Disk.left_since g.D.Disk.may_leave (1 + 2 * c.args.self.now.end.generation) c.journal_file-file.result (Torn (c.args.self.now.end.length + 5) (length c.as_bytes-text.result.now)) apart c.args.self.now.disk c.write_through.new.disk c.write_through.ensures.crash
+
+pub returns-in_err-write_through-clause-any_older : goal.returns-in_err-write_through-clause-any_older
+returns-in_err-write_through-clause-any_older g c =
+    let apart : IsApart (1 + 2 * c.args.self.now.end.generation) c.journal_file-file.result = λ f some lt e. omega (arith, lt, e, c.journal_file-file.ensures) in
+    always_one g.D.Disk.moment g.D.Disk.left_since g.D.Disk.may_leave (1 + 2 * c.args.self.now.end.generation) c.journal_file-file.result (Torn (c.args.self.now.end.length + 5) (length c.as_bytes-text.result.now)) apart c.args.self.now.disk c.write_through.new.disk c.write_through.ensures.any_moment
+
+pub returns-in_err-write_through-2-clause-older : goal.returns-in_err-write_through-2-clause-older
+returns-in_err-write_through-2-clause-older g c =
+    let apart : IsApart (1 + 2 * c.args.self.now.end.generation) c.journal_file-file.result = λ f some lt e. omega (arith, lt, e, c.journal_file-file.ensures) in
+    kept_two g.D.Disk.moment g.D.Disk.left_since g.D.Disk.may_leave (1 + 2 * c.args.self.now.end.generation) c.args.self.now.disk c.write_through.new.disk c.write_through-2.new.disk (kept_one g.D.Disk.moment g.D.Disk.left_since g.D.Disk.may_leave (1 + 2 * c.args.self.now.end.generation) c.journal_file-file.result (Torn (c.args.self.now.end.length + 5) (length c.as_bytes-text.result.now)) apart c.args.self.now.disk c.write_through.new.disk c.write_through.ensures.crash) (kept_one g.D.Disk.moment g.D.Disk.left_since g.D.Disk.may_leave (1 + 2 * c.args.self.now.end.generation) c.journal_file-file.result (Torn (c.args.self.now.end.length + 1) 1) apart c.write_through.new.disk c.write_through-2.new.disk c.write_through-2.ensures.crash)
+
+pub returns-in_err-write_through-2-clause-any_older : goal.returns-in_err-write_through-2-clause-any_older
+returns-in_err-write_through-2-clause-any_older g c =
+    let apart : IsApart (1 + 2 * c.args.self.now.end.generation) c.journal_file-file.result = λ f some lt e. omega (arith, lt, e, c.journal_file-file.ensures) in
+    always_two g.D.Disk.moment g.D.Disk.left_since g.D.Disk.may_leave (1 + 2 * c.args.self.now.end.generation) c.args.self.now.disk c.write_through.new.disk c.write_through-2.new.disk (kept_one g.D.Disk.moment g.D.Disk.left_since g.D.Disk.may_leave (1 + 2 * c.args.self.now.end.generation) c.journal_file-file.result (Torn (c.args.self.now.end.length + 5) (length c.as_bytes-text.result.now)) apart c.args.self.now.disk c.write_through.new.disk c.write_through.ensures.crash) (always_one g.D.Disk.moment g.D.Disk.left_since g.D.Disk.may_leave (1 + 2 * c.args.self.now.end.generation) c.journal_file-file.result (Torn (c.args.self.now.end.length + 5) (length c.as_bytes-text.result.now)) apart c.args.self.now.disk c.write_through.new.disk c.write_through.ensures.any_moment) (always_one g.D.Disk.moment g.D.Disk.left_since g.D.Disk.may_leave (1 + 2 * c.args.self.now.end.generation) c.journal_file-file.result (Torn (c.args.self.now.end.length + 1) 1) apart c.write_through.new.disk c.write_through-2.new.disk c.write_through-2.ensures.any_moment)
+
+pub returns-clause-older : goal.returns-clause-older
+returns-clause-older g c =
+    let apart : IsApart (1 + 2 * c.args.self.now.end.generation) c.journal_file-file.result = λ f some lt e. omega (arith, lt, e, c.journal_file-file.ensures) in
+    kept_two g.D.Disk.moment g.D.Disk.left_since g.D.Disk.may_leave (1 + 2 * c.args.self.now.end.generation) c.args.self.now.disk c.write_through.new.disk c.write_through-2.new.disk (kept_one g.D.Disk.moment g.D.Disk.left_since g.D.Disk.may_leave (1 + 2 * c.args.self.now.end.generation) c.journal_file-file.result (Torn (c.args.self.now.end.length + 5) (length c.as_bytes-text.result.now)) apart c.args.self.now.disk c.write_through.new.disk c.write_through.ensures.crash) (kept_one g.D.Disk.moment g.D.Disk.left_since g.D.Disk.may_leave (1 + 2 * c.args.self.now.end.generation) c.journal_file-file.result (Torn (c.args.self.now.end.length + 1) 1) apart c.write_through.new.disk c.write_through-2.new.disk c.write_through-2.ensures.crash)
+
+pub returns-clause-any_older : goal.returns-clause-any_older
+returns-clause-any_older g c =
+    let apart : IsApart (1 + 2 * c.args.self.now.end.generation) c.journal_file-file.result = λ f some lt e. omega (arith, lt, e, c.journal_file-file.ensures) in
+    always_two g.D.Disk.moment g.D.Disk.left_since g.D.Disk.may_leave (1 + 2 * c.args.self.now.end.generation) c.args.self.now.disk c.write_through.new.disk c.write_through-2.new.disk (kept_one g.D.Disk.moment g.D.Disk.left_since g.D.Disk.may_leave (1 + 2 * c.args.self.now.end.generation) c.journal_file-file.result (Torn (c.args.self.now.end.length + 5) (length c.as_bytes-text.result.now)) apart c.args.self.now.disk c.write_through.new.disk c.write_through.ensures.crash) (always_one g.D.Disk.moment g.D.Disk.left_since g.D.Disk.may_leave (1 + 2 * c.args.self.now.end.generation) c.journal_file-file.result (Torn (c.args.self.now.end.length + 5) (length c.as_bytes-text.result.now)) apart c.args.self.now.disk c.write_through.new.disk c.write_through.ensures.any_moment) (always_one g.D.Disk.moment g.D.Disk.left_since g.D.Disk.may_leave (1 + 2 * c.args.self.now.end.generation) c.journal_file-file.result (Torn (c.args.self.now.end.length + 1) 1) apart c.write_through.new.disk c.write_through-2.new.disk c.write_through-2.ensures.any_moment)

@@ -1,6 +1,9 @@
-use Rattle.std.proofs.Common.{◌≡◌, ◌-◌, ◌≤◌, ◌∙◌, ◌++◌, length, take, drop, min, ap, subst, arith, length-take}
+use Rattle.std.proofs.Common.{[], ◌<◌, get_or, sym, ◌≡◌, ◌-◌, ◌≤◌, ◌∙◌, ◌++◌, length, take, drop, min, ap, subst, arith, length-take}
 use Rattle.disk_journal.specs.Text.{blocks}
+use Rattle.outside_api.specs.declared.link.Fetched.TheVariants.{Bytes}
+use Rattle.disk_journal.specs.Older.{IsClosed}
 use Rattle.disk_journal.proofs.Fetched.{text_read}
+use Rattle.disk_journal.proofs.Linked.{answers_older, answers_newest}
 use Rattle.disk_journal.proofs.Standing.{image_text}
 use Rattle.disk_journal.proofs.journal.Journal.fetch.Goals as goal
 
@@ -15,3 +18,19 @@ returns-clause-text g c = λ was doubt files stands read same.
     let bytes : take c.in_ok-count.count c.fill.new.buffer ≡ take room (drop c.args.at (files c.journal_file-file-2.result)) = c.in_ok-count.ensures.bytes files read ∙ ap (λ n. take n (drop c.args.at (files c.journal_file-file-2.result))) slice in
     text_read (blocks was.groups) text.0 (files c.journal_file-file-2.result) c.fill.new.buffer _ c.args.at (length c.args.buffer.now) room c.in_ok-count.count file
     (omega (arith, c.if-at-self.false, stands.length)) c.requires.room (c.room_for-room.ensures ∙ ap (λ n. min (length c.args.buffer.now) (n - c.args.at)) stands.length) part fits bytes
+
+pub returns-then-generation-self-2-clause-older : goal.returns-then-generation-self-2-clause-older
+returns-then-generation-self-2-clause-older g c = λ groups files below read is.
+    c.in_ok-fetched.ensures.text groups files read (subst (λ f. IsClosed groups (files f)) (sym c.journal_file-file.ensures) is)
+
+pub returns-then-generation-self-2-clause-as_link : goal.returns-then-generation-self-2-clause-as_link
+returns-then-generation-self-2-clause-as_link g c = λ was doubt before files stands read count are.
+    let lt : c.args.generation < length before = omega (arith, c.if-generation-self-2.true, stands.generation, count) in
+    let groups = get_or before c.args.generation [] in
+    answers_older before was c.args.generation c.args.at (length c.args.buffer.now) c.in_ok-fetched.fetched c.fetch_closed.new.buffer lt
+    (c.in_ok-fetched.ensures.text groups files read (subst (λ f. IsClosed groups (files f)) (sym c.journal_file-file.ensures) (are c.args.generation lt)))
+
+pub returns-clause-as_link : goal.returns-clause-as_link
+returns-clause-as_link g c = λ was doubt before files stands read count are.
+    let same : c.args.generation ≡ was.generation = omega (arith, c.if-generation-self.false, c.if-generation-self-2.false, stands.generation) in
+    answers_newest before was c.args.generation c.args.at (length c.args.buffer.now) (Bytes c.in_ok-count.count) _ (omega (arith, same, count)) (returns-clause-text g c was doubt files stands read same)

@@ -1,7 +1,9 @@
-use Rattle.std.proofs.Common.{refl, arith}
+use Rattle.std.proofs.Common.{◌+◌, ◌*◌, refl, arith}
+use Rattle.outside_api.specs.Disk.{Torn}
 use Rattle.outside_api.specs.Moments.{weaker}
 use Rattle.disk_journal.specs.Stands.{nothing, HasWithOrWithout}
-use Rattle.disk_journal.proofs.Standing.{standing, room, root_room, image_holds, root_settling, root_settled, settling, settled, at_rest, no_call}
+use Rattle.disk_journal.proofs.Standing.{standing, room, root_room, image_holds, root_settling, root_settled, settling, settled, at_rest, no_call, known_doubt}
+use Rattle.disk_journal.proofs.Runs.{IsApart, kept_none, kept_one, always_none, always_one}
 use Rattle.disk_journal.proofs.journal.Journal.settle.Goals as goal
 
 pub write_through-requires : goal.write_through-requires
@@ -58,3 +60,57 @@ pub returns-in_ok-write_through-in-Generation-clause-any_moment : goal.returns-i
 returns-in_ok-write_through-in-Generation-clause-any_moment g c = λ was doubt stands.
     let each = root_settling g.D.Disk.seen g.D.Disk.may_leave g.met.D.Disk.reads_an_image c.args.self.now was c.in-Generation.is doubt stands in
     weaker g.D.Disk.moment g.D.Disk.left_since c.args.self.now.disk c.write_through-in-Generation.new.disk _ (HasWithOrWithout was doubt) (λ f after. image_holds was doubt _ c.args.self.now.doubt f (omega (arith, stands.count)) stands.are_groups stands.known (each f after)) c.write_through-in-Generation.ensures.any_moment
+
+pub returns-in-Nothing-clause-older : goal.returns-in-Nothing-clause-older
+returns-in-Nothing-clause-older g c =
+    kept_none g.D.Disk.moment g.D.Disk.left_since g.D.Disk.may_leave (1 + 2 * c.args.self.now.end.generation) c.args.self.now.disk
+
+pub returns-in-Nothing-clause-any_older : goal.returns-in-Nothing-clause-any_older
+returns-in-Nothing-clause-any_older g c =
+    always_none g.D.Disk.moment g.D.Disk.left_since g.D.Disk.may_leave (1 + 2 * c.args.self.now.end.generation) c.args.self.now.disk (g.met.D.Disk.only_now c.args.self.now.disk)
+
+pub returns-in_err-write_through-in-Group-clause-older : goal.returns-in_err-write_through-in-Group-clause-older
+returns-in_err-write_through-in-Group-clause-older g c =
+    let apart : IsApart (1 + 2 * c.args.self.now.end.generation) c.journal_file-file.result = λ f some lt e. omega (arith, lt, e, c.journal_file-file.ensures) in
+    kept_one g.D.Disk.moment g.D.Disk.left_since g.D.Disk.may_leave (1 + 2 * c.args.self.now.end.generation) c.journal_file-file.result (Torn (c.args.self.now.end.length + 1) 1) apart c.args.self.now.disk c.write_through.new.disk c.write_through.ensures.crash
+
+pub returns-in_err-write_through-in-Group-clause-any_older : goal.returns-in_err-write_through-in-Group-clause-any_older
+returns-in_err-write_through-in-Group-clause-any_older g c =
+    let apart : IsApart (1 + 2 * c.args.self.now.end.generation) c.journal_file-file.result = λ f some lt e. omega (arith, lt, e, c.journal_file-file.ensures) in
+    always_one g.D.Disk.moment g.D.Disk.left_since g.D.Disk.may_leave (1 + 2 * c.args.self.now.end.generation) c.journal_file-file.result (Torn (c.args.self.now.end.length + 1) 1) apart c.args.self.now.disk c.write_through.new.disk c.write_through.ensures.any_moment
+
+pub returns-in_err-write_through-in-Generation-clause-older : goal.returns-in_err-write_through-in-Generation-clause-older
+returns-in_err-write_through-in-Generation-clause-older g c =
+    let apart : IsApart (1 + 2 * c.args.self.now.end.generation) 0 = λ f some lt e. omega (arith, some, e) in
+    kept_one g.D.Disk.moment g.D.Disk.left_since g.D.Disk.may_leave (1 + 2 * c.args.self.now.end.generation) 0 (Torn c.args.self.now.end.generation 1) apart c.args.self.now.disk c.write_through-in-Generation.new.disk c.write_through-in-Generation.ensures.crash
+
+pub returns-in_err-write_through-in-Generation-clause-any_older : goal.returns-in_err-write_through-in-Generation-clause-any_older
+returns-in_err-write_through-in-Generation-clause-any_older g c =
+    let apart : IsApart (1 + 2 * c.args.self.now.end.generation) 0 = λ f some lt e. omega (arith, some, e) in
+    always_one g.D.Disk.moment g.D.Disk.left_since g.D.Disk.may_leave (1 + 2 * c.args.self.now.end.generation) 0 (Torn c.args.self.now.end.generation 1) apart c.args.self.now.disk c.write_through-in-Generation.new.disk c.write_through-in-Generation.ensures.any_moment
+
+pub returns-in_ok-write_through-in-Group-clause-older : goal.returns-in_ok-write_through-in-Group-clause-older
+returns-in_ok-write_through-in-Group-clause-older g c =
+    let apart : IsApart (1 + 2 * c.args.self.now.end.generation) c.journal_file-file.result = λ f some lt e. omega (arith, lt, e, c.journal_file-file.ensures) in
+    kept_one g.D.Disk.moment g.D.Disk.left_since g.D.Disk.may_leave (1 + 2 * c.args.self.now.end.generation) c.journal_file-file.result (Torn (c.args.self.now.end.length + 1) 1) apart c.args.self.now.disk c.write_through.new.disk c.write_through.ensures.crash
+
+pub returns-in_ok-write_through-in-Group-clause-any_older : goal.returns-in_ok-write_through-in-Group-clause-any_older
+returns-in_ok-write_through-in-Group-clause-any_older g c =
+    let apart : IsApart (1 + 2 * c.args.self.now.end.generation) c.journal_file-file.result = λ f some lt e. omega (arith, lt, e, c.journal_file-file.ensures) in
+    always_one g.D.Disk.moment g.D.Disk.left_since g.D.Disk.may_leave (1 + 2 * c.args.self.now.end.generation) c.journal_file-file.result (Torn (c.args.self.now.end.length + 1) 1) apart c.args.self.now.disk c.write_through.new.disk c.write_through.ensures.any_moment
+
+pub returns-in_ok-write_through-in-Generation-clause-older : goal.returns-in_ok-write_through-in-Generation-clause-older
+returns-in_ok-write_through-in-Generation-clause-older g c =
+    let apart : IsApart (1 + 2 * c.args.self.now.end.generation) 0 = λ f some lt e. omega (arith, some, e) in
+    kept_one g.D.Disk.moment g.D.Disk.left_since g.D.Disk.may_leave (1 + 2 * c.args.self.now.end.generation) 0 (Torn c.args.self.now.end.generation 1) apart c.args.self.now.disk c.write_through-in-Generation.new.disk c.write_through-in-Generation.ensures.crash
+
+pub returns-in_ok-write_through-in-Generation-clause-any_older : goal.returns-in_ok-write_through-in-Generation-clause-any_older
+returns-in_ok-write_through-in-Generation-clause-any_older g c =
+    let apart : IsApart (1 + 2 * c.args.self.now.end.generation) 0 = λ f some lt e. omega (arith, some, e) in
+    always_one g.D.Disk.moment g.D.Disk.left_since g.D.Disk.may_leave (1 + 2 * c.args.self.now.end.generation) 0 (Torn c.args.self.now.end.generation 1) apart c.args.self.now.disk c.write_through-in-Generation.new.disk c.write_through-in-Generation.ensures.any_moment
+
+pub returns-in-Nothing-clause-asked : goal.returns-in-Nothing-clause-asked
+returns-in-Nothing-clause-asked g c = λ was doubt stands some. absurd (known_doubt g.D.Disk.may_leave c.args.self.now was doubt c.in-Nothing.is stands some)
+
+pub returns-in-Nothing-clause-at_most : goal.returns-in-Nothing-clause-at_most
+returns-in-Nothing-clause-at_most g c = λ was doubt stands some. absurd (known_doubt g.D.Disk.may_leave c.args.self.now was doubt c.in-Nothing.is stands some)
