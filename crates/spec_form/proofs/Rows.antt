@@ -6,6 +6,8 @@ use Rattle.spec_form.specs.declared.form.Field.{Field}
 use Rattle.spec_form.specs.declared.fault.FormFault.{FormFault}
 use Rattle.spec_form.specs.declared.fault.FormFaultKind.{FormFaultKind}
 use Rattle.spec_form.specs.declared.fault.FormFaultKind.TheVariants.{NoField, UnknownField, Twice, Missing, NotUtf8}
+use Rattle.spec_form.specs.declared.fault.ValueFault.{ValueFault}
+use Rattle.spec_form.specs.declared.fault.ValueFault.TheVariants.{NoSingleField, NotAValue}
 use Rattle.spec_form.specs.Shapes.{fields_of}
 use Rattle.spec_form.specs.Form.{FormValue, lines_of, with_line}
 use Rattle.spec_form.specs.Reading.{form_of}
@@ -41,8 +43,30 @@ reads_printed : form_of Client (client_text ++ codes "\n") ≡ Ok (client (value
 unfolding fields_of
 reads_printed = refl
 
-other_host : with_line (codes "Host") (codes "b") (client (value (codes "Host") (codes "hostA"))) ≡ client (value (codes "Host") (codes "b"))
+other_host : with_line (codes "Host") (codes "b") (client (value (codes "Host") (codes "hostA"))) ≡ Ok (client (value (codes "Host") (codes "b")))
+unfolding fields_of
 other_host = refl
+
+no_host : with_line (codes "Host") [] (client (value (codes "Host") (codes "hostA"))) ≡ Ok (client (record { name = codes "Host"; lines = [] }))
+unfolding fields_of
+no_host = refl
+
+-- a field of many lines, one that the form doesn't have, and one that no client has
+abbrev no_field : Result FormValue ValueFault
+no_field = Err NoSingleField
+
+no_single : map (λ (name : List ℕ). with_line name (codes "b") (record { shape = Client; fields = value (codes "Client") (codes "ws1") ∷ value (codes "View") [] ∷ [] })) (codes "View" ∷ codes "Host" ∷ codes "Stream" ∷ []) ≡
+    no_field ∷ no_field ∷ no_field ∷ []
+unfolding fields_of
+no_single = refl
+
+abbrev no_line : Result FormValue ValueFault
+no_line = Err NotAValue
+
+not_values : map (λ (line : List ℕ). with_line (codes "Host") line (client (value (codes "Host") (codes "hostA")))) (codes "a\nb" ∷ codes " b" ∷ codes "\tb" ∷ (0xFF ∷ []) ∷ []) ≡
+    no_line ∷ no_line ∷ no_line ∷ no_line ∷ []
+unfolding fields_of
+not_values = refl
 
 view_lines : lines_of (client (value (codes "Host") (codes "hostA"))) (codes "View") ≡ codes "//depot/... //ws1/..." ∷ []
 view_lines = refl

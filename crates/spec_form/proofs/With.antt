@@ -1,15 +1,16 @@
 -- A form with another value in one of its fields.
-use Rattle.std.proofs.Common.{◌≡◌, ℕ, Bool, true, false, ◌&&◌, ◌||◌, not, cond, List, [], ◌∷◌, ◌++◌, map, reverse, Some, refl, sym, ap, ◌∙◌}
+use Rattle.std.proofs.Common.{◌≡◌, ℕ, Bool, true, false, ◌&&◌, ◌||◌, not, cond, List, [], ◌∷◌, ◌++◌, map, reverse, Option, Some, None, refl, sym, ap, ◌∙◌}
 use Rattle.std.specs.Str.{bytes_eq}
 use Rattle.std.proofs.lemmas.List.{reverse-append, map-append}
 use Rattle.depot_path.specs.Bytes.{is_among}
 use Rattle.depot_path.specs.Utf8.{is_utf8}
 use Rattle.spec_form.specs.declared.shape.Shape.{Shape}
-use Rattle.spec_form.specs.declared.shape.FieldKind.TheVariants.{Single}
+use Rattle.spec_form.specs.declared.shape.FieldKind.{FieldKind}
+use Rattle.spec_form.specs.declared.shape.FieldKind.TheVariants.{Single, Lines}
 use Rattle.spec_form.specs.declared.form.Field.{Field}
 use Rattle.spec_form.specs.Shapes.{FieldRow, kind_of, fields_of}
 use Rattle.spec_form.specs.Texts.{trimmed_start}
-use Rattle.spec_form.specs.Form.{FormValue, has_field, value_lines, is_value, with_value, with_line}
+use Rattle.spec_form.specs.Form.{FormValue, has_field, value_lines, is_value, is_single, has_single, with_value}
 use Rattle.spec_form.specs.Reading.{lacks}
 use Rattle.spec_form.specs.Printing.{printed_form, ReadsBack}
 use Rattle.spec_form.proofs.Good.{GoodValue, GoodField, Good, is_read}
@@ -69,11 +70,17 @@ good_value value h =
       trimmed = same_bytes (trimmed_start value) value (and_rest (is_utf8 value && not (is_among value 0x0A)) (bytes_eq (trimmed_start value) value) h);
     }
 
-pub with_reads_back : (form : FormValue) (name value : List ℕ) → ReadsBack form → kind_of form.shape name ≡ Some Single → is_value value ≡ true → ReadsBack (with_line name value form)
-with_reads_back form name value b k v =
+single_kind : (kind : Option FieldKind) → is_single kind ≡ true → kind ≡ Some Single
+single_kind (Some Single) e = refl
+single_kind (Some Lines) e = absurd cc
+single_kind None e = absurd cc
+
+pub with_reads_back : (form : FormValue) (name value : List ℕ) → ReadsBack form → has_single name form ≡ true → is_value value ≡ true → ReadsBack (record form { fields = map (with_value name value) form.fields })
+with_reads_back form name value b h v =
+    let k = single_kind (kind_of form.shape name) (and_first (is_single (kind_of form.shape name)) (has_field name form.fields) h) in
     let r = is_read form.shape (printed_form form) form b in
     let turn = map_reverse (with_value name value) r.fields in
-    read_reads_back (with_line name value form) (record {
+    read_reads_back (record form { fields = map (with_value name value) form.fields }) (record {
       fields = map (with_value name value) r.fields;
       is = ap (map (with_value name value)) r.is ∙ turn;
       good = good_with form.shape name value r.fields k (good_value value v) r.good;

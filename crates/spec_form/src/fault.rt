@@ -1,8 +1,9 @@
-//! What is wrong with a text that is no form.
+//! What is wrong with a text that is no form, and why a form can't have a value.
 
 ghost use Rattle.std.specs.Prelude.{◌≡◌};
 ghost use Rattle.spec_form.specs.Reading.{whole_fault};
 ghost use Rattle.spec_form.specs.declared.fault.FormFaultKind.TheVariants.{Memory};
+ghost use Rattle.spec_form.specs.declared.fault.ValueFault.TheVariants as values;
 
 use std::alloc::{AllocError, AllocFailed};
 
@@ -54,5 +55,24 @@ impl<T: Drop> From<AllocFailed<T>> for FormFaultKind {
 
     fn from(_error: AllocFailed<T>) -> Self {
         FormFaultKind::Memory
+    }
+}
+
+/// Why a form can't have a value in one of its fields.
+#[derive(Clone, Copy, Debug, PartialEq, Eq)]
+pub enum ValueFault {
+    /// The form has no single field of this name.
+    NoSingleField,
+    /// No single field may have this value: it isn't one line of UTF-8 that begins with no blank.
+    NotAValue,
+    /// There is no memory for the form.
+    Memory,
+}
+
+impl From<AllocError> for ValueFault {
+    ghost from_gives = { λ _ fault. fault ≡ values.Memory };
+
+    fn from(_error: AllocError) -> Self {
+        ValueFault::Memory
     }
 }

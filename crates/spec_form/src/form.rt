@@ -1,16 +1,15 @@
 //! Forms as values.
 
-ghost use Rattle.std.specs.Prelude.{◌≡◌, true, map, IfOk};
+ghost use Rattle.std.specs.Prelude.{◌≡◌, map, IfOk};
 ghost use Rattle.depot_path.specs.Answers.{Answers};
-ghost use Rattle.spec_form.specs.Shapes.{kind_of};
-ghost use Rattle.spec_form.specs.Form.{is_value as value_test, lines_in, lines_of, with_line, with_value};
+ghost use Rattle.spec_form.specs.Form.{has_single as single_test, is_value as value_test, lines_in, lines_of, with_line, with_value};
 ghost use Rattle.spec_form.specs.Reading.{form_of, no_memory};
 ghost use Rattle.spec_form.specs.Printing.{printed_form};
 
 use crate::cut::{cut_at, trim_start};
-use crate::fault::{FormFault, FormFaultKind};
+use crate::fault::{FormFault, FormFaultKind, ValueFault};
 use crate::print::print_fields;
-use crate::reader::{lacks_required, read_fields, value_lines};
+use crate::reader::{has_field, lacks_required, read_fields, value_lines};
 use crate::shape::{FieldKind, Shape};
 use depot_path::{Sequence, Text, is_utf8};
 use std::alloc::{AllocError, Global};
@@ -143,16 +142,31 @@ impl Form {
         lines_among(self.fields.as_slice(), field.as_bytes())
     }
 
-    /// The form with this line as the value of a single field, and all else as it was. Where the
-    /// form doesn't have the field it stays as it is; an empty line leaves the field without a value.
-    pub fn with(&self, alloc: Global, field: &str, line: &[u8]) -> Result<Self, AllocError>
-        requires single { kind_of self.now.shape field.now ≡ Some FieldKind.Single }
-        requires value { value_test line.now ≡ true }
-        ensures { IfOk result (λ form. form ≡ with_line field.now line.now self.now) }
+    /// Whether the form has a single field of this name.
+    fn has_single(&self, name: &[u8]) -> bool
+        ensures { result ≡ single_test name.now self.now }
     {
+        self.shape.kind(name) == Some(FieldKind::Single) && has_field(self.fields.as_slice(), name)
+    }
+
+    /// The form with this line as the value of a single field that it has, and all else as it was. An
+    /// empty line leaves the field without a value.
+    ///
+    /// It is refused first that the form has no single field of the name, then that the line is no value.
+    pub fn with(&self, alloc: Global, field: &str, line: &[u8]) -> Result<Self, ValueFault>
+        ensures { Answers ValueFault.Memory result (with_line field.now line.now self.now) }
+    {
+        let name = field.as_bytes();
+        if !self.has_single(name) {
+            return Err(ValueFault::NoSingleField);
+        }
+        if !is_value(line) {
+            return Err(ValueFault::NotAValue);
+        }
+        let fields = copy_fields(alloc, self.fields.as_slice(), name, line)?;
         Ok(Form {
             shape: self.shape,
-            fields: copy_fields(alloc, self.fields.as_slice(), field.as_bytes(), line)?,
+            fields,
         })
     }
 }

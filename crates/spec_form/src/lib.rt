@@ -12,7 +12,7 @@ mod shape;
 #[cfg(test)]
 mod tests;
 
-pub use fault::{FormFault, FormFaultKind};
+pub use fault::{FormFault, FormFaultKind, ValueFault};
 pub use form::{Field, Form, is_value};
 pub use place::{field_place, line_place};
 pub use shape::{FieldKind, Shape};

@@ -37,9 +37,11 @@ fn a_job_is_closed(rt: HostRuntime) -> Result<(), Fail> {
     let is_single = form.shape().kind(b"Status") == Some(FieldKind::Single);
     assert!(rt; is_single);
     assert!(rt; is_value(b"closed"));
-    let closed = form.with(alloc, "Status", b"closed")?.print(alloc)?;
+    let Ok(closed) = form.with(alloc, "Status", b"closed") else {
+        return Err(Fail::from("the job is closed"));
+    };
     assert_eq!(rt;
-        closed.as_bytes(),
+        closed.print(alloc)?.as_bytes(),
         b"Job:\tjob000001\n\nStatus:\tclosed\n\nUser:\tann\n\nDescription:\n\ta\n\tb\n\t\n\n".as_slice()
     );
     Ok(())
