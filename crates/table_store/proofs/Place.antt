@@ -1,5 +1,6 @@
 -- Where a binary search by a key ends in a page.
-use Rattle.std.proofs.Common.{◌≡◌, ◌↔◌, ℕ, zero, suc, ◌+◌, ◌-◌, ◌<◌, ◌≤◌, IsTrue, List, [], ◌∷◌, ◌++◌, length, take, drop, get_or, set, Some, None, Result, Ok, Err, MatchResult, refl, sym, ap, ◌∙◌, subst, arith, drop-cons, add-one}
+use Rattle.std.proofs.Common.{◌≡◌, ◌↔◌, ℕ, zero, suc, ◌+◌, ◌-◌, ◌<◌, ◌≤◌, Bool, true, false, IsTrue, List, [], ◌∷◌, ◌++◌, length, take, drop, get_or, set, Some, None, Result, Ok, Err, MatchResult, refl, sym, ap, ◌∙◌, subst, arith, drop-cons, add-one}
+use mathlib.Core.Bool.{false≢true}
 use Rattle.std.specs.List.{filter, remove, insert}
 use Rattle.db_records.specs.declared.change.Change.{Change}
 use Rattle.db_records.specs.declared.change.Op.{Op}
@@ -179,3 +180,11 @@ page_changed rows new change up made filled short = record {
   short = short;
   rising = subst IsRising (sym made) (changed_once_rises rows change up);
 }
+
+-- whether the rows after a change are a page's
+module _ (rows new : List Record) (change : Change) (made : new ≡ changed_once rows change) where
+  pub fits_page : 0 < length new → length new ≤ 64 → IsTrue true ↔ ((0 < length (changed_once rows change)) × (length (changed_once rows change) ≤ 64))
+  fits_page filled short = ((λ _. (subst (λ l. 0 < length l) made filled, subst (λ l. length l ≤ 64) made short)), (λ _. refl))
+
+  pub fits_no_page : (0 < length new → length new ≤ 64 → ⊥) → IsTrue false ↔ ((0 < length (changed_once rows change)) × (length (changed_once rows change) ≤ 64))
+  fits_no_page other = ((λ e. absurd (false≢true e)), (λ sizes. absurd (other (subst (λ l. 0 < length l) (sym made) sizes.0) (subst (λ l. length l ≤ 64) (sym made) sizes.1))))

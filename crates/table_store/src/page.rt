@@ -1,7 +1,8 @@
 //! Pages of rows.
 
-ghost use Rattle.std.specs.Prelude.{◌≡◌, ◌↔◌, ◌<◌, ◌≤◌, [], ◌∷◌, ◌++◌, IfOk, OnOk, OnErr, IsTrue, MatchResult, IsFalse, vec_len, length};
+ghost use Rattle.std.specs.Prelude.{◌≡◌, ◌↔◌, ◌<◌, ◌≤◌, ◌++◌, IfOk, OnOk, OnErr, IsTrue, MatchResult, IsFalse, vec_len, length};
 ghost use Rattle.std.specs.Option.{option_copied};
+ghost use Rattle.db_records.specs.declared.change.Op.TheVariants.{Put};
 ghost use Rattle.db_records.specs.Record.{key_of};
 ghost use Rattle.table_store.specs.Rows.{AllBelow, IsAt, IsGap, IsCut, IsPage, IsRising, first_order, row_at, rows_from, changed_once, left_by};
 ghost use Rattle.table_store.specs.SearchKey.{sought_key};
@@ -98,6 +99,7 @@ impl Page {
         ensures done { IfOk result (λ done. IsTrue done → self.new ≡ changed_once self.old change.now) }
         ensures left { IfOk result (λ done. IsFalse done → self.new ≡ self.old) }
         ensures err { OnErr result (self.new ≡ self.old) }
+        ensures exactly { IfOk result (λ done. IsTrue done ↔ ((0 < length (changed_once self.old change.now)) × (length (changed_once self.old change.now) ≤ 64))) }
         ensures filled { 0 < length self.new }
     {
         match self.place_of(&change.row) {
@@ -108,7 +110,7 @@ impl Page {
 
     /// Whether the page is full, and a change puts a row behind all of its rows.
     pub(crate) fn ends_before(&self, change: &Change) -> bool
-        ensures { IsTrue result → changed_once self.now change.now ≡ self.now ++ change.now.row ∷ [] }
+        ensures { IsTrue result ↔ ((change.now.op ≡ Put) × (length self.now ≡ 64) × AllBelow (key_of change.now.row) self.now) }
     {
         if change.op != Op::Put {
             return false;
@@ -174,6 +176,7 @@ fn change_row(rows: &mut Vec<Record>, at: usize, change: &Change) -> Result<bool
     requires page { IsPage rows.old.items }
     ensures done { IfOk result (λ done. IsTrue done → rows.new.items ≡ changed_once rows.old.items change.now) }
     ensures left { IfOk result (λ done. IsFalse done → rows.new.items ≡ rows.old.items) }
+    ensures exactly { IfOk result (λ done. IsTrue done ↔ ((0 < length (changed_once rows.old.items change.now)) × (length (changed_once rows.old.items change.now) ≤ 64))) }
     ensures err { OnErr result (rows.new.items ≡ rows.old.items) }
     ensures page { IsPage rows.new.items }
 {
@@ -194,6 +197,7 @@ fn add_row(rows: &mut Vec<Record>, at: usize, change: &Change) -> Result<bool, A
     requires page { IsPage rows.old.items }
     ensures done { IfOk result (λ done. IsTrue done → rows.new.items ≡ changed_once rows.old.items change.now) }
     ensures left { IfOk result (λ done. IsFalse done → rows.new.items ≡ rows.old.items) }
+    ensures exactly { IfOk result (λ done. IsTrue done ↔ ((0 < length (changed_once rows.old.items change.now)) × (length (changed_once rows.old.items change.now) ≤ 64))) }
     ensures err { OnErr result (rows.new.items ≡ rows.old.items) }
     ensures page { IsPage rows.new.items }
 {
