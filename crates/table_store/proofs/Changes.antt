@@ -1,5 +1,5 @@
 -- Changes, one after another.
-use Rattle.std.proofs.Common.{◌≡◌, ℕ, ◌+◌, ◌<◌, Bool, true, false, cond, List, [], ◌∷◌, ◌++◌, length, take, drop, get_or, Result, Ok, Err, OnOk, OnErr, refl, sym, ap, ◌∙◌, subst}
+use Rattle.std.proofs.Common.{◌≡◌, ◌↔◌, ℕ, ◌+◌, ◌<◌, Bool, true, false, IsTrue, cond, Option, Some, None, IsSome, List, [], ◌∷◌, ◌++◌, length, take, drop, get_or, Result, Ok, Err, OnOk, OnErr, refl, sym, ap, ◌∙◌, subst}
 use Rattle.std.specs.List.{filter}
 use Rattle.std.proofs.lemmas.List.{take_more, drop_more}
 use Rattle.db_records.specs.declared.table.TableId.{TableId}
@@ -8,7 +8,7 @@ use Rattle.db_records.specs.declared.change.Change.{Change}
 use Rattle.db_records.specs.declared.change.Op.{Op}
 use Rattle.db_records.specs.declared.change.Op.TheVariants.{Put, Replace, Remove}
 use Rattle.db_records.specs.Record.{key_of, table_of}
-use Rattle.table_store.specs.Rows.{TableRows, is_below, is_above, AllOfTable, AllFit, Fits, with_rows, left_by, changed_once, changed}
+use Rattle.table_store.specs.Rows.{TableRows, is_below, is_above, AllOfTable, AllFit, Fits, FitsAt, with_rows, left_by, changed_once, changed}
 
 changed-append : (rows : List Record) (changes : List Change) (change : Change) → changed rows (changes ++ change ∷ []) ≡ changed_once (changed rows changes) change
 changed-append rows [] change = refl
@@ -47,3 +47,19 @@ module _ (changes : List Change) (i : ℕ) (change : Change) (h : i < length cha
 
   pub fit_more : (version : TableRows) → AllFit version (drop i changes) → Fits version change × AllFit (with_rows version (changed_once version.rows change)) (drop (i + 1) changes)
   fit_more version all = subst (AllFit version) (drop_more changes i change h ∙ ap (λ c. c ∷ drop (i + 1) changes) (sym is)) all
+
+replace_not_put : Replace ≡ Put → ⊥
+replace_not_put e = cc
+
+remove_not_put : Remove ≡ Put → ⊥
+remove_not_put e = cc
+
+not_some : (there : Option Record) → there ≡ None → IsSome there → ⊥
+not_some None none some = cc
+not_some (Some row) none some = cc
+
+-- a change at a key where no row is fits exactly if it is a Put
+pub fits_where_none : (op : Op) (row : Record) (there : Option Record) (r : Bool) → there ≡ None → (r ≡ true → op ≡ Put) → (op ≡ Put → r ≡ true) → IsTrue r ↔ FitsAt op row there
+fits_where_none Put row there r none p q = ((λ t. none), (λ f. q refl))
+fits_where_none Replace row there r none p q = ((λ t. absurd (replace_not_put (p t))), (λ f. absurd (not_some there none f)))
+fits_where_none Remove row there r none p q = ((λ t. absurd (remove_not_put (p t))), (λ f. cc))

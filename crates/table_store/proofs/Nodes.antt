@@ -1,13 +1,13 @@
 -- Branch of rows, one after another.
-use Rattle.std.proofs.Common.{◌≡◌, ℕ, zero, suc, ◌+◌, ◌-◌, ◌<◌, ◌≤◌, Bool, true, false, List, [], ◌∷◌, ◌++◌, length, take, drop, get_or, set, None, Result, Ok, Err, OnOk, OnErr, refl, sym, ap, ◌∙◌, subst, inl, inr, arith, add-one}
+use Rattle.std.proofs.Common.{◌≡◌, ℕ, zero, suc, ◌+◌, ◌-◌, ◌<◌, ◌≤◌, Bool, true, false, List, [], ◌∷◌, ◌++◌, length, take, drop, get_or, set, IsTrue, IsFalse, None, Result, Ok, Err, IfOk, OnOk, OnErr, refl, sym, ap, ◌∙◌, subst, inl, inr, arith, add-one}
 use mathlib.Core.Bool.{false≢true}
 use Rattle.std.specs.List.Sorted.{IsPartitionedBy, IsPartitionPoint}
 use Rattle.std.specs.Ordering.{is_le}
-use Rattle.std.specs.Arc.{arc_value}
+use Rattle.std.specs.Arc.{arc_value, arc_with_value}
 use Rattle.std.specs.declared.sync.Arc.{Arc}
 use Rattle.std.specs.declared.cmp.Ordering.{Ordering}
 use Rattle.std.specs.declared.cmp.Ordering.TheVariants.{Less, Equal, Greater}
-use Rattle.std.proofs.lemmas.List.{append_assoc, take-append-drop, get_or-drop, length-drop, length-take, length-append, take_more, set_split}
+use Rattle.std.proofs.lemmas.List.{append_assoc, append-nil, take-append-drop, drop_all, get_or-drop, length-drop, length-take, length-append, take_more, set_split}
 use Rattle.std.specs.List.{remove, insert}
 use Rattle.std.proofs.lemmas.Bool.{cases_lt}
 use Rattle.db_records.specs.declared.change.Change.{Change}
@@ -17,8 +17,8 @@ use Rattle.db_records.specs.Key.{key_cmp}
 use Rattle.db_records.specs.KeyLaws.{keys_total}
 use Rattle.db_records.specs.Record.{key_of}
 use Rattle.table_store.specs.Rows.{AllBelow, AllAbove, IsRising, IsPage, first_order, row_at, rows_from, changed_once}
-use Rattle.table_store.specs.Nodes.{rows_of, AllFilled, AreNodes, IsNodeCount, ReplacesNode}
-use Rattle.table_store.proofs.Order.{turned_greater, below_tied, AllAbove-lower, AllAbove-right, AllBelow-higher, AllBelow-tied, before_row, IsRising-left, IsRising-right, changed_once_rises, row_at-above, rows_from-above, row_at-middle, rows_from-middle, changed_once-middle}
+use Rattle.table_store.specs.Nodes.{rows_of, AllFilled, AreNodes, IsNodeCount, ReplacesNode, ChangesNode}
+use Rattle.table_store.proofs.Order.{turned_greater, below_tied, AllAbove-lower, AllAbove-right, AllBelow-left, AllBelow-right, below_by_last, AllBelow-higher, AllBelow-tied, before_row, IsRising-left, IsRising-right, changed_once_rises, row_at-above, rows_from-above, row_at-middle, rows_from-middle, changed_once-middle}
 use Rattle.table_store.proofs.Place.{around, some_row}
 
 -- ---- the first row of a page
@@ -62,6 +62,16 @@ set_insert : {X : Type 0} (xs : List X) (i : ℕ) (x y : X) → i < length xs �
 set_insert [] i x y h = absurd (omega arith)
 set_insert (z ∷ zs) zero x y h = refl
 set_insert (z ∷ zs) (suc i) x y h = ap (λ l. z ∷ l) (set_insert zs i x y (omega arith))
+
+-- an item of a list, whatever would stand past its end
+pub same_item : {X : Type 0} (xs : List X) (i : ℕ) (d e : X) → i < length xs → get_or xs i d ≡ get_or xs i e
+same_item [] i d e h = absurd (omega arith)
+same_item (x ∷ xs) zero d e h = refl
+same_item (x ∷ xs) (suc i) d e h = same_item xs i d e (omega arith)
+
+no_rows : (rows : List Record) → length rows ≡ 0 → rows ≡ []
+no_rows [] h = refl
+no_rows (row ∷ rows) h = absurd (omega arith)
 
 -- the two parts of the rows of a page that is cut
 pub page_lower : (n : ℕ) (rows part : List Record) → part ≡ take n rows → 0 < n → n ≤ 64 → n < length rows → IsRising rows → IsPage part
@@ -232,19 +242,104 @@ module _ {Z : Type 0} where
       filled = λ all. AllFilled-append (take i xs) (x ∷ (y ∷ drop (suc i) xs)) (AllFilled-take i xs all) (subst (λ l. 0 < length l) (sym p) low, (subst (λ l. 0 < length l) (sym q) high, AllFilled-drop (suc i) xs all));
     }
 
+  -- a page whose rows change in place
+  pub changed_in_place : (xs : List (Arc (List Record) Z)) (i : ℕ) (x : Arc (List Record) Z) (change : Change) → i < length xs → ((d : Arc (List Record) Z) → arc_value x ≡ changed_once (arc_value (get_or xs i d)) change) → ((d : Arc (List Record) Z) → 0 < length (arc_value (get_or xs i d)) → 0 < length (arc_value x)) → ChangesNode xs i change (set xs i x)
+  changed_in_place xs i x change h made filled = record {
+    replaces = λ d. rw (set_split xs i x h, ← made d) record {
+      same_rows = rows_of-append (take i xs) (x ∷ drop (suc i) xs) ∙ ap (λ k. rows_of (take i xs) ++ (arc_value x ++ rows_of (drop k xs))) (sym (add-one i));
+      filled = λ p. AllFilled-append (take i xs) (x ∷ drop (suc i) xs) (AllFilled-take i xs p) (filled d (AllFilled-at xs i d h p), AllFilled-drop (suc i) xs p);
+    };
+  }
+
+  remove_set : (xs : List (Arc (List Record) Z)) (i : ℕ) (x : Arc (List Record) Z) → remove (set xs i x) i ≡ remove xs i
+  remove_set [] i x = refl
+  remove_set (y ∷ ys) zero x = refl
+  remove_set (y ∷ ys) (suc i) x = ap (λ l. y ∷ l) (remove_set ys i x)
+
+  -- a page that has no rows after a change
+  pub changed_to_none : (xs : List (Arc (List Record) Z)) (i : ℕ) (x : Arc (List Record) Z) (change : Change) → i < length xs → ((d : Arc (List Record) Z) → arc_value x ≡ changed_once (arc_value (get_or xs i d)) change) → length (arc_value x) ≡ 0 → ChangesNode xs i change (remove (set xs i x) i)
+  changed_to_none xs i x change h made none = record {
+    replaces = λ d. rw (remove_set xs i x, ← made d) (replaced_none xs i h (arc_value x) (no_rows (arc_value x) none));
+  }
+
+  -- a page of one row behind the last one
+  pub changed_behind : (xs ys : List (Arc (List Record) Z)) (i : ℕ) (change : Change) → i + 1 ≡ length xs → ((d : Arc (List Record) Z) → changed_once (arc_value (get_or xs i d)) change ≡ arc_value (get_or xs i d) ++ change.row ∷ []) → rows_of ys ≡ rows_of xs ++ change.row ∷ [] → (AllFilled xs → AllFilled ys) → ChangesNode xs i change ys
+  changed_behind xs ys i change h made same filled = record {
+    replaces = λ d. record {
+      same_rows =
+          same
+          ∙ ap (λ l. l ++ change.row ∷ []) (rows_of-around xs i d (omega arith))
+          ∙ rw (made d, drop_all (i + 1) xs (omega arith)) (simp (append_assoc, append-nil));
+      filled = filled;
+    };
+  }
+
+  -- ---- a page that isn't shared
+
+  pub left_alone : {E : Type 0} (x : Arc (List Record) Z) (r : Result Bool E) (old new : List Record) → old ≡ arc_value x → IfOk r (λ done. IsFalse done → new ≡ old) → IfOk r (λ done. IsFalse done → arc_with_value x new ≡ x)
+  left_alone x (Ok done) old new e same = λ no. ap (arc_with_value x) (same no ∙ e)
+  left_alone x (Err f) old new e same = tt
+
+  pub err_alone : {A E : Type 0} (x : Arc (List Record) Z) (r : Result A E) (old new : List Record) → old ≡ arc_value x → OnErr r (new ≡ old) → OnErr r (arc_with_value x new ≡ x)
+  err_alone x (Ok a) old new e same = tt
+  err_alone x (Err f) old new e same = ap (arc_with_value x) (same ∙ e)
+
+  pub made_alone : (xs : List (Arc (List Record) Z)) (i : ℕ) (old new : Arc (List Record) Z) (change : Change) → i < length xs → old ≡ get_or xs i old → arc_value new ≡ changed_once (arc_value old) change → (d : Arc (List Record) Z) → arc_value new ≡ changed_once (arc_value (get_or xs i d)) change
+  made_alone xs i old new change h is made d = made ∙ ap (λ x. changed_once (arc_value x) change) (is ∙ same_item xs i old d h)
+
+  pub done_alone : {E : Type 0} (xs : List (Arc (List Record) Z)) (i : ℕ) (old new : Arc (List Record) Z) (change : Change) (r : Result Bool E) → i < length xs → old ≡ get_or xs i old → IfOk r (λ done. IsTrue done → arc_value new ≡ changed_once (arc_value old) change) → (0 < length (arc_value old) → 0 < length (arc_value new)) → IfOk r (λ done. IsTrue done → ChangesNode xs i change (set xs i new))
+  done_alone xs i old new change (Ok done) h is made filled = λ yes.
+      changed_in_place xs i new change h
+      (made_alone xs i old new change h is (made yes))
+      (λ d p. filled (subst (λ x. 0 < length (arc_value x)) (same_item xs i d old h ∙ sym is) p))
+  done_alone xs i old new change (Err f) h is made filled = tt
+
+  pub rows_of_push : (xs : List (Arc (List Record) Z)) (x : Arc (List Record) Z) (row : Record) → arc_value x ≡ row ∷ [] → rows_of (xs ++ x ∷ []) ≡ rows_of xs ++ row ∷ []
+  rows_of_push xs x row e = rows_of-append xs (x ∷ []) ∙ ap (λ l. rows_of xs ++ (l ++ [])) e
+
+  pub filled_push : (xs : List (Arc (List Record) Z)) (x : Arc (List Record) Z) (row : Record) → arc_value x ≡ row ∷ [] → AllFilled xs → AllFilled (xs ++ x ∷ [])
+  filled_push xs x row e p = AllFilled-append xs (x ∷ []) p (subst (λ l. 0 < length l) (sym e) (omega arith), tt)
+
+  pub behind_ok : {A E : Type 0} (xs zs ys : List (Arc (List Record) Z)) (i : ℕ) (change : Change) (r : Result A E) → zs ≡ xs → i + 1 ≡ length xs → ((d : Arc (List Record) Z) → changed_once (arc_value (get_or xs i d)) change ≡ arc_value (get_or xs i d) ++ change.row ∷ []) → OnOk r (rows_of ys ≡ rows_of zs ++ change.row ∷ []) → (AllFilled zs → AllFilled ys) → OnOk r (ChangesNode xs i change ys)
+  behind_ok xs zs ys i change (Ok a) same h made ok filled = changed_behind xs ys i change h made (ok ∙ ap (λ l. rows_of l ++ change.row ∷ []) same) (λ p. filled (subst AllFilled (sym same) p))
+  behind_ok xs zs ys i change (Err e) same h made ok filled = tt
+
   -- ---- a change
 
-  module _ (change : Change) (xs ys : List (Arc (List Record) Z)) (n at : ℕ) (d : Arc (List Record) Z) (rows : List Record) (count : IsNodeCount (key_of change.row) xs n) (last : at ≡ n - 1) (h : 0 < length xs) (made : rows ≡ changed_once (arc_value (get_or xs at d)) change) (shelf : AreNodes xs) where
-    changed_rows_of : ReplacesNode xs at rows ys → rows_of ys ≡ changed_once (rows_of xs) change
-    changed_rows_of replaced = replaced.same_rows ∙ ap (λ l. rows_of (take at xs) ++ (l ++ rows_of (drop (at + 1) xs))) made ∙ sym (changed_once-page change xs n at d count last h)
+  module _ (change : Change) (xs ys : List (Arc (List Record) Z)) (n at : ℕ) (count : IsNodeCount (key_of change.row) xs n) (last : at ≡ n - 1) (h : 0 < length xs) (shelf : AreNodes xs) where
+    changed_rows_of : ChangesNode xs at change ys → rows_of ys ≡ changed_once (rows_of xs) change
+    changed_rows_of changes = let d = some_row xs 0 h in (changes.replaces d).same_rows ∙ sym (changed_once-page change xs n at d count last h)
 
-    pub changed_nodes : {A E : Type 0} (r : Result A E) → OnOk r (ReplacesNode xs at rows ys) → OnErr r (ys ≡ xs) → AreNodes ys
-    changed_nodes (Ok a) ok err = record { filled = ok.filled shelf.filled; rising = subst IsRising (sym (changed_rows_of ok)) (changed_once_rises (rows_of xs) change shelf.rising) }
+    pub changed_nodes : {A E : Type 0} (r : Result A E) → OnOk r (ChangesNode xs at change ys) → OnErr r (ys ≡ xs) → AreNodes ys
+    changed_nodes (Ok a) ok err = record { filled = (ok.replaces (some_row xs 0 h)).filled shelf.filled; rising = subst IsRising (sym (changed_rows_of ok)) (changed_once_rises (rows_of xs) change shelf.rising) }
     changed_nodes (Err e) ok err = subst AreNodes (sym err) shelf
 
-    pub changed_ok : {A E : Type 0} (r : Result A E) → OnOk r (ReplacesNode xs at rows ys) → OnOk r (rows_of ys ≡ changed_once (rows_of xs) change)
+    pub changed_ok : {A E : Type 0} (r : Result A E) → OnOk r (ChangesNode xs at change ys) → OnOk r (rows_of ys ≡ changed_once (rows_of xs) change)
     changed_ok (Ok a) ok = changed_rows_of ok
     changed_ok (Err e) ok = tt
+
+  -- ---- rows below a key
+
+  pub below_to_last : (key : Key) (xs : List (Arc (List Record) Z)) (d : Arc (List Record) Z) → 0 < length xs → AllBelow key (rows_of xs) → AllBelow key (arc_value (get_or xs (length xs - 1) d))
+  below_to_last key xs d h low =
+      let last = get_or xs (length xs - 1) d in
+      let front = rows_of (take (length xs - 1) xs) in
+      let behind = rows_of (drop (length xs - 1 + 1) xs) in
+      AllBelow-left key (arc_value last) behind (AllBelow-right key front (arc_value last ++ behind) (subst (AllBelow key) (rows_of-around xs (length xs - 1) d (omega arith)) low))
+
+  pub below_from_last : (key : Key) (xs : List (Arc (List Record) Z)) (d : Arc (List Record) Z) → 0 < length xs → AreNodes xs → AllBelow key (arc_value (get_or xs (length xs - 1) d)) → AllBelow key (rows_of xs)
+  below_from_last key xs d h nodes low =
+      let last = get_or xs (length xs - 1) d in
+      let front = rows_of (take (length xs - 1) xs) in
+      let split : rows_of xs ≡ front ++ arc_value last = rows_of-around xs (length xs - 1) d (omega arith) ∙ rw (drop_all (length xs - 1 + 1) xs (omega arith), append-nil) refl in
+      subst (AllBelow key) (sym split) (below_by_last key front (arc_value last) (AllFilled-at xs (length xs - 1) d (omega arith) nodes.filled) (subst IsRising split nodes.rising) low)
+
+  pub count_all : (key : Key) (xs : List (Arc (List Record) Z)) → AllBelow key (rows_of xs) → IsNodeCount key xs (length xs)
+  count_all key xs low = record {
+    in_range = omega arith;
+    below = AllBelow-left key (rows_of (take (length xs - 1) xs)) (rows_of (drop (length xs - 1) xs)) (subst (AllBelow key) (ap rows_of (sym (take-append-drop (length xs - 1) xs)) ∙ rows_of-append (take (length xs - 1) xs) (drop (length xs - 1) xs)) low);
+    above = rw (drop_all (length xs) xs (omega arith)) tt;
+  }
 
   -- ---- shelves of pages
 

@@ -1,5 +1,5 @@
 -- Lists of rows in key order: their parts below, at and above a key.
-use Rattle.std.proofs.Common.{◌≡◌, Bool, true, false, not, cond, List, [], ◌∷◌, ◌++◌, Some, None, refl, sym, ap, ◌∙◌}
+use Rattle.std.proofs.Common.{◌≡◌, ◌<◌, Bool, true, false, not, cond, List, [], ◌∷◌, ◌++◌, length, Some, None, refl, sym, ap, ◌∙◌, arith}
 use Rattle.std.specs.List.{filter}
 use Rattle.std.specs.Ordering.{is_lt, is_gt, ordering_reverse}
 use Rattle.std.specs.declared.cmp.Ordering.{Ordering}
@@ -61,6 +61,14 @@ pub AllAbove-right : (k : Key) (xs ys : List Record) → AllAbove k (xs ++ ys) �
 AllAbove-right k [] ys all = all
 AllAbove-right k (x ∷ xs) ys all = AllAbove-right k xs ys all.1
 
+pub AllBelow-left : (k : Key) (xs ys : List Record) → AllBelow k (xs ++ ys) → AllBelow k xs
+AllBelow-left k [] ys all = tt
+AllBelow-left k (x ∷ xs) ys all = (all.0, AllBelow-left k xs ys all.1)
+
+pub AllBelow-right : (k : Key) (xs ys : List Record) → AllBelow k (xs ++ ys) → AllBelow k ys
+AllBelow-right k [] ys all = all
+AllBelow-right k (x ∷ xs) ys all = AllBelow-right k xs ys all.1
+
 pub AllAbove-append : (k : Key) (xs ys : List Record) → AllAbove k xs → AllAbove k ys → AllAbove k (xs ++ ys)
 AllAbove-append k [] ys p q = q
 AllAbove-append k (x ∷ xs) ys p q = (p.0, AllAbove-append k xs ys p.1 q)
@@ -83,6 +91,11 @@ IsRising-left (x ∷ xs) ys up = (AllAbove-left _ xs ys up.0, IsRising-left xs y
 pub before_row : (xs : List Record) (y : Record) (ys : List Record) → IsRising (xs ++ y ∷ ys) → AllBelow (key_of y) xs
 before_row [] y ys up = tt
 before_row (x ∷ xs) y ys up = (turned_greater (key_of y) (key_of x) (AllAbove-right _ xs (y ∷ ys) up.0).0, before_row xs y ys up.1)
+
+-- rows that rise are below a key where the last of them are
+pub below_by_last : (k : Key) (xs ys : List Record) → 0 < length ys → IsRising (xs ++ ys) → AllBelow k ys → AllBelow k (xs ++ ys)
+below_by_last k xs [] h up low = absurd (omega arith)
+below_by_last k xs (y ∷ ys) h up low = AllBelow-append k xs (y ∷ ys) (AllBelow-higher (key_of y) k xs low.0 (before_row xs y ys up)) low
 
 -- two rising lists, joined at a key
 pub IsRising-join : (k : Key) (xs ys : List Record) → IsRising xs → IsRising ys → AllBelow k xs → AllAbove k ys → IsRising (xs ++ ys)
@@ -122,6 +135,10 @@ from_skip k (x ∷ xs) ys low = rw low.0 (from_skip k xs ys low.1)
 from_all : (k : Key) (ys : List Record) → AllAbove k ys → rows_from k ys ≡ ys
 from_all k [] high = refl
 from_all k (y ∷ ys) high = rw high.0 (ap (λ l. y ∷ l) (from_all k ys high.1))
+
+pub row_at-below : (k : Key) (xs : List Record) → AllBelow k xs → row_at k xs ≡ None
+row_at-below k [] low = refl
+row_at-below k (x ∷ xs) low = rw low.0 (row_at-below k xs low.1)
 
 -- ---- a list with a gap for the key
 

@@ -1,19 +1,22 @@
 -- Where a binary search by a key ends in a page.
-use Rattle.std.proofs.Common.{◌≡◌, ℕ, zero, suc, ◌+◌, ◌<◌, ◌≤◌, List, [], ◌∷◌, ◌++◌, length, take, drop, get_or, Some, None, Result, Ok, Err, MatchResult, sym, ap, ◌∙◌, subst, arith, drop-cons, add-one}
-use Rattle.std.specs.List.{filter}
+use Rattle.std.proofs.Common.{◌≡◌, ◌↔◌, ℕ, zero, suc, ◌+◌, ◌-◌, ◌<◌, ◌≤◌, Bool, true, false, IsTrue, List, [], ◌∷◌, ◌++◌, length, take, drop, get_or, set, Some, None, Result, Ok, Err, MatchResult, refl, sym, ap, ◌∙◌, subst, arith, drop-cons, add-one}
+use mathlib.Core.Bool.{false≢true}
+use Rattle.std.specs.List.{filter, remove, insert}
 use Rattle.db_records.specs.declared.change.Change.{Change}
+use Rattle.db_records.specs.declared.change.Op.{Op}
+use Rattle.db_records.specs.declared.change.Op.TheVariants.{Put, Replace, Remove}
 use Rattle.std.specs.List.Sorted.{IsSearchInRange, IsBinarySearchResult, IsNonDecreasingBy}
 use Rattle.std.specs.Ordering.{ordering_index, is_lt}
 use Rattle.std.proofs.lemmas.List.Sorted.{searchable_from_sorted}
 use Rattle.std.specs.declared.cmp.Ordering.TheVariants.{Less, Equal, Greater}
-use Rattle.std.proofs.lemmas.List.{take-append-drop, get_or-drop, length-drop, append_assoc}
+use Rattle.std.proofs.lemmas.List.{take-append-drop, take_all, drop_all, get_or-drop, length-drop, append_assoc, set_split}
 use Rattle.db_records.specs.declared.key.Key.{Key}
 use Rattle.db_records.specs.declared.record.Record.{Record}
 use Rattle.db_records.specs.Key.{key_cmp}
 use Rattle.db_records.specs.KeyLaws.{keys_total}
 use Rattle.db_records.specs.Record.{key_of}
-use Rattle.table_store.specs.Rows.{is_below, is_above, AllBelow, AllAbove, IsRising, IsAt, IsGap, IsCut, row_at, rows_from, left_by, changed_once}
-use Rattle.table_store.proofs.Order.{AllAbove-tied, AllBelow-tied, before_row, IsRising-right, row_at-here, row_at-gap, rows_from-here, rows_from-gap, below-here, above-here, below-gap, above-gap}
+use Rattle.table_store.specs.Rows.{is_below, is_above, AllBelow, AllAbove, IsRising, IsPage, IsAt, IsGap, IsCut, row_at, rows_from, left_by, changed_once}
+use Rattle.table_store.proofs.Order.{AllBelow-right, below_by_last, lt_less, changed_once_rises, AllAbove-tied, AllBelow-tied, before_row, IsRising-right, row_at-here, row_at-gap, rows_from-here, rows_from-gap, below-here, above-here, below-gap, above-gap}
 
 -- an item of a list that has some
 pub some_row : {X : Type 0} (rows : List X) (at : ℕ) → at < length rows → X
@@ -110,3 +113,78 @@ cut-absent key rows at gap =
 -- the rows that are put together from a cut
 pub changed_at : (rows : List Record) (change : Change) (before after : ℕ) → IsCut (key_of change.row) rows before after → take before rows ++ left_by change.op change.row ++ drop after rows ≡ changed_once rows change
 changed_at rows change before after is_cut = rw (is_cut.below, is_cut.above) (append_assoc (take before rows) (left_by change.op change.row) (drop after rows))
+
+-- ---- the last row
+
+-- rows that rise are below a key exactly where the last one is
+pub below_where_last_is : (key : Key) (rows : List Record) (last : Record) → 0 < length rows → last ≡ get_or rows (length rows - 1) last → IsRising rows → IsTrue (is_lt (key_cmp (key_of last) key)) ↔ AllBelow key rows
+below_where_last_is key rows last h is up =
+    let front = take (length rows - 1) rows in
+    let split : rows ≡ front ++ last ∷ [] = around rows (length rows - 1) last (omega arith) ∙ rw (← is, drop_all (length rows - 1 + 1) rows (omega arith)) refl in
+    ((λ low. subst (AllBelow key) (sym split) (below_by_last key front (last ∷ []) (omega arith) (subst IsRising split up) (lt_less _ low, tt))), (λ low. ap is_lt (AllBelow-right key front (last ∷ []) (subst (AllBelow key) split low)).0))
+
+pub gap_at_end : (key : Key) (rows : List Record) → AllBelow key rows → IsGap key rows (length rows)
+gap_at_end key rows low = record {
+  in_range = omega arith;
+  below = rw (take_all (length rows) rows (omega arith)) low;
+  above = rw (drop_all (length rows) rows (omega arith)) tt;
+}
+
+-- ---- a change at a place of a page
+
+left_of_kept : (op : Op) (row : Record) → (op ≡ Remove → ⊥) → left_by op row ≡ row ∷ []
+left_of_kept Put row other = refl
+left_of_kept Replace row other = refl
+left_of_kept Remove row other = absurd (other refl)
+
+module _ (rows : List Record) (change : Change) (at : ℕ) where
+  after_found : IsAt (key_of change.row) rows at → take at rows ++ (left_by change.op change.row ++ drop (suc at) rows) ≡ changed_once rows change
+  after_found found =
+      sym (append_assoc (take at rows) (left_by change.op change.row) (drop (suc at) rows))
+      ∙ ap (λ k. take at rows ++ left_by change.op change.row ++ drop k rows) (sym (add-one at))
+      ∙ changed_at rows change at (at + 1) (cut-found (key_of change.row) rows at found)
+
+  after_gap : IsGap (key_of change.row) rows at → take at rows ++ (left_by change.op change.row ++ drop at rows) ≡ changed_once rows change
+  after_gap gap =
+      sym (append_assoc (take at rows) (left_by change.op change.row) (drop at rows))
+      ∙ changed_at rows change at at (cut-absent (key_of change.row) rows at gap)
+
+  pub row_replaced : IsAt (key_of change.row) rows at → (change.op ≡ Remove → ⊥) → set rows at change.row ≡ changed_once rows change
+  row_replaced found other =
+      set_split rows at change.row found.in_range
+      ∙ ap (λ l. take at rows ++ (l ++ drop (suc at) rows)) (sym (left_of_kept change.op change.row other))
+      ∙ after_found found
+
+  pub row_removed : IsAt (key_of change.row) rows at → change.op ≡ Remove → remove rows at ≡ changed_once rows change
+  row_removed found is = ap (λ op. take at rows ++ (left_by op change.row ++ drop (suc at) rows)) (sym is) ∙ after_found found
+
+  pub row_added : IsGap (key_of change.row) rows at → (change.op ≡ Remove → ⊥) → insert rows at change.row ≡ changed_once rows change
+  row_added gap other = ap (λ l. take at rows ++ (l ++ drop at rows)) (sym (left_of_kept change.op change.row other)) ∙ after_gap gap
+
+  pub row_absent : IsGap (key_of change.row) rows at → change.op ≡ Remove → rows ≡ changed_once rows change
+  row_absent gap is = sym (take-append-drop at rows) ∙ ap (λ op. take at rows ++ (left_by op change.row ++ drop at rows)) (sym is) ∙ after_gap gap
+
+put_not_remove : (op : Op) → op ≡ Put → op ≡ Remove → ⊥
+put_not_remove Put is other = cc
+put_not_remove Replace is other = cc
+put_not_remove Remove is other = cc
+
+pub row_behind : (rows : List Record) (change : Change) → AllBelow (key_of change.row) rows → change.op ≡ Put → changed_once rows change ≡ rows ++ change.row ∷ []
+row_behind rows change low is =
+    sym (row_added rows change (length rows) (gap_at_end (key_of change.row) rows low) (put_not_remove change.op is))
+    ∙ rw (take_all (length rows) rows (omega arith), drop_all (length rows) rows (omega arith)) refl
+
+pub page_changed : (rows new : List Record) (change : Change) → IsRising rows → new ≡ changed_once rows change → 0 < length new → length new ≤ 64 → IsPage new
+page_changed rows new change up made filled short = record {
+  filled = filled;
+  short = short;
+  rising = subst IsRising (sym made) (changed_once_rises rows change up);
+}
+
+-- whether the rows after a change are a page's
+module _ (rows new : List Record) (change : Change) (made : new ≡ changed_once rows change) where
+  pub fits_page : 0 < length new → length new ≤ 64 → IsTrue true ↔ ((0 < length (changed_once rows change)) × (length (changed_once rows change) ≤ 64))
+  fits_page filled short = ((λ _. (subst (λ l. 0 < length l) made filled, subst (λ l. length l ≤ 64) made short)), (λ _. refl))
+
+  pub fits_no_page : (0 < length new → length new ≤ 64 → ⊥) → IsTrue false ↔ ((0 < length (changed_once rows change)) × (length (changed_once rows change) ≤ 64))
+  fits_no_page other = ((λ e. absurd (false≢true e)), (λ sizes. absurd (other (subst (λ l. 0 < length l) (sym made) sizes.0) (subst (λ l. length l ≤ 64) (sym made) sizes.1))))

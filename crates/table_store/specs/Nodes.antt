@@ -1,10 +1,11 @@
 -- Branch of rows, each shared by an `Arc`.
-use Rattle.std.specs.Prelude.{◌≡◌, ℕ, ◌+◌, ◌-◌, ◌<◌, ◌≤◌, List, [], ◌∷◌, ◌++◌, length, take, drop}
+use Rattle.std.specs.Prelude.{◌≡◌, ℕ, ◌+◌, ◌-◌, ◌<◌, ◌≤◌, List, [], ◌∷◌, ◌++◌, length, take, drop, slice_index_or}
 use Rattle.std.specs.Arc.{arc_value}
 use Rattle.std.specs.declared.sync.Arc.{Arc}
 use Rattle.db_records.specs.declared.key.Key.{Key}
 use Rattle.db_records.specs.declared.record.Record.{Record}
-use Rattle.table_store.specs.Rows.{AllBelow, AllAbove, IsRising}
+use Rattle.db_records.specs.declared.change.Change.{Change}
+use Rattle.table_store.specs.Rows.{AllBelow, AllAbove, IsRising, changed_once}
 
 module _ {Z : Type 0} where
   -- the rows of the pages, one page after another
@@ -31,3 +32,7 @@ module _ {Z : Type 0} where
   pub record ReplacesNode (old : List (Arc (List Record) Z)) (i : ℕ) (rows : List Record) (new : List (Arc (List Record) Z)) : Type 0 where
     pub same_rows : rows_of new ≡ rows_of (take i old) ++ (rows ++ rows_of (drop (i + 1) old))
     pub filled : AllFilled old → AllFilled new
+
+  -- the page at place i has its rows after a change
+  pub record ChangesNode (old : List (Arc (List Record) Z)) (i : ℕ) (change : Change) (new : List (Arc (List Record) Z)) : Type 0 where
+    pub replaces : (d : Arc (List Record) Z) → ReplacesNode old i (changed_once (arc_value (slice_index_or old i d)) change) new

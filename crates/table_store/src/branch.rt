@@ -1,10 +1,12 @@
 //! Branches: pages, one after another.
 
-ghost use Rattle.std.specs.Prelude.{◌≡◌, ◌≤◌, ◌<◌, ◌++◌, ◌==◌, [], IfOk, OnOk, OnErr, length, vec_len};
+ghost use Rattle.std.specs.Prelude.{◌≡◌, ◌↔◌, ◌≤◌, ◌<◌, ◌++◌, ◌==◌, [], ◌∷◌, IfOk, OnOk, OnErr, IsTrue, IsFalse, length, vec_len, slice_index_or};
 ghost use Rattle.std.specs.Option.{option_copied};
-ghost use Rattle.table_store.specs.Rows.{IsPage, IsRising, first_order, row_at, rows_from, changed_once};
+ghost use Rattle.std.specs.Arc.{arc_value};
+ghost use Rattle.db_records.specs.Record.{key_of};
+ghost use Rattle.table_store.specs.Rows.{AllBelow, IsPage, IsRising, first_order, row_at, rows_from, changed_once};
 ghost use Rattle.table_store.specs.Parts.{AreParts};
-ghost use Rattle.table_store.specs.Nodes.{rows_of, AllFilled, AreNodes, IsNodeCount, ReplacesNode};
+ghost use Rattle.table_store.specs.Nodes.{rows_of, AllFilled, AreNodes, IsNodeCount, ReplacesNode, ChangesNode};
 ghost use Rattle.table_store.specs.SearchKey.{sought_key};
 
 use crate::page::{PAGE_ROWS, Page};
@@ -103,6 +105,13 @@ impl Branch {
         }
     }
 
+    /// Whether all rows are below the key of a row.
+    pub(crate) fn ends_below(&self, row: &Record) -> bool
+        ensures { IsTrue result ↔ AllBelow (key_of row.now) self.now }
+    {
+        end_below(&self.list, row)
+    }
+
     /// The pages.
     pub(crate) fn list(&self) -> &[Arc<Page, Global>]
         ensures rows { rows_of result.now ≡ self.now }
@@ -146,7 +155,7 @@ impl Branch {
         Ok(Branch { list })
     }
 
-    /// Makes a change. The page of its key is made anew.
+    /// Makes a change: in the page of its key, where that isn't shared.
     pub(crate) fn change(&mut self, alloc: Global, change: &Change) -> Result<(), AllocError>
         ensures ok { OnOk result (self.new ≡ changed_once self.old change.now) }
         ensures err { OnErr result (self.new ≡ self.old) }
@@ -154,10 +163,25 @@ impl Branch {
         if self.list.is_empty() {
             return begin_branch(&mut self.list, alloc, change);
         }
-        let count = pages_up_to(&self.list, SearchKey::OfRow(&change.row));
-        let at = count.saturating_sub(1);
-        let rows = self.list[at].changed_rows(alloc, change)?;
-        replace_page(&mut self.list, alloc, at, rows)
+        let count = pages_up_to_row(&self.list, &change.row);
+        change_page(&mut self.list, alloc, count.saturating_sub(1), change)
+    }
+
+    /// Makes a change, if the branch has fewer pages than one that is parted, and tells whether it did.
+    pub(crate) fn change_short(
+        &mut self,
+        alloc: Global,
+        change: &Change,
+    ) -> Result<bool, AllocError>
+        ensures done { IfOk result (λ done. IsTrue done → self.new ≡ changed_once self.old change.now) }
+        ensures left { IfOk result (λ done. IsFalse done → self.new ≡ self.old) }
+        ensures err { OnErr result (self.new ≡ self.old) }
+    {
+        if self.list.len() >= BRANCH_PAGES {
+            return Ok(false);
+        }
+        self.change(alloc, change)?;
+        Ok(true)
     }
 }
 
@@ -190,6 +214,29 @@ fn pages_up_to(pages: &[Arc<Page, Global>], sought: SearchKey<'_>) -> usize
     pages.partition_point(|page| page.first_order(sought).is_le())
 }
 
+/// How many pages begin at or below the key of a row. The last page is looked at first, since rows
+/// are mostly put in the order of their keys.
+fn pages_up_to_row(pages: &[Arc<Page, Global>], row: &Record) -> usize
+    requires { AreNodes pages.now }
+    ensures { IsNodeCount (key_of row.now) pages.now result }
+{
+    if end_below(pages, row) {
+        return pages.len();
+    }
+    pages_up_to(pages, SearchKey::OfRow(row))
+}
+
+/// Whether all rows are below the key of a row.
+fn end_below(pages: &[Arc<Page, Global>], row: &Record) -> bool
+    requires { AreNodes pages.now }
+    ensures { IsTrue result ↔ AllBelow (key_of row.now) (rows_of pages.now) }
+{
+    match pages.last() {
+        Some(page) => page.ends_below(row),
+        None => true,
+    }
+}
+
 /// Makes the first page.
 fn begin_branch(
     list: &mut Vec<Arc<Page, Global>>,
@@ -204,8 +251,70 @@ fn begin_branch(
     if change.op == Op::Remove {
         return Ok(());
     }
+    push_page(list, alloc, &change.row)
+}
+
+/// Makes a change to a page: in place where that can be, behind it where it is full and the last, and
+/// else with copies of its rows.
+fn change_page(
+    list: &mut Vec<Arc<Page, Global>>,
+    alloc: Global,
+    at: usize,
+    change: &Change,
+) -> Result<(), AllocError>
+    requires { at < vec_len list.old }
+    ensures ok { OnOk result (ChangesNode list.old.items at change.now list.new.items) }
+    ensures err { OnErr result (list.new.items ≡ list.old.items) }
+{
+    if change_at(list, at, change)? {
+        return Ok(());
+    }
+    if at + 1 == list.len() && list[at].ends_before(change) {
+        return push_page(list, alloc, &change.row);
+    }
+    let rows = list[at].changed_rows(alloc, change)?;
+    replace_page(list, alloc, at, rows)
+}
+
+/// Makes a change in the page at a place, if that can be, and tells whether it did.
+fn change_at(
+    list: &mut Vec<Arc<Page, Global>>,
+    at: usize,
+    change: &Change,
+) -> Result<bool, AllocError>
+    requires { at < vec_len list.old }
+    ensures done { IfOk result (λ done. IsTrue done → ChangesNode list.old.items at change.now list.new.items) }
+    ensures left { IfOk result (λ done. IsFalse done → list.new.items ≡ list.old.items) }
+    ensures err { OnErr result (list.new.items ≡ list.old.items) }
+{
+    change_alone(&mut list[at], change)
+}
+
+/// Makes a change in a page that isn't shared, if it then still is a page, and tells whether it did.
+fn change_alone(page: &mut Arc<Page, Global>, change: &Change) -> Result<bool, AllocError>
+    ensures done { IfOk result (λ done. IsTrue done → arc_value page.new ≡ changed_once (arc_value page.old) change.now) }
+    ensures left { IfOk result (λ done. IsFalse done → page.new ≡ page.old) }
+    ensures err { OnErr result (page.new ≡ page.old) }
+    ensures filled { 0 < length (arc_value page.old) → 0 < length (arc_value page.new) }
+{
+    match Arc::get_mut(page) {
+        Some(page) => page.change(change),
+        None => Ok(false),
+    }
+}
+
+/// Puts a page of one row behind the others.
+fn push_page(
+    list: &mut Vec<Arc<Page, Global>>,
+    alloc: Global,
+    row: &Record,
+) -> Result<(), AllocError>
+    ensures ok { OnOk result (rows_of list.new.items ≡ rows_of list.old.items ++ row.now ∷ []) }
+    ensures filled { AllFilled list.old.items → AllFilled list.new.items }
+    ensures err { OnErr result (list.new.items ≡ list.old.items) }
+{
     let mut rows = Vec::new(alloc);
-    rows.push(change.row.copy()?)?;
+    rows.push(row.copy()?)?;
     list.push(Arc::new(alloc, Page::from_rows(rows))?)?;
     Ok(())
 }

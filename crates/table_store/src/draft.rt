@@ -14,8 +14,10 @@ use std::marker::Model;
 
 /// The rows of one table, changed one after another until they are a version.
 ///
-/// It is for who tests and makes many changes, each against the rows that those before it left. Each
-/// change copies the rows of one page, that of its key, and the handles of one branch of pages.
+/// It is for who tests and makes many changes, each against the rows that those before it left. A
+/// change is made in place where its page isn't shared with a version. Else it copies the rows of that
+/// page, and where the branch is shared, the handles of its pages. Rows that come in the order of
+/// their keys are put behind the others without a search.
 #[derive(Drop)]
 pub struct Draft {
     table: TableId,

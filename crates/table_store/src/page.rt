@@ -1,8 +1,10 @@
 //! Pages of rows.
 
-ghost use Rattle.std.specs.Prelude.{◌≡◌, ◌<◌, ◌≤◌, ◌++◌, IfOk, OnOk, MatchResult, vec_len, length};
+ghost use Rattle.std.specs.Prelude.{◌≡◌, ◌↔◌, ◌<◌, ◌≤◌, ◌++◌, IfOk, OnOk, OnErr, IsTrue, MatchResult, IsFalse, vec_len, length};
 ghost use Rattle.std.specs.Option.{option_copied};
-ghost use Rattle.table_store.specs.Rows.{IsAt, IsGap, IsCut, IsPage, IsRising, first_order, row_at, rows_from, changed_once, left_by};
+ghost use Rattle.db_records.specs.declared.change.Op.TheVariants.{Put};
+ghost use Rattle.db_records.specs.Record.{key_of};
+ghost use Rattle.table_store.specs.Rows.{AllBelow, IsAt, IsGap, IsCut, IsPage, IsRising, first_order, row_at, rows_from, changed_once, left_by};
 ghost use Rattle.table_store.specs.SearchKey.{sought_key};
 
 use crate::search_key::SearchKey;
@@ -47,6 +49,13 @@ impl Page {
         sought.order_of(&self.rows[0])
     }
 
+    /// Whether all rows are below the key of a row.
+    pub(crate) fn ends_below(&self, row: &Record) -> bool
+        ensures { IsTrue result ↔ AllBelow (key_of row.now) self.now }
+    {
+        self.rows[self.rows.len() - 1].compare(row).is_lt()
+    }
+
     /// Where the key is, or where it would go.
     fn find(&self, sought: SearchKey<'_>) -> Result<usize, usize>
         ensures place { MatchResult result (IsAt (sought_key sought.entry) self.now) (IsGap (sought_key sought.entry) self.now) }
@@ -73,6 +82,43 @@ impl Page {
             Ok(at) => &self.rows[at..],
             Err(at) => &self.rows[at..],
         }
+    }
+
+    /// Where the key of a row is, or where it would go. The last row is looked at first.
+    fn place_of(&self, row: &Record) -> Result<usize, usize>
+        ensures { MatchResult result (IsAt (key_of row.now) self.now) (IsGap (key_of row.now) self.now) }
+    {
+        if self.ends_below(row) {
+            return Err(self.rows.len());
+        }
+        self.find(SearchKey::OfRow(row))
+    }
+
+    /// Makes a change in place, if from 1 to 64 rows are there after it, and tells whether it did.
+    pub(crate) fn change(&mut self, change: &Change) -> Result<bool, AllocError>
+        ensures done { IfOk result (λ done. IsTrue done → self.new ≡ changed_once self.old change.now) }
+        ensures left { IfOk result (λ done. IsFalse done → self.new ≡ self.old) }
+        ensures err { OnErr result (self.new ≡ self.old) }
+        ensures exactly { IfOk result (λ done. IsTrue done ↔ ((0 < length (changed_once self.old change.now)) × (length (changed_once self.old change.now) ≤ 64))) }
+        ensures filled { 0 < length self.new }
+    {
+        match self.place_of(&change.row) {
+            Ok(at) => change_row(&mut self.rows, at, change),
+            Err(at) => add_row(&mut self.rows, at, change),
+        }
+    }
+
+    /// Whether the page is full, and a change puts a row behind all of its rows.
+    pub(crate) fn ends_before(&self, change: &Change) -> bool
+        ensures { IsTrue result ↔ ((change.now.op ≡ Put) × (length self.now ≡ 64) × AllBelow (key_of change.now.row) self.now) }
+    {
+        if change.op != Op::Put {
+            return false;
+        }
+        if self.rows.len() < PAGE_ROWS {
+            return false;
+        }
+        self.ends_below(&change.row)
     }
 
     /// The rows after a change, at most one more than before.
@@ -122,6 +168,47 @@ impl Page {
     {
         Page { rows }
     }
+}
+
+/// Makes a change at the row that has its key, unless no row were left, and tells whether it did.
+fn change_row(rows: &mut Vec<Record>, at: usize, change: &Change) -> Result<bool, AllocError>
+    requires place { IsAt (key_of change.now.row) rows.old.items at }
+    requires page { IsPage rows.old.items }
+    ensures done { IfOk result (λ done. IsTrue done → rows.new.items ≡ changed_once rows.old.items change.now) }
+    ensures left { IfOk result (λ done. IsFalse done → rows.new.items ≡ rows.old.items) }
+    ensures exactly { IfOk result (λ done. IsTrue done ↔ ((0 < length (changed_once rows.old.items change.now)) × (length (changed_once rows.old.items change.now) ≤ 64))) }
+    ensures err { OnErr result (rows.new.items ≡ rows.old.items) }
+    ensures page { IsPage rows.new.items }
+{
+    if change.op != Op::Remove {
+        rows[at] = change.row.copy()?;
+        return Ok(true);
+    }
+    if rows.len() == 1 {
+        return Ok(false);
+    }
+    rows.remove(at);
+    Ok(true)
+}
+
+/// Makes a change where no row has its key, unless there are 64 rows, and tells whether it did.
+fn add_row(rows: &mut Vec<Record>, at: usize, change: &Change) -> Result<bool, AllocError>
+    requires place { IsGap (key_of change.now.row) rows.old.items at }
+    requires page { IsPage rows.old.items }
+    ensures done { IfOk result (λ done. IsTrue done → rows.new.items ≡ changed_once rows.old.items change.now) }
+    ensures left { IfOk result (λ done. IsFalse done → rows.new.items ≡ rows.old.items) }
+    ensures exactly { IfOk result (λ done. IsTrue done ↔ ((0 < length (changed_once rows.old.items change.now)) × (length (changed_once rows.old.items change.now) ≤ 64))) }
+    ensures err { OnErr result (rows.new.items ≡ rows.old.items) }
+    ensures page { IsPage rows.new.items }
+{
+    if change.op == Op::Remove {
+        return Ok(true);
+    }
+    if rows.len() == PAGE_ROWS {
+        return Ok(false);
+    }
+    rows.insert(at, change.row.copy()?)?;
+    Ok(true)
 }
 
 /// Puts the row that a change leaves, if it does, behind the rows.

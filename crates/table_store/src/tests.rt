@@ -108,6 +108,7 @@ fn rows_of_many_pages_come_and_go(rt: HostRuntime) -> Result<(), Fail> {
         10_000
     );
     assert!(rt; draft.get(&Key::Protect { line: 5 }).is_none());
+    assert!(rt; version.get(&Key::Protect { line: 5 }).is_some());
     Ok(())
 }
 

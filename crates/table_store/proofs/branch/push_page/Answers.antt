@@ -1,0 +1,19 @@
+use Rattle.std.proofs.Common.{◌≡◌, [], ◌∷◌, ◌++◌, ap, ◌∙◌}
+use Rattle.std.specs.Arc.{arc_value}
+use Rattle.table_store.proofs.Nodes.{rows_of_push, filled_push}
+use Rattle.table_store.proofs.branch.push_page.Goals as goal
+
+-- the page has the copy of the row alone
+one_row : (c : goal.In_ok-push-2) → arc_value c.in_ok-new.field-0 ≡ c.args.row.now ∷ []
+one_row c =
+    c.in_ok-new.ensures.ok
+    ∙ c.from_rows.ensures
+    ∙ c.in_ok-push.ensures.items
+    ∙ ap (λ rows. rows ++ c.in_ok-copy.field-0 ∷ []) c.new-rows.ensures.items
+    ∙ ap (λ row. row ∷ []) c.in_ok-copy.ensures
+
+pub returns-clause-ok : goal.returns-clause-ok
+returns-clause-ok c = rw c.in_ok-push-2.ensures.items (rows_of_push c.args.list.now.items c.in_ok-new.field-0 c.args.row.now (one_row c))
+
+pub returns-clause-filled : goal.returns-clause-filled
+returns-clause-filled c = rw c.in_ok-push-2.ensures.items (filled_push c.args.list.now.items c.in_ok-new.field-0 c.args.row.now (one_row c))
