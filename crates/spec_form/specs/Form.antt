@@ -42,6 +42,10 @@ is_value value = is_utf8 value && not (is_among value 0x0A) && bytes_eq (trimmed
 abbrev pub with_value : List ℕ → List ℕ → Field → Field
 with_value name value f = if bytes_eq f.name name then record f { lines = value_lines value } else f
 
+-- the form with this value in a field, and all else as it was
+abbrev pub with_field : List ℕ → List ℕ → FormValue → FormValue
+with_field name value form = record form { fields = map (with_value name value) form.fields }
+
 -- a form has a single field of this name
 abbrev pub is_single : Option FieldKind → Bool
 is_single (Some Single) = true
@@ -55,7 +59,7 @@ changed_if false fits form = Err NoSingleField
 changed_if true false form = Err NotAValue
 changed_if true true form = Ok form
 
--- the form with this value in a single field that it has, and all else as it was; first it is told that it has no such field,
--- then that no single field may have the value
+-- the form with this value in a single field that it has; first it is told that it has no such field, then that no single field may have
+-- the value
 abbrev pub with_line : List ℕ → List ℕ → FormValue → Result FormValue ValueFault
-with_line name value form = changed_if (has_single name form) (is_value value) (record form { fields = map (with_value name value) form.fields })
+with_line name value form = changed_if (has_single name form) (is_value value) (with_field name value form)
