@@ -1,1 +1,17 @@
-pub mod Deeds
+pub mod Counts
+pub mod Granted
+pub mod Filters
+pub mod Risen
+pub mod Told
+pub mod Counting
+pub mod Empty
+mod Scene
+mod Rows
+mod Settled
+mod MoreRows
+mod SingleRights
+mod Moves
+mod Shelved
+mod Closing
+mod Replicas
+mod Twelve

@@ -1,6 +1,6 @@
 -- Orders of the commands of all parties.
 use Rattle.std.specs.Prelude.{◌≡◌, ◌<◌, ◌≤◌, ℕ, ◌-◌, List, slice_get, All, AllPairs, IsSomeAnd}
-use Rattle.depot_model.specs.declared.place.Place.{Place}
+use Rattle.depot_model.specs.declared.order.Place.{Place}
 
 -- The place names one of the first commands of a party, as many as `counts` says of it, at a moment that the clock may give.
 pub record IsPlaceOf (may_give : ℕ → Type 0) (counts : List ℕ) (place : Place) : Type 0 where

@@ -1,15 +1,12 @@
-//! What happens to a depot.
+//! What happens to a depot, so far as commands of today do it.
 
 use depot_path::Name;
 
-/// One thing that happened to a depot.
+/// A counter was set, or removed where there is no value.
 #[derive(Debug, Drop)]
-pub enum Deed {
-    /// A counter was set, or removed where there is no value.
-    Count {
-        /// The counter.
-        name: Name,
-        /// Its value from then on.
-        value: Option<u64>,
-    },
+pub struct Count {
+    /// The counter.
+    pub name: Name,
+    /// Its value from then on.
+    pub value: Option<u64>,
 }

@@ -5,16 +5,32 @@
 //! stands the plain program that computes them: a depot that keeps the list of its deeds.
 #![tactic(auto)]
 
+mod command;
 mod deed;
 mod depot;
 mod evaluation;
-mod place;
+mod filter;
+mod laws;
+mod line;
+mod order;
+mod refusal;
 mod reply;
 mod request;
 
-pub use deed::Deed;
+pub use command::{Command, FileArgument, Labelling, PatternArgument, Taking};
+pub use deed::Count;
 pub use depot::Depot;
 pub use evaluation::{Outcome, evaluate};
-pub use place::Place;
+pub use filter::{Filter, FilterRule};
+pub use laws::{
+    counters_keep_depots_sound, empty_depot_is_sound, later_lines_of_others_change_nothing,
+    numbers_rise, same_rows_tell_same_counters,
+};
+pub use line::Line;
+pub use order::{Answer, Place};
+pub use refusal::{Limit, Refusal};
 pub use reply::{Field, Reply, Row};
-pub use request::{Caller, Command, Request, Session};
+pub use request::{Asked, Caller, Content, Request, Session, WordFault};
+
+#[cfg(test)]
+mod tests;

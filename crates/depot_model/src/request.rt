@@ -2,7 +2,8 @@
 
 ghost use Rattle.std.specs.Prelude.{◌≡◌, IfOk};
 
-use depot_path::{Name, Sequence};
+use crate::command::Command;
+use depot_path::{DepotPath, Name, PathFault, Sequence, Text};
 use std::alloc::AllocError;
 
 /// Who asks: the names in the head of a session's script.
@@ -29,38 +30,41 @@ impl Caller {
     }
 }
 
-/// A command with its options and arguments, one variant for each form of the command table.
+/// What a session says that a file of its client workspace holds.
 #[derive(Debug, Drop)]
-pub enum Command {
-    /// `counter NAME`: shows a counter.
-    CounterShow {
-        /// The counter.
-        name: Name,
-    },
-    /// `counter NAME VALUE`: sets a counter.
-    CounterSet {
-        /// The counter.
-        name: Name,
-        /// Its value from then on.
-        value: u64,
-    },
+pub struct Content {
+    /// The file's path in the workspace.
+    pub path: DepotPath,
+    /// Its bytes.
+    pub bytes: Text,
 }
 
-impl Command {
-    /// The same command once more.
-    pub fn copy(&self) -> Result<Command, AllocError>
-        ensures { IfOk result (λ command. command ≡ self.now) }
-    {
-        match self {
-            Command::CounterShow { name } => Ok(Command::CounterShow {
-                name: name.clone()?,
-            }),
-            Command::CounterSet { name, value } => Ok(Command::CounterSet {
-                name: name.clone()?,
-                value: *value,
-            }),
-        }
-    }
+/// Why the words of a command line are no command.
+#[derive(Debug, Drop)]
+pub enum WordFault {
+    /// No command of that word.
+    UnknownCommand(Text),
+    /// Words that the command of that word doesn't take.
+    BadUsage(Text),
+    /// An argument that is no path or pattern.
+    BadPath(Text, PathFault),
+    /// An argument whose revision can't be read.
+    BadRevision(Text, PathFault),
+    /// A number that is too great, of the command of that word.
+    BadNumber(Text),
+    /// No memory.
+    Memory,
+}
+
+/// What a command line asks, with all that it brings.
+#[derive(Debug, Drop)]
+pub struct Asked {
+    /// The command, or why the words are none.
+    pub command: Result<Command, WordFault>,
+    /// The block of input that stood before the line.
+    pub input: Option<Text>,
+    /// For a submit or a shelve, the contents of the session's files.
+    pub contents: Sequence<Content>,
 }
 
 /// A session's commands, in the order of its script.
@@ -69,7 +73,7 @@ pub struct Session {
     /// Who asks.
     pub caller: Caller,
     /// What is asked.
-    pub commands: Sequence<Command>,
+    pub commands: Sequence<Asked>,
 }
 
 /// A command with all that its reply depends on beside the depot.
@@ -83,6 +87,10 @@ pub struct Request {
     pub number: u32,
     /// When it was asked, in seconds since 1970.
     pub moment: u64,
-    /// What is asked.
-    pub command: Command,
+    /// What is asked, or why the words are no command.
+    pub command: Result<Command, WordFault>,
+    /// The block of input that stood before the command.
+    pub input: Option<Text>,
+    /// For a submit or a shelve, the contents of the session's files.
+    pub contents: Sequence<Content>,
 }

@@ -1,5 +1,7 @@
 //! The order in which the commands of all sessions were taken.
 
+use depot_path::Text;
+
 /// The place of a command in the order.
 #[derive(Clone, Copy, Debug, PartialEq, Eq)]
 pub struct Place {
@@ -11,4 +13,13 @@ pub struct Place {
     pub moment: u64,
     /// Whether its commit failed.
     pub fault: bool,
+}
+
+/// A place and what was printed to it.
+#[derive(Debug, Drop)]
+pub struct Answer {
+    /// The place.
+    pub place: Place,
+    /// The text of the reply.
+    pub reply: Text,
 }

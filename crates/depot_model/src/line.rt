@@ -1,0 +1,12 @@
+//! A command line, cut into words.
+
+use depot_path::{Sequence, Text};
+
+/// A command line of a script.
+#[derive(Debug, Drop)]
+pub enum Line {
+    /// The words, in order.
+    Words(Sequence<Text>),
+    /// A line that is no list of at most 64 words of UTF-8 without control bytes.
+    Bad,
+}
