@@ -1,0 +1,10 @@
+pub mod Digits
+pub mod Values
+pub mod Table
+pub mod Options
+pub mod Choice
+pub mod Arguments
+pub mod Fields
+pub mod FileForms
+pub mod WordForms
+pub mod Reading
