@@ -1,6 +1,12 @@
-pub mod Parts
-pub mod Words
 pub mod Pieces
-pub mod Reading
-pub mod Commands
+pub mod Separators
+pub mod Takings
+pub mod Numbers
+pub mod WordLists
+pub mod Says
+pub mod Heads
+pub mod Arms
 pub mod Scripts
+pub mod Items
+mod Examples
+pub mod Values

@@ -1,4 +1,11 @@
 pub mod Giving
-pub mod Line
+pub mod Parts
+pub mod Words
+pub mod Head
+pub mod LineKind
 pub mod Script
+pub mod Intake
 pub mod Reading
+pub mod Contents
+pub mod Commands
+pub mod Readers

@@ -1,71 +1,100 @@
 -- What reading a script from a source gives.
-use Rattle.std.specs.Prelude.{◌≡◌, ◌<◌, ℕ, false, List, [], ◌∷◌, ◌++◌, length, Option, Some, None, IfSome, All, ◌==◌, Vec}
-use Rattle.std.specs.declared.alloc.Global.{Global}
+use Rattle.std.specs.Prelude.{◌≡◌, ◌<◌, ◌≤◌, ℕ, ◌+◌, Bool, ◌||◌, nat_lt, if◌then◌else◌, List, [], ◌∷◌, ◌++◌, length, Option, Some, None, IfSome, is_some}
+use Rattle.std.specs.Option.{option_to_list}
 use Rattle.outside_api.specs.Count.{HasRisen}
-use Rattle.outside_api.specs.Told.{prepended, IsAtEnd}
-use Rattle.depot_model.specs.declared.request.Command.{Command}
-use Rattle.depot_model.specs.declared.request.Session.{Session}
+use Rattle.outside_api.specs.Told.{prepended}
+use Rattle.wire_text.specs.Intake.{Taken}
+use Rattle.wire_text.specs.Script.{Point, Entries, Script, headed, headless, script_of, rest_of, with_front, ends_with, number_after, fault_at, too_long}
 use Rattle.wire_text.specs.declared.fault.ScriptFault.{ScriptFault}
-use Rattle.wire_text.specs.Script.{Commands, script_of}
-use Rattle.wire_text.specs.declared.reader.ReadScript.{ReadScript}
-use Rattle.wire_text.specs.declared.reader.ScriptEnd.{ScriptEnd}
-use Rattle.wire_text.specs.declared.reader.ScriptEnd.TheVariants.{Whole, Fault, ReadFault}
-use Rattle.wire_text.specs.declared.reader.NextLine.{NextLine}
-use Rattle.wire_text.specs.declared.reader.NextLine.TheVariants.{Line, End, TooLong, Failed}
+use Rattle.wire_text.specs.declared.entry.Entry.{Entry}
+use Rattle.wire_text.specs.declared.fault.ScriptFaultKind.TheVariants.{Cut}
+use Rattle.wire_text.specs.declared.intake.Stop.{Stop}
+use Rattle.wire_text.specs.declared.intake.Stop.TheVariants.{End, Over, Failed as Broken}
+use Rattle.wire_text.specs.Head.{client_of}
+use Rattle.wire_text.specs.declared.head.Head.{Head as HeadOf}
+use Rattle.wire_text.specs.declared.script.HeadRead.{HeadRead}
+use Rattle.wire_text.specs.declared.script.HeadRead.TheVariants.{Head, Fault as HeadFault, Failed as HeadFailed}
+use Rattle.wire_text.specs.declared.script.ReadScript.{ReadScript}
+use Rattle.wire_text.specs.declared.script.ScriptEnd.{ScriptEnd}
+use Rattle.wire_text.specs.declared.script.ScriptEnd.TheVariants.{Whole, Fault, ReadFault}
+use Rattle.wire_text.specs.declared.part.PartRead.{PartRead}
+use Rattle.wire_text.specs.declared.part.PartRead.TheVariants.{Read, Ended, Failed}
 
--- no line ends in these bytes
-abbrev pub IsOneLine : List ℕ → Type 0
-IsOneLine bytes = All (λ b. (b == 10) ≡ false) bytes
+-- the point at which a reader is
+abbrev pub point_at : List ℕ → ℕ → ℕ → Option (List ℕ) → Point
+point_at client place number input = record { client = client; place = place; number = number; input = input }
 
--- the first line is taken off the bytes, where there is one
-abbrev pub Cuts : List ℕ → List ℕ → Option (Vec ℕ Global) → Type 0
-Cuts old new None = IsOneLine old × (new ≡ old)
-Cuts old new (Some line) = IsOneLine line.items × (old ≡ line.items ++ 10 ∷ new)
+-- Reading goes on: the bytes that were ready, with what came from the source, say these entries, and then what the rest says, whatever follows.
+-- The first bytes of a line may have been read before.
+pub record GoesOn (begun : List ℕ) (old_left new_left : Option (List ℕ)) (old_held new_held : List ℕ) (old new : Point) (entries : List Entry) : Type 0 where
+  pub came : List ℕ
+  pub source : old_left ≡ prepended came new_left
+  pub says : (more : List ℕ) → rest_of old (begun ++ (old_held ++ (came ++ more))) ≡ with_front entries (rest_of new (new_held ++ more))
 
--- what was held before, with what was taken from the source, is what is held now, and what this says
-abbrev pub LineCase : List ℕ → List ℕ → Option (List ℕ) → ℕ → ℕ → NextLine → Type 0
-LineCase came held left before after (Line line) = IsOneLine line.items × (came ≡ line.items ++ 10 ∷ held)
-LineCase came held left before after End = (came ≡ held) × IsOneLine held × IsAtEnd left
-LineCase came held left before after TooLong = (came ≡ held) × IsOneLine held × (8192 < length held)
-LineCase came held left before after Failed = (came ≡ held) × IsOneLine held × HasRisen before after
+-- Reading ends: the bytes that were ready, with all that the source has, say no entry, and end so.
+abbrev pub Ends : List ℕ → Option (List ℕ) → List ℕ → Point → Option ScriptFault → Type 0
+Ends begun left held point fault = IfSome left (λ bytes. rest_of point (begun ++ (held ++ bytes)) ≡ ends_with fault)
 
--- the next line, what was taken from the source for it, and what is held then
-pub record IsNextLine (old_left new_left : Option (List ℕ)) (before after : ℕ) (old_held new_held : List ℕ) (next : NextLine) : Type 0 where
-  pub taken : List ℕ
-  pub source : old_left ≡ prepended taken new_left
-  pub line : LineCase (old_held ++ taken) new_held new_left before after next
+-- The source failed: the bytes that were ready, with what came from it, say no entry.
+pub record Breaks (begun : List ℕ) (old_left new_left : Option (List ℕ)) (before after : ℕ) (held : List ℕ) (point : Point) : Type 0 where
+  pub risen : HasRisen before after
+  pub came : List ℕ
+  pub source : old_left ≡ prepended came new_left
+  pub says : (rest_of point (begun ++ (held ++ came))).entries ≡ []
 
--- ---- the commands
+-- what bytes end that were read between two places, behind which no further one comes: a part that is cut, an input that waits, or nothing
+abbrev pub end_between : Bool → ℕ → ℕ → Option ScriptFault
+end_between waits start end = if nat_lt start end || waits then Some (fault_at Cut end) else None
 
-abbrev pub end_of : Option ScriptFault → ScriptEnd
-end_of None = Whole
-end_of (Some fault) = Fault fault
+abbrev pub stopped_of : Stop → Bool → ℕ → ℕ → PartRead
+stopped_of End waits start end = Ended (end_between waits start end)
+stopped_of Over waits start end = Ended (Some too_long)
+stopped_of Broken waits start end = Failed
 
--- what the bytes of the source, where they are told, say by `says`: these commands and this end. Where the source failed,
--- these are the commands of the bytes that were taken from it.
-abbrev pub IsReadCommands : Option (List ℕ) → Option (List ℕ) → ℕ → ℕ → (List ℕ → Commands) → List Command → ScriptEnd → Type 0
-IsReadCommands old_left new_left before after says commands Whole =
-    IfSome old_left (λ bytes. says bytes ≡ record { commands = commands; fault = None })
-IsReadCommands old_left new_left before after says commands (Fault fault) =
-    IfSome old_left (λ bytes. says bytes ≡ record { commands = commands; fault = Some fault })
-IsReadCommands old_left new_left before after says commands ReadFault =
-    HasRisen before after × ((taken : List ℕ) × (old_left ≡ prepended taken new_left) × ((says taken).commands ≡ commands))
+abbrev pub PartCase : List ℕ → Option (List ℕ) → Option (List ℕ) → ℕ → ℕ → Taken → Taken → Point → Option (List ℕ) → PartRead → Type 0
+PartCase begun old_left new_left before after old new point input (Read entry) =
+    (point.place < new.place) × (new.place ≤ 67108864) × GoesOn begun old_left new_left old.held new.held point (point_at point.client new.place (number_after point.number entry) input) (option_to_list entry)
+PartCase begun old_left new_left before after old new point input (Ended fault) = Ends begun old_left old.held point fault
+PartCase begun old_left new_left before after old new point input Failed = Breaks begun old_left new_left before after old.held point
 
--- ---- the script
+-- ---- whole scripts
 
-abbrev pub commands_of : Option Session → List Command
-commands_of (Some session) = session.commands
-commands_of None = []
+-- a head was read, and the script goes on from the point behind it; or there is none, for a fault or as the source failed
+abbrev pub HeadCase : Option (List ℕ) → Option (List ℕ) → ℕ → ℕ → Taken → HeadRead → Type 0
+HeadCase old_left new_left before after new (Head head) =
+    (0 < new.place) × (new.place ≤ 67108864) × ((came : List ℕ) × (old_left ≡ prepended came new_left) × ((more : List ℕ) → script_of (came ++ more) ≡ headed head (rest_of (point_at (client_of head) new.place 1 None) (new.held ++ more))))
+HeadCase old_left new_left before after new (HeadFault fault) = IfSome old_left (λ bytes. script_of bytes ≡ headless fault)
+HeadCase old_left new_left before after new HeadFailed =
+    HasRisen before after × ((came : List ℕ) × (old_left ≡ prepended came new_left) × ((script_of came).head ≡ None) × ((script_of came).entries ≡ []))
 
--- The script that the bytes of the source say, where they are told. Where the source failed, the session is that of the
--- bytes that were taken from it.
-abbrev pub IsReadSession : Option (List ℕ) → Option (List ℕ) → ℕ → ℕ → Option Session → ScriptEnd → Type 0
-IsReadSession old_left new_left before after session Whole =
-    IfSome old_left (λ bytes. script_of bytes ≡ record { session = session; fault = None })
-IsReadSession old_left new_left before after session (Fault fault) =
-    IfSome old_left (λ bytes. script_of bytes ≡ record { session = session; fault = Some fault })
-IsReadSession old_left new_left before after session ReadFault =
-    HasRisen before after × ((taken : List ℕ) × (old_left ≡ prepended taken new_left) × ((script_of taken).session ≡ session))
+-- what a stop makes of a head of which the bytes up to a place were read
+abbrev pub head_stopped : Stop → ℕ → HeadRead
+head_stopped End place = HeadFault (fault_at Cut place)
+head_stopped Over place = HeadFault (fault_at Cut place)
+head_stopped Broken place = HeadFailed
+
+abbrev pub end_by : Option ScriptFault → ScriptEnd
+end_by None = Whole
+end_by (Some fault) = Fault fault
+
+-- what is said from a point on
+abbrev pub EntriesCase : Option (List ℕ) → Option (List ℕ) → ℕ → ℕ → List ℕ → Point → List Entry → ScriptEnd → Type 0
+EntriesCase old_left new_left before after held point entries Whole =
+    IfSome old_left (λ bytes. rest_of point (held ++ bytes) ≡ record { entries = entries; fault = None })
+EntriesCase old_left new_left before after held point entries (Fault fault) =
+    IfSome old_left (λ bytes. rest_of point (held ++ bytes) ≡ record { entries = entries; fault = Some fault })
+EntriesCase old_left new_left before after held point entries ReadFault =
+    HasRisen before after × ((came : List ℕ) × (old_left ≡ prepended came new_left) × ((rest_of point (held ++ came)).entries ≡ entries))
+
+-- The script that the bytes of the source say, where they are told. Where the source failed, the head and the entries are those of the bytes that
+-- came from it.
+abbrev pub IsRead : Option (List ℕ) → Option (List ℕ) → ℕ → ℕ → Option HeadOf → List Entry → ScriptEnd → Type 0
+IsRead old_left new_left before after head entries Whole =
+    IfSome old_left (λ bytes. script_of bytes ≡ record { head = head; entries = entries; fault = None })
+IsRead old_left new_left before after head entries (Fault fault) =
+    IfSome old_left (λ bytes. script_of bytes ≡ record { head = head; entries = entries; fault = Some fault })
+IsRead old_left new_left before after head entries ReadFault =
+    HasRisen before after × ((came : List ℕ) × (old_left ≡ prepended came new_left) × ((script_of came).head ≡ head) × ((script_of came).entries ≡ entries))
 
 abbrev pub IsReadScript : Option (List ℕ) → Option (List ℕ) → ℕ → ℕ → ReadScript → Type 0
-IsReadScript old_left new_left before after read = IsReadSession old_left new_left before after read.session read.end
+IsReadScript old_left new_left before after read = IsRead old_left new_left before after read.head read.entries read.end

@@ -1,92 +1,173 @@
--- What the bytes of a script say: the session, and the first fault that ends it. The form of scripts is this project's own.
-use Rattle.std.specs.Prelude.{ℕ, ◌+◌, List, [], ◌∷◌, ◌++◌, length, Option, Some, None, Result, Ok, Err, nat_lt, unwrap_or, if◌then◌else◌, ◌==◌}
-use Rattle.std.specs.Option.{option_or}
-use Rattle.depot_model.specs.declared.request.Caller.{Caller}
-use Rattle.depot_model.specs.declared.request.Command.{Command}
-use Rattle.depot_model.specs.declared.request.Session.{Session}
+-- What the bytes of a script say: its head, and then one thing after another; and the first fault that ends it. The form of scripts is this
+-- project's own choice.
+use Rattle.std.specs.Prelude.{◌≡◌, ℕ, zero, suc, ◌+◌, ◌-◌, Bool, true, false, ◌==◌, nat_le, nat_lt, is_some, List, [], ◌∷◌, ◌++◌, length, take, drop, codes, if◌then◌else◌, Option, Some, None, Result, Ok, Err}
+use Rattle.std.specs.Option.{option_to_list}
+use Rattle.wire_text.specs.Parts.{upto, past, is_in}
+use Rattle.wire_text.specs.Head.{head_of, client_of}
+use Rattle.wire_text.specs.Words.{line_of}
+use Rattle.wire_text.specs.LineKind.{kind_of}
 use Rattle.wire_text.specs.declared.fault.ScriptFault.{ScriptFault}
 use Rattle.wire_text.specs.declared.fault.ScriptFaultKind.{ScriptFaultKind}
 use Rattle.wire_text.specs.declared.fault.ScriptFaultKind.TheVariants.{BadHead, LongLine, BadData, Cut, LongData}
-use Rattle.wire_text.specs.Line.{caller_of, command_of}
+use Rattle.wire_text.specs.declared.head.Head.{Head}
+use Rattle.wire_text.specs.declared.entry.Entry.{Entry}
+use Rattle.wire_text.specs.declared.entry.Entry.TheVariants.{Put, Clear, Command}
+use Rattle.wire_text.specs.declared.line_kind.LineKind.{LineKind}
+use Rattle.wire_text.specs.declared.line_kind.LineKind.TheVariants.{Skipped, Block, Clear as Clears, Input, CommandLine, Bad, LongBlock}
 
--- the commands from a place on, and the fault that ends them where there is one
-pub record Commands : Type 0 where
-  pub commands : List Command
+-- a point of a script between two of its lines: the client of the head, how many bytes stand before it, the number of the next command, and
+-- the input that waits for it
+pub record Point : Type 0 where
+  pub client : List ℕ
+  pub place : ℕ
+  pub number : ℕ
+  pub input : Option (List ℕ)
+
+-- a line with its block: how many bytes it has, what it says, and the input that waits after it
+pub record Part : Type 0 where
+  pub size : ℕ
+  pub entry : Option Entry
+  pub input : Option (List ℕ)
+
+-- a block with which a text begins, given what stands behind it: a line feed
+abbrev pub block_before : List ℕ → List ℕ → Result (List ℕ) ScriptFaultKind
+block_before block [] = Err Cut
+block_before block (b ∷ text) = if b == 0x0A then Ok block else Err BadData
+
+abbrev pub block_of : ℕ → List ℕ → Result (List ℕ) ScriptFaultKind
+block_of n text = block_before (take n text) (drop n text)
+
+-- a part with a block of n bytes, behind a line of so many
+abbrev pub with_block : ℕ → ℕ → (List ℕ → Option Entry) → (List ℕ → Option (List ℕ)) → Result (List ℕ) ScriptFaultKind → Result Part ScriptFaultKind
+with_block line n entry input (Ok block) = Ok (record { size = line + 1 + n + 1; entry = entry block; input = input block })
+with_block line n entry input (Err what) = Err what
+
+-- the part of a line of a kind, with the text behind it
+abbrev pub part_of : Point → List ℕ → LineKind → List ℕ → Result Part ScriptFaultKind
+part_of point line Skipped text = Ok (record { size = length line + 1; entry = None; input = point.input })
+part_of point line (Block path n) text = with_block (length line) n (λ block. Some (Put (record { path = path; bytes = block }))) (λ block. point.input) (block_of n text)
+part_of point line (Clears path) text = Ok (record { size = length line + 1; entry = Some (Clear path); input = point.input })
+part_of point line (Input n) text = with_block (length line) n (λ block. None) (λ block. Some block) (block_of n text)
+part_of point line CommandLine text =
+    Ok (record { size = length line + 1; entry = Some (Command (record { number = point.number; line = line_of line; input = point.input })); input = None })
+part_of point line Bad text = Err BadData
+part_of point line LongBlock text = Err LongData
+
+-- the first line of a text that a line feed ends, of at most 8,192 bytes
+abbrev pub whole_line : List ℕ → Result (List ℕ) ScriptFaultKind
+whole_line text =
+    if nat_lt 8192 (length (upto 0x0A text)) then Err LongLine else
+    (if is_in 0x0A text then Ok (upto 0x0A text) else Err Cut)
+
+abbrev pub part_by_line : Point → Result (List ℕ) ScriptFaultKind → List ℕ → Result Part ScriptFaultKind
+part_by_line point (Ok line) text = part_of point line (kind_of point.client (is_some point.input) line) text
+part_by_line point (Err what) text = Err what
+
+-- the part with which a text begins
+abbrev pub first_part : Point → List ℕ → Result Part ScriptFaultKind
+first_part point text = part_by_line point (whole_line text) (past 0x0A text)
+
+-- the number of the next command
+abbrev pub number_after : ℕ → Option Entry → ℕ
+number_after number None = number
+number_after number (Some (Put content)) = number
+number_after number (Some (Clear path)) = number
+number_after number (Some (Command item)) = number + 1
+
+-- the point behind a part
+abbrev pub behind : Point → Part → Point
+behind point part = record { client = point.client; place = point.place + part.size; number = number_after point.number part.entry; input = part.input }
+
+-- what is said from a point on, and the fault that ends it where there is one
+pub record Entries : Type 0 where
+  pub entries : List Entry
   pub fault : Option ScriptFault
 
--- a session, where the script has a head, and the fault where there is one
+abbrev pub fault_at : ScriptFaultKind → ℕ → ScriptFault
+fault_at what place = record { what = what; place = place }
+
+abbrev pub ends_with : Option ScriptFault → Entries
+ends_with fault = record { entries = []; fault = fault }
+
+abbrev pub with_front : List Entry → Entries → Entries
+with_front front rest = record { entries = front ++ rest.entries; fault = rest.fault }
+
+-- no bytes follow: the script is whole, or cut while an input waits
+abbrev pub end_fault : Point → Option ScriptFault
+end_fault point = if is_some point.input then Some (fault_at Cut point.place) else None
+
+-- the place of a fault is that of its line, or the text's end where the text is cut
+abbrev pub stop_place : ScriptFaultKind → ℕ → ℕ → ℕ
+stop_place Cut place n = place + n
+stop_place _ place n = place
+
+-- what is said where a part, or a fault, comes first
+abbrev pub said : Result Part ScriptFaultKind → (ScriptFaultKind → Entries) → (Part → Entries) → Entries
+said (Ok part) stops goes = goes part
+said (Err what) stops goes = stops what
+
+-- What a text says from a point on. The first `passed` bytes are the end of a part, behind which the point is.
+abbrev pub entries_from : Point → ℕ → List ℕ → Entries
+entries_from point passed [] = ends_with (end_fault point)
+entries_from point (suc passed) (b ∷ text) = entries_from point passed text
+entries_from point zero (b ∷ text) =
+    said (first_part point (b ∷ text))
+    (λ what. ends_with (Some (fault_at what (stop_place what point.place (length text + 1)))))
+    (λ part. with_front (option_to_list part.entry) (entries_from (behind point part) (part.size - 1) text))
+
+-- the most bytes of a script
+abbrev pub max_script : ℕ
+max_script = 67108864
+
+abbrev pub too_long : ScriptFault
+too_long = fault_at LongData max_script
+
+-- a text that goes on past the most bytes has too many of them where it would be whole or cut there
+abbrev pub fault_past : ScriptFault → ScriptFaultKind → ScriptFault
+fault_past fault Cut = too_long
+fault_past fault _ = fault
+
+abbrev pub limited_fault : Option ScriptFault → ScriptFault
+limited_fault None = too_long
+limited_fault (Some fault) = fault_past fault fault.what
+
+abbrev pub limited : Bool → Entries → Entries
+limited false entries = entries
+limited true entries = record { entries = entries.entries; fault = Some (limited_fault entries.fault) }
+
+-- what a script says from a point on
+abbrev pub rest_of : Point → List ℕ → Entries
+rest_of point text = limited (nat_lt max_script (point.place + length text)) (entries_from point 0 (take (max_script - point.place) text))
+
+-- the head with which a script begins
+abbrev pub head_or : Option Head → Result Head ScriptFaultKind
+head_or (Some head) = Ok head
+head_or None = Err BadHead
+
+abbrev pub head_by_line : Result (List ℕ) ScriptFaultKind → Result Head ScriptFaultKind
+head_by_line (Ok line) = head_or (head_of line)
+head_by_line (Err what) = Err what
+
+-- the point behind the head
+abbrev pub start : Head → List ℕ → Point
+start head line = record { client = client_of head; place = length line + 1; number = 1; input = None }
+
+-- a head, where the script has one, and what it says behind it
 pub record Script : Type 0 where
-  pub session : Option Session
+  pub head : Option Head
+  pub entries : List Entry
   pub fault : Option ScriptFault
 
-abbrev pub fault : ScriptFaultKind → ℕ → ScriptFault
-fault what place = record { what = what; place = place }
-
--- A line has more than 8,192 bytes, or the script more than 67,108,864, whichever is reached first.
-abbrev pub over : ℕ → ScriptFault
-over place = if nat_lt (place + 8192) 67108864 then fault LongLine place else fault LongData 67108864
-
--- the first limit that a line from a place on passes, where so many bytes of the script are there from that place on
-abbrev pub passed_limit : ℕ → List ℕ → ℕ → Option ScriptFault
-passed_limit place line bytes =
-    if nat_lt 8192 (length line) then Some (over place) else
-    (if nat_lt 67108864 (place + bytes) then Some (fault LongData 67108864) else None)
-
-abbrev pub unless : {T : Type 0} → Option ScriptFault → Result T ScriptFault → Result T ScriptFault
-unless (Some fault) result = Err fault
-unless None result = result
-
-abbrev pub required : {T : Type 0} → ScriptFault → Option T → Result T ScriptFault
-required fault (Some value) = Ok value
-required fault None = Err fault
-
--- the command of a line, which its line feed ends, or the fault with which the script ends there
-abbrev pub command_at : ℕ → List ℕ → Result Command ScriptFault
-command_at place line = unless (passed_limit place line (length line + 1)) (required (fault BadData place) (command_of line))
-
--- the caller of the first line
-abbrev pub caller_at : List ℕ → Result Caller ScriptFault
-caller_at line = unless (passed_limit 0 line (length line + 1)) (required (fault BadHead 0) (caller_of line))
-
--- how the script ends with bytes that no line feed ends: whole without any, cut at its length with some
-abbrev pub cut_at : ℕ → List ℕ → Option ScriptFault
-cut_at place [] = None
-cut_at place (b ∷ line) = Some (fault Cut (place + length (b ∷ line)))
-
-abbrev pub end_at : ℕ → List ℕ → Option ScriptFault
-end_at place line = option_or (passed_limit place line (length line)) (cut_at place line)
-
--- a command, and what follows it; or the fault
-abbrev pub after_line : Result Command ScriptFault → Commands → Commands
-after_line (Err fault) rest = record { commands = []; fault = Some fault }
-after_line (Ok command) rest = record { commands = command ∷ rest.commands; fault = rest.fault }
-
--- what the bytes say, where the line that begins at the place has these bytes before them
-abbrev pub commands_from : List ℕ → ℕ → List ℕ → Commands
-commands_from line place [] = record { commands = []; fault = end_at place line }
-commands_from line place (b ∷ bytes) =
-    if b == 10
-    then after_line (command_at place line) (commands_from [] (place + length line + 1) bytes)
-    else commands_from (line ++ b ∷ []) place bytes
+abbrev pub headed : Head → Entries → Script
+headed head rest = record { head = Some head; entries = rest.entries; fault = rest.fault }
 
 abbrev pub headless : ScriptFault → Script
-headless fault = record { session = None; fault = Some fault }
+headless fault = record { head = None; entries = []; fault = Some fault }
 
-abbrev pub after_head : Result Caller ScriptFault → Commands → Script
-after_head (Err fault) rest = headless fault
-after_head (Ok caller) rest = record { session = Some (record { caller = caller; commands = rest.commands }); fault = rest.fault }
-
--- a script that no line feed ends is cut, also one without a byte
-abbrev pub head_end : List ℕ → ScriptFault
-head_end line = unwrap_or (passed_limit 0 line (length line)) (fault Cut (length line))
-
-abbrev pub script_from : List ℕ → List ℕ → Script
-script_from line [] = headless (head_end line)
-script_from line (b ∷ bytes) =
-    if b == 10
-    then after_head (caller_at line) (commands_from [] (length line + 1) bytes)
-    else script_from (line ++ b ∷ []) bytes
+abbrev pub begun : Result Head ScriptFaultKind → List ℕ → Script
+begun (Ok head) bytes = headed head (rest_of (start head (upto 0x0A bytes)) (past 0x0A bytes))
+begun (Err what) bytes = headless (fault_at what (stop_place what 0 (length bytes)))
 
 -- what a script says
 abbrev pub script_of : List ℕ → Script
-script_of bytes = script_from [] bytes
+script_of bytes = begun (head_by_line (whole_line bytes)) bytes

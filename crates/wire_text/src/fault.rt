@@ -1,5 +1,7 @@
 //! What may be wrong with a script.
 
+use std::alloc::AllocError;
+
 /// What is wrong with a script.
 #[derive(Clone, Copy, Debug, PartialEq, Eq)]
 pub enum ScriptFaultKind {
@@ -7,9 +9,9 @@ pub enum ScriptFaultKind {
     BadHead,
     /// A line has too many bytes.
     LongLine,
-    /// A line isn't of its form.
+    /// A line isn't of its form, or its block isn't followed by a line feed.
     BadData,
-    /// The script ends inside a line.
+    /// The script ends inside a line or a block, or while an input waits for its command.
     Cut,
     /// A block or the script has too many bytes.
     LongData,
@@ -20,6 +22,23 @@ pub enum ScriptFaultKind {
 pub struct ScriptFault {
     /// What is wrong.
     pub what: ScriptFaultKind,
-    /// The place of the first byte of the line concerned, from 0.
+    /// The place of the first byte of the line concerned, from 0; of a script that is cut, its length.
     pub place: u64,
+}
+
+/// Why a script can't be read on.
+#[derive(Clone, Copy, Debug, PartialEq, Eq)]
+pub enum ScriptError {
+    /// It isn't of the form of a script.
+    Fault(ScriptFault),
+    /// The source failed.
+    ReadFault,
+    /// There was no memory.
+    Memory,
+}
+
+impl From<AllocError> for ScriptError {
+    fn from(_: AllocError) -> Self {
+        ScriptError::Memory
+    }
 }

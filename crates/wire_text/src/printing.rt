@@ -3,6 +3,7 @@
 ghost use Rattle.std.specs.Prelude.{◌≡◌, ◌++◌, IfOk, OnOk};
 ghost use Rattle.depot_model.specs.Printed.{printed, printed_rows, printed_row, printed_fields, printed_value};
 
+use crate::parts::cut_at;
 use depot_model::{Field, Reply, Row};
 use depot_path::Text;
 use itoa::Buffer;
@@ -11,12 +12,13 @@ use std::alloc::{AllocError, Global};
 fn put_value(out: &mut Text, value: &[u8]) -> Result<(), AllocError>
     ensures { OnOk result (out.new ≡ out.old ++ printed_value value.now) }
 {
-    for byte in value {
-        out.append(&[*byte])?;
-        if *byte == b'\n' {
-            out.append(b"\t")?;
-        }
+    let mut rest = value;
+    while let Some((line, after)) = cut_at(b'\n', rest) {
+        out.append(line)?;
+        out.append(b"\n\t")?;
+        rest = after;
     }
+    out.append(rest)?;
     Ok(())
 }
 

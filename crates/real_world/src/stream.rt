@@ -1,0 +1,103 @@
+//! Files that scripts are read from and replies are written to.
+
+ghost use Rattle.std.specs.Prelude.{◌≡◌};
+
+use crate::count::Faults;
+use outside_api::{Failed, Sink, Source};
+use std::fs::File;
+use std::io::{Read, Write};
+use std::rt::Stdout;
+
+/// A file that is read from its front. It doesn't tell its bytes.
+#[derive(Drop)]
+pub struct FileSource {
+    file: File,
+    faults: Faults,
+}
+
+impl FileSource {
+    /// The source of an open file, whose count of faults is 0.
+    pub fn new(file: File) -> Self
+        ensures { result.faults.count ≡ 0 }
+    {
+        FileSource {
+            file,
+            faults: Faults { count: 0 },
+        }
+    }
+}
+
+impl Source for FileSource {
+    ghost use Rattle.std.specs.Prelude.{None};
+
+    ghost faults = { λ source. source.faults.count };
+
+    ghost left = { λ source. None };
+
+    fn take(&mut self, buffer: &mut [u8]) -> Result<usize, Failed> {
+        match self.file.read(buffer) {
+            Ok(count) => Ok(count),
+            Err(_) => {
+                self.faults.rise();
+                Err(Failed)
+            }
+        }
+    }
+}
+
+#[derive(Drop)]
+enum Target {
+    File(File),
+    Output(Stdout),
+}
+
+/// A file, or standard output, that is written to its end. It doesn't tell its bytes.
+#[derive(Drop)]
+pub struct FileSink {
+    target: Target,
+    faults: Faults,
+}
+
+impl FileSink {
+    /// The sink of an open file, whose count of faults is 0.
+    pub fn new(file: File) -> Self
+        ensures { result.faults.count ≡ 0 }
+    {
+        FileSink {
+            target: Target::File(file),
+            faults: Faults { count: 0 },
+        }
+    }
+
+    /// The sink of standard output, whose count of faults is 0.
+    pub fn output(output: Stdout) -> Self
+        ensures { result.faults.count ≡ 0 }
+    {
+        FileSink {
+            target: Target::Output(output),
+            faults: Faults { count: 0 },
+        }
+    }
+}
+
+impl Sink for FileSink {
+    ghost use Rattle.std.specs.Prelude.{None};
+
+    ghost faults = { λ sink. sink.faults.count };
+
+    ghost given = { λ sink. None };
+
+    fn give(&mut self, piece: &[u8]) -> Result<usize, Failed> {
+        let written = match &mut self.target {
+            Target::File(file) => file.write(piece),
+            Target::Output(output) => output.write(piece),
+        };
+        match written {
+            Ok(count) if count > 0 || piece.is_empty() => Ok(count),
+            _ => {
+                self.faults.rise();
+                Err(Failed)
+            }
+        }
+    }
+}

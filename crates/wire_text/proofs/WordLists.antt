@@ -1,0 +1,47 @@
+-- The words of a line, read from the front.
+use Rattle.std.proofs.Common.{◌≡◌, ℕ, zero, suc, ◌+◌, Bool, true, false, eqb, List, [], ◌∷◌, ◌++◌, length, drop, Option, Some, None, refl, sym, ap, ◌∙◌, add-one, append_assoc}
+use Rattle.std.specs.Prelude.{option_map}
+use Rattle.std.specs.Option.{option_to_list}
+use Rattle.std.proofs.lemmas.List.{append-nil}
+use Rattle.std.proofs.lemmas.Bool.{ne_eqb, eq-eqb}
+use Rattle.wire_text.specs.Parts.{upto, past}
+use Rattle.wire_text.specs.Words.{words_from, with_word, with_maybe, plain_word, quoted_word}
+
+pub words_on : (k : ℕ) (text : List ℕ) → words_from k text ≡ words_from 0 (drop k text)
+words_on zero text = refl
+words_on (suc k) [] = refl
+words_on (suc k) (b ∷ text) = words_on k text
+
+module _ (first : ℕ) (text after : List ℕ) (is : text ≡ first ∷ after) where
+  pub space_says : first ≡ 0x20 → words_from 0 text ≡ words_from 0 after
+  space_says e = rw (is, eq-eqb first 0x20 e) refl
+
+  pub quoted_says : (word behind : List ℕ) → (first ≡ 0x20 → ⊥) → first ≡ 0x22 → quoted_word after ≡ Some word → behind ≡ past 0x22 after → words_from 0 text ≡ with_word (Some word) (words_from 0 behind)
+  quoted_says word behind differs e q at =
+      rw (is, ne_eqb first 0x20 differs, eq-eqb first 0x22 e, q, at) (ap (with_word (Some word)) (words_on (length (upto 0x22 after) + 1) after))
+
+  pub quoted_fails : (first ≡ 0x20 → ⊥) → first ≡ 0x22 → quoted_word after ≡ None → words_from 0 text ≡ None
+  quoted_fails differs e q = rw (is, ne_eqb first 0x20 differs, eq-eqb first 0x22 e, q) refl
+
+  step : (first ≡ 0x20 → ⊥) → (first ≡ 0x22 → ⊥) → words_from 0 (first ∷ after) ≡ with_word (plain_word (first ∷ after)) (words_from (length (upto 0x20 after)) after)
+  step differs other = rw (ne_eqb first 0x20 differs, ne_eqb first 0x22 other) refl
+
+  pub plain_says : (word behind : List ℕ) → (first ≡ 0x20 → ⊥) → (first ≡ 0x22 → ⊥) → plain_word text ≡ Some word → behind ≡ drop (length (upto 0x20 text)) text → words_from 0 text ≡ with_word (Some word) (words_from 0 behind)
+  plain_says word behind differs other q at =
+      let begins : upto 0x20 text ≡ first ∷ upto 0x20 after = rw (is, ne_eqb first 0x20 differs) refl in
+      let behind_is : behind ≡ drop (length (upto 0x20 after)) after = at ∙ (ap (λ (t : List ℕ). drop (length t) text) begins ∙ ap (drop (length (first ∷ upto 0x20 after))) is) in
+      let q' : plain_word (first ∷ after) ≡ Some word = ap plain_word (sym is) ∙ q in
+      ap (words_from 0) is ∙ (step differs other ∙ (ap (λ (w : Option (List ℕ)). with_word w (words_from (length (upto 0x20 after)) after)) q' ∙ ap (with_word (Some word)) (words_on (length (upto 0x20 after)) after ∙ ap (words_from 0) (sym behind_is))))
+
+  pub plain_fails : (first ≡ 0x20 → ⊥) → (first ≡ 0x22 → ⊥) → plain_word text ≡ None → words_from 0 text ≡ None
+  plain_fails differs other q = ap (words_from 0) is ∙ (step differs other ∙ ap (λ (w : Option (List ℕ)). with_word w (words_from (length (upto 0x20 after)) after)) (ap plain_word (sym is) ∙ q))
+
+map_map : (done : List (List ℕ)) (word : List ℕ) (words : Option (List (List ℕ))) → option_map (λ (ws : List (List ℕ)). (done ++ word ∷ []) ++ ws) words ≡ option_map (λ (ws : List (List ℕ)). done ++ ws) (with_word (Some word) words)
+map_map done word None = refl
+map_map done word (Some words) = ap Some (append_assoc done (word ∷ []) words)
+
+-- one more word, or none
+pub words_more : (done new : List (List ℕ)) (word : Option (List ℕ)) (rest behind line : List ℕ) → option_map (λ (ws : List (List ℕ)). done ++ ws) (words_from 0 rest) ≡ words_from 0 line → words_from 0 rest ≡ with_maybe word (words_from 0 behind) → new ≡ done ++ option_to_list word
+    → option_map (λ (ws : List (List ℕ)). new ++ ws) (words_from 0 behind) ≡ words_from 0 line
+words_more done new None rest behind line h says is = rw (is, append-nil done) (ap (option_map (λ (ws : List (List ℕ)). done ++ ws)) (sym says) ∙ h)
+words_more done new (Some word) rest behind line h says is = rw is (map_map done word (words_from 0 behind) ∙ (ap (option_map (λ (ws : List (List ℕ)). done ++ ws)) (sym says) ∙ h))
