@@ -1,8 +1,8 @@
 -- One party is a case of any number of parties.
 use Rattle.std.proofs.Common.{◌≡◌, ℕ, zero, suc, List, [], ◌∷◌, length, get_or, Option, Some, refl, sym, ap, arith}
 use Rattle.std.specs.Prelude.{All, AllPairs, slice_get}
-use Rattle.depot_model.specs.declared.deed.Deed.{Deed}
-use Rattle.depot_model.specs.declared.place.Place.{Place}
+use Rattle.depot_model.specs.Deeds.{Deed}
+use Rattle.depot_model.specs.declared.order.Place.{Place}
 use Rattle.depot_model.specs.declared.request.Session.{Session}
 use Rattle.depot_model.specs.Order.{IsOrder, IsPlaceOf, Rises}
 use Rattle.session_loop.specs.Served.{IsTurn}

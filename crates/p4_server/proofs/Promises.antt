@@ -4,14 +4,14 @@ use Rattle.std.specs.Prelude.{IfSome}
 use Rattle.std.proofs.lemmas.List.{append-nil}
 use Rattle.outside_api.specs.Count.{HasRisen, HasCause}
 use Rattle.outside_api.specs.Told.{extended}
-use Rattle.depot_model.specs.declared.deed.Deed.{Deed}
-use Rattle.depot_model.specs.declared.place.Place.{Place}
+use Rattle.depot_model.specs.Deeds.{Deed}
+use Rattle.depot_model.specs.declared.order.Place.{Place}
 use Rattle.depot_model.specs.declared.request.Session.{Session}
-use Rattle.wire_text.specs.declared.reader.ScriptEnd.{ScriptEnd}
-use Rattle.wire_text.specs.declared.reader.ScriptEnd.TheVariants as scripts
+use Rattle.wire_text.specs.declared.script.ScriptEnd.{ScriptEnd}
+use Rattle.wire_text.specs.declared.script.ScriptEnd.TheVariants as scripts
 use Rattle.wire_text.specs.Giving.{GotFront, GivesAll}
-use Rattle.wire_text.specs.Reading.{IsReadSession}
-use Rattle.wire_text.specs.Script.{Script, script_of}
+use Rattle.session_loop.specs.Asking.{Asking, asking_of}
+use Rattle.session_loop.specs.Reading.{IsAsked}
 use Rattle.wire_text.proofs.Pieces.{front_before}
 use Rattle.p4_server.specs.declared.ended.Ended.{Ended}
 use Rattle.p4_server.specs.declared.ended.PartyEnd.{PartyEnd}
@@ -56,20 +56,20 @@ no_usage true b e = absurd cc
 no_usage false true e = absurd cc
 no_usage false false e = absurd cc
 
-blamed : (failed : Bool) (end : ScriptEnd) (input left : Option (List ℕ)) (before now : ℕ) (session : Option Session) → one_cause (party_end failed end) ≡ causes.Fault → IsReadSession input left before now session end → (failed ≡ true) ⊎ HasRisen before now
+blamed : (failed : Bool) (end : ScriptEnd) (input left : Option (List ℕ)) (before now : ℕ) (session : Option Session) → one_cause (party_end failed end) ≡ causes.Fault → IsAsked input left before now session end → (failed ≡ true) ⊎ HasRisen before now
 blamed true end input left before now session e read = inl refl
 blamed false scripts.Whole input left before now session e read = absurd cc
 blamed false (scripts.Fault fault) input left before now session e read = absurd cc
 blamed false scripts.ReadFault input left before now session e read = inr read.0
 
-completed : (failed : Bool) (end : ScriptEnd) (input left : Option (List ℕ)) (before now : ℕ) (session : Option Session) (bytes : List ℕ) (cause : Cause) → cause ≡ one_cause (party_end failed end) → IsReadSession input left before now session end
-    → input ≡ Some bytes → (script_of bytes).fault ≡ None → ¬ (failed ≡ true) → ¬ HasRisen before now → (cause ≡ causes.Done) ⊎ (cause ≡ causes.Memory)
+completed : (failed : Bool) (end : ScriptEnd) (input left : Option (List ℕ)) (before now : ℕ) (session : Option Session) (bytes : List ℕ) (cause : Cause) → cause ≡ one_cause (party_end failed end) → IsAsked input left before now session end
+    → input ≡ Some bytes → (asking_of bytes).fault ≡ None → ¬ (failed ≡ true) → ¬ HasRisen before now → (cause ≡ causes.Done) ⊎ (cause ≡ causes.Memory)
 completed true end input left before now session bytes cause e read told whole sink source = absurd (sink refl)
 completed false scripts.Whole input left before now session bytes cause e read told whole sink source = inl e
 completed false (scripts.Fault fault) input left before now session bytes cause e read told whole sink source =
-    let says : script_of bytes ≡ record { session = session; fault = Some fault } =
-    let h : IfSome input (λ bytes. script_of bytes ≡ record { session = session; fault = Some fault }) = read in rw told at h in
-    let clash : None ≡ Some fault = sym whole ∙ ap (λ (s : Script). s.fault) says in
+    let says : asking_of bytes ≡ record { session = session; fault = Some fault } =
+    let h : IfSome input (λ bytes. asking_of bytes ≡ record { session = session; fault = Some fault }) = read in rw told at h in
+    let clash : None ≡ Some fault = sym whole ∙ ap (λ (s : Asking). s.fault) says in
     absurd cc
 completed false scripts.ReadFault input left before now session bytes cause e read told whole sink source = absurd (source read.0)
 
@@ -121,7 +121,7 @@ module _ {D S K : Type 0} (left : S → Option (List ℕ)) (source_faults : S �
     | inr s ↦ let clash : causes.Memory ≡ causes.Fault = sym s.1 ∙ is in absurd cc
   ]
 
-  complete_of : (bytes : List ℕ) → inputs name ≡ Some bytes → (script_of bytes).fault ≡ None → ¬ Rose → (ended.cause ≡ causes.Done) ⊎ (ended.cause ≡ causes.Memory)
+  complete_of : (bytes : List ℕ) → inputs name ≡ Some bytes → (asking_of bytes).fault ≡ None → ¬ Rose → (ended.cause ≡ causes.Done) ⊎ (ended.cause ≡ causes.Memory)
   complete_of bytes told whole none = elim end [
     | inl r ↦ elim r.told.is [
       | inl all ↦

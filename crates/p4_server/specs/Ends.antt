@@ -1,8 +1,8 @@
 -- How the ends of parties lead to the end of the program.
 use Rattle.std.specs.Prelude.{ℕ, Bool, true, false, List, if◌then◌else◌}
 use Rattle.std.specs.List.{list_any}
-use Rattle.wire_text.specs.declared.reader.ScriptEnd.{ScriptEnd}
-use Rattle.wire_text.specs.declared.reader.ScriptEnd.TheVariants as scripts
+use Rattle.wire_text.specs.declared.script.ScriptEnd.{ScriptEnd}
+use Rattle.wire_text.specs.declared.script.ScriptEnd.TheVariants as scripts
 use Rattle.p4_server.specs.declared.ended.PartyEnd.{PartyEnd}
 use Rattle.p4_server.specs.declared.ended.PartyCause.{PartyCause}
 use Rattle.p4_server.specs.declared.ended.PartyCause.TheVariants as ends

@@ -1,12 +1,13 @@
 -- The headline: one order of the commands of all parties explains every party's output.
 use Rattle.std.specs.Prelude.{◌≡◌, ◌≤◌, ℕ, ◌+◌, Bool, true, false, List, length, map, slice_get, Option, Some}
 use Rattle.outside_api.specs.Count.{HasRisen}
-use Rattle.depot_model.specs.declared.deed.Deed.{Deed}
-use Rattle.depot_model.specs.declared.place.Place.{Place}
+use Rattle.depot_model.specs.Deeds.{Deed}
+use Rattle.depot_model.specs.declared.order.Place.{Place}
 use Rattle.depot_model.specs.declared.request.Session.{Session}
 use Rattle.depot_model.specs.Order.{IsOrder}
-use Rattle.wire_text.specs.declared.reader.ReadScript.{ReadScript}
-use Rattle.wire_text.specs.Reading.{IsReadScript, commands_of}
+use Rattle.session_loop.specs.declared.reading.ReadSession.{ReadSession}
+use Rattle.session_loop.specs.Asking.{commands_of}
+use Rattle.session_loop.specs.Reading.{IsReadSession}
 use Rattle.session_loop.specs.Served.{IsOutput}
 use Rattle.p4_server.specs.declared.ended.PartyEnd.{PartyEnd}
 use Rattle.p4_server.specs.Ends.{party_end}
@@ -15,9 +16,9 @@ use Rattle.p4_server.specs.Ends.{party_end}
 -- commands, all of them unless its sink failed; and its sink got what one thread answers to these, in order, when it takes
 -- the commands of all sessions in the order, from the depot `start` on.
 pub record IsPartyOf {S K : Type 0} (left : S → Option (List ℕ)) (source_faults : S → ℕ) (given : K → Option (List ℕ)) (sink_faults : K → ℕ) (start : List Deed) (sessions : List (Option Session)) (order : List Place) (input output : Option (List ℕ)) (number : ℕ) (session : Option Session) (source : S) (party : PartyEnd K) : Type 0 where
-  pub read : ReadScript
+  pub read : ReadSession
   pub failed : Bool
-  pub read_is : IsReadScript input (left source) 0 (source_faults source) read
+  pub read_is : IsReadSession input (left source) 0 (source_faults source) read
   pub session_is : session ≡ read.session
   pub number_is : party.party ≡ number
   pub end : party.end ≡ party_end failed read.end

@@ -1,7 +1,7 @@
 -- The lines that tell the order and the ends.
 use Rattle.std.specs.Prelude.{ℕ, List, [], ◌++◌, codes, decimal, if◌then◌else◌}
 use Rattle.std.specs.List.{flat_map}
-use Rattle.depot_model.specs.declared.place.Place.{Place}
+use Rattle.depot_model.specs.declared.order.Place.{Place}
 use Rattle.wire_text.specs.declared.fault.ScriptFaultKind.{ScriptFaultKind}
 use Rattle.wire_text.specs.declared.fault.ScriptFaultKind.TheVariants.{BadHead, LongLine, BadData, Cut, LongData}
 use Rattle.p4_server.specs.declared.ended.PartyEnd.{PartyEnd}

@@ -2,10 +2,10 @@
 use Rattle.std.specs.Prelude.{◌≡◌, ◌⊎◌, ◌↔◌, ℕ, List, [], ◌∷◌, Any, Option, Some, None, codes}
 use Rattle.outside_api.specs.Count.{HasRisen}
 use Rattle.outside_api.specs.Told.{extended}
-use Rattle.depot_model.specs.declared.deed.Deed.{Deed}
-use Rattle.depot_model.specs.declared.place.Place.{Place}
+use Rattle.depot_model.specs.Deeds.{Deed}
+use Rattle.depot_model.specs.declared.order.Place.{Place}
 use Rattle.wire_text.specs.Giving.{GotFront}
-use Rattle.wire_text.specs.Script.{script_of}
+use Rattle.session_loop.specs.Asking.{asking_of}
 use Rattle.p4_server.specs.declared.ended.Ended.{Ended}
 use Rattle.p4_server.specs.declared.ended.PartyEnd.{PartyEnd}
 use Rattle.p4_server.specs.declared.ended.Cause.TheVariants as causes
@@ -76,7 +76,7 @@ pub record KeepsPromise {D S K : Type 0} (left : S → Option (List ℕ)) (sourc
   -- A fault comes only where a count of faults rose.
   pub fault : ended.cause ≡ causes.Fault → SomeRose source_faults sink_faults doors_before doors_now old_out new_out ended
   -- Where the script is whole and no count rises, all is done, or memory was wanting.
-  pub complete : (name bytes : List ℕ) → scheduled words ≡ Some name → inputs name ≡ Some bytes → (script_of bytes).fault ≡ None
+  pub complete : (name bytes : List ℕ) → scheduled words ≡ Some name → inputs name ≡ Some bytes → (asking_of bytes).fault ≡ None
       → ¬ SomeRose source_faults sink_faults doors_before doors_now old_out new_out ended → (ended.cause ≡ causes.Done) ⊎ (ended.cause ≡ causes.Memory)
   -- No disk is touched.
   pub journal_is : ended.journal ≡ journal

@@ -3,7 +3,7 @@
 ghost use Rattle.std.specs.Prelude.{◌≡◌, ◌≤◌, ◌∷◌, [], List, Option, Some, Err, length, slice_get, true, false, IfOk};
 ghost use Rattle.outside_api.specs.Count.{HasRisen};
 ghost use Rattle.depot_model.specs.declared.request.Session.{Session};
-ghost use Rattle.wire_text.specs.Reading.{commands_of};
+ghost use Rattle.session_loop.specs.Asking.{commands_of};
 ghost use Rattle.session_loop.specs.Served.{IsServed};
 ghost use Rattle.p4_server.specs.Headline.{IsHeadline};
 
@@ -11,9 +11,8 @@ use crate::ended::{PartyEnd, end_of_party};
 use depot_model::{Depot, Place, Session};
 use depot_path::Sequence;
 use outside_api::{Clock, Doors, Gate, Sink};
-use session_loop::{SessionRun, run_session};
+use session_loop::{SessionRun, read_session, run_session};
 use std::alloc::Global;
-use wire_text::read_script;
 
 /// A party that was run, with its source and the order.
 #[derive(Drop)]
@@ -38,18 +37,18 @@ pub enum NotRun {
 /// Runs what was read of a script, which may have no session.
 fn run_read<K: Sink, C: Clock, G: Gate>(
     alloc: Global,
-    session: &Option<Session>,
+    session: Option<Session>,
     clock: &C,
     gate: &G,
     sink: &mut K,
     depot: &mut Depot,
     order: &mut Vec<Place>,
 ) -> SessionRun
-    requires few { length (commands_of session.now) ≤ 67108864 }
+    requires few { length (commands_of session) ≤ 67108864 }
     requires no_places { order.old.items ≡ [] }
-    ensures served { IsServed (C.may_give clock.now) (session.now ∷ []) depot.old 1 result.commands result.failed (K.given sink.old) (K.given sink.new) order.new.items }
-    ensures all { result.failed ≡ false → result.commands ≡ length (commands_of session.now) }
-    ensures within { result.commands ≤ length (commands_of session.now) }
+    ensures served { IsServed (C.may_give clock.now) (session ∷ []) depot.old 1 result.commands result.failed (K.given sink.old) (K.given sink.new) order.new.items }
+    ensures all { result.failed ≡ false → result.commands ≡ length (commands_of session) }
+    ensures within { result.commands ≤ length (commands_of session) }
     ensures counts { K.faults sink.old ≤ K.faults sink.new }
     ensures cause { result.failed ≡ true → HasRisen (K.faults sink.old) (K.faults sink.new) }
 {
@@ -79,7 +78,7 @@ pub fn run_party<H: Doors, C: Clock, G: Gate>(
     };
     let mut source = source;
     let mut sink = sink;
-    let read = match read_script(alloc, &mut source) {
+    let read = match read_session(alloc, &mut source) {
         Ok(read) => read,
         Err(_) => return Err(NotRun::Memory),
     };
@@ -87,7 +86,7 @@ pub fn run_party<H: Doors, C: Clock, G: Gate>(
     let mut order = Vec::new(alloc);
     let run = run_read(
         alloc,
-        &read.session,
+        read.session,
         clock,
         gate,
         &mut sink,

@@ -61,87 +61,174 @@ fn runs<R: Threads + Wait + Sync + Abort>(
     Ok(())
 }
 
+const ONE: &[u8] = b"... counter build\n... value 7\n\n... end 1\n\n";
+
+const BOTH: &[u8] =
+    b"... counter build\n... value 7\n\n... end 1\n\n... counter build\n... value 7\n\n... end 2\n\n";
+
+const PLACES: &[u8] = b"place 1 1 1700000000\nplace 1 2 1700000000\n";
+
+const PLACES_AND_FAULT: &[u8] = b"place 1 1 1700000000\nplace 1 2 1700000000\nfault\n";
+
 #[test]
 fn a_counter_is_set_and_shown(rt: HostRuntime) -> Result<(), Fail> {
-    let one = b"... counter build\n... value 7\n\n... end 1\n\n".as_slice();
-    let both =
-        b"... counter build\n... value 7\n\n... end 1\n\n... counter build\n... value 7\n\n... end 2\n\n".as_slice();
-    let places = b"place 1 1 1700000000\nplace 1 2 1700000000\n".as_slice();
-    let fault = b"place 1 1 1700000000\nplace 1 2 1700000000\nfault\n".as_slice();
-    runs(&rt, rt.alloc(), SCRIPT, NONE, 0, both, places)?;
+    runs(&rt, rt.alloc(), SCRIPT, NONE, 0, BOTH, PLACES)?;
+    runs(&rt, rt.alloc(), HEAD, NONE, 0, b"", b"")
+}
+
+/// Each call of the doors, the source, the sink and `out` fails once, and the call after the last never comes.
+#[test]
+fn each_call_of_the_outside_may_fail(rt: HostRuntime) -> Result<(), Fail> {
+    let cases: [(Fails, u8, &[u8], &[u8]); 10] = [
+        (Fails { doors: 1, ..NONE }, 4, b"", b"fault\n"),
+        (Fails { doors: 2, ..NONE }, 0, BOTH, PLACES),
+        (Fails { source: 1, ..NONE }, 4, b"", b"fault\n"),
+        (Fails { source: 2, ..NONE }, 4, BOTH, PLACES_AND_FAULT),
+        (Fails { source: 3, ..NONE }, 0, BOTH, PLACES),
+        (
+            Fails { sink: 1, ..NONE },
+            4,
+            b"",
+            b"place 1 1 1700000000\nfault\n",
+        ),
+        (Fails { sink: 2, ..NONE }, 4, ONE, PLACES_AND_FAULT),
+        (Fails { sink: 3, ..NONE }, 0, BOTH, PLACES),
+        (Fails { out: 1, ..NONE }, 4, BOTH, b""),
+        (Fails { out: 2, ..NONE }, 0, BOTH, PLACES),
+    ];
+    for (fails, status, output, lines) in cases {
+        runs(&rt, rt.alloc(), SCRIPT, fails, status, output, lines)?;
+    }
+    Ok(())
+}
+
+/// A script ends at its first fault, and the commands before it are run.
+#[test]
+fn a_script_ends_at_its_first_fault(rt: HostRuntime) -> Result<(), Fail> {
+    let cases: [(&[u8], &[u8], &[u8]); 6] = [
+        (b"session ann\np4 counter a\n", b"", b"script 1 1 0\n"),
+        (
+            b"replica rep1 bob hostB //...\npull\n",
+            b"",
+            b"script 1 1 0\n",
+        ),
+        (
+            b"session ann ws1 hostA\np4 counter build 7\nfile //ws1/a\np4 counter a\n",
+            ONE,
+            b"place 1 1 1700000000\nscript 1 3 41\n",
+        ),
+        (
+            b"session ann ws1 hostA\np4 counter build 7\ninput 8388609\n",
+            ONE,
+            b"place 1 1 1700000000\nscript 1 5 41\n",
+        ),
+        (
+            b"session ann ws1 hostA\np4 counter build 7\ninput 10\nabc",
+            ONE,
+            b"place 1 1 1700000000\nscript 1 4 53\n",
+        ),
+        (b"", b"", b"script 1 4 0\n"),
+    ];
+    for (script, output, lines) in cases {
+        runs(&rt, rt.alloc(), script, NONE, 3, output, lines)?;
+    }
+    Ok(())
+}
+
+/// Runs one command line, and compares its reply up to the end of the rows.
+fn answers<R: Threads + Wait + Sync + Abort>(
+    rt: &R,
+    alloc: Global,
+    line: &[u8],
+    rows: &[u8],
+) -> Result<(), Fail> {
+    let mut script = Text::from_bytes(alloc, b"session ann ws1 hostA\n# one line\n\n")?;
+    script.append(line)?;
+    script.append(b"\n")?;
+    let mut reply = Text::from_bytes(alloc, rows)?;
+    reply.append(b"\n... end 1\n\n")?;
     runs(
-        &rt,
-        rt.alloc(),
-        SCRIPT,
-        Fails { sink: 2, ..NONE },
-        4,
-        one,
-        fault,
-    )?;
-    runs(
-        &rt,
-        rt.alloc(),
-        SCRIPT,
-        Fails { source: 1, ..NONE },
-        4,
-        b"",
-        b"fault\n",
-    )?;
-    runs(
-        &rt,
-        rt.alloc(),
-        SCRIPT,
-        Fails { doors: 1, ..NONE },
-        4,
-        b"",
-        b"fault\n",
-    )?;
-    runs(
-        &rt,
-        rt.alloc(),
-        SCRIPT,
-        Fails { out: 1, ..NONE },
-        4,
-        both,
-        b"",
+        rt,
+        alloc,
+        script.as_bytes(),
+        NONE,
+        0,
+        reply.as_bytes(),
+        b"place 1 1 1700000000\n",
     )
 }
 
 #[test]
-fn a_script_ends_at_its_first_bad_line(rt: HostRuntime) -> Result<(), Fail> {
-    let bad = b"session ann ws1 hostA\np4 counter a 5\np4 frob\np4 counter a\n".as_slice();
-    let reply = b"... counter a\n... value 5\n\n... end 1\n\n".as_slice();
-    let lines = b"place 1 1 1700000000\nscript 1 3 37\n".as_slice();
-    runs(&rt, rt.alloc(), HEAD, NONE, 0, b"", b"")?;
-    runs(&rt, rt.alloc(), bad, NONE, 3, reply, lines)?;
-    runs(
-        &rt,
-        rt.alloc(),
-        b"session ann\np4 counter a\n",
-        NONE,
-        3,
-        b"",
-        b"script 1 1 0\n",
-    )
+fn each_line_has_its_answer(rt: HostRuntime) -> Result<(), Fail> {
+    let bad_line = b"... code 2\n... name BadUsage\n... command \n".as_slice();
+    let bad_counter = b"... code 2\n... name BadUsage\n... command counter\n".as_slice();
+    let cases: [(&[u8], &[u8]); 17] = [
+        (
+            b"p4 frob",
+            b"... code 1\n... name UnknownCommand\n... word frob\n",
+        ),
+        (b"p4 counter", bad_counter),
+        (b"p4", bad_line),
+        (
+            b"P4 counter a",
+            b"... code 1\n... name UnknownCommand\n... word P4\n",
+        ),
+        (b"  p4   \"counter\"  a ", b"... counter a\n... value 0\n"),
+        (b"p4\tcounter a", bad_line),
+        (b"p4 counter \"a", bad_line),
+        (b"p4 counter a b c", bad_counter),
+        (
+            b"p4 counter a 18446744073709551615",
+            b"... counter a\n... value 18446744073709551615\n",
+        ),
+        (b"p4 counter a 18446744073709551616", bad_counter),
+        (b"p4 counter a 007", b"... counter a\n... value 7\n"),
+        (b"p4 counter 007 1", bad_counter),
+        (b"p4 counter -x", bad_counter),
+        (b"p4 counter change 5", bad_counter),
+        (b"p4 counter journal", b"... counter journal\n... value 0\n"),
+        (
+            b"p4 files //depot//a",
+            b"... code 3\n... name BadPath\n... argument //depot//a\n... fault 2\n",
+        ),
+        (
+            b"p4 files //...",
+            b"... code 25\n... name Unbuilt\n... command files\n",
+        ),
+    ];
+    for (line, rows) in cases {
+        answers(&rt, rt.alloc(), line, rows)?;
+    }
+    Ok(())
+}
+
+#[test]
+fn a_line_has_at_most_64_words(rt: HostRuntime) -> Result<(), Fail> {
+    let mut line = Text::from_bytes(rt.alloc(), b"p4 files")?;
+    for _ in 0..62 {
+        line.append(b" //a/b")?;
+    }
+    let unbuilt = b"... code 25\n... name Unbuilt\n... command files\n";
+    answers(&rt, rt.alloc(), line.as_bytes(), unbuilt)?;
+    line.append(b" //a/b")?;
+    let bad_line = b"... code 2\n... name BadUsage\n... command \n";
+    answers(&rt, rt.alloc(), line.as_bytes(), bad_line)
 }
 
 /// A script that is cut anywhere ends whole behind a line feed and otherwise at its length, and every
 /// command before is run.
 #[test]
 fn a_script_is_cut_at_any_byte(rt: HostRuntime) -> Result<(), Fail> {
-    let one = b"... counter build\n... value 7\n\n... end 1\n\n".as_slice();
-    let both =
-        b"... counter build\n... value 7\n\n... end 1\n\n... counter build\n... value 7\n\n... end 2\n\n".as_slice();
     for at in 0..SCRIPT.len() + 1 {
         let mut lines = Text::new(rt.alloc());
         let mut output = b"".as_slice();
         if at >= 41 {
             lines.append(b"place 1 1 1700000000\n")?;
-            output = one;
+            output = ONE;
         }
         if at >= 58 {
             lines.append(b"place 1 2 1700000000\n")?;
-            output = both;
+            output = BOTH;
         }
         let mut status = 0;
         if at != 22 && at != 41 && at != 58 {

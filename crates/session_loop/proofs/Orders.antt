@@ -1,9 +1,9 @@
 -- One more place at the end of an order.
 use Rattle.std.proofs.Common.{◌≡◌, ℕ, zero, suc, ◌≤◌, true, false, cond, List, [], ◌∷◌, ◌++◌, Option, refl, ap, ◌∙◌, arith}
 use Rattle.std.specs.List.{AllByRecursion}
-use Rattle.depot_model.specs.declared.deed.Deed.{Deed}
+use Rattle.depot_model.specs.Deeds.{Deed}
 use Rattle.depot_model.specs.declared.reply.Row.{Row}
-use Rattle.depot_model.specs.declared.place.Place.{Place}
+use Rattle.depot_model.specs.declared.order.Place.{Place}
 use Rattle.depot_model.specs.declared.request.Session.{Session}
 use Rattle.depot_model.specs.Printed.{printed}
 use Rattle.depot_model.specs.Rows.{memory_row}

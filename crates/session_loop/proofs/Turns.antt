@@ -7,16 +7,17 @@ use Rattle.std.proofs.lemmas.Bool.{ne_eqb, eq-eqb}
 use Rattle.std.proofs.lemmas.List.Elements.{All-push, recursion_from_All}
 use Rattle.std.proofs.lemmas.List.Quantifiers.{all_pairs_push}
 use Rattle.outside_api.specs.Told.{extended}
-use Rattle.depot_model.specs.declared.deed.Deed.{Deed}
+use Rattle.depot_model.specs.Deeds.{Deed}
 use Rattle.depot_model.specs.declared.reply.Row.{Row}
-use Rattle.depot_model.specs.declared.place.Place.{Place}
-use Rattle.depot_model.specs.declared.request.Command.{Command}
+use Rattle.depot_model.specs.declared.order.Place.{Place}
+use Rattle.depot_model.specs.declared.request.Asked.{Asked}
 use Rattle.depot_model.specs.Printed.{printed}
 use Rattle.depot_model.specs.declared.request.Request.{Request}
 use Rattle.depot_model.specs.declared.request.Session.{Session}
 use Rattle.depot_model.specs.Order.{Rises}
 use Rattle.depot_model.specs.Step.{after}
-use Rattle.depot_model.specs.Run.{step, asked, request_at, asked_of, deeds_at, rows_at, run, is_place_of, reply_to, output_of, outputs}
+use Rattle.depot_model.specs.Commands.{step}
+use Rattle.depot_model.specs.Run.{request_of, request_at, request_by, deeds_at, rows_at, run, is_place_of, reply_to, output_of, outputs}
 use Rattle.session_loop.proofs.Orders.{IsUnplaced, run-push, reply_to-unplaced, reply_to-last, outputs-other}
 use Rattle.wire_text.proofs.Pieces.{both, extended-nil, extended-extended}
 use Rattle.session_loop.specs.Served.{IsTaken, IsUntaken, IsAnswered, IsTurn, IsServed}
@@ -41,28 +42,28 @@ other_place party number place ne = rw (ne_eqb place.number number ne) (and_fals
 this_place : (party number : ℕ) (place : Place) → place.party ≡ party → place.number ≡ number → is_place_of party number place ≡ true
 this_place party number place p n = rw (p, n, eq-eqb party party refl, eq-eqb number number refl) refl
 
-module _ (may_give : ℕ → Type 0) (sessions : List (Option Session)) (start : List Deed) (party n : ℕ) (session : Session) (command : Command) (depot depot' : List Deed) (order order' : List Place) (text : List ℕ) where
+module _ (may_give : ℕ → Type 0) (sessions : List (Option Session)) (start : List Deed) (party n : ℕ) (session : Session) (asked : Asked) (depot depot' : List Deed) (order order' : List Place) (text : List ℕ) where
   unplaced : HasRun may_give sessions start party n depot order → IsUnplaced party (n + 1) order
   unplaced h = recursion_from_All (λ place. is_place_of party (n + 1) place ≡ false) order (λ k d lt. other_place party (n + 1) (get_or order k d) (λ e. let last = (h.places k d lt).last in absurd (omega arith)))
 
   -- what its place names
-  named : slice_get sessions (party - 1) ≡ Some (Some session) → slice_get session.commands n ≡ Some command → (place : Place) → place.party ≡ party → place.number ≡ n + 1
-      → request_at sessions place ≡ Some (asked place session.caller command)
+  named : slice_get sessions (party - 1) ≡ Some (Some session) → slice_get session.commands n ≡ Some asked → (place : Place) → place.party ≡ party → place.number ≡ n + 1
+      → request_at sessions place ≡ Some (request_of place session.caller asked)
   named has is place party_is number_is =
       let number : place.number - 1 ≡ n = omega arith in
-      ap (λ (x : ℕ). asked_of place (option_flatten (slice_get sessions (x - 1)))) party_is
-      ∙ (ap (λ (s : Option (Option Session)). asked_of place (option_flatten s)) has
-      ∙ (ap (λ (x : ℕ). option_map (asked place session.caller) (slice_get session.commands x)) number
-      ∙ ap (option_map (asked place session.caller)) is))
+      ap (λ (x : ℕ). request_by place (option_flatten (slice_get sessions (x - 1)))) party_is
+      ∙ (ap (λ (s : Option (Option Session)). request_by place (option_flatten s)) has
+      ∙ (ap (λ (x : ℕ). option_map (request_of place session.caller) (slice_get session.commands x)) number
+      ∙ ap (option_map (request_of place session.caller)) is))
 
   -- the run, the earlier replies and the new one, where the command got a place
-  pub run_taken : slice_get sessions (party - 1) ≡ Some (Some session) → slice_get session.commands n ≡ Some command → HasRun may_give sessions start party n depot order → IsTaken may_give party (n + 1) session.caller command depot depot' order order' text
+  pub run_taken : slice_get sessions (party - 1) ≡ Some (Some session) → slice_get session.commands n ≡ Some asked → HasRun may_give sessions start party n depot order → IsTaken may_give party (n + 1) session.caller asked depot depot' order order' text
       → HasRun may_give sessions start party (n + 1) depot' order'
       × (outputs sessions start order' party n ≡ outputs sessions start order party n)
       × (output_of sessions start order' party (n + 1) ≡ text)
   run_taken has is h t =
       let names = named has is t.place t.party_is t.number_is in
-      let asks : Request = asked t.place session.caller command in
+      let asks : Request = request_of t.place session.caller asked in
       let before : run sessions start order ≡ depot = sym h.depot_is in
       let did : deeds_at sessions depot t.place ≡ (step depot asks).deeds = rw (t.no_fault, names) refl in
       let says : rows_at sessions depot t.place ≡ (step depot asks).rows = rw (t.no_fault, names) refl in (
@@ -105,18 +106,18 @@ pub record HasServed (may_give : ℕ → Type 0) (sessions : List (Option Sessio
 pub served_none : (may_give : ℕ → Type 0) (sessions : List (Option Session)) (start : List Deed) (party : ℕ) (given : Option (List ℕ)) → HasServed may_give sessions start party 0 given given start []
 served_none may_give sessions start party given = record { ran = run_none may_give sessions start party; output = sym (extended-nil given) }
 
-module _ {E : Type 0} (may_give : ℕ → Type 0) (sessions : List (Option Session)) (start : List Deed) (party n : ℕ) (session : Session) (command : Command) (depot depot' : List Deed) (order order' : List Place) (first before now : Option (List ℕ)) where
-  run_more : slice_get sessions (party - 1) ≡ Some (Some session) → slice_get session.commands n ≡ Some command → HasServed may_give sessions start party n first before depot order → (result : Result (Unit {0}) E) → (a : IsAnswered may_give party (n + 1) session.caller command depot depot' order order' before now result)
+module _ {E : Type 0} (may_give : ℕ → Type 0) (sessions : List (Option Session)) (start : List Deed) (party n : ℕ) (session : Session) (asked : Asked) (depot depot' : List Deed) (order order' : List Place) (first before now : Option (List ℕ)) where
+  run_more : slice_get sessions (party - 1) ≡ Some (Some session) → slice_get session.commands n ≡ Some asked → HasServed may_give sessions start party n first before depot order → (result : Result (Unit {0}) E) → (a : IsAnswered may_give party (n + 1) session.caller asked depot depot' order order' before now result)
       → HasRun may_give sessions start party (n + 1) depot' order'
       × (outputs sessions start order' party n ≡ outputs sessions start order party n)
       × (output_of sessions start order' party (n + 1) ≡ a.text)
   run_more has is h result a =
       elim a.taken [
-        | inl t ↦ run_taken may_give sessions start party n session command depot depot' order order' a.text has is h.ran t
-        | inr t ↦ run_untaken may_give sessions start party n session command depot depot' order order' a.text h.ran t
+        | inl t ↦ run_taken may_give sessions start party n session asked depot depot' order order' a.text has is h.ran t
+        | inr t ↦ run_untaken may_give sessions start party n session asked depot depot' order order' a.text h.ran t
       ]
 
-  pub served_more : slice_get sessions (party - 1) ≡ Some (Some session) → slice_get session.commands n ≡ Some command → HasServed may_give sessions start party n first before depot order → (x : Unit {0}) → IsAnswered {E = E} may_give party (n + 1) session.caller command depot depot' order order' before now (Ok x)
+  pub served_more : slice_get sessions (party - 1) ≡ Some (Some session) → slice_get session.commands n ≡ Some asked → HasServed may_give sessions start party n first before depot order → (x : Unit {0}) → IsAnswered {E = E} may_give party (n + 1) session.caller asked depot depot' order order' before now (Ok x)
       → HasServed may_give sessions start party (n + 1) first now depot' order'
   served_more has is h x a =
       let answer : Result (Unit {0}) E = Ok x in
@@ -127,7 +128,7 @@ module _ {E : Type 0} (may_give : ℕ → Type 0) (sessions : List (Option Sessi
             ∙ ap (extended first) (ap (λ (o : List ℕ). o ++ a.text) (sym more.1) ∙ (ap (λ (o : List ℕ). outputs sessions start order' party n ++ o) (sym more.2) ∙ rw add-one refl));
       }
 
-  pub served_last : slice_get sessions (party - 1) ≡ Some (Some session) → slice_get session.commands n ≡ Some command → HasServed may_give sessions start party n first before depot order → (x : E) → IsAnswered may_give party (n + 1) session.caller command depot depot' order order' before now (Err x)
+  pub served_last : slice_get sessions (party - 1) ≡ Some (Some session) → slice_get session.commands n ≡ Some asked → HasServed may_give sessions start party n first before depot order → (x : E) → IsAnswered may_give party (n + 1) session.caller asked depot depot' order order' before now (Err x)
       → IsServed may_give sessions start party (n + 1) true first now order'
   served_last has is h x a =
       let more = run_more has is h (Err x) a in

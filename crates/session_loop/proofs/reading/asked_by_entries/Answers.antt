@@ -1,0 +1,31 @@
+use Rattle.std.proofs.Common.{◌≡◌, ◌∷◌, [], ◌++◌, List, length, refl, sym, ap, ◌∙◌, append-nil, arith}
+use Rattle.std.specs.Vec.Iter.{into_iter_items}
+use Rattle.wire_text.specs.declared.entry.Entry.{Entry}
+use Rattle.depot_model.specs.declared.request.Asked.{Asked}
+use Rattle.session_loop.specs.Asking.{asked_from}
+use Rattle.session_loop.proofs.reading.asked_by_entries.Goals as goal
+
+nothing_left : (entries : List Entry) → length entries ≡ 0 → entries ≡ []
+nothing_left [] h = refl
+nothing_left (entry ∷ entries) h = absurd (omega arith)
+
+pub loop-entry-preserved : goal.loop-entry-preserved
+loop-entry-preserved c =
+    let at = c.loop-entry in
+    let steps : into_iter_items at.entry-iterator ≡ c.in-Some.entry ∷ into_iter_items c.next.new.self = c.in-Some.ensures.steps.0 in
+    let short = ap length steps in
+    record {
+      goes = sym (c.in_ok-follow.ensures.goes (into_iter_items c.next.new.self))
+          ∙ (ap (λ (es : List Entry). at.commands ++ asked_from at.contents.entries es) (sym steps) ∙ at.invariant.goes);
+      few = let more = c.in_ok-follow.ensures.few in let was = at.invariant.few in omega arith;
+      left = let was = at.invariant.left in let gone = c.in-Some.ensures.steps.1 in omega arith;
+    }
+
+pub returns-clause-value : goal.returns-clause-value
+returns-clause-value c =
+    let at = c.loop-entry in
+    let none : into_iter_items at.entry-iterator ≡ [] = nothing_left _ (sym at.invariant.left ∙ c.in-None.ensures.steps.0) in
+    sym (append-nil at.commands) ∙ (ap (λ (es : List Entry). at.commands ++ asked_from at.contents.entries es) (sym none) ∙ at.invariant.goes)
+
+pub returns-clause-few : goal.returns-clause-few
+returns-clause-few c = let few = c.loop-entry.invariant.few in omega arith
