@@ -27,6 +27,8 @@ pub struct FolderDisk<'a, R: Files<File = File> + AllocGlobal + Clone + Drop> {
     /// The files that were written since the last sync.
     written: Vec<u32>,
     faults: Faults,
+    /// How many calls it was asked; the count stays at its last value.
+    calls: u64,
 }
 
 /// The most bytes of a file.
@@ -204,12 +206,14 @@ impl<'a, R: Files<File = File> + AllocGlobal + Clone + Drop> FolderDisk<'a, R> {
             is_new: true,
             written: Vec::new(rt.alloc()),
             faults: Faults { count: 0 },
+            calls: 0,
         })
     }
 
     /// Notes that a file is written.
     fn note(&mut self, file: u32) -> Result<(), AllocError>
-        ensures { self.new.faults ≡ self.old.faults }
+        ensures faults { self.new.faults ≡ self.old.faults }
+        ensures calls { self.new.calls ≡ self.old.calls }
     {
         if !self.written.contains(&file) {
             self.written.push(file)?;
@@ -245,6 +249,8 @@ impl<R: Files<File = File> + AllocGlobal + Clone + Drop> Disk for FolderDisk<'_,
 
     ghost faults = { λ disk. disk.faults.count };
 
+    ghost calls = { λ disk. disk.calls };
+
     ghost reads_an_image = { λ disk c seen. absurd seen };
 
     ghost reads_one = { λ disk c d seen other file. absurd seen };
@@ -256,6 +262,7 @@ impl<R: Files<File = File> + AllocGlobal + Clone + Drop> Disk for FolderDisk<'_,
     ghost only_now = { λ disk c left. absurd left };
 
     fn length(&mut self, file: u32) -> Result<u64, Failed> {
+        self.calls = self.calls.saturating_add(1);
         let length = length_of(self.rt, self.rt.alloc(), self.folder.as_str(), file);
         let length = counted(&mut self.faults, length)?;
         if length > MOST {
@@ -266,6 +273,7 @@ impl<R: Files<File = File> + AllocGlobal + Clone + Drop> Disk for FolderDisk<'_,
     }
 
     fn read(&mut self, file: u32, at: u64, buffer: &mut [u8]) -> Result<usize, Failed> {
+        self.calls = self.calls.saturating_add(1);
         let count = read_from(
             self.rt,
             self.rt.alloc(),
@@ -278,6 +286,7 @@ impl<R: Files<File = File> + AllocGlobal + Clone + Drop> Disk for FolderDisk<'_,
     }
 
     fn write_at(&mut self, file: u32, at: u64, piece: &[u8]) -> Result<(), Failed> {
+        self.calls = self.calls.saturating_add(1);
         if at > MOST || piece.len() as u64 > MOST - at || self.note(file).is_err() {
             self.faults.rise();
             return Err(Failed);
@@ -294,6 +303,7 @@ impl<R: Files<File = File> + AllocGlobal + Clone + Drop> Disk for FolderDisk<'_,
     }
 
     fn cut(&mut self, file: u32, length: u64) -> Result<(), Failed> {
+        self.calls = self.calls.saturating_add(1);
         if self.note(file).is_err() {
             self.faults.rise();
             return Err(Failed);
@@ -303,6 +313,7 @@ impl<R: Files<File = File> + AllocGlobal + Clone + Drop> Disk for FolderDisk<'_,
     }
 
     fn sync(&mut self) -> Result<(), Failed> {
+        self.calls = self.calls.saturating_add(1);
         let synced = sync_folder(self.rt, self.folder.as_str(), self.is_new, &self.written);
         counted(&mut self.faults, synced)?;
         self.is_new = false;
