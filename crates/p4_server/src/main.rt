@@ -1,4 +1,7 @@
 //! The depot server: reads the scripts of sessions, answers their commands, and keeps the depot.
+//!
+//! The program runs over the current folder: the script of a party NAME is the file NAME, and its replies go to the file `NAME.out`. The
+//! journal and the archive are the folders `depot.journal` and `depot.archive`, and the order and the ends go to standard output.
 #![tactic(auto)]
 
 mod ended;
@@ -9,53 +12,36 @@ mod tests;
 mod top;
 mod words;
 
-use crate::ended::Ended;
 use crate::top::p4_top;
-use depot_path::Text;
-use memory_world::{Door, FixedClock, MemoryDisk, MemoryDoors, MemorySink, MemorySource, OpenGate};
+use memory_world::OpenGate;
+use real_world::{FileSink, FolderDisk, FolderDoors, SystemClock};
 use std::alloc::{AllocError, Global};
-use std::io;
+use std::process::ExitCode;
+use std::{env, io};
 
-/// The script of a session that sets a counter and shows it.
-const SCRIPT: &[u8] = b"session ann ws1 hostA\np4 counter build 7\np4 counter build\n";
-
-type MemoryEnded = Ended<MemoryDisk, MemorySource, MemorySink>;
-
-/// The door to a session of that script.
-fn doors(alloc: Global) -> Result<MemoryDoors, AllocError> {
-    let source = MemorySource::new(Text::from_bytes(alloc, SCRIPT)?, Vec::new(alloc));
-    let sink = MemorySink::new(Vec::new(alloc));
-    let mut doors = Vec::new(alloc);
-    doors.push(Door::new(Text::from_bytes(alloc, b"a")?, source, sink))?;
-    Ok(MemoryDoors::new(doors, Vec::new(alloc)))
+/// The words of the command line.
+fn texts(alloc: Global, arguments: &[String]) -> Result<Vec<&str>, AllocError> {
+    let mut words = Vec::new(alloc);
+    for argument in arguments {
+        words.push(argument.as_str())?;
+    }
+    Ok(words)
 }
 
-fn main(rt: HostRuntime) -> io::Result<()> {
+fn main(rt: HostRuntime) -> io::Result<ExitCode> {
     let alloc = rt.alloc();
-    let mut doors = doors(alloc)?;
-    let mut out = MemorySink::new(Vec::new(alloc));
-    let ended: MemoryEnded = p4_top(
-        &rt,
-        alloc,
-        &["schedule", "a"],
-        &mut doors,
-        MemoryDisk::new(Vec::new(alloc)),
-        MemoryDisk::new(Vec::new(alloc)),
-        &mut out,
-        &FixedClock::new(1_700_000_000),
-        &OpenGate,
+    let mut arguments = Vec::new(alloc);
+    for argument in env::args(&rt)?.skip(1) {
+        arguments.push(argument)?;
+    }
+    let words = texts(alloc, &arguments)?;
+    let mut doors = FolderDoors::new(&rt, alloc);
+    let journal = FolderDisk::new(&rt, "depot.journal")?;
+    let archive = FolderDisk::new(&rt, "depot.archive")?;
+    let mut out = FileSink::output(rt.stdout());
+    let clock = SystemClock::new(&rt);
+    let ended = p4_top(
+        &rt, alloc, &words, &mut doors, journal, archive, &mut out, &clock, &OpenGate,
     );
-    for party in ended.parties.as_slice() {
-        show(&rt, party.sink.given())?;
-    }
-    show(&rt, out.given())?;
-    println!(rt; "status {}", ended.status)
-}
-
-/// Prints bytes, if they are text.
-fn show(rt: &impl Print, bytes: &[u8]) -> io::Result<()> {
-    match str::from_utf8(bytes) {
-        Ok(text) => rt.print(text),
-        Err(_) => Ok(()),
-    }
+    Ok(ExitCode::from(ended.status))
 }

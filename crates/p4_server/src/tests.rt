@@ -1,8 +1,19 @@
-use super::*;
+//! Runs over an outside in memory.
+
+use crate::ended::Ended;
+use crate::top::p4_top;
+use depot_path::Text;
+use memory_world::{Door, FixedClock, MemoryDisk, MemoryDoors, MemorySink, MemorySource, OpenGate};
+use std::alloc::{AllocError, Global};
 use std::process::Abort;
 use std::sync::Wait;
 use std::test::*;
 use std::thread::Threads;
+
+/// The script of a session that sets a counter and shows it.
+const SCRIPT: &[u8] = b"session ann ws1 hostA\np4 counter build 7\np4 counter build\n";
+
+type MemoryEnded = Ended<MemoryDisk, MemorySource, MemorySink>;
 
 const HEAD: &[u8] = b"session ann ws1 hostA\n";
 
