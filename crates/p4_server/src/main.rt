@@ -16,32 +16,61 @@ use crate::top::p4_top;
 use memory_world::OpenGate;
 use real_world::{FileSink, FolderDisk, FolderDoors, SystemClock};
 use std::alloc::{AllocError, Global};
+use std::env;
+use std::io::ErrorKind;
 use std::process::ExitCode;
-use std::{env, io};
+use std::rt::Env;
 
-/// The words of the command line.
-fn texts(alloc: Global, arguments: &[String]) -> Result<Vec<&str>, AllocError> {
-    let mut words = Vec::new(alloc);
-    for argument in arguments {
-        words.push(argument.as_str())?;
+/// The status of a run that found no memory.
+const NO_MEMORY: u8 = 5;
+
+/// The words of the command line behind the program's own name. Where one of them isn't UTF-8 there are none, which are the words of no mode.
+fn arguments(rt: &(impl Env + AllocGlobal)) -> Result<Vec<String>, AllocError> {
+    let mut words = Vec::new(rt.alloc());
+    match env::args(rt) {
+        Ok(all) => {
+            for word in all.skip(1) {
+                words.push(word)?;
+            }
+            Ok(words)
+        }
+        Err(error) => {
+            if error.kind() == ErrorKind::OutOfMemory {
+                Err(AllocError)
+            } else {
+                Ok(words)
+            }
+        }
     }
-    Ok(words)
 }
 
-fn main(rt: HostRuntime) -> io::Result<ExitCode> {
-    let alloc = rt.alloc();
-    let mut arguments = Vec::new(alloc);
-    for argument in env::args(&rt)?.skip(1) {
-        arguments.push(argument)?;
+fn texts(alloc: Global, words: &[String]) -> Result<Vec<&str>, AllocError> {
+    let mut texts = Vec::new(alloc);
+    for word in words {
+        texts.push(word.as_str())?;
     }
-    let words = texts(alloc, &arguments)?;
+    Ok(texts)
+}
+
+fn main(rt: HostRuntime) -> ExitCode {
+    let alloc = rt.alloc();
+    let Ok(arguments) = arguments(&rt) else {
+        return ExitCode::from(NO_MEMORY);
+    };
+    let Ok(words) = texts(alloc, &arguments) else {
+        return ExitCode::from(NO_MEMORY);
+    };
+    let Ok(journal) = FolderDisk::new(&rt, "depot.journal") else {
+        return ExitCode::from(NO_MEMORY);
+    };
+    let Ok(archive) = FolderDisk::new(&rt, "depot.archive") else {
+        return ExitCode::from(NO_MEMORY);
+    };
     let mut doors = FolderDoors::new(&rt, alloc);
-    let journal = FolderDisk::new(&rt, "depot.journal")?;
-    let archive = FolderDisk::new(&rt, "depot.archive")?;
     let mut out = FileSink::output(rt.stdout());
     let clock = SystemClock::new(&rt);
     let ended = p4_top(
         &rt, alloc, &words, &mut doors, journal, archive, &mut out, &clock, &OpenGate,
     );
-    Ok(ExitCode::from(ended.status))
+    ExitCode::from(ended.status)
 }
