@@ -7,4 +7,5 @@ pub mod Arguments
 pub mod Fields
 pub mod FileForms
 pub mod WordForms
+pub mod WellFormed
 pub mod Reading

@@ -11,6 +11,7 @@ mod ends;
 mod fields;
 mod file_forms;
 mod file_type;
+mod laws;
 mod numbers;
 mod options;
 mod table;
@@ -30,6 +31,7 @@ use crate::values::{bad_usage, text};
 use crate::word_forms::{bare_command, word_command};
 use depot_model::{Command, Line, WordFault};
 use depot_path::Text;
+pub use laws::words_spell_well_formed_commands;
 use std::alloc::Global;
 
 #[cfg(test)]

@@ -179,3 +179,25 @@ fn a_bad_argument_is_told_as_given(rt: HostRuntime) -> Result<(), Fail> {
         _ => Err(Fail::from("the argument is no path")),
     }
 }
+
+#[test]
+fn a_line_of_sixty_four_words_is_read_to_its_end(rt: HostRuntime) -> Result<(), Fail> {
+    let alloc = rt.alloc();
+    let mut text = String::from_str(alloc, "p4 files -e")?;
+    for number in 4..=64 {
+        text.push_str(&format!(in alloc; " //depot/{number}")?)?;
+    }
+    let line = line_of(alloc, &text)?;
+    assert!(rt; matches!(&line, Line::Words(words) if words.len() == 64));
+    match read_command(alloc, &line, false) {
+        Ok(Command::Files { live: true, files }) => {
+            assert_eq!(rt; files.len(), 61);
+            assert_eq!(rt;
+                files.as_slice()[60].text.as_bytes(),
+                b"//depot/64".as_slice()
+            );
+            Ok(())
+        }
+        _ => Err(Fail::from("the words are a command")),
+    }
+}
