@@ -1,0 +1,5 @@
+pub mod Standing
+pub mod Deed
+pub mod Effects
+pub mod Cut
+pub mod Needs
