@@ -1,0 +1,11 @@
+pub mod Made
+pub mod Kept
+pub mod Keyed
+pub mod Exact
+pub mod Counted
+pub mod Puts
+pub mod Applied
+pub mod Between
+pub mod Removed
+pub mod Ended
+pub mod Guarded

@@ -1,0 +1,9 @@
+pub mod Stored
+pub mod Overlay
+pub mod Difference
+pub mod Differences
+pub mod Source
+pub mod Plain
+pub mod Ranges
+pub mod Users
+pub mod Lines

@@ -1,0 +1,24 @@
+//! What deeds change in the rows of a depot's tables.
+//!
+//! A command says what happens by its deeds. The engine keeps the rows that they touch over those of
+//! the tables, and at the end says what differs, as changes that a commit writes.
+#![tactic(auto)]
+
+mod counters;
+mod deeds;
+mod difference;
+mod engine;
+mod lines;
+mod overlay;
+mod plain;
+mod ranges;
+mod rows;
+mod stored;
+mod words;
+
+pub use counters::counter_changes;
+pub use engine::row_changes;
+pub use plain::PlainDeed;
+
+#[cfg(test)]
+mod tests;
