@@ -1,0 +1,39 @@
+-- What a request does in the tables of a depot. This project's own choice.
+use Rattle.std.specs.Prelude.{◌≡◌, IsTrue, List, map, Result, Ok, Err}
+use Rattle.db_records.specs.Table.{table_number}
+use Rattle.db_records.specs.declared.table.TableId.{TableId}
+use Rattle.table_changes.specs.Changed.{AllRows}
+use Rattle.depot_model.specs.declared.command.Command.{Command}
+use Rattle.depot_model.specs.declared.request.Request.{Request}
+use Rattle.depot_model.specs.declared.request.WordFault.{WordFault}
+use Rattle.depot_model.specs.Commands.{step}
+use Rattle.depot_model.specs.Counts.{count_deed}
+use Rattle.depot_model.specs.Deeds.{Deed}
+use Rattle.depot_model.specs.Step.{Step as ModelStep, after}
+use Rattle.depot_model.specs.Tables.{touches}
+use Rattle.depot_rows.specs.Standing.{HasRows}
+use Rattle.row_changes.specs.Differences.{AreDifferences}
+use Rattle.spec_ops.specs.declared.step.Step.{Step}
+use Rattle.command_core.specs.declared.outcome.Outcome.{Outcome}
+
+-- the tables that a command reads or writes have the rows of a depot
+abbrev pub HasTouched : AllRows → List Deed → Command → Type 0
+HasTouched rows d command = (table : TableId) → IsTrue (touches command (table_number table)) → HasRows rows d table
+
+-- so have those that a request needs; words that are no command need none
+abbrev pub HasNeededBy : AllRows → List Deed → Result Command WordFault → Type 0
+HasNeededBy rows d (Ok command) = HasTouched rows d command
+HasNeededBy rows d (Err fault) = Unit {0}
+
+abbrev pub HasNeeded : AllRows → List Deed → Request → Type 0
+HasNeeded rows d request = HasNeededBy rows d request.command
+
+-- a step of the code is the model's
+pub record IsStep (model : ModelStep) (made : Step) : Type 0 where
+  pub deeds : map count_deed made.deeds ≡ model.deeds
+  pub rows : made.rows ≡ model.rows
+
+-- the reply is the step's, and the changes are exactly what its deeds make differ
+pub record IsOutcome (rows : AllRows) (d : List Deed) (request : Request) (outcome : Outcome) : Type 0 where
+  pub reply : outcome.reply.rows ≡ (step d request).rows
+  pub changes : AreDifferences rows d (after d (step d request).deeds) outcome.changes

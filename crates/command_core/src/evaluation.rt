@@ -1,0 +1,169 @@
+//! What a request does.
+
+ghost use Rattle.std.specs.Prelude.{◌≡◌, List, [], ◌∷◌, map, IfOk, codes};
+ghost use Rattle.table_changes.specs.Changed.{AllFitIn, rows_of};
+ghost use Rattle.depot_model.specs.About.{about};
+ghost use Rattle.depot_model.specs.Built.{is_built};
+ghost use Rattle.depot_model.specs.Commands.{built_step, step};
+ghost use Rattle.depot_model.specs.Counts.{count_deed};
+ghost use Rattle.depot_model.specs.Deeds.{Deed};
+ghost use Rattle.depot_model.specs.Refusals.{refusal_row};
+ghost use Rattle.depot_model.specs.Rules.{IsSound};
+ghost use Rattle.depot_model.specs.Step.{after};
+ghost use Rattle.depot_model.specs.declared.command.Command.TheVariants as commands;
+ghost use Rattle.depot_model.specs.declared.refusal.Refusal.TheVariants as refusals;
+ghost use Rattle.row_changes.specs.Differences.{AreDifferences};
+ghost use Rattle.command_core.specs.Outcomes.{HasNeeded, HasTouched, IsOutcome, IsStep};
+
+use crate::outcome::Outcome;
+use crate::refusals::{denied_row, unbuilt_row, word_row};
+use crate::rights::may_anywhere;
+use depot_model::{Command, Reply, Request};
+use depot_path::{Name, Sequence};
+use protect_table::Level;
+use row_changes::counter_changes;
+use spec_ops::{Step, counter_delete, counter_set, counter_show};
+use std::alloc::{AllocError, Global};
+use table_store::Tables;
+
+/// The step of a command that is refused for want of a right.
+fn denied(alloc: Global, need: Level) -> Result<Step, AllocError>
+    ensures deeds { IfOk result (λ step. step.deeds ≡ []) }
+    ensures rows { IfOk result (λ step. step.rows ≡ refusal_row (refusals.Denied (codes "//...") need.0) ∷ []) }
+{
+    Step::tells(alloc, denied_row(alloc, need)?)
+}
+
+/// `counter NAME`, where the caller may list.
+fn show(alloc: Global, tables: &Tables, request: &Request, name: &Name) -> Result<Step, AllocError>
+    ensures { IfOk result (λ step. (d : List Deed) → IsSound d → HasTouched (rows_of tables.now) d (commands.CounterShow name.now) →
+        IsStep (built_step is_built d request.now (commands.CounterShow name.now)) step) }
+{
+    let need = Level(1);
+    let may = may_anywhere(alloc, tables, &request.caller, need)?;
+    if !may {
+        let refused = denied(alloc, need)?;
+        return Ok(refused);
+    }
+    let step = counter_show(alloc, tables, name)?;
+    Ok(step)
+}
+
+/// `counter NAME VALUE`, where the caller may write.
+fn set(
+    alloc: Global,
+    tables: &Tables,
+    request: &Request,
+    name: &Name,
+    value: u64,
+) -> Result<Step, AllocError>
+    ensures { IfOk result (λ step. (d : List Deed) → IsSound d → HasTouched (rows_of tables.now) d (commands.CounterSet name.now value) →
+        IsStep (built_step is_built d request.now (commands.CounterSet name.now value)) step) }
+{
+    let need = Level(4);
+    let may = may_anywhere(alloc, tables, &request.caller, need)?;
+    if !may {
+        let refused = denied(alloc, need)?;
+        return Ok(refused);
+    }
+    let step = counter_set(alloc, name, value)?;
+    Ok(step)
+}
+
+/// `counter -d NAME`, where the caller may write.
+fn delete(
+    alloc: Global,
+    tables: &Tables,
+    request: &Request,
+    name: &Name,
+) -> Result<Step, AllocError>
+    ensures { IfOk result (λ step. (d : List Deed) → IsSound d → HasTouched (rows_of tables.now) d (commands.CounterDelete name.now) →
+        IsStep (built_step is_built d request.now (commands.CounterDelete name.now)) step) }
+{
+    let need = Level(4);
+    let may = may_anywhere(alloc, tables, &request.caller, need)?;
+    if !may {
+        let refused = denied(alloc, need)?;
+        return Ok(refused);
+    }
+    let step = counter_delete(alloc, name)?;
+    Ok(step)
+}
+
+/// The step of a command that isn't built.
+fn unbuilt(alloc: Global, command: &Command) -> Result<Step, AllocError>
+    ensures deeds { IfOk result (λ step. step.deeds ≡ []) }
+    ensures rows { IfOk result (λ step. step.rows ≡ refusal_row (refusals.Unbuilt (about command.now).word) ∷ []) }
+{
+    Step::tells(alloc, unbuilt_row(alloc, command.word().as_bytes())?)
+}
+
+/// The step of a command.
+fn command_step(
+    alloc: Global,
+    tables: &Tables,
+    request: &Request,
+    command: &Command,
+) -> Result<Step, AllocError>
+    ensures { IfOk result (λ step. (d : List Deed) → IsSound d → HasTouched (rows_of tables.now) d command.now → IsStep (built_step is_built d request.now command.now) step) }
+{
+    match command {
+        Command::CounterShow { name } => {
+            let step = show(alloc, tables, request, name)?;
+            Ok(step)
+        }
+        Command::CounterSet { name, value } => {
+            let step = set(alloc, tables, request, name, *value)?;
+            Ok(step)
+        }
+        Command::CounterDelete { name } => {
+            let step = delete(alloc, tables, request, name)?;
+            Ok(step)
+        }
+        _ => {
+            let step = unbuilt(alloc, command)?;
+            Ok(step)
+        }
+    }
+}
+
+/// The step of a request.
+fn request_step(alloc: Global, tables: &Tables, request: &Request) -> Result<Step, AllocError>
+    ensures { IfOk result (λ made. (d : List Deed) → IsSound d → HasNeeded (rows_of tables.now) d request.now → IsStep (step d request.now) made) }
+{
+    match &request.command {
+        Ok(command) => {
+            let step = command_step(alloc, tables, request, command)?;
+            Ok(step)
+        }
+        Err(fault) => {
+            let step = Step::tells(alloc, word_row(alloc, fault)?)?;
+            Ok(step)
+        }
+    }
+}
+
+/// The outcome of a step.
+fn finish(alloc: Global, tables: &Tables, step: Step) -> Result<Outcome, AllocError>
+    ensures reply { IfOk result (λ outcome. outcome.reply.rows ≡ step.rows) }
+    ensures changes { IfOk result (λ outcome. (d : List Deed) → AreDifferences (rows_of tables.now) d (after d (map count_deed step.deeds)) outcome.changes) }
+{
+    let changes = counter_changes(alloc, tables, step.deeds.as_slice())?;
+    Ok(Outcome {
+        reply: Reply { rows: step.rows },
+        changes: Sequence::from_vec(changes),
+    })
+}
+
+/// What a request is answered, and what it changes in the tables; nothing is changed yet. Where the
+/// tables that it needs have the rows of a sound depot, both are the model's. The one error is want of
+/// memory.
+pub fn evaluate(alloc: Global, tables: &Tables, request: &Request) -> Result<Outcome, AllocError>
+    ensures outcome { IfOk result (λ outcome. (d : List Deed) → IsSound d → HasNeeded (rows_of tables.now) d request.now → IsOutcome (rows_of tables.now) d request.now outcome) }
+    // Whatever the tables have, each change fits after those before it.
+    ensures fit { IfOk result (λ outcome. AllFitIn (rows_of tables.now) outcome.changes) }
+{
+    let step = request_step(alloc, tables, request)?;
+    let outcome = finish(alloc, tables, step)?;
+    Ok(outcome)
+}

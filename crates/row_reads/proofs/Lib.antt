@@ -1,0 +1,6 @@
+pub mod Alike
+pub mod FoundRows
+pub mod GroupsListed
+pub mod LinesRead
+pub mod ViewsRead
+pub mod Whole

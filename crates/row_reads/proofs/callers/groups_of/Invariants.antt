@@ -1,0 +1,8 @@
+use Rattle.std.proofs.Common.{◌≡◌, ◌++◌}
+use Rattle.db_records.specs.declared.table.TableId.TheVariants as table_ids
+use Rattle.table_changes.specs.Changed.{rows_of}
+use Rattle.row_reads.specs.Groups.{groups_in}
+use Rattle.row_reads.proofs.callers.groups_of.Given as goal
+
+abbrev pub invariant-loop-row : goal.invariant-loop-row
+invariant-loop-row l = l.groups ++ groups_in l.user l.row-iterator ≡ groups_in l.user (rows_of l.tables table_ids.Group)

@@ -1,0 +1,107 @@
+//! Callers with the groups that list them.
+
+ghost use Rattle.std.specs.Prelude.{◌≡◌, ℕ, ◌&&◌, ◌++◌, List, IfOk, OnOk};
+ghost use Rattle.depot_path.specs.Bytes.{same};
+ghost use Rattle.depot_path.specs.Name.{is_name as name_test};
+ghost use Rattle.db_records.specs.declared.table.TableId.TheVariants as table_ids;
+ghost use Rattle.table_changes.specs.Changed.{rows_of};
+ghost use Rattle.depot_model.specs.Asking.{groups_of as groups_given, who_of as who_in};
+ghost use Rattle.depot_model.specs.Deeds.{Deed};
+ghost use Rattle.depot_model.specs.Rules.{IsSound};
+ghost use Rattle.depot_rows.specs.Standing.{HasRows};
+ghost use Rattle.row_reads.specs.Groups.{group_of, group_in, groups_in};
+
+use db_records::{GroupRecord, Key, Record, TableId};
+use depot_model::Caller;
+use depot_path::{Name, Sequence, Text, is_name};
+use protect_table::Who;
+use std::alloc::{AllocError, Global};
+use table_store::{Tables, Walk};
+
+/// Whether a row lists the user, in a group whose name is one.
+fn is_listed(user: &Name, row: &GroupRecord) -> bool
+    ensures { result ≡ (same user.now row.now.user && name_test row.now.group) }
+{
+    user.as_bytes() == row.user.as_bytes() && is_name(row.group.as_bytes())
+}
+
+/// Adds the group of a row that lists the user. One whose name is none is passed over.
+fn push_group(
+    alloc: Global,
+    groups: &mut Sequence<Name>,
+    user: &Name,
+    row: &GroupRecord,
+) -> Result<(), AllocError>
+    ensures { OnOk result (groups.new ≡ groups.old ++ group_of user.now row.now) }
+{
+    if !is_listed(user, row) {
+        return Ok(());
+    }
+    match Name::read(alloc, row.group.as_bytes()) {
+        Ok(group) => {
+            groups.push(group)?;
+            Ok(())
+        }
+        Err(_) => Err(AllocError),
+    }
+}
+
+/// All rows of the table of groups.
+#[tactic(auto, using(crate::proofs::Whole::all_groups))]
+fn group_rows(alloc: Global, tables: &Tables) -> Walk<'_>
+    ensures { result ≡ rows_of tables.now table_ids.Group }
+{
+    let version = tables.version(TableId::Group);
+    let _table = version.table();
+    version.from_key(&Key::Group {
+        group: Text::new(alloc),
+        user: Text::new(alloc),
+    })
+}
+
+/// Adds the group of a row, if it is one of a group that lists the user.
+fn push_row(
+    alloc: Global,
+    groups: &mut Sequence<Name>,
+    user: &Name,
+    row: &Record,
+) -> Result<(), AllocError>
+    ensures { OnOk result (groups.new ≡ groups.old ++ group_in user.now row.now) }
+{
+    if let Record::Group(row) = row {
+        push_group(alloc, groups, user, row)?;
+    }
+    Ok(())
+}
+
+/// The groups that list a user, by name.
+fn groups_of(alloc: Global, tables: &Tables, user: &Name) -> Result<Sequence<Name>, AllocError>
+    ensures { IfOk result (λ groups. groups ≡ groups_in user.now (rows_of tables.now table_ids.Group)) }
+{
+    let mut groups = Sequence::new(alloc);
+    for row in group_rows(alloc, tables) {
+        push_row(alloc, &mut groups, user, row)?;
+    }
+    Ok(groups)
+}
+
+/// The rows of a sound depot list the groups of each user.
+fn rows_list_groups(tables: &Tables)
+    ensures { (d : List Deed) (user : List ℕ) → IsSound d → HasRows (rows_of tables.now) d table_ids.Group → groups_in user (rows_of tables.now table_ids.Group) ≡ groups_given d user }
+{
+    let version = tables.version(TableId::Group);
+    let _table = version.table();
+}
+
+/// The caller with the groups that list the user (Command-Line Reference, "p4 group"), from the table of groups alone.
+pub fn who_of(alloc: Global, tables: &Tables, caller: &Caller) -> Result<Who, AllocError>
+    ensures rows { IfOk result (λ who. who ≡ record { user = caller.now.user; groups = groups_in caller.now.user (rows_of tables.now table_ids.Group); host = caller.now.host }) }
+    ensures depot { IfOk result (λ who. (d : List Deed) → IsSound d → HasRows (rows_of tables.now) d table_ids.Group → who ≡ who_in d caller.now) }
+{
+    rows_list_groups(tables);
+    Ok(Who {
+        user: caller.user.clone()?,
+        groups: groups_of(alloc, tables, &caller.user)?,
+        host: caller.host.clone()?,
+    })
+}

@@ -1,0 +1,109 @@
+//! The protections.
+
+ghost use Rattle.std.specs.Prelude.{◌≡◌, ◌++◌, ◌∷◌, List, [], IfOk, OnOk};
+ghost use Rattle.db_records.specs.declared.table.TableId.TheVariants as table_ids;
+ghost use Rattle.table_changes.specs.Changed.{rows_of};
+ghost use Rattle.depot_model.specs.Asking.{read_lines, protects as protects_in};
+ghost use Rattle.depot_model.specs.Deeds.{Deed};
+ghost use Rattle.depot_model.specs.Rules.{IsSound, line_text as text_of_line};
+ghost use Rattle.depot_rows.specs.Standing.{HasRows};
+ghost use Rattle.row_reads.specs.Lines.{text_in, texts_in};
+
+use db_records::{Key, ProtectRecord, Record, TableId};
+use depot_path::{Sequence, Text};
+use protect_table::{LineFault, Protects};
+use std::alloc::{AllocError, Global};
+use table_store::{Tables, Walk};
+
+/// Adds a word behind a space.
+fn append_word(text: &mut Text, word: &Text) -> Result<(), AllocError>
+    ensures { OnOk result (text.new ≡ text.old ++ 0x20 ∷ word.now) }
+{
+    text.append(b" ")?;
+    text.append(word.as_bytes())?;
+    Ok(())
+}
+
+/// The line that a row's words make.
+fn line_text(alloc: Global, line: &ProtectRecord) -> Result<Text, AllocError>
+    ensures { IfOk result (λ text. text ≡ text_of_line line.now) }
+{
+    let mut text = Text::from_bytes(alloc, line.mode.as_bytes())?;
+    append_word(&mut text, &line.kind)?;
+    append_word(&mut text, &line.name)?;
+    append_word(&mut text, &line.host)?;
+    append_word(&mut text, &line.path)?;
+    Ok(text)
+}
+
+/// Adds the line of a row, if it is one of the protections.
+fn push_text(alloc: Global, texts: &mut Sequence<Text>, row: &Record) -> Result<(), AllocError>
+    ensures { OnOk result (texts.new ≡ texts.old ++ text_in row.now) }
+{
+    if let Record::Protect(line) = row {
+        texts.push(line_text(alloc, line)?)?;
+    }
+    Ok(())
+}
+
+/// All rows of the table of protections.
+#[tactic(auto, using(crate::proofs::Whole::all_lines))]
+fn protect_rows(tables: &Tables) -> Walk<'_>
+    ensures { result ≡ rows_of tables.now table_ids.Protect }
+{
+    let version = tables.version(TableId::Protect);
+    let _table = version.table();
+    version.from_key(&Key::Protect { line: 0 })
+}
+
+/// The lines of the table, in order.
+fn line_texts(alloc: Global, tables: &Tables) -> Result<Sequence<Text>, AllocError>
+    ensures { IfOk result (λ texts. texts ≡ texts_in (rows_of tables.now table_ids.Protect)) }
+{
+    let mut texts = Sequence::new(alloc);
+    for row in protect_rows(tables) {
+        push_text(alloc, &mut texts, row)?;
+    }
+    Ok(texts)
+}
+
+/// The table that lines spell, or one without lines where they spell none.
+fn read(alloc: Global, texts: &[Text]) -> Result<Protects, AllocError>
+    ensures { IfOk result (λ protects. protects ≡ read_lines texts.now) }
+{
+    match Protects::from_lines(alloc, texts) {
+        Ok(protects) => Ok(protects),
+        Err(fault) => match fault.what {
+            LineFault::Memory => Err(AllocError),
+            _ => empty(alloc),
+        },
+    }
+}
+
+/// The table without lines.
+fn empty(alloc: Global) -> Result<Protects, AllocError>
+    ensures { IfOk result (λ protects. protects ≡ []) }
+{
+    match Protects::from_lines(alloc, &[]) {
+        Ok(protects) => Ok(protects),
+        Err(_) => Err(AllocError),
+    }
+}
+
+/// The rows of a sound depot spell its lines.
+fn rows_spell_lines(tables: &Tables)
+    ensures { (d : List Deed) → IsSound d → HasRows (rows_of tables.now) d table_ids.Protect → read_lines (texts_in (rows_of tables.now table_ids.Protect)) ≡ protects_in d }
+{
+    let version = tables.version(TableId::Protect);
+    let _table = version.table();
+}
+
+/// The protections (Command-Line Reference, "p4 protect"), from the table of protections alone.
+pub fn protects_of(alloc: Global, tables: &Tables) -> Result<Protects, AllocError>
+    ensures rows { IfOk result (λ protects. protects ≡ read_lines (texts_in (rows_of tables.now table_ids.Protect))) }
+    ensures depot { IfOk result (λ protects. (d : List Deed) → IsSound d → HasRows (rows_of tables.now) d table_ids.Protect → protects ≡ protects_in d) }
+{
+    rows_spell_lines(tables);
+    let texts = line_texts(alloc, tables)?;
+    read(alloc, texts.as_slice())
+}

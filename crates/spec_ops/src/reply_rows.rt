@@ -1,0 +1,45 @@
+//! Rows of replies.
+
+ghost use Rattle.std.specs.Prelude.{◌≡◌, IfOk, decimal};
+ghost use Rattle.depot_model.specs.Rows.{text_field as field_of_text, number_field as field_of_number, row as row_with};
+
+use depot_model::{Field, Row};
+use depot_path::{Sequence, Text};
+use itoa::Buffer;
+use std::alloc::{AllocError, Global};
+
+fn number_text(alloc: Global, number: u64) -> Result<Text, AllocError>
+    ensures { IfOk result (λ text. text ≡ decimal number) }
+{
+    Text::from_bytes(alloc, Buffer::new().format(number).as_bytes())
+}
+
+/// A field with these bytes.
+pub fn text_field(alloc: Global, name: &[u8], value: &[u8]) -> Result<Field, AllocError>
+    ensures { IfOk result (λ field. field ≡ field_of_text name.now value.now) }
+{
+    Ok(Field {
+        name: Text::from_bytes(alloc, name)?,
+        value: Text::from_bytes(alloc, value)?,
+    })
+}
+
+/// A field with this number.
+pub fn number_field(alloc: Global, name: &[u8], number: u64) -> Result<Field, AllocError>
+    ensures { IfOk result (λ field. field ≡ field_of_number name.now number) }
+{
+    Ok(Field {
+        name: Text::from_bytes(alloc, name)?,
+        value: number_text(alloc, number)?,
+    })
+}
+
+/// A row of these fields, without a content.
+pub fn row_of(fields: Sequence<Field>) -> Row
+    ensures { result ≡ row_with fields }
+{
+    Row {
+        fields,
+        content: None,
+    }
+}
