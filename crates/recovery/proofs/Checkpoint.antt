@@ -1,0 +1,28 @@
+-- The puts of a checkpoint are those of its text.
+use Rattle.std.proofs.Common.{◌≡◌, ℕ, ◌+◌, ◌<◌, ◌^◌, List, ◌++◌, length, Option, Some, refl, sym, ◌∙◌, subst}
+use Rattle.db_records.specs.declared.change.Change.{Change}
+use Rattle.journal_groups.specs.Groups.{IsGroup, group_text, mark, open_byte}
+use Rattle.recovery.specs.Pieces.{IsFirst, IsUnreadable}
+use Rattle.recovery.proofs.Reading.{unreadable_before}
+use Rattle.recovery.proofs.Groups.{first_group, one_group, unreadable_group}
+
+module _ (generation number : ℕ) (file text : List ℕ) (numbers : number ≡ generation) (texts : text ≡ mark open_byte ++ file) where
+  first_of : (rest : List ℕ) (found : Option (List Change)) (read : List Change) → found ≡ Some read → IsFirst number text rest found → IsFirst generation (mark open_byte ++ file) rest (Some read)
+  first_of rest found read is first =
+      subst (λ (o : Option (List Change)). IsFirst generation (mark open_byte ++ file) rest o) is
+      (subst (λ (l : List ℕ). IsFirst generation l rest found) texts (subst (λ (n : ℕ). IsFirst n text rest found) numbers first))
+
+  pub read_is_group : (rest : List ℕ) (found : Option (List Change)) (read : List Change) → found ≡ Some read → IsFirst number text rest found → IsGroup read
+  read_is_group rest found read is first = (first_of rest found read is first).0
+
+  pub read_text : (rest : List ℕ) (found : Option (List Change)) (read : List Change) → found ≡ Some read → IsFirst number text rest found → file ≡ group_text generation read ++ rest
+  read_text rest found read is first = first_group generation file rest read (first_of rest found read is first)
+
+  -- there is no other group
+  pub read_is_one : (rest : List ℕ) (found : Option (List Change)) (read puts : List Change) (behind : List ℕ) → found ≡ Some read → IsFirst number text rest found → IsGroup puts → file ≡ group_text generation puts ++ behind → puts ≡ read
+  read_is_one rest found read puts behind is first is_group begins =
+      one_group generation file behind rest puts read is_group (read_is_group rest found read is first) begins (read_text rest found read is first)
+
+  pub never_unreadable : (at place : ℕ) (puts : List Change) (behind : List ℕ) → generation < 2 ^ 64 → IsGroup puts → file ≡ group_text generation puts ++ behind → IsUnreadable number at text place → ⊥
+  never_unreadable at place puts behind small is_group begins bad =
+      unreadable_group generation at file behind puts place small is_group begins (unreadable_before generation number at at (mark open_byte ++ file) text place numbers refl texts bad)

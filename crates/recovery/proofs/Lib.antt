@@ -1,0 +1,13 @@
+pub mod Reading
+pub mod Empty
+pub mod Groups
+pub mod Fits
+pub mod Roots
+pub mod OnePut
+pub mod Revisions
+pub mod PassedOn
+pub mod Checkpoint
+pub mod Journals
+pub mod Held
+pub mod Looks
+pub mod Synced

@@ -1,0 +1,48 @@
+use Rattle.std.proofs.Common.{◌≡◌, ℕ, List, sym, ap, subst, ◌∙◌}
+use Rattle.outside_api.specs.Disk.{Files}
+use Rattle.db_records.specs.declared.key.Key.{Key}
+use Rattle.db_records.specs.declared.record.Record.{Record}
+use Rattle.db_records.specs.declared.table.TableId.{TableId}
+use Rattle.disk_journal.specs.Stands.{CanBeAdopted}
+use Rattle.table_changes.specs.Changed.{AllRows}
+use Rattle.depot_model.specs.Deeds.{Deed}
+use Rattle.depot_model.specs.Records.{record_of}
+use Rattle.depot_rows.specs.Standing.{Stand, unplaced_at}
+use Rattle.recovery.specs.Holding.{HoldWithin}
+use Rattle.recovery.specs.Standing.{StandFor}
+use Rattle.recovery.proofs.open.open_files.Goals as goal
+
+same_stand : (old new : AllRows) (d : List Deed) → ((table : TableId) → new table ≡ old table) → Stand old d → Stand new d
+same_stand old new d same stand = record { sound = stand.sound; each = λ table key of. subst (λ (rows : List Record). unplaced_at rows key ≡ record_of d key) (sym (same table)) (stand.each table key of) }
+
+hold_of : (d : List Deed) (files contents : Files) (stands : StandFor d files contents) → HoldWithin files contents stands.rows
+hold_of d files contents stands = record { hold = record { was = stands.was; committed = stands.committed; has = stands.has }; within = stands.within }
+
+pub returns-in-Ok-clause-open : goal.returns-in-Ok-clause-open
+returns-in-Ok-clause-open g c =
+    let found = c.in-Ok.ensures.found in
+    let synced = c.in-Ok.ensures.synced.0 in
+    let adopted : CanBeAdopted g.D.Disk.may_leave c.read_depot.new.journal c.in-Ok.found.generation c.in-Ok.found.end.groups c.in-Ok.found.end.length found.was = record {
+      generation_is = found.generation;
+      last = found.last;
+      are_groups = found.are_groups;
+      count = found.count;
+      length_is = found.long;
+      short = found.short;
+      each = λ image left. found.at_rest image (synced.same.no_more image (synced.durable image left));
+    } in
+    (found.was, record { rows = found.has; stands = c.adopt.ensures.stands found.was adopted; archive_end = c.in-Ok.ensures.end; used = c.adopt-in-Ok.ensures.used ∙ c.archive_end-used.ensures.end })
+
+pub returns-in-Ok-clause-held : goal.returns-in-Ok-clause-held
+returns-in-Ok-clause-held g c = λ files read.
+    let open_now = returns-in-Ok-clause-open g c in
+    let image = g.met.D.Disk.reads_an_image c.read_depot.new.journal files (c.in-Ok.ensures.synced.0.same.kept files read) in
+    record { was = open_now.0; committed = open_now.1.stands.holds files (subst (λ (disk : g.row.D.Denot). g.D.Disk.may_leave disk files) (sym c.adopt.ensures.disk) image); has = open_now.1.rows }
+
+pub returns-in-Ok-clause-stands : goal.returns-in-Ok-clause-stands
+returns-in-Ok-clause-stands g c = λ files contents d read read_contents stands.
+    (tt, same_stand stands.rows _ d (c.in-Ok.ensures.only files contents stands.rows read read_contents (hold_of d files contents stands)) stands.stand)
+
+pub returns-in-Err-clause-stands : goal.returns-in-Err-clause-stands
+returns-in-Err-clause-stands g c = λ files contents d read read_contents stands.
+    (c.in-Err.ensures.only files contents stands.rows read read_contents (hold_of d files contents stands), tt)

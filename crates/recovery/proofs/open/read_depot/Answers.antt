@@ -1,0 +1,63 @@
+use Rattle.std.proofs.Common.{◌≡◌, ◌≤◌, length, sym, ap, subst, ◌∙◌}
+use Rattle.outside_api.specs.Disk.{Files}
+use Rattle.db_records.specs.declared.table.TableId.{TableId}
+use Rattle.db_records.specs.declared.table.TableId.TheVariants.{Rev}
+use Rattle.table_store.specs.Rows.{TableRows}
+use Rattle.table_changes.specs.Changed.{rows_of}
+use Rattle.recovery.specs.Holding.{spots_end}
+use Rattle.recovery.proofs.Looks.{passed_nothing}
+use Rattle.recovery.proofs.Synced.{synced_then, looks_then, same_rows, same_end}
+use Rattle.recovery.proofs.open.read_depot.Goals as goal
+
+pub returns-in_err-found-clause-only : goal.returns-in_err-found-clause-only
+returns-in_err-found-clause-only g c = λ files contents rows read read_contents hold.
+    passed_nothing c.from_residual-in_err-found.result c.in_err-found.field-0.0 _ c.from_residual-in_err-found.ensures.1 (c.in_err-found.ensures.only files rows (c.in_ok-sync.ensures.same.kept files read) hold.hold)
+
+pub returns-in_err-end-clause-only : goal.returns-in_err-end-clause-only
+returns-in_err-end-clause-only g c = λ files contents rows read read_contents hold.
+    let same = c.in_ok-found.ensures.only files rows (c.in_ok-sync.ensures.same.kept files read) hold.hold in
+    let within : spots_end (rows_of c.in_ok-found.found.tables Rev) ≤ length (contents 0) = subst (λ n. n ≤ length (contents 0)) (sym (ap spots_end (same Rev))) hold.within in
+    passed_nothing c.from_residual-in_err-end.result c.in_err-end.field-0.0 _ c.from_residual-in_err-end.ensures.1 (c.in_err-end.ensures.only contents (c.in_ok-sync-2.ensures.same.kept contents read_contents) within)
+
+pub returns-in_err-end-clause-journal_looks : goal.returns-in_err-end-clause-journal_looks
+returns-in_err-end-clause-journal_looks g c =
+    looks_then g.D.Disk.seen g.D.Disk.may_leave g.D.Disk.moment g.D.Disk.left_since c.args.journal.now c.sync.new.self c.read_rows.new.disk (g.met.D.Disk.only_now c.args.journal.now) c.sync.ensures.crash c.sync.ensures.time c.read_rows.ensures.reads
+
+pub returns-clause-journal_looks : goal.returns-clause-journal_looks
+returns-clause-journal_looks g c =
+    looks_then g.D.Disk.seen g.D.Disk.may_leave g.D.Disk.moment g.D.Disk.left_since c.args.journal.now c.sync.new.self c.read_rows.new.disk (g.met.D.Disk.only_now c.args.journal.now) c.sync.ensures.crash c.sync.ensures.time c.read_rows.ensures.reads
+
+pub returns-clause-found : goal.returns-clause-found
+returns-clause-found g c =
+    let found = c.in_ok-found.ensures.found in
+    let same : (table : TableId) → rows_of c.set_archive_end.new.self table ≡ rows_of c.in_ok-found.found.tables table = λ table. ap (λ (version : TableRows). version.rows) (c.set_archive_end.ensures.versions table) in
+    record {
+      was = found.was;
+      has = same_rows found.was (rows_of c.in_ok-found.found.tables) (rows_of c.set_archive_end.new.self) same found.has;
+      generation = found.generation;
+      last = found.last;
+      are_groups = found.are_groups;
+      count = found.count;
+      long = found.long;
+      short = found.short;
+      at_rest = λ files read. found.at_rest files (c.in_ok-sync.ensures.same.kept files read);
+    }
+
+pub returns-clause-end : goal.returns-clause-end
+returns-clause-end g c =
+    let same : (table : TableId) → rows_of c.set_archive_end.new.self table ≡ rows_of c.in_ok-found.found.tables table = λ table. ap (λ (version : TableRows). version.rows) (c.set_archive_end.ensures.versions table) in
+    c.set_archive_end.ensures.end ∙ c.in_ok-end.ensures.end ∙ sym (same_end (rows_of c.in_ok-found.found.tables) (rows_of c.set_archive_end.new.self) same)
+
+pub returns-clause-within : goal.returns-clause-within
+returns-clause-within g c = λ contents read.
+    subst (λ n. n ≤ length (contents 0)) (sym c.set_archive_end.ensures.end) (c.in_ok-end.ensures.within contents (c.in_ok-sync-2.ensures.same.kept contents read))
+
+pub returns-clause-synced : goal.returns-clause-synced
+returns-clause-synced g c = (
+  synced_then g.D.Disk.seen g.D.Disk.may_leave g.D.Disk.moment g.D.Disk.left_since c.args.journal.now c.sync.new.self c.read_rows.new.disk c.in_ok-sync.ensures.same c.in_ok-sync.ensures.durable c.read_rows.ensures.reads,
+  synced_then g.D.Disk.seen g.D.Disk.may_leave g.D.Disk.moment g.D.Disk.left_since c.args.archive.now c.sync-2.new.self c.read_end.new.disk c.in_ok-sync-2.ensures.same c.in_ok-sync-2.ensures.durable c.read_end.ensures.reads,
+)
+
+pub returns-clause-only : goal.returns-clause-only
+returns-clause-only g c = λ files contents rows read read_contents hold table.
+    ap (λ (version : TableRows). version.rows) (c.set_archive_end.ensures.versions table) ∙ c.in_ok-found.ensures.only files rows (c.in_ok-sync.ensures.same.kept files read) hold.hold table

@@ -1,0 +1,29 @@
+use Rattle.std.proofs.Common.{◌≡◌, ◌≤◌, ℕ, List, Result, length, take, sym, ap, subst, ◌∙◌, Err, Ok, arith}
+use Rattle.std.proofs.lemmas.List.{take_all}
+use Rattle.outside_api.specs.Disk.{Files}
+use Rattle.disk_journal.specs.Images.{IsRoot}
+use Rattle.recovery.proofs.root.read_root.Goals as goal
+
+whole_root : (bytes file : List ℕ) → bytes ≡ take 4095 file → length file ≤ 4095 → bytes ≡ file
+whole_root bytes file is short = is ∙ take_all 4095 file short
+
+same_ok : {a b : ℕ} → ◌≡◌ {A = Result ℕ ℕ} (Ok a) (Ok b) → a ≡ b
+same_ok e = cc
+
+never_ok : {a b : ℕ} → ◌≡◌ {A = Result ℕ ℕ} (Err a) (Ok b) → ⊥
+never_ok e = cc
+
+pub returns-in-Ok-clause-root : goal.returns-in-Ok-clause-root
+returns-in-Ok-clause-root g c = λ files read.
+    let bytes = c.in_ok-count.ensures.bytes files (c.length.ensures.same.kept files read) in
+    subst (IsRoot c.in-Ok.generation) (whole_root _ (files 0) bytes (omega (arith, c.in_ok-length.ensures.length files read, c.if-length.true))) c.in-Ok.ensures.root
+
+pub returns-in-Ok-clause-only : goal.returns-in-Ok-clause-only
+returns-in-Ok-clause-only g c = λ files generation read is.
+    let bytes = c.in_ok-count.ensures.bytes files (c.length.ensures.same.kept files read) in
+    same_ok (c.in-Ok.ensures.only generation (subst (IsRoot generation) (sym (whole_root _ (files 0) bytes (omega (arith, is.long)))) is))
+
+pub returns-in-Err-clause-only : goal.returns-in-Err-clause-only
+returns-in-Err-clause-only g c = λ files generation read is.
+    let bytes = c.in_ok-count.ensures.bytes files (c.length.ensures.same.kept files read) in
+    absurd (never_ok (c.in-Err.ensures.only generation (subst (IsRoot generation) (sym (whole_root _ (files 0) bytes (omega (arith, is.long)))) is)))

@@ -1,0 +1,21 @@
+use Rattle.std.proofs.Common.{◌≡◌, ℕ, ◌+◌, List, length, take, subst, ◌∙◌, ap, arith}
+use Rattle.std.proofs.lemmas.List.{take_all}
+use Rattle.db_records.specs.declared.change.Change.{Change}
+use Rattle.table_changes.specs.Changed.{AllFitIn, changed_by}
+use Rattle.table_changes.specs.Drafts.{rows_of_draft}
+use Rattle.recovery.proofs.Fits.{fits_taken}
+use Rattle.recovery.proofs.rows.make_changes.Goals as goal
+
+pub returns-then-fitting-changes-clause-only : goal.returns-then-fitting-changes-clause-only
+returns-then-fitting-changes-clause-only c = λ fit.
+    absurd (c.in_ok-fitting.ensures.next c.if-fitting-changes.true (fits_taken (rows_of_draft c.args.draft.now) (c.in_ok-fitting.fitting + 1) c.args.changes.now fit))
+
+pub returns-clause-fit : goal.returns-clause-fit
+returns-clause-fit c =
+    let whole : take c.in_ok-fitting.fitting c.args.changes.now ≡ c.args.changes.now = take_all c.in_ok-fitting.fitting c.args.changes.now c.if-fitting-changes.false in
+    subst (AllFitIn (rows_of_draft c.args.draft.now)) whole c.in_ok-fitting.ensures.fit
+
+pub returns-clause-rows : goal.returns-clause-rows
+returns-clause-rows c =
+    let whole : take c.in_ok-fitting.fitting c.args.changes.now ≡ c.args.changes.now = take_all c.in_ok-fitting.fitting c.args.changes.now c.if-fitting-changes.false in
+    c.in_ok-fitting.ensures.rows ∙ ap (changed_by (rows_of_draft c.args.draft.now)) whole

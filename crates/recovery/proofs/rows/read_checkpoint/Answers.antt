@@ -1,0 +1,73 @@
+use Rattle.std.proofs.Common.{◌≡◌, ◌≢◌, ◌+◌, ◌*◌, ◌-◌, ℕ, List, ◌++◌, Option, Some, Result, Err, length, subst, sym, ap, ◌∙◌, arith}
+use Rattle.outside_api.specs.Disk.{Files}
+use Rattle.db_records.specs.declared.change.Change.{Change}
+use Rattle.journal_groups.specs.Groups.{IsGroup}
+use Rattle.table_changes.specs.Changed.{AllRows, AllFitIn, changed_by, no_rows}
+use Rattle.recovery.specs.Faults.{IsOfFile, SaysNothing}
+use Rattle.recovery.specs.Holding.{ArePuts}
+use Rattle.recovery.specs.Pieces.{text_left, HasCome, IsUnreadable}
+use Rattle.recovery.proofs.PassedOn.{passed_on, no_damage}
+use Rattle.recovery.proofs.Checkpoint.{read_text, read_is_one, never_unreadable}
+use Rattle.recovery.proofs.rows.read_checkpoint.Goals as goal
+
+pub returns-in_err-puts-clause-only : goal.returns-in_err-puts-clause-only
+returns-in_err-puts-clause-only g c = λ files puts read begins is.
+    let groups = c.in_ok-groups.groups in
+    let at = c.in_ok-groups.ensures.at in
+    let opened = c.in_ok-groups.ensures.text files read in
+    let file = files (2 + 2 * c.args.generation) in
+    let fault = c.in_err-puts.field-0.0 in
+    let P : ℕ → Type 0 = λ place. (found : ℕ) × ((place ≡ found - groups.front) × IsUnreadable groups.reader.number groups.reader.at (text_left groups files) found) in
+    let damaged = c.in_err-puts.ensures.damaged files (c.open.ensures.reads.same.kept files read) opened.1 in
+    passed_on _ fault SaysNothing c.from_residual-in_err-puts.ensures.1 (
+    no_damage (Option (List Change)) groups.file fault P c.in_err-puts.ensures.fault damaged (λ place bad.
+    never_unreadable c.args.generation groups.reader.number file (text_left groups files) at.3 (opened.0 ∙ ap (λ (l : List ℕ). l ++ file) c.in_ok-front.ensures) groups.reader.at bad.0 puts begins.behind (omega (arith, c.requires.last)) is.is_group begins.is bad.1.1))
+
+pub returns-in_err-check_puts-clause-only : goal.returns-in_err-check_puts-clause-only
+returns-in_err-check_puts-clause-only g c = λ files puts read begins is.
+    let groups = c.in_ok-groups.groups in
+    let at = c.in_ok-groups.ensures.at in
+    let opened = c.in_ok-groups.ensures.text files read in
+    let file = files (2 + 2 * c.args.generation) in
+    let first = c.in_ok-puts.ensures.text files (c.open.ensures.reads.same.kept files read) opened.1 in
+    let one = read_is_one c.args.generation groups.reader.number file (text_left groups files) at.3 (opened.0 ∙ ap (λ (l : List ℕ). l ++ file) c.in_ok-front.ensures) _ c.in_ok-puts.field-0 c.in-Some.puts puts begins.behind c.in-Some.is first.1 is.is_group begins.is in
+    passed_on _ c.in_err-check_puts.field-0.0 SaysNothing c.from_residual-in_err-check_puts.ensures.1 (c.in_err-check_puts.ensures.only (subst ArePuts (one ∙ sym c.as_slice.ensures) is.are_puts))
+
+pub returns-in_err-make_changes-clause-only : goal.returns-in_err-make_changes-clause-only
+returns-in_err-make_changes-clause-only g c = λ files puts read begins is.
+    let groups = c.in_ok-groups.groups in
+    let at = c.in_ok-groups.ensures.at in
+    let opened = c.in_ok-groups.ensures.text files read in
+    let file = files (2 + 2 * c.args.generation) in
+    let first = c.in_ok-puts.ensures.text files (c.open.ensures.reads.same.kept files read) opened.1 in
+    let one = read_is_one c.args.generation groups.reader.number file (text_left groups files) at.3 (opened.0 ∙ ap (λ (l : List ℕ). l ++ file) c.in_ok-front.ensures) _ c.in_ok-puts.field-0 c.in-Some.puts puts begins.behind c.in-Some.is first.1 is.is_group begins.is in
+    passed_on _ c.in_err-make_changes.field-0.0 SaysNothing c.from_residual-in_err-make_changes.ensures.1 (
+    c.in_err-make_changes.ensures.only (subst (λ (rows : AllRows). AllFitIn rows c.as_slice-2.result.now) (sym c.in_ok-draft.ensures) (subst (AllFitIn no_rows) (one ∙ sym c.as_slice-2.ensures) is.fit)))
+
+pub returns-in_err-make_changes-clause-fault : goal.returns-in_err-make_changes-clause-fault
+returns-in_err-make_changes-clause-fault g c =
+    let of = subst (λ (file : ℕ). IsOfFile file c.in_err-make_changes.field-0.0) (c.in_ok-puts.ensures.file.0 ∙ c.in_ok-groups.ensures.at.0) c.in_err-make_changes.ensures.fault in
+    passed_on _ c.in_err-make_changes.field-0.0 (IsOfFile (2 + 2 * c.args.generation)) c.from_residual-in_err-make_changes.ensures.1 of
+
+pub returns-clause-rows : goal.returns-clause-rows
+returns-clause-rows g c =
+    let groups = c.in_ok-groups.groups in
+    let at = c.in_ok-groups.ensures.at in
+    let come : HasCome groups c.next.new.self (Some c.in-Some.puts) = subst (HasCome groups c.next.new.self) c.in-Some.is c.in_ok-puts.ensures.come in
+    record {
+      puts = c.in-Some.puts;
+      is = record {
+        are_puts = subst ArePuts c.as_slice.ensures c.in_ok-check_puts.ensures.puts;
+        is_group = come.0;
+        fit = subst (AllFitIn no_rows) c.as_slice-2.ensures (subst (λ (rows : AllRows). AllFitIn rows c.as_slice-2.result.now) c.in_ok-draft.ensures c.in_ok-make_changes.ensures.fit);
+      };
+      rows_are = c.in_ok-make_changes.ensures.rows ∙ ap (λ (rows : AllRows). changed_by rows c.as_slice-2.result.now) c.in_ok-draft.ensures ∙ ap (changed_by no_rows) c.as_slice-2.ensures;
+      text = λ files read.
+          let opened = c.in_ok-groups.ensures.text files read in
+          let file = files (2 + 2 * c.args.generation) in
+          let first = c.in_ok-puts.ensures.text files (c.open.ensures.reads.same.kept files read) opened.1 in
+          record {
+            behind = text_left c.next.new.self files;
+            is = read_text c.args.generation groups.reader.number file (text_left groups files) at.3 (opened.0 ∙ ap (λ (l : List ℕ). l ++ file) c.in_ok-front.ensures) (text_left c.next.new.self files) c.in_ok-puts.field-0 c.in-Some.puts c.in-Some.is first.1;
+          };
+    }

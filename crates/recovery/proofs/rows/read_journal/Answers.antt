@@ -1,0 +1,64 @@
+use Rattle.std.proofs.Common.{◌≡◌, ◌+◌, ◌*◌, ◌-◌, ◌<◌, ◌^◌, ℕ, List, Option, Some, subst, sym, arith}
+use Rattle.outside_api.specs.Disk.{Files}
+use Rattle.outside_api.specs.Moments.{then, weaker}
+use Rattle.db_records.specs.declared.change.Change.{Change}
+use Rattle.table_changes.specs.Changed.{AllFitIn, changed_by}
+use Rattle.table_changes.specs.Drafts.{rows_of_draft}
+use Rattle.recovery.specs.Faults.{SaysNothing}
+use Rattle.recovery.specs.Pieces.{text_left, HasCome, IsFirst, KnowsEnd, IsUnreadable}
+use Rattle.recovery.proofs.PassedOn.{passed_on, no_damage}
+use Rattle.recovery.proofs.Journals.{never_stuck, next_fit, one_more, small_count}
+use Rattle.recovery.proofs.rows.read_journal.Goals as goal
+
+pub returns-in_err-changes-clause-only : goal.returns-in_err-changes-clause-only
+returns-in_err-changes-clause-only g c = λ files all read has fit.
+    let inv = c.loop-groups.invariant in
+    let groups = c.loop-groups.groups in
+    let fault = c.in_err-changes.field-0.0 in
+    let P : ℕ → Type 0 = λ place. (found : ℕ) × ((place ≡ found - groups.front) × IsUnreadable groups.reader.number groups.reader.at (text_left groups files) found) in
+    let knows = (inv.so_far.text files read).0 in
+    let short : groups.reader.at < 2 ^ 63 = omega (arith, groups.so_far, groups.short, groups.within) in
+    passed_on _ fault SaysNothing c.from_residual-in_err-changes.ensures.1 (
+    no_damage (Option (List Change)) groups.file fault P c.in_err-changes.ensures.fault (c.in_err-changes.ensures.damaged files (inv.reads.same.kept files read) knows) (λ place bad.
+    never_stuck (g.D.Disk.seen c.args.disk.now) (1 + 2 * c.args.generation) c.loop-groups.count groups (rows_of_draft c.args.draft.now) (rows_of_draft c.loop-groups.draft) inv.so_far short files read all has bad.0 bad.1.1))
+
+pub returns-in_err-make_changes-clause-only : goal.returns-in_err-make_changes-clause-only
+returns-in_err-make_changes-clause-only g c = λ files all read has fit.
+    let inv = c.loop-groups.invariant in
+    let groups = c.loop-groups.groups in
+    let come : HasCome groups c.next.new.self (Some c.in-Some.changes) = subst (HasCome groups c.next.new.self) c.in-Some.is c.in_ok-changes.ensures.come in
+    let first = c.in_ok-changes.ensures.text files (inv.reads.same.kept files read) (inv.so_far.text files read).0 in
+    let is_first = subst (IsFirst groups.reader.number (text_left groups files) (text_left c.next.new.self files)) c.in-Some.is first.1 in
+    passed_on _ c.in_err-make_changes.field-0.0 SaysNothing c.from_residual-in_err-make_changes.ensures.1 (
+    c.in_err-make_changes.ensures.only (subst (AllFitIn (rows_of_draft c.loop-groups.draft)) (sym c.as_slice.ensures)
+    (next_fit (g.D.Disk.seen c.args.disk.now) (1 + 2 * c.args.generation) c.loop-groups.count groups (rows_of_draft c.args.draft.now) (rows_of_draft c.loop-groups.draft) inv.so_far c.next.new.self c.in-Some.changes come files read is_first all has fit)))
+
+pub overflow_add-count : goal.overflow_add-count
+overflow_add-count g c =
+    let groups = c.loop-groups.groups in
+    let short : groups.reader.at < 2 ^ 63 = omega (arith, groups.so_far, groups.short, groups.within) in
+    let few = small_count (g.D.Disk.seen c.args.disk.now) (1 + 2 * c.args.generation) c.loop-groups.count groups (rows_of_draft c.args.draft.now) (rows_of_draft c.loop-groups.draft) c.loop-groups.invariant.so_far short in
+    omega (arith, few)
+
+pub loop-groups-preserved : goal.loop-groups-preserved
+loop-groups-preserved g c =
+    let inv = c.loop-groups.invariant in
+    let groups = c.loop-groups.groups in
+    let come : HasCome groups c.next.new.self (Some c.in-Some.changes) = subst (HasCome groups c.next.new.self) c.in-Some.is c.in_ok-changes.ensures.come in
+    let now = rows_of_draft c.loop-groups.draft in
+    let reads = c.next.ensures.reads in
+    record {
+      so_far = one_more (g.D.Disk.seen c.args.disk.now) (1 + 2 * c.args.generation) c.loop-groups.count groups (rows_of_draft c.args.draft.now) now inv.so_far c.next.new.self c.in-Some.changes come (rows_of_draft c.make_changes.new.draft)
+          (subst (AllFitIn now) c.as_slice.ensures c.in_ok-make_changes.ensures.fit)
+          (subst (λ (l : List Change). rows_of_draft c.make_changes.new.draft ≡ changed_by now l) c.as_slice.ensures c.in_ok-make_changes.ensures.rows)
+          c.in_ok-changes.ensures.file.0
+          (λ files read.
+          let first = c.in_ok-changes.ensures.text files (inv.reads.same.kept files read) (inv.so_far.text files read).0 in
+          (first.0, subst (IsFirst groups.reader.number (text_left groups files) (text_left c.next.new.self files)) c.in-Some.is first.1));
+      reads = record {
+        same = record { kept = λ f read. reads.same.kept f (inv.reads.same.kept f read); no_more = λ f read. inv.reads.same.no_more f (reads.same.no_more f read) };
+        no_more = λ f left. inv.reads.no_more f (reads.no_more f left);
+        any_moment = then g.D.Disk.moment g.D.Disk.left_since c.args.disk.now c.loop-groups.disk c.next.new.disk (g.D.Disk.may_leave c.args.disk.now) inv.reads.any_moment (weaker g.D.Disk.moment g.D.Disk.left_since c.loop-groups.disk c.next.new.disk (g.D.Disk.may_leave c.loop-groups.disk) (g.D.Disk.may_leave c.args.disk.now) inv.reads.no_more reads.any_moment);
+      };
+      faults = omega (arith, inv.faults, c.next.ensures.cause.never_falls);
+    }

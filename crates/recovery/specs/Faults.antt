@@ -1,0 +1,35 @@
+-- What the faults of opening say.
+use Rattle.std.specs.Prelude.{◌≡◌, ℕ, Result, Ok, Err}
+use Rattle.recovery.specs.declared.fault.DepotDisk.{DepotDisk}
+use Rattle.recovery.specs.declared.fault.DepotDisk.TheVariants.{Journal, Archive}
+use Rattle.recovery.specs.declared.fault.OpenFault.{OpenFault}
+use Rattle.recovery.specs.declared.fault.OpenFault.TheVariants.{Unmade, Damaged, DiskFault, Memory}
+
+-- a fault that says nothing of what the files read
+abbrev pub SaysNothing : OpenFault → Type 0
+SaysNothing DiskFault = Unit {0}
+SaysNothing Memory = Unit {0}
+SaysNothing _ = ⊥
+
+-- damage of this file of the journal's disk, or a fault that says nothing
+abbrev pub IsOfFile : ℕ → OpenFault → Type 0
+IsOfFile file (Damaged Journal found place) = found ≡ file
+IsOfFile file (Damaged Archive found place) = ⊥
+IsOfFile file Unmade = ⊥
+IsOfFile file _ = Unit {0}
+
+-- what holds of the place of a damage, where one is answered
+abbrev pub IfDamaged : {X : Type 0} → Result X OpenFault → (ℕ → Type 0) → Type 0
+IfDamaged (Err (Damaged disk file place)) P = P place
+IfDamaged _ P = Unit {0}
+
+-- it was read so, or the fault says nothing of what the files read
+abbrev pub IsReadOrSaysNothing : {X : Type 0} → Result X OpenFault → (X → Type 0) → Type 0
+IsReadOrSaysNothing (Ok x) P = P x
+IsReadOrSaysNothing (Err fault) P = SaysNothing fault
+
+-- there are no files, or the fault says nothing of what they read
+abbrev pub IsUnmadeOrSaysNothing : {X : Type 0} → Result X OpenFault → Type 0
+IsUnmadeOrSaysNothing (Ok x) = ⊥
+IsUnmadeOrSaysNothing (Err Unmade) = Unit {0}
+IsUnmadeOrSaysNothing (Err fault) = SaysNothing fault

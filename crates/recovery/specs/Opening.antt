@@ -1,0 +1,60 @@
+-- What opening answers (System Administrator Guide, "Backup and recovery"; what is checked is this project's own choice).
+use Rattle.std.specs.Prelude.{◌≡◌, ◌⊎◌, ℕ, Result, Ok, Err}
+use Rattle.outside_api.specs.Disk.{Files, LeavesOnly, NoMore, Same}
+use Rattle.db_records.specs.declared.table.TableId.TheVariants.{Rev}
+use Rattle.disk_journal.specs.Images.{Committed}
+use Rattle.disk_journal.specs.Stands.{Stands, nothing, disk_of}
+use Rattle.archive_file.specs.Archive.{used_of}
+use Rattle.archive_file.specs.Archive as archives
+use Rattle.table_changes.specs.Changed.{rows_of}
+use Rattle.recovery.specs.Faults.{SaysNothing}
+use Rattle.recovery.specs.Holding.{HasAllRows, spots_end}
+use Rattle.recovery.specs.declared.fault.OpenFault.TheVariants.{Unmade, DiskFault}
+use Rattle.recovery.specs.declared.open.Opened.{Opened}
+use Rattle.recovery.specs.declared.open.NotOpened.{NotOpened}
+
+-- the two disks, whatever is answered
+abbrev pub journal_disk : {D : Type 0} → Result (Opened D) (NotOpened D) → D
+journal_disk (Ok opened) = disk_of opened.journal
+journal_disk (Err found) = found.journal
+
+abbrev pub archive_disk : {D : Type 0} → Result (Opened D) (NotOpened D) → D
+archive_disk (Ok opened) = archives.disk_of opened.archive
+archive_disk (Err found) = found.archive
+
+-- What is committed has the rows of the tables, in each image and with nothing in doubt; and the archive is used up to the last end of a spot.
+pub record IsOpen {D : Type 0} (may_leave : D → Files → Type 0) (was : Committed) (opened : Opened D) : Type 0 where
+  pub rows : HasAllRows was (rows_of opened.tables)
+  pub stands : Stands may_leave opened.journal was nothing
+  pub archive_end : opened.tables.archive_end ≡ spots_end (rows_of opened.tables Rev)
+  pub used : used_of opened.archive ≡ opened.tables.archive_end
+
+-- the disk reads as before, and a crash leaves what it reads
+pub record HasSynced {D : Type 0} (seen may_leave : D → Files → Type 0) (old new : D) : Type 0 where
+  pub same : Same (seen old) (seen new)
+  pub durable : NoMore (seen new) (may_leave new)
+
+-- each image is one that the disk had, at every moment
+pub record LooksOnly {D : Type 0} (may_leave : D → Files → Type 0) (moment : D → ℕ) (left_since : D → ℕ → Files → Type 0) (old new : D) : Type 0 where
+  pub no_more : NoMore (may_leave old) (may_leave new)
+  pub any_moment : LeavesOnly moment left_since old new (may_leave old)
+
+-- the fault is that a disk has failed
+abbrev pub IsDiskFault : {D : Type 0} → Result (Opened D) (NotOpened D) → Type 0
+IsDiskFault (Ok opened) = ⊥
+IsDiskFault (Err found) = found.fault ≡ DiskFault
+
+-- it is that there are no files
+abbrev pub IsUnmade : {D : Type 0} → Result (Opened D) (NotOpened D) → Type 0
+IsUnmade (Ok opened) = ⊥
+IsUnmade (Err found) = found.fault ≡ Unmade
+
+-- it was opened, or the fault says nothing of what the files read
+abbrev pub OpensOrSaysNothing : {D : Type 0} → Result (Opened D) (NotOpened D) → Type 0
+OpensOrSaysNothing (Ok opened) = Unit {0}
+OpensOrSaysNothing (Err found) = SaysNothing found.fault
+
+-- there are no files, or the fault says nothing of what they read
+abbrev pub UnmadeOrSaysNothing : {D : Type 0} → Result (Opened D) (NotOpened D) → Type 0
+UnmadeOrSaysNothing (Ok opened) = ⊥
+UnmadeOrSaysNothing (Err found) = (found.fault ≡ Unmade) ⊎ SaysNothing found.fault

@@ -1,0 +1,63 @@
+-- What was read of the files of a generation, whether the disk tells what its files are or not.
+use Rattle.std.specs.Prelude.{◌≡◌, ◌<◌, ◌≤◌, ◌+◌, ◌*◌, ◌^◌, ℕ, List, ◌++◌, length}
+use Rattle.std.specs.List.{AllByRecursion}
+use Rattle.outside_api.specs.Disk.{Files}
+use Rattle.db_records.specs.declared.change.Change.{Change}
+use Rattle.disk_journal.specs.Images.{Committed, Begins, IsAtRest}
+use Rattle.disk_journal.specs.Text.{AreGroups, blocks}
+use Rattle.journal_groups.specs.Committed.{HasGroups}
+use Rattle.journal_groups.specs.Groups.{IsGroup, group_text, groups_text}
+use Rattle.table_changes.specs.Changed.{AllRows, AllFitIn, changed_by, no_rows, rows_of}
+use Rattle.recovery.specs.Holding.{ArePuts, HasAllRows, joined}
+use Rattle.recovery.specs.Pieces.{KnowsEnd, text_left}
+use Rattle.recovery.specs.declared.pieces.FileGroups.{FileGroups}
+use Rattle.recovery.specs.declared.depot.Found.{Found}
+use Rattle.recovery.specs.declared.rows.JournalEnd.{JournalEnd}
+
+-- puts that fit, as a group
+pub record IsCheckpoint (puts : List Change) : Type 0 where
+  pub are_puts : ArePuts puts
+  pub is_group : IsGroup puts
+  pub fit : AllFitIn no_rows puts
+
+-- the rows of a checkpoint, with which its file begins
+pub record HasCheckpoint (seen : Files → Type 0) (generation : ℕ) (rows : AllRows) : Type 0 where
+  pub puts : List Change
+  pub is : IsCheckpoint puts
+  pub rows_are : rows ≡ changed_by no_rows puts
+  pub text : (files : Files) → seen files → Begins (group_text generation puts) (files (2 + 2 * generation))
+
+-- the groups that were read so far, from some rows to others
+pub record SoFar (seen : Files → Type 0) (file count : ℕ) (groups : FileGroups) (old new : AllRows) : Type 0 where
+  pub done : List (List Change)
+  pub are_groups : AllByRecursion IsGroup done
+  pub fit : AllFitIn old (joined done)
+  pub rows_are : new ≡ changed_by old (joined done)
+  pub count_is : count ≡ length done
+  pub number : groups.reader.number ≡ 1 + length done
+  pub at : groups.reader.at ≡ length (groups_text 1 done)
+  pub of_file : groups.file ≡ file
+  pub text : (files : Files) → seen files → KnowsEnd groups files × (files file ≡ groups_text 1 done ++ text_left groups files)
+
+-- the groups of a journal's file, from some rows to others, and how many groups and bytes they are
+pub record HasJournal (seen : Files → Type 0) (file : ℕ) (end : JournalEnd) (old new : AllRows) : Type 0 where
+  pub groups : List (List Change)
+  pub are_groups : AllByRecursion IsGroup groups
+  pub fit : AllFitIn old (joined groups)
+  pub rows_are : new ≡ changed_by old (joined groups)
+  pub count : end.groups ≡ length groups
+  pub long : end.length ≡ length (groups_text 1 groups)
+  pub short : end.length + 5 < 2 ^ 63
+  pub text : (files : Files) → seen files → HasGroups 1 (files file) groups
+
+-- what the disk of the journal has: what is committed, with the rows of the tables, and at rest in the files that it tells
+pub record HasFound (seen : Files → Type 0) (found : Found) : Type 0 where
+  pub was : Committed
+  pub has : HasAllRows was (rows_of found.tables)
+  pub generation : found.generation ≡ was.generation
+  pub last : was.generation ≤ 4095
+  pub are_groups : AreGroups was.groups
+  pub count : found.end.groups ≡ length was.groups
+  pub long : found.end.length ≡ length (blocks was.groups)
+  pub short : found.end.length + 5 < 2 ^ 63
+  pub at_rest : (files : Files) → seen files → IsAtRest was files

@@ -1,0 +1,16 @@
+//! Making the files of a depot, and opening them.
+#![tactic(auto)]
+
+mod depot;
+mod fault;
+mod make;
+mod open;
+mod pieces;
+mod puts;
+mod root;
+mod rows;
+mod spots;
+
+pub use fault::{DepotDisk, MakeFault, OpenFault};
+pub use make::make_files;
+pub use open::{NotOpened, Opened, open_files};

@@ -1,0 +1,35 @@
+//! Making the files of an empty depot.
+
+ghost use Rattle.std.specs.Prelude.{◌≡◌, ◌≢◌, ◌⊎◌, [], length, OnOk, Err};
+ghost use Rattle.outside_api.specs.Disk.{Files};
+ghost use Rattle.disk_journal.specs.Images.{HasCommitted};
+ghost use Rattle.disk_journal.specs.Made.{made};
+ghost use Rattle.recovery.specs.Standing.{StandFor};
+ghost use Rattle.recovery.specs.Looking.{OnlyReads, AreCauses};
+ghost use Rattle.recovery.specs.declared.fault.MakeFault.TheVariants.{Made, DiskFault};
+
+use crate::fault::MakeFault;
+use disk_journal::make_files as make_journal;
+use outside_api::Disk;
+
+const ROOT: u32 = 0;
+
+/// Makes the files of an empty depot: the root, the first checkpoint and an empty journal. Takes no
+/// memory. Where the root isn't empty it makes nothing.
+pub fn make_files<D: Disk>(journal: &mut D, archive: &mut D) -> Result<(), MakeFault>
+    ensures made { OnOk result ((image : Files) → D.may_leave journal.new image → HasCommitted made image) }
+    ensures empty_depot { OnOk result ((image contents : Files) → D.may_leave journal.new image → StandFor [] image contents) }
+    ensures unmade { (files : Files) → D.seen journal.old files → OnOk result (length (files 0) ≡ 0) }
+    ensures there { (files : Files) → D.seen journal.old files → result ≡ Err Made → length (files 0) ≢ 0 }
+    ensures exactly { (files : Files) → D.seen journal.old files → length (files 0) ≢ 0 → (result ≡ Err Made) ⊎ (result ≡ Err DiskFault) }
+    ensures untouched { result ≡ Err Made → OnlyReads D.seen D.may_leave D.moment D.left_since journal.old journal.new × (archive.new ≡ archive.old) }
+    ensures cause { AreCauses (D.faults journal.old) (D.faults journal.new) (D.faults archive.old) (D.faults archive.new) (result ≡ Err DiskFault) }
+{
+    let length = journal.length(ROOT)?;
+    if length != 0 {
+        return Err(MakeFault::Made);
+    }
+    archive.sync()?;
+    make_journal(journal)?;
+    Ok(())
+}

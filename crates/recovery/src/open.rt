@@ -1,0 +1,111 @@
+//! Opening the files of a depot.
+
+ghost use Rattle.std.specs.Prelude.{◌≡◌, ◌≢◌, ◌≤◌, length, List, IfOk, Err};
+ghost use Rattle.std.specs.Result.{IfErr};
+ghost use Rattle.outside_api.specs.Disk.{Files, LeavesOnly, NoMore, Same};
+ghost use Rattle.db_records.specs.declared.table.TableId.{TableId};
+ghost use Rattle.db_records.specs.declared.table.TableId.TheVariants.{Rev};
+ghost use Rattle.disk_journal.specs.Images.{Committed};
+ghost use Rattle.disk_journal.specs.Stands.{disk_of};
+ghost use Rattle.archive_file.specs.Archive.{disk_of as archive_of};
+ghost use Rattle.table_changes.specs.Changed.{AllRows, rows_of};
+ghost use Rattle.depot_model.specs.Deeds.{Deed};
+ghost use Rattle.depot_rows.specs.Standing.{Stand};
+ghost use Rattle.recovery.specs.Faults.{IsReadOrSaysNothing, IsUnmadeOrSaysNothing};
+ghost use Rattle.recovery.specs.Holding.{Hold, HoldWithin, spots_end};
+ghost use Rattle.recovery.specs.Standing.{StandFor};
+ghost use Rattle.recovery.specs.Looking.{OnlyReads, AreCauses};
+ghost use Rattle.recovery.specs.Reading.{HasFound};
+ghost use Rattle.recovery.specs.Opening.{IsOpen, HasSynced, LooksOnly, journal_disk, archive_disk, IsUnmade, IsDiskFault, OpensOrSaysNothing, UnmadeOrSaysNothing};
+ghost use Rattle.recovery.specs.declared.fault.OpenFault.TheVariants.{DiskFault, Unmade};
+
+use crate::depot::{Found, read_end, read_rows};
+use crate::fault::OpenFault;
+use archive_file::Archive;
+use disk_journal::Journal;
+use outside_api::Disk;
+use std::alloc::Global;
+use table_store::Tables;
+
+/// A depot whose files are open.
+#[derive(Drop)]
+pub struct Opened<D: Disk> {
+    /// The rows of the files.
+    pub tables: Tables,
+    /// The journal, with nothing in doubt.
+    pub journal: Journal<D>,
+    /// The archive.
+    pub archive: Archive<D>,
+}
+
+/// Files that weren't opened, with both disks.
+#[derive(Drop)]
+pub struct NotOpened<D: Disk> {
+    pub fault: OpenFault,
+    pub journal: D,
+    pub archive: D,
+}
+
+/// Syncs both disks, and reads the rows of the one and where the last of their spots ends in the other.
+fn read_depot<D: Disk>(alloc: Global, journal: &mut D, archive: &mut D) -> Result<Found, OpenFault>
+    ensures found { IfOk result (HasFound (D.seen journal.old)) }
+    ensures end { IfOk result (λ found. found.tables.archive_end ≡ spots_end (rows_of found.tables Rev)) }
+    ensures within { (contents : Files) → D.seen archive.old contents → IfOk result (λ found. found.tables.archive_end ≤ length (contents 0)) }
+    ensures synced { IfOk result (λ found. HasSynced D.seen D.may_leave journal.old journal.new × HasSynced D.seen D.may_leave archive.old archive.new) }
+    ensures only { (files contents : Files) (rows : AllRows) → D.seen journal.old files → D.seen archive.old contents → HoldWithin files contents rows → IsReadOrSaysNothing result (λ found. (table : TableId) → rows_of found.tables table ≡ rows table) }
+    ensures unmade { (files : Files) → D.seen journal.old files → result ≡ Err Unmade → length (files 0) ≡ 0 }
+    ensures exactly { (files : Files) → D.seen journal.old files → length (files 0) ≡ 0 → IsUnmadeOrSaysNothing result }
+    ensures journal_looks { LooksOnly D.may_leave D.moment D.left_since journal.old journal.new }
+    ensures archive_looks { LooksOnly D.may_leave D.moment D.left_since archive.old archive.new }
+    ensures cause { AreCauses (D.faults journal.old) (D.faults journal.new) (D.faults archive.old) (D.faults archive.new) (result ≡ Err DiskFault) }
+{
+    journal.sync()?;
+    archive.sync()?;
+    let mut found = read_rows(alloc, journal)?;
+    let end = read_end(alloc, archive, &found.tables)?;
+    found.tables.set_archive_end(end);
+    Ok(found)
+}
+
+/// Opens the files of a depot: syncs both disks, and reads the root, the checkpoint of its generation and
+/// the journal.
+///
+/// It is checked that the changes fit the rows before them and that no spot ends behind the archive. The
+/// rules of rows and the digests of contents aren't checked.
+pub fn open_files<D: Disk>(alloc: Global, journal: D, archive: D) -> Result<Opened<D>, NotOpened<D>>
+    // What is committed has the rows of the tables.
+    ensures open { IfOk result (λ opened. (was : Committed) × IsOpen D.may_leave was opened) }
+    // These are the rows that the files hold.
+    ensures held { (files : Files) → D.seen journal files → IfOk result (λ opened. Hold files (rows_of opened.tables)) }
+    ensures within { (contents : Files) → D.seen archive contents → IfOk result (λ opened. opened.tables.archive_end ≤ length (contents 0)) }
+    // Files that hold rows are opened, and so those are that stand for a depot: the rows then stand for it.
+    ensures opens { (files contents : Files) (rows : AllRows) → D.seen journal files → D.seen archive contents → HoldWithin files contents rows → OpensOrSaysNothing result }
+    ensures stands { (files contents : Files) (d : List Deed) → D.seen journal files → D.seen archive contents → StandFor d files contents →
+        OpensOrSaysNothing result × IfOk result (λ opened. Stand (rows_of opened.tables) d) }
+    ensures unmade { (files : Files) → D.seen journal files → IsUnmade result → length (files 0) ≡ 0 }
+    ensures exactly { (files : Files) → D.seen journal files → length (files 0) ≡ 0 → UnmadeOrSaysNothing result }
+    ensures journal_synced { IfOk result (λ opened. HasSynced D.seen D.may_leave journal (disk_of opened.journal)) }
+    ensures archive_synced { IfOk result (λ opened. HasSynced D.seen D.may_leave archive (archive_of opened.archive)) }
+    ensures journal_looks { LooksOnly D.may_leave D.moment D.left_since journal (journal_disk result) }
+    ensures archive_looks { LooksOnly D.may_leave D.moment D.left_since archive (archive_disk result) }
+    ensures cause { AreCauses (D.faults journal) (D.faults (journal_disk result)) (D.faults archive) (D.faults (archive_disk result)) (IsDiskFault result) }
+{
+    let mut journal = journal;
+    let mut archive = archive;
+    match read_depot(alloc, &mut journal, &mut archive) {
+        Ok(found) => {
+            let used = found.tables.archive_end();
+            let end = found.end;
+            Ok(Opened {
+                tables: found.tables,
+                journal: Journal::adopt(journal, found.generation, end.groups, end.length),
+                archive: Archive::adopt(archive, used),
+            })
+        }
+        Err(fault) => Err(NotOpened {
+            fault,
+            journal,
+            archive,
+        }),
+    }
+}

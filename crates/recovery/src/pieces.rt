@@ -1,0 +1,163 @@
+//! The groups of a file of a disk, which is read in pieces.
+
+ghost use Rattle.std.specs.Prelude.{◌≡◌, ◌≢◌, ◌+◌, ◌-◌, ◌<◌, ◌≤◌, ◌^◌, ◌++◌, ℕ, List, length, drop, IfOk, OnOk, Err};
+ghost use Rattle.std.specs.Result.{IfErr};
+ghost use Rattle.outside_api.specs.Disk.{Files};
+ghost use Rattle.recovery.specs.Looking.{OnlyReads, IsCause};
+ghost use Rattle.recovery.specs.Faults.{IfDamaged, IsOfFile, SaysNothing};
+ghost use Rattle.recovery.specs.declared.fault.OpenFault.TheVariants.{Damaged, DiskFault};
+ghost use Rattle.recovery.specs.declared.fault.DepotDisk.TheVariants.{Journal};
+
+use crate::fault::{DepotDisk, OpenFault};
+use db_records::Change;
+use depot_path::{Sequence, Text};
+use journal_groups::{GroupFault, GroupReader};
+use outside_api::{Disk, fill};
+use record_text::print_record;
+use std::alloc::Global;
+
+/// The longest file that is read, in bytes. A mark fits behind it.
+const LONGEST: u64 = 0x7FFF_FFFF_FFFF_FFFA;
+
+/// The groups of a file one after another, behind some bytes. At most one group and one piece of the file are held.
+#[derive(Drop)]
+pub(crate) struct FileGroups {
+    pub(crate) reader: GroupReader,
+    pub(crate) file: u32,
+    /// How many bytes were before those of the file.
+    pub(crate) front: u64,
+    /// How many bytes of the file were read.
+    pub(crate) read: u64,
+    /// How many bytes the file has.
+    pub(crate) length: u64,
+    ghost within: { read ≤ length },
+    ghost short: { length ≤ 0x7FFF_FFFF_FFFF_FFFA },
+    ghost so_far: { reader.at + Rattle.std.specs.Prelude.length reader.left ≤ read + 5 },
+}
+
+impl FileGroups {
+    ghost use Rattle.recovery.specs.Pieces.{text_left, KnowsEnd, IsFirst, HasCome, IsUnreadable};
+
+    /// The groups of a file, the first of which has this number, behind these bytes. The one error beside
+    /// a fault of the disk is want of memory.
+    pub(crate) fn open<D: Disk>(
+        disk: &mut D,
+        file: u32,
+        front: Text,
+        number: u64,
+    ) -> Result<FileGroups, OpenFault>
+        requires short { length front ≤ 5 }
+        requires number { number < 2 ^ 63 }
+        ensures text { (files : Files) → D.seen disk.old files → IfOk result (λ groups. (text_left groups files ≡ front ++ files file) × KnowsEnd groups files) }
+        ensures at { IfOk result (λ groups. (groups.file ≡ file) × (groups.front ≡ length front) × (groups.reader.at ≡ 0) × (groups.reader.number ≡ number)) }
+        ensures fault { IfErr result SaysNothing }
+        ensures reads { OnlyReads D.seen D.may_leave D.moment D.left_since disk.old disk.new }
+        ensures cause { IsCause (D.faults disk.old) (D.faults disk.new) (result ≡ Err DiskFault) }
+    {
+        let length = disk.length(file)?;
+        if length > LONGEST {
+            return Err(OpenFault::Memory);
+        }
+        let before = front.len() as u64;
+        Ok(FileGroups {
+            front: before,
+            reader: GroupReader::new(front, 0, number),
+            file,
+            read: 0,
+            length,
+        })
+    }
+
+    /// How far the groups so far reach, in bytes of the file and those before it.
+    pub(crate) fn place(&self) -> u64
+        ensures place { result ≡ self.now.reader.at }
+    {
+        self.reader.place()
+    }
+
+    /// Reads the next piece of the file.
+    fn read_piece<D: Disk>(
+        &mut self,
+        alloc: Global,
+        disk: &mut D,
+        piece: &mut [u8],
+    ) -> Result<(), OpenFault>
+        requires room { 0 < length piece.old }
+        requires before_end { self.old.read < self.old.length }
+        ensures text { (files : Files) → D.seen disk.old files → KnowsEnd self.old files → OnOk result ((text_left self.new files ≡ text_left self.old files) × KnowsEnd self.new files) }
+        ensures goes_on { OnOk result (self.new.length - self.new.read < self.old.length - self.old.read) }
+        ensures reader { (self.new.file ≡ self.old.file) × (self.new.front ≡ self.old.front) × (self.new.reader.at ≡ self.old.reader.at) × (self.new.reader.number ≡ self.old.reader.number) }
+        ensures fault { IfErr result SaysNothing }
+        ensures reads { OnlyReads D.seen D.may_leave D.moment D.left_since disk.old disk.new }
+        ensures cause { IsCause (D.faults disk.old) (D.faults disk.new) (result ≡ Err DiskFault) }
+    {
+        let room = (self.length - self.read).min(piece.len() as u64) as usize;
+        let count = fill(disk, self.file, self.read, &mut piece[..room])?;
+        if count == 0 {
+            self.length = self.read;
+            return Ok(());
+        }
+        self.reader.more(alloc, &piece[..count])?;
+        self.read += count as u64;
+        Ok(())
+    }
+
+    /// The fault of this file at a place, which counts the bytes before the file's too.
+    pub(crate) fn damaged(&self, place: u64) -> OpenFault
+        ensures { result ≡ Damaged Journal self.now.file (place - self.now.front) }
+    {
+        OpenFault::Damaged {
+            disk: DepotDisk::Journal,
+            file: self.file,
+            place: place.saturating_sub(self.front),
+        }
+    }
+
+    /// The fault of this file at the first of the last changes of the group that was read. It is want of
+    /// memory where there is none for the text of one of them.
+    pub(crate) fn damaged_before(&self, alloc: Global, changes: &[Change]) -> OpenFault
+        ensures file { IsOfFile self.now.file result }
+        ensures no_disk { result ≢ DiskFault }
+    {
+        let mut place = self.place();
+        for change in changes {
+            match print_record(alloc, change.op, &change.row) {
+                Ok(text) => place = place.saturating_sub(text.len() as u64),
+                Err(_) => return OpenFault::Memory,
+            }
+        }
+        self.damaged(place)
+    }
+
+    /// The changes of the next group, or nothing at a mark that isn't open. The places of faults count
+    /// the bytes before the file's too.
+    pub(crate) fn next<D: Disk>(
+        &mut self,
+        alloc: Global,
+        disk: &mut D,
+        piece: &mut [u8],
+    ) -> Result<Option<Sequence<Change>>, OpenFault>
+        requires room { 0 < length piece.old }
+        ensures text { (files : Files) → D.seen disk.old files → KnowsEnd self.old files → IfOk result (λ found. KnowsEnd self.new files × IsFirst self.old.reader.number (text_left self.old files) (text_left self.new files) found) }
+        ensures come { IfOk result (HasCome self.old self.new) }
+        ensures file { (self.new.file ≡ self.old.file) × (self.new.front ≡ self.old.front) }
+        ensures damaged { (files : Files) → D.seen disk.old files → KnowsEnd self.old files → IfDamaged result (λ place. (found : ℕ) × ((place ≡ found - self.old.front) × IsUnreadable self.old.reader.number self.old.reader.at (text_left self.old files) found)) }
+        ensures fault { IfErr result (IsOfFile self.old.file) }
+        ensures reads { OnlyReads D.seen D.may_leave D.moment D.left_since disk.old disk.new }
+        ensures cause { IsCause (D.faults disk.old) (D.faults disk.new) (result ≡ Err DiskFault) }
+    {
+        loop {
+            match self.reader.next(alloc) {
+                Ok(found) => return Ok(found),
+                Err(GroupFault::Memory) => return Err(OpenFault::Memory),
+                Err(GroupFault::BadGroup(place)) => return Err(self.damaged(place)),
+                Err(GroupFault::Short(place)) => {
+                    if self.read == self.length {
+                        return Err(self.damaged(place));
+                    }
+                    self.read_piece(alloc, disk, piece)?;
+                }
+            }
+        }
+    }
+}

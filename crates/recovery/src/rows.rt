@@ -1,0 +1,149 @@
+//! The rows of a generation: those of its checkpoint, changed by the groups of its journal.
+
+ghost use Rattle.std.specs.Prelude.{◌≡◌, ◌≢◌, ◌≤◌, ◌<◌, ◌+◌, ◌*◌, List, length, take, IfOk, OnOk, Err};
+ghost use Rattle.std.specs.Result.{IfErr};
+ghost use Rattle.outside_api.specs.Disk.{Files};
+ghost use Rattle.db_records.specs.declared.change.Change.{Change};
+ghost use Rattle.disk_journal.specs.Images.{Begins};
+ghost use Rattle.journal_groups.specs.Groups.{group_text};
+ghost use Rattle.journal_groups.specs.Committed.{HasGroups};
+ghost use Rattle.table_changes.specs.Changed.{AllFitIn, changed_by, no_rows};
+ghost use Rattle.table_changes.specs.Drafts.{rows_of_draft};
+ghost use Rattle.recovery.specs.Faults.{IsOfFile, SaysNothing};
+ghost use Rattle.recovery.specs.Holding.{ArePuts, joined};
+ghost use Rattle.recovery.specs.Looking.{OnlyReads, IsCause};
+ghost use Rattle.recovery.specs.Reading.{IsCheckpoint, HasCheckpoint, HasJournal};
+ghost use Rattle.recovery.specs.declared.fault.OpenFault.TheVariants.{DiskFault};
+
+use crate::fault::OpenFault;
+use crate::pieces::FileGroups;
+use crate::puts::rising_puts;
+use db_records::Change;
+use depot_path::Text;
+use outside_api::Disk;
+use std::alloc::{AllocError, Global};
+use table_changes::TablesDraft;
+use table_store::Tables;
+
+/// How many groups a journal has, and how many bytes.
+#[derive(Clone, Copy, Drop)]
+pub(crate) struct JournalEnd {
+    pub groups: u64,
+    pub length: u64,
+}
+
+/// A draft without rows.
+fn empty_draft(alloc: Global) -> Result<TablesDraft, AllocError>
+    ensures { IfOk result (λ draft. rows_of_draft draft ≡ no_rows) }
+{
+    let tables = Tables::empty(alloc)?;
+    TablesDraft::of(alloc, &tables)
+}
+
+/// Makes changes one after another as far as they fit, and answers how many it made.
+fn make_fitting(
+    alloc: Global,
+    draft: &mut TablesDraft,
+    changes: &[Change],
+) -> Result<usize, AllocError>
+    ensures within { IfOk result (λ n. n ≤ length changes.now) }
+    ensures fit { IfOk result (λ n. AllFitIn (rows_of_draft draft.old) (take n changes.now)) }
+    ensures rows { IfOk result (λ n. rows_of_draft draft.new ≡ changed_by (rows_of_draft draft.old) (take n changes.now)) }
+    ensures next { IfOk result (λ n. n < length changes.now → AllFitIn (rows_of_draft draft.old) (take (n + 1) changes.now) → ⊥) }
+{
+    for (i, change) in changes.iter().enumerate() {
+        if !draft.fits(change) {
+            return Ok(i);
+        }
+        draft.change(alloc, change)?;
+    }
+    Ok(changes.len())
+}
+
+/// Makes the changes of the group that was read last.
+fn make_changes(
+    alloc: Global,
+    groups: &FileGroups,
+    draft: &mut TablesDraft,
+    changes: &[Change],
+) -> Result<(), OpenFault>
+    ensures fit { OnOk result (AllFitIn (rows_of_draft draft.old) changes.now) }
+    ensures rows { OnOk result (rows_of_draft draft.new ≡ changed_by (rows_of_draft draft.old) changes.now) }
+    ensures only { AllFitIn (rows_of_draft draft.old) changes.now → IfErr result SaysNothing }
+    ensures fault { IfErr result (IsOfFile groups.now.file) }
+    ensures no_disk { result ≢ Err DiskFault }
+{
+    let fitting = make_fitting(alloc, draft, changes)?;
+    if fitting < changes.len() {
+        return Err(groups.damaged_before(alloc, &changes[fitting..]));
+    }
+    Ok(())
+}
+
+/// Checks that the group that was read last puts rows, tables and keys rising.
+fn check_puts(alloc: Global, groups: &FileGroups, puts: &[Change]) -> Result<(), OpenFault>
+    ensures puts { OnOk result (ArePuts puts.now) }
+    ensures only { ArePuts puts.now → IfErr result SaysNothing }
+    ensures fault { IfErr result (IsOfFile groups.now.file) }
+    ensures no_disk { result ≢ Err DiskFault }
+{
+    let rising = rising_puts(puts);
+    if rising < puts.len() {
+        return Err(groups.damaged_before(alloc, &puts[rising..]));
+    }
+    Ok(())
+}
+
+/// The rows of the checkpoint of a generation.
+pub(crate) fn read_checkpoint<D: Disk>(
+    alloc: Global,
+    disk: &mut D,
+    generation: u32,
+    piece: &mut [u8],
+) -> Result<TablesDraft, OpenFault>
+    requires room { 0 < length piece.old }
+    requires last { generation ≤ 4095 }
+    ensures rows { IfOk result (λ draft. HasCheckpoint (D.seen disk.old) generation (rows_of_draft draft)) }
+    ensures only { (files : Files) (puts : List Change) → D.seen disk.old files → Begins (group_text generation puts) (files (2 + 2 * generation)) → IsCheckpoint puts → IfErr result SaysNothing }
+    ensures fault { IfErr result (IsOfFile (2 + 2 * generation)) }
+    ensures reads { OnlyReads D.seen D.may_leave D.moment D.left_since disk.old disk.new }
+    ensures cause { IsCause (D.faults disk.old) (D.faults disk.new) (result ≡ Err DiskFault) }
+{
+    let front = Text::from_bytes(alloc, b"@ex@\n")?;
+    let mut groups = FileGroups::open(disk, 2 + 2 * generation, front, generation as u64)?;
+    let Some(puts) = groups.next(alloc, disk, piece)? else {
+        return Err(groups.damaged(groups.place()));
+    };
+    check_puts(alloc, &groups, puts.as_slice())?;
+    let mut draft = empty_draft(alloc)?;
+    make_changes(alloc, &groups, &mut draft, puts.as_slice())?;
+    Ok(draft)
+}
+
+/// Makes the changes of the journal of a generation.
+pub(crate) fn read_journal<D: Disk>(
+    alloc: Global,
+    disk: &mut D,
+    generation: u32,
+    piece: &mut [u8],
+    draft: &mut TablesDraft,
+) -> Result<JournalEnd, OpenFault>
+    requires room { 0 < length piece.old }
+    requires last { generation ≤ 4095 }
+    ensures rows { IfOk result (λ end. HasJournal (D.seen disk.old) (1 + 2 * generation) end (rows_of_draft draft.old) (rows_of_draft draft.new)) }
+    ensures only { (files : Files) (groups : List (List Change)) → D.seen disk.old files → HasGroups 1 (files (1 + 2 * generation)) groups → AllFitIn (rows_of_draft draft.old) (joined groups) → IfErr result SaysNothing }
+    ensures fault { IfErr result (IsOfFile (1 + 2 * generation)) }
+    ensures reads { OnlyReads D.seen D.may_leave D.moment D.left_since disk.old disk.new }
+    ensures cause { IsCause (D.faults disk.old) (D.faults disk.new) (result ≡ Err DiskFault) }
+{
+    let mut groups = FileGroups::open(disk, 1 + 2 * generation, Text::new(alloc), 1)?;
+    let mut count = 0u64;
+    while let Some(changes) = groups.next(alloc, disk, piece)? {
+        make_changes(alloc, &groups, draft, changes.as_slice())?;
+        count += 1;
+    }
+    Ok(JournalEnd {
+        groups: count,
+        length: groups.place(),
+    })
+}
