@@ -1,5 +1,3 @@
-pub mod Counts
-pub mod Granted
 pub mod Filters
 pub mod Risen
 pub mod Told

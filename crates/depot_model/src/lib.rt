@@ -2,13 +2,11 @@
 //! sessions of a run are given.
 //!
 //! The definitions stand in `specs/`. They name no table, lock, thread or byte of a file. Beside them
-//! stands the plain program that computes them: a depot that keeps the list of its deeds.
+//! stand the types of commands, requests and replies, filters, and laws of the definitions.
 #![tactic(auto)]
 
 mod command;
 mod deed;
-mod depot;
-mod evaluation;
 mod filter;
 mod laws;
 mod line;
@@ -19,8 +17,6 @@ mod request;
 
 pub use command::{Command, FileArgument, Labelling, PatternArgument, Taking};
 pub use deed::Count;
-pub use depot::Depot;
-pub use evaluation::{Outcome, evaluate};
 pub use filter::{Filter, FilterRule};
 pub use laws::{
     counters_keep_depots_sound, empty_depot_is_sound, later_lines_of_others_change_nothing,

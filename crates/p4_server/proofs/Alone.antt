@@ -1,5 +1,5 @@
 -- One party is a case of any number of parties.
-use Rattle.std.proofs.Common.{◌≡◌, ℕ, zero, suc, List, [], ◌∷◌, length, get_or, Option, Some, refl, sym, ap, arith}
+use Rattle.std.proofs.Common.{◌≡◌, ℕ, zero, suc, List, [], ◌∷◌, get_or, Option, Some, refl, arith}
 use Rattle.std.specs.Prelude.{All, AllPairs, slice_get}
 use Rattle.depot_model.specs.Deeds.{Deed}
 use Rattle.depot_model.specs.declared.order.Place.{Place}
@@ -24,12 +24,12 @@ order_of may_give n order turns rising = record {
 }
 
 -- a list of one has one element
-one_is : {X : Type 0} (x y : X) (i : ℕ) → slice_get (x ∷ []) i ≡ Some y → (i ≡ 0) × (y ≡ x)
+pub one_is : {X : Type 0} (x y : X) (i : ℕ) → slice_get (x ∷ []) i ≡ Some y → (i ≡ 0) × (y ≡ x)
 one_is x y zero e = (refl, cc)
 one_is x y (suc i) e = absurd cc
 
 module _ {S K : Type 0} (left : S → Option (List ℕ)) (source_faults : S → ℕ) (given : K → Option (List ℕ)) (sink_faults : K → ℕ) (may_give : ℕ → Type 0) (start : List Deed) (inputs outputs : List ℕ → Option (List ℕ)) (name : List ℕ) (order : List Place) (session : Option Session) (source : S) (party : PartyEnd K) where
-  pub headline_of_one : IsOrder may_give (party.commands ∷ []) order
+  abbrev pub headline_of_one : IsOrder may_give (party.commands ∷ []) order
       → IsPartyOf left source_faults given sink_faults start (session ∷ []) order (inputs name) (outputs name) 1 session source party
       → IsHeadline left source_faults given sink_faults may_give start inputs outputs (name ∷ []) order (party ∷ []) (source ∷ [])
   headline_of_one places one = record {
@@ -45,13 +45,3 @@ module _ {S K : Type 0} (left : S → Option (List ℕ)) (source_faults : S → 
         let party_is = one_is party other_party i d in
         rw (name_is.1, session_is.1, source_is.1, party_is.1, name_is.0) one;
   }
-
-  -- the one party of a headline of one
-  pub party_of_one : IsHeadline left source_faults given sink_faults may_give start inputs outputs (name ∷ []) order (party ∷ []) (source ∷ [])
-      → (sessions : List (Option Session)) × (s : Option Session) × IsPartyOf left source_faults given sink_faults start sessions order (inputs name) (outputs name) 1 s source party
-  party_of_one h = first h h.sessions refl h.sessions_count
-    where
-      first : (h : IsHeadline left source_faults given sink_faults may_give start inputs outputs (name ∷ []) order (party ∷ []) (source ∷ [])) (sessions : List (Option Session)) → sessions ≡ h.sessions → length h.sessions ≡ 1
-          → (sessions : List (Option Session)) × (s : Option Session) × IsPartyOf left source_faults given sink_faults start sessions order (inputs name) (outputs name) 1 s source party
-      first h [] e count = let none : length h.sessions ≡ 0 = ap length (sym e) in absurd (omega arith)
-      first h (s ∷ sessions) e count = (h.sessions, s, h.each 0 name s source party refl (ap (λ (ss : List (Option Session)). slice_get ss 0) (sym e)) refl refl)

@@ -1,6 +1,7 @@
--- How the ends of parties lead to the end of the program.
-use Rattle.std.specs.Prelude.{ℕ, Bool, true, false, List, if◌then◌else◌}
+-- How the ends of parties and the places of an order lead to the end of the program.
+use Rattle.std.specs.Prelude.{ℕ, Bool, true, false, List, if◌then◌else◌, ◌||◌}
 use Rattle.std.specs.List.{list_any}
+use Rattle.depot_model.specs.declared.order.Place.{Place}
 use Rattle.wire_text.specs.declared.script.ScriptEnd.{ScriptEnd}
 use Rattle.wire_text.specs.declared.script.ScriptEnd.TheVariants as scripts
 use Rattle.p4_server.specs.declared.ended.PartyEnd.{PartyEnd}
@@ -12,6 +13,9 @@ use Rattle.p4_server.specs.declared.ended.Cause.TheVariants as causes
 abbrev pub status_of : Cause → ℕ
 status_of causes.Done = 0
 status_of causes.Usage = 1
+status_of causes.Made = 2
+status_of causes.Unmade = 2
+status_of (causes.Damaged disk file place) = 2
 status_of causes.Script = 3
 status_of causes.Fault = 4
 status_of causes.Memory = 5
@@ -37,8 +41,20 @@ is_faulty (ends.Script fault) = true
 is_faulty ends.ReadFault = false
 is_faulty ends.WriteFault = false
 
+-- a commit of the run failed
+abbrev pub has_fault_place : List Place → Bool
+has_fault_place order = list_any (λ place. place.fault) order
+
+-- a party's source or sink failed
+abbrev pub has_failed_party : {K : Type 0} → List (PartyEnd K) → Bool
+has_failed_party parties = list_any (λ party. is_failed party.end) parties
+
+-- a party's script has a fault
+abbrev pub has_faulty_party : {K : Type 0} → List (PartyEnd K) → Bool
+has_faulty_party parties = list_any (λ party. is_faulty party.end) parties
+
 -- a fault of the outside counts before one of a script
-abbrev pub ends_cause : {K : Type 0} → List (PartyEnd K) → Cause
-ends_cause parties =
-    if list_any (λ party. is_failed party.end) parties then causes.Fault else
-    (if list_any (λ party. is_faulty party.end) parties then causes.Script else causes.Done)
+abbrev pub ends_cause : {K : Type 0} → List Place → List (PartyEnd K) → Cause
+ends_cause order parties =
+    if has_fault_place order || has_failed_party parties then causes.Fault else
+    (if has_faulty_party parties then causes.Script else causes.Done)

@@ -1,5 +1,12 @@
 pub mod Words
 pub mod Ends
 pub mod Lines
+pub mod Telling
+pub mod Files
+pub mod Rows
+pub mod Init
+pub mod Opening
+pub mod Dump
 pub mod Headline
+pub mod Schedule
 pub mod Promise

@@ -2,6 +2,8 @@
 use Rattle.std.specs.Prelude.{ℕ, List, [], ◌++◌, codes, decimal, if◌then◌else◌}
 use Rattle.std.specs.List.{flat_map}
 use Rattle.depot_model.specs.declared.order.Place.{Place}
+use Rattle.recovery.specs.declared.fault.DepotDisk.{DepotDisk}
+use Rattle.recovery.specs.declared.fault.DepotDisk.TheVariants.{Journal, Archive}
 use Rattle.wire_text.specs.declared.fault.ScriptFaultKind.{ScriptFaultKind}
 use Rattle.wire_text.specs.declared.fault.ScriptFaultKind.TheVariants.{BadHead, LongLine, BadData, Cut, LongData}
 use Rattle.p4_server.specs.declared.ended.PartyEnd.{PartyEnd}
@@ -44,10 +46,32 @@ end_lines parties = flat_map (λ party. end_line party.party party.end) parties
 -- `fault` where the outside failed
 abbrev pub fault_line : Cause → List ℕ
 fault_line causes.Fault = codes "fault\n"
-fault_line causes.Done = []
-fault_line causes.Usage = []
-fault_line causes.Script = []
-fault_line causes.Memory = []
+fault_line _ = []
 
+-- the lines of a run: its places, the faults of its scripts, and whether the outside failed
 abbrev pub run_lines : {K : Type 0} → List Place → List (PartyEnd K) → Cause → List ℕ
 run_lines order parties cause = place_lines order ++ end_lines parties ++ fault_line cause
+
+-- ---- where no party was run
+
+abbrev pub disk_word : DepotDisk → List ℕ
+disk_word Journal = codes "journal"
+disk_word Archive = codes "archive"
+
+-- `damaged DISK FILE PLACE`
+abbrev pub damage_words : List ℕ → List ℕ → List ℕ → List ℕ
+damage_words disk file place = codes "damaged " ++ (disk ++ (codes " " ++ (file ++ (codes " " ++ (place ++ codes "\n")))))
+
+abbrev pub damage_line : DepotDisk → ℕ → ℕ → List ℕ
+damage_line disk file place = damage_words (disk_word disk) (decimal file) (decimal place)
+
+-- `usage`, `made`, `unmade`, `damaged DISK FILE PLACE` or `fault`
+abbrev pub cause_line : Cause → List ℕ
+cause_line causes.Usage = codes "usage\n"
+cause_line causes.Made = codes "made\n"
+cause_line causes.Unmade = codes "unmade\n"
+cause_line (causes.Damaged disk file place) = damage_line disk file place
+cause_line causes.Fault = codes "fault\n"
+cause_line causes.Done = []
+cause_line causes.Script = []
+cause_line causes.Memory = []

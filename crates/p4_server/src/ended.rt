@@ -1,11 +1,11 @@
 //! How a run of the program ends.
 
 ghost use Rattle.std.specs.Prelude.{◌≡◌};
-ghost use Rattle.std.specs.List.{list_any};
-ghost use Rattle.p4_server.specs.Ends.{status_of, is_failed as failed_test, is_faulty as faulty_test, ends_cause, party_end};
+ghost use Rattle.p4_server.specs.Ends.{status_of, is_failed as failed_test, is_faulty as faulty_test, has_fault_place, has_failed_party, has_faulty_party, ends_cause, party_end};
 
 use depot_model::Place;
 use depot_path::Sequence;
+use recovery::DepotDisk;
 use wire_text::{ScriptEnd, ScriptFault};
 
 /// How a party ends.
@@ -41,6 +41,16 @@ pub enum Cause {
     Done,
     /// The words are those of no mode.
     Usage,
+    /// Files are there already, where none were to be.
+    Made,
+    /// No files are there.
+    Unmade,
+    /// The files hold no rows: the first byte of a file from which on nothing stands is at this place, counted from 0.
+    Damaged {
+        disk: DepotDisk,
+        file: u32,
+        place: u64,
+    },
     /// A script has a fault.
     Script,
     /// The outside has failed.
@@ -52,8 +62,8 @@ pub enum Cause {
 /// What a run of the program leaves.
 #[derive(Drop)]
 pub struct Ended<D, S, K> {
-    /// The status with which the program ends: 0 done, 1 usage, 3 a script's fault, 4 a fault of the
-    /// outside, 5 want of memory.
+    /// The status with which the program ends: 0 done, 1 usage, 2 files that are there already, not there
+    /// or damaged, 3 a script's fault, 4 a fault of the outside, 5 want of memory.
     pub status: u8,
     /// Why it ends.
     pub cause: Cause,
@@ -76,6 +86,7 @@ pub fn status_code(cause: Cause) -> u8
     match cause {
         Cause::Done => 0,
         Cause::Usage => 1,
+        Cause::Made | Cause::Unmade | Cause::Damaged { .. } => 2,
         Cause::Script => 3,
         Cause::Fault => 4,
         Cause::Memory => 5,
@@ -114,23 +125,29 @@ fn is_faulty(end: PartyCause) -> bool
     }
 }
 
+fn any_fault(order: &[Place]) -> bool
+    ensures { result ≡ has_fault_place order.now }
+{
+    order.iter().any(|place| place.fault)
+}
+
 fn any_failed<K>(parties: &[PartyEnd<K>]) -> bool
-    ensures { result ≡ list_any (λ party. failed_test party.end) parties.now }
+    ensures { result ≡ has_failed_party parties.now }
 {
     parties.iter().any(|party| is_failed(party.end))
 }
 
 fn any_faulty<K>(parties: &[PartyEnd<K>]) -> bool
-    ensures { result ≡ list_any (λ party. faulty_test party.end) parties.now }
+    ensures { result ≡ has_faulty_party parties.now }
 {
     parties.iter().any(|party| is_faulty(party.end))
 }
 
-/// The cause to which the ends of the parties lead.
-pub fn cause_of<K>(parties: &[PartyEnd<K>]) -> Cause
-    ensures { result ≡ ends_cause parties.now }
+/// The cause to which the places of the order and the ends of the parties lead.
+pub fn cause_of<K>(order: &[Place], parties: &[PartyEnd<K>]) -> Cause
+    ensures { result ≡ ends_cause order.now parties.now }
 {
-    if any_failed(parties) {
+    if any_fault(order) || any_failed(parties) {
         Cause::Fault
     } else if any_faulty(parties) {
         Cause::Script

@@ -101,7 +101,7 @@ fn put_cause(out: &mut Text, cause: Cause) -> Result<(), AllocError>
 {
     match cause {
         Cause::Fault => out.append(b"fault\n"),
-        Cause::Done | Cause::Usage | Cause::Script | Cause::Memory => Ok(()),
+        _ => Ok(()),
     }
 }
 

@@ -1,12 +1,21 @@
 //! The depot server: reads the scripts of sessions, answers their commands, and keeps the depot.
 //!
-//! The program runs over the current folder: the script of a party NAME is the file NAME, and its replies go to the file `NAME.out`. The
-//! journal and the archive are the folders `depot.journal` and `depot.archive`, and the order and the ends go to standard output.
+//! The program runs over the current folder. The journal and the archive of the depot are the folders `depot.journal` and `depot.archive`:
+//! `init` makes their files, `schedule NAME` runs a session over them, and `dump` prints their rows. The script of a party NAME is the file
+//! NAME, its replies go to the file `NAME.out`, and the order and the ends go to standard output.
 #![tactic(auto)]
 
+mod dump;
 mod ended;
+#[cfg(test)]
+mod file_tests;
+mod init;
 mod lines;
+mod opening;
 mod party;
+mod rows;
+mod schedule;
+mod telling;
 #[cfg(test)]
 mod tests;
 mod top;

@@ -37,7 +37,29 @@ fn list(alloc: Global, number: u64) -> Result<Vec<u64>, AllocError> {
     Ok(vec![in alloc; number]?)
 }
 
-/// Runs `schedule a` over a script, and compares the status, the session's output and the lines.
+/// The disks of an empty depot, which `init` made.
+fn made<R: Threads + Wait + Sync + Abort>(
+    rt: &R,
+    alloc: Global,
+) -> Result<(MemoryDisk, MemoryDisk), Fail> {
+    let mut doors = MemoryDoors::new(Vec::new(alloc), Vec::new(alloc));
+    let mut out = MemorySink::new(Vec::new(alloc));
+    let ended: MemoryEnded = p4_top(
+        rt,
+        alloc,
+        &["init"],
+        &mut doors,
+        MemoryDisk::new(Vec::new(alloc)),
+        MemoryDisk::new(Vec::new(alloc)),
+        &mut out,
+        &FixedClock::new(1_700_000_000),
+        &OpenGate,
+    );
+    assert_eq!(rt; ended.status, 0);
+    Ok((ended.journal, ended.archive))
+}
+
+/// Runs `schedule a` over a script and the files of an empty depot, and compares the status, the session's output and the lines.
 fn runs<R: Threads + Wait + Sync + Abort>(
     rt: &R,
     alloc: Global,
@@ -53,13 +75,14 @@ fn runs<R: Threads + Wait + Sync + Abort>(
     doors.push(Door::new(Text::from_bytes(alloc, b"a")?, source, sink))?;
     let mut doors = MemoryDoors::new(doors, list(alloc, fails.doors)?);
     let mut out = MemorySink::new(list(alloc, fails.out)?);
+    let (journal, archive) = made(rt, alloc)?;
     let ended: MemoryEnded = p4_top(
         rt,
         alloc,
         &["schedule", "a"],
         &mut doors,
-        MemoryDisk::new(Vec::new(alloc)),
-        MemoryDisk::new(Vec::new(alloc)),
+        journal,
+        archive,
         &mut out,
         &FixedClock::new(1_700_000_000),
         &OpenGate,

@@ -1,2 +1,4 @@
+pub mod Asked
+mod Faults
 pub mod Orders
 pub mod Turns

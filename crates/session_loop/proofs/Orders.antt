@@ -15,10 +15,6 @@ abbrev pub IsUnplaced : ℕ → ℕ → List Place → Type 0
 IsUnplaced party number order = AllByRecursion (λ place. is_place_of party number place ≡ false) order
 
 module _ (sessions : List (Option Session)) where
-  pub run-push : (depot : List Deed) (order : List Place) (place : Place) → run sessions depot (order ++ place ∷ []) ≡ after (run sessions depot order) (deeds_at sessions (run sessions depot order) place)
-  run-push depot [] place = refl
-  run-push depot (first ∷ order) place = run-push (after depot (deeds_at sessions depot first)) order place
-
   -- a command without a place
   pub reply_to-unplaced : (depot : List Deed) (order : List Place) (party number : ℕ) → IsUnplaced party number order → reply_to sessions depot order party number ≡ memory_row ∷ []
   reply_to-unplaced depot [] party number h = refl

@@ -1,7 +1,8 @@
 -- What a session asks: the commands of its script's lines. A line brings the input that stands before it, and a submit or a shelve also the
 -- contents that are in force there, the last one of each file, in the order in which the files were first named since they were last cleared
 -- (this project's own choice).
-use Rattle.std.specs.Prelude.{ℕ, Bool, true, false, List, [], ◌∷◌, map, Option, Some, None, is_some, Result, Ok}
+use Rattle.std.specs.Prelude.{ℕ, Bool, true, false, List, [], ◌∷◌, map, Option, Some, None, is_some, Result, Ok, IfOk}
+use Rattle.std.specs.List.{All}
 use Rattle.indexmap.specs.IndexMap.{insert_entry, shift_remove_entry}
 use Rattle.depot_path.specs.Bytes.{same}
 use Rattle.depot_model.specs.declared.command.Command.{Command}
@@ -11,6 +12,7 @@ use Rattle.depot_model.specs.declared.request.Content.{Content}
 use Rattle.depot_model.specs.declared.request.Session.{Session}
 use Rattle.depot_model.specs.declared.request.WordFault.{WordFault}
 use Rattle.command_words.specs.Reading.{command_of}
+use Rattle.command_words.specs.WellFormed.{IsWellFormed}
 use Rattle.wire_text.specs.declared.entry.Entry.{Entry}
 use Rattle.wire_text.specs.declared.entry.Entry.TheVariants.{Put, Clear, Command as Asks}
 use Rattle.wire_text.specs.declared.entry.Item.{Item}
@@ -75,3 +77,7 @@ asking_of bytes = asking_by (script_of bytes)
 abbrev pub commands_of : Option Session → List Asked
 commands_of (Some session) = session.commands
 commands_of None = []
+
+-- the commands that words spell are well-formed
+abbrev pub AreWellFormed : List Asked → Type 0
+AreWellFormed commands = All (λ (asked : Asked). IfOk asked.command IsWellFormed) commands

@@ -1,5 +1,6 @@
 -- What taking the commands of one party does.
-use Rattle.std.specs.Prelude.{◌≡◌, ◌<◌, ◌≤◌, ◌⊎◌, ℕ, suc, Bool, true, false, List, [], ◌∷◌, ◌++◌, Option, Result, All, AllPairs}
+use Rattle.std.specs.Prelude.{◌≡◌, ◌<◌, ◌≤◌, ◌⊎◌, ℕ, suc, ◌+◌, Bool, true, false, List, [], ◌∷◌, ◌++◌, Option, Result, All, AllPairs, count_by}
+use Rattle.outside_api.specs.Count.{counted}
 use Rattle.outside_api.specs.Told.{extended}
 use Rattle.depot_model.specs.Deeds.{Deed}
 use Rattle.depot_model.specs.declared.order.Place.{Place}
@@ -10,31 +11,39 @@ use Rattle.depot_model.specs.Order.{Rises}
 use Rattle.depot_model.specs.Printed.{printed}
 use Rattle.depot_model.specs.Rows.{memory_row}
 use Rattle.depot_model.specs.Commands.{step}
+use Rattle.depot_model.specs.Places.{Placed, taken, told_at}
 use Rattle.depot_model.specs.Run.{request_of, outputs, output_of}
-use Rattle.depot_model.specs.Step.{after}
 use Rattle.wire_text.specs.Giving.{GivesAll, IsProperFront}
+use Rattle.session_loop.specs.Taking.{placed_by}
 
--- the command has the last place, and it did and was answered what the model says
-pub record IsTaken (may_give : ℕ → Type 0) (party number : ℕ) (caller : Caller) (asked : Asked) (old_depot new_depot : List Deed) (old_order new_order : List Place) (text : List ℕ) : Type 0 where
+-- how many places of an order are faults
+abbrev pub fault_count : List Place → ℕ
+fault_count order = count_by (λ place. place.fault) order
+
+-- the fault places that came are at most as many as the count rose
+abbrev pub AreCaused : ℕ → ℕ → List Place → List Place → Type 0
+AreCaused before now old_order new_order = (n : ℕ) × (fault_count new_order ≡ fault_count old_order + n) × (counted n before ≤ now)
+
+-- The command has the last place. There it did, and was answered, what the model says: at a fault place nothing, and the row of a fault.
+pub record IsTaken (may_give : ℕ → Type 0) (has_run : List Deed → List Placed → Type 0) (party number : ℕ) (caller : Caller) (asked : Asked) (start : List Deed) (places : List Placed) (old_order new_order : List Place) (text : List ℕ) : Type 0 where
   pub place : Place
   pub party_is : place.party ≡ party
   pub number_is : place.number ≡ number
-  pub no_fault : place.fault ≡ false
   pub moment : may_give place.moment
   pub order : new_order ≡ old_order ++ place ∷ []
-  pub depot : new_depot ≡ after old_depot (step old_depot (request_of place caller asked)).deeds
-  pub reply : text ≡ printed (step old_depot (request_of place caller asked)).rows number
+  pub ran : has_run start (places ++ placed_by (request_of place caller asked) place.fault ∷ [])
+  pub reply : text ≡ printed (told_at step (taken step start places) (placed_by (request_of place caller asked) place.fault)) number
 
 -- the command found no memory, has no place and did nothing
-pub record IsUntaken (number : ℕ) (old_depot new_depot : List Deed) (old_order new_order : List Place) (text : List ℕ) : Type 0 where
+pub record IsUntaken (has_run : List Deed → List Placed → Type 0) (number : ℕ) (start : List Deed) (places : List Placed) (old_order new_order : List Place) (text : List ℕ) : Type 0 where
   pub order : new_order ≡ old_order
-  pub depot : new_depot ≡ old_depot
+  pub ran : has_run start places
   pub reply : text ≡ printed (memory_row ∷ []) number
 
 -- the command was taken or found no memory, and the sink got its reply, or, where it failed, a proper front of it
-pub record IsAnswered {E : Type 0} (may_give : ℕ → Type 0) (party number : ℕ) (caller : Caller) (asked : Asked) (old_depot new_depot : List Deed) (old_order new_order : List Place) (before now : Option (List ℕ)) (result : Result (Unit {0}) E) : Type 0 where
+pub record IsAnswered {E : Type 0} (may_give : ℕ → Type 0) (has_run : List Deed → List Placed → Type 0) (party number : ℕ) (caller : Caller) (asked : Asked) (start : List Deed) (places : List Placed) (old_order new_order : List Place) (before now : Option (List ℕ)) (result : Result (Unit {0}) E) : Type 0 where
   pub text : List ℕ
-  pub taken : IsTaken may_give party number caller asked old_depot new_depot old_order new_order text ⊎ IsUntaken number old_depot new_depot old_order new_order text
+  pub taken : IsTaken may_give has_run party number caller asked start places old_order new_order text ⊎ IsUntaken has_run number start places old_order new_order text
   pub given : GivesAll before now text result
 
 -- the place is that of one of a party's first n commands

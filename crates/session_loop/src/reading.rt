@@ -129,6 +129,7 @@ fn session(
 ) -> Result<Option<Session>, AllocError>
     ensures value { IfOk result (λ session. session ≡ spec.session_of head entries) }
     ensures few { IfOk result (λ session. length (spec.commands_of session) ≤ length entries) }
+    ensures formed { IfOk result (λ session. spec.AreWellFormed (spec.commands_of session)) }
 {
     match head {
         Some(Head::Session(caller)) => Ok(Some(Session {
@@ -158,6 +159,7 @@ fn end_of(head: &Option<Head>, end: ScriptEnd) -> ScriptEnd
 pub fn read_session<S: Source>(alloc: Global, source: &mut S) -> Result<ReadSession, AllocError>
     ensures read { IfOk result (IsReadSession (S.left source.old) (S.left source.new) (S.faults source.old) (S.faults source.new)) }
     ensures few { IfOk result (λ read. length (spec.commands_of read.session) ≤ 67108864) }
+    ensures formed { IfOk result (λ read. spec.AreWellFormed (spec.commands_of read.session)) }
     ensures counts { S.faults source.old ≤ S.faults source.new }
 {
     let ReadScript { head, entries, end } = read_script(alloc, source)?;

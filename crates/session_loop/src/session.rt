@@ -1,16 +1,21 @@
 //! Taking the commands of a session, one after another.
 
-ghost use Rattle.std.specs.Prelude.{◌≡◌, ◌≤◌, ◌<◌, ◌^◌, ◌-◌, List, Option, Some, [], length, slice_get, true, false, IfOk, OnErr};
-ghost use Rattle.outside_api.specs.Count.{HasCause, HasRisen};
+ghost use Rattle.std.specs.Prelude.{◌≡◌, ◌≤◌, ◌<◌, ◌^◌, ◌-◌, ℕ, List, Option, Some, [], length, map, slice_get, true, false, IfOk, OnErr};
+ghost use Rattle.outside_api.specs.Count.{HasCause, HasRisen, counted};
+ghost use Rattle.depot_model.specs.Deeds.{Deed};
+ghost use Rattle.depot_model.specs.Places.{Placed};
 ghost use Rattle.depot_model.specs.declared.request.Session.{Session};
-ghost use Rattle.depot_model.specs.Run.{request_of};
-ghost use Rattle.session_loop.specs.Served.{IsTaken, IsAnswered, IsServed};
+ghost use Rattle.depot_model.specs.Run.{placed, request_of};
+ghost use Rattle.command_words.specs.WellFormed.{IsWellFormed};
+ghost use Rattle.session_loop.specs.Asking.{AreWellFormed};
+ghost use Rattle.session_loop.specs.Served.{AreCaused, IsTaken, IsAnswered, IsServed, fault_count};
 
-use depot_model::{Asked, Caller, Depot, Outcome, Place, Request, Session, evaluate};
+use crate::taker::Taker;
+use depot_model::{Answer, Asked, Caller, Place, Request, Session};
 use depot_path::Text;
 use outside_api::{Clock, Gate, Sink};
 use std::alloc::{AllocError, Global};
-use wire_text::{GiveFault, give_all, give_memory, print_reply};
+use wire_text::{GiveFault, give_all, give_memory};
 
 /// How far a session came.
 #[derive(Clone, Copy, Debug, PartialEq, Eq)]
@@ -36,9 +41,9 @@ fn request(place: &Place, caller: &Caller, asked: Asked) -> Result<Request, Allo
     })
 }
 
-/// Takes a command: gives it its place, does what it does to the depot, and prints its reply. Without
+/// Takes a command: it gets its place, which goes to the end of the order, and its reply. Without
 /// memory for all of that nothing is done.
-fn take_command<C: Clock, G: Gate>(
+fn take_command<T: Taker, C: Clock, G: Gate>(
     alloc: Global,
     party: u32,
     number: u32,
@@ -46,12 +51,16 @@ fn take_command<C: Clock, G: Gate>(
     asked: Asked,
     clock: &C,
     gate: &G,
-    depot: &mut Depot,
+    taker: &mut T,
     order: &mut Vec<Place>,
 ) -> Result<Text, AllocError>
-    ensures ok { IfOk result (IsTaken (C.may_give clock.now) party number caller.now asked depot.old depot.new order.old.items order.new.items) }
-    ensures same_depot { OnErr result (depot.new ≡ depot.old) }
+    requires { T.can_take taker.old }
+    ensures can { T.can_take taker.new }
+    ensures ok { (since : ℕ) (start : List Deed) (places : List Placed) → T.has_run taker.old since start places → IfOk asked.command IsWellFormed →
+        IfOk result (IsTaken (C.may_give clock.now) (T.has_run taker.new since) party number caller.now asked start places order.old.items order.new.items) }
+    ensures same_taker { OnErr result (taker.new ≡ taker.old) }
     ensures same_order { OnErr result (order.new.items ≡ order.old.items) }
+    ensures cause { AreCaused (T.faults taker.old) (T.faults taker.new) order.old.items order.new.items }
 {
     let place = Place {
         party,
@@ -60,24 +69,14 @@ fn take_command<C: Clock, G: Gate>(
         fault: false,
     };
     let request = request(&place, caller, asked)?;
-    let Outcome { deeds, reply } = evaluate(alloc, depot, &request)?;
-    gate.pass(party, number);
-    let text = print_reply(alloc, &reply, number)?;
-    order.push(place)?;
-    match depot.apply(deeds) {
-        Ok(()) => {
-            gate.answered(party, number);
-            Ok(text)
-        }
-        Err(error) => {
-            order.pop();
-            Err(error)
-        }
-    }
+    order.reserve(1)?;
+    let Answer { place, reply } = taker.take(alloc, gate, request)?;
+    order.push(place).unwrap();
+    Ok(reply)
 }
 
 /// Takes a command and gives its reply.
-fn answer<K: Sink, C: Clock, G: Gate>(
+fn answer<T: Taker, K: Sink, C: Clock, G: Gate>(
     alloc: Global,
     party: u32,
     number: u32,
@@ -86,14 +85,18 @@ fn answer<K: Sink, C: Clock, G: Gate>(
     clock: &C,
     gate: &G,
     sink: &mut K,
-    depot: &mut Depot,
+    taker: &mut T,
     order: &mut Vec<Place>,
 ) -> Result<(), GiveFault>
-    ensures answered { IsAnswered (C.may_give clock.now) party number caller.now asked depot.old depot.new order.old.items order.new.items (K.given sink.old) (K.given sink.new) result }
+    requires { T.can_take taker.old }
+    ensures can { T.can_take taker.new }
+    ensures answered { (since : ℕ) (start : List Deed) (places : List Placed) → T.has_run taker.old since start places → IfOk asked.command IsWellFormed →
+        IsAnswered (C.may_give clock.now) (T.has_run taker.new since) party number caller.now asked start places order.old.items order.new.items (K.given sink.old) (K.given sink.new) result }
+    ensures places { AreCaused (T.faults taker.old) (T.faults taker.new) order.old.items order.new.items }
     ensures cause { HasCause (K.faults sink.old) (K.faults sink.new) result }
 {
     match take_command(
-        alloc, party, number, caller, asked, clock, gate, depot, order,
+        alloc, party, number, caller, asked, clock, gate, taker, order,
     ) {
         Ok(text) => give_all(sink, text.as_bytes()),
         Err(_) => give_memory(sink, number),
@@ -101,31 +104,43 @@ fn answer<K: Sink, C: Clock, G: Gate>(
 }
 
 /// Takes the commands of a session and gives their replies, as long as the sink takes them. A command
-/// that finds no memory is answered so, has no place, and the session goes on.
-pub fn run_session<K: Sink, C: Clock, G: Gate>(
+/// that finds no memory is answered so, has no place, and the session goes on. So does a command
+/// whose commit failed, at a fault place.
+pub fn run_session<T: Taker, K: Sink, C: Clock, G: Gate>(
     alloc: Global,
     party: u32,
     session: Session,
     clock: &C,
     gate: &G,
     sink: &mut K,
-    depot: &mut Depot,
+    taker: &mut T,
     order: &mut Vec<Place>,
 ) -> SessionRun
+    requires can { T.can_take taker.old }
     requires few { length session.commands < 2 ^ 32 }
     requires no_places { order.old.items ≡ [] }
-    ensures served { (sessions : List (Option Session)) → slice_get sessions (party - 1) ≡ Some (Some session) → IsServed (C.may_give clock.now) sessions depot.old party result.commands result.failed (K.given sink.old) (K.given sink.new) order.new.items }
+    ensures can { T.can_take taker.new }
+
+    // From each depot from which the taker begins, where the commands are well-formed.
+    ensures served { (sessions : List (Option Session)) (since : ℕ) (start : List Deed) → slice_get sessions (party - 1) ≡ Some (Some session) → AreWellFormed session.commands → T.has_run taker.old since start [] →
+        IsServed (C.may_give clock.now) sessions start party result.commands result.failed (K.given sink.old) (K.given sink.new) order.new.items }
+    ensures ran { (sessions : List (Option Session)) (since : ℕ) (start : List Deed) → slice_get sessions (party - 1) ≡ Some (Some session) → AreWellFormed session.commands → T.has_run taker.old since start [] →
+        T.has_run taker.new since start (map (placed sessions) order.new.items) }
+
     ensures all { result.failed ≡ false → result.commands ≡ length session.commands }
     ensures within { result.commands ≤ length session.commands }
     ensures counts { K.faults sink.old ≤ K.faults sink.new }
     ensures cause { result.failed ≡ true → HasRisen (K.faults sink.old) (K.faults sink.new) }
+
+    // There are at most as many fault places as the taker's count rose.
+    ensures faults { counted (fault_count order.new.items) (T.faults taker.old) ≤ T.faults taker.new }
 {
     let Session { caller, commands } = session;
     let mut count = 0;
     for asked in commands.into_vec() {
         count += 1;
         match answer(
-            alloc, party, count, &caller, asked, clock, gate, sink, depot, order,
+            alloc, party, count, &caller, asked, clock, gate, sink, taker, order,
         ) {
             Ok(()) => {}
             Err(_) => {

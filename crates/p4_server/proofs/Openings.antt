@@ -1,0 +1,78 @@
+-- What the faults of opening lead to.
+use Rattle.std.proofs.Common.{◌≡◌, ◌⊎◌, ℕ, List, length, Option, refl, sym, ◌∙◌, inl, inr, ⊎_elim, arith}
+use Rattle.outside_api.specs.Disk.{Files, LeavesOnly, NoMore}
+use Rattle.depot_model.specs.Deeds.{Deed}
+use Rattle.recovery.specs.Faults.{SaysNothing}
+use Rattle.recovery.specs.Looking.{AreCauses}
+use Rattle.recovery.specs.Opening.{HasSynced}
+use Rattle.recovery.specs.Standing.{StandFor}
+use Rattle.recovery.specs.declared.fault.OpenFault.{OpenFault}
+use Rattle.recovery.specs.declared.fault.OpenFault.TheVariants.{Unmade, Damaged, DiskFault, Memory}
+use Rattle.p4_server.specs.declared.ended.Ended.{Ended}
+use Rattle.p4_server.specs.declared.ended.Cause.TheVariants as causes
+use Rattle.p4_server.specs.Files.{IsStart, DiskRose}
+use Rattle.p4_server.specs.Telling.{IsToldAlone}
+use Rattle.p4_server.specs.Opening.{cause_by, IsUnmade, IsDamaged, IsUnread, IsUnopened}
+
+module _ {D S K : Type 0} (seen may_leave : D → Files → Type 0) (moment : D → ℕ) (left_since : D → ℕ → Files → Type 0) (disk_faults : D → ℕ) (given : K → Option (List ℕ)) (sink_faults : K → ℕ) (journal archive : D) (old_out new_out : K) (ended : Ended D S K) where
+  abbrev pub Why : Type 0
+  Why = IsUnmade seen may_leave moment left_since disk_faults given sink_faults journal archive old_out new_out ended
+      ⊎ (IsDamaged seen may_leave moment left_since disk_faults given sink_faults journal archive old_out new_out ended
+      ⊎ (IsUnread seen may_leave moment left_since disk_faults given sink_faults journal archive old_out new_out ended ⊎ (ended.cause ≡ causes.Memory)))
+
+  pub why_of : (fault : OpenFault) → ended.cause ≡ cause_by fault
+      → ((files : Files) → seen journal files → fault ≡ Unmade → length (files 0) ≡ 0)
+      → ((files : Files) → seen journal files → length (files 0) ≡ 0 → (fault ≡ Unmade) ⊎ SaysNothing fault)
+      → ((j a : Files) (d : List Deed) → seen journal j → seen archive a → StandFor d j a → SaysNothing fault)
+      → AreCauses (disk_faults journal) (disk_faults ended.journal) (disk_faults archive) (disk_faults ended.archive) (fault ≡ DiskFault)
+      → Why
+  why_of Unmade is unmade exactly stands causes = inl (record { cause_is = is; was_empty = λ files reads. unmade files reads refl })
+  why_of (Damaged disk file place) is unmade exactly stands causes = inr (inl (record {
+    disk = disk;
+    file = file;
+    place = place;
+    cause_is = is;
+    was_there = λ files reads empty. ⊎_elim (λ (e : Damaged disk file place ≡ Unmade). absurd cc) (λ says. says) (exactly files reads empty);
+    stands_for_none = λ j a d j_reads a_reads stand. stands j a d j_reads a_reads stand;
+  }))
+  why_of DiskFault is unmade exactly stands causes = inr (inr (inl (record { cause_is = is; risen = causes.risen refl })))
+  why_of Memory is unmade exactly stands causes = inr (inr (inr is))
+
+  -- a fault comes only where a count rose
+  pub fault_of_unopened : Why → ended.cause ≡ causes.Fault → DiskRose disk_faults journal ended.journal archive ended.archive
+  fault_of_unopened (inl unmade) is = let clash : causes.Unmade ≡ causes.Fault = sym unmade.cause_is ∙ is in absurd cc
+  fault_of_unopened (inr (inl damaged)) is = let clash : causes.Damaged damaged.disk damaged.file damaged.place ≡ causes.Fault = sym damaged.cause_is ∙ is in absurd cc
+  fault_of_unopened (inr (inr (inl unread))) is = unread.risen
+  fault_of_unopened (inr (inr (inr memory))) is = let clash : causes.Memory ≡ causes.Fault = sym memory ∙ is in absurd cc
+
+  -- files that stand for a depot are opened, unless a count rises or memory is wanting
+  pub complete_of_unopened : Why → (d : List Deed) → IsStart seen journal archive d → ¬ DiskRose disk_faults journal ended.journal archive ended.archive → ended.cause ≡ causes.Memory
+  complete_of_unopened (inl unmade) d start quiet =
+      let long = start.stand.committed.rest.root.long in
+      let short = unmade.was_empty start.journal_files start.journal_reads in
+      absurd (omega (arith, long, short))
+  complete_of_unopened (inr (inl damaged)) d start quiet = absurd (damaged.stands_for_none start.journal_files start.archive_files d start.journal_reads start.archive_reads start.stand)
+  complete_of_unopened (inr (inr (inl unread))) d start quiet = absurd (quiet unread.risen)
+  complete_of_unopened (inr (inr (inr memory))) d start quiet = memory
+
+module _ {D S K : Type 0} (seen may_leave : D → Files → Type 0) (moment : D → ℕ) (left_since : D → ℕ → Files → Type 0) (disk_faults : D → ℕ) (given : K → Option (List ℕ)) (sink_faults : K → ℕ) (journal archive left_journal left_archive : D) (old_out new_out : K) (ended : Ended D S K)
+    (journal_is : ended.journal ≡ left_journal) (archive_is : ended.archive ≡ left_archive) where
+  -- the run of files that weren't opened
+  pub unopened_of : (fault : OpenFault) → IsToldAlone given sink_faults old_out new_out ended → ended.cause ≡ cause_by fault
+      → NoMore (may_leave journal) (may_leave left_journal) → NoMore (may_leave archive) (may_leave left_archive) → LeavesOnly moment left_since journal left_journal (may_leave journal)
+      → ((files : Files) → seen journal files → fault ≡ Unmade → length (files 0) ≡ 0)
+      → ((files : Files) → seen journal files → length (files 0) ≡ 0 → (fault ≡ Unmade) ⊎ SaysNothing fault)
+      → ((j a : Files) (d : List Deed) → seen journal j → seen archive a → StandFor d j a → SaysNothing fault)
+      → AreCauses (disk_faults journal) (disk_faults left_journal) (disk_faults archive) (disk_faults left_archive) (fault ≡ DiskFault)
+      → IsUnopened seen may_leave moment left_since disk_faults given sink_faults journal archive old_out new_out ended
+  unopened_of fault told is journal_images archive_images any_moment unmade exactly stands causes = record {
+    told = told;
+    journal_images = rw journal_is journal_images;
+    archive_images = rw archive_is archive_images;
+    any_moment = rw journal_is any_moment;
+    why = why_of seen may_leave moment left_since disk_faults given sink_faults journal archive old_out new_out ended fault is unmade exactly stands (rw (journal_is, archive_is) causes);
+  }
+
+-- a crash leaves what a disk that was only read and synced read at the start
+pub read_at_start : {D : Type 0} (seen may_leave : D → Files → Type 0) (old new : D) → HasSynced seen may_leave old new → NoMore (seen old) (may_leave new)
+read_at_start seen may_leave old new synced image left = synced.same.no_more image (synced.durable image left)

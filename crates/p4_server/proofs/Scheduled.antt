@@ -1,0 +1,152 @@
+-- A depot in files that is opened, asked and closed.
+use Rattle.std.proofs.Common.{◌≡◌, ◌≢◌, ◌≤◌, ◌+◌, ℕ, Bool, true, false, List, [], ◌∷◌, length, cond, Option, refl, sym, ap, subst, ◌∙◌, ◌⊎◌, inl, inr, arith}
+use Rattle.std.proofs.lemmas.List.Sums.{sum_by-cons}
+use Rattle.outside_api.specs.Count.{HasRisen, counted}
+use Rattle.depot_model.specs.declared.order.Place.{Place}
+use Rattle.session_loop.specs.Served.{fault_count}
+use Rattle.p4_server.specs.Ends.{has_fault_place}
+use Rattle.outside_api.specs.Disk.{Files}
+use Rattle.depot_model.specs.Deeds.{Deed}
+use Rattle.depot_model.specs.Kept.{IsKept}
+use Rattle.depot_model.specs.Places.{Placed}
+use Rattle.depot_rows.specs.Standing.{Stand}
+use Rattle.disk_journal.specs.Images.{Committed, HasCommitted}
+use Rattle.disk_journal.specs.Stands.{nothing, disk_of}
+use Rattle.table_changes.specs.Changed.{rows_of}
+use Rattle.recovery.specs.Opening.{IsOpen, HasSynced, LooksOnly}
+use Rattle.recovery.specs.Standing.{StandFor}
+use Rattle.recovery.specs.declared.open.Opened.{Opened}
+use Rattle.serial_depot.specs.Holding.{generation_in, ImageHolds}
+use Rattle.serial_depot.specs.Running.{HasRun}
+use Rattle.serial_depot.specs.declared.depot.SerialDepot.{SerialDepot}
+use Rattle.serial_depot.proofs.Kept.{kept_now}
+use Rattle.serial_depot.proofs.Places.{kept_whole}
+use Rattle.p4_server.specs.declared.ended.Ended.{Ended}
+use Rattle.p4_server.specs.declared.ended.PartyEnd.{PartyEnd}
+use Rattle.p4_server.specs.declared.ended.Cause.{Cause}
+use Rattle.p4_server.specs.declared.ended.Cause.TheVariants as causes
+use Rattle.p4_server.specs.declared.party.NotRun.{NotRun}
+use Rattle.p4_server.specs.declared.party.NotRun.TheVariants.{Doors, Memory}
+use Rattle.p4_server.specs.Files.{IsStart}
+use Rattle.p4_server.specs.Headline.{IsPartyEnd, IsRunFrom}
+use Rattle.p4_server.specs.Schedule.{IsOpened, AreKept, IsRun, unrun_cause}
+use Rattle.p4_server.specs.Telling.{IsReport}
+use Rattle.p4_server.proofs.Openings.{read_at_start}
+
+module _ {D : Type 0} (seen may_leave : D → Files → Type 0) (moment : D → ℕ) (left_since : D → ℕ → Files → Type 0) where
+  abbrev pub depot_of : Opened D → SerialDepot D
+  depot_of opened = record { tables = opened.tables; journal = opened.journal; archive = opened.archive }
+
+  -- the generation of files that are opened is the one that their depot tells
+  generation_at : (journal archive : D) (opened : Opened D) (was : Committed) → IsOpen may_leave was opened
+      → ((files : Files) → seen journal files → may_leave (disk_of opened.journal) files) → (d : List Deed) → IsStart seen journal archive d → generation_in d ≡ was.generation
+  generation_at journal archive opened was is images d start =
+      let here : HasCommitted was start.journal_files = is.stands.holds start.journal_files (images start.journal_files start.journal_reads) in
+      start.stand.generation ∙ (sym start.stand.committed.root ∙ here.root)
+
+  -- when the files are opened, no command was taken
+  pub has_opened : (journal archive : D) (opened : Opened D) (was : Committed) → IsOpen may_leave was opened
+      → ((files : Files) → seen journal files → may_leave (disk_of opened.journal) files)
+      → ((image : Files) → left_since (disk_of opened.journal) (moment (disk_of opened.journal)) image → may_leave (disk_of opened.journal) image)
+      → (d : List Deed) → IsStart seen journal archive d → Stand (rows_of opened.tables) d
+      → HasRun may_leave moment left_since (depot_of opened) (moment (disk_of opened.journal)) d []
+  has_opened journal archive opened was is images now d start stand =
+      let generation = generation_at journal archive opened was is images d start in
+      record {
+        was = was;
+        doubt = nothing;
+        stands = is.stands;
+        has = is.rows;
+        stand = stand;
+        generation = generation;
+        in_doubt = tt;
+        later = omega arith;
+        any_moment = λ image left. (
+          0,
+          omega arith,
+          inl (record {
+            was = was;
+            committed = is.stands.holds image (now image left);
+            holds = record { rows = rows_of opened.tables; has = is.rows; stand = stand; generation = generation };
+          }),
+        );
+      }
+
+  -- the same of the depot that is made of them
+  pub begins : (journal archive : D) (opened : Opened D) (depot : SerialDepot D) → depot ≡ depot_of opened → ((was : Committed) × IsOpen may_leave was opened) → HasSynced seen may_leave journal (disk_of opened.journal)
+      → ((disk : D) (files : Files) → seen disk files → may_leave disk files) → ((disk : D) (files : Files) → left_since disk (moment disk) files → may_leave disk files)
+      → ((j a : Files) (d : List Deed) → seen journal j → seen archive a → StandFor d j a → Stand (rows_of opened.tables) d)
+      → (d : List Deed) → IsStart seen journal archive d → HasRun may_leave moment left_since depot (moment (disk_of opened.journal)) d []
+  begins journal archive opened depot is opening synced reads now stands d start =
+      let P : SerialDepot D → Type 0 = λ s. HasRun may_leave moment left_since s (moment (disk_of opened.journal)) d [] in
+      subst P (sym is) (has_opened journal archive opened opening.0 opening.1 (λ files read. reads (disk_of opened.journal) files (synced.same.kept files read)) (now (disk_of opened.journal)) d start
+      (stands start.journal_files start.archive_files d start.journal_reads start.archive_reads start.stand))
+
+  -- each image of a depot that has run is kept for all places
+  pub kept_at : (depot : SerialDepot D) (since : ℕ) (d : List Deed) (places : List Placed) → HasRun may_leave moment left_since depot since d places
+      → (image : Files) → may_leave (disk_of depot.journal) image → IsKept (ImageHolds image) d places (length places)
+  kept_at depot since d places ran image left =
+      kept_whole (ImageHolds image) d places (kept_now ran.was (rows_of depot.tables) d places ran.has ran.generation ran.stand ran.doubt ran.in_doubt image (ran.stands.holds image left))
+
+-- ---- fault places
+
+fault_counted_here : (place : Place) (order : List Place) (b : Bool) → place.fault ≡ b → (has_fault_place order ≡ true → 1 ≤ fault_count order) → has_fault_place (place ∷ order) ≡ true → 1 ≤ fault_count (place ∷ order)
+fault_counted_here place order true is more e =
+    let P : ℕ → Type 0 = λ n. 1 ≤ n in
+    let one : 1 ≤ 1 + fault_count order = omega arith in
+    subst P (sym (sum_by-cons (λ (p : Place). cond p.fault 1 0) place order ∙ ap (λ (b : Bool). cond b 1 0 + fault_count order) is)) one
+fault_counted_here place order false is more e = rw is (more (rw is at e))
+
+fault_counted : (order : List Place) → has_fault_place order ≡ true → 1 ≤ fault_count order
+fault_counted [] e = absurd cc
+fault_counted (place ∷ order) e = fault_counted_here place order place.fault refl (fault_counted order) e
+
+-- a fault place comes only where the count rose
+pub place_rose : (order : List Place) (before opened now : ℕ) → before ≤ opened → counted (fault_count order) opened ≤ now → has_fault_place order ≡ true → HasRisen before now
+place_rose order before opened now le counts e = let some = fault_counted order e in omega (arith, le, counts, some)
+
+-- ---- the end
+
+module _ {D S K : Type 0} (seen may_leave : D → Files → Type 0) (moment : D → ℕ) (left_since : D → ℕ → Files → Type 0) (disk_faults : D → ℕ) (left : S → Option (List ℕ)) (source_faults : S → ℕ) (given : K → Option (List ℕ)) (sink_faults : K → ℕ) (may_give : ℕ → Type 0) (inputs outputs : List ℕ → Option (List ℕ)) (doors_before doors_now : ℕ) (journal archive : D) (old_out new_out : K) (name : List ℕ) (ended : Ended D S K) where
+  abbrev Opens : D → Type 0
+  Opens opened = IsOpened seen may_leave moment left_since disk_faults left source_faults given sink_faults may_give inputs outputs doors_before doors_now journal archive old_out new_out name ended opened
+
+  abbrev Kept : D → List Deed → List Placed → Type 0
+  Kept opened d places = AreKept seen may_leave moment left_since disk_faults left source_faults given sink_faults may_give inputs outputs doors_before doors_now journal archive old_out new_out name ended opened d places
+
+  -- files are opened only where the root isn't empty
+  pub is_opened : (opened : Opened D) → ((files : Files) → seen journal files → length (files 0) ≢ 0) → LooksOnly may_leave moment left_since journal (disk_of opened.journal) → HasSynced seen may_leave journal (disk_of opened.journal) → Opens (disk_of opened.journal)
+  is_opened opened there looks synced = record { was_there = there; looked = looks; durable = read_at_start seen may_leave journal (disk_of opened.journal) synced }
+
+  -- what a depot that has run leaves, once it is closed
+  pub are_kept : (depot : SerialDepot D) (opened : D) → ended.journal ≡ disk_of depot.journal → (d : List Deed) (places : List Placed) → HasRun may_leave moment left_since depot (moment opened) d places → Kept opened d places
+  are_kept depot opened is d places ran = record {
+    exit = λ image left_it. kept_at seen may_leave moment left_since depot (moment opened) d places ran image (rw is at left_it);
+    any_moment = λ image left_it. ran.any_moment image (rw is at left_it);
+  }
+
+  -- the party was run over the depot
+  pub run_of : (depot : SerialDepot D) (opened : D) (opened_faults : ℕ) (order : List Place) (party : PartyEnd K) (source : S) → ended.journal ≡ disk_of depot.journal → Opens opened → ended.order ≡ order
+      → IsPartyEnd left source_faults sink_faults (inputs name) 1 source party
+      → ((d : List Deed) → IsStart seen journal archive d → IsRunFrom left source_faults given sink_faults may_give (HasRun may_leave moment left_since depot (moment opened)) d inputs outputs name order party source)
+      → disk_faults journal ≤ opened_faults → counted (fault_count order) opened_faults ≤ disk_faults (disk_of depot.journal)
+      → IsReport given sink_faults old_out new_out ended order party source ⊎ (ended.cause ≡ causes.Memory)
+      → IsRun seen may_leave moment left_since disk_faults left source_faults given sink_faults may_give inputs outputs doors_before doors_now journal archive old_out new_out name ended
+  run_of depot opened opened_faults order party source journal_is opens order_is end runs before counts told =
+      let P : List Place → Type 0 = λ o. (d : List Deed) → IsStart seen journal archive d → IsRunFrom left source_faults given sink_faults may_give (HasRun may_leave moment left_since depot (moment opened)) d inputs outputs name o party source in
+      let all = subst P (sym order_is) runs in
+      record {
+        party = party;
+        source = source;
+        end = end;
+        opened = opened;
+        is_opened = opens;
+        run = λ d start. record { headline = (all d start).headline; kept = are_kept depot opened journal_is d _ (all d start).ran };
+        fault_places = λ e. rw journal_is (place_rose order (disk_faults journal) opened_faults (disk_faults (disk_of depot.journal)) before counts (rw order_is at e));
+        told = elim told [ inl report ↦ inl (report.parties_are, report.sources_are, report.told) | inr memory ↦ inr memory ];
+      }
+
+-- why a party wasn't run
+pub why_unrun : (cause : Cause) (before now : ℕ) (why : NotRun) → cause ≡ unrun_cause why → (why ≡ Doors → HasRisen before now) → ((cause ≡ causes.Fault) × HasRisen before now) ⊎ (cause ≡ causes.Memory)
+why_unrun cause before now Doors is risen = inl (is, risen refl)
+why_unrun cause before now Memory is risen = inr is

@@ -1,0 +1,20 @@
+use Rattle.std.proofs.Common.{subst, Err, ◌≡◌, ◌+◌, ◌++◌, ◌∷◌, List, ℕ, take, drop, get_or}
+use Rattle.db_records.specs.declared.table.TableId.{TableId}
+use Rattle.db_records.specs.declared.table.TableId.TheVariants.{Counter}
+use Rattle.p4_server.specs.Rows.{Prints, all_tables, rows_text, tables_text}
+use Rattle.table_store.specs.Rows.{TableRows}
+use Rattle.table_store.specs.Tables.{version_of}
+use Rattle.p4_server.proofs.RowsLemmas.{prints_last}
+use Rattle.p4_server.proofs.Tellings.{parted}
+use Rattle.p4_server.proofs.rows.give_tables.Goals as goal
+
+pub returns-in-Err-clause-prints : goal.returns-in-Err-clause-prints
+returns-in-Err-clause-prints g c =
+    let at = c.loop-table in
+    let i = at.table-index in
+    let text_of : TableId → List ℕ = λ table. rows_text (version_of c.args.tables.now table).rows in
+    let Q : TableRows → Type 0 = λ version. Prints (g.K.Sink.given at.out) (g.K.Sink.given c.give_rows.new.out) (g.K.Sink.faults at.out) (g.K.Sink.faults c.give_rows.new.out) (rows_text version.rows) (Err c.in-Err.fault) in
+    let parts : take i all_tables ++ get_or all_tables i Counter ∷ drop (i + 1) all_tables ≡ all_tables = parted all_tables i Counter c.loop-table-test.true in
+    let P : List TableId → Type 0 = λ tables. Prints (g.K.Sink.given c.args.out.now) (g.K.Sink.given c.give_rows.new.out) (g.K.Sink.faults c.args.out.now) (g.K.Sink.faults c.give_rows.new.out) (tables_text (λ table. (version_of c.args.tables.now table).rows) tables) (Err c.in-Err.fault) in
+    subst P parts (prints_last text_of (g.K.Sink.given c.args.out.now) (g.K.Sink.given at.out) (g.K.Sink.given c.give_rows.new.out) (g.K.Sink.faults c.args.out.now) (g.K.Sink.faults at.out) (g.K.Sink.faults c.give_rows.new.out)
+    (take i all_tables) (drop (i + 1) all_tables) (get_or all_tables i Counter) c.in-Err.fault at.invariant.counts at.invariant.given (subst Q c.version.ensures.rows c.in-Err.ensures.prints))

@@ -1,0 +1,12 @@
+use Rattle.std.proofs.Common.{◌≡◌, ◌≤◌, take}
+use Rattle.outside_api.specs.Told.{extended}
+use Rattle.table_store.specs.Tables.{version_of}
+use Rattle.p4_server.specs.Rows.{tables_text, all_tables}
+use Rattle.p4_server.proofs.rows.give_tables.Given as goal
+
+abbrev pub invariant-loop-table : goal.invariant-loop-table
+invariant-loop-table g l =
+    record {
+      given : g.K.Sink.given l.out ≡ extended (g.K.Sink.given l.fn.out) (tables_text (λ table. (version_of l.tables table).rows) (take l.table-index all_tables));
+      counts : g.K.Sink.faults l.fn.out ≤ g.K.Sink.faults l.out;
+    }

@@ -1,0 +1,11 @@
+use Rattle.std.proofs.Common.{◌≡◌, ◌≤◌, take}
+use Rattle.std.specs.List.{flat_map}
+use Rattle.outside_api.specs.Told.{extended}
+use Rattle.p4_server.proofs.telling.give_pieces.Given as goal
+
+abbrev pub invariant-loop-piece : goal.invariant-loop-piece
+invariant-loop-piece g l =
+    record {
+      given : g.K.Sink.given l.out ≡ extended (g.K.Sink.given l.fn.out) (flat_map (λ piece. piece.now) (take l.piece-index l.pieces));
+      counts : g.K.Sink.faults l.fn.out ≤ g.K.Sink.faults l.out;
+    }

@@ -1,0 +1,29 @@
+-- What the two disks of a depot hold before and after a run. A disk that doesn't tell what it holds reads as no files, and then these say nothing.
+use Rattle.std.specs.Prelude.{◌⊎◌, ℕ, List}
+use Rattle.outside_api.specs.Count.{HasRisen}
+use Rattle.outside_api.specs.Disk.{Files}
+use Rattle.depot_model.specs.Deeds.{Deed}
+use Rattle.recovery.specs.Looking.{OnlyReads}
+use Rattle.recovery.specs.Standing.{StandFor}
+
+-- the disks read as files that stand for this depot
+pub record IsStart {D : Type 0} (seen : D → Files → Type 0) (journal archive : D) (d : List Deed) : Type 0 where
+  pub journal_files : Files
+  pub archive_files : Files
+  pub journal_reads : seen journal journal_files
+  pub archive_reads : seen archive archive_files
+  pub stand : StandFor d journal_files archive_files
+
+-- each pair of images that a crash may leave
+abbrev pub EachPair : {D : Type 0} → (D → Files → Type 0) → D → D → (Files → Files → Type 0) → Type 0
+EachPair may_leave journal archive P = (j a : Files) → may_leave journal j → may_leave archive a → P j a
+
+-- a count of the two disks has risen
+abbrev pub DiskRose : {D : Type 0} → (D → ℕ) → D → D → D → D → Type 0
+DiskRose faults old_journal new_journal old_archive new_archive =
+    HasRisen (faults old_journal) (faults new_journal) ⊎ HasRisen (faults old_archive) (faults new_archive)
+
+-- Both disks read as before, and each image, at every moment, is one that they had.
+pub record BothOnlyRead {D : Type 0} (seen may_leave : D → Files → Type 0) (moment : D → ℕ) (left_since : D → ℕ → Files → Type 0) (old_journal new_journal old_archive new_archive : D) : Type 0 where
+  pub journal : OnlyReads seen may_leave moment left_since old_journal new_journal
+  pub archive : OnlyReads seen may_leave moment left_since old_archive new_archive

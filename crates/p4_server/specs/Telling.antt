@@ -1,0 +1,40 @@
+-- What `out` gets of the end of a run.
+use Rattle.std.specs.Prelude.{◌≡◌, ◌⊎◌, ℕ, List, [], ◌∷◌, Option}
+use Rattle.outside_api.specs.Count.{HasRisen}
+use Rattle.outside_api.specs.Told.{extended}
+use Rattle.depot_model.specs.declared.order.Place.{Place}
+use Rattle.wire_text.specs.Giving.{GotFront}
+use Rattle.p4_server.specs.declared.ended.Ended.{Ended}
+use Rattle.p4_server.specs.declared.ended.PartyEnd.{PartyEnd}
+use Rattle.p4_server.specs.declared.ended.Cause.TheVariants as causes
+use Rattle.p4_server.specs.Ends.{ends_cause}
+use Rattle.p4_server.specs.Lines.{run_lines, cause_line}
+
+-- `out` got these lines, or, where its count rose, a proper front of them
+abbrev pub OutGot : Option (List ℕ) → Option (List ℕ) → ℕ → ℕ → List ℕ → Type 0
+OutGot before now faults_before faults_now lines =
+    (now ≡ extended before lines) ⊎ (HasRisen faults_before faults_now × GotFront before now lines)
+
+-- nothing was run
+pub record IsUnrun {D S K : Type 0} (ended : Ended D S K) : Type 0 where
+  pub order_is : ended.order ≡ []
+  pub parties_are : ended.parties ≡ []
+  pub sources_are : ended.sources ≡ []
+
+module _ {D S K : Type 0} (given : K → Option (List ℕ)) (sink_faults : K → ℕ) (old_out new_out : K) (ended : Ended D S K) where
+  -- Nothing was run, and `out` got the line of the cause.
+  pub record IsToldAlone : Type 0 where
+    pub unrun : IsUnrun ended
+    pub lines : OutGot (given old_out) (given new_out) (sink_faults old_out) (sink_faults new_out) (cause_line ended.cause)
+
+  -- The cause is that of the places and of the parties' ends, and `out` got all lines; or `out` failed, which is a fault, and got a front of them.
+  pub record IsTold : Type 0 where
+    pub is : ((ended.cause ≡ ends_cause ended.order ended.parties) × (given new_out ≡ extended (given old_out) (run_lines ended.order ended.parties ended.cause)))
+        ⊎ ((ended.cause ≡ causes.Fault) × HasRisen (sink_faults old_out) (sink_faults new_out) × GotFront (given old_out) (given new_out) (run_lines ended.order ended.parties causes.Fault))
+
+  -- this party alone was run, and told
+  pub record IsReport (order : List Place) (party : PartyEnd K) (source : S) : Type 0 where
+    pub order_is : ended.order ≡ order
+    pub parties_are : ended.parties ≡ party ∷ []
+    pub sources_are : ended.sources ≡ source ∷ []
+    pub told : IsTold

@@ -1,0 +1,262 @@
+//! Runs over the files of a depot in memory.
+
+use crate::ended::Ended;
+use crate::top::p4_top;
+use depot_path::Text;
+use memory_world::{Door, FixedClock, MemoryDisk, MemoryDoors, MemorySink, MemorySource, OpenGate};
+use outside_api::Disk;
+use std::alloc::{AllocError, Global};
+use std::process::Abort;
+use std::sync::Wait;
+use std::test::*;
+use std::thread::Threads;
+
+/// The disks of the journal and of the archive.
+type Disks = (MemoryDisk, MemoryDisk);
+
+/// What a run of the program is to give.
+#[derive(Clone, Copy)]
+struct Wanted<'a> {
+    status: u8,
+    output: &'a [u8],
+    lines: &'a [u8],
+}
+
+/// The script of a session that sets a counter and shows it.
+const SCRIPT: &[u8] = b"session ann ws1 hostA\np4 counter build 7\np4 counter build\n";
+
+const OUTPUT: &[u8] =
+    b"... counter build\n... value 7\n\n... end 1\n\n... counter build\n... value 7\n\n... end 2\n\n";
+
+const PLACES: &[u8] = b"place 1 1 1700000000\nplace 1 2 1700000000\n";
+
+/// The journal of that session.
+const JOURNAL: &[u8] = b"@ex@\n@nx@ 1 31\n@pv@ 1 @db.counters@ @build@ 7\n@mx@\n";
+
+const ROW: &[u8] = b"@pv@ 1 @db.counters@ @build@ 7\n";
+
+/// A disk without files whose call of that number fails, none for 0.
+fn disk(alloc: Global, fails: u64) -> Result<MemoryDisk, AllocError> {
+    Ok(MemoryDisk::new(vec![in alloc; fails]?))
+}
+
+/// Runs the program with the door `a` before this script, compares the status, the session's output and the lines, and gives the disks back.
+fn runs_script<R: Threads + Wait + Sync + Abort>(
+    rt: &R,
+    alloc: Global,
+    words: &[&str],
+    script: &[u8],
+    disks: Disks,
+    wanted: Wanted,
+) -> Result<Disks, Fail> {
+    let source = MemorySource::new(Text::from_bytes(alloc, script)?, Vec::new(alloc));
+    let door = Door::new(
+        Text::from_bytes(alloc, b"a")?,
+        source,
+        MemorySink::new(Vec::new(alloc)),
+    );
+    let mut doors = MemoryDoors::new(vec![in alloc; door]?, Vec::new(alloc));
+    let mut out = MemorySink::new(Vec::new(alloc));
+    let ended: Ended<MemoryDisk, MemorySource, MemorySink> = p4_top(
+        rt,
+        alloc,
+        words,
+        &mut doors,
+        disks.0,
+        disks.1,
+        &mut out,
+        &FixedClock::new(1_700_000_000),
+        &OpenGate,
+    );
+    assert_eq!(rt; ended.status, wanted.status);
+    assert!(rt; out.given() == wanted.lines);
+    for party in ended.parties.as_slice() {
+        assert!(rt; party.sink.given() == wanted.output);
+    }
+    Ok((ended.journal, ended.archive))
+}
+
+/// The same of a run of no session.
+fn runs<R: Threads + Wait + Sync + Abort>(
+    rt: &R,
+    alloc: Global,
+    words: &[&str],
+    disks: Disks,
+    status: u8,
+    lines: &[u8],
+) -> Result<Disks, Fail> {
+    let wanted = Wanted {
+        status,
+        output: b"",
+        lines,
+    };
+    runs_script(rt, alloc, words, b"", disks, wanted)
+}
+
+/// Compares a file, which has no more than 5,000 bytes.
+fn holds<R: Abort>(
+    rt: &R,
+    alloc: Global,
+    disk: &mut MemoryDisk,
+    file: u32,
+    bytes: &[u8],
+) -> Result<(), Fail> {
+    let mut buffer = vec![in alloc; 0u8; 5_000]?;
+    let count = disk
+        .read(file, 0, buffer.as_mut_slice())
+        .ok()
+        .ok_or("failed")?;
+    buffer.truncate(count);
+    assert!(rt; buffer.as_slice() == bytes);
+    Ok(())
+}
+
+#[test]
+fn files_are_made_once(rt: HostRuntime) -> Result<(), Fail> {
+    let alloc = rt.alloc();
+    let root = vec![in alloc; b'm'; 4_095]?;
+    let mut disks = (disk(alloc, 0)?, disk(alloc, 0)?);
+    for (status, lines) in [(0, b"".as_slice()), (2, b"made\n")] {
+        disks = runs(&rt, alloc, &["init"], disks, status, lines)?;
+        holds(&rt, alloc, &mut disks.0, 0, &root)?;
+        holds(&rt, alloc, &mut disks.0, 1, b"@mx@\n")?;
+        holds(&rt, alloc, &mut disks.0, 2, b"@nx@ 0 0\n")?;
+    }
+    Ok(())
+}
+
+/// Each call of the disks fails once, and the call after the last never comes.
+#[test]
+fn each_call_of_a_disk_may_fail(rt: HostRuntime) -> Result<(), Fail> {
+    let alloc = rt.alloc();
+    for fails in 1..6 {
+        let disks = (disk(alloc, fails)?, disk(alloc, 0)?);
+        runs(&rt, alloc, &["init"], disks, 4, b"fault\n")?;
+    }
+    let disks = (disk(alloc, 0)?, disk(alloc, 1)?);
+    runs(&rt, alloc, &["init"], disks, 4, b"fault\n")?;
+    let disks = (disk(alloc, 6)?, disk(alloc, 2)?);
+    runs(&rt, alloc, &["init"], disks, 0, b"")?;
+    Ok(())
+}
+
+#[test]
+fn other_words_are_refused(rt: HostRuntime) -> Result<(), Fail> {
+    let alloc = rt.alloc();
+    let cases: [&[&str]; 7] = [
+        &[],
+        &["serve"],
+        &["init", "a"],
+        &["dump", "a"],
+        &["schedule"],
+        &["schedule", "a/b"],
+        &["--help"],
+    ];
+    for words in cases {
+        let disks = (disk(alloc, 1)?, disk(alloc, 1)?);
+        runs(&rt, alloc, words, disks, 1, b"usage\n")?;
+    }
+    Ok(())
+}
+
+/// A counter is set in files, and a later run shows its row.
+#[test]
+fn a_counter_stands_in_files(rt: HostRuntime) -> Result<(), Fail> {
+    let alloc = rt.alloc();
+    let disks = (disk(alloc, 0)?, disk(alloc, 0)?);
+    let disks = runs(&rt, alloc, &["init"], disks, 0, b"")?;
+    let disks = runs(&rt, alloc, &["dump"], disks, 0, b"")?;
+    let wanted = Wanted {
+        status: 0,
+        output: OUTPUT,
+        lines: PLACES,
+    };
+    let mut disks = runs_script(&rt, alloc, &["schedule", "a"], SCRIPT, disks, wanted)?;
+    holds(&rt, alloc, &mut disks.0, 1, JOURNAL)?;
+    let mut disks = runs(&rt, alloc, &["dump"], disks, 0, ROW)?;
+    holds(&rt, alloc, &mut disks.0, 1, JOURNAL)?;
+    Ok(())
+}
+
+#[test]
+fn files_that_are_not_there_are_unmade(rt: HostRuntime) -> Result<(), Fail> {
+    let alloc = rt.alloc();
+    for words in [["dump"].as_slice(), &["schedule", "a"]] {
+        let disks = (disk(alloc, 0)?, disk(alloc, 0)?);
+        runs(&rt, alloc, words, disks, 2, b"unmade\n")?;
+    }
+    Ok(())
+}
+
+/// The fourth call of a commit fails. The command is answered so and does nothing, and the next one
+/// is committed in its place.
+#[test]
+fn a_commit_may_fail(rt: HostRuntime) -> Result<(), Fail> {
+    let alloc = rt.alloc();
+    let disks = (disk(alloc, 16)?, disk(alloc, 0)?);
+    let disks = runs(&rt, alloc, &["init"], disks, 0, b"")?;
+    let wanted = Wanted {
+        status: 4,
+        output: b"... code 30\n... name Disk\n\n... end 1\n\n... counter b\n... value 2\n\n... end 2\n\n",
+        lines: b"fault 1 1\nplace 1 2 1700000000\nfault\n",
+    };
+    let script = b"session ann ws1 hostA\np4 counter a 1\np4 counter b 2\n";
+    let mut disks = runs_script(&rt, alloc, &["schedule", "a"], script, disks, wanted)?;
+    let journal = b"@ex@\n@nx@ 1 27\n@pv@ 1 @db.counters@ @b@ 2\n@mx@\n";
+    holds(&rt, alloc, &mut disks.0, 1, journal)?;
+    runs(
+        &rt,
+        alloc,
+        &["dump"],
+        disks,
+        0,
+        b"@pv@ 1 @db.counters@ @b@ 2\n",
+    )?;
+    Ok(())
+}
+
+/// What `dump` prints after a stop of the journal's disk after so many calls.
+fn printed_after_stop<R: Threads + Wait + Sync + Abort>(
+    rt: &R,
+    alloc: Global,
+    journal: &MemoryDisk,
+    calls: u64,
+) -> Result<Text, Fail> {
+    let mut doors = MemoryDoors::new(Vec::new(alloc), Vec::new(alloc));
+    let mut out = MemorySink::new(Vec::new(alloc));
+    let ended: Ended<MemoryDisk, MemorySource, MemorySink> = p4_top(
+        rt,
+        alloc,
+        &["dump"],
+        &mut doors,
+        journal.image(calls, b"")?,
+        disk(alloc, 0)?,
+        &mut out,
+        &FixedClock::new(1_700_000_000),
+        &OpenGate,
+    );
+    assert_eq!(rt; ended.status, 0);
+    Ok(Text::from_bytes(alloc, out.given())?)
+}
+
+/// The program stops after any call of a commit: a later run opens the files with the row or without it,
+/// and once the commit has ended with it.
+#[test]
+fn a_commit_is_whole_or_nothing(rt: HostRuntime) -> Result<(), Fail> {
+    let alloc = rt.alloc();
+    let disks = (disk(alloc, 0)?, disk(alloc, 0)?);
+    let disks = runs(&rt, alloc, &["init"], disks, 0, b"")?;
+    let wanted = Wanted {
+        status: 0,
+        output: OUTPUT,
+        lines: PLACES,
+    };
+    let (journal, _) = runs_script(&rt, alloc, &["schedule", "a"], SCRIPT, disks, wanted)?;
+    for calls in 5..16 {
+        let text = printed_after_stop(&rt, alloc, &journal, calls)?;
+        assert!(rt; text.is_empty() || text.as_bytes() == ROW);
+    }
+    let text = printed_after_stop(&rt, alloc, &journal, 16)?;
+    assert!(rt; text.as_bytes() == ROW);
+    Ok(())
+}

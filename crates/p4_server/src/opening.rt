@@ -1,0 +1,44 @@
+//! Runs whose files weren't opened.
+
+ghost use Rattle.std.specs.Prelude.{◌≡◌};
+ghost use Rattle.p4_server.specs.Ends.{status_of};
+ghost use Rattle.p4_server.specs.Opening.{cause_by};
+ghost use Rattle.p4_server.specs.Telling.{IsToldAlone};
+
+use crate::ended::{Cause, Ended};
+use crate::telling::end_alone;
+use outside_api::{Disk, Sink};
+use recovery::{NotOpened, OpenFault};
+use std::alloc::Global;
+
+/// The cause of an end whose files weren't opened.
+fn cause_of_fault(fault: OpenFault) -> Cause
+    ensures { result ≡ cause_by fault }
+{
+    match fault {
+        OpenFault::Unmade => Cause::Unmade,
+        OpenFault::Damaged { disk, file, place } => Cause::Damaged { disk, file, place },
+        OpenFault::DiskFault => Cause::Fault,
+        OpenFault::Memory => Cause::Memory,
+    }
+}
+
+/// The end of a run whose files weren't opened.
+pub fn end_unopened<D: Disk, S, K: Sink>(
+    alloc: Global,
+    found: NotOpened<D>,
+    out: &mut K,
+) -> Ended<D, S, K>
+    ensures told { IsToldAlone K.given K.faults out.old out.new result }
+    ensures cause { result.cause ≡ cause_by found.fault }
+    ensures status { result.status ≡ status_of result.cause }
+    ensures journal { result.journal ≡ found.journal }
+    ensures archive { result.archive ≡ found.archive }
+{
+    let NotOpened {
+        fault,
+        journal,
+        archive,
+    } = found;
+    end_alone(alloc, cause_of_fault(fault), out, journal, archive)
+}

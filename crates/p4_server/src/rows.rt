@@ -1,0 +1,129 @@
+//! The rows of all tables as text.
+
+ghost use Rattle.std.specs.Prelude.{◌≡◌, ◌≤◌};
+ghost use Rattle.p4_server.specs.Rows.{all_tables, row_text, rows_text, tables_text, Prints, lowest};
+ghost use Rattle.table_store.specs.Tables.{version_of};
+
+use db_records::{Key, Op, Record, TableId};
+use depot_path::Text;
+use outside_api::Sink;
+use record_text::print_record;
+use std::alloc::Global;
+use table_store::{Tables, Version};
+use wire_text::give_all;
+
+/// Why not all rows are printed.
+#[derive(Clone, Copy, Debug, PartialEq, Eq)]
+pub enum RowsFault {
+    /// The sink has failed.
+    Sink,
+    /// There was no memory for the text of a row.
+    Memory,
+}
+
+/// Gives the text of a row.
+fn give_row<K: Sink>(alloc: Global, row: &Record, out: &mut K) -> Result<(), RowsFault>
+    ensures prints { Prints (K.given out.old) (K.given out.new) (K.faults out.old) (K.faults out.new) (row_text row.now) result }
+    ensures counts { K.faults out.old ≤ K.faults out.new }
+{
+    let Ok(text) = print_record(alloc, Op::Put, row) else {
+        return Err(RowsFault::Memory);
+    };
+    match give_all(out, text.as_bytes()) {
+        Ok(()) => Ok(()),
+        Err(_) => Err(RowsFault::Sink),
+    }
+}
+
+/// A key of a table that none of its keys is below.
+fn lowest_key(alloc: Global, table: TableId) -> Key
+    ensures { result ≡ lowest table }
+{
+    let empty = || Text::new(alloc);
+    match table {
+        TableId::Counter => Key::Counter { name: empty() },
+        TableId::Group => Key::Group {
+            group: empty(),
+            user: empty(),
+        },
+        TableId::Protect => Key::Protect { line: 0 },
+        TableId::Domain => Key::Domain {
+            kind: empty(),
+            name: empty(),
+        },
+        TableId::Have => Key::Have {
+            client: empty(),
+            path: empty(),
+        },
+        TableId::Label => Key::Label {
+            label: empty(),
+            path: empty(),
+        },
+        TableId::Integed => Key::Integed {
+            to_file: empty(),
+            from_file: empty(),
+            start_from: 0,
+            end_from: 0,
+            start_to: 0,
+            end_to: 0,
+        },
+        TableId::Resolve => Key::Resolve {
+            client: empty(),
+            path: empty(),
+            from: empty(),
+        },
+        TableId::Working => Key::Working {
+            path: empty(),
+            client: empty(),
+        },
+        TableId::Change => Key::Change { change: 0 },
+        TableId::Rev => Key::Rev {
+            path: empty(),
+            rev: 0,
+        },
+    }
+}
+
+/// Gives the text of the rows of a table, in the order of their keys.
+fn give_rows<K: Sink>(alloc: Global, version: &Version, out: &mut K) -> Result<(), RowsFault>
+    ensures prints { Prints (K.given out.old) (K.given out.new) (K.faults out.old) (K.faults out.new) (rows_text version.now.rows) result }
+    ensures counts { K.faults out.old ≤ K.faults out.new }
+{
+    let first = lowest_key(alloc, version.table());
+    for row in version.from_key(&first) {
+        match give_row(alloc, row, out) {
+            Ok(()) => {}
+            Err(fault) => return Err(fault),
+        }
+    }
+    Ok(())
+}
+
+/// The tables, in the order in which they are printed.
+const TABLES: [TableId; 11] = [
+    TableId::Counter,
+    TableId::Group,
+    TableId::Protect,
+    TableId::Domain,
+    TableId::Have,
+    TableId::Label,
+    TableId::Integed,
+    TableId::Resolve,
+    TableId::Working,
+    TableId::Change,
+    TableId::Rev,
+];
+
+/// Gives the text of the rows of all tables, row by row, tables and keys rising. It copies no table.
+pub fn give_tables<K: Sink>(alloc: Global, tables: &Tables, out: &mut K) -> Result<(), RowsFault>
+    ensures prints { Prints (K.given out.old) (K.given out.new) (K.faults out.old) (K.faults out.new) (tables_text (λ table. (version_of tables.now table).rows) all_tables) result }
+    ensures counts { K.faults out.old ≤ K.faults out.new }
+{
+    for table in TABLES {
+        match give_rows(alloc, tables.version(table), out) {
+            Ok(()) => {}
+            Err(fault) => return Err(fault),
+        }
+    }
+    Ok(())
+}

@@ -1,0 +1,21 @@
+-- What a commit leaves.
+use Rattle.std.specs.Prelude.{◌≡◌, ℕ, Bool, true, false, List, [], ◌∷◌, if◌then◌else◌}
+use Rattle.outside_api.specs.Disk.{Files}
+use Rattle.disk_journal.specs.Images.{Committed, with_group}
+use Rattle.disk_journal.specs.Stands.{Doubtful, nothing, Stands}
+use Rattle.disk_journal.specs.declared.journal.Journal.{Journal}
+use Rattle.journal_runs.specs.Runs.{IsAfterFault}
+use Rattle.depot_model.specs.Printed.{printed}
+use Rattle.depot_model.specs.Rows.{disk_row}
+use Rattle.depot_model.specs.declared.order.Answer.{Answer}
+use Rattle.depot_model.specs.declared.order.Place.{Place}
+
+-- the journal has the group; or the disk failed, and it has what it had, perhaps with the group in doubt
+abbrev pub StandsBy : {D : Type 0} → (D → Files → Type 0) → Journal D → Committed → Doubtful → List ℕ → Bool → Type 0
+StandsBy may_leave journal was doubt text false = Stands may_leave journal (with_group was text) nothing
+StandsBy may_leave journal was doubt text true = (now : Doubtful) × IsAfterFault doubt text now × Stands may_leave journal was now
+
+-- the answer to a place: the reply, or that of a fault
+pub record IsToldAt (place : Place) (reply : List ℕ) (answer : Answer) : Type 0 where
+  pub place_is : answer.place ≡ record place { fault = answer.place.fault }
+  pub reply_is : answer.reply ≡ (if answer.place.fault then printed (disk_row ∷ []) place.number else reply)

@@ -1,0 +1,4 @@
+pub mod Committing
+pub mod Counts
+pub mod Holding
+pub mod Running

@@ -1,0 +1,69 @@
+//! Committing the changes of one command.
+
+ghost use Rattle.std.specs.Prelude.{◌≡◌, ◌⊎◌, ◌<◌, ◌≤◌, ◌^◌, true, false, [], ◌∷◌, length, IfOk};
+ghost use Rattle.depot_model.specs.Printed.{printed};
+ghost use Rattle.depot_model.specs.Rows.{disk_row};
+ghost use Rattle.db_records.specs.declared.change.Change.{Change};
+ghost use Rattle.disk_journal.specs.Images.{Committed};
+ghost use Rattle.disk_journal.specs.Stands.{Doubtful, group, HasWithOrWithout, IsPrepared, Stands, disk_of, group_of, next_number};
+ghost use Rattle.journal_groups.specs.Groups.{body_of};
+ghost use Rattle.outside_api.specs.Count.{HasRisen};
+ghost use Rattle.outside_api.specs.Disk.{LeavesOnly};
+ghost use Rattle.serial_depot.specs.Committing.{StandsBy};
+
+use db_records::Change;
+use depot_path::Text;
+use disk_journal::{Journal, Prepared};
+use itoa::Buffer;
+use journal_groups::print_group;
+use journal_runs::commit_settled;
+use outside_api::{Disk, DiskFault};
+use std::alloc::{AllocError, Global};
+use table_store::Tables;
+
+/// The reply to the command of that number where its commit failed.
+pub(crate) fn fault_reply(alloc: Global, number: u32) -> Result<Text, AllocError>
+    ensures { IfOk result (λ text. text ≡ printed (disk_row ∷ []) number) }
+{
+    let mut text = Text::from_bytes(alloc, b"... code 30\n... name Disk\n\n... end ")?;
+    text.append(Buffer::new().format(number).as_bytes())?;
+    text.append(b"\n\n")?;
+    Ok(text)
+}
+
+/// The records of changes that memory holds are no longer than a group's head can say.
+pub(crate) fn measure(alloc: Global, changes: &[Change]) -> Result<usize, AllocError>
+    ensures { IfOk result (λ n. length (body_of changes.now) < 2 ^ 64) }
+{
+    let text = print_group(alloc, 1, changes)?;
+    Ok(text.len())
+}
+
+/// Settles what is in doubt, commits a group, and puts the tables after it in the place of those
+/// before. Answers whether the disk has failed; then the tables stay.
+pub(crate) fn commit<D: Disk>(
+    tables: &mut Tables,
+    journal: &mut Journal<D>,
+    changed: Tables,
+    prepared: Prepared,
+) -> bool
+    requires stands { (was : Committed) × ((doubt : Doubtful) × Stands D.may_leave journal.old was doubt) }
+    requires prepared { IsPrepared (next_number journal.old) prepared }
+    ensures landed { result ≡ false → tables.new ≡ changed }
+    ensures failed { result ≡ true → tables.new ≡ tables.old }
+    ensures stands { (was : Committed) (doubt : Doubtful) → Stands D.may_leave journal.old was doubt →
+        StandsBy D.may_leave journal.new was doubt (group_of prepared) result }
+    ensures any_moment { (was : Committed) (doubt : Doubtful) → Stands D.may_leave journal.old was doubt →
+        LeavesOnly D.moment D.left_since (disk_of journal.old) (disk_of journal.new)
+        (λ c. HasWithOrWithout was doubt c ⊎ HasWithOrWithout was (group (group_of prepared)) c) }
+    ensures never_falls { D.faults (disk_of journal.old) ≤ D.faults (disk_of journal.new) }
+    ensures cause { result ≡ true → HasRisen (D.faults (disk_of journal.old)) (D.faults (disk_of journal.new)) }
+{
+    match commit_settled(journal, prepared) {
+        Ok(_) => {
+            *tables = changed;
+            false
+        }
+        Err(DiskFault) => true,
+    }
+}

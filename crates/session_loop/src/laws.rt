@@ -1,0 +1,9 @@
+//! Laws of what sessions ask.
+
+ghost use Rattle.std.specs.Prelude.{ℕ, List};
+ghost use Rattle.session_loop.specs.Asking.{AreWellFormed, asking_of, commands_of};
+
+/// Whatever a script says, each command of its session that words spell is well-formed.
+pub fn sessions_ask_well_formed_commands()
+    ensures { (bytes : List ℕ) → AreWellFormed (commands_of (asking_of bytes).session) }
+{}

@@ -1,0 +1,41 @@
+//! Who takes commands.
+
+ghost use Rattle.std.specs.Prelude.{◌≡◌, ◌≤◌, ℕ, List, true, IfOk, OnErr};
+ghost use Rattle.outside_api.specs.Count.{HasRisen};
+ghost use Rattle.depot_model.specs.Deeds.{Deed};
+ghost use Rattle.depot_model.specs.Places.{Placed};
+ghost use Rattle.session_loop.specs.Taking.{Answers, IsProper, with_place};
+
+use depot_model::{Answer, Request};
+use outside_api::Gate;
+use std::alloc::{AllocError, Global};
+
+/// Who takes commands one after another, each at a place of its own.
+pub trait Taker {
+    /// Whether it can take a command.
+    ghost can_take: { Self → Type 0 };
+
+    /// Whether, since a moment as it counts them, it took the commands of these places, in order, from
+    /// this depot on.
+    ghost has_run: { Self → ℕ → List Deed → List Placed → Type 0 };
+
+    /// How often what it stands on has failed.
+    ghost faults: { Self → ℕ };
+
+    /// Takes a command and gives its place and its reply. At a fault place the commit failed, and the
+    /// command did nothing. The one error is want of memory, and then nothing is done. The command may
+    /// be held back at the gate.
+    fn take<G: Gate>(
+        &mut self,
+        alloc: Global,
+        gate: &G,
+        request: Request,
+    ) -> Result<Answer, AllocError>
+        requires { can_take self.old }
+        ensures can { can_take self.new }
+        ensures ran { (since : ℕ) (start : List Deed) (places : List Placed) → has_run self.old since start places → IsProper request → IfOk result (λ answer. has_run self.new since start (with_place places request answer)) }
+        ensures answers { (since : ℕ) (start : List Deed) (places : List Placed) → has_run self.old since start places → IsProper request → IfOk result (Answers start places request) }
+        ensures nothing { OnErr result (self.new ≡ self.old) }
+        ensures never_falls { faults self.old ≤ faults self.new }
+        ensures cause { IfOk result (λ answer. answer.place.fault ≡ true → HasRisen (faults self.old) (faults self.new)) };
+}
