@@ -1,0 +1,14 @@
+use Rattle.std.proofs.Common.{◌∙◌}
+use Rattle.std.specs.Prelude.{◌&&◌, slice_get}
+use Rattle.db_records.specs.Key.{key_fields}
+use Rattle.row_ranges.specs.Ranges.{range_texts}
+use Rattle.row_ranges.specs.Walking.{agrees}
+use Rattle.row_ranges.proofs.Between.{agrees-begins, two-at-most}
+use Rattle.row_ranges.proofs.range.KeyRange.begins_key.Goals as goal
+
+pub returns : goal.returns
+returns c =
+    let texts = range_texts c.args.self.now in
+    c.has_texts.ensures
+    ∙ ((λ i. agrees (slice_get texts 0) (c.key_first.ensures i) && agrees (slice_get texts 1) (c.key_second.ensures i))
+    ∙ agrees-begins texts (two-at-most c.args.self.now) (key_fields c.args.key.now))
