@@ -1,8 +1,8 @@
 -- Deeds, one after another.
-use Rattle.std.proofs.Common.{◌≡◌, ℕ, ◌+◌, ◌<◌, Bool, true, false, IsTrue, List, [], ◌∷◌, ◌++◌, length, take, drop, get_or, map, Option, Some, None, Result, Ok, Err, OnOk, refl, sym, ap, ◌∙◌, subst}
+use Rattle.std.proofs.Common.{◌≡◌, ℕ, ◌+◌, ◌<◌, Bool, true, false, IsTrue, List, [], ◌∷◌, ◌++◌, length, take, drop, get_or, Option, Some, None, Result, Ok, Err, OnOk, refl, sym, ap, ◌∙◌, subst}
 use Rattle.std.specs.Prelude.{option_map, ◌||◌}
 use Rattle.std.specs.List.{list_any}
-use Rattle.std.proofs.lemmas.List.{take_more, drop_more, map-append, take-append-drop}
+use Rattle.std.proofs.lemmas.List.{take_more, drop_more, take-append-drop}
 use Rattle.depot_path.specs.Path.{printed}
 use Rattle.db_records.specs.declared.key.Key.{Key}
 use Rattle.db_records.specs.declared.key.Key.TheVariants as keys
@@ -16,9 +16,8 @@ use Rattle.depot_rows.specs.declared.deed.Deed.{Deed}
 use Rattle.depot_rows.specs.declared.deed.Deed.TheVariants as deeds
 use Rattle.depot_rows.specs.Effects.{effect, effects, May, Follow, AreRowsIn}
 use Rattle.depot_rows.proofs.Following.{rows_after, stays_apart}
-use Rattle.row_changes.specs.declared.plain.PlainDeed.{PlainDeed}
 use Rattle.row_changes.specs.Overlay.{Touched, seen, Becomes}
-use Rattle.row_changes.specs.Plain.{deed_in, is_hold, MayLock, AllMayLock}
+use Rattle.row_changes.specs.Locking.{is_hold, MayLock, AllMayLock}
 
 -- what is done to all rows is done under any premise
 pub done-always : {A E : Type 0} (r : Result A E) (P : Type 0) (rows : Rows) (made : Rows → Rows) (old new : Touched)
@@ -40,22 +39,21 @@ next-may [] deed later before all = all.0
 next-may (x ∷ xs) deed later before all = next-may xs deed later (effect x before) all.1
 
 -- one deed more
-module _ (before : Rows) (all : List PlainDeed) (i : ℕ) (deed : PlainDeed) (h : i < length all) (item : deed ≡ get_or all i deed) where
-  split : map deed_in all ≡ map deed_in (take i all) ++ deed_in deed ∷ map deed_in (drop (i + 1) all)
-  split = ap (map deed_in) (sym (take-append-drop i all) ∙ ap (λ l. take i all ++ l) (drop_more all i deed h ∙ ap (λ x. x ∷ drop (i + 1) all) (sym item)))
-      ∙ map-append deed_in (take i all) (deed ∷ drop (i + 1) all)
+module _ (before : Rows) (all : List Deed) (i : ℕ) (deed : Deed) (h : i < length all) (item : deed ≡ get_or all i deed) where
+  split : all ≡ take i all ++ deed ∷ drop (i + 1) all
+  split = sym (take-append-drop i all) ∙ ap (λ l. take i all ++ l) (drop_more all i deed h ∙ ap (λ x. x ∷ drop (i + 1) all) (sym item))
 
-  more : map deed_in (take (i + 1) all) ≡ map deed_in (take i all) ++ deed_in deed ∷ []
-  more = ap (map deed_in) (take_more all i deed h ∙ ap (λ x. take i all ++ x ∷ []) (sym item)) ∙ map-append deed_in (take i all) (deed ∷ [])
+  more : take (i + 1) all ≡ take i all ++ deed ∷ []
+  more = take_more all i deed h ∙ ap (λ x. take i all ++ x ∷ []) (sym item)
 
-  pub deed-step : (old new : Touched) → (AllMayLock (map deed_in all) before → (q : Key) → seen old before q ≡ effects (map deed_in (take i all)) before q)
-      → (MayLock (deed_in deed) (seen old before) → Becomes before (effect (deed_in deed)) old new)
-      → AllMayLock (map deed_in all) before → (q : Key) → seen new before q ≡ effects (map deed_in (take (i + 1) all)) before q
+  pub deed-step : (old new : Touched) → (AllMayLock all before → (q : Key) → seen old before q ≡ effects (take i all) before q)
+      → (MayLock deed (seen old before) → Becomes before (effect deed) old new)
+      → AllMayLock all before → (q : Key) → seen new before q ≡ effects (take (i + 1) all) before q
   deed-step old new so becomes may q =
-      let is : seen old before ≡ effects (map deed_in (take i all)) before = λ j k. so may k j in
-      let allowed : MayLock (deed_in deed) (seen old before) =
-      subst (MayLock (deed_in deed)) (sym is) (next-may (map deed_in (take i all)) (deed_in deed) (map deed_in (drop (i + 1) all)) before (subst (λ l. AllMayLock l before) split may)) in
-      becomes allowed q ∙ ap (λ (r : Rows). effect (deed_in deed) r q) is ∙ ap (λ (r : Rows). r q) (sym (effects-push (map deed_in (take i all)) (deed_in deed) before))
+      let is : seen old before ≡ effects (take i all) before = λ j k. so may k j in
+      let allowed : MayLock deed (seen old before) =
+      subst (MayLock deed) (sym is) (next-may (take i all) deed (drop (i + 1) all) before (subst (λ l. AllMayLock l before) split may)) in
+      becomes allowed q ∙ ap (λ (r : Rows). effect deed r q) is ∙ ap (λ (r : Rows). r q) (sym (effects-push (take i all) deed before))
       ∙ ap (λ l. effects l before q) (sym more)
 
 -- ---- locks

@@ -9,3 +9,4 @@ pub mod Between
 pub mod Removed
 pub mod Ended
 pub mod Guarded
+pub mod Landed

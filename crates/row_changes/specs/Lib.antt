@@ -3,7 +3,8 @@ pub mod Overlay
 pub mod Difference
 pub mod Differences
 pub mod Source
-pub mod Plain
+pub mod Locking
 pub mod Ranges
 pub mod Users
 pub mod Lines
+pub mod Landing

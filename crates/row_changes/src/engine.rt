@@ -1,6 +1,6 @@
 //! What deeds change in the rows of tables.
 
-ghost use Rattle.std.specs.Prelude.{◌≡◌, IfOk, IsTrue, List, OnOk, map};
+ghost use Rattle.std.specs.Prelude.{◌≡◌, IfOk, IsTrue, List, OnOk};
 ghost use Rattle.std.specs.List.{list_any};
 ghost use Rattle.db_records.specs.declared.table.TableId.TheVariants as table_ids;
 ghost use Rattle.table_changes.specs.Changed.{rows_of};
@@ -11,34 +11,35 @@ ghost use Rattle.depot_rows.specs.Effects.{effect, Follow};
 ghost use Rattle.depot_rows.specs.Standing.{HasRows, row_in};
 ghost use Rattle.row_changes.specs.Differences.{AreDifferences};
 ghost use Rattle.row_changes.specs.Overlay.{seen, Becomes};
-ghost use Rattle.row_changes.specs.Plain.{deed_in, is_hold, MayLock};
+ghost use Rattle.row_changes.specs.Locking.{is_hold, MayLock};
 
 use crate::overlay::Overlay;
-use crate::plain::PlainDeed;
 use db_records::Change;
+use depot_rows::Deed;
 use std::alloc::{AllocError, Global};
 use table_store::Tables;
 
 impl Overlay {
     /// Does a deed.
-    fn apply(&mut self, alloc: Global, tables: &Tables, deed: &PlainDeed) -> Result<(), AllocError>
-        ensures { OnOk result (MayLock (deed_in deed.now) (seen self.old.touched (row_in (rows_of tables.now))) → Becomes (row_in (rows_of tables.now)) (effect (deed_in deed.now)) self.old.touched self.new.touched) }
+    fn apply(&mut self, alloc: Global, tables: &Tables, deed: &Deed) -> Result<(), AllocError>
+        ensures { OnOk result (MayLock deed.now (seen self.old.touched (row_in (rows_of tables.now))) → Becomes (row_in (rows_of tables.now)) (effect deed.now) self.old.touched self.new.touched) }
     {
         match deed {
-            PlainDeed::Spec(kind, name, form) => self.save(alloc, *kind, name, form),
-            PlainDeed::Guard(lines) => self.guard(alloc, tables, lines),
-            PlainDeed::Group(name, users) => self.group(alloc, tables, name, users),
-            PlainDeed::Count(name, value) => self.count(alloc, name.as_bytes(), *value),
-            PlainDeed::Pend(pending) => self.pend(alloc, tables, pending),
-            PlainDeed::Drop(number) => self.drop_change(*number),
-            PlainDeed::Open(opening) => self.open(alloc, tables, opening),
-            PlainDeed::Shut(held) => self.shut(alloc, tables, held),
-            PlainDeed::Hold(held) => self.hold(alloc, tables, held),
-            PlainDeed::Free(held) => self.free(alloc, tables, held),
-            PlainDeed::Got(held, rev) => self.got(alloc, held, *rev),
-            PlainDeed::Tag(label, path, rev) => self.tag(alloc, label, path, *rev),
-            PlainDeed::Owe(owing) => self.owe(alloc, owing),
-            PlainDeed::Paid(held, from, how) => self.paid(alloc, tables, held, from, *how),
+            Deed::Spec(kind, name, form) => self.save(alloc, *kind, name, form),
+            Deed::Guard(lines) => self.guard(alloc, tables, lines),
+            Deed::Group(name, users) => self.group(alloc, tables, name, users),
+            Deed::Count(name, value) => self.count(alloc, name.as_bytes(), *value),
+            Deed::Pend(pending) => self.pend(alloc, tables, pending),
+            Deed::Drop(number) => self.drop_change(*number),
+            Deed::Open(opening) => self.open(alloc, tables, opening),
+            Deed::Shut(held) => self.shut(alloc, tables, held),
+            Deed::Hold(held) => self.hold(alloc, tables, held),
+            Deed::Free(held) => self.free(alloc, tables, held),
+            Deed::Got(held, rev) => self.got(alloc, held, *rev),
+            Deed::Tag(label, path, rev) => self.tag(alloc, label, path, *rev),
+            Deed::Owe(owing) => self.owe(alloc, owing),
+            Deed::Paid(held, from, how) => self.paid(alloc, tables, held, from, *how),
+            Deed::Land(landing) => self.land(alloc, tables, landing),
         }
     }
 }
@@ -50,11 +51,11 @@ impl Overlay {
 pub fn row_changes(
     alloc: Global,
     tables: &Tables,
-    deeds: &[PlainDeed],
+    deeds: &[Deed],
 ) -> Result<Vec<Change>, AllocError>
     ensures { IfOk result (λ changes. (d : List model.Deed) (done : List model.Deed)
-        → NotBoth d → Follow d (map deed_in deeds.now) done
-        → (IsTrue (list_any is_hold (map deed_in deeds.now)) → HasRows (rows_of tables.now) d table_ids.Working)
+        → NotBoth d → Follow d deeds.now done
+        → (IsTrue (list_any is_hold deeds.now) → HasRows (rows_of tables.now) d table_ids.Working)
         → AreDifferences (rows_of tables.now) d (after d done) changes.items) }
 {
     let mut overlay = Overlay::new(alloc);

@@ -8,9 +8,9 @@ mod counters;
 mod deeds;
 mod difference;
 mod engine;
+mod landing;
 mod lines;
 mod overlay;
-mod plain;
 mod ranges;
 mod rows;
 mod stored;
@@ -18,7 +18,6 @@ mod words;
 
 pub use counters::counter_changes;
 pub use engine::row_changes;
-pub use plain::PlainDeed;
 
 #[cfg(test)]
 mod tests;

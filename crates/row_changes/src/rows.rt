@@ -5,12 +5,16 @@ ghost use Rattle.std.specs.Option.{option_copied};
 ghost use Rattle.depot_model.specs.Records as records;
 ghost use Rattle.depot_rows.specs.Deed.{pending_of};
 ghost use Rattle.depot_rows.specs.Effects as effects;
-ghost use Rattle.row_changes.specs.Source.{source_path, source_rev};
+ghost use Rattle.row_changes.specs.Landing.{taken_in, given_to};
+ghost use Rattle.row_changes.specs.Source.{source_path, source_rev, content_digest, content_length, content_place};
 
-use crate::words::{action_word, printed_or_empty};
-use db_records::{ChangeRecord, CounterRecord, Record, ResolveRecord, WorkingRecord};
+use crate::words::{action_word, how_word, into_word, printed_or_empty};
+use db_records::{
+    ChangeRecord, CounterRecord, IntegedRecord, Record, ResolveRecord, RevRecord, Spot,
+    WorkingRecord,
+};
 use depot_path::Text;
-use depot_rows::{Opening, Owing, Pending, Source};
+use depot_rows::{Credit, Entry, Landing, Opening, Owing, Pending, Source, Stored};
 use std::alloc::{AllocError, Global};
 
 /// The path and the number of a source, no bytes and 0 where there is none. The one error is want of
@@ -54,6 +58,102 @@ pub(crate) fn pending_row(alloc: Global, pending: &Pending) -> Result<Record, Al
         client: Text::from_bytes(alloc, pending.client.as_bytes())?,
         moment: pending.moment,
         text: pending.text.clone()?,
+    }))
+}
+
+/// The row of a submitted change. The one error is want of memory.
+pub(crate) fn change_row(alloc: Global, landing: &Landing) -> Result<Record, AllocError>
+    ensures { IfOk result (λ row. row ≡ effects.change_row landing.now) }
+{
+    Ok(Record::Change(ChangeRecord {
+        change: landing.change,
+        status: Text::from_bytes(alloc, b"submitted")?,
+        user: Text::from_bytes(alloc, landing.user.as_bytes())?,
+        client: Text::from_bytes(alloc, landing.client.as_bytes())?,
+        moment: landing.moment,
+        text: landing.text.clone()?,
+    }))
+}
+
+/// The digest of a content, no bytes where there is none. The one error is want of memory.
+fn digest_of(alloc: Global, content: Option<&Stored>) -> Result<Text, AllocError>
+    ensures { IfOk result (λ digest. digest ≡ content_digest (option_copied content.entry)) }
+{
+    match content {
+        Some(stored) => Ok(stored.digest.clone()?),
+        None => Ok(Text::new(alloc)),
+    }
+}
+
+/// Where a content stands, its length and place, each 0 where there is none.
+fn spot_of(content: Option<&Stored>) -> Spot
+    ensures length { result.length ≡ content_length (option_copied content.entry) }
+    ensures place { result.at ≡ content_place (option_copied content.entry) }
+{
+    match content {
+        Some(stored) => stored.spot,
+        None => Spot { at: 0, length: 0 },
+    }
+}
+
+/// The row of a revision that a change submitted. The one error is want of memory.
+pub(crate) fn rev_row(alloc: Global, change: u32, entry: &Entry) -> Result<Record, AllocError>
+    ensures { IfOk result (λ row. row ≡ effects.rev_row change entry.now) }
+{
+    let digest = digest_of(alloc, entry.content.as_ref())?;
+    let spot = spot_of(entry.content.as_ref());
+    Ok(Record::Rev(RevRecord {
+        path: entry.path.print(alloc)?,
+        rev: entry.rev,
+        change,
+        action: Text::from_bytes(alloc, action_word(entry.action))?,
+        file_type: entry.file_type.clone()?,
+        digest,
+        length: spot.length,
+        at: spot.at,
+        moved: printed_or_empty(alloc, entry.moved.as_ref())?,
+    }))
+}
+
+/// The row of what a revision takes in from another file. The one error is want of memory.
+pub(crate) fn taken_row(
+    alloc: Global,
+    change: u32,
+    entry: &Entry,
+    credit: &Credit,
+) -> Result<Record, AllocError>
+    ensures { IfOk result (λ row. row ≡ Record.Integed (taken_in change entry.now credit.now)) }
+{
+    Ok(Record::Integed(IntegedRecord {
+        to_file: entry.path.print(alloc)?,
+        from_file: credit.from.print(alloc)?,
+        start_from: credit.first,
+        end_from: credit.last,
+        start_to: entry.rev,
+        end_to: entry.rev,
+        how: Text::from_bytes(alloc, how_word(credit.how))?,
+        change,
+    }))
+}
+
+/// The row of what another file gives to a revision. The one error is want of memory.
+pub(crate) fn given_row(
+    alloc: Global,
+    change: u32,
+    entry: &Entry,
+    credit: &Credit,
+) -> Result<Record, AllocError>
+    ensures { IfOk result (λ row. row ≡ Record.Integed (given_to change entry.now credit.now)) }
+{
+    Ok(Record::Integed(IntegedRecord {
+        to_file: credit.from.print(alloc)?,
+        from_file: entry.path.print(alloc)?,
+        start_from: entry.rev,
+        end_from: entry.rev,
+        start_to: credit.first,
+        end_to: credit.last,
+        how: Text::from_bytes(alloc, into_word(credit.how))?,
+        change,
     }))
 }
 

@@ -1,8 +1,8 @@
-use crate::{PlainDeed, counter_changes, row_changes};
+use crate::{counter_changes, row_changes};
 use db_records::{Change, CounterRecord, HaveRecord, Op, Record};
 use depot_model::Count;
 use depot_path::{DepotPath, Name, Text};
-use depot_rows::Held;
+use depot_rows::{Deed, Held};
 use std::alloc::{AllocError, Global};
 use std::test::*;
 use table_store::{Tables, Version};
@@ -52,11 +52,11 @@ fn counted(alloc: Global, value: Option<u64>) -> Result<Vec<Count>, Fail> {
     Ok(counts)
 }
 
-fn got(alloc: Global) -> Result<Vec<PlainDeed>, Fail> {
+fn got(alloc: Global) -> Result<Vec<Deed>, Fail> {
     let mut deeds = Vec::new(alloc);
     let client = Name::read(alloc, b"ws1")?;
     let path = DepotPath::read(alloc, b"//depot/a%23b")?;
-    deeds.push(PlainDeed::Got(Held { client, path }, 2))?;
+    deeds.push(Deed::Got(Held { client, path }, 2))?;
     Ok(deeds)
 }
 

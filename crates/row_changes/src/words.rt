@@ -3,7 +3,7 @@
 ghost use Rattle.std.specs.Prelude.{◌≡◌, IfOk};
 ghost use Rattle.std.specs.Option.{option_copied};
 ghost use Rattle.depot_model.specs.Latest as latest;
-ghost use Rattle.depot_model.specs.Records.{printed_or_empty as text_of_end};
+ghost use Rattle.depot_model.specs.Records.{printed_or_empty as text_of_end, into_word as other_word};
 ghost use Rattle.depot_model.specs.Rows as words;
 ghost use Rattle.depot_model.specs.Rules.{value_of, lock_of as lock_in};
 ghost use Rattle.depot_rows.specs.Deed.{kind_of, action_of, how_of};
@@ -51,6 +51,19 @@ pub(crate) fn how_word(how: How) -> &'static [u8]
         How::DeleteFrom => b"delete from",
         How::Ignored => b"ignored",
         How::MovedFrom => b"moved from",
+    }
+}
+
+/// The word of how a resolve was paid, as the other file of the pair has it.
+pub(crate) fn into_word(how: How) -> &'static [u8]
+    ensures { result.now ≡ other_word (how_of how) }
+{
+    match how {
+        How::CopyFrom => b"copy into",
+        How::BranchFrom => b"branch into",
+        How::DeleteFrom => b"delete into",
+        How::Ignored => b"ignored by",
+        How::MovedFrom => b"moved into",
     }
 }
 

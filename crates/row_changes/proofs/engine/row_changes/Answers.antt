@@ -1,4 +1,4 @@
-use Rattle.std.proofs.Common.{◌≡◌, map, take, ap, ◌∙◌}
+use Rattle.std.proofs.Common.{◌≡◌, take, ap, ◌∙◌}
 use Rattle.std.specs.Prelude.{option_map}
 use Rattle.db_records.specs.declared.table.TableId.TheVariants as table_ids
 use Rattle.table_changes.specs.Changed.{AllRows, rows_of}
@@ -7,7 +7,6 @@ use Rattle.depot_model.specs.Step.{after}
 use Rattle.depot_rows.specs.Effects.{effects}
 use Rattle.depot_rows.specs.Standing.{row_in}
 use Rattle.depot_rows.proofs.Following.{rows_after_all}
-use Rattle.row_changes.specs.Plain.{deed_in}
 use Rattle.row_changes.proofs.Applied.{deed-step, may-lock-all}
 use Rattle.row_changes.proofs.Exact.{differences-exact, rows-in}
 use Rattle.std.proofs.lemmas.List.{take_all}
@@ -26,6 +25,6 @@ returns c = λ d done apart follow has.
     let whole : take c.loop-deed.deed-index c.args.deeds.now ≡ c.args.deeds.now = take_all c.loop-deed.deed-index c.args.deeds.now c.loop-deed-test.false in
     differences-exact all c.loop-deed.overlay.touched c.in_ok-changes.changes.items c.in_ok-changes.ensures.ordered c.loop-deed.overlay.keyed c.in_ok-changes.ensures.made d (after d done)
     (λ table stands q is.
-    ap (option_map unplaced) (c.loop-deed.invariant (may-lock-all (map deed_in c.args.deeds.now) d done (row_in all) apart follow (λ e. rows-in all d table_ids.Working (has e))) q
-    ∙ ap (λ l. effects (map deed_in l) (row_in all) q) whole)
-    ∙ rows_after_all table (row_in all) d (map deed_in c.args.deeds.now) done (rows-in all d table stands) apart follow q is)
+    ap (option_map unplaced) (c.loop-deed.invariant (may-lock-all c.args.deeds.now d done (row_in all) apart follow (λ e. rows-in all d table_ids.Working (has e))) q
+    ∙ ap (λ l. effects l (row_in all) q) whole)
+    ∙ rows_after_all table (row_in all) d c.args.deeds.now done (rows-in all d table stands) apart follow q is)

@@ -1,12 +1,12 @@
-use Rattle.std.proofs.Common.{◌≡◌, map, take}
+use Rattle.std.proofs.Common.{◌≡◌, take}
 use Rattle.db_records.specs.declared.key.Key.{Key}
 use Rattle.table_changes.specs.Changed.{rows_of}
 use Rattle.depot_rows.specs.Effects.{effects}
 use Rattle.depot_rows.specs.Standing.{row_in}
 use Rattle.row_changes.specs.Overlay.{seen}
-use Rattle.row_changes.specs.Plain.{deed_in, AllMayLock}
+use Rattle.row_changes.specs.Locking.{AllMayLock}
 use Rattle.row_changes.proofs.engine.row_changes.Given as goal
 
 abbrev pub invariant-loop-deed : goal.invariant-loop-deed
-invariant-loop-deed l = AllMayLock (map deed_in l.deeds) (row_in (rows_of l.tables))
-    → (q : Key) → seen l.overlay.touched (row_in (rows_of l.tables)) q ≡ effects (map deed_in (take l.deed-index l.deeds)) (row_in (rows_of l.tables)) q
+invariant-loop-deed l = AllMayLock l.deeds (row_in (rows_of l.tables))
+    → (q : Key) → seen l.overlay.touched (row_in (rows_of l.tables)) q ≡ effects (take l.deed-index l.deeds) (row_in (rows_of l.tables)) q

@@ -4,7 +4,7 @@ use Rattle.depot_rows.specs.declared.deed.Deed.TheVariants as deeds
 use Rattle.depot_rows.specs.Effects.{effect, counted}
 use Rattle.depot_rows.specs.Standing.{row_in}
 use Rattle.row_changes.specs.Overlay.{Becomes}
-use Rattle.row_changes.proofs.Applied.{done-always}
+use Rattle.row_changes.proofs.Applied.{done-always, done-here}
 use Rattle.row_changes.proofs.overlay.Overlay.apply.Goals as goal
 
 pub returns-in-Spec : goal.returns-in-Spec
@@ -31,3 +31,7 @@ pub returns-in-Count : goal.returns-in-Count
 returns-in-Count c =
     rw c.in-Count.is (subst (λ (name : List ℕ). OnOk c.count.result (Unit {0} → Becomes (row_in (rows_of c.args.tables.now)) (counted name c.in-Count.value) c.args.self.now.touched c.count.new.self.touched)) c.as_bytes.ensures.value
     (done-always c.count.result (Unit {0}) (row_in (rows_of c.args.tables.now)) (counted c.as_bytes.result.now c.in-Count.value) c.args.self.now.touched c.count.new.self.touched c.count.ensures))
+
+pub returns-in-Paid : goal.returns-in-Paid
+returns-in-Paid c =
+    rw c.in-Paid.is (done-here c.paid.result (Unit {0}) (row_in (rows_of c.args.tables.now)) (effect (deeds.Paid c.in-Paid.held c.in-Paid.from c.in-Paid.how)) c.args.self.now.touched c.paid.new.self.touched c.paid.ensures)
