@@ -1,4 +1,4 @@
-use Rattle.std.proofs.Common.{List, ◌∷◌, ◌++◌, Some, ap, sym, ◌∙◌}
+use Rattle.std.proofs.Common.{List, Some, ap, sym, ◌∙◌}
 use Rattle.db_records.specs.Record.{key_of}
 use Rattle.db_records.specs.declared.record.Record.{Record}
 use Rattle.depot_rows.specs.Effects.{put_at}
