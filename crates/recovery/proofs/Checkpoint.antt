@@ -1,5 +1,5 @@
 -- The puts of a checkpoint are those of its text.
-use Rattle.std.proofs.Common.{◌≡◌, ℕ, ◌+◌, ◌<◌, ◌^◌, List, ◌++◌, length, Option, Some, refl, sym, ◌∙◌, subst}
+use Rattle.std.proofs.Common.{◌≡◌, ℕ, ◌<◌, ◌^◌, List, ◌++◌, Option, Some, refl, subst}
 use Rattle.db_records.specs.declared.change.Change.{Change}
 use Rattle.journal_groups.specs.Groups.{IsGroup, group_text, mark, open_byte}
 use Rattle.recovery.specs.Pieces.{IsFirst, IsUnreadable}

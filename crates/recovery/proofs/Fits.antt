@@ -1,6 +1,5 @@
 -- Changes one after another.
 use Rattle.std.proofs.Common.{◌≡◌, ℕ, ◌+◌, ◌<◌, List, [], ◌∷◌, ◌++◌, length, take, drop, get_or, refl, sym, ◌∙◌, ap, subst, append_assoc}
-use Rattle.std.specs.Prelude.{flat_map}
 use Rattle.std.proofs.lemmas.List.{take_more, take-append-drop}
 use Rattle.db_records.specs.declared.change.Change.{Change}
 use Rattle.table_changes.specs.Changed.{AllRows, FitsIn, AllFitIn, changed_in, changed_by}

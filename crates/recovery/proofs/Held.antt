@@ -1,14 +1,14 @@
 -- What was read of the files is what they hold.
-use Rattle.std.proofs.Common.{◌≡◌, ◌≢◌, ℕ, suc, ◌+◌, ◌*◌, ◌≤◌, List, [], ◌∷◌, ◌++◌, length, replicate, Option, Some, refl, sym, ◌∙◌, ap, subst, arith, append_assoc, length-append}
+use Rattle.std.proofs.Common.{◌≡◌, ℕ, suc, ◌+◌, ◌*◌, ◌≤◌, List, [], ◌∷◌, ◌++◌, length, replicate, Some, refl, sym, ◌∙◌, ap, subst, arith, append_assoc, length-append}
 use Rattle.std.proofs.lemmas.List.{length-replicate}
 use Rattle.std.specs.List.{AllByRecursion}
 use Rattle.outside_api.specs.Disk.{Files}
 use Rattle.db_records.specs.declared.change.Change.{Change}
 use Rattle.db_records.specs.declared.table.TableId.{TableId}
 use Rattle.journal_groups.specs.Groups.{IsGroup, group_text, groups_text, body_of, mark, open_byte}
-use Rattle.journal_groups.specs.Committed.{HasGroups, groups_of}
+use Rattle.journal_groups.specs.Committed.{HasGroups}
 use Rattle.journal_groups.proofs.Committed.{groups_are}
-use Rattle.disk_journal.specs.Images.{Committed, Begins, IsRoot, IsAtRest}
+use Rattle.disk_journal.specs.Images.{Begins, IsRoot, IsAtRest}
 use Rattle.disk_journal.specs.Text as texts
 use Rattle.disk_journal.specs.Text.{blocks, AreGroupsFrom}
 use Rattle.table_changes.specs.Changed.{AllRows, AllFitIn, changed_by, no_rows}

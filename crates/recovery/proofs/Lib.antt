@@ -11,3 +11,8 @@ pub mod Journals
 pub mod Held
 pub mod Looks
 pub mod Synced
+pub mod Landed
+pub mod Whole
+pub mod GoodSpots
+pub mod Damaged
+pub mod Hashed

@@ -1,5 +1,5 @@
 -- Calls that only read a disk, one after another, and the faults that they pass on.
-use Rattle.std.proofs.Common.{◌≡◌, ℕ, ◌≤◌, Result, Ok, Err, refl, sym, ◌∙◌, subst, arith}
+use Rattle.std.proofs.Common.{◌≡◌, ℕ, ◌≤◌, Result, Ok, Err, sym, ◌∙◌, subst, arith}
 use Rattle.std.specs.Result.{IsErrAnd}
 use Rattle.outside_api.specs.Count.{HasRisen}
 use Rattle.outside_api.specs.Disk.{Files}
@@ -17,7 +17,7 @@ module _ {D : Type 0} (seen may_leave : D → Files → Type 0) (moment : D → 
     any_moment = then moment left_since old mid new (may_leave old) first.any_moment (weaker moment left_since mid new (may_leave mid) (may_leave old) first.no_more second.any_moment);
   }
 
-rises_on : (before mid now : ℕ) → before ≤ mid → HasRisen mid now → HasRisen before now
+pub rises_on : (before mid now : ℕ) → before ≤ mid → HasRisen mid now → HasRisen before now
 rises_on before mid now le risen = omega (arith, le, risen)
 
 -- a fault that is passed on has the cause that it had

@@ -1,5 +1,5 @@
 -- One put more.
-use Rattle.std.proofs.Common.{◌≡◌, ◌↔◌, ℕ, zero, suc, ◌+◌, ◌-◌, ◌<◌, Bool, true, false, IsTrue, List, [], ◌∷◌, ◌++◌, length, map, take, drop, get_or, refl, sym, ap, ◌∙◌, subst, arith}
+use Rattle.std.proofs.Common.{◌≡◌, ◌↔◌, ℕ, zero, suc, ◌+◌, ◌-◌, ◌<◌, Bool, IsTrue, List, [], ◌∷◌, ◌++◌, length, take, drop, get_or, refl, sym, ap, ◌∙◌, subst, arith}
 use Rattle.std.specs.List.{AllByRecursion}
 use Rattle.std.specs.Ordering.{is_lt}
 use Rattle.std.proofs.lemmas.List.{take_more, take-append-drop}
@@ -8,7 +8,7 @@ use Rattle.db_records.specs.declared.change.Op.TheVariants.{Put}
 use Rattle.db_records.specs.declared.record.Record.{Record}
 use Rattle.db_records.specs.Key.{key_cmp}
 use Rattle.db_records.specs.Record.{key_of}
-use Rattle.table_store.specs.Rows.{AllBelow, AllAbove, IsRising}
+use Rattle.table_store.specs.Rows.{AllBelow, IsRising}
 use Rattle.table_store.proofs.Order.{turned_less, AllAbove-append, before_row, IsRising-left}
 use Rattle.table_store.proofs.Place.{below_where_last_is}
 use Rattle.recovery.specs.Holding.{ArePuts, rows_put}

@@ -1,8 +1,7 @@
 -- A disk that was synced and then only read.
-use Rattle.std.proofs.Common.{◌≡◌, ℕ, ◌≤◌, refl, sym, ◌∙◌, ap, subst}
-use Rattle.outside_api.specs.Disk.{Files, Elapses, NoMore, Same, LeavesOnly}
+use Rattle.std.proofs.Common.{◌≡◌, ℕ, ◌∙◌, ap}
+use Rattle.outside_api.specs.Disk.{Files, Elapses, NoMore, Same}
 use Rattle.outside_api.specs.Moments.{started, goes_on, then, weaker}
-use Rattle.db_records.specs.declared.record.Record.{Record}
 use Rattle.db_records.specs.declared.table.TableId.{TableId}
 use Rattle.db_records.specs.declared.table.TableId.TheVariants.{Rev}
 use Rattle.disk_journal.specs.Images.{Committed}

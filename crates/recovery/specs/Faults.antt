@@ -1,6 +1,5 @@
 -- What the faults of opening say.
 use Rattle.std.specs.Prelude.{◌≡◌, ℕ, Result, Ok, Err}
-use Rattle.recovery.specs.declared.fault.DepotDisk.{DepotDisk}
 use Rattle.recovery.specs.declared.fault.DepotDisk.TheVariants.{Journal, Archive}
 use Rattle.recovery.specs.declared.fault.OpenFault.{OpenFault}
 use Rattle.recovery.specs.declared.fault.OpenFault.TheVariants.{Unmade, Damaged, DiskFault, Memory}
@@ -17,6 +16,13 @@ IsOfFile file (Damaged Journal found place) = found ≡ file
 IsOfFile file (Damaged Archive found place) = ⊥
 IsOfFile file Unmade = ⊥
 IsOfFile file _ = Unit {0}
+
+-- damage of the archive's file, or a fault that says nothing
+abbrev pub IsOfArchive : OpenFault → Type 0
+IsOfArchive (Damaged Archive found place) = found ≡ 0
+IsOfArchive (Damaged Journal found place) = ⊥
+IsOfArchive Unmade = ⊥
+IsOfArchive _ = Unit {0}
 
 -- what holds of the place of a damage, where one is answered
 abbrev pub IfDamaged : {X : Type 0} → Result X OpenFault → (ℕ → Type 0) → Type 0

@@ -1,7 +1,9 @@
 pub mod Holding
+pub mod Contents
 pub mod Faults
 pub mod Pieces
 pub mod Looking
 pub mod Opening
 pub mod Reading
 pub mod Standing
+pub mod Damage

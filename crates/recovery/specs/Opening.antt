@@ -8,6 +8,7 @@ use Rattle.archive_file.specs.Archive.{used_of}
 use Rattle.archive_file.specs.Archive as archives
 use Rattle.table_changes.specs.Changed.{rows_of}
 use Rattle.recovery.specs.Faults.{SaysNothing}
+use Rattle.recovery.specs.Contents.{AreWhole}
 use Rattle.recovery.specs.Holding.{HasAllRows, spots_end}
 use Rattle.recovery.specs.declared.fault.OpenFault.TheVariants.{Unmade, DiskFault}
 use Rattle.recovery.specs.declared.open.Opened.{Opened}
@@ -22,12 +23,14 @@ abbrev pub archive_disk : {D : Type 0} → Result (Opened D) (NotOpened D) → D
 archive_disk (Ok opened) = archives.disk_of opened.archive
 archive_disk (Err found) = found.archive
 
--- What is committed has the rows of the tables, in each image and with nothing in doubt; and the archive is used up to the last end of a spot.
+-- What is committed has the rows of the tables, in each image and with nothing in doubt; the archive is used up to the last end of a spot, and each
+-- image of it has the contents.
 pub record IsOpen {D : Type 0} (may_leave : D → Files → Type 0) (was : Committed) (opened : Opened D) : Type 0 where
   pub rows : HasAllRows was (rows_of opened.tables)
   pub stands : Stands may_leave opened.journal was nothing
   pub archive_end : opened.tables.archive_end ≡ spots_end (rows_of opened.tables Rev)
   pub used : used_of opened.archive ≡ opened.tables.archive_end
+  pub contents : (image : Files) → may_leave (archives.disk_of opened.archive) image → AreWhole (image 0) (rows_of opened.tables Rev)
 
 -- the disk reads as before, and a crash leaves what it reads
 pub record HasSynced {D : Type 0} (seen may_leave : D → Files → Type 0) (old new : D) : Type 0 where

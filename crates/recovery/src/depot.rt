@@ -1,29 +1,26 @@
 //! Reading all files of a depot.
 
-ghost use Rattle.std.specs.Prelude.{◌≡◌, ◌≢◌, ◌≤◌, ◌<◌, ◌^◌, length, IfOk, Err};
+ghost use Rattle.std.specs.Prelude.{◌≡◌, length, IfOk, Err};
+ghost use Rattle.std.specs.Result.{IfErr};
 ghost use Rattle.outside_api.specs.Disk.{Files};
 ghost use Rattle.db_records.specs.declared.table.TableId.{TableId};
-ghost use Rattle.db_records.specs.declared.table.TableId.TheVariants.{Rev};
 ghost use Rattle.table_changes.specs.Changed.{AllRows, rows_of};
+ghost use Rattle.recovery.specs.Damage.{IsDamage, Tells};
 ghost use Rattle.recovery.specs.Faults.{IsReadOrSaysNothing, IsUnmadeOrSaysNothing};
-ghost use Rattle.recovery.specs.Holding.{Hold, spots_end};
+ghost use Rattle.recovery.specs.Holding.{Hold};
 ghost use Rattle.recovery.specs.Looking.{OnlyReads, IsCause};
 ghost use Rattle.recovery.specs.Reading.{HasFound};
 ghost use Rattle.recovery.specs.declared.fault.OpenFault.TheVariants.{DiskFault, Unmade};
 
-use crate::fault::{DepotDisk, OpenFault};
+use crate::fault::OpenFault;
 use crate::root::read_root;
 use crate::rows::{JournalEnd, read_checkpoint, read_journal};
-use crate::spots::last_end;
 use outside_api::Disk;
 use std::alloc::Global;
 use table_store::Tables;
 
 /// How many bytes of a file are read at a time.
 const PIECE: usize = 65_536;
-
-/// The file of the archive's disk.
-const CONTENTS: u32 = 0;
 
 /// What the journal's disk has.
 #[derive(Drop)]
@@ -37,6 +34,7 @@ pub(crate) struct Found {
 pub(crate) fn read_rows<D: Disk>(alloc: Global, disk: &mut D) -> Result<Found, OpenFault>
     ensures found { IfOk result (λ found. HasFound (D.seen disk.old) found) }
     ensures only { (files : Files) (rows : AllRows) → D.seen disk.old files → Hold files rows → IsReadOrSaysNothing result (λ found. (table : TableId) → rows_of found.tables table ≡ rows table) }
+    ensures damaged { (files contents : Files) → D.seen disk.old files → IfErr result (Tells (IsDamage files contents)) }
     ensures unmade { (files : Files) → D.seen disk.old files → result ≡ Err Unmade → length (files 0) ≡ 0 }
     ensures exactly { (files : Files) → D.seen disk.old files → length (files 0) ≡ 0 → IsUnmadeOrSaysNothing result }
     ensures reads { OnlyReads D.seen D.may_leave D.moment D.left_since disk.old disk.new }
@@ -52,29 +50,4 @@ pub(crate) fn read_rows<D: Disk>(alloc: Global, disk: &mut D) -> Result<Found, O
         generation,
         end,
     })
-}
-
-/// Where the last spot of the tables ends in the archive.
-pub(crate) fn read_end<D: Disk>(
-    alloc: Global,
-    disk: &mut D,
-    tables: &Tables,
-) -> Result<u64, OpenFault>
-    ensures end { IfOk result (λ end. end ≡ spots_end (rows_of tables.now Rev)) }
-    ensures within { (files : Files) → D.seen disk.old files → IfOk result (λ end. end ≤ length (files 0)) }
-    ensures small { IfOk result (λ end. end < 2 ^ 63) }
-    ensures only { (files : Files) → D.seen disk.old files → spots_end (rows_of tables.now Rev) ≤ length (files 0) → IsReadOrSaysNothing result (λ end. Unit {0}) }
-    ensures fault { result ≢ Err Unmade }
-    ensures reads { OnlyReads D.seen D.may_leave D.moment D.left_since disk.old disk.new }
-    ensures cause { IsCause (D.faults disk.old) (D.faults disk.new) (result ≡ Err DiskFault) }
-{
-    let length = disk.length(CONTENTS)?;
-    match last_end(alloc, tables, length) {
-        Ok(end) => Ok(end),
-        Err(place) => Err(OpenFault::Damaged {
-            disk: DepotDisk::Archive,
-            file: CONTENTS,
-            place,
-        }),
-    }
 }

@@ -1,6 +1,7 @@
 //! Making the files of a depot, and opening them.
 #![tactic(auto)]
 
+mod contents;
 mod depot;
 mod fault;
 mod make;

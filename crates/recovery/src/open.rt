@@ -12,14 +12,17 @@ ghost use Rattle.table_changes.specs.Changed.{AllRows, rows_of};
 ghost use Rattle.depot_model.specs.Deeds.{Deed};
 ghost use Rattle.depot_rows.specs.Standing.{Stand};
 ghost use Rattle.recovery.specs.Faults.{IsReadOrSaysNothing, IsUnmadeOrSaysNothing};
-ghost use Rattle.recovery.specs.Holding.{Hold, HoldWithin, spots_end};
+ghost use Rattle.recovery.specs.Contents.{AreWhole, HoldWhole};
+ghost use Rattle.recovery.specs.Damage.{IsDamage, Tells};
+ghost use Rattle.recovery.specs.Holding.{Hold, spots_end};
 ghost use Rattle.recovery.specs.Standing.{StandFor};
 ghost use Rattle.recovery.specs.Looking.{OnlyReads, AreCauses};
 ghost use Rattle.recovery.specs.Reading.{HasFound};
 ghost use Rattle.recovery.specs.Opening.{IsOpen, HasSynced, LooksOnly, journal_disk, archive_disk, IsUnmade, IsDiskFault, OpensOrSaysNothing, UnmadeOrSaysNothing};
 ghost use Rattle.recovery.specs.declared.fault.OpenFault.TheVariants.{DiskFault, Unmade};
 
-use crate::depot::{Found, read_end, read_rows};
+use crate::contents::read_contents;
+use crate::depot::{Found, read_rows};
 use crate::fault::OpenFault;
 use archive_file::Archive;
 use disk_journal::Journal;
@@ -46,13 +49,15 @@ pub struct NotOpened<D: Disk> {
     pub archive: D,
 }
 
-/// Syncs both disks, and reads the rows of the one and where the last of their spots ends in the other.
+/// Syncs both disks, reads the rows of the one, and then their contents in the other.
 fn read_depot<D: Disk>(alloc: Global, journal: &mut D, archive: &mut D) -> Result<Found, OpenFault>
     ensures found { IfOk result (HasFound (D.seen journal.old)) }
     ensures end { IfOk result (λ found. found.tables.archive_end ≡ spots_end (rows_of found.tables Rev)) }
     ensures within { (contents : Files) → D.seen archive.old contents → IfOk result (λ found. found.tables.archive_end ≤ length (contents 0)) }
+    ensures contents { (contents : Files) → D.seen archive.old contents → IfOk result (λ found. AreWhole (contents 0) (rows_of found.tables Rev)) }
     ensures synced { IfOk result (λ found. HasSynced D.seen D.may_leave journal.old journal.new × HasSynced D.seen D.may_leave archive.old archive.new) }
-    ensures only { (files contents : Files) (rows : AllRows) → D.seen journal.old files → D.seen archive.old contents → HoldWithin files contents rows → IsReadOrSaysNothing result (λ found. (table : TableId) → rows_of found.tables table ≡ rows table) }
+    ensures only { (files contents : Files) (rows : AllRows) → D.seen journal.old files → D.seen archive.old contents → HoldWhole files contents rows → IsReadOrSaysNothing result (λ found. (table : TableId) → rows_of found.tables table ≡ rows table) }
+    ensures damaged { (files contents : Files) → D.seen journal.old files → D.seen archive.old contents → IfErr result (Tells (IsDamage files contents)) }
     ensures unmade { (files : Files) → D.seen journal.old files → result ≡ Err Unmade → length (files 0) ≡ 0 }
     ensures exactly { (files : Files) → D.seen journal.old files → length (files 0) ≡ 0 → IsUnmadeOrSaysNothing result }
     ensures journal_looks { LooksOnly D.may_leave D.moment D.left_since journal.old journal.new }
@@ -62,7 +67,7 @@ fn read_depot<D: Disk>(alloc: Global, journal: &mut D, archive: &mut D) -> Resul
     journal.sync()?;
     archive.sync()?;
     let mut found = read_rows(alloc, journal)?;
-    let end = read_end(alloc, archive, &found.tables)?;
+    let end = read_contents(alloc, archive, &found.tables)?;
     found.tables.set_archive_end(end);
     Ok(found)
 }
@@ -70,18 +75,21 @@ fn read_depot<D: Disk>(alloc: Global, journal: &mut D, archive: &mut D) -> Resul
 /// Opens the files of a depot: syncs both disks, and reads the root, the checkpoint of its generation and
 /// the journal.
 ///
-/// It is checked that the changes fit the rows before them and that no spot ends behind the archive. The
-/// rules of rows and the digests of contents aren't checked.
+/// It is checked that the changes fit the rows before them, that no spot ends behind the archive, and that
+/// each content has its digest. The rules of rows aren't checked.
 pub fn open_files<D: Disk>(alloc: Global, journal: D, archive: D) -> Result<Opened<D>, NotOpened<D>>
     // What is committed has the rows of the tables.
     ensures open { IfOk result (λ opened. (was : Committed) × IsOpen D.may_leave was opened) }
     // These are the rows that the files hold.
     ensures held { (files : Files) → D.seen journal files → IfOk result (λ opened. Hold files (rows_of opened.tables)) }
     ensures within { (contents : Files) → D.seen archive contents → IfOk result (λ opened. opened.tables.archive_end ≤ length (contents 0)) }
-    // Files that hold rows are opened, and so those are that stand for a depot: the rows then stand for it.
-    ensures opens { (files contents : Files) (rows : AllRows) → D.seen journal files → D.seen archive contents → HoldWithin files contents rows → OpensOrSaysNothing result }
+    // The archive has the content of each live revision.
+    ensures contents { (contents : Files) → D.seen archive contents → IfOk result (λ opened. AreWhole (contents 0) (rows_of opened.tables Rev)) }
+    // Files that hold rows and their contents are opened, and so those are that stand for a depot: the rows then stand for it.
+    ensures opens { (files contents : Files) (rows : AllRows) → D.seen journal files → D.seen archive contents → HoldWhole files contents rows → OpensOrSaysNothing result }
     ensures stands { (files contents : Files) (d : List Deed) → D.seen journal files → D.seen archive contents → StandFor d files contents →
         OpensOrSaysNothing result × IfOk result (λ opened. Stand (rows_of opened.tables) d) }
+    ensures damaged { (files contents : Files) → D.seen journal files → D.seen archive contents → IfErr result (λ found. Tells (IsDamage files contents) found.fault) }
     ensures unmade { (files : Files) → D.seen journal files → IsUnmade result → length (files 0) ≡ 0 }
     ensures exactly { (files : Files) → D.seen journal files → length (files 0) ≡ 0 → UnmadeOrSaysNothing result }
     ensures journal_synced { IfOk result (λ opened. HasSynced D.seen D.may_leave journal (disk_of opened.journal)) }

@@ -4,6 +4,7 @@ ghost use Rattle.std.specs.Prelude.{◌≡◌, ◌≢◌, ◌≤◌, ◌<◌, �
 ghost use Rattle.std.specs.Result.{IfErr};
 ghost use Rattle.outside_api.specs.Disk.{Files};
 ghost use Rattle.disk_journal.specs.Images.{IsTail, IsRoot};
+ghost use Rattle.recovery.specs.Damage.{IsDamage, Tells};
 ghost use Rattle.recovery.specs.Faults.{IsReadOrSaysNothing, IsUnmadeOrSaysNothing};
 ghost use Rattle.recovery.specs.Looking.{OnlyReads, IsCause};
 ghost use Rattle.recovery.specs.declared.fault.OpenFault.TheVariants.{Damaged, DiskFault, Unmade};
@@ -69,6 +70,7 @@ pub(crate) fn read_root<D: Disk>(disk: &mut D) -> Result<u32, OpenFault>
     ensures root { (files : Files) → D.seen disk.old files → IfOk result (λ generation. IsRoot generation (files 0)) }
     ensures last { IfOk result (λ generation. generation ≤ 4095) }
     ensures only { (files : Files) (generation : ℕ) → D.seen disk.old files → IsRoot generation (files 0) → IsReadOrSaysNothing result (λ found. found ≡ generation) }
+    ensures damaged { (files contents : Files) → D.seen disk.old files → IfErr result (Tells (IsDamage files contents)) }
     ensures unmade { (files : Files) → D.seen disk.old files → result ≡ Err Unmade → length (files 0) ≡ 0 }
     ensures exactly { (files : Files) → D.seen disk.old files → length (files 0) ≡ 0 → IsUnmadeOrSaysNothing result }
     ensures reads { OnlyReads D.seen D.may_leave D.moment D.left_since disk.old disk.new }

@@ -1,13 +1,14 @@
-use Rattle.std.proofs.Common.{◌≡◌, ◌+◌, ◌*◌, ◌≤◌, ℕ, Err, length, refl, subst, sym, ap, ◌∙◌, arith}
-use Rattle.outside_api.specs.Disk.{Files}
+use Rattle.std.proofs.Common.{◌≡◌, Err, length, refl, sym, ap, ◌∙◌, arith}
 use Rattle.recovery.specs.declared.fault.OpenFault.{OpenFault}
-use Rattle.recovery.specs.declared.fault.OpenFault.TheVariants.{DiskFault}
 use Rattle.table_changes.specs.Changed.{rows_of}
 use Rattle.table_changes.specs.Drafts.{rows_of_draft}
 use Rattle.journal_groups.specs.Groups.{group_text}
 use Rattle.recovery.specs.Holding.{group_texts}
 use Rattle.recovery.proofs.Looks.{reads_on, passed_cause, passed_nothing, other_cause, no_cause}
-use Rattle.recovery.proofs.Held.{blocks_of, are_texts, length_texts, read_rows, read_rest, last_generation, held_root, held_checkpoint, held_begins, held_groups, held_puts, held_fit, held_rows}
+use Rattle.recovery.proofs.Held.{blocks_of, are_texts, length_texts, read_rows, read_rest, held_root, held_checkpoint, held_begins, held_groups, held_puts, held_fit, held_rows}
+use Rattle.recovery.specs.Damage.{IsDamage, Tells}
+use Rattle.recovery.proofs.Damaged.{other_disk}
+use Rattle.recovery.proofs.PassedOn.{passed_on}
 use Rattle.recovery.proofs.depot.read_rows.Goals as goal
 
 pub returns-in_err-generation-clause-only : goal.returns-in_err-generation-clause-only
@@ -93,3 +94,15 @@ returns-clause-reads g c =
 
 pub returns-clause-cause : goal.returns-clause-cause
 returns-clause-cause g c = no_cause _ (g.D.Disk.faults c.args.disk.now) (g.D.Disk.faults c.read_journal.new.disk) (omega (arith, c.read_root.ensures.cause.never_falls, c.read_checkpoint.ensures.cause.never_falls, c.read_journal.ensures.cause.never_falls))
+
+pub returns-in_err-generation-clause-damaged : goal.returns-in_err-generation-clause-damaged
+returns-in_err-generation-clause-damaged g c = λ files contents read.
+    passed_on c.from_residual.result c.in_err-generation.field-0.0 (Tells (IsDamage files contents)) c.from_residual.ensures.1 (c.in_err-generation.ensures.damaged files contents read)
+
+pub returns-in_err-draft-clause-damaged : goal.returns-in_err-draft-clause-damaged
+returns-in_err-draft-clause-damaged g c = λ files contents read.
+    passed_on c.from_residual-in_err-draft.result c.in_err-draft.field-0.0 (Tells (IsDamage files contents)) c.from_residual-in_err-draft.ensures.1 (other_disk files contents _ c.in_err-draft.field-0.0 c.in_err-draft.ensures.fault)
+
+pub returns-in_err-end-clause-damaged : goal.returns-in_err-end-clause-damaged
+returns-in_err-end-clause-damaged g c = λ files contents read.
+    passed_on c.from_residual-in_err-end.result c.in_err-end.field-0.0 (Tells (IsDamage files contents)) c.from_residual-in_err-end.ensures.1 (other_disk files contents _ c.in_err-end.field-0.0 c.in_err-end.ensures.fault)

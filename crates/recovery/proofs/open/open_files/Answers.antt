@@ -1,6 +1,4 @@
-use Rattle.std.proofs.Common.{◌≡◌, ℕ, List, sym, ap, subst, ◌∙◌}
-use Rattle.outside_api.specs.Disk.{Files}
-use Rattle.db_records.specs.declared.key.Key.{Key}
+use Rattle.std.proofs.Common.{◌≡◌, List, sym, subst, ◌∙◌}
 use Rattle.db_records.specs.declared.record.Record.{Record}
 use Rattle.db_records.specs.declared.table.TableId.{TableId}
 use Rattle.disk_journal.specs.Stands.{CanBeAdopted}
@@ -8,15 +6,11 @@ use Rattle.table_changes.specs.Changed.{AllRows}
 use Rattle.depot_model.specs.Deeds.{Deed}
 use Rattle.depot_model.specs.Records.{record_of}
 use Rattle.depot_rows.specs.Standing.{Stand, unplaced_at}
-use Rattle.recovery.specs.Holding.{HoldWithin}
-use Rattle.recovery.specs.Standing.{StandFor}
+use Rattle.recovery.proofs.Whole.{hold_of}
 use Rattle.recovery.proofs.open.open_files.Goals as goal
 
 same_stand : (old new : AllRows) (d : List Deed) → ((table : TableId) → new table ≡ old table) → Stand old d → Stand new d
 same_stand old new d same stand = record { sound = stand.sound; each = λ table key of. subst (λ (rows : List Record). unplaced_at rows key ≡ record_of d key) (sym (same table)) (stand.each table key of) }
-
-hold_of : (d : List Deed) (files contents : Files) (stands : StandFor d files contents) → HoldWithin files contents stands.rows
-hold_of d files contents stands = record { hold = record { was = stands.was; committed = stands.committed; has = stands.has }; within = stands.within }
 
 pub returns-in-Ok-clause-open : goal.returns-in-Ok-clause-open
 returns-in-Ok-clause-open g c =
@@ -30,8 +24,18 @@ returns-in-Ok-clause-open g c =
       length_is = found.long;
       short = found.short;
       each = λ image left. found.at_rest image (synced.same.no_more image (synced.durable image left));
-    } in
-    (found.was, record { rows = found.has; stands = c.adopt.ensures.stands found.was adopted; archive_end = c.in-Ok.ensures.end; used = c.adopt-in-Ok.ensures.used ∙ c.archive_end-used.ensures.end })
+    } in (
+      found.was,
+      record {
+        rows = found.has;
+        stands = c.adopt.ensures.stands found.was adopted;
+        archive_end = c.in-Ok.ensures.end;
+        used = c.adopt-in-Ok.ensures.used ∙ c.archive_end-used.ensures.end;
+        contents = λ image left.
+            let archive = c.in-Ok.ensures.synced.1 in
+            c.in-Ok.ensures.contents image (archive.same.no_more image (archive.durable image (subst (λ (disk : g.row.D.Denot). g.D.Disk.may_leave disk image) c.adopt-in-Ok.ensures.disk left)));
+      },
+    )
 
 pub returns-in-Ok-clause-held : goal.returns-in-Ok-clause-held
 returns-in-Ok-clause-held g c = λ files read.

@@ -1,23 +1,39 @@
-use Rattle.std.proofs.Common.{◌≡◌, ◌≤◌, length, sym, ap, subst, ◌∙◌}
-use Rattle.outside_api.specs.Disk.{Files}
+use Rattle.std.proofs.Common.{◌≡◌, ◌≤◌, ℕ, length, sym, ap, subst, ◌∙◌}
 use Rattle.db_records.specs.declared.table.TableId.{TableId}
 use Rattle.db_records.specs.declared.table.TableId.TheVariants.{Rev}
 use Rattle.table_store.specs.Rows.{TableRows}
 use Rattle.table_changes.specs.Changed.{rows_of}
 use Rattle.recovery.specs.Holding.{spots_end}
+use Rattle.recovery.specs.Contents.{AreWhole}
+use Rattle.recovery.specs.Damage.{IsDamage, Tells}
+use Rattle.recovery.proofs.Damaged.{hold_found, archive_damage}
 use Rattle.recovery.proofs.Looks.{passed_nothing}
+use Rattle.recovery.proofs.PassedOn.{passed_on}
+use Rattle.recovery.proofs.GoodSpots.{nothing_bad}
 use Rattle.recovery.proofs.Synced.{synced_then, looks_then, same_rows, same_end}
 use Rattle.recovery.proofs.open.read_depot.Goals as goal
 
 pub returns-in_err-found-clause-only : goal.returns-in_err-found-clause-only
 returns-in_err-found-clause-only g c = λ files contents rows read read_contents hold.
-    passed_nothing c.from_residual-in_err-found.result c.in_err-found.field-0.0 _ c.from_residual-in_err-found.ensures.1 (c.in_err-found.ensures.only files rows (c.in_ok-sync.ensures.same.kept files read) hold.hold)
+    passed_nothing c.from_residual-in_err-found.result c.in_err-found.field-0.0 _ c.from_residual-in_err-found.ensures.1 (c.in_err-found.ensures.only files rows (c.in_ok-sync.ensures.same.kept files read) hold.hold_within.hold)
 
 pub returns-in_err-end-clause-only : goal.returns-in_err-end-clause-only
 returns-in_err-end-clause-only g c = λ files contents rows read read_contents hold.
-    let same = c.in_ok-found.ensures.only files rows (c.in_ok-sync.ensures.same.kept files read) hold.hold in
-    let within : spots_end (rows_of c.in_ok-found.found.tables Rev) ≤ length (contents 0) = subst (λ n. n ≤ length (contents 0)) (sym (ap spots_end (same Rev))) hold.within in
-    passed_nothing c.from_residual-in_err-end.result c.in_err-end.field-0.0 _ c.from_residual-in_err-end.ensures.1 (c.in_err-end.ensures.only contents (c.in_ok-sync-2.ensures.same.kept contents read_contents) within)
+    let same = c.in_ok-found.ensures.only files rows (c.in_ok-sync.ensures.same.kept files read) hold.hold_within.hold in
+    let found = rows_of c.in_ok-found.found.tables Rev in
+    let within : spots_end found ≤ length (contents 0) = subst (λ n. n ≤ length (contents 0)) (sym (ap spots_end (same Rev))) hold.hold_within.within in
+    let whole : AreWhole (contents 0) found = subst (AreWhole (contents 0)) (sym (same Rev)) hold.whole in
+    let fault = c.in_err-end.field-0.0 in
+    passed_nothing c.from_residual-in_err-end.result fault _ c.from_residual-in_err-end.ensures.1 (
+    nothing_bad ℕ (contents 0) found fault whole within c.in_err-end.ensures.fault (c.in_err-end.ensures.damaged contents (c.in_ok-sync-2.ensures.same.kept contents read_contents)))
+
+pub returns-in_err-end-clause-damaged : goal.returns-in_err-end-clause-damaged
+returns-in_err-end-clause-damaged g c = λ files contents read read_contents.
+    let found = c.in_ok-found.ensures.found in
+    let rows = rows_of c.in_ok-found.found.tables in
+    let fault = c.in_err-end.field-0.0 in
+    passed_on c.from_residual-in_err-end.result fault (Tells (IsDamage files contents)) c.from_residual-in_err-end.ensures.1 (
+    archive_damage ℕ files contents rows fault (hold_found found.was rows files found.has found.are_groups (found.at_rest files (c.in_ok-sync.ensures.same.kept files read))) c.in_err-end.ensures.fault (c.in_err-end.ensures.damaged contents (c.in_ok-sync-2.ensures.same.kept contents read_contents)))
 
 pub returns-in_err-end-clause-journal_looks : goal.returns-in_err-end-clause-journal_looks
 returns-in_err-end-clause-journal_looks g c =
@@ -52,12 +68,21 @@ pub returns-clause-within : goal.returns-clause-within
 returns-clause-within g c = λ contents read.
     subst (λ n. n ≤ length (contents 0)) (sym c.set_archive_end.ensures.end) (c.in_ok-end.ensures.within contents (c.in_ok-sync-2.ensures.same.kept contents read))
 
+pub returns-clause-contents : goal.returns-clause-contents
+returns-clause-contents g c = λ contents read.
+    let same : rows_of c.set_archive_end.new.self Rev ≡ rows_of c.in_ok-found.found.tables Rev = ap (λ (version : TableRows). version.rows) (c.set_archive_end.ensures.versions Rev) in
+    subst (AreWhole (contents 0)) (sym same) (c.in_ok-end.ensures.whole contents (c.in_ok-sync-2.ensures.same.kept contents read))
+
 pub returns-clause-synced : goal.returns-clause-synced
 returns-clause-synced g c = (
   synced_then g.D.Disk.seen g.D.Disk.may_leave g.D.Disk.moment g.D.Disk.left_since c.args.journal.now c.sync.new.self c.read_rows.new.disk c.in_ok-sync.ensures.same c.in_ok-sync.ensures.durable c.read_rows.ensures.reads,
-  synced_then g.D.Disk.seen g.D.Disk.may_leave g.D.Disk.moment g.D.Disk.left_since c.args.archive.now c.sync-2.new.self c.read_end.new.disk c.in_ok-sync-2.ensures.same c.in_ok-sync-2.ensures.durable c.read_end.ensures.reads,
+  synced_then g.D.Disk.seen g.D.Disk.may_leave g.D.Disk.moment g.D.Disk.left_since c.args.archive.now c.sync-2.new.self c.read_contents.new.disk c.in_ok-sync-2.ensures.same c.in_ok-sync-2.ensures.durable c.read_contents.ensures.reads,
 )
 
 pub returns-clause-only : goal.returns-clause-only
 returns-clause-only g c = λ files contents rows read read_contents hold table.
-    ap (λ (version : TableRows). version.rows) (c.set_archive_end.ensures.versions table) ∙ c.in_ok-found.ensures.only files rows (c.in_ok-sync.ensures.same.kept files read) hold.hold table
+    ap (λ (version : TableRows). version.rows) (c.set_archive_end.ensures.versions table) ∙ c.in_ok-found.ensures.only files rows (c.in_ok-sync.ensures.same.kept files read) hold.hold_within.hold table
+
+pub returns-in_err-found-clause-damaged : goal.returns-in_err-found-clause-damaged
+returns-in_err-found-clause-damaged g c = λ files contents read read_contents.
+    passed_on c.from_residual-in_err-found.result c.in_err-found.field-0.0 (Tells (IsDamage files contents)) c.from_residual-in_err-found.ensures.1 (c.in_err-found.ensures.damaged files contents (c.in_ok-sync.ensures.same.kept files read))

@@ -1,6 +1,6 @@
-use Rattle.std.proofs.Common.{◌≡◌, ◌<◌, ◌+◌, ℕ, Result, Ok, length, drop, arith, sym, ap, subst, length-drop}
+use Rattle.std.proofs.Common.{◌≡◌, ◌+◌, ℕ, Result, Ok, length, arith, sym, ap, subst, length-drop}
 use Rattle.disk_journal.specs.Images.{IsTail}
-use Rattle.recovery.proofs.Roots.{root_of, one_generation, tail_of, shut_behind}
+use Rattle.recovery.proofs.Roots.{root_of, one_generation, tail_of}
 use Rattle.recovery.proofs.root.generation_of.Goals as goal
 use Rattle.recovery.proofs.root.generation_of.Goals.{then-place-root-via-then-place-root, then-place-root-via-else-place-root+then-root-lt-ROOT_LENGTH}
 

@@ -1,6 +1,5 @@
-use Rattle.std.proofs.Common.{◌≡◌, ◌≤◌, ℕ, List, Result, length, take, sym, ap, subst, ◌∙◌, Err, Ok, arith}
+use Rattle.std.proofs.Common.{◌≡◌, ◌≤◌, ℕ, List, Result, length, take, sym, subst, ◌∙◌, Err, Ok, arith}
 use Rattle.std.proofs.lemmas.List.{take_all}
-use Rattle.outside_api.specs.Disk.{Files}
 use Rattle.disk_journal.specs.Images.{IsRoot}
 use Rattle.recovery.proofs.root.read_root.Goals as goal
 

@@ -1,6 +1,5 @@
-use Rattle.std.proofs.Common.{◌≡◌, ℕ, ◌+◌, List, length, take, subst, ◌∙◌, ap, arith}
+use Rattle.std.proofs.Common.{◌≡◌, ◌+◌, take, subst, ◌∙◌, ap}
 use Rattle.std.proofs.lemmas.List.{take_all}
-use Rattle.db_records.specs.declared.change.Change.{Change}
 use Rattle.table_changes.specs.Changed.{AllFitIn, changed_by}
 use Rattle.table_changes.specs.Drafts.{rows_of_draft}
 use Rattle.recovery.proofs.Fits.{fits_taken}

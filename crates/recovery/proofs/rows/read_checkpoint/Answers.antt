@@ -1,7 +1,5 @@
-use Rattle.std.proofs.Common.{◌≡◌, ◌≢◌, ◌+◌, ◌*◌, ◌-◌, ℕ, List, ◌++◌, Option, Some, Result, Err, length, subst, sym, ap, ◌∙◌, arith}
-use Rattle.outside_api.specs.Disk.{Files}
+use Rattle.std.proofs.Common.{◌≡◌, ◌+◌, ◌*◌, ◌-◌, ℕ, List, ◌++◌, Option, Some, subst, sym, ap, ◌∙◌, arith}
 use Rattle.db_records.specs.declared.change.Change.{Change}
-use Rattle.journal_groups.specs.Groups.{IsGroup}
 use Rattle.table_changes.specs.Changed.{AllRows, AllFitIn, changed_by, no_rows}
 use Rattle.recovery.specs.Faults.{IsOfFile, SaysNothing}
 use Rattle.recovery.specs.Holding.{ArePuts}

@@ -1,11 +1,10 @@
 use Rattle.std.proofs.Common.{◌≡◌, ◌+◌, ◌*◌, ◌-◌, ◌<◌, ◌^◌, ℕ, List, Option, Some, subst, sym, arith}
-use Rattle.outside_api.specs.Disk.{Files}
 use Rattle.outside_api.specs.Moments.{then, weaker}
 use Rattle.db_records.specs.declared.change.Change.{Change}
 use Rattle.table_changes.specs.Changed.{AllFitIn, changed_by}
 use Rattle.table_changes.specs.Drafts.{rows_of_draft}
 use Rattle.recovery.specs.Faults.{SaysNothing}
-use Rattle.recovery.specs.Pieces.{text_left, HasCome, IsFirst, KnowsEnd, IsUnreadable}
+use Rattle.recovery.specs.Pieces.{text_left, HasCome, IsFirst, IsUnreadable}
 use Rattle.recovery.proofs.PassedOn.{passed_on, no_damage}
 use Rattle.recovery.proofs.Journals.{never_stuck, next_fit, one_more, small_count}
 use Rattle.recovery.proofs.rows.read_journal.Goals as goal

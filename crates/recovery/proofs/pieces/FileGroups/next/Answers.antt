@@ -1,5 +1,4 @@
-use Rattle.std.proofs.Common.{◌≡◌, ℕ, ◌+◌, ◌-◌, ◌++◌, List, length, drop, Option, Err, subst, arith, ap, ◌∙◌, sym, length-drop}
-use Rattle.outside_api.specs.Disk.{Files}
+use Rattle.std.proofs.Common.{◌≡◌, ℕ, ◌-◌, ◌++◌, List, length, drop, Option, Err, subst, arith, ap, sym, length-drop}
 use Rattle.db_records.specs.declared.change.Change.{Change}
 use Rattle.recovery.specs.declared.fault.OpenFault.{OpenFault}
 use Rattle.recovery.specs.Faults.{IfDamaged}

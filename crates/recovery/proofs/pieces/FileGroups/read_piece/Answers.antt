@@ -1,7 +1,5 @@
-use Rattle.std.proofs.Common.{◌≡◌, ◌+◌, ◌-◌, ◌≤◌, ◌++◌, length, take, drop, min, subst, arith, length-take, ap, ◌∙◌}
-use Rattle.outside_api.specs.Disk.{Files}
+use Rattle.std.proofs.Common.{◌≡◌, ◌+◌, ◌≤◌, ◌++◌, length, take, drop, subst, arith, length-take, ap, ◌∙◌}
 use Rattle.journal_groups.specs.Reader.{State}
-use Rattle.recovery.specs.Pieces.{text_left, KnowsEnd}
 use Rattle.recovery.proofs.Reading.{piece_read}
 use Rattle.recovery.proofs.pieces.FileGroups.read_piece.Goals as goal
 

@@ -1,0 +1,177 @@
+//! The contents of revisions at their spots in the archive, and their digests.
+
+ghost use Rattle.std.specs.Prelude.{◌≡◌, ◌≢◌, ◌≤◌, ◌<◌, ◌+◌, ◌^◌, ℕ, List, length, take, drop, IfOk, OnOk, Err};
+ghost use Rattle.std.specs.Result.{IfErr};
+ghost use Rattle.md5.specs.Md5.{Holds};
+ghost use Rattle.outside_api.specs.Disk.{Files};
+ghost use Rattle.db_records.specs.declared.table.TableId.TheVariants.{Rev};
+ghost use Rattle.depot_model.specs.Records.{digest};
+ghost use Rattle.table_changes.specs.Changed.{rows_of};
+ghost use Rattle.recovery.specs.Contents.{HasDigested, IsWhole, AreWhole, IsBadAt, IsSpotDamage, bytes_at};
+ghost use Rattle.recovery.specs.Faults.{IsReadOrSaysNothing, IsOfArchive, IfDamaged, SaysNothing};
+ghost use Rattle.recovery.specs.Holding.{spot_end, spots_end};
+ghost use Rattle.recovery.specs.Looking.{OnlyReads, IsCause};
+ghost use Rattle.recovery.specs.declared.fault.DepotDisk.TheVariants.{Archive};
+ghost use Rattle.recovery.specs.declared.fault.OpenFault.TheVariants.{Damaged, DiskFault};
+
+use crate::fault::{DepotDisk, OpenFault};
+use crate::spots::{end_within, revisions};
+use db_records::{Record, RevRecord};
+use depot_path::Text;
+use hex::encode_upper;
+use md5::{Digest, Md5};
+use outside_api::{Disk, fill};
+use std::alloc::{AllocError, Global};
+use table_store::Tables;
+
+/// The file of the archive's disk.
+const CONTENTS: u32 = 0;
+
+/// How many bytes of the file are read at a time.
+const PIECE: usize = 65_536;
+
+/// The hasher of so many bytes of the archive from a place on, which are read in pieces. Where the file
+/// ends before, it has the bytes up to there.
+fn hash_content<D: Disk>(
+    disk: &mut D,
+    at: u64,
+    size: u64,
+    piece: &mut [u8],
+) -> Result<Md5, OpenFault>
+    requires room { 0 < length piece.old }
+    requires small { at + size < 2 ^ 63 }
+    ensures holds { (files : Files) → D.seen disk.old files → at + size ≤ length (files 0) → IfOk result (λ hasher. Holds hasher (take size (drop at (files 0)))) }
+    ensures fault { IfErr result SaysNothing }
+    ensures reads { OnlyReads D.seen D.may_leave D.moment D.left_since disk.old disk.new }
+    ensures cause { IsCause (D.faults disk.old) (D.faults disk.new) (result ≡ Err DiskFault) }
+{
+    let mut hasher = Md5::new();
+    let mut done = 0;
+    while done < size {
+        let room = (size - done).min(piece.len() as u64) as usize;
+        let count = fill(disk, CONTENTS, at + done, &mut piece[..room])?;
+        if count == 0 {
+            return Ok(hasher);
+        }
+        hasher.update(&piece[..count]);
+        done += count as u64;
+    }
+    Ok(hasher)
+}
+
+/// The digest of what a hasher has taken in, as the digest field of the table db.rev has it.
+fn finish_digest(alloc: Global, hasher: Md5) -> Result<Text, AllocError>
+    ensures { (bytes : List ℕ) → Holds hasher bytes → IfOk result (λ text. text ≡ digest bytes) }
+{
+    let digits = encode_upper(alloc, hasher.finalize())?;
+    Text::from_bytes(alloc, digits.as_str().as_bytes())
+}
+
+/// The fault of the archive at a place.
+fn damaged(place: u64) -> OpenFault
+    ensures { result ≡ Damaged Archive 0 place }
+{
+    OpenFault::Damaged {
+        disk: DepotDisk::Archive,
+        file: CONTENTS,
+        place,
+    }
+}
+
+/// Checks that the bytes at the spot of a revision have its digest.
+fn check_content<D: Disk>(
+    alloc: Global,
+    disk: &mut D,
+    revision: &RevRecord,
+    piece: &mut [u8],
+) -> Result<(), OpenFault>
+    requires room { 0 < length piece.old }
+    requires small { revision.now.at + revision.now.length < 2 ^ 63 }
+    ensures content { (files : Files) → D.seen disk.old files → revision.now.at + revision.now.length ≤ length (files 0) → OnOk result (HasDigested (files 0) revision.now) }
+    ensures damaged { (files : Files) → D.seen disk.old files → revision.now.at + revision.now.length ≤ length (files 0) → IfDamaged result (λ place. (place ≡ revision.now.at) × (revision.now.digest ≢ digest (bytes_at (files 0) revision.now))) }
+    ensures fault { IfErr result IsOfArchive }
+    ensures reads { OnlyReads D.seen D.may_leave D.moment D.left_since disk.old disk.new }
+    ensures cause { IsCause (D.faults disk.old) (D.faults disk.new) (result ≡ Err DiskFault) }
+{
+    let hasher = hash_content(disk, revision.at, revision.length, piece)?;
+    let found = finish_digest(alloc, hasher)?;
+    if found != revision.digest {
+        return Err(damaged(revision.at));
+    }
+    Ok(())
+}
+
+/// Checks the spot of a row and its content, and answers where the spot ends. Only revisions have a spot,
+/// and only live ones a content.
+fn check_row<D: Disk>(
+    alloc: Global,
+    disk: &mut D,
+    row: &Record,
+    limit: u64,
+    piece: &mut [u8],
+) -> Result<u64, OpenFault>
+    requires room { 0 < length piece.old }
+    requires small { limit < 2 ^ 63 }
+    ensures end { IfOk result (λ end. (end ≡ spot_end row.now) × (end ≤ limit)) }
+    ensures whole { (files : Files) → D.seen disk.old files → limit ≡ length (files 0) → IfOk result (λ end. IsWhole (files 0) row.now) }
+    ensures damaged { (files : Files) → D.seen disk.old files → limit ≡ length (files 0) → IfDamaged result (IsBadAt (files 0) row.now) }
+    ensures fault { IfErr result IsOfArchive }
+    ensures reads { OnlyReads D.seen D.may_leave D.moment D.left_since disk.old disk.new }
+    ensures cause { IsCause (D.faults disk.old) (D.faults disk.new) (result ≡ Err DiskFault) }
+{
+    let live = row.live();
+    let Record::Rev(revision) = row else {
+        return Ok(0);
+    };
+    let Some(end) = end_within(revision, limit) else {
+        return Err(damaged(revision.at));
+    };
+    if live {
+        check_content(alloc, disk, revision, piece)?;
+    }
+    Ok(end)
+}
+
+/// Checks the spots and the contents of all revisions, and answers where the last spot ends.
+fn check_rows<D: Disk>(
+    alloc: Global,
+    disk: &mut D,
+    tables: &Tables,
+    limit: u64,
+    piece: &mut [u8],
+) -> Result<u64, OpenFault>
+    requires room { 0 < length piece.old }
+    requires small { limit < 2 ^ 63 }
+    ensures end { IfOk result (λ end. (end ≡ spots_end (rows_of tables.now Rev)) × (end ≤ limit)) }
+    ensures whole { (files : Files) → D.seen disk.old files → limit ≡ length (files 0) → IfOk result (λ end. AreWhole (files 0) (rows_of tables.now Rev)) }
+    ensures damaged { (files : Files) → D.seen disk.old files → limit ≡ length (files 0) → IfDamaged result (IsSpotDamage (files 0) (rows_of tables.now Rev)) }
+    ensures fault { IfErr result IsOfArchive }
+    ensures reads { OnlyReads D.seen D.may_leave D.moment D.left_since disk.old disk.new }
+    ensures cause { IsCause (D.faults disk.old) (D.faults disk.new) (result ≡ Err DiskFault) }
+{
+    let mut end = 0;
+    for row in revisions(alloc, tables) {
+        end = end.max(check_row(alloc, disk, row, limit, piece)?);
+    }
+    Ok(end)
+}
+
+/// Reads every content once, and answers where the last spot of the tables ends in the archive.
+pub(crate) fn read_contents<D: Disk>(
+    alloc: Global,
+    disk: &mut D,
+    tables: &Tables,
+) -> Result<u64, OpenFault>
+    ensures end { IfOk result (λ end. end ≡ spots_end (rows_of tables.now Rev)) }
+    ensures within { (files : Files) → D.seen disk.old files → IfOk result (λ end. end ≤ length (files 0)) }
+    ensures small { IfOk result (λ end. end < 2 ^ 63) }
+    ensures whole { (files : Files) → D.seen disk.old files → IfOk result (λ end. AreWhole (files 0) (rows_of tables.now Rev)) }
+    ensures damaged { (files : Files) → D.seen disk.old files → IfDamaged result (IsSpotDamage (files 0) (rows_of tables.now Rev)) }
+    ensures fault { IfErr result IsOfArchive }
+    ensures reads { OnlyReads D.seen D.may_leave D.moment D.left_since disk.old disk.new }
+    ensures cause { IsCause (D.faults disk.old) (D.faults disk.new) (result ≡ Err DiskFault) }
+{
+    let limit = disk.length(CONTENTS)?;
+    let mut piece = vec![in alloc; 0u8; PIECE]?;
+    check_rows(alloc, disk, tables, limit, piece.as_mut_slice())
+}
