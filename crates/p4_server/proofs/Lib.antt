@@ -3,6 +3,7 @@ pub mod Tellings
 pub mod RowsLemmas
 pub mod Openings
 pub mod Dumps
+pub mod Contents
 pub mod Alone
 pub mod Promises
 pub mod Scheduled

@@ -3,6 +3,8 @@ use Rattle.std.specs.Prelude.{◌⊎◌, ℕ, List}
 use Rattle.outside_api.specs.Count.{HasRisen}
 use Rattle.outside_api.specs.Disk.{Files}
 use Rattle.depot_model.specs.Deeds.{Deed}
+use Rattle.depot_model.specs.Kept.{IsKept}
+use Rattle.depot_model.specs.Places.{Placed}
 use Rattle.recovery.specs.Looking.{OnlyReads}
 use Rattle.recovery.specs.Standing.{StandFor}
 
@@ -17,6 +19,10 @@ pub record IsStart {D : Type 0} (seen : D → Files → Type 0) (journal archive
 -- each pair of images that a crash may leave
 abbrev pub EachPair : {D : Type 0} → (D → Files → Type 0) → D → D → (Files → Files → Type 0) → Type 0
 EachPair may_leave journal archive P = (j a : Files) → may_leave journal j → may_leave archive a → P j a
+
+-- the pair is kept for the first k places: it stands for the depot after these, or for that depot with what one fault place among them would have done
+abbrev pub PairIsKept : List Deed → List Placed → ℕ → Files → Files → Type 0
+PairIsKept start places k journal archive = IsKept (λ d. StandFor d journal archive) start places k
 
 -- a count of the two disks has risen
 abbrev pub DiskRose : {D : Type 0} → (D → ℕ) → D → D → D → D → Type 0

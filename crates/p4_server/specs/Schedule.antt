@@ -1,13 +1,11 @@
 -- What the mode `schedule` promises: the headline, from each depot that the files stood for.
-use Rattle.std.specs.Prelude.{◌≡◌, ◌≢◌, ◌⊎◌, ℕ, true, List, [], ◌∷◌, length, map, Any, Option, Some, None}
+use Rattle.std.specs.Prelude.{◌≡◌, ◌≢◌, ◌⊎◌, ◌≤◌, ℕ, true, List, [], ◌∷◌, length, map, Any, Option, Some, None}
 use Rattle.outside_api.specs.Count.{HasRisen}
 use Rattle.outside_api.specs.Disk.{Files, NoMore}
 use Rattle.depot_model.specs.Deeds.{Deed}
-use Rattle.depot_model.specs.Kept.{IsKept}
 use Rattle.depot_model.specs.Places.{Placed}
 use Rattle.depot_model.specs.Run.{placed}
 use Rattle.recovery.specs.Opening.{LooksOnly}
-use Rattle.serial_depot.specs.Holding.{ImageHolds, IsKeptSometime}
 use Rattle.session_loop.specs.Asking.{asking_of}
 use Rattle.p4_server.specs.declared.ended.Ended.{Ended}
 use Rattle.p4_server.specs.declared.ended.PartyEnd.{PartyEnd}
@@ -16,7 +14,7 @@ use Rattle.p4_server.specs.declared.ended.Cause.TheVariants as causes
 use Rattle.p4_server.specs.declared.party.NotRun.{NotRun}
 use Rattle.p4_server.specs.declared.party.NotRun.TheVariants.{Doors, Memory}
 use Rattle.p4_server.specs.Ends.{has_fault_place}
-use Rattle.p4_server.specs.Files.{IsStart, DiskRose}
+use Rattle.p4_server.specs.Files.{IsStart, EachPair, PairIsKept, DiskRose}
 use Rattle.p4_server.specs.Headline.{IsPartyEnd, IsHeadline}
 use Rattle.p4_server.specs.Opening.{IsUnopened}
 use Rattle.p4_server.specs.Telling.{IsToldAlone, IsTold}
@@ -43,11 +41,11 @@ module _ {D S K : Type 0} (seen may_leave : D → Files → Type 0) (moment : D 
     pub looked : LooksOnly may_leave moment left_since journal opened
     pub durable : NoMore (seen journal) (may_leave opened)
 
-  -- After these places, from that depot on, each image of the journal's disk is kept for all of them, and each image of any moment since it was opened
-  -- for some of the first.
+  -- After these places, from that depot on, each pair of images is kept for all of them; and each image that the journal's disk left at any moment since it
+  -- was opened, with each image of the archive's disk, for some of the first.
   pub record AreKept (opened : D) (d : List Deed) (places : List Placed) : Type 0 where
-    pub exit : (image : Files) → may_leave ended.journal image → IsKept (ImageHolds image) d places (length places)
-    pub any_moment : (image : Files) → left_since ended.journal (moment opened) image → IsKeptSometime d places image
+    pub exit : EachPair may_leave ended.journal ended.archive (PairIsKept d places (length places))
+    pub any_moment : (j a : Files) → left_since ended.journal (moment opened) j → may_leave ended.archive a → (k : ℕ) × (k ≤ length places) × PairIsKept d places k j a
 
   -- A door failed, or there was no memory for the script: nothing was run.
   pub record IsShut : Type 0 where

@@ -1,5 +1,6 @@
 mod Groups
 mod Counts
+pub mod Contents
 pub mod Places
 pub mod Kept
 mod Steps

@@ -1,7 +1,8 @@
--- When an image of the journal's disk stands for a depot. That the counter `journal` is the generation is this project's own choice.
+-- When images of the two disks stand for a depot. That the counter `journal` is the generation is this project's own choice.
 use Rattle.std.specs.Prelude.{◌≡◌, ℕ, ◌≤◌, List, length, codes}
 use Rattle.outside_api.specs.Disk.{Files}
 use Rattle.db_records.specs.declared.key.Key.TheVariants as keys
+use Rattle.db_records.specs.declared.table.TableId.TheVariants.{Rev}
 use Rattle.disk_journal.specs.Images.{Committed, HasCommitted}
 use Rattle.table_changes.specs.Changed.{AllRows}
 use Rattle.depot_model.specs.Deeds.{Deed}
@@ -10,25 +11,32 @@ use Rattle.depot_model.specs.Places.{Placed}
 use Rattle.depot_model.specs.Records.{record_of}
 use Rattle.depot_model.specs.Rules.{value_of}
 use Rattle.depot_rows.specs.Standing.{Stand}
-use Rattle.recovery.specs.Holding.{HasAllRows}
+use Rattle.recovery.specs.Holding.{HasAllRows, spots_end}
+use Rattle.recovery.specs.Standing.{HasContents}
 
 -- the generation that a depot tells
 abbrev pub generation_in : List Deed → ℕ
 generation_in d = value_of (record_of d (keys.Counter (codes "journal")))
 
--- What is committed has rows that stand for the depot, in the generation that it tells.
-pub record Holds (d : List Deed) (was : Committed) : Type 0 where
+-- An image of the archive's disk has the contents of the depot at the spots of these rows, and no spot ends behind it.
+pub record HasItsContents (rows : AllRows) (d : List Deed) (archive : Files) : Type 0 where
+  pub within : spots_end (rows Rev) ≤ length (archive 0)
+  pub contents : HasContents (archive 0) rows d
+
+-- each of these images has them
+abbrev pub AllHaveContents : (Files → Type 0) → AllRows → List Deed → Type 0
+AllHaveContents archives rows d = (archive : Files) → archives archive → HasItsContents rows d archive
+
+-- An image of the journal's disk stands for the depot with each of these images of the archive's disk.
+pub record StandsWith (archives : Files → Type 0) (journal : Files) (d : List Deed) : Type 0 where
+  pub was : Committed
+  pub committed : HasCommitted was journal
   pub rows : AllRows
   pub has : HasAllRows was rows
   pub stand : Stand rows d
   pub generation : generation_in d ≡ was.generation
+  pub contents : AllHaveContents archives rows d
 
--- an image of the journal's disk has that
-pub record ImageHolds (image : Files) (d : List Deed) : Type 0 where
-  pub was : Committed
-  pub committed : HasCommitted was image
-  pub holds : Holds d was
-
--- an image of some moment: it is kept for some of the first places
-abbrev pub IsKeptSometime : List Deed → List Placed → Files → Type 0
-IsKeptSometime start places image = (k : ℕ) × (k ≤ length places) × IsKept (ImageHolds image) start places k
+-- an image of some moment: with these images of the archive's disk it is kept for some of the first places
+abbrev pub IsKeptSometime : (Files → Type 0) → List Deed → List Placed → Files → Type 0
+IsKeptSometime archives start places journal = (k : ℕ) × (k ≤ length places) × IsKept (StandsWith archives journal) start places k

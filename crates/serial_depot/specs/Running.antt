@@ -1,6 +1,7 @@
 -- A depot in files that has taken commands.
 use Rattle.std.specs.Prelude.{◌≡◌, ℕ, ◌≤◌, ◌+◌, true, List, [], ◌∷◌, ◌++◌, length, Some}
 use Rattle.outside_api.specs.Disk.{Files}
+use Rattle.archive_file.specs.Archive as archives
 use Rattle.db_records.specs.declared.change.Change.{Change}
 use Rattle.journal_groups.specs.Groups.{group_text, IsGroup}
 use Rattle.disk_journal.specs.Images.{Committed}
@@ -15,11 +16,11 @@ use Rattle.depot_model.specs.declared.request.Request.{Request}
 use Rattle.depot_rows.specs.Standing.{Stand}
 use Rattle.recovery.specs.Holding.{HasAllRows}
 use Rattle.serial_depot.specs.Counts.{AreCounts}
-use Rattle.serial_depot.specs.Holding.{generation_in, IsKeptSometime}
+use Rattle.serial_depot.specs.Holding.{generation_in, AllHaveContents, IsKeptSometime}
 use Rattle.serial_depot.specs.declared.depot.SerialDepot.{SerialDepot}
 
--- The group is that of the changes of a fault place, after which no place is a change.
-pub record IsOfFault (rows : AllRows) (was : Committed) (start : List Deed) (places : List Placed) (text : List ℕ) : Type 0 where
+-- The group is that of the changes of a fault place, after which no place is a change. These images of the archive's disk have the contents with it too.
+pub record IsOfFault (images : Files → Type 0) (rows : AllRows) (was : Committed) (start : List Deed) (places : List Placed) (text : List ℕ) : Type 0 where
   pub changes : List Change
   pub is_group : IsGroup changes
   pub text_is : text ≡ group_text (length was.groups + 1) changes
@@ -33,15 +34,17 @@ pub record IsOfFault (rows : AllRows) (was : Committed) (start : List Deed) (pla
   pub counts : AreCounts (step (taken step start before) request).deeds
   pub quiet : NoChange (taken step start before) later
   pub stand : Stand (changed_by rows changes) (after (taken step start places) (step (taken step start before) request).deeds)
+  pub contents : AllHaveContents images (changed_by rows changes) (after (taken step start places) (step (taken step start before) request).deeds)
 
 -- what is in doubt after places
-abbrev pub IsDoubtOf : AllRows → Committed → List Deed → List Placed → Doubtful → Type 0
-IsDoubtOf rows was start places nothing = Unit {0}
-IsDoubtOf rows was start places (group text) = IsOfFault rows was start places text
-IsDoubtOf rows was start places (opening checkpoint) = ⊥
+abbrev pub IsDoubtOf : (Files → Type 0) → AllRows → Committed → List Deed → List Placed → Doubtful → Type 0
+IsDoubtOf images rows was start places nothing = Unit {0}
+IsDoubtOf images rows was start places (group text) = IsOfFault images rows was start places text
+IsDoubtOf images rows was start places (opening checkpoint) = ⊥
 
 -- Since that moment the depot took the commands of these places, from the depot `start` on: its tables have the rows of the run, the journal has
--- them too and at most one group in doubt, and each image since is kept for some of the places.
+-- them too and at most one group in doubt, each image of the archive's disk has the contents, and each image of the journal's disk since is kept
+-- for some of the places.
 pub record HasRun {D : Type 0} (may_leave : D → Files → Type 0) (moment : D → ℕ) (left_since : D → ℕ → Files → Type 0) (depot : SerialDepot D) (since : ℕ) (start : List Deed) (places : List Placed) : Type 0 where
   pub was : Committed
   pub doubt : Doubtful
@@ -49,9 +52,10 @@ pub record HasRun {D : Type 0} (may_leave : D → Files → Type 0) (moment : D 
   pub has : HasAllRows was (rows_of depot.tables)
   pub stand : Stand (rows_of depot.tables) (taken step start places)
   pub generation : generation_in (taken step start places) ≡ was.generation
-  pub in_doubt : IsDoubtOf (rows_of depot.tables) was start places doubt
+  pub contents : AllHaveContents (may_leave (archives.disk_of depot.archive)) (rows_of depot.tables) (taken step start places)
+  pub in_doubt : IsDoubtOf (may_leave (archives.disk_of depot.archive)) (rows_of depot.tables) was start places doubt
   pub later : since ≤ moment depot.journal.disk
-  pub any_moment : (image : Files) → left_since depot.journal.disk since image → IsKeptSometime start places image
+  pub any_moment : (image : Files) → left_since depot.journal.disk since image → IsKeptSometime (may_leave (archives.disk_of depot.archive)) start places image
 
 -- the journal is one that can commit
 pub record CanCommit {D : Type 0} (may_leave : D → Files → Type 0) (depot : SerialDepot D) : Type 0 where

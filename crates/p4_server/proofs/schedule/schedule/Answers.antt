@@ -1,4 +1,5 @@
 use Rattle.std.proofs.Common.{◌∙◌, ap, refl, Err}
+use Rattle.archive_file.specs.Archive as archives
 use Rattle.disk_journal.specs.Stands.{disk_of}
 use Rattle.serial_depot.specs.declared.depot.SerialDepot.{SerialDepot}
 use Rattle.p4_server.proofs.Openings.{unopened_of}
@@ -22,8 +23,8 @@ returns-in-Ok-run-clause-schedules g c =
     let opened = disk_of c.in-Ok.opened.journal in
     schedules_run _ _ _ _ _ _ _ _ _ _ _ _ _ _ _ _ _ _ c.args.name.now _ (run_of _ _ _ _ _ _ _ _ _ _ _ _ _ _ _ _ _ _ c.args.name.now _
     c.run_party-run.new.taker opened (g.D.Disk.faults (disk_of c.new-depot.result.journal)) party.order party.party party.source
-    (end.journal ∙ c.close-journal.ensures.journal) (is_opened _ _ _ _ _ _ _ _ _ _ _ _ _ _ _ _ _ _ c.args.name.now _ c.in-Ok.opened opens.exactly opens.journal_looks opens.journal_synced) end.order run.end
-    (λ d start. run.run (g.D.Disk.moment opened) d (begins g.D.Disk.seen g.D.Disk.may_leave g.D.Disk.moment g.D.Disk.left_since c.args.journal c.args.archive c.in-Ok.opened c.new-depot.result c.new-depot.ensures opens.«open» opens.journal_synced g.met.D.Disk.reads_an_image g.met.D.Disk.only_now
+    (end.journal ∙ c.close-journal.ensures.journal) (end.archive ∙ c.close-journal.ensures.archive) (is_opened _ _ _ _ _ _ _ _ _ _ _ _ _ _ _ _ _ _ c.args.name.now _ c.in-Ok.opened opens.exactly opens.journal_looks opens.journal_synced) end.order run.end
+    (λ d start. run.run (g.D.Disk.moment opened) d (begins g.D.Disk.seen g.D.Disk.may_leave g.D.Disk.moment g.D.Disk.left_since c.args.journal c.args.archive c.in-Ok.opened c.new-depot.result c.new-depot.ensures opens.«open» opens.journal_synced opens.archive_synced g.met.D.Disk.reads_an_image g.met.D.Disk.only_now g.met.D.Disk.reads_one opens.held
     (λ j a d j_reads a_reads stand. (opens.stands j a d j_reads a_reads stand).1) d start))
     (rw c.new-depot.ensures opens.cause.journal_never_falls) run.faults end.told)
 
@@ -39,7 +40,8 @@ returns-in-Err-run-clause-schedules g c =
       opened = opened;
       is_opened = is_opened _ _ _ _ _ _ _ _ _ _ _ _ _ _ _ _ _ _ c.args.name.now _ c.in-Ok.opened opens.exactly opens.journal_looks opens.journal_synced;
       kept = λ d start. are_kept _ _ _ _ _ _ _ _ _ _ _ _ _ _ _ _ _ _ c.args.name.now _ c.new-depot.result opened
-          (end.journal ∙ (c.close-journal.ensures.journal ∙ ap (λ (depot : SerialDepot g.row.D.Denot). disk_of depot.journal) (run.unrun c.in-Err-run.why refl))) d _
-          (begins g.D.Disk.seen g.D.Disk.may_leave g.D.Disk.moment g.D.Disk.left_since c.args.journal c.args.archive c.in-Ok.opened c.new-depot.result c.new-depot.ensures opens.«open» opens.journal_synced g.met.D.Disk.reads_an_image g.met.D.Disk.only_now
+          (end.journal ∙ (c.close-journal.ensures.journal ∙ ap (λ (depot : SerialDepot g.row.D.Denot). disk_of depot.journal) (run.unrun c.in-Err-run.why refl)))
+          (end.archive ∙ (c.close-journal.ensures.archive ∙ ap (λ (depot : SerialDepot g.row.D.Denot). archives.disk_of depot.archive) (run.unrun c.in-Err-run.why refl))) d _
+          (begins g.D.Disk.seen g.D.Disk.may_leave g.D.Disk.moment g.D.Disk.left_since c.args.journal c.args.archive c.in-Ok.opened c.new-depot.result c.new-depot.ensures opens.«open» opens.journal_synced opens.archive_synced g.met.D.Disk.reads_an_image g.met.D.Disk.only_now g.met.D.Disk.reads_one opens.held
           (λ j a d j_reads a_reads stand. (opens.stands j a d j_reads a_reads stand).1) d start);
     })
