@@ -4,6 +4,7 @@ use crate::{
     Entry, Head, ReadScript, ScriptEnd, ScriptFault, ScriptFaultKind, ScriptReader, read_script,
 };
 use depot_model::Line;
+use depot_path::Text;
 use outside_api::{Failed, Source};
 use std::test::Fail;
 
@@ -164,6 +165,22 @@ fn each_fault_stands_at_its_place(rt: HostRuntime) -> Result<(), Fail> {
         let read = read(&rt, script, 3)?;
         assert_eq!(rt; read.end, ScriptEnd::Fault(ScriptFault { what, place }));
         assert_eq!(rt; read.entries.len(), 0);
+    }
+    Ok(())
+}
+
+#[test]
+fn a_block_may_have_its_most_bytes(rt: HostRuntime) -> Result<(), Fail> {
+    let mut script = Text::from_bytes(rt.alloc(), b"session a w h\ninput 8388608\n")?;
+    for _ in 0..1024 {
+        script.append(&[b'x'; 8192])?;
+    }
+    script.append(b"\np4 x\n")?;
+    let read = read(&rt, script.as_bytes(), 1_000_000)?;
+    assert_eq!(rt; read.end, ScriptEnd::Whole);
+    assert_eq!(rt; read.entries.len(), 1);
+    for entry in read.entries.as_slice() {
+        assert_eq!(rt; shown(entry).1.len(), 8_388_608);
     }
     Ok(())
 }
