@@ -1,0 +1,12 @@
+pub mod Deciding
+pub mod Rows
+pub mod Bases
+pub mod FirstKeys
+pub mod Decimals
+pub mod Digits
+pub mod FormRows
+pub mod Found
+pub mod Joined
+pub mod UpTo
+pub mod OneLock
+pub mod Decided

@@ -1,0 +1,24 @@
+//! Whether the rows of tables keep the rules, so that some depot has them.
+//!
+//! Each call answers for all tables. The one error is want of memory.
+#![tactic(auto)]
+
+mod files;
+mod forms;
+mod integrations;
+mod keeping;
+mod locks;
+mod lookups;
+mod numerals;
+mod revisions;
+mod rules;
+mod shelves;
+mod simple;
+mod texts;
+mod types;
+mod walks;
+
+pub use rules::rows_keep_rules;
+
+#[cfg(test)]
+mod tests;

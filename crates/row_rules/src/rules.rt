@@ -1,0 +1,107 @@
+//! The rules of the rows of all tables.
+
+ghost use Rattle.std.specs.Prelude.{◌≡◌, ◌≤◌, ◌&&◌, ◌↔◌, IfOk, IsTrue};
+ghost use Rattle.std.specs.List.{list_all};
+ghost use Rattle.db_records.specs.declared.table.TableId.{TableId as Id};
+ghost use Rattle.table_store.specs.Rows.{AllOfTable, IsRising};
+ghost use Rattle.table_store.specs.Tables.{version_of};
+ghost use Rattle.depot_model.specs.Rules.{top_in};
+ghost use Rattle.row_rules.specs.Kept.{KeepRowRules};
+ghost use Rattle.row_rules.specs.Stored.{stored};
+ghost use Rattle.row_rules.specs.Tests.{keeps as keeps_test};
+ghost use Rattle.row_rules.specs.Walking.{table_ids};
+
+use crate::keeping::all_keep;
+use crate::locks::locks_are_apart;
+use crate::lookups::value_of;
+use db_records::TableId;
+use std::alloc::{AllocError, Global};
+use table_store::Tables;
+
+/// The rows of a table are of it, and their keys rise.
+fn is_in_order(tables: &Tables, table: TableId)
+    ensures of_table { AllOfTable table (version_of tables.now table).rows }
+    ensures rising { IsRising (version_of tables.now table).rows }
+{
+    let version = tables.version(table);
+    let _table = version.table();
+}
+
+/// The rows of each table are of it, and their keys rise.
+fn are_in_order(tables: &Tables)
+    ensures of_table { (table : Id) → AllOfTable table (version_of tables.now table).rows }
+    ensures rising { (table : Id) → IsRising (version_of tables.now table).rows }
+{
+    is_in_order(tables, TableId::Counter);
+    is_in_order(tables, TableId::Group);
+    is_in_order(tables, TableId::Protect);
+    is_in_order(tables, TableId::Domain);
+    is_in_order(tables, TableId::Have);
+    is_in_order(tables, TableId::Label);
+    is_in_order(tables, TableId::Integed);
+    is_in_order(tables, TableId::Resolve);
+    is_in_order(tables, TableId::Working);
+    is_in_order(tables, TableId::Change);
+    is_in_order(tables, TableId::Rev);
+}
+
+/// Whether all rows of a table keep their rules, and others do.
+fn keep_too(
+    alloc: Global,
+    tables: &Tables,
+    top: u32,
+    table: TableId,
+    others: bool,
+) -> Result<bool, AllocError>
+    requires small { top ≤ 2147483647 }
+    requires top { top ≡ top_in (stored tables.now) }
+    ensures { IfOk result (λ keep. keep ≡ (list_all (keeps_test (stored tables.now)) (version_of tables.now table).rows && others)) }
+{
+    let keep = all_keep(alloc, tables, top, table)?;
+    Ok(keep && others)
+}
+
+/// Whether the rows of all tables keep their rules, where `top` is the greatest number ever used.
+fn tables_keep(alloc: Global, tables: &Tables, top: u32) -> Result<bool, AllocError>
+    requires small { top ≤ 2147483647 }
+    requires top { top ≡ top_in (stored tables.now) }
+    ensures { IfOk result (λ keep. keep ≡ list_all (λ table. list_all (keeps_test (stored tables.now)) (version_of tables.now table).rows) table_ids) }
+{
+    let rev = keep_too(alloc, tables, top, TableId::Rev, true)?;
+    let change = keep_too(alloc, tables, top, TableId::Change, rev)?;
+    let working = keep_too(alloc, tables, top, TableId::Working, change)?;
+    let resolve = keep_too(alloc, tables, top, TableId::Resolve, working)?;
+    let integed = keep_too(alloc, tables, top, TableId::Integed, resolve)?;
+    let label = keep_too(alloc, tables, top, TableId::Label, integed)?;
+    let have = keep_too(alloc, tables, top, TableId::Have, label)?;
+    let domain = keep_too(alloc, tables, top, TableId::Domain, have)?;
+    let protect = keep_too(alloc, tables, top, TableId::Protect, domain)?;
+    let group = keep_too(alloc, tables, top, TableId::Group, protect)?;
+    let counter = keep_too(alloc, tables, top, TableId::Counter, group)?;
+    Ok(counter)
+}
+
+/// Whether both hold.
+fn both(first: bool, second: bool) -> bool
+    ensures { result ≡ (first && second) }
+{
+    first && second
+}
+
+/// Whether the rows of the tables keep the rules, but for how many fixes a change has. The one error is want of memory.
+pub fn rows_keep_rules(alloc: Global, tables: &Tables) -> Result<bool, AllocError>
+    ensures { IfOk result (λ keep. IsTrue keep ↔ KeepRowRules (stored tables.now)) }
+{
+    let top = value_of(alloc, tables, b"change")?;
+    if top > 2_147_483_647 {
+        return Ok(false);
+    }
+    let generation = value_of(alloc, tables, b"journal")?;
+    if generation > 4095 {
+        return Ok(false);
+    }
+    are_in_order(tables);
+    let keep = tables_keep(alloc, tables, top as u32)?;
+    let apart = locks_are_apart(alloc, tables)?;
+    Ok(both(keep, apart))
+}
