@@ -1,5 +1,5 @@
 -- The rows of groups list the groups of a user that the depot has.
-use Rattle.std.proofs.Common.{◌≡◌, ℕ, Bool, true, false, ◌&&◌, ◌||◌, cond, IsTrue, List, [], ◌∷◌, ◌++◌, map, Option, Some, None, refl, sym, ap, ◌∙◌, subst}
+use Rattle.std.proofs.Common.{◌≡◌, ℕ, Bool, true, false, ◌&&◌, ◌||◌, cond, List, [], ◌∷◌, ◌++◌, map, Option, Some, None, refl, sym, ap, ◌∙◌, subst}
 use Rattle.std.specs.Prelude.{IfSome, filter, if◌then◌else◌, option_and_then, unwrap_or}
 use Rattle.std.specs.List.{list_any}
 use Rattle.std.specs.Option.{option_or}
@@ -30,7 +30,7 @@ use Rattle.depot_model.specs.Latest.{keys_of, group_name, group_said, latest, us
 use Rattle.depot_model.specs.Records.{record_of}
 use Rattle.depot_model.specs.Rules.{IsRow, IsSound}
 use Rattle.depot_model.specs.Sorted.{inserted}
-use Rattle.row_reads.specs.Groups.{group_of, groups_in}
+use Rattle.row_reads.specs.Groups.{groups_in}
 use Rattle.depot_rows.specs.Standing.{unplaced_at}
 use Rattle.row_reads.proofs.Alike.{itself, rows_alike, above_all, here, behind, unplaced_row}
 
@@ -336,6 +336,17 @@ module _ (user : List ℕ) where
         let P : Bool → Type 0 = λ b. IfSome (if b then Some (row_in g) else None) (IsRow (record_of d)) in
         let kept : IsRow (record_of d) (row_in g) = subst P is (sound.rules.each (key_in g)) in kept.0
 
+    -- their rows
+    own_at : (g : List ℕ) (b : Bool) → lists g ≡ b → row_at (key_in g) (rows_in groups) ≡ (if b then Some (row_in g) else None)
+    own_at g true e = is_there lists g (keys_of group_name d) e (said g d e)
+    own_at g false e = is_not_there lists g (keys_of group_name d) e
+
+    own_rise : IsRising (rows_in groups)
+    own_rise = passing_rise lists (keys_of group_name d) (names_rise d)
+
+    own_names : groups_in user (rows_in groups) ≡ groups
+    own_names = named_in groups (all_named lists listed_name (keys_of group_name d))
+
     module _ (rows : List Record) (up : IsRising rows) (of : AllOfTable tables.Group rows) (has : (key : Key) → key_table key ≡ tables.Group → row_at key rows ≡ record_of d key) where
       abbrev row_for : List ℕ → List ℕ → Bool → Option Record
       row_for g u b = if b then Some (records.Group (record { group = g; user = u })) else None
@@ -343,9 +354,9 @@ module _ (user : List ℕ) where
       abbrev passed : Option Record → Option Record
       passed found = option_and_then (λ x. if is_of x then Some x else None) found
 
-      own_at : (g : List ℕ) (b : Bool) → lists g ≡ b → passed (row_for g user b) ≡ row_at (key_in g) (rows_in groups)
-      own_at g true e = ap (λ b. if b then Some (row_in g) else None) (same_self user) ∙ sym (is_there lists g (keys_of group_name d) e (said g d e))
-      own_at g false e = sym (is_not_there lists g (keys_of group_name d) e)
+      passed_at : (g : List ℕ) (b : Bool) → lists g ≡ b → passed (row_for g user b) ≡ row_at (key_in g) (rows_in groups)
+      passed_at g true e = ap (λ b. if b then Some (row_in g) else None) (same_self user) ∙ sym (own_at g true e)
+      passed_at g false e = sym (own_at g false e)
 
       apart : (g u : List ℕ) (b : Bool) → same user u ≡ false → passed (row_for g u b) ≡ None
       apart g u true e = ap (λ b. if b then Some (records.Group (record { group = g; user = u })) else None) e
@@ -354,7 +365,7 @@ module _ (user : List ℕ) where
       found_at : (g u : List ℕ) (b : Bool) → same user u ≡ b → row_at (keys.Group g u) (filter is_of rows) ≡ row_at (keys.Group g u) (rows_in groups)
       found_at g u true e =
           let P : List ℕ → Type 0 = λ x. row_at (keys.Group g x) (filter is_of rows) ≡ row_at (keys.Group g x) (rows_in groups) in
-          subst P (same_text user u e) (kept_at is_of (key_in g) rows up ∙ ap passed (has (key_in g) refl) ∙ own_at g (lists g) refl)
+          subst P (same_text user u e) (kept_at is_of (key_in g) rows up ∙ ap passed (has (key_in g) refl) ∙ passed_at g (lists g) refl)
       found_at g u false e =
           kept_at is_of (keys.Group g u) rows up ∙ ap passed (has (keys.Group g u) refl) ∙ apart g u (list_any (same u) (users d g)) e
           ∙ sym (of_no_other g u groups (λ k. let h : true ≡ false = sym ((bytes_eq-Decides user u).1 k) ∙ e in cc))
@@ -375,8 +386,39 @@ module _ (user : List ℕ) where
       pub groups_listed : groups_in user rows ≡ groups_of d user
       groups_listed =
           let alike = rows_alike tables.Group (filter is_of rows) (rows_in groups) (kept_rise is_of rows up)
-          (passing_rise lists (keys_of group_name d) (names_rise d)) (kept_of is_of tables.Group rows of) (are_groups groups) at_key in
-          groups_of_rows rows ∙ ap (λ rs. groups_in user rs) alike ∙ named_in groups (all_named lists listed_name (keys_of group_name d))
+          own_rise (kept_of is_of tables.Group rows of) (are_groups groups) at_key in
+          groups_of_rows rows ∙ ap (λ rs. groups_in user rs) alike ∙ own_names
+
+-- depots with the same rows have the same groups of a user
+module _ (user : List ℕ) (d e : List Deed) (left : IsSound d) (right : IsSound e) (same_rows : (key : Key) → record_of d key ≡ record_of e key) where
+  alike_at : (g u : List ℕ) (b : Bool) → same user u ≡ b
+      → row_at (keys.Group g u) (rows_in user (groups user d left)) ≡ row_at (keys.Group g u) (rows_in user (groups user e right))
+  alike_at g u true k =
+      let P : List ℕ → Type 0 = λ x. row_at (keys.Group g x) (rows_in user (groups user d left)) ≡ row_at (keys.Group g x) (rows_in user (groups user e right)) in
+      subst P (same_text user u k)
+      (own_at user d left g (lists user d left g) refl ∙ same_rows (keys.Group g user) ∙ sym (own_at user e right g (lists user e right g) refl))
+  alike_at g u false k =
+      let other : user ≡ u → ⊥ = λ is. let h : true ≡ false = sym ((bytes_eq-Decides user u).1 is) ∙ k in cc in
+      of_no_other user g u (groups user d left) other ∙ sym (of_no_other user g u (groups user e right) other)
+
+  alike_key : (key : Key) → key_table key ≡ tables.Group → row_at key (rows_in user (groups user d left)) ≡ row_at key (rows_in user (groups user e right))
+  alike_key (keys.Group g u) k = alike_at g u (same user u) refl
+  alike_key (keys.Counter name) k = absurd cc
+  alike_key (keys.Protect n) k = absurd cc
+  alike_key (keys.Domain a b) k = absurd cc
+  alike_key (keys.Have a b) k = absurd cc
+  alike_key (keys.Label a b) k = absurd cc
+  alike_key (keys.Integed a b x y u v) k = absurd cc
+  alike_key (keys.Resolve a b x) k = absurd cc
+  alike_key (keys.Working a b) k = absurd cc
+  alike_key (keys.Change n) k = absurd cc
+  alike_key (keys.Rev a n) k = absurd cc
+
+  pub same_groups : groups_of d user ≡ groups_of e user
+  same_groups =
+      let alike = rows_alike tables.Group (rows_in user (groups user d left)) (rows_in user (groups user e right)) (own_rise user d left) (own_rise user e right)
+      (are_groups user (groups user d left)) (are_groups user (groups user e right)) alike_key in
+      sym (own_names user d left) ∙ ap (λ rs. groups_in user rs) alike ∙ own_names user e right
 
 pub groups_told : (version : TableRows) (rows : List Record) → version.rows ≡ rows → version.table ≡ tables.Group → AllOfTable version.table version.rows
     → IsRising version.rows → (d : List Deed) → IsSound d → ((key : Key) → key_table key ≡ tables.Group → unplaced_at rows key ≡ record_of d key)

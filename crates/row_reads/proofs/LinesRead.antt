@@ -1,13 +1,12 @@
 -- The rows of the protections spell the lines of the depot.
-use Rattle.std.proofs.Common.{◌≡◌, ℕ, zero, suc, ◌+◌, ◌<◌, ◌≤◌, Bool, true, false, IsTrue, List, [], ◌∷◌, length, Option, Some, None, Result, Ok, Err, refl, sym, ap, ◌∙◌, subst, arith}
+use Rattle.std.proofs.Common.{◌≡◌, ℕ, zero, suc, ◌+◌, ◌<◌, Bool, true, false, IsTrue, List, [], ◌∷◌, length, Option, Some, None, Result, Ok, Err, refl, sym, ap, ◌∙◌, subst, arith}
 use Rattle.std.specs.Prelude.{IfSome, is_ok, slice_get, option_and_then, nat_lt, if◌then◌else◌}
-use Rattle.std.specs.Ordering.{nat_cmp}
 use Rattle.std.specs.Cmp.{nat_cmp_is}
 use Rattle.std.specs.declared.cmp.Ordering.TheVariants.{Less, Equal, Greater}
 use Rattle.std.proofs.lemmas.Option.{slice_get_within}
 use Rattle.std.proofs.lemmas.Bool.Decides.{nat_tests}
 use Rattle.depot_path.specs.Answers.{◌>>=◌, on_ok, on_err}
-use Rattle.protect_table.specs.Line.{required, read_word, name_of, last_word, pattern_in, make_line, line_of_words, line_of, in_line, lines_from, table_of}
+use Rattle.protect_table.specs.Line.{required, read_word, name_of, last_word, pattern_in, make_line, line_of_words, line_of, in_line, lines_from}
 use Rattle.protect_table.specs.Mode.{mode_of, grantee_of}
 use Rattle.protect_table.specs.Words.{words_of}
 use Rattle.protect_table.specs.declared.fault.LineFault.{LineFault}
@@ -27,7 +26,7 @@ use Rattle.depot_model.specs.Asking.{read_lines, lines_or_none, protects}
 use Rattle.depot_model.specs.Deeds.{Deed}
 use Rattle.depot_model.specs.Latest.{guard_lines}
 use Rattle.depot_model.specs.Records.{record_of, protect_record}
-use Rattle.depot_model.specs.Rules.{Rows, IsRow, IsSound, line_text, line_words}
+use Rattle.depot_model.specs.Rules.{Rows, IsRow, IsSound, line_text}
 use Rattle.row_reads.specs.Lines.{texts_in}
 use Rattle.depot_rows.specs.Standing.{unplaced_at}
 use Rattle.row_reads.proofs.Alike.{rows_alike, above_all, here, behind, unplaced_row}
@@ -176,28 +175,42 @@ module _ (d : List Deed) (sound : IsSound d) where
   all = all_spelled (record_of d) 0 (guard_lines d) (all_read 1 (guard_lines d) sound.lines_read)
       (λ i j line e h. let P : ℕ → Type 0 = λ k. IfSome (protect_record (suc k) (words_of line)) (IsRow (record_of d)) in let same : i ≡ j = omega arith in subst P same (line_kept i line h))
 
-  in_table : (rows : List Record) → ((key : Key) → key_table key ≡ tables.Protect → row_at key rows ≡ record_of d key)
-      → (key : Key) → key_table key ≡ tables.Protect → row_at key rows ≡ row_at key (rows_from_lines 1 (guard_lines d) all)
-  in_table rows has (keys.Protect zero) of =
-      has (keys.Protect 0) refl ∙ sym (above_all (keys.Protect 0) (rows_from_lines 1 (guard_lines d) all) (all_above 0 1 (guard_lines d) all (omega arith)))
-  in_table rows has (keys.Protect (suc n)) of = has (keys.Protect (suc n)) refl ∙ sym (line_at n (suc n) 1 (guard_lines d) all (omega arith))
-  in_table rows has (keys.Counter name) of = absurd cc
-  in_table rows has (keys.Group a b) of = absurd cc
-  in_table rows has (keys.Domain a b) of = absurd cc
-  in_table rows has (keys.Have a b) of = absurd cc
-  in_table rows has (keys.Label a b) of = absurd cc
-  in_table rows has (keys.Integed a b x y u v) of = absurd cc
-  in_table rows has (keys.Resolve a b x) of = absurd cc
-  in_table rows has (keys.Working a b) of = absurd cc
-  in_table rows has (keys.Change n) of = absurd cc
-  in_table rows has (keys.Rev a n) of = absurd cc
+  -- the rows of the lines are those of the depot
+  abbrev own_rows : List Record
+  own_rows = rows_from_lines 1 (guard_lines d) all
+
+  own_at : (key : Key) → key_table key ≡ tables.Protect → row_at key own_rows ≡ record_of d key
+  own_at (keys.Protect zero) of = above_all (keys.Protect 0) own_rows (all_above 0 1 (guard_lines d) all (omega arith))
+  own_at (keys.Protect (suc n)) of = line_at n (suc n) 1 (guard_lines d) all (omega arith)
+  own_at (keys.Counter name) of = absurd cc
+  own_at (keys.Group a b) of = absurd cc
+  own_at (keys.Domain a b) of = absurd cc
+  own_at (keys.Have a b) of = absurd cc
+  own_at (keys.Label a b) of = absurd cc
+  own_at (keys.Integed a b x y u v) of = absurd cc
+  own_at (keys.Resolve a b x) of = absurd cc
+  own_at (keys.Working a b) of = absurd cc
+  own_at (keys.Change n) of = absurd cc
+  own_at (keys.Rev a n) of = absurd cc
+
+  own_rise : IsRising own_rows
+  own_rise = lines_rise 1 (guard_lines d) all
+
+  own_lines : AllOfTable tables.Protect own_rows
+  own_lines = are_lines 1 (guard_lines d) all
 
   pub rows_read : (rows : List Record) → IsRising rows → AllOfTable tables.Protect rows
       → ((key : Key) → key_table key ≡ tables.Protect → row_at key rows ≡ record_of d key) → read_lines (texts_in rows) ≡ protects d
   rows_read rows up of has =
-      let alike = rows_alike tables.Protect rows (rows_from_lines 1 (guard_lines d) all) up (lines_rise 1 (guard_lines d) all) of
-      (are_lines 1 (guard_lines d) all) (in_table rows has) in
+      let alike = rows_alike tables.Protect rows own_rows up own_rise of own_lines (λ key k. has key k ∙ sym (own_at key k)) in
       ap (λ rs. read_lines (texts_in rs)) alike ∙ ap lines_or_none (read_alike 1 1 (guard_lines d) all)
+
+-- depots with the same rows have the same protections
+pub same_protects : (d e : List Deed) → IsSound d → IsSound e → ((key : Key) → record_of d key ≡ record_of e key) → protects d ≡ protects e
+same_protects d e left right same_rows =
+    let rows = own_rows d left in
+    sym (rows_read d left rows (own_rise d left) (own_lines d left) (own_at d left))
+    ∙ rows_read e right rows (own_rise d left) (own_lines d left) (λ key k. own_at d left key k ∙ same_rows key)
 
 pub lines_spelled : (version : TableRows) (rows : List Record) → version.rows ≡ rows → version.table ≡ tables.Protect → AllOfTable version.table version.rows
     → IsRising version.rows → (d : List Deed) → IsSound d → ((key : Key) → key_table key ≡ tables.Protect → unplaced_at rows key ≡ record_of d key)

@@ -1,5 +1,5 @@
 -- The row of a client's form has the client's view.
-use Rattle.std.proofs.Common.{◌≡◌, ℕ, Bool, true, false, List, [], Option, Some, None, Result, Ok, Err, refl, sym, ap, ◌∙◌, subst}
+use Rattle.std.proofs.Common.{◌≡◌, ℕ, List, [], Option, Some, None, Result, Ok, Err, refl, sym, ap, ◌∙◌, subst}
 use Rattle.std.specs.Prelude.{IfSome, codes, option_map, is_some, if◌then◌else◌}
 use Rattle.spec_form.specs.Form.{FormValue, lines_of}
 use Rattle.spec_form.specs.Printing.{printed_form}

@@ -1,5 +1,5 @@
 -- All rows of a table stand from its first key on.
-use Rattle.std.proofs.Common.{◌≡◌, ℕ, zero, suc, Bool, true, false, not, cond, List, [], ◌∷◌, refl, sym, ap, ◌∙◌, arith}
+use Rattle.std.proofs.Common.{◌≡◌, ℕ, zero, suc, false, List, [], ◌∷◌, refl, sym, ap, arith}
 use Rattle.std.specs.Ordering.{is_lt}
 use Rattle.std.specs.Cmp.{nat_cmp_is}
 use Rattle.std.specs.declared.cmp.Ordering.TheVariants.{Greater}
@@ -9,8 +9,8 @@ use Rattle.db_records.specs.declared.record.Record.{Record}
 use Rattle.db_records.specs.declared.record.Record.TheVariants as records
 use Rattle.db_records.specs.declared.table.TableId.{TableId}
 use Rattle.db_records.specs.declared.table.TableId.TheVariants as tables
-use Rattle.db_records.specs.Key.{key_cmp, key_table}
-use Rattle.db_records.specs.Record.{key_of, table_of}
+use Rattle.db_records.specs.Key.{key_cmp}
+use Rattle.db_records.specs.Record.{table_of}
 use Rattle.table_store.specs.Rows.{AllOfTable, rows_from, is_below}
 
 all_from : (t : TableId) (key : Key) → ((r : Record) → table_of r ≡ t → is_below key r ≡ false) → (rows : List Record) → AllOfTable t rows → rows_from key rows ≡ rows
