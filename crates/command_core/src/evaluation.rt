@@ -1,16 +1,15 @@
 //! What a request does.
 
-ghost use Rattle.std.specs.Prelude.{◌≡◌, List, [], ◌∷◌, map, IfOk, codes};
+ghost use Rattle.std.specs.Prelude.{◌≡◌, List, [], ◌∷◌, map, None, IfOk, IfSome, codes, true, false};
 ghost use Rattle.table_changes.specs.Changed.{AllFitIn, rows_of};
 ghost use Rattle.depot_model.specs.About.{about};
 ghost use Rattle.depot_model.specs.Built.{is_built};
-ghost use Rattle.depot_model.specs.Commands.{built_step, step};
+ghost use Rattle.depot_model.specs.Commands.{built_step, own_step as own_step_of, step};
 ghost use Rattle.depot_model.specs.Counts.{count_deed};
 ghost use Rattle.depot_model.specs.Deeds.{Deed};
 ghost use Rattle.depot_model.specs.Refusals.{refusal_row};
 ghost use Rattle.depot_model.specs.Rules.{IsSound};
 ghost use Rattle.depot_model.specs.Step.{after};
-ghost use Rattle.depot_model.specs.declared.command.Command.TheVariants as commands;
 ghost use Rattle.depot_model.specs.declared.refusal.Refusal.TheVariants as refusals;
 ghost use Rattle.row_changes.specs.Differences.{AreDifferences};
 ghost use Rattle.command_core.specs.Outcomes.{HasNeeded, HasTouched, IsOutcome, IsStep};
@@ -19,7 +18,7 @@ use crate::outcome::Outcome;
 use crate::refusals::{denied_row, unbuilt_row, word_row};
 use crate::rights::may_anywhere;
 use depot_model::{Command, Reply, Request};
-use depot_path::{Name, Sequence};
+use depot_path::Sequence;
 use protect_table::Level;
 use row_changes::counter_changes;
 use spec_ops::{Step, counter_delete, counter_set, counter_show};
@@ -34,60 +33,38 @@ fn denied(alloc: Global, need: Level) -> Result<Step, AllocError>
     Step::tells(alloc, denied_row(alloc, need)?)
 }
 
-/// `counter NAME`, where the caller may list.
-fn show(alloc: Global, tables: &Tables, request: &Request, name: &Name) -> Result<Step, AllocError>
-    ensures { IfOk result (λ step. (d : List Deed) → IsSound d → HasTouched (rows_of tables.now) d (commands.CounterShow name.now) →
-        IsStep (built_step is_built d request.now (commands.CounterShow name.now)) step) }
+/// The right that a command needs somewhere, where it is built.
+fn need_of(command: &Command) -> Option<Level>
+    ensures need { IfSome result (λ need. (is_built command.now ≡ true) × (need.0 ≡ (about command.now).need)) }
+    ensures none { result ≡ None → is_built command.now ≡ false }
 {
-    let need = Level(1);
-    let may = may_anywhere(alloc, tables, &request.caller, need)?;
-    if !may {
-        let refused = denied(alloc, need)?;
-        return Ok(refused);
+    match command {
+        Command::CounterShow { .. } => Some(Level(1)),
+        Command::CounterSet { .. } => Some(Level(4)),
+        Command::CounterDelete { .. } => Some(Level(4)),
+        _ => None,
     }
-    let step = counter_show(alloc, tables, name)?;
-    Ok(step)
 }
 
-/// `counter NAME VALUE`, where the caller may write.
-fn set(
+/// What a command that is built does where no refusal holds that is common to all.
+fn own_step(
     alloc: Global,
     tables: &Tables,
     request: &Request,
-    name: &Name,
-    value: u64,
+    command: &Command,
 ) -> Result<Step, AllocError>
-    ensures { IfOk result (λ step. (d : List Deed) → IsSound d → HasTouched (rows_of tables.now) d (commands.CounterSet name.now value) →
-        IsStep (built_step is_built d request.now (commands.CounterSet name.now value)) step) }
+    ensures { IfOk result (λ step. (d : List Deed) → is_built command.now ≡ true → HasTouched (rows_of tables.now) d command.now →
+        IsStep (own_step_of d request.now command.now) step) }
 {
-    let need = Level(4);
-    let may = may_anywhere(alloc, tables, &request.caller, need)?;
-    if !may {
-        let refused = denied(alloc, need)?;
-        return Ok(refused);
+    match command {
+        Command::CounterShow { name } => {
+            let shown = counter_show(alloc, tables, name)?;
+            Ok(shown)
+        }
+        Command::CounterSet { name, value } => counter_set(alloc, name, *value),
+        Command::CounterDelete { name } => counter_delete(alloc, name),
+        _ => unbuilt(alloc, command),
     }
-    let step = counter_set(alloc, name, value)?;
-    Ok(step)
-}
-
-/// `counter -d NAME`, where the caller may write.
-fn delete(
-    alloc: Global,
-    tables: &Tables,
-    request: &Request,
-    name: &Name,
-) -> Result<Step, AllocError>
-    ensures { IfOk result (λ step. (d : List Deed) → IsSound d → HasTouched (rows_of tables.now) d (commands.CounterDelete name.now) →
-        IsStep (built_step is_built d request.now (commands.CounterDelete name.now)) step) }
-{
-    let need = Level(4);
-    let may = may_anywhere(alloc, tables, &request.caller, need)?;
-    if !may {
-        let refused = denied(alloc, need)?;
-        return Ok(refused);
-    }
-    let step = counter_delete(alloc, name)?;
-    Ok(step)
 }
 
 /// The step of a command that isn't built.
@@ -98,7 +75,7 @@ fn unbuilt(alloc: Global, command: &Command) -> Result<Step, AllocError>
     Step::tells(alloc, unbuilt_row(alloc, command.word().as_bytes())?)
 }
 
-/// The step of a command.
+/// The step of a command: the first refusal that holds, or else its own step.
 fn command_step(
     alloc: Global,
     tables: &Tables,
@@ -107,24 +84,17 @@ fn command_step(
 ) -> Result<Step, AllocError>
     ensures { IfOk result (λ step. (d : List Deed) → IsSound d → HasTouched (rows_of tables.now) d command.now → IsStep (built_step is_built d request.now command.now) step) }
 {
-    match command {
-        Command::CounterShow { name } => {
-            let step = show(alloc, tables, request, name)?;
-            Ok(step)
-        }
-        Command::CounterSet { name, value } => {
-            let step = set(alloc, tables, request, name, *value)?;
-            Ok(step)
-        }
-        Command::CounterDelete { name } => {
-            let step = delete(alloc, tables, request, name)?;
-            Ok(step)
-        }
-        _ => {
-            let step = unbuilt(alloc, command)?;
-            Ok(step)
-        }
+    let Some(need) = need_of(command) else {
+        let refused = unbuilt(alloc, command)?;
+        return Ok(refused);
+    };
+    let may = may_anywhere(alloc, tables, &request.caller, need)?;
+    if !may {
+        let refused = denied(alloc, need)?;
+        return Ok(refused);
     }
+    let step = own_step(alloc, tables, request, command)?;
+    Ok(step)
 }
 
 /// The step of a request.

@@ -8,5 +8,7 @@ mod refusals;
 mod rights;
 
 pub use evaluation::evaluate;
-pub use laws::{counters_have_names, steps_keep_depots_sound};
+pub use laws::{
+    counters_have_names, depots_with_the_same_rows_answer_alike, steps_keep_depots_sound,
+};
 pub use outcome::Outcome;
