@@ -9,4 +9,6 @@ pub mod Found
 pub mod Joined
 pub mod UpTo
 pub mod OneLock
+pub mod FewFixes
+pub mod Whole
 pub mod Decided

@@ -1,3 +1,4 @@
+pub mod Fixing
 pub mod Kept
 pub mod Stored
 pub mod Tests

@@ -4,6 +4,7 @@
 #![tactic(auto)]
 
 mod files;
+mod fixes;
 mod forms;
 mod integrations;
 mod keeping;
@@ -18,7 +19,7 @@ mod texts;
 mod types;
 mod walks;
 
-pub use rules::rows_keep_rules;
+pub use rules::{keep_rules, rows_keep_rules};
 
 #[cfg(test)]
 mod tests;

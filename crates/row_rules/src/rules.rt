@@ -5,12 +5,13 @@ ghost use Rattle.std.specs.List.{list_all};
 ghost use Rattle.db_records.specs.declared.table.TableId.{TableId as Id};
 ghost use Rattle.table_store.specs.Rows.{AllOfTable, IsRising};
 ghost use Rattle.table_store.specs.Tables.{version_of};
-ghost use Rattle.depot_model.specs.Rules.{top_in};
+ghost use Rattle.depot_model.specs.Rules.{KeepRules, top_in};
 ghost use Rattle.row_rules.specs.Kept.{KeepRowRules};
 ghost use Rattle.row_rules.specs.Stored.{stored};
 ghost use Rattle.row_rules.specs.Tests.{keeps as keeps_test};
 ghost use Rattle.row_rules.specs.Walking.{table_ids};
 
+use crate::fixes::have_few_fixes;
 use crate::keeping::all_keep;
 use crate::locks::locks_are_apart;
 use crate::lookups::value_of;
@@ -104,4 +105,14 @@ pub fn rows_keep_rules(alloc: Global, tables: &Tables) -> Result<bool, AllocErro
     let keep = tables_keep(alloc, tables, top as u32)?;
     let apart = locks_are_apart(alloc, tables)?;
     Ok(both(keep, apart))
+}
+
+/// Whether the rows of the tables keep the rules. The one error is want of memory.
+pub fn keep_rules(alloc: Global, tables: &Tables) -> Result<bool, AllocError>
+    ensures { IfOk result (λ keep. IsTrue keep ↔ KeepRules (stored tables.now)) }
+{
+    are_in_order(tables);
+    let rows = rows_keep_rules(alloc, tables)?;
+    let few = have_few_fixes(alloc, tables)?;
+    Ok(both(rows, few))
 }

@@ -1,6 +1,6 @@
 //! Tables whose rows keep the rules, and ones that break one.
 
-use crate::rows_keep_rules;
+use crate::keep_rules;
 use db_records::{
     ChangeRecord, CounterRecord, GroupRecord, HaveRecord, ProtectRecord, Record, TableId,
 };
@@ -68,13 +68,13 @@ fn keeps(alloc: Global, table: TableId, row: Record) -> Result<bool, AllocError>
     if let Some(version) = Version::from_rows(alloc, table, rows)? {
         tables.put(version);
     }
-    rows_keep_rules(alloc, &tables)
+    keep_rules(alloc, &tables)
 }
 
 #[test]
 fn no_rows(rt: HostRuntime) -> Result<(), Fail> {
     let alloc = rt.alloc();
-    assert!(rt; rows_keep_rules(alloc, &Tables::empty(alloc)?)?);
+    assert!(rt; keep_rules(alloc, &Tables::empty(alloc)?)?);
     Ok(())
 }
 

@@ -1,0 +1,13 @@
+use Rattle.std.proofs.Common.{◌↔◌, Bool, IsTrue, sym, subst}
+use Rattle.db_records.specs.declared.table.TableId.{TableId}
+use Rattle.table_store.specs.Tables.{version_of}
+use Rattle.depot_model.specs.Rules.{KeepRules}
+use Rattle.row_rules.specs.Stored.{stored}
+use Rattle.row_rules.proofs.Whole.{whole}
+use Rattle.row_rules.proofs.rules.keep_rules.Goals as goal
+
+pub returns : goal.returns
+returns c =
+    let P : Bool → Type 0 = λ b. IsTrue b ↔ KeepRules (stored c.args.tables.now) in
+    subst P (sym c.both.ensures)
+    (whole (λ (t : TableId). (version_of c.args.tables.now t).rows) c.are_in_order.ensures.rising c.in_ok-rows.rows c.in_ok-few.few c.in_ok-rows.ensures c.in_ok-few.ensures)
