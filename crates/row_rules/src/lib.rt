@@ -8,6 +8,7 @@ mod fixes;
 mod forms;
 mod integrations;
 mod keeping;
+mod laws;
 mod locks;
 mod lookups;
 mod numerals;
@@ -19,6 +20,7 @@ mod texts;
 mod types;
 mod walks;
 
+pub use laws::rows_of_depots_keep_rules;
 pub use rules::{keep_rules, rows_keep_rules};
 
 #[cfg(test)]

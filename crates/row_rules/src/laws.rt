@@ -1,0 +1,17 @@
+//! Laws of the rules.
+
+ghost use Rattle.std.specs.Prelude.{List};
+ghost use Rattle.depot_model.specs.Deeds.{Deed};
+ghost use Rattle.depot_model.specs.Rules.{KeepRules};
+ghost use Rattle.depot_rows.specs.Standing.{Stand};
+ghost use Rattle.table_changes.specs.Changed.{rows_of};
+ghost use Rattle.row_rules.specs.Stored.{stored};
+
+use table_store::Tables;
+
+/// The rows of tables that stand for a depot keep the rules.
+pub fn rows_of_depots_keep_rules(tables: &Tables)
+    ensures { (d : List Deed) → Stand (rows_of tables.now) d → KeepRules (stored tables.now) }
+{
+    let _tables = tables;
+}
