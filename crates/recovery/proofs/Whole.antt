@@ -20,11 +20,15 @@ use Rattle.table_store.proofs.Order.{changed_once_rises, before_row, IsRising-ri
 use Rattle.table_changes.specs.Changed.{AllRows, changed_by, changed_in, no_rows}
 use Rattle.depot_model.specs.Deeds.{Deed, Action, Add, Edit, Delete, Branch, Integrate, MoveAdd, MoveDelete}
 use Rattle.depot_model.specs.Revisions.{Revision, revision, is_live_action}
-use Rattle.depot_model.specs.Records.{at_path, rev_record, unplaced, digest}
+use Rattle.depot_model.specs.Records.{at_path, record_of, rev_record, unplaced, digest}
 use Rattle.depot_model.specs.Rows.{action_word}
+use Rattle.depot_model.specs.Rules.{KeepRules, Rows}
 use Rattle.depot_rows.proofs.Keys.{same-is}
+use Rattle.depot_rows.specs.Standing.{unplaced_at}
+use Rattle.db_records.specs.Key.{key_table}
 use Rattle.recovery.specs.Holding.{joined}
 use Rattle.recovery.specs.Contents.{HasDigested, IsWhole, AreWhole, HoldWhole}
+use Rattle.recovery.specs.Rules.{KeepTheirRules}
 use Rattle.recovery.specs.Standing.{StandFor, HasContent}
 use Rattle.recovery.proofs.Landed.{own_content, HasOwn}
 
@@ -133,8 +137,14 @@ module _ (d : List Deed) (files contents : Files) (stands : StandFor d files con
   row_whole (Rev row) at = λ live. content_of row at live
   row_whole _ at = tt
 
+  kept : KeepTheirRules stands.rows
+  kept =
+      let alike : ◌≡◌ {A = Rows} (λ key. unplaced_at (stands.rows (key_table key)) key) (record_of d) = λ i key. stands.stand.each (key_table key) key refl i in
+      subst KeepRules (sym alike) stands.stand.sound.rules
+
   pub hold_of : HoldWhole files contents stands.rows
   hold_of = record {
     hold_within = record { hold = record { was = stands.was; committed = stands.committed; has = stands.has }; within = stands.within };
     whole = each_found (contents 0) [] (stands.rows tables.Rev) rows_rise row_whole;
+    rules = kept;
   }

@@ -5,5 +5,6 @@ pub mod Pieces
 pub mod Looking
 pub mod Opening
 pub mod Reading
+pub mod Rules
 pub mod Standing
 pub mod Damage

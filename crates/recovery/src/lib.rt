@@ -10,6 +10,7 @@ mod pieces;
 mod puts;
 mod root;
 mod rows;
+mod rules;
 mod spots;
 
 pub use fault::{DepotDisk, MakeFault, OpenFault};

@@ -2,10 +2,11 @@ use Rattle.std.proofs.Common.{◌≡◌, ◌≤◌, ℕ, length, sym, ap, subst,
 use Rattle.db_records.specs.declared.table.TableId.{TableId}
 use Rattle.db_records.specs.declared.table.TableId.TheVariants.{Rev}
 use Rattle.table_store.specs.Rows.{TableRows}
-use Rattle.table_changes.specs.Changed.{rows_of}
+use Rattle.table_changes.specs.Changed.{AllRows, rows_of}
 use Rattle.recovery.specs.Holding.{spots_end}
 use Rattle.recovery.specs.Contents.{AreWhole}
 use Rattle.recovery.specs.Damage.{IsDamage, Tells}
+use Rattle.recovery.specs.Rules.{KeepTheirRules}
 use Rattle.recovery.proofs.Damaged.{hold_found, archive_damage}
 use Rattle.recovery.proofs.Looks.{passed_nothing}
 use Rattle.recovery.proofs.PassedOn.{passed_on}
@@ -15,11 +16,11 @@ use Rattle.recovery.proofs.open.read_depot.Goals as goal
 
 pub returns-in_err-found-clause-only : goal.returns-in_err-found-clause-only
 returns-in_err-found-clause-only g c = λ files contents rows read read_contents hold.
-    passed_nothing c.from_residual-in_err-found.result c.in_err-found.field-0.0 _ c.from_residual-in_err-found.ensures.1 (c.in_err-found.ensures.only files rows (c.in_ok-sync.ensures.same.kept files read) hold.hold_within.hold)
+    passed_nothing c.from_residual-in_err-found.result c.in_err-found.field-0.0 _ c.from_residual-in_err-found.ensures.1 (c.in_err-found.ensures.only files rows (c.in_ok-sync.ensures.same.kept files read) hold.hold_within.hold hold.rules)
 
 pub returns-in_err-end-clause-only : goal.returns-in_err-end-clause-only
 returns-in_err-end-clause-only g c = λ files contents rows read read_contents hold.
-    let same = c.in_ok-found.ensures.only files rows (c.in_ok-sync.ensures.same.kept files read) hold.hold_within.hold in
+    let same = c.in_ok-found.ensures.only files rows (c.in_ok-sync.ensures.same.kept files read) hold.hold_within.hold hold.rules in
     let found = rows_of c.in_ok-found.found.tables Rev in
     let within : spots_end found ≤ length (contents 0) = subst (λ n. n ≤ length (contents 0)) (sym (ap spots_end (same Rev))) hold.hold_within.within in
     let whole : AreWhole (contents 0) found = subst (AreWhole (contents 0)) (sym (same Rev)) hold.whole in
@@ -37,11 +38,11 @@ returns-in_err-end-clause-damaged g c = λ files contents read read_contents.
 
 pub returns-in_err-end-clause-journal_looks : goal.returns-in_err-end-clause-journal_looks
 returns-in_err-end-clause-journal_looks g c =
-    looks_then g.D.Disk.seen g.D.Disk.may_leave g.D.Disk.moment g.D.Disk.left_since c.args.journal.now c.sync.new.self c.read_rows.new.disk (g.met.D.Disk.only_now c.args.journal.now) c.sync.ensures.crash c.sync.ensures.time c.read_rows.ensures.reads
+    looks_then g.D.Disk.seen g.D.Disk.may_leave g.D.Disk.moment g.D.Disk.left_since c.args.journal.now c.sync.new.self c.read_kept_rows.new.disk (g.met.D.Disk.only_now c.args.journal.now) c.sync.ensures.crash c.sync.ensures.time c.read_kept_rows.ensures.reads
 
 pub returns-clause-journal_looks : goal.returns-clause-journal_looks
 returns-clause-journal_looks g c =
-    looks_then g.D.Disk.seen g.D.Disk.may_leave g.D.Disk.moment g.D.Disk.left_since c.args.journal.now c.sync.new.self c.read_rows.new.disk (g.met.D.Disk.only_now c.args.journal.now) c.sync.ensures.crash c.sync.ensures.time c.read_rows.ensures.reads
+    looks_then g.D.Disk.seen g.D.Disk.may_leave g.D.Disk.moment g.D.Disk.left_since c.args.journal.now c.sync.new.self c.read_kept_rows.new.disk (g.met.D.Disk.only_now c.args.journal.now) c.sync.ensures.crash c.sync.ensures.time c.read_kept_rows.ensures.reads
 
 pub returns-clause-found : goal.returns-clause-found
 returns-clause-found g c =
@@ -75,14 +76,19 @@ returns-clause-contents g c = λ contents read.
 
 pub returns-clause-synced : goal.returns-clause-synced
 returns-clause-synced g c = (
-  synced_then g.D.Disk.seen g.D.Disk.may_leave g.D.Disk.moment g.D.Disk.left_since c.args.journal.now c.sync.new.self c.read_rows.new.disk c.in_ok-sync.ensures.same c.in_ok-sync.ensures.durable c.read_rows.ensures.reads,
+  synced_then g.D.Disk.seen g.D.Disk.may_leave g.D.Disk.moment g.D.Disk.left_since c.args.journal.now c.sync.new.self c.read_kept_rows.new.disk c.in_ok-sync.ensures.same c.in_ok-sync.ensures.durable c.read_kept_rows.ensures.reads,
   synced_then g.D.Disk.seen g.D.Disk.may_leave g.D.Disk.moment g.D.Disk.left_since c.args.archive.now c.sync-2.new.self c.read_contents.new.disk c.in_ok-sync-2.ensures.same c.in_ok-sync-2.ensures.durable c.read_contents.ensures.reads,
 )
 
 pub returns-clause-only : goal.returns-clause-only
 returns-clause-only g c = λ files contents rows read read_contents hold table.
-    ap (λ (version : TableRows). version.rows) (c.set_archive_end.ensures.versions table) ∙ c.in_ok-found.ensures.only files rows (c.in_ok-sync.ensures.same.kept files read) hold.hold_within.hold table
+    ap (λ (version : TableRows). version.rows) (c.set_archive_end.ensures.versions table) ∙ c.in_ok-found.ensures.only files rows (c.in_ok-sync.ensures.same.kept files read) hold.hold_within.hold hold.rules table
 
 pub returns-in_err-found-clause-damaged : goal.returns-in_err-found-clause-damaged
 returns-in_err-found-clause-damaged g c = λ files contents read read_contents.
     passed_on c.from_residual-in_err-found.result c.in_err-found.field-0.0 (Tells (IsDamage files contents)) c.from_residual-in_err-found.ensures.1 (c.in_err-found.ensures.damaged files contents (c.in_ok-sync.ensures.same.kept files read))
+
+pub returns-clause-rules : goal.returns-clause-rules
+returns-clause-rules g c =
+    let same : ◌≡◌ {A = AllRows} (rows_of c.set_archive_end.new.self) (rows_of c.in_ok-found.found.tables) = λ i table. (c.set_archive_end.ensures.versions table i).rows in
+    subst KeepTheirRules (sym same) c.in_ok-found.ensures.rules

@@ -1,0 +1,25 @@
+use Rattle.std.proofs.Common.{◌≡◌, sym, subst}
+use Rattle.table_changes.specs.Changed.{AllRows, rows_of}
+use Rattle.recovery.specs.Damage.{IsDamage, Tells}
+use Rattle.recovery.specs.Rules.{KeepTheirRules}
+use Rattle.recovery.proofs.Looks.{passed_nothing}
+use Rattle.recovery.proofs.PassedOn.{passed_on}
+use Rattle.recovery.proofs.rules.read_kept_rows.Goals as goal
+
+pub returns-in_err-found-clause-only : goal.returns-in_err-found-clause-only
+returns-in_err-found-clause-only g c = λ files rows read hold rules.
+    passed_nothing c.from_residual.result c.in_err-found.field-0.0 _ c.from_residual.ensures.1 (c.in_err-found.ensures.only files rows read hold)
+
+pub returns-in_err-found-clause-damaged : goal.returns-in_err-found-clause-damaged
+returns-in_err-found-clause-damaged g c = λ files contents read.
+    passed_on c.from_residual.result c.in_err-found.field-0.0 (Tells (IsDamage files contents)) c.from_residual.ensures.1 (c.in_err-found.ensures.damaged files contents read)
+
+pub returns-in_err-check_rules-clause-only : goal.returns-in_err-check_rules-clause-only
+returns-in_err-check_rules-clause-only g c = λ files rows read hold rules.
+    let each = c.in_ok-found.ensures.only files rows read hold in
+    let same : ◌≡◌ {A = AllRows} (rows_of c.in_ok-found.found.tables) rows = λ i table. each table i in
+    passed_nothing c.from_residual-in_err-check_rules.result c.in_err-check_rules.field-0.0 _ c.from_residual-in_err-check_rules.ensures.1 (
+    c.in_err-check_rules.ensures.only (subst KeepTheirRules (sym same) rules))
+
+pub returns-clause-only : goal.returns-clause-only
+returns-clause-only g c = λ files rows read hold rules table. c.in_ok-found.ensures.only files rows read hold table
