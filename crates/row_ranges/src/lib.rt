@@ -8,3 +8,6 @@ mod walk;
 
 pub use range::KeyRange;
 pub use walk::{RangeWalk, rows_in};
+
+#[cfg(test)]
+mod tests;
