@@ -20,4 +20,6 @@ pub use counters::counter_changes;
 pub use engine::row_changes;
 
 #[cfg(test)]
+mod small_depot;
+#[cfg(test)]
 mod tests;
