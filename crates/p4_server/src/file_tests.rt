@@ -260,3 +260,138 @@ fn a_commit_is_whole_or_nothing(rt: HostRuntime) -> Result<(), Fail> {
     assert!(rt; text.as_bytes() == ROW);
     Ok(())
 }
+
+/// Puts these bytes in the place of a file.
+fn put(disk: &mut MemoryDisk, file: u32, bytes: &[u8]) -> Result<(), Fail> {
+    disk.cut(file, 0).ok().ok_or("failed")?;
+    disk.write_at(file, 0, bytes).ok().ok_or("failed")?;
+    Ok(())
+}
+
+/// Disks as `init` makes them.
+fn made<R: Threads + Wait + Sync + Abort>(rt: &R, alloc: Global) -> Result<Disks, Fail> {
+    let disks = (disk(alloc, 0)?, disk(alloc, 0)?);
+    runs(rt, alloc, &["init"], disks, 0, b"")
+}
+
+/// The disks that `init` made, with these bytes as a file of the journal's disk, are damaged at a place of it.
+fn is_damaged<R: Threads + Wait + Sync + Abort>(
+    rt: &R,
+    alloc: Global,
+    file: u32,
+    bytes: &[u8],
+    place: usize,
+) -> Result<(), Fail> {
+    let mut disks = made(rt, alloc)?;
+    put(&mut disks.0, file, bytes)?;
+    let line = format!(in alloc; "damaged journal {file} {place}\n")?;
+    runs(rt, alloc, &["dump"], disks, 2, line.as_bytes())?;
+    Ok(())
+}
+
+/// A journal that is cut has no mark at its end.
+#[test]
+fn a_cut_journal_is_damaged_at_its_end(rt: HostRuntime) -> Result<(), Fail> {
+    let alloc = rt.alloc();
+    for length in 0..JOURNAL.len() {
+        is_damaged(&rt, alloc, 1, &JOURNAL[..length], length)?;
+    }
+    Ok(())
+}
+
+/// One byte of the journal is another: the place is that of the first byte from which no journal goes on, or of
+/// the record of a change that doesn't fit.
+#[test]
+fn a_changed_byte_is_damage_at_its_place(rt: HostRuntime) -> Result<(), Fail> {
+    let alloc = rt.alloc();
+    let cases: [(usize, u8, usize); 12] = [
+        (0, b'x', 0),
+        (4, b'x', 4),
+        (10, b'2', 10),
+        (12, b'2', 36),
+        (13, b'2', 47),
+        (14, b'x', 14),
+        (15, b'x', 15),
+        (16, b'd', 15),
+        (16, b'r', 15),
+        (44, b'x', 44),
+        (47, b'e', 51),
+        (50, b'x', 50),
+    ];
+    for (at, byte, place) in cases {
+        let mut bytes = Vec::from_slice(alloc, JOURNAL)?;
+        if let Some(changed) = bytes.get_mut(at) {
+            *changed = byte;
+        }
+        is_damaged(&rt, alloc, 1, bytes.as_slice(), place)?;
+    }
+    Ok(())
+}
+
+/// A revision that a client has, of a client and of a file that aren't there: what is committed keeps no rules, up to its end.
+#[test]
+fn a_broken_rule_is_damage_where_the_journal_ends(rt: HostRuntime) -> Result<(), Fail> {
+    let alloc = rt.alloc();
+    let journal = b"@ex@\n@nx@ 1 37\n@pv@ 1 @db.have@ @ws1@ @//depot/a@ 1\n@mx@\n";
+    is_damaged(&rt, alloc, 1, journal, 52)
+}
+
+/// A root of another form, and one that is too short.
+#[test]
+fn a_root_is_damaged_at_its_place(rt: HostRuntime) -> Result<(), Fail> {
+    let alloc = rt.alloc();
+    let cases: [(&[u8], usize); 4] = [(b"m", 1), (b"ex", 2), (b"xx", 1), (b"exmxm", 3)];
+    for (root, place) in cases {
+        is_damaged(&rt, alloc, 0, root, place)?;
+    }
+    let short = vec![in alloc; b'm'; 4_094]?;
+    is_damaged(&rt, alloc, 0, &short, 4_094)?;
+    let long = vec![in alloc; b'm'; 4_096]?;
+    is_damaged(&rt, alloc, 0, &long, 4_095)
+}
+
+/// What stands behind a mark that isn't open is ignored.
+#[test]
+fn a_closed_mark_ends_the_journal(rt: HostRuntime) -> Result<(), Fail> {
+    let alloc = rt.alloc();
+    for (journal, rows) in [
+        (b"@mx@\n@nx@ 1 31\n".as_slice(), b"".as_slice()),
+        (
+            b"@ex@\n@nx@ 1 31\n@pv@ 1 @db.counters@ @build@ 7\n@ x@\nx",
+            ROW,
+        ),
+    ] {
+        let mut disks = made(&rt, alloc)?;
+        put(&mut disks.0, 1, journal)?;
+        runs(&rt, alloc, &["dump"], disks, 0, rows)?;
+    }
+    Ok(())
+}
+
+/// The journal of a revision whose content has five bytes from place 2 on.
+const REVISION: &[u8] =
+    b"@ex@\n@nx@ 1 178\n@pv@ 1 @db.counters@ @change@ 1\n@pv@ 1 @db.change@ 1 @submitted@ @ann@ @ws1@ 1700000000 @one@\n@pv@ 1 @db.rev@ @//depot/a@ 1 1 @add@ @text@ @5D41402ABC4B2A76B9719D911017C592@ 5 2\n@mx@\n";
+
+/// The rows of that journal.
+const ROWS: &[u8] =
+    b"@pv@ 1 @db.counters@ @change@ 1\n@pv@ 1 @db.change@ 1 @submitted@ @ann@ @ws1@ 1700000000 @one@\n@pv@ 1 @db.rev@ @//depot/a@ 1 1 @add@ @text@ @5D41402ABC4B2A76B9719D911017C592@ 5 2\n";
+
+/// A content that is another or isn't there is damage at the place of its spot.
+#[test]
+fn a_content_is_damaged_at_its_spot(rt: HostRuntime) -> Result<(), Fail> {
+    let alloc = rt.alloc();
+    let cases: [(&[u8], u8, &[u8]); 5] = [
+        (b"..hello", 0, ROWS),
+        (b"..hello.", 0, ROWS),
+        (b"..hellO", 2, b"damaged archive 0 2\n"),
+        (b"..hell", 2, b"damaged archive 0 2\n"),
+        (b"", 2, b"damaged archive 0 2\n"),
+    ];
+    for (content, status, lines) in cases {
+        let mut disks = made(&rt, alloc)?;
+        put(&mut disks.0, 1, REVISION)?;
+        put(&mut disks.1, 0, content)?;
+        runs(&rt, alloc, &["dump"], disks, status, lines)?;
+    }
+    Ok(())
+}
