@@ -6,16 +6,20 @@ use std::cmp::Ordering;
 use std::collections::HashMap;
 use std::test::Fail;
 
+/// The fault of a text that is no path: 0 for none, and 99 for want of memory.
 fn path_fault(alloc: Global, text: &[u8]) -> u8 {
     match DepotPath::read(alloc, text) {
         Ok(_) => 0,
+        Err(PathFault::Memory) => 99,
         Err(fault) => fault.code(),
     }
 }
 
+/// The same of a file specification.
 fn spec_fault(alloc: Global, text: &[u8]) -> u8 {
     match FileSpec::read(alloc, text) {
         Ok(_) => 0,
+        Err(PathFault::Memory) => 99,
         Err(fault) => fault.code(),
     }
 }
@@ -60,7 +64,7 @@ fn paths_are_read_and_printed(rt: HostRuntime) -> Result<(), Fail> {
 
 #[test]
 fn the_first_fault_of_a_path_is_answered(rt: HostRuntime) {
-    let cases: [(&[u8], u8); 10] = [
+    let cases: [(&[u8], u8); 12] = [
         (b"//a/b%2a", 0),
         (b"/a/b", 1),
         (b"//a", 2),
@@ -69,7 +73,9 @@ fn the_first_fault_of_a_path_is_answered(rt: HostRuntime) {
         (b"//a/@%", 3),
         (b"//a/*/.", 4),
         (b"//a/\xC3", 4),
+        (b"//a/.", 6),
         (b"//a/..", 6),
+        (b"//a/.../b", 6),
         (b"//a/b...c", 6),
     ];
     for (text, fault) in cases {
@@ -162,12 +168,15 @@ fn a_pattern_begins_with_its_literal_text(rt: HostRuntime) -> Result<(), Fail> {
 
 #[test]
 fn revisions_are_read(rt: HostRuntime) -> Result<(), Fail> {
-    let cases: [(&[u8], (i64, i64)); 9] = [
+    let cases: [(&[u8], (i64, i64)); 12] = [
         (b"//depot/a", (-9, -9)),
         (b"//depot/a#head", (-1, -9)),
         (b"//depot/a#0", (-3, -9)),
+        (b"//depot/a#none", (-3, -9)),
         (b"//depot/a#3,5", (3, 5)),
+        (b"//depot/a@30,50", (10_030, 10_050)),
         (b"//depot/a@30,@50", (10_030, 10_050)),
+        (b"//depot/a@1,@1", (10_001, 10_001)),
         (b"//depot/a@=7", (20_007, -9)),
         (b"//depot/a@now", (-4, -9)),
         (b"//depot/a@2023/11/14:22:13:20", (1_700_000_000, -9)),
