@@ -1,7 +1,7 @@
 pub mod Cutting
 pub mod Utf8
 pub mod Trimming
-pub mod Fields
+pub mod FieldsLemmas
 pub mod Good
 pub mod Names
 pub mod Printed

@@ -27,7 +27,7 @@ name_if : (v : Bool) (f : Field) (lines : List (List ℕ)) → (cond v (record f
 name_if true f lines = refl
 name_if false f lines = refl
 
-with_name : (name value : List ℕ) (f : Field) → (with_value name value f).name ≡ f.name
+pub with_name : (name value : List ℕ) (f : Field) → (with_value name value f).name ≡ f.name
 with_name name value f = name_if (bytes_eq f.name name) f (value_lines value)
 
 has_with : (n name value : List ℕ) (fields : List Field) → has_field n (map (with_value name value) fields) ≡ has_field n fields

@@ -4,6 +4,7 @@
 
 mod cut;
 mod fault;
+mod fields;
 mod form;
 mod place;
 mod print;
@@ -13,6 +14,7 @@ mod shape;
 mod tests;
 
 pub use fault::{FormFault, FormFaultKind, ValueFault};
+pub use fields::Fields;
 pub use form::{Field, Form, is_value};
 pub use place::{field_place, line_place};
 pub use shape::{FieldKind, Shape};

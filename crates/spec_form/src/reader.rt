@@ -1,15 +1,16 @@
 //! Reading forms.
 
-ghost use Rattle.std.specs.Prelude.{◌≡◌, ◌≢◌, [], reverse, IfOk};
+ghost use Rattle.std.specs.Prelude.{◌≡◌, ◌≢◌, [], false, reverse, IfOk};
 ghost use Rattle.depot_path.specs.Answers.{Answers, on_ok};
 ghost use Rattle.spec_form.specs.Shapes.{seen_rows};
 ghost use Rattle.spec_form.specs.Texts.{text_lines};
-ghost use Rattle.spec_form.specs.Form.{has_field as has_field_of, value_lines as lines_of_value};
-ghost use Rattle.spec_form.specs.Reading.{begun, continued, first_lines as first_lines_of, in_front, lacks, line_read, lines_read, longer, new_field as field_of_line, no_memory};
+ghost use Rattle.spec_form.specs.Form.{value_lines as lines_of_value};
+ghost use Rattle.spec_form.specs.Reading.{begun, continued, first_lines as first_lines_of, in_front, lacks, line_read, lines_read, new_field as field_of_line, no_memory};
 ghost use Rattle.spec_form.specs.declared.fault.FormFaultKind.TheVariants.{Memory};
 
 use crate::cut::{cut_at, first_line, trim_end, trim_start};
 use crate::fault::{FormFault, FormFaultKind};
+use crate::fields::Fields;
 use crate::form::Field;
 use crate::shape::{FieldKind, FieldRow, Shape};
 use depot_path::{Sequence, Text};
@@ -39,19 +40,12 @@ fn first_lines(alloc: Global, kind: FieldKind, rest: &[u8]) -> Result<Sequence<T
     }
 }
 
-/// Whether a field of this name is among these.
-pub fn has_field(fields: &[Field], name: &[u8]) -> bool
-    ensures { result ≡ has_field_of name.now fields.now }
-{
-    fields.iter().any(|field| field.name.as_bytes() == name)
-}
-
 /// Whether a field is absent that these rows require.
-pub fn lacks_required(mut rows: &[FieldRow], fields: &[Field]) -> bool
+pub fn lacks_required(mut rows: &[FieldRow], fields: &Fields) -> bool
     ensures { result ≡ lacks (seen_rows rows.entry.now) fields.now }
 {
     while let [row, rest @ ..] = rows {
-        if row.2 && !has_field(fields, row.0) {
+        if row.2 && !fields.has(row.0) {
             return true;
         }
         rows = rest;
@@ -59,19 +53,17 @@ pub fn lacks_required(mut rows: &[FieldRow], fields: &[Field]) -> bool
     false
 }
 
-/// A field of this name and kind, if it isn't there yet.
+/// A field of this name and kind.
 fn begin(
     alloc: Global,
     kind: Option<FieldKind>,
-    is_there: bool,
     name: &[u8],
     rest: &[u8],
 ) -> Result<Field, FormFaultKind>
-    ensures { Answers FormFaultKind.Memory result (begun kind is_there name.now rest.now) }
+    ensures { Answers FormFaultKind.Memory result (begun kind false name.now rest.now) }
 {
     match kind {
         None => Err(FormFaultKind::UnknownField),
-        Some(_) if is_there => Err(FormFaultKind::Twice),
         Some(kind) => Ok(Field {
             name: Text::from_bytes(alloc, name)?,
             lines: first_lines(alloc, kind, rest)?,
@@ -79,37 +71,13 @@ fn begin(
     }
 }
 
-/// The field that a line begins, where these fields stand before it.
-fn new_field(
-    alloc: Global,
-    shape: Shape,
-    line: &[u8],
-    fields: &[Field],
-) -> Result<Field, FormFaultKind>
-    ensures { Answers FormFaultKind.Memory result (field_of_line shape line.now (reverse fields.now)) }
+/// The field that a line begins, whatever fields there are.
+fn new_field(alloc: Global, shape: Shape, line: &[u8]) -> Result<Field, FormFaultKind>
+    ensures { Answers FormFaultKind.Memory result (field_of_line shape line.now []) }
 {
     match cut_at(line, b':') {
         None => Err(FormFaultKind::NoField),
-        Some((name, rest)) => begin(alloc, shape.kind(name), has_field(fields, name), name, rest),
-    }
-}
-
-/// A field with one more line, if it is of many lines.
-fn lengthen(
-    alloc: Global,
-    shape: Shape,
-    line: &[u8],
-    mut field: Field,
-) -> Result<Field, FormFaultKind>
-    ensures { Answers FormFaultKind.Memory result (longer shape line.now field) }
-{
-    match shape.kind(field.name.as_bytes()) {
-        Some(FieldKind::Lines) => {
-            let line = Text::from_bytes(alloc, trim_end(trim_start(line)))?;
-            field.lines.push(line)?;
-            Ok(field)
-        }
-        Some(FieldKind::Single) | None => Err(FormFaultKind::NoField),
+        Some((name, rest)) => begin(alloc, shape.kind(name), name, rest),
     }
 }
 
@@ -118,17 +86,16 @@ fn read_further(
     alloc: Global,
     shape: Shape,
     line: &[u8],
-    fields: &mut Vec<Field>,
+    fields: &mut Fields,
 ) -> Result<(), FormFaultKind>
-    ensures { Answers FormFaultKind.Memory (on_ok (λ _. reverse fields.new.items) result) (continued shape line.now (reverse fields.old.items)) }
+    ensures { Answers FormFaultKind.Memory (on_ok (λ _. reverse fields.new) result) (continued shape line.now (reverse fields.old)) }
 {
-    match fields.pop() {
-        None => Err(FormFaultKind::NoField),
-        Some(field) => {
-            let longer = lengthen(alloc, shape, line, field)?;
-            fields.push(longer)?;
+    match fields.last_kind(shape) {
+        Some(FieldKind::Lines) => {
+            fields.add_line(Text::from_bytes(alloc, trim_end(trim_start(line)))?)?;
             Ok(())
         }
+        Some(FieldKind::Single) | None => Err(FormFaultKind::NoField),
     }
 }
 
@@ -137,13 +104,11 @@ fn read_first(
     alloc: Global,
     shape: Shape,
     line: &[u8],
-    fields: &mut Vec<Field>,
+    fields: &mut Fields,
 ) -> Result<(), FormFaultKind>
-    ensures { Answers FormFaultKind.Memory (on_ok (λ _. reverse fields.new.items) result) (in_front (reverse fields.old.items) (field_of_line shape line.now (reverse fields.old.items))) }
+    ensures { Answers FormFaultKind.Memory (on_ok (λ _. reverse fields.new) result) (in_front (reverse fields.old) (field_of_line shape line.now (reverse fields.old))) }
 {
-    let field = new_field(alloc, shape, line, fields)?;
-    fields.push(field)?;
-    Ok(())
+    fields.add(new_field(alloc, shape, line)?)
 }
 
 /// Reads one line into the fields.
@@ -151,9 +116,9 @@ fn read_line(
     alloc: Global,
     shape: Shape,
     line: &[u8],
-    fields: &mut Vec<Field>,
+    fields: &mut Fields,
 ) -> Result<(), FormFaultKind>
-    ensures { Answers FormFaultKind.Memory (on_ok (λ _. reverse fields.new.items) result) (line_read shape line.now (reverse fields.old.items)) }
+    ensures { Answers FormFaultKind.Memory (on_ok (λ _. reverse fields.new) result) (line_read shape line.now (reverse fields.old)) }
 {
     match line {
         [] => Ok(()),
@@ -175,10 +140,10 @@ fn fault_at(what: FormFaultKind, line: usize) -> FormFault
 }
 
 /// Reads the fields of a form, line by line.
-pub fn read_fields(alloc: Global, text: &[u8], shape: Shape) -> Result<Vec<Field>, FormFault>
-    ensures { Answers no_memory (on_ok (λ fields. reverse fields.items) result) (lines_read shape 1 (text_lines text.now) []) }
+pub fn read_fields(alloc: Global, text: &[u8], shape: Shape) -> Result<Fields, FormFault>
+    ensures { Answers no_memory (on_ok (λ fields. reverse fields) result) (lines_read shape 1 (text_lines text.now) []) }
 {
-    let mut fields = Vec::new(alloc);
+    let mut fields = Fields::new(alloc);
     let mut rest = text;
     let mut number = 1;
     while !rest.is_empty() {

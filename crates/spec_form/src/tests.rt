@@ -1,10 +1,13 @@
 use crate::fault::FormFaultKind;
 use crate::form::{Form, is_value};
 use crate::shape::{FieldKind, Shape};
+use std::alloc::{AllocError, Global};
 use std::test::Fail;
 
 const FIRST_DAY: &[u8; 330] =
     b"# A Perforce Client Specification.\n\nClient:\tws1\n\nUpdate:\t2023/11/14 10:00:00\n\nAccess:\t2023/11/14 10:00:00\n\nOwner:\tann\n\nHost:\thostA\n\nDescription:\n\tCreated by ann.\n\nRoot:\t/home/ann/ws1\n\nOptions:\tnoallwrite noclobber nocompress unlocked nomodtime normdir\n\nSubmitOptions:\tsubmitunchanged\n\nLineEnd:\tlocal\n\nView:\n\t//depot/... //ws1/...\n";
+
+const PENDING: &[u8; 28] = b"Change:\tnew\nDescription:\n\tx\n";
 
 #[test]
 fn a_client_form_is_read_and_printed(rt: HostRuntime) -> Result<(), Fail> {
@@ -13,6 +16,8 @@ fn a_client_form_is_read_and_printed(rt: HostRuntime) -> Result<(), Fail> {
         return Err(Fail::from("the form is read"));
     };
     assert_eq!(rt; form.fields().len(), 11);
+    let first = form.fields().by_name().first();
+    assert!(rt; first.is_some_and(|(name, _)| name.as_slice() == b"Client".as_slice()));
     assert!(rt; form.shape() == Shape::Client);
     let view = form.lines("View");
     assert_eq!(rt; view.len(), 1);
@@ -24,6 +29,40 @@ fn a_client_form_is_read_and_printed(rt: HostRuntime) -> Result<(), Fail> {
     assert_eq!(rt; printed.len(), 295);
     assert!(rt; printed.starts_with(&first_day[36..]));
     assert!(rt; printed.ends_with(b"\n\n"));
+    assert!(rt; prints(alloc, printed, Shape::Client, printed)?);
+    Ok(())
+}
+
+/// Whether a text is a form of this shape, and prints so.
+fn prints(alloc: Global, text: &[u8], shape: Shape, printed: &[u8]) -> Result<bool, AllocError> {
+    match Form::read(alloc, text, shape) {
+        Ok(form) => Ok(form.print(alloc)?.as_bytes() == printed),
+        Err(_) => Ok(false),
+    }
+}
+
+#[test]
+fn small_forms_are_read_and_printed(rt: HostRuntime) -> Result<(), Fail> {
+    let cases = [
+        (
+            Shape::Change,
+            PENDING.as_slice(),
+            b"Change:\tnew\n\nDescription:\n\tx\n\n".as_slice(),
+        ),
+        (
+            Shape::Protect,
+            b"Protections:\n".as_slice(),
+            b"Protections:\n\n".as_slice(),
+        ),
+        (
+            Shape::Change,
+            b"# new\nDescription: \t a \t\n \t b c  \n  \n#x\n\td\nType:  \nChange: 7 ".as_slice(),
+            b"Description:\n\ta\n\tb c\n\t\n\td\n\nType:\n\nChange:\t7 \n\n".as_slice(),
+        ),
+    ];
+    for (shape, text, printed) in cases {
+        assert!(rt; prints(rt.alloc(), text, shape, printed)?);
+    }
     Ok(())
 }
 
@@ -72,6 +111,12 @@ fn the_first_fault_is_told(rt: HostRuntime) -> Result<(), Fail> {
         ),
         (
             Shape::Change,
+            b"\n \t\nStream:\n".as_slice(),
+            FormFaultKind::NoField,
+            2,
+        ),
+        (
+            Shape::Change,
             b"Change:\tnew\n\tx\n".as_slice(),
             FormFaultKind::NoField,
             2,
@@ -79,6 +124,42 @@ fn the_first_fault_is_told(rt: HostRuntime) -> Result<(), Fail> {
         (
             Shape::Client,
             b"Client: a\nStream: //s/a\n".as_slice(),
+            FormFaultKind::UnknownField,
+            2,
+        ),
+        (
+            Shape::Client,
+            b"Client: a\nAltRoots:\n\t/b\n".as_slice(),
+            FormFaultKind::UnknownField,
+            2,
+        ),
+        (
+            Shape::Client,
+            b"Client: a\nChangeView:\n\t//depot/...@7\n".as_slice(),
+            FormFaultKind::UnknownField,
+            2,
+        ),
+        (
+            Shape::Client,
+            b"Client: a\nServerID: main\n".as_slice(),
+            FormFaultKind::UnknownField,
+            2,
+        ),
+        (
+            Shape::Client,
+            b"Client: a\nType: graph\n".as_slice(),
+            FormFaultKind::UnknownField,
+            2,
+        ),
+        (
+            Shape::Client,
+            b"Client: a\nBackup: disable\n".as_slice(),
+            FormFaultKind::UnknownField,
+            2,
+        ),
+        (
+            Shape::Change,
+            b"Change:\tnew\n: x\n".as_slice(),
             FormFaultKind::UnknownField,
             2,
         ),

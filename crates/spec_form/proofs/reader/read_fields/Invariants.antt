@@ -5,7 +5,7 @@ use Rattle.spec_form.proofs.reader.read_fields.Given as goal
 
 abbrev pub invariant-loop-rest : goal.invariant-loop-rest
 invariant-loop-rest l = record {
-  read : lines_read l.shape l.number (text_lines l.rest) (reverse l.fields.items) ≡ lines_read l.shape 1 (text_lines l.fn.text) [];
+  read : lines_read l.shape l.number (text_lines l.rest) (reverse l.fields) ≡ lines_read l.shape 1 (text_lines l.fn.text) [];
   within : l.number + length l.rest ≤ length l.fn.text + 1;
 }
 

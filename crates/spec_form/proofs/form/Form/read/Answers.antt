@@ -25,7 +25,6 @@ spelled shape text fields u h l =
 pub invariant_of-result : goal.invariant_of-result
 invariant_of-result c =
     let u : is_utf8 c.args.text.now ≡ true = sym c.is_utf8.ensures ∙ c.if-not-is_utf8.false in
-    let l : lacks (fields_of c.args.shape) c.in_ok-fields.fields.items ≡ false = cc in
-    rw c.from_vec.ensures
-    (spelled_reads_back c.args.shape c.args.text.now (record { shape = c.args.shape; fields = c.in_ok-fields.fields.items })
-    (spelled c.args.shape c.args.text.now c.in_ok-fields.fields.items u c.in_ok-fields.ensures l))
+    let l : lacks (fields_of c.args.shape) c.in_ok-fields.fields ≡ false = cc in
+    (spelled_reads_back c.args.shape c.args.text.now (record { shape = c.args.shape; fields = c.in_ok-fields.fields })
+    (spelled c.args.shape c.args.text.now c.in_ok-fields.fields u c.in_ok-fields.ensures l))

@@ -1,5 +1,5 @@
 use Rattle.std.proofs.Common.{◌≡◌, take}
-use Rattle.spec_form.proofs.form.copy_lines.Given as goal
+use Rattle.spec_form.proofs.fields.copy_lines.Given as goal
 
 abbrev pub invariant-loop-line : goal.invariant-loop-line
 invariant-loop-line l = l.copy ≡ take l.line-index l.lines
