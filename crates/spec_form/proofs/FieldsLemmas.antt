@@ -70,9 +70,6 @@ none_if (Some x) e = absurd cc
 pub absent : (name : List ℕ) (entries : List Entry) → has_field name (seen_fields entries) ≡ false → lookup (named name) entries ≡ None
 absent name entries e = none_if (lookup (named name) entries) (has_seen name entries ∙ e)
 
-pub added_new : (fields : List Field) (f : Field) → has_field f.name fields ≡ false → added fields f ≡ Ok (fields ++ f ∷ [])
-added_new fields f e = ap (λ (v : Bool). added_if v fields f) e
-
 placed_if : (w : Bool) (kind : FieldKind) (name rest : List ℕ) (fields : List Field) → on_ok (λ (l : List Field). reverse l) (added_if w fields (record { name = name; lines = first_lines kind rest })) ≡ in_front (reverse fields) (begun (Some kind) w name rest)
 placed_if true kind name rest fields = refl
 placed_if false kind name rest fields = ap (λ (l : List Field). Ok l) (reverse-append fields (record { name = name; lines = first_lines kind rest } ∷ []))
