@@ -3,6 +3,9 @@ pub mod Empty
 pub mod Groups
 pub mod Fits
 pub mod Roots
+pub mod RootDamage
+pub mod FirstBad
+pub mod GroupDamage
 pub mod OnePut
 pub mod Revisions
 pub mod PassedOn

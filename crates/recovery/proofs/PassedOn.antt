@@ -4,12 +4,34 @@ use Rattle.std.specs.Result.{IfErr, IsErrAnd}
 use Rattle.recovery.specs.declared.fault.DepotDisk.TheVariants.{Journal, Archive}
 use Rattle.recovery.specs.declared.fault.OpenFault.{OpenFault}
 use Rattle.recovery.specs.declared.fault.OpenFault.TheVariants.{Unmade, Damaged, DiskFault, Memory}
-use Rattle.recovery.specs.Faults.{SaysNothing, IsOfFile, IfDamaged}
+use Rattle.recovery.specs.Faults.{SaysNothing, IsOfFile, IfDamaged, IsUnmadeOrSaysNothing}
 
 -- what holds of a fault holds where it is passed on
 pub passed_on : {X : Type 0} (r : Result X OpenFault) (fault : OpenFault) (P : OpenFault → Type 0) → IsErrAnd r (λ y. y ≡ fault) → P fault → IfErr r P
 passed_on (Ok x) fault P is holds = tt
 passed_on (Err y) fault P is holds = subst P (sym is) holds
+
+-- what is told of a damage that is passed on
+pub passed_damage : (Y : Type 0) (P Q : ℕ → Type 0) {X : Type 0} (r : Result X OpenFault) (fault : OpenFault) → IsErrAnd r (λ y. y ≡ fault) → IfDamaged {X = Y} (Err fault) P → ((place : ℕ) → P place → Q place) → IfDamaged r Q
+passed_damage Y P Q (Ok x) fault is damaged leads = tt
+passed_damage Y P Q {X} (Err y) fault is damaged leads = subst (λ (f : OpenFault). IfDamaged {X = X} (Err f) Q) (sym is) (go fault damaged)
+  where
+    go : (f : OpenFault) → IfDamaged {X = Y} (Err f) P → IfDamaged {X = X} (Err f) Q
+    go Unmade has = tt
+    go (Damaged disk file place) has = leads place has
+    go DiskFault has = tt
+    go Memory has = tt
+
+-- that there are no files, where that is passed on
+pub passed_unmade : (Y : Type 0) {X : Type 0} (r : Result X OpenFault) (fault : OpenFault) → IsErrAnd r (λ y. y ≡ fault) → IsUnmadeOrSaysNothing {X = Y} (Err fault) → IsUnmadeOrSaysNothing r
+passed_unmade Y (Ok x) fault is unmade = absurd is
+passed_unmade Y {X} (Err y) fault is unmade = subst (λ (f : OpenFault). IsUnmadeOrSaysNothing {X = X} (Err f)) (sym is) (go fault unmade)
+  where
+    go : (f : OpenFault) → IsUnmadeOrSaysNothing {X = Y} (Err f) → IsUnmadeOrSaysNothing {X = X} (Err f)
+    go Unmade has = tt
+    go (Damaged disk file place) has = has
+    go DiskFault has = has
+    go Memory has = has
 
 -- a fault that can't be a damage says nothing
 pub no_damage : (X : Type 0) (file : ℕ) (fault : OpenFault) (P : ℕ → Type 0) → IsOfFile file fault → IfDamaged {X = X} (Err fault) P → ((place : ℕ) → P place → ⊥) → SaysNothing fault

@@ -1,5 +1,6 @@
 -- What the faults of opening say.
 use Rattle.std.specs.Prelude.{◌≡◌, ℕ, Result, Ok, Err}
+use Rattle.recovery.specs.declared.fault.DepotDisk.{DepotDisk}
 use Rattle.recovery.specs.declared.fault.DepotDisk.TheVariants.{Journal, Archive}
 use Rattle.recovery.specs.declared.fault.OpenFault.{OpenFault}
 use Rattle.recovery.specs.declared.fault.OpenFault.TheVariants.{Unmade, Damaged, DiskFault, Memory}
@@ -28,6 +29,11 @@ IsOfArchive _ = Unit {0}
 abbrev pub IfDamaged : {X : Type 0} → Result X OpenFault → (ℕ → Type 0) → Type 0
 IfDamaged (Err (Damaged disk file place)) P = P place
 IfDamaged _ P = Unit {0}
+
+-- what a fault tells of a damage is so
+abbrev pub Tells : (DepotDisk → ℕ → ℕ → Type 0) → OpenFault → Type 0
+Tells P (Damaged disk file place) = P disk file place
+Tells P _ = Unit {0}
 
 -- it was read so, or the fault says nothing of what the files read
 abbrev pub IsReadOrSaysNothing : {X : Type 0} → Result X OpenFault → (X → Type 0) → Type 0

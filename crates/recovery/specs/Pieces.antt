@@ -1,8 +1,8 @@
 -- The groups of a file that is read in pieces.
-use Rattle.std.specs.Prelude.{◌≡◌, ◌≢◌, ◌⊎◌, ℕ, ◌+◌, ◌-◌, ◌<◌, ◌^◌, List, ◌++◌, length, drop, Option, Some, None}
+use Rattle.std.specs.Prelude.{◌≡◌, ◌≢◌, ◌⊎◌, ℕ, ◌+◌, ◌-◌, ◌<◌, ◌^◌, List, [], ◌∷◌, ◌++◌, length, drop, Option, Some, None}
 use Rattle.outside_api.specs.Disk.{Files}
 use Rattle.db_records.specs.declared.change.Change.{Change}
-use Rattle.journal_groups.specs.Groups.{IsGroup, group_text, mark, open_byte}
+use Rattle.journal_groups.specs.Groups.{IsGroup, body_of, group_text, mark, open_byte}
 use Rattle.journal_groups.specs.Causes.{GoesOn, StopsAt}
 use Rattle.recovery.specs.declared.pieces.FileGroups.{FileGroups}
 
@@ -27,3 +27,17 @@ HasCome old new None = (new.reader.number ≡ old.reader.number) × (new.reader.
 -- With the first of these bytes at the one place, no text goes on from the byte at the other; or all of them may go on, and end there.
 abbrev pub IsUnreadable : ℕ → ℕ → List ℕ → ℕ → Type 0
 IsUnreadable number at text place = StopsAt number text ((at + length text) - place) ⊎ (GoesOn number text × (place ≡ at + length text))
+
+-- with so many bytes of their text left comes the first of these changes with which they are no longer good
+pub record IsFirstBad (good : List Change → Type 0) (changes : List Change) (left : ℕ) : Type 0 where
+  pub front : List Change
+  pub bad : Change
+  pub after : List Change
+  pub parts : changes ≡ front ++ bad ∷ after
+  pub good_front : good front
+  pub none : good (front ++ bad ∷ []) → ⊥
+  pub left_is : left ≡ length (body_of (bad ∷ after))
+
+-- the place in the file of the first of the changes of the group that was read last with which they are no longer good
+abbrev pub IsBadPlace : (List Change → Type 0) → FileGroups → List Change → ℕ → Type 0
+IsBadPlace good groups changes place = (left : ℕ) × ((place ≡ (groups.reader.at - left) - groups.front) × IsFirstBad good changes left)

@@ -3,8 +3,9 @@
 ghost use Rattle.std.specs.Prelude.{◌≡◌, ◌≢◌, ◌+◌, ◌-◌, ◌<◌, ◌≤◌, ◌^◌, ◌++◌, ℕ, List, length, drop, IfOk, OnOk, Err};
 ghost use Rattle.std.specs.Result.{IfErr};
 ghost use Rattle.outside_api.specs.Disk.{Files};
+ghost use Rattle.journal_groups.specs.Groups.{body_of};
 ghost use Rattle.recovery.specs.Looking.{OnlyReads, IsCause};
-ghost use Rattle.recovery.specs.Faults.{IfDamaged, IsOfFile, SaysNothing};
+ghost use Rattle.recovery.specs.Faults.{IfDamaged, IsOfFile, SaysNothing, Tells};
 ghost use Rattle.recovery.specs.declared.fault.OpenFault.TheVariants.{Damaged, DiskFault};
 ghost use Rattle.recovery.specs.declared.fault.DepotDisk.TheVariants.{Journal};
 
@@ -117,6 +118,7 @@ impl FileGroups {
     /// memory where there is none for the text of one of them.
     pub(crate) fn damaged_before(&self, alloc: Global, changes: &[Change]) -> OpenFault
         ensures file { IsOfFile self.now.file result }
+        ensures place { Tells (λ disk file place. place ≡ (self.now.reader.at - length (body_of changes.now)) - self.now.front) result }
         ensures no_disk { result ≢ DiskFault }
     {
         let mut place = self.place();

@@ -1,11 +1,11 @@
 //! The root, which tells the generation of a depot's files.
 
-ghost use Rattle.std.specs.Prelude.{◌≡◌, ◌≢◌, ◌≤◌, ◌<◌, ℕ, length, slice_index, Ok, Err, IfOk};
+ghost use Rattle.std.specs.Prelude.{◌≡◌, ◌≢◌, ◌≤◌, ◌<◌, ℕ, length, slice_index, take, Ok, Err, IfOk};
 ghost use Rattle.std.specs.Result.{IfErr};
 ghost use Rattle.outside_api.specs.Disk.{Files};
 ghost use Rattle.disk_journal.specs.Images.{IsTail, IsRoot};
-ghost use Rattle.recovery.specs.Damage.{IsDamage, Tells};
-ghost use Rattle.recovery.specs.Faults.{IsReadOrSaysNothing, IsUnmadeOrSaysNothing};
+ghost use Rattle.recovery.specs.Damage.{IsDamage, IsRootDamage};
+ghost use Rattle.recovery.specs.Faults.{IsReadOrSaysNothing, IsUnmadeOrSaysNothing, Tells};
 ghost use Rattle.recovery.specs.Looking.{OnlyReads, IsCause};
 ghost use Rattle.recovery.specs.declared.fault.OpenFault.TheVariants.{Damaged, DiskFault, Unmade};
 ghost use Rattle.recovery.specs.declared.fault.DepotDisk.TheVariants.{Journal};
@@ -39,8 +39,9 @@ fn leading(wanted: u8, bytes: &[u8]) -> usize
 fn fitting(tail: &[u8]) -> usize
     requires { 0 < length tail.now → slice_index tail.now 0 ≢ 101 }
     ensures within { result ≤ length tail.now }
-    ensures all { result ≡ length tail.now → IsTail tail.now }
-    ensures only { IsTail tail.now → result ≡ length tail.now }
+    ensures fit { IsTail (take result tail.now) }
+    ensures some { 0 < length tail.now → 0 < result }
+    ensures next { result < length tail.now → slice_index tail.now result ≢ 109 }
 {
     if tail.is_empty() {
         return 0;
@@ -54,7 +55,7 @@ fn generation_of(root: &[u8]) -> Result<u32, u64>
     ensures root { IfOk result (λ generation. IsRoot generation root.now) }
     ensures last { IfOk result (λ generation. generation ≤ 4095) }
     ensures only { (generation : ℕ) → IsRoot generation root.now → result ≡ Ok generation }
-    ensures place { IfErr result (λ place. place ≤ length root.now) }
+    ensures damaged { IfErr result (IsRootDamage root.now) }
 {
     let generation = leading(OPEN, root);
     let (_, tail) = root.split_at(generation);

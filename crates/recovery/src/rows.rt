@@ -9,9 +9,11 @@ ghost use Rattle.journal_groups.specs.Groups.{group_text};
 ghost use Rattle.journal_groups.specs.Committed.{HasGroups};
 ghost use Rattle.table_changes.specs.Changed.{AllFitIn, changed_by, no_rows};
 ghost use Rattle.table_changes.specs.Drafts.{rows_of_draft};
-ghost use Rattle.recovery.specs.Faults.{IsOfFile, SaysNothing};
+ghost use Rattle.recovery.specs.Damage.{IsCheckpointDamage, IsJournalDamage};
+ghost use Rattle.recovery.specs.Faults.{IfDamaged, IsOfFile, SaysNothing};
 ghost use Rattle.recovery.specs.Holding.{ArePuts, joined};
 ghost use Rattle.recovery.specs.Looking.{OnlyReads, IsCause};
+ghost use Rattle.recovery.specs.Pieces.{IsBadPlace};
 ghost use Rattle.recovery.specs.Reading.{IsCheckpoint, HasCheckpoint, HasJournal};
 ghost use Rattle.recovery.specs.declared.fault.OpenFault.TheVariants.{DiskFault};
 
@@ -69,13 +71,15 @@ fn make_changes(
 ) -> Result<(), OpenFault>
     ensures fit { OnOk result (AllFitIn (rows_of_draft draft.old) changes.now) }
     ensures rows { OnOk result (rows_of_draft draft.new ≡ changed_by (rows_of_draft draft.old) changes.now) }
+    ensures damaged { IfDamaged result (IsBadPlace (AllFitIn (rows_of_draft draft.old)) groups.now changes.now) }
     ensures only { AllFitIn (rows_of_draft draft.old) changes.now → IfErr result SaysNothing }
     ensures fault { IfErr result (IsOfFile groups.now.file) }
     ensures no_disk { result ≢ Err DiskFault }
 {
     let fitting = make_fitting(alloc, draft, changes)?;
     if fitting < changes.len() {
-        return Err(groups.damaged_before(alloc, &changes[fitting..]));
+        let (_, others) = changes.split_at(fitting);
+        return Err(groups.damaged_before(alloc, others));
     }
     Ok(())
 }
@@ -83,13 +87,15 @@ fn make_changes(
 /// Checks that the group that was read last puts rows, tables and keys rising.
 fn check_puts(alloc: Global, groups: &FileGroups, puts: &[Change]) -> Result<(), OpenFault>
     ensures puts { OnOk result (ArePuts puts.now) }
+    ensures damaged { IfDamaged result (IsBadPlace ArePuts groups.now puts.now) }
     ensures only { ArePuts puts.now → IfErr result SaysNothing }
     ensures fault { IfErr result (IsOfFile groups.now.file) }
     ensures no_disk { result ≢ Err DiskFault }
 {
     let rising = rising_puts(puts);
     if rising < puts.len() {
-        return Err(groups.damaged_before(alloc, &puts[rising..]));
+        let (_, others) = puts.split_at(rising);
+        return Err(groups.damaged_before(alloc, others));
     }
     Ok(())
 }
@@ -105,6 +111,7 @@ pub(crate) fn read_checkpoint<D: Disk>(
     requires last { generation ≤ 4095 }
     ensures rows { IfOk result (λ draft. HasCheckpoint (D.seen disk.old) generation (rows_of_draft draft)) }
     ensures only { (files : Files) (puts : List Change) → D.seen disk.old files → Begins (group_text generation puts) (files (2 + 2 * generation)) → IsCheckpoint puts → IfErr result SaysNothing }
+    ensures damaged { (files : Files) → D.seen disk.old files → IfDamaged result (IsCheckpointDamage generation (files (2 + 2 * generation))) }
     ensures fault { IfErr result (IsOfFile (2 + 2 * generation)) }
     ensures reads { OnlyReads D.seen D.may_leave D.moment D.left_since disk.old disk.new }
     ensures cause { IsCause (D.faults disk.old) (D.faults disk.new) (result ≡ Err DiskFault) }
@@ -132,6 +139,7 @@ pub(crate) fn read_journal<D: Disk>(
     requires last { generation ≤ 4095 }
     ensures rows { IfOk result (λ end. HasJournal (D.seen disk.old) (1 + 2 * generation) end (rows_of_draft draft.old) (rows_of_draft draft.new)) }
     ensures only { (files : Files) (groups : List (List Change)) → D.seen disk.old files → HasGroups 1 (files (1 + 2 * generation)) groups → AllFitIn (rows_of_draft draft.old) (joined groups) → IfErr result SaysNothing }
+    ensures damaged { (files : Files) → D.seen disk.old files → IfDamaged result (IsJournalDamage (rows_of_draft draft.old) (files (1 + 2 * generation))) }
     ensures fault { IfErr result (IsOfFile (1 + 2 * generation)) }
     ensures reads { OnlyReads D.seen D.may_leave D.moment D.left_since disk.old disk.new }
     ensures cause { IsCause (D.faults disk.old) (D.faults disk.new) (result ≡ Err DiskFault) }

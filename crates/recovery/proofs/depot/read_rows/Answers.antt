@@ -1,4 +1,4 @@
-use Rattle.std.proofs.Common.{◌≡◌, Err, length, refl, sym, ap, ◌∙◌, arith}
+use Rattle.std.proofs.Common.{◌≡◌, ◌+◌, ◌*◌, Err, length, refl, sym, subst, ap, ◌∙◌, arith}
 use Rattle.recovery.specs.declared.fault.OpenFault.{OpenFault}
 use Rattle.table_changes.specs.Changed.{rows_of}
 use Rattle.table_changes.specs.Drafts.{rows_of_draft}
@@ -6,8 +6,12 @@ use Rattle.journal_groups.specs.Groups.{group_text}
 use Rattle.recovery.specs.Holding.{group_texts}
 use Rattle.recovery.proofs.Looks.{reads_on, passed_cause, passed_nothing, other_cause, no_cause}
 use Rattle.recovery.proofs.Held.{blocks_of, are_texts, length_texts, read_rows, read_rest, held_root, held_checkpoint, held_begins, held_groups, held_puts, held_fit, held_rows}
-use Rattle.recovery.specs.Damage.{IsDamage, Tells}
-use Rattle.recovery.proofs.Damaged.{other_disk}
+use Rattle.recovery.specs.Damage.{IsCheckpointDamage, IsJournalDamage, of_checkpoint, of_journal, IsDamage}
+use Rattle.recovery.specs.Faults.{IfDamaged, Tells}
+use Rattle.recovery.specs.declared.rows.JournalEnd.{JournalEnd}
+use Rattle.table_changes.specs.Changed.{AllRows, changed_by, no_rows}
+use Rattle.table_changes.specs.declared.draft.TablesDraft.{TablesDraft}
+use Rattle.recovery.proofs.Damaged.{journal_damage}
 use Rattle.recovery.proofs.PassedOn.{passed_on}
 use Rattle.recovery.proofs.depot.read_rows.Goals as goal
 
@@ -101,8 +105,21 @@ returns-in_err-generation-clause-damaged g c = λ files contents read.
 
 pub returns-in_err-draft-clause-damaged : goal.returns-in_err-draft-clause-damaged
 returns-in_err-draft-clause-damaged g c = λ files contents read.
-    passed_on c.from_residual-in_err-draft.result c.in_err-draft.field-0.0 (Tells (IsDamage files contents)) c.from_residual-in_err-draft.ensures.1 (other_disk files contents _ c.in_err-draft.field-0.0 c.in_err-draft.ensures.fault)
+    let generation = c.in_ok-generation.generation in
+    let fault = c.in_err-draft.field-0.0 in
+    let root = c.in_ok-generation.ensures.root files read in
+    passed_on c.from_residual-in_err-draft.result fault (Tells (IsDamage files contents)) c.from_residual-in_err-draft.ensures.1 (
+    journal_damage TablesDraft files contents (2 + 2 * generation) (IsCheckpointDamage generation (files (2 + 2 * generation))) fault c.in_err-draft.ensures.fault (c.in_err-draft.ensures.damaged files (c.read_root.ensures.reads.same.kept files read)) (λ place damage. of_checkpoint generation root refl damage))
 
 pub returns-in_err-end-clause-damaged : goal.returns-in_err-end-clause-damaged
 returns-in_err-end-clause-damaged g c = λ files contents read.
-    passed_on c.from_residual-in_err-end.result c.in_err-end.field-0.0 (Tells (IsDamage files contents)) c.from_residual-in_err-end.ensures.1 (other_disk files contents _ c.in_err-end.field-0.0 c.in_err-end.ensures.fault)
+    let generation = c.in_ok-generation.generation in
+    let fault = c.in_err-end.field-0.0 in
+    let root = c.in_ok-generation.ensures.root files read in
+    let read_then = c.read_root.ensures.reads.same.kept files read in
+    let checkpoint = c.in_ok-draft.ensures.rows in
+    let file = files (1 + 2 * generation) in
+    let damaged : IfDamaged {X = JournalEnd} (Err fault) (IsJournalDamage (changed_by no_rows checkpoint.puts) file) =
+    subst (λ (rows : AllRows). IfDamaged {X = JournalEnd} (Err fault) (IsJournalDamage rows file)) checkpoint.rows_are (c.in_err-end.ensures.damaged files (c.read_checkpoint.ensures.reads.same.kept files read_then)) in
+    passed_on c.from_residual-in_err-end.result fault (Tells (IsDamage files contents)) c.from_residual-in_err-end.ensures.1 (
+    journal_damage JournalEnd files contents (1 + 2 * generation) (IsJournalDamage (changed_by no_rows checkpoint.puts) file) fault c.in_err-end.ensures.fault damaged (λ place damage. of_journal generation checkpoint.puts root checkpoint.is (checkpoint.text files read_then) refl damage))

@@ -5,11 +5,13 @@ use Rattle.table_store.specs.Rows.{TableRows}
 use Rattle.table_changes.specs.Changed.{AllRows, rows_of}
 use Rattle.recovery.specs.Holding.{spots_end}
 use Rattle.recovery.specs.Contents.{AreWhole}
-use Rattle.recovery.specs.Damage.{IsDamage, Tells}
+use Rattle.recovery.specs.Damage.{IsDamage}
+use Rattle.recovery.specs.Faults.{Tells}
 use Rattle.recovery.specs.Rules.{KeepTheirRules}
+use Rattle.recovery.specs.declared.depot.Found.{Found}
 use Rattle.recovery.proofs.Damaged.{hold_found, archive_damage}
 use Rattle.recovery.proofs.Looks.{passed_nothing}
-use Rattle.recovery.proofs.PassedOn.{passed_on}
+use Rattle.recovery.proofs.PassedOn.{passed_on, passed_unmade}
 use Rattle.recovery.proofs.GoodSpots.{nothing_bad}
 use Rattle.recovery.proofs.Synced.{synced_then, looks_then, same_rows, same_end}
 use Rattle.recovery.proofs.open.read_depot.Goals as goal
@@ -34,7 +36,7 @@ returns-in_err-end-clause-damaged g c = λ files contents read read_contents.
     let rows = rows_of c.in_ok-found.found.tables in
     let fault = c.in_err-end.field-0.0 in
     passed_on c.from_residual-in_err-end.result fault (Tells (IsDamage files contents)) c.from_residual-in_err-end.ensures.1 (
-    archive_damage ℕ files contents rows fault (hold_found found.was rows files found.has found.are_groups (found.at_rest files (c.in_ok-sync.ensures.same.kept files read))) c.in_err-end.ensures.fault (c.in_err-end.ensures.damaged contents (c.in_ok-sync-2.ensures.same.kept contents read_contents)))
+    archive_damage ℕ files contents rows fault (hold_found found.was rows files found.has found.are_groups (found.at_rest files (c.in_ok-sync.ensures.same.kept files read))) c.in_ok-found.ensures.rules c.in_err-end.ensures.fault (c.in_err-end.ensures.damaged contents (c.in_ok-sync-2.ensures.same.kept contents read_contents)))
 
 pub returns-in_err-end-clause-journal_looks : goal.returns-in_err-end-clause-journal_looks
 returns-in_err-end-clause-journal_looks g c =
@@ -92,3 +94,7 @@ pub returns-clause-rules : goal.returns-clause-rules
 returns-clause-rules g c =
     let same : ◌≡◌ {A = AllRows} (rows_of c.set_archive_end.new.self) (rows_of c.in_ok-found.found.tables) = λ i table. (c.set_archive_end.ensures.versions table i).rows in
     subst KeepTheirRules (sym same) c.in_ok-found.ensures.rules
+
+pub returns-in_err-found-clause-exactly : goal.returns-in_err-found-clause-exactly
+returns-in_err-found-clause-exactly g c = λ files read empty.
+    passed_unmade Found c.from_residual-in_err-found.result c.in_err-found.field-0.0 c.from_residual-in_err-found.ensures.1 (c.in_err-found.ensures.exactly files (c.in_ok-sync.ensures.same.kept files read) empty)

@@ -2,12 +2,18 @@ use Rattle.std.proofs.Common.{◌≡◌, ◌+◌, take, subst, ◌∙◌, ap}
 use Rattle.std.proofs.lemmas.List.{take_all}
 use Rattle.table_changes.specs.Changed.{AllFitIn, changed_by}
 use Rattle.table_changes.specs.Drafts.{rows_of_draft}
+use Rattle.recovery.proofs.FirstBad.{told_bad}
 use Rattle.recovery.proofs.Fits.{fits_taken}
 use Rattle.recovery.proofs.rows.make_changes.Goals as goal
 
 pub returns-then-fitting-changes-clause-only : goal.returns-then-fitting-changes-clause-only
 returns-then-fitting-changes-clause-only c = λ fit.
     absurd (c.in_ok-fitting.ensures.next c.if-fitting-changes.true (fits_taken (rows_of_draft c.args.draft.now) (c.in_ok-fitting.fitting + 1) c.args.changes.now fit))
+
+pub returns-then-fitting-changes-clause-damaged : goal.returns-then-fitting-changes-clause-damaged
+returns-then-fitting-changes-clause-damaged c =
+    let made = c.in_ok-fitting in
+    told_bad (Unit {0}) (AllFitIn (rows_of_draft c.args.draft.now)) c.args.groups.now c.args.changes.now c.split_at.result.1.now made.fitting c.damaged_before.result c.split_at.ensures.back c.if-fitting-changes.true made.ensures.fit (made.ensures.next c.if-fitting-changes.true) c.damaged_before.ensures.place
 
 pub returns-clause-fit : goal.returns-clause-fit
 returns-clause-fit c =

@@ -1,12 +1,14 @@
-use Rattle.std.proofs.Common.{◌≡◌, ◌+◌, ◌*◌, ◌-◌, ◌<◌, ◌^◌, ℕ, List, Option, Some, subst, sym, arith}
+use Rattle.std.proofs.Common.{◌≡◌, ◌+◌, ◌*◌, ◌-◌, ◌<◌, ◌^◌, ℕ, List, Option, Some, subst, sym, ◌∙◌, arith}
 use Rattle.outside_api.specs.Moments.{then, weaker}
 use Rattle.db_records.specs.declared.change.Change.{Change}
 use Rattle.table_changes.specs.Changed.{AllFitIn, changed_by}
 use Rattle.table_changes.specs.Drafts.{rows_of_draft}
+use Rattle.recovery.specs.Damage.{IsJournalDamage}
 use Rattle.recovery.specs.Faults.{SaysNothing}
-use Rattle.recovery.specs.Pieces.{text_left, HasCome, IsFirst, IsUnreadable}
-use Rattle.recovery.proofs.PassedOn.{passed_on, no_damage}
+use Rattle.recovery.specs.Pieces.{text_left, HasCome, IsBadPlace, IsFirst, IsUnreadable}
+use Rattle.recovery.proofs.PassedOn.{passed_on, passed_damage, no_damage}
 use Rattle.recovery.proofs.Journals.{never_stuck, next_fit, one_more, small_count}
+use Rattle.recovery.proofs.GroupDamage.{journal_unreadable, journal_misfit}
 use Rattle.recovery.proofs.rows.read_journal.Goals as goal
 
 pub returns-in_err-changes-clause-only : goal.returns-in_err-changes-clause-only
@@ -32,6 +34,26 @@ returns-in_err-make_changes-clause-only g c = λ files all read has fit.
     c.in_err-make_changes.ensures.only (subst (AllFitIn (rows_of_draft c.loop-groups.draft)) (sym c.as_slice.ensures)
     (next_fit (g.D.Disk.seen c.args.disk.now) (1 + 2 * c.args.generation) c.loop-groups.count groups (rows_of_draft c.args.draft.now) (rows_of_draft c.loop-groups.draft) inv.so_far c.next.new.self c.in-Some.changes come files read is_first all has fit)))
 
+pub returns-in_err-changes-clause-damaged : goal.returns-in_err-changes-clause-damaged
+returns-in_err-changes-clause-damaged g c = λ files read.
+    let inv = c.loop-groups.invariant in
+    let groups = c.loop-groups.groups in
+    let P : ℕ → Type 0 = λ place. (found : ℕ) × ((place ≡ found - groups.front) × IsUnreadable groups.reader.number groups.reader.at (text_left groups files) found) in
+    passed_damage (Option (List Change)) P (IsJournalDamage (rows_of_draft c.args.draft.now) (files (1 + 2 * c.args.generation))) _ c.in_err-changes.field-0.0 c.from_residual-in_err-changes.ensures.1 (c.in_err-changes.ensures.damaged files (inv.reads.same.kept files read) (inv.so_far.text files read).0) (λ place bad.
+    journal_unreadable (g.D.Disk.seen c.args.disk.now) (1 + 2 * c.args.generation) c.loop-groups.count groups (rows_of_draft c.args.draft.now) (rows_of_draft c.loop-groups.draft) inv.so_far inv.front files read bad.0 place bad.1.0 bad.1.1)
+
+pub returns-in_err-make_changes-clause-damaged : goal.returns-in_err-make_changes-clause-damaged
+returns-in_err-make_changes-clause-damaged g c = λ files read.
+    let inv = c.loop-groups.invariant in
+    let groups = c.loop-groups.groups in
+    let now = rows_of_draft c.loop-groups.draft in
+    let come : HasCome groups c.next.new.self (Some c.in-Some.changes) = subst (HasCome groups c.next.new.self) c.in-Some.is c.in_ok-changes.ensures.come in
+    let first = c.in_ok-changes.ensures.text files (inv.reads.same.kept files read) (inv.so_far.text files read).0 in
+    let is_first = subst (IsFirst groups.reader.number (text_left groups files) (text_left c.next.new.self files)) c.in-Some.is first.1 in
+    passed_damage (Unit {0}) (IsBadPlace (AllFitIn now) c.next.new.self c.as_slice.result.now) (IsJournalDamage (rows_of_draft c.args.draft.now) (files (1 + 2 * c.args.generation))) _ c.in_err-make_changes.field-0.0 c.from_residual-in_err-make_changes.ensures.1 c.in_err-make_changes.ensures.damaged (λ place bad.
+    journal_misfit (g.D.Disk.seen c.args.disk.now) (1 + 2 * c.args.generation) c.loop-groups.count groups (rows_of_draft c.args.draft.now) now inv.so_far inv.front c.next.new.self c.in-Some.changes come c.in_ok-changes.ensures.file.1 files read is_first place
+    (subst (λ (l : List Change). IsBadPlace (AllFitIn now) c.next.new.self l place) c.as_slice.ensures bad))
+
 pub overflow_add-count : goal.overflow_add-count
 overflow_add-count g c =
     let groups = c.loop-groups.groups in
@@ -54,6 +76,7 @@ loop-groups-preserved g c =
           (λ files read.
           let first = c.in_ok-changes.ensures.text files (inv.reads.same.kept files read) (inv.so_far.text files read).0 in
           (first.0, subst (IsFirst groups.reader.number (text_left groups files) (text_left c.next.new.self files)) c.in-Some.is first.1));
+      front = c.in_ok-changes.ensures.file.1 ∙ inv.front;
       reads = record {
         same = record { kept = λ f read. reads.same.kept f (inv.reads.same.kept f read); no_more = λ f read. inv.reads.same.no_more f (reads.same.no_more f read) };
         no_more = λ f left. inv.reads.no_more f (reads.no_more f left);

@@ -1,4 +1,4 @@
-use Rattle.std.proofs.Common.{◌+◌, ◌*◌, ◌-◌, ◌≤◌, ◌^◌}
+use Rattle.std.proofs.Common.{◌≡◌, ◌+◌, ◌*◌, ◌-◌, ◌≤◌, ◌^◌}
 use Rattle.table_changes.specs.Drafts.{rows_of_draft}
 use Rattle.recovery.specs.Looking.{OnlyReads}
 use Rattle.recovery.specs.Reading.{SoFar}
@@ -7,6 +7,7 @@ use Rattle.recovery.proofs.rows.read_journal.Given as goal
 abbrev pub invariant-loop-groups : goal.invariant-loop-groups
 invariant-loop-groups g l = record {
   so_far : SoFar (g.D.Disk.seen l.fn.disk) (1 + 2 * l.generation) l.count l.groups (rows_of_draft l.fn.draft) (rows_of_draft l.draft);
+  front : l.groups.front ≡ 0;
   reads : OnlyReads g.D.Disk.seen g.D.Disk.may_leave g.D.Disk.moment g.D.Disk.left_since l.fn.disk l.disk;
   faults : g.D.Disk.faults l.fn.disk ≤ g.D.Disk.faults l.disk;
 }

@@ -1,7 +1,9 @@
 use Rattle.std.proofs.Common.{◌≡◌, sym, subst}
 use Rattle.table_changes.specs.Changed.{AllRows, rows_of}
-use Rattle.recovery.specs.Damage.{IsDamage, Tells}
+use Rattle.recovery.specs.Damage.{IsDamage}
+use Rattle.recovery.specs.Faults.{Tells}
 use Rattle.recovery.specs.Rules.{KeepTheirRules}
+use Rattle.recovery.proofs.Damaged.{rules_damage}
 use Rattle.recovery.proofs.Looks.{passed_nothing}
 use Rattle.recovery.proofs.PassedOn.{passed_on}
 use Rattle.recovery.proofs.rules.read_kept_rows.Goals as goal
@@ -13,6 +15,13 @@ returns-in_err-found-clause-only g c = λ files rows read hold rules.
 pub returns-in_err-found-clause-damaged : goal.returns-in_err-found-clause-damaged
 returns-in_err-found-clause-damaged g c = λ files contents read.
     passed_on c.from_residual.result c.in_err-found.field-0.0 (Tells (IsDamage files contents)) c.from_residual.ensures.1 (c.in_err-found.ensures.damaged files contents read)
+
+pub returns-in_err-check_rules-clause-damaged : goal.returns-in_err-check_rules-clause-damaged
+returns-in_err-check_rules-clause-damaged g c = λ files contents read.
+    let found = c.in_ok-found.ensures.found in
+    let fault = c.in_err-check_rules.field-0.0 in
+    passed_on c.from_residual-in_err-check_rules.result fault (Tells (IsDamage files contents)) c.from_residual-in_err-check_rules.ensures.1 (
+    rules_damage files contents found.was (rows_of c.in_ok-found.found.tables) c.in_ok-found.found.generation c.in_ok-found.found.end.length fault found.has found.are_groups (found.at_rest files read) found.generation found.long c.in_err-check_rules.ensures.only c.in_err-check_rules.ensures.told)
 
 pub returns-in_err-check_rules-clause-only : goal.returns-in_err-check_rules-clause-only
 returns-in_err-check_rules-clause-only g c = λ files rows read hold rules.
