@@ -2,7 +2,8 @@
 use Rattle.std.proofs.Common.{◌≡◌, ◌⊎◌, ℕ, List, length, Option, refl, sym, ◌∙◌, inl, inr, ⊎_elim, arith}
 use Rattle.outside_api.specs.Disk.{Files, LeavesOnly, NoMore}
 use Rattle.depot_model.specs.Deeds.{Deed}
-use Rattle.recovery.specs.Faults.{SaysNothing}
+use Rattle.recovery.specs.Damage.{IsDamage}
+use Rattle.recovery.specs.Faults.{SaysNothing, Tells}
 use Rattle.recovery.specs.Looking.{AreCauses}
 use Rattle.recovery.specs.Opening.{HasSynced}
 use Rattle.recovery.specs.Standing.{StandFor}
@@ -24,19 +25,21 @@ module _ {D S K : Type 0} (seen may_leave : D → Files → Type 0) (moment : D 
       → ((files : Files) → seen journal files → fault ≡ Unmade → length (files 0) ≡ 0)
       → ((files : Files) → seen journal files → length (files 0) ≡ 0 → (fault ≡ Unmade) ⊎ SaysNothing fault)
       → ((j a : Files) (d : List Deed) → seen journal j → seen archive a → StandFor d j a → SaysNothing fault)
+      → ((j a : Files) → seen journal j → seen archive a → Tells (IsDamage j a) fault)
       → AreCauses (disk_faults journal) (disk_faults ended.journal) (disk_faults archive) (disk_faults ended.archive) (fault ≡ DiskFault)
       → Why
-  why_of Unmade is unmade exactly stands causes = inl (record { cause_is = is; was_empty = λ files reads. unmade files reads refl })
-  why_of (Damaged disk file place) is unmade exactly stands causes = inr (inl (record {
+  why_of Unmade is unmade exactly stands damaged causes = inl (record { cause_is = is; was_empty = λ files reads. unmade files reads refl })
+  why_of (Damaged disk file place) is unmade exactly stands damaged causes = inr (inl (record {
     disk = disk;
     file = file;
     place = place;
     cause_is = is;
+    damage = damaged;
     was_there = λ files reads empty. ⊎_elim (λ (e : Damaged disk file place ≡ Unmade). absurd cc) (λ says. says) (exactly files reads empty);
     stands_for_none = λ j a d j_reads a_reads stand. stands j a d j_reads a_reads stand;
   }))
-  why_of DiskFault is unmade exactly stands causes = inr (inr (inl (record { cause_is = is; risen = causes.risen refl })))
-  why_of Memory is unmade exactly stands causes = inr (inr (inr is))
+  why_of DiskFault is unmade exactly stands damaged causes = inr (inr (inl (record { cause_is = is; risen = causes.risen refl })))
+  why_of Memory is unmade exactly stands damaged causes = inr (inr (inr is))
 
   -- a fault comes only where a count rose
   pub fault_of_unopened : Why → ended.cause ≡ causes.Fault → DiskRose disk_faults journal ended.journal archive ended.archive
@@ -63,14 +66,15 @@ module _ {D S K : Type 0} (seen may_leave : D → Files → Type 0) (moment : D 
       → ((files : Files) → seen journal files → fault ≡ Unmade → length (files 0) ≡ 0)
       → ((files : Files) → seen journal files → length (files 0) ≡ 0 → (fault ≡ Unmade) ⊎ SaysNothing fault)
       → ((j a : Files) (d : List Deed) → seen journal j → seen archive a → StandFor d j a → SaysNothing fault)
+      → ((j a : Files) → seen journal j → seen archive a → Tells (IsDamage j a) fault)
       → AreCauses (disk_faults journal) (disk_faults left_journal) (disk_faults archive) (disk_faults left_archive) (fault ≡ DiskFault)
       → IsUnopened seen may_leave moment left_since disk_faults given sink_faults journal archive old_out new_out ended
-  unopened_of fault told is journal_images archive_images any_moment unmade exactly stands causes = record {
+  unopened_of fault told is journal_images archive_images any_moment unmade exactly stands damaged causes = record {
     told = told;
     journal_images = rw journal_is journal_images;
     archive_images = rw archive_is archive_images;
     any_moment = rw journal_is any_moment;
-    why = why_of seen may_leave moment left_since disk_faults given sink_faults journal archive old_out new_out ended fault is unmade exactly stands (rw (journal_is, archive_is) causes);
+    why = why_of seen may_leave moment left_since disk_faults given sink_faults journal archive old_out new_out ended fault is unmade exactly stands damaged (rw (journal_is, archive_is) causes);
   }
 
 -- a crash leaves what a disk that was only read and synced read at the start

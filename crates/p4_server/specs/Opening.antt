@@ -2,6 +2,7 @@
 use Rattle.std.specs.Prelude.{◌≡◌, ◌≢◌, ◌⊎◌, ℕ, List, length, Option}
 use Rattle.outside_api.specs.Disk.{Files, LeavesOnly, NoMore}
 use Rattle.depot_model.specs.Deeds.{Deed}
+use Rattle.recovery.specs.Damage.{IsDamage}
 use Rattle.recovery.specs.declared.fault.DepotDisk.{DepotDisk}
 use Rattle.recovery.specs.declared.fault.OpenFault.{OpenFault}
 use Rattle.recovery.specs.declared.fault.OpenFault.TheVariants.{Unmade, Damaged, DiskFault, Memory}
@@ -25,12 +26,13 @@ module _ {D S K : Type 0} (seen may_leave : D → Files → Type 0) (moment : D 
     pub cause_is : ended.cause ≡ causes.Unmade
     pub was_empty : (files : Files) → seen journal files → length (files 0) ≡ 0
 
-  -- the root isn't empty, and no depot stands in the files
+  -- the root isn't empty, the files are damaged at the place, and no depot stands in them
   pub record IsDamaged : Type 0 where
     pub disk : DepotDisk
     pub file : ℕ
     pub place : ℕ
     pub cause_is : ended.cause ≡ causes.Damaged disk file place
+    pub damage : (j a : Files) → seen journal j → seen archive a → IsDamage j a disk file place
     pub was_there : (files : Files) → seen journal files → length (files 0) ≢ 0
     pub stands_for_none : (j a : Files) (d : List Deed) → seen journal j → seen archive a → StandFor d j a → ⊥
 

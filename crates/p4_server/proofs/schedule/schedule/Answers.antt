@@ -12,7 +12,7 @@ returns-in-Err-clause-schedules g c =
     let opens = c.in-Err.ensures in
     let end = c.end_unopened.ensures in
     schedules_unopened _ _ _ _ _ _ _ _ _ _ _ _ _ _ _ _ _ _ c.args.name.now _ (unopened_of _ _ _ _ _ _ _ _ _ _ _ _ _ _ end.journal end.archive c.in-Err.found.fault end.told end.cause
-    opens.journal_looks.no_more opens.archive_looks.no_more opens.journal_looks.any_moment opens.unmade opens.exactly (λ j a d j_reads a_reads stand. (opens.stands j a d j_reads a_reads stand).0) opens.cause)
+    opens.journal_looks.no_more opens.archive_looks.no_more opens.journal_looks.any_moment opens.unmade opens.exactly (λ j a d j_reads a_reads stand. (opens.stands j a d j_reads a_reads stand).0) opens.damaged opens.cause)
 
 pub returns-in-Ok-run-clause-schedules : goal.returns-in-Ok-run-clause-schedules
 returns-in-Ok-run-clause-schedules g c =
