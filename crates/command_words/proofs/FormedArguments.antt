@@ -3,10 +3,9 @@ use Rattle.std.proofs.Common.{◌≡◌, refl, ℕ, Bool, true, false, ◌&&◌,
 use Rattle.std.specs.List.{list_all, list_any}
 use Rattle.std.specs.Option.{option_map_or}
 use Rattle.depot_path.specs.Answers.{◌>>=◌}
-use Rattle.depot_path.specs.Date.{number_of}
+use Rattle.depot_path.specs.Digits.{number_of, is_digits, is_number as fits}
 use Rattle.depot_path.specs.Fit.{is_specifier}
 use Rattle.depot_path.specs.Name.{is_name}
-use Rattle.depot_path.specs.Revision.{is_digits}
 use Rattle.depot_path.specs.declared.file_spec.FileSpec.{FileSpec}
 use Rattle.depot_path.specs.declared.piece.Piece.{Piece}
 use Rattle.view_map.specs.Specifiers.{same_specifiers}
@@ -17,7 +16,6 @@ use Rattle.depot_model.specs.declared.command.PatternArgument.{PatternArgument}
 use Rattle.depot_model.specs.declared.request.WordFault.{WordFault}
 use Rattle.depot_model.specs.declared.request.WordFault.TheVariants.{BadUsage, BadNumber}
 use Rattle.command_words.specs.Arguments as spec
-use Rattle.command_words.specs.Digits.{is_number as fits}
 use Rattle.command_words.specs.Fields.{optional}
 use Rattle.command_words.specs.Options.{Invocation}
 use Rattle.command_words.specs.Values.{most_number, number, change, is_default, name, file_type}

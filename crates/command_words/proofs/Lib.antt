@@ -1,4 +1,3 @@
-pub mod Growing
 pub mod Spelled
 pub mod Bases
 pub mod Names

@@ -1,10 +1,9 @@
 -- What the reading of a number answers.
 use Rattle.std.proofs.Common.{◌≡◌, inr, ℕ, List, Bool, true, false, Result, Ok, Err, Some, None, if◌then◌else◌}
 use Rattle.depot_path.specs.Answers.{Answers}
-use Rattle.depot_path.specs.Date.{number_of}
+use Rattle.depot_path.specs.Digits.{number_of, is_number, number_up_to}
 use Rattle.depot_model.specs.declared.request.WordFault.{WordFault}
 use Rattle.depot_model.specs.declared.request.WordFault.TheVariants.{BadNumber, Memory}
-use Rattle.command_words.specs.Digits.{is_number, number_up_to}
 use Rattle.command_words.specs.Values.{number_of_word}
 
 spelled_by : (b : Bool) (n m : ℕ) (command : List ℕ) → Some n ≡ (if b then Some m else None) → Answers Memory (Ok n) (if b then Ok m else Err (BadNumber command))

@@ -1,4 +1,3 @@
-pub mod Digits
 pub mod Values
 pub mod Table
 pub mod Options

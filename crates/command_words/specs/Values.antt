@@ -2,12 +2,11 @@
 -- (Command-Line Reference, "Commands", each command's syntax; the limits and the two faults are this project's own choice).
 use Rattle.std.specs.Prelude.{ℕ, Bool, true, false, ◌||◌, List, codes, if◌then◌else◌, Result, Ok, Err}
 use Rattle.depot_path.specs.Bytes.{same}
-use Rattle.depot_path.specs.Date.{number_of}
+use Rattle.depot_path.specs.Digits.{number_of, is_number}
 use Rattle.depot_path.specs.Name.{is_name}
 use Rattle.depot_model.specs.Types.{is_type, printed_type}
 use Rattle.depot_model.specs.declared.request.WordFault.{WordFault}
 use Rattle.depot_model.specs.declared.request.WordFault.TheVariants.{BadUsage, BadNumber}
-use Rattle.command_words.specs.Digits.{is_number}
 use Rattle.command_words.specs.declared.table.ValueKind.{ValueKind}
 use Rattle.command_words.specs.declared.table.ValueKind.TheVariants as kinds
 

@@ -12,7 +12,6 @@ mod fields;
 mod file_forms;
 mod file_type;
 mod laws;
-mod numbers;
 mod options;
 mod table;
 mod values;

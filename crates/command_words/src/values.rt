@@ -3,15 +3,14 @@
 
 ghost use Rattle.std.specs.Prelude.{◌≡◌, Err, Ok};
 ghost use Rattle.depot_path.specs.Answers.{Answers, on_ok};
-ghost use Rattle.command_words.specs.Digits.{is_number as number_test};
+ghost use Rattle.depot_path.specs.Digits.{is_number as number_test};
 ghost use Rattle.command_words.specs.Values as spec;
 ghost use Rattle.command_words.specs.Values.{checked};
 
 use crate::file_type::{is_file_type, printed_type};
-use crate::numbers::number_up_to;
 use crate::table::ValueKind;
 use depot_model::WordFault;
-use depot_path::{Name, NameFault, Text, is_name};
+use depot_path::{Name, NameFault, Text, is_name, number_up_to};
 use std::alloc::Global;
 
 /// The greatest number of a change or a revision.

@@ -28,7 +28,7 @@ use Rattle.depot_model.specs.Numbers.{landings, pending, landing}
 use Rattle.depot_model.specs.Rows.{action_word, how_word}
 use Rattle.depot_model.specs.Records.{record_of, into_word, landed_record, integrations, shape_of}
 use Rattle.db_records.specs.Record.{is_live, key_of}
-use Rattle.depot_path.specs.Date.{number_of}
+use Rattle.depot_path.specs.Digits.{number_of}
 use Rattle.depot_model.specs.Numerals.{is_numeral}
 use Rattle.hex.specs.Hex.{encode_lower, decode_of}
 use Rattle.depot_model.specs.Fixes.{fix_name}

@@ -4,7 +4,7 @@ use Rattle.std.specs.Prelude.{ℕ, ◌/◌, List, [], ◌∷◌, ◌++◌, lengt
 use Rattle.hex.specs.Hex.{encode_lower, decode_of}
 use Rattle.depot_path.specs.Bytes.{same}
 use Rattle.depot_path.specs.Path.{path_of, printed}
-use Rattle.depot_path.specs.Date.{number_of}
+use Rattle.depot_path.specs.Digits.{number_of}
 use Rattle.spec_form.specs.declared.form.Field.{Field}
 use Rattle.spec_form.specs.Form.{FormValue, lines_of}
 use Rattle.spec_form.specs.declared.shape.Shape.TheVariants.{Shelf}

@@ -1,34 +1,12 @@
 -- The calendar of dates, by the calendar of the library that reads them.
-use Rattle.std.proofs.Common.{◌≡◌, ℕ, zero, suc, ◌+◌, ◌-◌, ◌*◌, ◌/◌, ◌%◌, ◌<◌, ◌≤◌, Bool, true, false, cond, Some, None, length, drop, List, [], ◌∷◌, fold, slice_index, get_or, refl, sym, ap, subst, ◌∙◌, inl, inr, arith, ℤ, pos, ◌+ℤ◌, ◌-ℤ◌, ◌*ℤ◌}
+use Rattle.std.proofs.Common.{◌≡◌, ℕ, zero, suc, ◌+◌, ◌-◌, ◌*◌, ◌/◌, ◌%◌, ◌≤◌, Bool, true, false, cond, Some, None, List, [], ◌∷◌, slice_index, refl, ap, subst, ◌∙◌, inl, inr, arith, ℤ, pos, ◌+ℤ◌, ◌-ℤ◌, ◌*ℤ◌}
 use Rattle.std.specs.Prelude.{◌==◌, ◌&&◌, ◌||◌, not, nat_lt, nat_le}
 use Rattle.std.proofs.lemmas.Bool.{cases_lt}
 use Rattle.std.proofs.lemmas.Bool.Decides.{eqb_tells, nat_tests}
 use Rattle.std.proofs.lemmas.Int.{ints}
 use Rattle.jiff_core.specs.Calendar.{day_count, days_from_civil, days_of_months, days_in_month as library_month}
 use Rattle.jiff_core.proofs.CalendarLemmas.{day_count-epoch, day_count-next_year, day_count-day_of_year, days_of_months_table}
-use Rattle.std.proofs.Math.Seq.{drop-cons}
-use Rattle.depot_path.specs.Date.{number_of, part_at, is_day, is_clock, is_date, moment_of, days_in_month, is_leap, days_before_year, days_before_month, day_number, seconds_of}
-
--- ---- numbers of digits
-
-pub number_grows : (n : ℕ) (digits : List ℕ) → n ≤ fold (λ n digit. n * 10 + (digit - 0x30)) n digits
-number_grows n [] = omega arith
-number_grows n (d ∷ digits) = omega (arith, number_grows (n * 10 + (d - 0x30)) digits)
-
-not_le : (n : ℕ) → 2147483647 < n → nat_le n 2147483647 ≡ false
-not_le n h = grind (arith, nat_tests)
-
-when_false : (c : Bool) (n : ℕ) → c ≡ false → None ≡ cond c (Some n) None
-when_false true n e = absurd cc
-when_false false n e = refl
-
-pub too_great : (digits : List ℕ) (n i : ℕ) → i < length digits → fold (λ n digit. n * 10 + (digit - 0x30)) n (drop i digits) ≡ number_of digits →
-    2147483647 < n * 10 + (get_or digits i 0 - 0x30) → None ≡ cond (nat_le (number_of digits) 2147483647) (Some (number_of digits)) None
-too_great digits n i low e great =
-    let next : number_of digits ≡ fold (λ n digit. n * 10 + (digit - 0x30)) (n * 10 + (get_or digits i 0 - 0x30)) (drop (suc i) digits) =
-    sym e ∙ ap (λ ds. fold (λ n digit. n * 10 + (digit - 0x30)) n ds) (drop-cons digits i 0 low) in
-    when_false (nat_le (number_of digits) 2147483647) (number_of digits)
-    (not_le (number_of digits) (omega (arith, next, number_grows (n * 10 + (get_or digits i 0 - 0x30)) (drop (suc i) digits), great)))
+use Rattle.depot_path.specs.Date.{part_at, is_day, is_clock, is_date, moment_of, days_in_month, is_leap, days_before_year, days_before_month, day_number, seconds_of}
 
 -- ---- years
 

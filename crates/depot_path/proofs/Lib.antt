@@ -5,6 +5,7 @@ pub mod Paths
 pub mod Texts
 pub mod Rows
 pub mod Columns
+pub mod Growing
 pub mod Dates
 pub mod Ends
 pub mod PathOrder

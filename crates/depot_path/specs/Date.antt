@@ -1,11 +1,8 @@
 -- Dates in UTC, `yyyy/mm/dd` and `yyyy/mm/dd:hh:mm:ss`, as seconds since 1970 (Command-Line Reference, "File specifications"; the calendar is the
 -- Gregorian one for all years). That a year is at least 1 and that a date without a time is midnight is this project's own choice.
-use Rattle.std.specs.Prelude.{ℕ, ◌+◌, ◌-◌, ◌*◌, ◌/◌, ◌%◌, ℤ, pos, ◌-ℤ◌, Bool, true, false, not, ◌&&◌, ◌||◌, nat_lt, nat_le, List, [], ◌∷◌, take, drop, slice_index, fold, ◌==◌, codes, if◌then◌else◌}
+use Rattle.std.specs.Prelude.{ℕ, ◌+◌, ◌-◌, ◌*◌, ◌/◌, ◌%◌, ℤ, pos, ◌-ℤ◌, Bool, true, false, not, ◌&&◌, ◌||◌, nat_lt, nat_le, List, [], ◌∷◌, take, drop, slice_index, ◌==◌, codes, if◌then◌else◌}
 use Rattle.depot_path.specs.Bytes.{is_digit}
-
--- the number that digits spell
-abbrev pub number_of : List ℕ → ℕ
-number_of digits = fold (λ n digit. n * 10 + (digit - 0x30)) 0 digits
+use Rattle.depot_path.specs.Digits.{number_of}
 
 -- a byte where the shape has this one: any digit where it has `d`
 abbrev pub has_byte : ℕ → ℕ → Bool

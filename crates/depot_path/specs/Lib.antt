@@ -8,6 +8,7 @@ pub mod Pattern
 pub mod Fit
 pub mod Rows
 pub mod Filling
+pub mod Digits
 pub mod Date
 pub mod Revision
 pub mod Order

@@ -1,11 +1,11 @@
 -- The revisions of a file specification: nothing, one revision, or two ends with a comma between (Command-Line Reference, "File
 -- specifications"). Which ends a range may have, and which fault comes first, are this project's own choice.
-use Rattle.std.specs.Prelude.{ℕ, ◌+◌, Bool, true, false, not, ◌&&◌, ◌||◌, nat_le, List, length, take, drop, slice_index, position, ◌==◌, codes, if◌then◌else◌, Option, Some, None, Result, Ok, Err}
-use Rattle.std.specs.List.{list_all}
+use Rattle.std.specs.Prelude.{ℕ, ◌+◌, Bool, true, false, not, ◌&&◌, ◌||◌, List, take, drop, slice_index, position, ◌==◌, codes, if◌then◌else◌, Option, Some, None, Result, Ok, Err}
 use Rattle.depot_path.specs.Answers.{◌>>=◌}
-use Rattle.depot_path.specs.Bytes.{same as same_text, is_among, begins_with, is_digit}
+use Rattle.depot_path.specs.Bytes.{same as same_text, is_among, begins_with}
 use Rattle.depot_path.specs.Name.{is_name}
-use Rattle.depot_path.specs.Date.{number_of, has_date_shape, is_date, moment_of}
+use Rattle.depot_path.specs.Date.{has_date_shape, is_date, moment_of}
+use Rattle.depot_path.specs.Digits.{is_digits, number_up_to}
 use Rattle.depot_path.specs.Pattern.{pattern_of}
 use Rattle.depot_path.specs.declared.fault.PathFault.{PathFault}
 use Rattle.depot_path.specs.declared.fault.PathFault.TheVariants.{BadRevision, BadRange, BadDate, Memory}
@@ -16,12 +16,9 @@ use Rattle.depot_path.specs.declared.revision.Wanted.{Wanted}
 use Rattle.depot_path.specs.declared.revision.Wanted.TheVariants.{Head, One, Range}
 use Rattle.depot_path.specs.declared.file_spec.FileSpec.{FileSpec}
 
-abbrev pub is_digits : List ℕ → Bool
-is_digits word = nat_le 1 (length word) && list_all is_digit word
-
 -- the number that a word of digits spells, up to 2,147,483,647
 abbrev pub small_number : List ℕ → Option ℕ
-small_number word = if is_digits word && nat_le (number_of word) 2147483647 then Some (number_of word) else None
+small_number word = number_up_to 2147483647 word
 
 abbrev pub made_of : (ℕ → RevSpec) → Option ℕ → Result RevSpec PathFault
 made_of made (Some n) = Ok (made n)

@@ -2,7 +2,8 @@
 
 ghost use Rattle.std.specs.Prelude.{◌≡◌, ◌≤◌, ◌<◌, ◌+◌, ◌*◌, pos, ◌+ℤ◌, ◌-ℤ◌, ◌*ℤ◌, length, if◌then◌else◌, IfSome};
 ghost use Rattle.jiff_core.specs.Calendar.{IsEpochDay};
-ghost use Rattle.depot_path.specs.Date.{has_byte as byte_test, has_shape as shape_test, has_date_shape as date_shape_test, part_at, is_day, is_clock, is_date, moment_of, number_of, day_number};
+ghost use Rattle.depot_path.specs.Date.{has_byte as byte_test, has_shape as shape_test, has_date_shape as date_shape_test, part_at, is_day, is_clock, is_date, moment_of, day_number};
+ghost use Rattle.depot_path.specs.Digits.{number_of};
 
 use jiff_core::civil::Date;
 

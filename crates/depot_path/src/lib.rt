@@ -6,6 +6,7 @@
 
 mod component;
 mod date;
+mod digits;
 mod escape;
 mod fault;
 mod file_spec;
@@ -21,6 +22,7 @@ mod sequence;
 mod text;
 mod utf8;
 
+pub use digits::{are_digits, is_digits, number_up_to, value_up_to};
 pub use fault::PathFault;
 pub use file_spec::FileSpec;
 pub use name::{Name, NameFault, is_name};

@@ -7,11 +7,11 @@ ghost use Rattle.std.specs.Ordering.{nat_cmp};
 ghost use Rattle.std.specs.Cmp.Rules.{hashing};
 ghost use Rattle.std.specs.Hash as fed;
 ghost use Rattle.std.proofs.Common.{rules};
-ghost use Rattle.std.specs.List.{list_all, list_any};
+ghost use Rattle.std.specs.List.{list_any};
 ghost use Rattle.depot_path.specs.Answers.{Answers};
-ghost use Rattle.depot_path.specs.Bytes.{is_digit};
 ghost use Rattle.depot_path.specs.Name.{is_barred, name_of, is_name as name_test};
 
+use crate::digits::are_digits;
 use crate::text::Text;
 use crate::utf8::is_utf8;
 use std::alloc::Global;
@@ -58,12 +58,6 @@ fn has_barred_byte(bytes: &[u8]) -> bool
     bytes.iter().any(|byte| is_barred_byte(*byte))
 }
 
-pub(crate) fn is_all_digits(bytes: &[u8]) -> bool
-    ensures { result ≡ list_all is_digit bytes.now }
-{
-    bytes.iter().all(|byte| *byte >= b'0' && *byte <= b'9')
-}
-
 /// Whether the bytes are a name.
 pub fn is_name(bytes: &[u8]) -> bool
     ensures { result ≡ name_test bytes.now }
@@ -72,7 +66,7 @@ pub fn is_name(bytes: &[u8]) -> bool
         && bytes.len() <= 128
         && bytes[0] != b'-'
         && !has_barred_byte(bytes)
-        && !is_all_digits(bytes)
+        && !are_digits(bytes)
         && is_utf8(bytes)
 }
 

@@ -1,14 +1,15 @@
 //! The revisions that a file specification asks for.
 
-ghost use Rattle.std.specs.Prelude.{◌≡◌, ◌==◌, ◌<◌, true, nat_le, length, position, if◌then◌else◌, IfSome};
+ghost use Rattle.std.specs.Prelude.{◌≡◌, ◌==◌, ◌<◌, true, length, position, if◌then◌else◌, IfSome};
 ghost use Rattle.depot_path.specs.Answers.{Answers};
-ghost use Rattle.depot_path.specs.Date.{number_of, is_date, moment_of};
+ghost use Rattle.depot_path.specs.Date.{is_date, moment_of};
 ghost use Rattle.depot_path.specs.Bytes.{is_among};
-ghost use Rattle.depot_path.specs.Revision.{is_digits as digits_test, small_number as number_in, numbered as numbered_as, hash_end, at_end, end_of, is_counted as counted_test, is_change as change_test, is_dated as dated_test, may_be_range as range_test, has_no_form as formless, is_memory as memory_test, same_mark as mark_test, second_hash as hash_of_second, second_word as word_of_second, is_plain_name as plain_name_test, one_of, range_of, ends_of, wanted_of};
+ghost use Rattle.depot_path.specs.Revision.{small_number as number_in, numbered as numbered_as, hash_end, at_end, end_of, is_counted as counted_test, is_change as change_test, is_dated as dated_test, may_be_range as range_test, has_no_form as formless, is_memory as memory_test, same_mark as mark_test, second_hash as hash_of_second, second_word as word_of_second, is_plain_name as plain_name_test, one_of, range_of, ends_of, wanted_of};
 
 use crate::date::{has_date_shape, read_moment};
+use crate::digits::{is_digits, number_up_to};
 use crate::fault::PathFault;
-use crate::name::{Name, is_all_digits, is_name};
+use crate::name::{Name, is_name};
 use std::alloc::Global;
 
 /// One revision of a file.
@@ -46,35 +47,13 @@ pub enum Wanted {
 /// The greatest number of a revision or a change.
 const GREATEST: u32 = 2_147_483_647;
 
-fn is_digits(word: &[u8]) -> bool
-    ensures { result ≡ digits_test word.now }
-{
-    !word.is_empty() && is_all_digits(word)
-}
-
-/// The number that digits spell, up to the greatest.
-fn number_up_to_greatest(digits: &[u8]) -> Option<u32>
-    ensures { result ≡ (if nat_le (number_of digits.now) 2147483647 then Some (number_of digits.now) else None) }
-{
-    let mut number: u32 = 0;
-    for digit in digits {
-        let next = u64::from(number) * 10 + u64::from(digit.saturating_sub(b'0'));
-        if next > u64::from(GREATEST) {
-            return None;
-        }
-        number = next as u32;
-    }
-    Some(number)
-}
-
 /// The number that a word of digits spells, up to the greatest.
 fn small_number(word: &[u8]) -> Option<u32>
     ensures { result ≡ number_in word.now }
 {
-    if is_digits(word) {
-        number_up_to_greatest(word)
-    } else {
-        None
+    match number_up_to(u64::from(GREATEST), word) {
+        Some(number) => Some(number as u32),
+        None => None,
     }
 }
 

@@ -206,6 +206,27 @@ fn the_first_fault_of_a_file_specification_is_answered(rt: HostRuntime) {
 }
 
 #[test]
+fn words_of_digits_are_numbers_up_to_a_limit(rt: HostRuntime) {
+    let cases: [(u64, &[u8], Option<u64>); 9] = [
+        (2_147_483_647, b"2147483647", Some(2_147_483_647)),
+        (2_147_483_647, b"2147483648", None),
+        (u64::MAX, b"18446744073709551615", Some(u64::MAX)),
+        (u64::MAX, b"18446744073709551616", None),
+        (10, b"0010", Some(10)),
+        (0, b"0", Some(0)),
+        (10, b"", None),
+        (10, b"-1", None),
+        (10, b"1a", None),
+    ];
+    for (most, word, number) in cases {
+        assert_eq!(rt; number_up_to(most, word), number);
+    }
+    assert_eq!(rt; value_up_to(99, b"042"), Some(42));
+    assert!(rt; is_digits(b"09") && !is_digits(b""));
+    assert!(rt; are_digits(b"") && !are_digits(b"/"));
+}
+
+#[test]
 fn values_are_equal_by_what_they_hold(rt: HostRuntime) -> Result<(), Fail> {
     let spec = FileSpec::read(rt.alloc(), b"//depot/a...#1,#head")?;
     assert!(rt; spec == FileSpec::read(rt.alloc(), b"//depot/a...#1,head")?);

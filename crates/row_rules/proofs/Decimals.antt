@@ -6,8 +6,7 @@ use Rattle.std.specs.List.{list_all}
 use Rattle.std.proofs.lemmas.Bool.Decides.{nat_tests}
 use Rattle.std.proofs.lemmas.List.{append-nil}
 use Rattle.depot_path.specs.Bytes.{same, is_digit}
-use Rattle.depot_path.specs.Date.{number_of}
-use Rattle.depot_path.specs.Revision.{is_digits}
+use Rattle.depot_path.specs.Digits.{number_of, is_digits}
 use Rattle.depot_model.specs.Numerals.{is_numeral}
 use Rattle.row_rules.specs.Tests.{has_leading_zero}
 use Rattle.row_rules.proofs.Deciding.{same_decides, le_true, left, right}

@@ -8,8 +8,7 @@ use Rattle.std.proofs.lemmas.Bool.{true≢false}
 use Rattle.std.proofs.lemmas.Bool.Decides.{Decides-eqb, nat_tests}
 use Rattle.std.proofs.lemmas.List.{append_cancel_right}
 use Rattle.depot_path.specs.Bytes.{same, is_digit}
-use Rattle.depot_path.specs.Date.{number_of}
-use Rattle.depot_path.specs.Revision.{is_digits}
+use Rattle.depot_path.specs.Digits.{number_of, is_digits}
 use Rattle.spec_form.specs.declared.shape.Shape.TheVariants.{Fix as FixShape}
 use Rattle.db_records.specs.declared.key.Key.{Key}
 use Rattle.db_records.specs.declared.key.Key.TheVariants as keys

@@ -7,7 +7,7 @@ use Rattle.std.proofs.lemmas.Bool.{true≢false}
 use Rattle.std.proofs.lemmas.Bool.Decides.{Decides-and, Decides-or, Decides-like, Decides-eqb}
 use Rattle.depot_path.specs.Bytes.{same}
 use Rattle.depot_path.specs.Name.{is_name}
-use Rattle.depot_path.specs.Date.{number_of}
+use Rattle.depot_path.specs.Digits.{number_of}
 use Rattle.spec_form.specs.declared.fault.FormFault.{FormFault}
 use Rattle.spec_form.specs.declared.shape.Shape.{Shape}
 use Rattle.spec_form.specs.declared.shape.Shape.TheVariants.{Client as ClientShape, Label as LabelShape, Shelf as ShelfShape, Job as JobShape, Fix as FixShape}

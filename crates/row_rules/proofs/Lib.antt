@@ -3,7 +3,6 @@ pub mod Rows
 pub mod Bases
 pub mod FirstKeys
 pub mod Decimals
-pub mod Digits
 pub mod FormRows
 pub mod Found
 pub mod Joined

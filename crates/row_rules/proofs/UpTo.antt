@@ -1,7 +1,7 @@
 -- Numerals up to a number.
 use Rattle.std.proofs.Common.{◌≡◌, ℕ, Bool, true, false, List, Option, Some, None, refl, sym, ◌∙◌}
 use Rattle.std.specs.Prelude.{◌&&◌, ◌||◌, not, codes, if◌then◌else◌}
-use Rattle.depot_path.specs.Date.{number_of}
+use Rattle.depot_path.specs.Digits.{number_of}
 use Rattle.depot_path.specs.Bytes.{same}
 use Rattle.spec_form.specs.Form.{FormValue}
 use Rattle.depot_model.specs.Values.{value_of as form_value}

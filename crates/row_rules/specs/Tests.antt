@@ -3,7 +3,7 @@
 use Rattle.std.specs.Prelude.{ℕ, ◌-◌, ◌==◌, nat_le, nat_lt, Bool, true, false, not, ◌&&◌, ◌||◌, List, [], ◌∷◌, ◌++◌, codes, if◌then◌else◌, map, length, Option, Some, None, Ok, Err, is_some, is_ok}
 use Rattle.std.specs.List.{list_any, list_all}
 use Rattle.depot_path.specs.Bytes.{same}
-use Rattle.depot_path.specs.Date.{number_of}
+use Rattle.depot_path.specs.Digits.{number_of}
 use Rattle.depot_path.specs.Name.{is_name}
 use Rattle.spec_form.specs.declared.shape.Shape.{Shape}
 use Rattle.spec_form.specs.declared.shape.Shape.TheVariants.{Client as ClientShape, Label as LabelShape, Shelf as ShelfShape, Job as JobShape, Fix as FixShape}

@@ -8,7 +8,7 @@ ghost use Rattle.table_store.specs.Tables.{version_of};
 ghost use Rattle.row_rules.specs.Fixing.{HaveFewFixes, change_in_text, fixed_change as change_of_row};
 
 use crate::forms::value;
-use crate::numerals::number_up_to;
+use crate::numerals::small_value;
 use crate::walks::rows_of;
 use db_records::{Record, TableId};
 use spec_form::{Form, FormFaultKind, Shape};
@@ -26,7 +26,7 @@ fn change_in(alloc: Global, text: &[u8]) -> Result<Option<u32>, AllocError>
     match Form::read(alloc, text, Shape::Fix) {
         Ok(form) => {
             if value(&form, "State") == b"on".as_slice() {
-                Ok(number_up_to(u32::MAX, value(&form, "Change")))
+                Ok(small_value(value(&form, "Change")))
             } else {
                 Ok(None)
             }

@@ -9,10 +9,10 @@ ghost use Rattle.row_rules.specs.Stored.{stored};
 ghost use Rattle.row_rules.specs.Tests.{form_read, is_client_text as client_text, is_label_text as label_text, is_job_text as job_text, is_fix_text as fix_text, spaced as spaced_words, job_words, fix_words, is_client_form as client_test, is_fix_form as fix_test, is_form as form_test};
 
 use crate::lookups::{has_form, is_there};
-use crate::numerals::{are_digits, is_positive, numeral_up_to};
+use crate::numerals::{is_positive, numeral_up_to};
 use crate::shelves::is_shelf;
 use db_records::{DomainRecord, Key};
-use depot_path::{Name, Text, is_name};
+use depot_path::{Name, Text, are_digits, is_name};
 use spec_form::{Form, FormFaultKind, Shape};
 use std::alloc::{AllocError, Global};
 use table_store::Tables;

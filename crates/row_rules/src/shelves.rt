@@ -10,7 +10,7 @@ ghost use Rattle.row_rules.specs.Tests.{is_shelf_text as shelf_text, field_numbe
 
 use crate::forms::{read_form, spaced, value};
 use crate::lookups::{found, is_pending, rev_key};
-use crate::numerals::{is_numeral, number_up_to, numeral_up_to};
+use crate::numerals::{is_numeral, numeral_up_to, small_value};
 use crate::texts::is_path;
 use crate::types::is_printed_type;
 use db_records::Record;
@@ -116,7 +116,7 @@ fn row_in_field<'a>(
 ) -> Result<Option<&'a Record>, AllocError>
     ensures { IfOk result (λ row. seen (option_copied row) ≡ (if nat_le (field_number form.now field.now) 4294967295 then stored tables.now (keys.Rev path.now (field_number form.now field.now)) else None)) }
 {
-    match number_up_to(u32::MAX, value(form, field)) {
+    match small_value(value(form, field)) {
         Some(rev) => {
             let key = rev_key(path, rev)?;
             Ok(found(tables, &key))
@@ -131,7 +131,7 @@ fn has_its_base(alloc: Global, tables: &Tables, form: &Form) -> Result<bool, All
 {
     let path = Text::from_bytes(alloc, value(form, "Path"))?;
     let row = row_in_field(tables, &path, form, "Base")?;
-    Ok(number_up_to(u32::MAX, value(form, "Base")) == Some(0) || row.is_some())
+    Ok(small_value(value(form, "Base")) == Some(0) || row.is_some())
 }
 
 /// Whether the source is there whole or not at all, and no content stands beside a live one.

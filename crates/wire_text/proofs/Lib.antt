@@ -1,7 +1,6 @@
 pub mod Pieces
 pub mod Separators
 pub mod Takings
-pub mod Numbers
 pub mod WordLists
 pub mod Says
 pub mod Heads

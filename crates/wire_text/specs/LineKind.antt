@@ -1,8 +1,7 @@
 -- What a line of a script is for, by its first word. The form of these lines is this project's own choice.
-use Rattle.std.specs.Prelude.{ℕ, Bool, true, false, ◌||◌, ◌&&◌, ◌==◌, nat_le, List, [], ◌∷◌, length, drop, codes, if◌then◌else◌, Option, Some, None, Result, Ok, Err}
-use Rattle.std.specs.List.{list_all}
-use Rattle.depot_path.specs.Bytes.{same, is_digit}
-use Rattle.depot_path.specs.Date.{number_of}
+use Rattle.std.specs.Prelude.{ℕ, Bool, true, false, ◌||◌, ◌&&◌, ◌==◌, nat_le, List, [], ◌∷◌, drop, codes, if◌then◌else◌, Option, Some, None, Result, Ok, Err}
+use Rattle.depot_path.specs.Bytes.{same}
+use Rattle.depot_path.specs.Digits.{number_of, is_digits}
 use Rattle.depot_path.specs.Path.{path_of}
 use Rattle.depot_path.specs.declared.fault.PathFault.{PathFault}
 use Rattle.wire_text.specs.Parts.{upto, past, is_in, Halves, last_cut}
@@ -15,10 +14,6 @@ use Rattle.wire_text.specs.declared.line_kind.LengthFault.TheVariants.{NoLength,
 abbrev pub is_skipped : List ℕ → Bool
 is_skipped [] = true
 is_skipped (b ∷ line) = b == 0x23
-
--- digits
-abbrev pub is_digits : List ℕ → Bool
-is_digits word = nat_le 1 (length word) && list_all is_digit word
 
 -- the length of a block, of at most 8,388,608 bytes
 abbrev pub length_of : List ℕ → Result ℕ LengthFault

@@ -1,15 +1,12 @@
 //! What a line of a script is for.
 
-ghost use Rattle.std.specs.Prelude.{◌≡◌, nat_le, if◌then◌else◌, IfOk, Some, None};
-ghost use Rattle.std.specs.List.{list_all};
-ghost use Rattle.depot_path.specs.Bytes.{is_digit};
-ghost use Rattle.depot_path.specs.Date.{number_of};
+ghost use Rattle.std.specs.Prelude.{◌≡◌, IfOk};
 ghost use Rattle.wire_text.specs.LineKind as spec;
 ghost use Rattle.wire_text.specs.LineKind.{length_of, path_in as path_of_client};
 ghost use Rattle.wire_text.specs.Parts.{last_cut};
 
 use crate::parts::{cut_at, cut_at_last};
-use depot_path::{ClientPath, DepotPath, Name, PathFault};
+use depot_path::{ClientPath, DepotPath, Name, PathFault, is_digits, value_up_to};
 use std::alloc::{AllocError, Global};
 
 /// The most bytes of a block.
@@ -63,33 +60,6 @@ fn is_skipped(line: &[u8]) -> bool
     }
 }
 
-fn has_digits_alone(word: &[u8]) -> bool
-    ensures { result ≡ list_all is_digit word.now }
-{
-    word.iter().all(|byte| *byte >= b'0' && *byte <= b'9')
-}
-
-fn is_digits(word: &[u8]) -> bool
-    ensures { result ≡ spec.is_digits word.now }
-{
-    !word.is_empty() && has_digits_alone(word)
-}
-
-/// The number that digits spell, up to the most bytes of a block.
-fn number_up_to_most(digits: &[u8]) -> Option<u32>
-    ensures { result ≡ (if nat_le (number_of digits.now) 8388608 then Some (number_of digits.now) else None) }
-{
-    let mut number: u32 = 0;
-    for digit in digits {
-        let next = u64::from(number) * 10 + u64::from(digit.saturating_sub(b'0'));
-        if next > u64::from(MAX_BLOCK) {
-            return None;
-        }
-        number = next as u32;
-    }
-    Some(number)
-}
-
 /// The length of a block that a word spells.
 fn block_length(word: &[u8]) -> Result<u32, LengthFault>
     ensures { result ≡ spec.length_of word.now }
@@ -97,8 +67,8 @@ fn block_length(word: &[u8]) -> Result<u32, LengthFault>
     if !is_digits(word) {
         return Err(LengthFault::NoLength);
     }
-    match number_up_to_most(word) {
-        Some(length) => Ok(length),
+    match value_up_to(u64::from(MAX_BLOCK), word) {
+        Some(length) => Ok(length as u32),
         None => Err(LengthFault::TooLong),
     }
 }

@@ -4,7 +4,7 @@ use Rattle.std.specs.Option.{option_map_or}
 use Rattle.std.specs.List.{list_any, enumerate_from}
 use Rattle.depot_path.specs.Bytes.{same}
 use Rattle.depot_path.specs.Path.{printed, path_of}
-use Rattle.depot_path.specs.Date.{number_of}
+use Rattle.depot_path.specs.Digits.{number_of}
 use Rattle.depot_path.specs.Revision.{small_number}
 use Rattle.spec_form.specs.declared.shape.Shape.TheVariants.{Change as ChangeShape}
 use Rattle.spec_form.specs.Form.{FormValue, lines_of}

@@ -1,5 +1,5 @@
 use Rattle.std.proofs.Common.{◌≡◌, ◌≤◌, ℕ, take}
-use Rattle.depot_path.specs.Date.{number_of}
+use Rattle.depot_path.specs.Digits.{number_of}
 use Rattle.depot_path.proofs.date.number.Given as goal
 
 pub record IsSmall (index number : ℕ) : Type 0 where

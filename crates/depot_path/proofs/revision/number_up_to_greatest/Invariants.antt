@@ -1,6 +1,0 @@
-use Rattle.std.proofs.Common.{◌≡◌, ◌≤◌, ◌+◌, ◌-◌, ◌*◌, drop, fold}
-use Rattle.depot_path.specs.Date.{number_of}
-use Rattle.depot_path.proofs.revision.number_up_to_greatest.Given as goal
-
-abbrev pub invariant-loop-digit : goal.invariant-loop-digit
-invariant-loop-digit l = (fold (λ n digit. n * 10 + (digit - 0x30)) l.number (drop l.digit-index l.digits) ≡ number_of l.digits) × (l.number ≤ 2147483647)
