@@ -4,7 +4,8 @@ use Rattle.std.specs.List.{list_all}
 use Rattle.std.specs.Option.{option_map_or}
 use Rattle.depot_path.specs.Answers.{◌>>=◌}
 use Rattle.depot_path.specs.Name.{is_name}
-use Rattle.depot_model.specs.WellFormed.{is_command, is_type_or_none, is_printed_type, answer_one_another, spells_path}
+use Rattle.depot_model.specs.Types.{is_printed_type}
+use Rattle.depot_model.specs.WellFormed.{is_command, is_type_or_none, answer_one_another, spells_path}
 use Rattle.depot_model.specs.declared.command.Command.{Command}
 use Rattle.depot_model.specs.declared.command.FileArgument.{FileArgument}
 use Rattle.depot_model.specs.declared.request.WordFault.{WordFault}

@@ -9,7 +9,7 @@ use Rattle.depot_path.specs.Name.{is_name}
 use Rattle.depot_path.specs.declared.file_spec.FileSpec.{FileSpec}
 use Rattle.depot_path.specs.declared.piece.Piece.{Piece}
 use Rattle.view_map.specs.Specifiers.{same_specifiers}
-use Rattle.depot_model.specs.Types.{is_type, printed_type}
+use Rattle.depot_model.specs.Types.{is_type, printed_type, is_printed_type}
 use Rattle.depot_model.specs.WellFormed as formed
 use Rattle.depot_model.specs.declared.command.FileArgument.{FileArgument}
 use Rattle.depot_model.specs.declared.command.PatternArgument.{PatternArgument}
@@ -43,8 +43,8 @@ changes command word = changes_by (is_default word)
 pub names : (command word : List ℕ) → Passes is_name (name command word)
 names command word = given_where (λ n. is_name n ≡ true) (is_name word) word (BadUsage command) (λ h. h)
 
-pub types : (command word : List ℕ) → Passes formed.is_printed_type (file_type command word)
-types command word = given_where (λ t. formed.is_printed_type t ≡ true) (is_type word) (printed_type word) (BadUsage command) (printed_types word)
+pub types : (command word : List ℕ) → Passes is_printed_type (file_type command word)
+types command word = given_where (λ t. is_printed_type t ≡ true) (is_type word) (printed_type word) (BadUsage command) (printed_types word)
 
 -- ---- what may be there
 

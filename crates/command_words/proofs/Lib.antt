@@ -1,5 +1,4 @@
 pub mod Spelled
-pub mod Bases
 pub mod Names
 pub mod Seen
 pub mod Taking

@@ -4,8 +4,7 @@ use Rattle.std.specs.List.{list_all}
 use Rattle.std.specs.Cmp.Lexicographic.{same_text}
 use Rattle.std.proofs.lemmas.Cmp.{nat_list_eq_equiv}
 use Rattle.depot_path.specs.Bytes.{same, is_among}
-use Rattle.depot_model.specs.Types.{base_type, modifiers, is_base, are_modifiers, is_type, printed_type}
-use Rattle.depot_model.specs.WellFormed.{is_printed_type}
+use Rattle.depot_model.specs.Types.{base_type, modifiers, is_base, are_modifiers, is_type, printed_type, is_printed_type}
 use Rattle.command_words.proofs.Giving.{both, first_of_both, second_of_both}
 
 -- modifiers that stand in order

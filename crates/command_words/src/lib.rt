@@ -10,7 +10,6 @@ mod choice;
 mod ends;
 mod fields;
 mod file_forms;
-mod file_type;
 mod laws;
 mod options;
 mod table;

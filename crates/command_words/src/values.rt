@@ -7,9 +7,8 @@ ghost use Rattle.depot_path.specs.Digits.{is_number as number_test};
 ghost use Rattle.command_words.specs.Values as spec;
 ghost use Rattle.command_words.specs.Values.{checked};
 
-use crate::file_type::{is_file_type, printed_type};
 use crate::table::ValueKind;
-use depot_model::WordFault;
+use depot_model::{WordFault, is_file_type, printed_type};
 use depot_path::{Name, NameFault, Text, is_name, number_up_to};
 use std::alloc::Global;
 

@@ -1,4 +1,5 @@
 pub mod Filters
+pub mod TypeBases
 pub mod Risen
 pub mod Told
 pub mod Counting

@@ -21,7 +21,7 @@ use Rattle.db_records.specs.declared.record.Record.TheVariants.{Counter, Group, 
 use Rattle.db_records.specs.declared.rows.IntegedRecord.{IntegedRecord}
 use Rattle.db_records.specs.declared.rows.ProtectRecord.{ProtectRecord}
 use Rattle.db_records.specs.declared.rows.RevRecord.{RevRecord}
-use Rattle.depot_model.specs.Types.{is_type, printed_type}
+use Rattle.depot_model.specs.Types.{is_printed_type}
 use Rattle.depot_model.specs.Deeds.{Deed, Landing, Entry, Add, Edit, Delete, Branch, Integrate, How, CopyFrom, BranchFrom, DeleteFrom, Ignored, MoveAdd, MoveDelete, MovedFrom, SpecKind, Credit, Opening, Source, Open, Shut, Hold, Free, Got, Tag, Owe, Paid, Land, Pend}
 use Rattle.depot_model.specs.Revisions.{is_live_action}
 use Rattle.depot_model.specs.Numbers.{landings, pending, landing}
@@ -58,7 +58,7 @@ abbrev pub IsPath : List ℕ → Type 0
 IsPath text = IsTrue (is_printed_path text)
 
 abbrev pub IsType : List ℕ → Type 0
-IsType text = IsTrue (is_type text && same (printed_type text) text)
+IsType text = IsTrue (is_printed_type text)
 
 abbrev pub IsName : List ℕ → Type 0
 IsName text = IsTrue (is_name text)

@@ -23,3 +23,6 @@ is_type text = is_base (base_type text) && (same text (base_type text) || are_mo
 abbrev pub printed_type : List ℕ → List ℕ
 printed_type text =
     if same text (base_type text) then text else base_type text ++ codes "+" ++ filter (λ b. is_among (modifiers text) b) (codes "xwlF")
+
+abbrev pub is_printed_type : List ℕ → Bool
+is_printed_type text = is_type text && same (printed_type text) text

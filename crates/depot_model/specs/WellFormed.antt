@@ -10,11 +10,8 @@ use Rattle.depot_model.specs.declared.command.Command.{Command}
 use Rattle.depot_model.specs.declared.command.Command.TheVariants.{CounterSet, CounterDelete, Add, Edit, Reopen, Move, Integrate, Where}
 use Rattle.depot_model.specs.declared.command.FileArgument.{FileArgument}
 use Rattle.depot_model.specs.declared.command.PatternArgument.{PatternArgument}
-use Rattle.depot_model.specs.Types.{is_type, printed_type}
+use Rattle.depot_model.specs.Types.{is_printed_type}
 use Rattle.depot_model.specs.Steps.Adding.{spelled}
-
-abbrev pub is_printed_type : List ℕ → Bool
-is_printed_type type = is_type type && same (printed_type type) type
 
 abbrev pub is_type_or_none : Option (List ℕ) → Bool
 is_type_or_none type = option_map_or is_printed_type type true

@@ -2,11 +2,12 @@
 //! sessions of a run are given.
 //!
 //! The definitions stand in `specs/`. They name no table, lock, thread or byte of a file. Beside them
-//! stand the types of commands, requests and replies, filters, and laws of the definitions.
+//! stand the types of commands, requests and replies, filters, the reading of file types, and laws of the definitions.
 #![tactic(auto)]
 
 mod command;
 mod deed;
+mod file_type;
 mod filter;
 mod laws;
 mod line;
@@ -17,6 +18,7 @@ mod request;
 
 pub use command::{Command, FileArgument, Labelling, PatternArgument, Taking};
 pub use deed::Count;
+pub use file_type::{is_file_type, is_printed_type, printed_type};
 pub use filter::{Filter, FilterRule};
 pub use laws::{
     counters_keep_depots_sound, empty_depot_is_sound, later_lines_of_others_change_nothing,

@@ -1,3 +1,4 @@
+use crate::file_type::{is_file_type, is_printed_type, printed_type};
 use crate::filter::Filter;
 use depot_path::{DepotPath, Text};
 use std::test::Fail;
@@ -21,6 +22,26 @@ fn the_last_pattern_that_fits_decides(rt: HostRuntime) -> Result<(), Fail> {
             return Err(Fail::from("a path is read"));
         };
         assert!(rt; filter.holds(&path) == holds);
+    }
+    Ok(())
+}
+
+#[test]
+fn modifiers_of_a_type_are_printed_in_order(rt: HostRuntime) -> Result<(), Fail> {
+    let alloc = rt.alloc();
+    let cases = [
+        (b"text".as_slice(), b"text".as_slice(), true),
+        (b"binary+Flwx".as_slice(), b"binary+xwlF".as_slice(), false),
+        (b"text+wF".as_slice(), b"text+wF".as_slice(), true),
+    ];
+    for (text, printed, is_printed) in cases {
+        assert!(rt; is_file_type(text));
+        assert_eq!(rt; printed_type(alloc, text)?.as_bytes(), printed);
+        assert_eq!(rt; is_printed_type(alloc, text)?, is_printed);
+    }
+    for text in [b"text+".as_slice(), b"text+xx", b"text+m", b"symlink", b""] {
+        assert!(rt; !is_file_type(text));
+        assert!(rt; !is_printed_type(alloc, text)?);
     }
     Ok(())
 }

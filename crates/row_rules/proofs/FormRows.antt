@@ -22,7 +22,8 @@ use Rattle.db_records.specs.declared.rows.DomainRecord.{DomainRecord}
 use Rattle.depot_model.specs.Numerals.{is_numeral}
 use Rattle.depot_model.specs.Values.{value_of as form_value, first_or_empty}
 use Rattle.depot_model.specs.Rules.{Rows, IsRow, IsForm, IsShelf, IsJob, IsFix, HasRev, IsBase, IsLiveRow, IsPending, reads_as, lines_in, is_printed_path, is_one_of, is_job_name, is_content_text, top_in}
-use Rattle.row_rules.specs.Tests.{has_rev, with_form, is_client_text, is_label_text, is_job_text, is_fix_text, is_shelf_text, is_client_form, is_label_form, is_job_form, is_fix_form, is_shelf_form, is_kept_form, is_form, job_words, fix_words, shelf_words, shelf_action_words, spaced, is_numeral_up_to, has_field, field_number, has_small_rev, is_live_row, has_its_source, has_its_fields, has_its_content, has_its_numbers, is_printed_type, is_pending}
+use Rattle.depot_model.specs.Types.{is_printed_type}
+use Rattle.row_rules.specs.Tests.{has_rev, with_form, is_client_text, is_label_text, is_job_text, is_fix_text, is_shelf_text, is_client_form, is_label_form, is_job_form, is_fix_form, is_shelf_form, is_kept_form, is_form, job_words, fix_words, shelf_words, shelf_action_words, spaced, is_numeral_up_to, has_field, field_number, has_small_rev, is_live_row, has_its_source, has_its_fields, has_its_content, has_its_numbers, is_pending}
 use Rattle.row_rules.proofs.Deciding.{itself, same_decides, le_decides, never, implies, right, all3, all4, all5, all6, all9}
 use Rattle.row_rules.proofs.Rows.{pending_decides}
 

@@ -25,7 +25,8 @@ use Rattle.depot_model.specs.Deeds.{How, CopyFrom, BranchFrom, DeleteFrom, Ignor
 use Rattle.depot_model.specs.Records.{into_word, unplaced}
 use Rattle.depot_model.specs.Rows.{how_word}
 use Rattle.depot_model.specs.Rules.{Rows, is_printed_path, is_one_of, is_kept_name, is_move_word, is_delete_word, action_words, hows, line_text, line_words, mirror_key, IsRow, IsSubmitted, IsPendingOf, IsPending, IsOpenIn, IsSource, IsMoved, IsMadeIn, IsMirror, IsCredit, IsCredited, IsPaired, IsBase, HasRevs, HasNone}
-use Rattle.row_rules.specs.Tests.{has_rev, has_base, has_revs, has_client, has_label, is_pending, is_pending_of, is_submitted, is_open_in, has_source, is_printed_type, is_moved, are_words, how_words, status_words, is_made_in, is_mirror, is_pair_of, is_paired, is_counter, is_group, is_line, is_have, is_labelled, is_integration, is_resolve, is_opened, is_change, has_none, is_revision}
+use Rattle.depot_model.specs.Types.{is_printed_type}
+use Rattle.row_rules.specs.Tests.{has_rev, has_base, has_revs, has_client, has_label, is_pending, is_pending_of, is_submitted, is_open_in, has_source, is_moved, are_words, how_words, status_words, is_made_in, is_mirror, is_pair_of, is_paired, is_counter, is_group, is_line, is_have, is_labelled, is_integration, is_resolve, is_opened, is_change, has_none, is_revision}
 use Rattle.row_rules.proofs.Deciding.{itself, same_decides, le_decides, never, implies, chosen, or_left, or_right, all3, all4, all5, all6, all7, all9}
 
 -- ---- changes

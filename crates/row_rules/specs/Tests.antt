@@ -32,7 +32,7 @@ use Rattle.depot_model.specs.Numerals.{is_numeral}
 use Rattle.depot_model.specs.Values.{value_of as form_value}
 use Rattle.depot_model.specs.Records.{into_word}
 use Rattle.depot_model.specs.Rows.{how_word}
-use Rattle.depot_model.specs.Types.{is_type, printed_type}
+use Rattle.depot_model.specs.Types.{is_printed_type}
 use Rattle.depot_model.specs.Rules.{Rows, is_printed_path, is_one_of, is_kept_name, is_move_word, is_delete_word, action_words, hows, line_text, mirror_key, change_of, top_in, is_job_name, is_content_text}
 
 -- ---- rows of other keys
@@ -71,9 +71,6 @@ abbrev pub has_source : Rows → List ℕ → ℕ → Bool
 has_source rows path rev = (same path [] && (rev == 0)) || (is_printed_path path && has_rev rows path rev)
 
 -- ---- texts
-
-abbrev pub is_printed_type : List ℕ → Bool
-is_printed_type text = is_type text && same (printed_type text) text
 
 abbrev pub is_moved : List ℕ → List ℕ → Bool
 is_moved action moved = if is_move_word action then is_printed_path moved else same moved []

@@ -17,7 +17,6 @@ mod rules;
 mod shelves;
 mod simple;
 mod texts;
-mod types;
 mod walks;
 
 pub use laws::rows_of_depots_keep_rules;

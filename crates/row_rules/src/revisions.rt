@@ -6,8 +6,8 @@ ghost use Rattle.row_rules.specs.Tests.{is_revision as revision_test, has_none a
 
 use crate::lookups::{change_of, has_rev, is_submitted};
 use crate::texts::{is_action, is_delete, is_moved, is_path};
-use crate::types::is_printed_type;
 use db_records::RevRecord;
+use depot_model::is_printed_type;
 use std::alloc::{AllocError, Global};
 use table_store::Tables;
 

@@ -19,7 +19,7 @@ fn plus_in(text: &[u8]) -> Option<usize>
 }
 
 /// How many bytes stand before the first `+`.
-#[tactic(auto, using(crate::proofs::Bases::found, crate::proofs::Bases::whole))]
+#[tactic(auto, using(crate::proofs::TypeBases::found, crate::proofs::TypeBases::whole))]
 fn base_len(text: &[u8]) -> usize
     ensures value { result ≡ prefix_len (λ b. not (b == 43)) text.now }
     ensures within { result ≤ length text.now }
@@ -105,7 +105,7 @@ fn ordered(alloc: Global, letters: &[u8]) -> Result<Text, AllocError>
     Ok(Text::from_vec(text))
 }
 
-/// The file type as it is printed.
+/// The file type as it is printed, with its modifiers in order. The one error is want of memory.
 pub fn printed_type(alloc: Global, text: &[u8]) -> Result<Text, AllocError>
     ensures { IfOk result (λ printed. printed ≡ spec.printed_type text.now) }
 {
@@ -117,4 +117,12 @@ pub fn printed_type(alloc: Global, text: &[u8]) -> Result<Text, AllocError>
     printed.append(b"+")?;
     printed.append(ordered(alloc, modifiers(text))?.as_bytes())?;
     Ok(printed)
+}
+
+/// Whether a text is a file type as it is printed. The one error is want of memory.
+pub fn is_printed_type(alloc: Global, text: &[u8]) -> Result<bool, AllocError>
+    ensures { IfOk result (λ is. is ≡ spec.is_printed_type text.now) }
+{
+    let printed = printed_type(alloc, text)?;
+    Ok(is_file_type(text) && printed.as_bytes() == text)
 }
