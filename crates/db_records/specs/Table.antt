@@ -1,6 +1,6 @@
 -- The tables and their numbers. The tables are those of the Helix Core database schema reference that a depot of this server
 -- has; their numbers and their order are this project's own choice.
-use Rattle.std.specs.Prelude.{ℕ}
+use Rattle.std.specs.Prelude.{ℕ, List, [], ◌∷◌}
 use Rattle.db_records.specs.declared.table.TableId.{TableId}
 use Rattle.db_records.specs.declared.table.TableId.TheVariants.{Counter, Group, Protect, Domain, Have, Label, Integed, Resolve, Working, Change, Rev}
 
@@ -16,3 +16,7 @@ table_number Resolve = 7
 table_number Working = 8
 table_number Change = 9
 table_number Rev = 10
+
+-- the tables, in the order of their numbers
+abbrev pub all_tables : List TableId
+all_tables = Counter ∷ Group ∷ Protect ∷ Domain ∷ Have ∷ Label ∷ Integed ∷ Resolve ∷ Working ∷ Change ∷ Rev ∷ []

@@ -31,6 +31,21 @@ pub enum TableId {
 }
 
 impl TableId {
+    /// The tables, in the order of their numbers.
+    pub const ALL: [TableId; 11] = [
+        TableId::Counter,
+        TableId::Group,
+        TableId::Protect,
+        TableId::Domain,
+        TableId::Have,
+        TableId::Label,
+        TableId::Integed,
+        TableId::Resolve,
+        TableId::Working,
+        TableId::Change,
+        TableId::Rev,
+    ];
+
     /// The number of the table, from 0 to 10.
     pub fn number(self) -> usize
         ensures { result ≡ table_number self }

@@ -5,13 +5,13 @@ use Rattle.std.specs.List.{list_all}
 use Rattle.std.proofs.lemmas.Bool.{true≢false}
 use Rattle.db_records.specs.declared.key.Key.TheVariants as keys
 use Rattle.db_records.specs.declared.record.Record.{Record}
+use Rattle.db_records.specs.Table.{all_tables}
 use Rattle.db_records.specs.declared.table.TableId.{TableId}
 use Rattle.db_records.specs.declared.table.TableId.TheVariants as tables
 use Rattle.table_store.specs.Rows.{IsRising, AllOfTable}
 use Rattle.depot_model.specs.Rules.{top_in, value_of}
 use Rattle.row_rules.specs.Kept.{KeepRowRules}
 use Rattle.row_rules.specs.Tests.{keeps, are_apart}
-use Rattle.row_rules.specs.Walking.{table_ids}
 use Rattle.row_rules.proofs.Deciding.{left, right}
 use Rattle.row_rules.proofs.Joined.{rows_in, rules_kept, all_keep}
 use Rattle.row_rules.proofs.OneLock.{one_lock, locks_apart}
@@ -32,8 +32,8 @@ by_table P a b c d e f g h i j k tables.Change = j
 by_table P a b c d e f g h i j k tables.Rev = k
 
 module _ (test : TableId → Bool) where
-  all_tables : ((table : TableId) → test table ≡ true) → list_all test table_ids ≡ true
-  all_tables h =
+  all_hold : ((table : TableId) → test table ≡ true) → list_all test all_tables ≡ true
+  all_hold h =
       λ i. h tables.Counter i && (h tables.Group i && (h tables.Protect i && (h tables.Domain i && (h tables.Have i && (h tables.Label i
       && (h tables.Integed i && (h tables.Resolve i && (h tables.Working i && (h tables.Change i && (h tables.Rev i && true))))))))))
 
@@ -43,7 +43,7 @@ module _ (test : TableId → Bool) where
   rest : (table : TableId) (others : List TableId) → list_all test (table ∷ others) ≡ true → list_all test others ≡ true
   rest table others e = right (test table) (list_all test others) e
 
-  each_table : list_all test table_ids ≡ true → (table : TableId) → test table ≡ true
+  each_table : list_all test all_tables ≡ true → (table : TableId) → test table ≡ true
   each_table e =
       let e_Counter = rest tables.Counter (tables.Group ∷ tables.Protect ∷ tables.Domain ∷ tables.Have ∷ tables.Label ∷ tables.Integed ∷ tables.Resolve ∷ tables.Working ∷ tables.Change ∷ tables.Rev ∷ []) e in
       let e_Group = rest tables.Group (tables.Protect ∷ tables.Domain ∷ tables.Have ∷ tables.Label ∷ tables.Integed ∷ tables.Resolve ∷ tables.Working ∷ tables.Change ∷ tables.Rev ∷ []) e_Counter in
@@ -87,7 +87,7 @@ module _ (lists : TableId → List Record) where
 
   pub decided : ((table : TableId) → IsRising (lists table)) → ((table : TableId) → AllOfTable table (lists table)) → (top generation : ℕ) (keep apart : Bool)
       → top ≡ top_in (rows_in lists) → top ≤ 2147483647 → generation ≡ value_of (rows_in lists (keys.Counter (codes "journal"))) → generation ≤ 4095
-      → keep ≡ list_all (λ table. list_all (keeps (rows_in lists)) (lists table)) table_ids → apart ≡ are_apart None (lists tables.Working)
+      → keep ≡ list_all (λ table. list_all (keeps (rows_in lists)) (lists table)) all_tables → apart ≡ are_apart None (lists tables.Working)
       → IsTrue (keep && apart) ↔ KeepRowRules (rows_in lists)
   decided up of top generation keep apart top_is top_low generation_is generation_low keep_is apart_is = (
     λ e.
@@ -97,6 +97,6 @@ module _ (lists : TableId → List Record) where
         let generation_fits : value_of (rows_in lists (keys.Counter (codes "journal"))) ≤ 4095 = omega arith in
         rules_kept lists top_fits all generation_fits (one_lock lists up of (sym apart_is ∙ right keep apart e)),
     λ kept. both_true keep apart
-        (keep_is ∙ all_tables (λ table. list_all (keeps (rows_in lists)) (lists table)) (all_keep lists up of kept))
+        (keep_is ∙ all_hold (λ table. list_all (keeps (rows_in lists)) (lists table)) (all_keep lists up of kept))
         (apart_is ∙ locks_apart lists up of kept.one_lock),
   )

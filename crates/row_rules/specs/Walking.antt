@@ -1,5 +1,5 @@
--- All tables, and keys that no row of a table is below.
-use Rattle.std.specs.Prelude.{List, [], ◌∷◌}
+-- Keys that no row of a table is below.
+use Rattle.std.specs.Prelude.{[]}
 use Rattle.db_records.specs.declared.key.Key.{Key}
 use Rattle.db_records.specs.declared.key.Key.TheVariants as keys
 use Rattle.db_records.specs.declared.table.TableId.{TableId}
@@ -17,7 +17,3 @@ first_key Resolve = keys.Resolve [] [] []
 first_key Working = keys.Working [] []
 first_key Change = keys.Change 0
 first_key Rev = keys.Rev [] 0
-
--- all tables
-abbrev pub table_ids : List TableId
-table_ids = Counter ∷ Group ∷ Protect ∷ Domain ∷ Have ∷ Label ∷ Integed ∷ Resolve ∷ Working ∷ Change ∷ Rev ∷ []

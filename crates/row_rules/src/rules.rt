@@ -2,6 +2,7 @@
 
 ghost use Rattle.std.specs.Prelude.{◌≡◌, ◌≤◌, ◌&&◌, ◌↔◌, IfOk, IsTrue};
 ghost use Rattle.std.specs.List.{list_all};
+ghost use Rattle.db_records.specs.Table.{all_tables};
 ghost use Rattle.db_records.specs.declared.table.TableId.{TableId as Id};
 ghost use Rattle.table_store.specs.Rows.{AllOfTable, IsRising};
 ghost use Rattle.table_store.specs.Tables.{version_of};
@@ -9,7 +10,6 @@ ghost use Rattle.depot_model.specs.Rules.{KeepRules, top_in};
 ghost use Rattle.row_rules.specs.Kept.{KeepRowRules};
 ghost use Rattle.row_rules.specs.Stored.{stored};
 ghost use Rattle.row_rules.specs.Tests.{keeps as keeps_test};
-ghost use Rattle.row_rules.specs.Walking.{table_ids};
 
 use crate::fixes::have_few_fixes;
 use crate::keeping::all_keep;
@@ -66,7 +66,7 @@ fn keep_too(
 fn tables_keep(alloc: Global, tables: &Tables, top: u32) -> Result<bool, AllocError>
     requires small { top ≤ 2147483647 }
     requires top { top ≡ top_in (stored tables.now) }
-    ensures { IfOk result (λ keep. keep ≡ list_all (λ table. list_all (keeps_test (stored tables.now)) (version_of tables.now table).rows) table_ids) }
+    ensures { IfOk result (λ keep. keep ≡ list_all (λ table. list_all (keeps_test (stored tables.now)) (version_of tables.now table).rows) all_tables) }
 {
     let rev = keep_too(alloc, tables, top, TableId::Rev, true)?;
     let change = keep_too(alloc, tables, top, TableId::Change, rev)?;

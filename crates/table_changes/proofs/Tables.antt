@@ -6,7 +6,7 @@ use Rattle.std.proofs.lemmas.Bool.Decides.{Decides-eqb}
 use Rattle.std.proofs.lemmas.List.{get_or-map, get_or_at, get_or_read, get_or-set_other, get_or-set_same, length-map, length-append}
 use Rattle.std.proofs.lemmas.List.FromFn.{get_or-range_with_len}
 use Rattle.db_records.specs.Record.{table_of}
-use Rattle.db_records.specs.Table.{table_number}
+use Rattle.db_records.specs.Table.{table_number, all_tables}
 use Rattle.db_records.specs.declared.change.Change.{Change}
 use Rattle.db_records.specs.declared.table.TableId.{TableId}
 use Rattle.db_records.specs.declared.table.TableId.TheVariants.{Counter, Group, Protect, Domain, Have, Label, Integed, Resolve, Working, Change as ChangeTable, Rev}
@@ -14,7 +14,7 @@ use Rattle.table_store.specs.Rows.{Fits, TableRows, changed_once, with_rows}
 use Rattle.table_store.specs.Tables.{version_of}
 use Rattle.table_store.specs.declared.tables.Tables.{Tables}
 use Rattle.table_changes.specs.Changed.{AllRows, FitsIn, changed_in, rows_of}
-use Rattle.table_changes.specs.InOrder.{all_numbers, all_tables, draft_at, numbers_of}
+use Rattle.table_changes.specs.InOrder.{all_numbers, draft_at, numbers_of}
 
 of_number : ℕ → TableId
 of_number n = get_or all_tables n Rev

@@ -1,13 +1,8 @@
 -- Drafts of all tables in the order of the tables' numbers. That they stand so is this project's own choice.
-use Rattle.std.specs.Prelude.{ℕ, List, [], ◌∷◌, map, slice_index_or}
-use Rattle.db_records.specs.Table.{table_number}
+use Rattle.std.specs.Prelude.{ℕ, List, [], map, slice_index_or}
+use Rattle.db_records.specs.Table.{table_number, all_tables}
 use Rattle.db_records.specs.declared.table.TableId.{TableId}
-use Rattle.db_records.specs.declared.table.TableId.TheVariants.{Counter, Group, Protect, Domain, Have, Label, Integed, Resolve, Working, Change, Rev}
 use Rattle.table_store.specs.Rows.{TableRows}
-
--- the tables, in the order of their numbers
-abbrev pub all_tables : List TableId
-all_tables = Counter ∷ Group ∷ Protect ∷ Domain ∷ Have ∷ Label ∷ Integed ∷ Resolve ∷ Working ∷ Change ∷ Rev ∷ []
 
 abbrev pub all_numbers : List ℕ
 all_numbers = map table_number all_tables

@@ -7,21 +7,6 @@ use db_records::{Change, TableId};
 use std::alloc::{AllocError, Global};
 use table_store::{Draft, Tables};
 
-/// The tables, in the order of their numbers.
-const TABLES: [TableId; 11] = [
-    TableId::Counter,
-    TableId::Group,
-    TableId::Protect,
-    TableId::Domain,
-    TableId::Have,
-    TableId::Label,
-    TableId::Integed,
-    TableId::Resolve,
-    TableId::Working,
-    TableId::Change,
-    TableId::Rev,
-];
-
 /// The rows of all tables, changed one after another until they are tables, and how many bytes of the
 /// archive are used.
 #[derive(Drop)]
@@ -44,7 +29,7 @@ impl TablesDraft {
         ensures end { IfOk result (λ draft. draft.archive_end ≡ tables.now.archive_end) }
     {
         let mut drafts = Vec::new(alloc);
-        for table in TABLES {
+        for table in TableId::ALL {
             drafts.push(tables.version(table).draft(alloc)?)?;
         }
         Ok(TablesDraft {

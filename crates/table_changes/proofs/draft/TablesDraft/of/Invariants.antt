@@ -1,6 +1,7 @@
 use Rattle.std.proofs.Common.{◌≡◌, map, take}
+use Rattle.db_records.specs.Table.{all_tables}
 use Rattle.table_store.specs.Tables.{version_of}
-use Rattle.table_changes.specs.InOrder.{all_numbers, all_tables, numbers_of}
+use Rattle.table_changes.specs.InOrder.{all_numbers, numbers_of}
 use Rattle.table_changes.proofs.draft.TablesDraft.of.Given as goal
 
 abbrev pub invariant-loop-table : goal.invariant-loop-table
