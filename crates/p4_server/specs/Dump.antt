@@ -3,6 +3,7 @@ use Rattle.std.specs.Prelude.{◌≡◌, ◌⊎◌, ℕ, List, Option}
 use Rattle.outside_api.specs.Count.{HasRisen}
 use Rattle.outside_api.specs.Disk.{Files, LeavesOnly, NoMore}
 use Rattle.outside_api.specs.Told.{extended}
+use Rattle.db_records.specs.Table.{all_tables}
 use Rattle.depot_model.specs.Deeds.{Deed}
 use Rattle.depot_rows.specs.Standing.{Stand}
 use Rattle.recovery.specs.Holding.{Hold}
@@ -12,7 +13,7 @@ use Rattle.p4_server.specs.declared.ended.Ended.{Ended}
 use Rattle.p4_server.specs.declared.ended.Cause.TheVariants as causes
 use Rattle.p4_server.specs.Files.{IsStart, DiskRose}
 use Rattle.p4_server.specs.Opening.{IsUnopened}
-use Rattle.p4_server.specs.Rows.{tables_text, all_tables}
+use Rattle.p4_server.specs.Rows.{tables_text}
 use Rattle.p4_server.specs.Telling.{IsUnrun}
 
 -- `out` got the text of the rows, or failed and got a front of it, or there was no memory

@@ -1,5 +1,5 @@
 -- What the rows of a depot print: each row as a journal record that puts it (System Administrator Guide, "Journal files"), tables and keys rising.
-use Rattle.std.specs.Prelude.{◌≡◌, ℕ, List, [], ◌∷◌, Option, Result, Ok, Err}
+use Rattle.std.specs.Prelude.{◌≡◌, ℕ, List, [], Option, Result, Ok, Err}
 use Rattle.std.specs.List.{flat_map}
 use Rattle.outside_api.specs.Count.{HasRisen}
 use Rattle.outside_api.specs.Told.{extended}
@@ -13,10 +13,6 @@ use Rattle.record_text.specs.Grammar.{spelling}
 use Rattle.wire_text.specs.Giving.{GotFront}
 use Rattle.p4_server.specs.declared.rows.RowsFault.{RowsFault}
 use Rattle.p4_server.specs.declared.rows.RowsFault.TheVariants.{Sink, Memory}
-
--- the tables, in the order of their numbers
-abbrev pub all_tables : List TableId
-all_tables = Counter ∷ Group ∷ Protect ∷ Domain ∷ Have ∷ Label ∷ Integed ∷ Resolve ∷ Working ∷ Change ∷ Rev ∷ []
 
 abbrev pub row_text : Record → List ℕ
 row_text row = spelling Put row

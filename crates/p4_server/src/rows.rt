@@ -1,7 +1,8 @@
 //! The rows of all tables as text.
 
 ghost use Rattle.std.specs.Prelude.{◌≡◌, ◌≤◌};
-ghost use Rattle.p4_server.specs.Rows.{all_tables, row_text, rows_text, tables_text, Prints, lowest};
+ghost use Rattle.db_records.specs.Table.{all_tables};
+ghost use Rattle.p4_server.specs.Rows.{row_text, rows_text, tables_text, Prints, lowest};
 ghost use Rattle.table_store.specs.Tables.{version_of};
 
 use db_records::{Key, Op, Record, TableId};
@@ -99,27 +100,12 @@ fn give_rows<K: Sink>(alloc: Global, version: &Version, out: &mut K) -> Result<(
     Ok(())
 }
 
-/// The tables, in the order in which they are printed.
-const TABLES: [TableId; 11] = [
-    TableId::Counter,
-    TableId::Group,
-    TableId::Protect,
-    TableId::Domain,
-    TableId::Have,
-    TableId::Label,
-    TableId::Integed,
-    TableId::Resolve,
-    TableId::Working,
-    TableId::Change,
-    TableId::Rev,
-];
-
 /// Gives the text of the rows of all tables, row by row, tables and keys rising. It copies no table.
 pub fn give_tables<K: Sink>(alloc: Global, tables: &Tables, out: &mut K) -> Result<(), RowsFault>
     ensures prints { Prints (K.given out.old) (K.given out.new) (K.faults out.old) (K.faults out.new) (tables_text (λ table. (version_of tables.now table).rows) all_tables) result }
     ensures counts { K.faults out.old ≤ K.faults out.new }
 {
-    for table in TABLES {
+    for table in TableId::ALL {
         match give_rows(alloc, tables.version(table), out) {
             Ok(()) => {}
             Err(fault) => return Err(fault),

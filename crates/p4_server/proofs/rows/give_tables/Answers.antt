@@ -1,7 +1,8 @@
 use Rattle.std.proofs.Common.{subst, Err, ◌≡◌, ◌+◌, ◌++◌, ◌∷◌, List, ℕ, take, drop, get_or}
+use Rattle.db_records.specs.Table.{all_tables}
 use Rattle.db_records.specs.declared.table.TableId.{TableId}
 use Rattle.db_records.specs.declared.table.TableId.TheVariants.{Counter}
-use Rattle.p4_server.specs.Rows.{Prints, all_tables, rows_text, tables_text}
+use Rattle.p4_server.specs.Rows.{Prints, rows_text, tables_text}
 use Rattle.table_store.specs.Rows.{TableRows}
 use Rattle.table_store.specs.Tables.{version_of}
 use Rattle.p4_server.proofs.RowsLemmas.{prints_last}
