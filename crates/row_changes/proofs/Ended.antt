@@ -13,7 +13,7 @@ use Rattle.depot_model.specs.Rules.{Rows}
 use Rattle.depot_rows.specs.declared.deed.Held.{Held}
 use Rattle.depot_rows.specs.Effects.{put_at, working_key, ended, grouped, group_row}
 use Rattle.depot_rows.proofs.Keys.{same-is, same-self, at-is, at-self}
-use Rattle.row_changes.specs.declared.ranges.KeyRange.TheVariants.{Resolves, Users}
+use Rattle.row_ranges.specs.declared.range.KeyRange.TheVariants.{FileResolves, GroupUsers}
 use Rattle.row_changes.specs.Ranges.{emptied}
 use Rattle.row_changes.specs.Users.{with_users}
 
@@ -35,10 +35,15 @@ working-two a b x y e = (cc, cc)
 group-two : (a b x y : List ℕ) → keys.Group a b ≡ keys.Group x y → (a ≡ x) × (b ≡ y)
 group-two a b x y e = (cc, cc)
 
+both-true : (a b : Bool) → (a && (b && true)) ≡ (a && b)
+both-true true true = refl
+both-true true false = refl
+both-true false b = refl
+
 -- a shut file's row and its resolves are gone
-pub shut-ends : (held : Held) (before : Rows) (q : Key) → put_at (working_key held) None (emptied (Resolves held.client (printed held.path)) before) q ≡ ended held before q
+pub shut-ends : (held : Held) (before : Rows) (q : Key) → put_at (working_key held) None (emptied (FileResolves held.client (printed held.path)) before) q ≡ ended held before q
 shut-ends held before (keys.Working p c) = ap (λ (b : Bool). if b then None else before (keys.Working p c)) (at-two keys.Working (printed held.path) held.client p c (working-two (printed held.path) held.client p c))
-shut-ends held before (keys.Resolve c p f) = refl
+shut-ends held before (keys.Resolve c p f) = ap (λ (b : Bool). if b then None else before (keys.Resolve c p f)) (both-true (same held.client c) (same (printed held.path) p))
 shut-ends held before (keys.Counter a) = refl
 shut-ends held before (keys.Group a b) = refl
 shut-ends held before (keys.Protect a) = refl
@@ -87,21 +92,21 @@ users-elsewhere group (x ∷ xs) before q apart = users-elsewhere group xs (put_
     ∙ ap (λ (b : Bool). if b then Some (group_row group x) else before q) (apart x)
 
 -- the users of a group that was emptied are those that are put
-pub users-grouped : (group : List ℕ) (users : List (List ℕ)) (before : Rows) (q : Key) → with_users group users (emptied (Users group) before) q ≡ grouped group users before q
-users-grouped group users before (keys.Group g u) = users-at group users (emptied (Users group) before) g u ∙ go (same group g) refl (list_any (same u) users)
+pub users-grouped : (group : List ℕ) (users : List (List ℕ)) (before : Rows) (q : Key) → with_users group users (emptied (GroupUsers group) before) q ≡ grouped group users before q
+users-grouped group users before (keys.Group g u) = users-at group users (emptied (GroupUsers group) before) g u ∙ go (same group g) refl (list_any (same u) users)
   where
-    go : (p : Bool) → same group g ≡ p → (q : Bool) → (if p && q then Some (group_row group u) else (if p then None else before (keys.Group g u)))
+    go : (p : Bool) → same group g ≡ p → (q : Bool) → (if p && q then Some (group_row group u) else (if p && true then None else before (keys.Group g u)))
         ≡ (if p then (if q then Some (group_row g u) else None) else before (keys.Group g u))
     go true e true = ap (λ y. Some (group_row y u)) (same-is group g e)
     go true e false = refl
     go false e q = refl
-users-grouped group users before (keys.Counter a) = users-elsewhere group users (emptied (Users group) before) (keys.Counter a) (λ u. refl)
-users-grouped group users before (keys.Protect a) = users-elsewhere group users (emptied (Users group) before) (keys.Protect a) (λ u. refl)
-users-grouped group users before (keys.Domain a b) = users-elsewhere group users (emptied (Users group) before) (keys.Domain a b) (λ u. refl)
-users-grouped group users before (keys.Have a b) = users-elsewhere group users (emptied (Users group) before) (keys.Have a b) (λ u. refl)
-users-grouped group users before (keys.Label a b) = users-elsewhere group users (emptied (Users group) before) (keys.Label a b) (λ u. refl)
-users-grouped group users before (keys.Integed a b x y u v) = users-elsewhere group users (emptied (Users group) before) (keys.Integed a b x y u v) (λ w. refl)
-users-grouped group users before (keys.Resolve a b x) = users-elsewhere group users (emptied (Users group) before) (keys.Resolve a b x) (λ u. refl)
-users-grouped group users before (keys.Working a b) = users-elsewhere group users (emptied (Users group) before) (keys.Working a b) (λ u. refl)
-users-grouped group users before (keys.Change a) = users-elsewhere group users (emptied (Users group) before) (keys.Change a) (λ u. refl)
-users-grouped group users before (keys.Rev a b) = users-elsewhere group users (emptied (Users group) before) (keys.Rev a b) (λ u. refl)
+users-grouped group users before (keys.Counter a) = users-elsewhere group users (emptied (GroupUsers group) before) (keys.Counter a) (λ u. refl)
+users-grouped group users before (keys.Protect a) = users-elsewhere group users (emptied (GroupUsers group) before) (keys.Protect a) (λ u. refl)
+users-grouped group users before (keys.Domain a b) = users-elsewhere group users (emptied (GroupUsers group) before) (keys.Domain a b) (λ u. refl)
+users-grouped group users before (keys.Have a b) = users-elsewhere group users (emptied (GroupUsers group) before) (keys.Have a b) (λ u. refl)
+users-grouped group users before (keys.Label a b) = users-elsewhere group users (emptied (GroupUsers group) before) (keys.Label a b) (λ u. refl)
+users-grouped group users before (keys.Integed a b x y u v) = users-elsewhere group users (emptied (GroupUsers group) before) (keys.Integed a b x y u v) (λ w. refl)
+users-grouped group users before (keys.Resolve a b x) = users-elsewhere group users (emptied (GroupUsers group) before) (keys.Resolve a b x) (λ u. refl)
+users-grouped group users before (keys.Working a b) = users-elsewhere group users (emptied (GroupUsers group) before) (keys.Working a b) (λ u. refl)
+users-grouped group users before (keys.Change a) = users-elsewhere group users (emptied (GroupUsers group) before) (keys.Change a) (λ u. refl)
+users-grouped group users before (keys.Rev a b) = users-elsewhere group users (emptied (GroupUsers group) before) (keys.Rev a b) (λ u. refl)

@@ -10,7 +10,7 @@ use Rattle.depot_model.specs.Records.{is_at, protect_record}
 use Rattle.depot_model.specs.Rules.{Rows}
 use Rattle.depot_rows.specs.Effects.{put_at, guarded}
 use Rattle.depot_rows.proofs.Keys.{at-is, at-self}
-use Rattle.row_changes.specs.declared.ranges.KeyRange.TheVariants.{Lines}
+use Rattle.row_ranges.specs.declared.range.KeyRange.TheVariants.{Protections}
 use Rattle.row_changes.specs.Lines.{with_lines}
 use Rattle.row_changes.specs.Ranges.{emptied}
 use Rattle.row_changes.specs.Stored.{HasKey}
@@ -75,22 +75,22 @@ lines-elsewhere k (x ∷ xs) before q away = lines-elsewhere (suc k) xs (put_at 
     ∙ ap (λ (b : Bool). if b then protect_record k (words_of x) else before q) (away k)
 
 -- the lines of an emptied table are those that are put
-pub lines-guarded : (lines : List (List ℕ)) (before : Rows) (q : Key) → with_lines 1 lines (emptied Lines before) q ≡ guarded lines before q
-lines-guarded lines before (keys.Protect zero) = lines-below 1 lines (emptied Lines before) 0 (omega arith)
+pub lines-guarded : (lines : List (List ℕ)) (before : Rows) (q : Key) → with_lines 1 lines (emptied Protections before) q ≡ guarded lines before q
+lines-guarded lines before (keys.Protect zero) = lines-below 1 lines (emptied Protections before) 0 (omega arith)
 lines-guarded lines before (keys.Protect (suc m)) =
     let e : suc m ≡ 1 + m = omega arith in
-    ap (λ n. with_lines 1 lines (emptied Lines before) (keys.Protect n)) e ∙ lines-at 1 lines (emptied Lines before) (λ n h. refl) m
+    ap (λ n. with_lines 1 lines (emptied Protections before) (keys.Protect n)) e ∙ lines-at 1 lines (emptied Protections before) (λ n h. refl) m
     ∙ ap (λ n. option_and_then (λ line. protect_record n (words_of line)) (slice_get lines m)) (sym e)
-lines-guarded lines before (keys.Counter a) = lines-elsewhere 1 lines (emptied Lines before) (keys.Counter a) (λ n. refl)
-lines-guarded lines before (keys.Group a b) = lines-elsewhere 1 lines (emptied Lines before) (keys.Group a b) (λ n. refl)
-lines-guarded lines before (keys.Domain a b) = lines-elsewhere 1 lines (emptied Lines before) (keys.Domain a b) (λ n. refl)
-lines-guarded lines before (keys.Have a b) = lines-elsewhere 1 lines (emptied Lines before) (keys.Have a b) (λ n. refl)
-lines-guarded lines before (keys.Label a b) = lines-elsewhere 1 lines (emptied Lines before) (keys.Label a b) (λ n. refl)
-lines-guarded lines before (keys.Integed a b x y u v) = lines-elsewhere 1 lines (emptied Lines before) (keys.Integed a b x y u v) (λ n. refl)
-lines-guarded lines before (keys.Resolve a b x) = lines-elsewhere 1 lines (emptied Lines before) (keys.Resolve a b x) (λ n. refl)
-lines-guarded lines before (keys.Working a b) = lines-elsewhere 1 lines (emptied Lines before) (keys.Working a b) (λ n. refl)
-lines-guarded lines before (keys.Change a) = lines-elsewhere 1 lines (emptied Lines before) (keys.Change a) (λ n. refl)
-lines-guarded lines before (keys.Rev a b) = lines-elsewhere 1 lines (emptied Lines before) (keys.Rev a b) (λ n. refl)
+lines-guarded lines before (keys.Counter a) = lines-elsewhere 1 lines (emptied Protections before) (keys.Counter a) (λ n. refl)
+lines-guarded lines before (keys.Group a b) = lines-elsewhere 1 lines (emptied Protections before) (keys.Group a b) (λ n. refl)
+lines-guarded lines before (keys.Domain a b) = lines-elsewhere 1 lines (emptied Protections before) (keys.Domain a b) (λ n. refl)
+lines-guarded lines before (keys.Have a b) = lines-elsewhere 1 lines (emptied Protections before) (keys.Have a b) (λ n. refl)
+lines-guarded lines before (keys.Label a b) = lines-elsewhere 1 lines (emptied Protections before) (keys.Label a b) (λ n. refl)
+lines-guarded lines before (keys.Integed a b x y u v) = lines-elsewhere 1 lines (emptied Protections before) (keys.Integed a b x y u v) (λ n. refl)
+lines-guarded lines before (keys.Resolve a b x) = lines-elsewhere 1 lines (emptied Protections before) (keys.Resolve a b x) (λ n. refl)
+lines-guarded lines before (keys.Working a b) = lines-elsewhere 1 lines (emptied Protections before) (keys.Working a b) (λ n. refl)
+lines-guarded lines before (keys.Change a) = lines-elsewhere 1 lines (emptied Protections before) (keys.Change a) (λ n. refl)
+lines-guarded lines before (keys.Rev a b) = lines-elsewhere 1 lines (emptied Protections before) (keys.Rev a b) (λ n. refl)
 
 -- a row of five words
 pub five-words : (n : ℕ) (words : List (List ℕ)) (a b c d e : List ℕ) → length words ≡ 5 → a ≡ get_or words 0 a → b ≡ get_or words 1 b → c ≡ get_or words 2 c → d ≡ get_or words 3 d → e ≡ get_or words 4 e

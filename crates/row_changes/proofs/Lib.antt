@@ -5,7 +5,7 @@ pub mod Exact
 pub mod Counted
 pub mod Puts
 pub mod Applied
-pub mod Between
+pub mod Touched
 pub mod Removed
 pub mod Ended
 pub mod Guarded

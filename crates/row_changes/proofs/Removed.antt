@@ -5,7 +5,6 @@ use Rattle.std.specs.List.{list_any}
 use Rattle.std.specs.Map.{lookup, keys_of}
 use Rattle.std.specs.Ordering.{is_eq}
 use Rattle.db_records.specs.declared.key.Key.{Key}
-use Rattle.db_records.specs.declared.key.Key.TheVariants as keys
 use Rattle.db_records.specs.declared.record.Record.{Record}
 use Rattle.db_records.specs.declared.table.TableId.{TableId}
 use Rattle.db_records.specs.Key.{key_cmp, key_table}
@@ -18,9 +17,10 @@ use Rattle.depot_rows.specs.Effects.{put_at}
 use Rattle.depot_rows.specs.Standing.{row_in}
 use Rattle.depot_rows.proofs.Keys.{at-is, at-self}
 use Rattle.row_changes.specs.Overlay.{Touched, Entries, seen}
-use Rattle.row_changes.specs.declared.ranges.KeyRange.{KeyRange}
-use Rattle.row_changes.specs.declared.ranges.KeyRange.TheVariants.{Resolves, Users, Lines}
-use Rattle.row_changes.specs.Ranges.{removed, is_in, first_key, emptied}
+use Rattle.row_ranges.specs.declared.range.KeyRange.{KeyRange}
+use Rattle.row_ranges.specs.Ranges.{has_row, is_in, range_table}
+use Rattle.row_ranges.proofs.Between.{of-table}
+use Rattle.row_changes.specs.Ranges.{removed, emptied}
 
 abbrev listed_key : Key → List Key → Bool
 listed_key q ks = list_any (λ k. is_at k q) ks
@@ -82,23 +82,25 @@ entry-listed q (x ∷ es) e = go (is_at q x.0) refl (is_at x.0 q) refl e (entry-
     go false h true g e rest = absurd cc
     go false h false g e rest = rest e
 
--- the keys of a range are of its table
-range-table : (range : KeyRange) (q : Key) → is_in range q ≡ true → key_table (first_key range) ≡ key_table q
-range-table (Resolves client path) (keys.Resolve a b x) e = refl
-range-table (Users group) (keys.Group a b) e = refl
-range-table Lines (keys.Protect n) e = refl
-range-table (Resolves client path) _ e = absurd cc
-range-table (Users group) _ e = absurd cc
-range-table Lines _ e = absurd cc
+-- the keys of the rows of a range
+range-keys : (range : KeyRange) (rows : List Record) → map key_of (filter (has_row range) rows) ≡ filter (is_in range) (map key_of rows)
+range-keys range [] = refl
+range-keys range (r ∷ rs) = go (is_in range (key_of r)) (range-keys range rs)
+  where
+    go : (b : Bool) → map key_of (filter (has_row range) rs) ≡ filter (is_in range) (map key_of rs)
+        → map key_of (cond b (r ∷ filter (has_row range) rs) (filter (has_row range) rs)) ≡ cond b (key_of r ∷ filter (is_in range) (map key_of rs)) (filter (is_in range) (map key_of rs))
+    go true h = ap (λ l. key_of r ∷ l) h
+    go false h = h
 
 -- all of the range is taken away, and nothing else
 pub removed-emptied : (range : KeyRange) (all : AllRows) (touched : Touched) (q : Key)
-    → removed (filter (is_in range) (keys_of touched.entries)) (removed (filter (is_in range) (map key_of (all (key_table (first_key range))))) (seen touched (row_in all))) q
+    → removed (map key_of (filter (has_row range) (all (range_table range)))) (removed (filter (is_in range) (keys_of touched.entries)) (seen touched (row_in all))) q
     ≡ emptied range (seen touched (row_in all)) q
 removed-emptied range all touched q =
-    removed-is (filter (is_in range) (keys_of touched.entries)) (removed (filter (is_in range) (map key_of (all (key_table (first_key range))))) (seen touched (row_in all))) q
-    ∙ ap (λ (w : Option Record). if listed_key q (filter (is_in range) (keys_of touched.entries)) then None else w) (removed-is (filter (is_in range) (map key_of (all (key_table (first_key range))))) (seen touched (row_in all)) q)
-    ∙ go (is_in range q) refl (listed_key q (keys_of touched.entries)) refl (listed_key q (map key_of (all (key_table (first_key range))))) refl
+    ap (λ (l : List Key). removed l (removed (filter (is_in range) (keys_of touched.entries)) (seen touched (row_in all))) q) (range-keys range (all (range_table range)))
+    ∙ removed-is (filter (is_in range) (map key_of (all (range_table range)))) (removed (filter (is_in range) (keys_of touched.entries)) (seen touched (row_in all))) q
+    ∙ ap (λ (w : Option Record). if listed_key q (filter (is_in range) (map key_of (all (range_table range)))) then None else w) (removed-is (filter (is_in range) (keys_of touched.entries)) (seen touched (row_in all)) q)
+    ∙ go (is_in range q) refl (listed_key q (map key_of (all (range_table range)))) refl (listed_key q (keys_of touched.entries)) refl
   where
     none : (a b : Bool) → a ≡ true → (if a then None else (if b then None else seen touched (row_in all) q)) ≡ None
     none true b e = refl
@@ -114,11 +116,11 @@ removed-emptied range all touched q =
     neither false true e = refl
     neither false false e = e
 
-    go : (c : Bool) → is_in range q ≡ c → (a : Bool) → listed_key q (keys_of touched.entries) ≡ a → (b : Bool) → listed_key q (map key_of (all (key_table (first_key range)))) ≡ b
-        → (if listed_key q (filter (is_in range) (keys_of touched.entries)) then None else (if listed_key q (filter (is_in range) (map key_of (all (key_table (first_key range))))) then None else seen touched (row_in all) q))
+    go : (c : Bool) → is_in range q ≡ c → (a : Bool) → listed_key q (map key_of (all (range_table range))) ≡ a → (b : Bool) → listed_key q (keys_of touched.entries) ≡ b
+        → (if listed_key q (filter (is_in range) (map key_of (all (range_table range)))) then None else (if listed_key q (filter (is_in range) (keys_of touched.entries)) then None else seen touched (row_in all) q))
         ≡ (if c then None else seen touched (row_in all) q)
-    go false h a k b l = rw (listed-out range q (keys_of touched.entries) h, listed-out range q (map key_of (all (key_table (first_key range)))) h) refl
-    go true h true k b l = none _ _ (listed-in range q (keys_of touched.entries) h k)
-    go true h false k true l = second _ _ (listed-in range q (map key_of (all (key_table (first_key range)))) h l)
-    go true h false k false l = neither _ _ (ap (λ (o : Option (Option Record)). unwrap_or o (row_in all q)) (entry-listed q touched.entries k)
-        ∙ row-listed q (all (key_table q)) (subst (λ (t : TableId). listed_key q (map key_of (all t)) ≡ false) (range-table range q h) l))
+    go false h a k b l = rw (listed-out range q (map key_of (all (range_table range))) h, listed-out range q (keys_of touched.entries) h) refl
+    go true h true k b l = none _ _ (listed-in range q (map key_of (all (range_table range))) h k)
+    go true h false k true l = second _ _ (listed-in range q (keys_of touched.entries) h l)
+    go true h false k false l = neither _ _ (ap (λ (o : Option (Option Record)). unwrap_or o (row_in all q)) (entry-listed q touched.entries l)
+        ∙ row-listed q (all (key_table q)) (subst (λ (t : TableId). listed_key q (map key_of (all t)) ≡ false) (sym (of-table range q h)) k))

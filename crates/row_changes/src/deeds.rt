@@ -9,12 +9,12 @@ ghost use Rattle.row_changes.specs.Overlay.{seen, Becomes};
 ghost use Rattle.row_changes.specs.Users.{with_users};
 
 use crate::overlay::Overlay;
-use crate::ranges::KeyRange;
 use crate::rows::{locked_row, numbered_row, owed_row, paid_row, pending_row, working_row};
 use crate::words::{counter_value, how_word, kind_word, lock_of};
 use db_records::{DomainRecord, GroupRecord, HaveRecord, Key, LabelRecord, Record};
 use depot_path::{DepotPath, Name, Sequence, Text};
 use depot_rows::{Deed, Held, How, Opening, Owing, Pending, SpecKind};
+use row_ranges::KeyRange;
 use spec_form::Form;
 use std::alloc::{AllocError, Global};
 use table_store::Tables;
@@ -225,7 +225,7 @@ impl Overlay {
     ) -> Result<(), AllocError>
         ensures { OnOk result (Becomes (row_in (rows_of tables.now)) (effect (Deed.Shut held.now)) self.old.touched self.new.touched) }
     {
-        let resolves = KeyRange::Resolves {
+        let resolves = KeyRange::FileResolves {
             client: Text::from_bytes(alloc, held.client.as_bytes())?,
             path: held.path.print(alloc)?,
         };
@@ -273,7 +273,7 @@ impl Overlay {
     ) -> Result<(), AllocError>
         ensures { OnOk result (Becomes (row_in (rows_of tables.now)) (effect (Deed.Group group.now users.now)) self.old.touched self.new.touched) }
     {
-        let range = KeyRange::Users {
+        let range = KeyRange::GroupUsers {
             group: Text::from_bytes(alloc, group.as_bytes())?,
         };
         self.empty(alloc, tables, &range)?;

@@ -11,11 +11,11 @@ ghost use Rattle.row_changes.specs.Lines.{with_lines};
 ghost use Rattle.row_changes.specs.Overlay.{Becomes};
 
 use crate::overlay::Overlay;
-use crate::ranges::KeyRange;
 use db_records::{Key, ProtectRecord, Record};
 use depot_path::{Sequence, Text};
 use depot_rows::Deed;
 use protect_table::line_words;
+use row_ranges::KeyRange;
 use std::alloc::{AllocError, Global};
 use table_store::Tables;
 
@@ -80,7 +80,7 @@ impl Overlay {
     ) -> Result<(), AllocError>
         ensures { OnOk result (Becomes (row_in (rows_of tables.now)) (effect (Deed.Guard lines.now)) self.old.touched self.new.touched) }
     {
-        self.empty(alloc, tables, &KeyRange::Lines)?;
+        self.empty(alloc, tables, &KeyRange::Protections)?;
         self.put_lines(alloc, lines.as_slice())?;
         Ok(())
     }

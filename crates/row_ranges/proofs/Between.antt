@@ -17,7 +17,7 @@ use Rattle.db_records.specs.declared.table.TableId.{TableId}
 use Rattle.db_records.specs.Key.{Field, Number, Word, field_cmp, key_cmp, key_fields, key_table}
 use Rattle.db_records.specs.Record.{key_of}
 use Rattle.db_records.specs.Table.{table_number}
-use Rattle.table_store.specs.Rows.{is_below, AllAbove, AllOfTable, IsRising, rows_from}
+use Rattle.table_store.specs.Rows.{is_below, AllAbove, IsRising, rows_from}
 use Rattle.table_store.proofs.Order.{turned_greater}
 use Rattle.row_ranges.specs.declared.range.KeyRange.{KeyRange}
 use Rattle.row_ranges.specs.declared.range.KeyRange.TheVariants.{Counters, Users, GroupUsers, Protections, Forms, HaveList, LabelledFiles, Integrations, ClientResolves, FileResolves, OpenedFiles, Changes, Revisions}
@@ -90,6 +90,15 @@ lead a b r s = go (text_cmp a b) refl
     go : (o : Ordering) → text_cmp a b ≡ o → is_lt (ordering_then o r) ≡ false → ordering_then o s ≡ Less → (a ≡ b) × (is_lt r ≡ false) × (s ≡ Less)
     go Less e p q = absurd (true≢false p)
     go Equal e p q = (text-is a b e, p, q)
+    go Greater e p q = absurd cc
+
+-- so of numbers
+lead-number : (m n : ℕ) (r s : Ordering) → is_lt (ordering_then (nat_cmp m n) r) ≡ false → ordering_then (nat_cmp m n) s ≡ Less → (m ≡ n) × (is_lt r ≡ false) × (s ≡ Less)
+lead-number m n r s = go (nat_cmp m n) refl
+  where
+    go : (o : Ordering) → nat_cmp m n ≡ o → is_lt (ordering_then o r) ≡ false → ordering_then o s ≡ Less → (m ≡ n) × (is_lt r ≡ false) × (s ≡ Less)
+    go Less e p q = absurd (true≢false p)
+    go Equal e p q = (number-is m n e, p, q)
     go Greater e p q = absurd cc
 
 -- ---- fields
@@ -186,7 +195,7 @@ module _ (range : KeyRange) where
       ∙ (ap (λ (t : TableId). of_number (table_number t)) (sym (first-in range).0) ∙ (of_number-number (first_key range) ∙ (first-in range).0)))
 
   -- no key of a range is below its first
-  not-below : (q : Key) → is_in range q ≡ true → is_lt (key_cmp q (first_key range)) ≡ false
+  pub not-below : (q : Key) → is_in range q ≡ true → is_lt (key_cmp q (first_key range)) ≡ false
   not-below q e =
       let of_table = eqb (table_number (key_table q)) (table_number (range_table range)) in
       let rest = begins (range_texts range) (key_fields q) in
@@ -196,24 +205,23 @@ module _ (range : KeyRange) where
       ∙ low-key (slice_get (range_texts range) 0) (slice_get (range_texts range) 1) q
       (first-agrees (range_texts range) (key_fields q) (right-true of_table rest e)) (second-agrees (range_texts range) (key_fields q) (right-true of_table rest e))
 
-  -- how two keys of the table stand to each other
-  in-table : (a b : Key) → key_table a ≡ range_table range → key_table b ≡ range_table range → key_cmp a b ≡ fields_cmp (key_fields a) (key_fields b)
-  in-table a b s t =
-      let n = table_number (range_table range) in
-      (λ i. ordering_then (nat_cmp (table_number (s i)) (table_number (t i))) (fields_cmp (key_fields a) (key_fields b)))
-      ∙ (λ i. ordering_then (number-self n i) (fields_cmp (key_fields a) (key_fields b)))
+  -- the keys of a range are of its table
+  pub of-table : (q : Key) → is_in range q ≡ true → key_table q ≡ range_table range
+  of-table q e = table-is q (left-true (eqb (table_number (key_table q)) (table_number (range_table range))) (begins (range_texts range) (key_fields q)) e)
 
   -- a key at or above the first of a range and below another of the range is of the range
-  between : (y q : Key) → key_table y ≡ range_table range → is_lt (key_cmp y (first_key range)) ≡ false → key_cmp y q ≡ Less → is_in range q ≡ true → is_in range y ≡ true
-  between y q t low high e =
-      let of_table = eqb (table_number (key_table q)) (table_number (range_table range)) in
+  pub between : (y q : Key) → is_lt (key_cmp y (first_key range)) ≡ false → key_cmp y q ≡ Less → is_in range q ≡ true → is_in range y ≡ true
+  between y q low high e =
+      let number : ℕ = table_number (range_table range) in
+      let of_table = eqb (table_number (key_table q)) number in
       let rest = begins (range_texts range) (key_fields q) in
       let first = first-in range in
-      and-true (eqb (table_number (key_table y)) (table_number (range_table range))) (begins (range_texts range) (key_fields y))
-      ((Decides-eqb (table_number (key_table y)) (table_number (range_table range))).1 (ap table_number t))
-      (between-fields (range_texts range) (key_fields y) (key_fields (first_key range)) (key_fields q) first.1 (right-true of_table rest e)
-      (ap is_lt (sym (in-table y (first_key range) t first.0)) ∙ low)
-      (sym (in-table y q t (table-is q (left-true of_table rest e))) ∙ high))
+      let led = lead-number (table_number (key_table y)) number (fields_cmp (key_fields y) (key_fields (first_key range))) (fields_cmp (key_fields y) (key_fields q))
+      (ap (λ (t : TableId). is_lt (ordering_then (nat_cmp (table_number (key_table y)) (table_number t)) (fields_cmp (key_fields y) (key_fields (first_key range))))) (sym first.0) ∙ low)
+      (ap (λ (t : TableId). ordering_then (nat_cmp (table_number (key_table y)) (table_number t)) (fields_cmp (key_fields y) (key_fields q))) (sym (of-table q e)) ∙ high) in
+      and-true (eqb (table_number (key_table y)) number) (begins (range_texts range) (key_fields y))
+      ((Decides-eqb (table_number (key_table y)) number).1 led.0)
+      (between-fields (range_texts range) (key_fields y) (key_fields (first_key range)) (key_fields q) first.1 (right-true of_table rest e) led.1 led.2)
 
   -- ---- rows
 
@@ -230,18 +238,18 @@ module _ (range : KeyRange) where
       go false low false is rest = rw is rest
 
   -- past a row behind the range no row is of the range
-  none-after : (y : Record) (rows : List Record) → key_table (key_of y) ≡ range_table range → is_below (first_key range) y ≡ false → AllAbove (key_of y) rows → has_row range y ≡ false → filter (has_row range) rows ≡ []
-  none-after y [] t low above out = refl
-  none-after y (r ∷ rs) t low above out = go (has_row range r) refl (none-after y rs t low above.1 out)
+  none-after : (y : Record) (rows : List Record) → is_below (first_key range) y ≡ false → AllAbove (key_of y) rows → has_row range y ≡ false → filter (has_row range) rows ≡ []
+  none-after y [] low above out = refl
+  none-after y (r ∷ rs) low above out = go (has_row range r) refl (none-after y rs low above.1 out)
     where
       go : (b : Bool) → has_row range r ≡ b → filter (has_row range) rs ≡ [] → cond b (r ∷ filter (has_row range) rs) (filter (has_row range) rs) ≡ []
-      go true is rest = absurd (true≢false (sym (between (key_of y) (key_of r) t low (turned_greater (key_of r) (key_of y) above.0) is) ∙ out))
+      go true is rest = absurd (true≢false (sym (between (key_of y) (key_of r) low (turned_greater (key_of r) (key_of y) above.0) is) ∙ out))
       go false is rest = rest
 
   -- among rows in order, those of the range come first from its first key on
-  walk-rows : (rows : List Record) → AllOfTable (range_table range) rows → IsRising rows → leading range (rows_from (first_key range) rows) ≡ filter (has_row range) (rows_from (first_key range) rows)
-  walk-rows [] of up = refl
-  walk-rows (y ∷ rest) of up = go (is_below (first_key range) y) refl (has_row range y) refl (walk-rows rest of.1 up.1)
+  walk-rows : (rows : List Record) → IsRising rows → leading range (rows_from (first_key range) rows) ≡ filter (has_row range) (rows_from (first_key range) rows)
+  walk-rows [] up = refl
+  walk-rows (y ∷ rest) up = go (is_below (first_key range) y) refl (has_row range y) refl (walk-rows rest up.1)
     where
       above-from : (rows : List Record) → AllAbove (key_of y) rows → AllAbove (key_of y) (rows_from (first_key range) rows)
       above-from [] all = tt
@@ -255,11 +263,11 @@ module _ (range : KeyRange) where
           → leading range (cond (not b) (y ∷ rows_from (first_key range) rest) (rows_from (first_key range) rest)) ≡ filter (has_row range) (cond (not b) (y ∷ rows_from (first_key range) rest) (rows_from (first_key range) rest))
       go true low a is h = h
       go false low true is h = rw is (ap (λ l. y ∷ l) h)
-      go false low false is h = rw is (sym (none-after y (rows_from (first_key range) rest) of.0 low (above-from rest up.0) is))
+      go false low false is h = rw is (sym (none-after y (rows_from (first_key range) rest) low (above-from rest up.0) is))
 
   -- the walk from the first key of a range finds its rows, and ends behind them
-  pub walk-range : (rows : List Record) → AllOfTable (range_table range) rows → IsRising rows → leading range (rows_from (first_key range) rows) ≡ filter (has_row range) rows
-  walk-range rows of up = walk-rows rows of up ∙ range-from rows
+  pub walk-range : (rows : List Record) → IsRising rows → leading range (rows_from (first_key range) rows) ≡ filter (has_row range) rows
+  walk-range rows up = walk-rows rows up ∙ range-from rows
 
 -- ---- what the code tests
 

@@ -1,1 +1,1 @@
-mod Between
+pub mod Between

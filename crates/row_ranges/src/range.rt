@@ -130,8 +130,9 @@ impl KeyRange {
         agrees(self.first(), first) && agrees(self.second(), second)
     }
 
-    /// The least of all such keys. The one error is want of memory.
-    pub(crate) fn first_key(&self, alloc: Global) -> Result<Key, AllocError>
+    /// The least of all such keys: from it on they stand together in the order of keys. The one error is
+    /// want of memory.
+    pub fn first_key(&self, alloc: Global) -> Result<Key, AllocError>
         ensures { IfOk result (λ key. key ≡ first_in self.now) }
     {
         let first = text_or_empty(alloc, self.first())?;

@@ -1,9 +1,8 @@
-use Rattle.std.proofs.Common.{List, ap, subst, ◌∙◌}
+use Rattle.std.proofs.Common.{List, ap, ◌∙◌}
 use Rattle.std.specs.Prelude.{filter}
 use Rattle.db_records.specs.declared.key.Key.{Key}
 use Rattle.db_records.specs.declared.record.Record.{Record}
-use Rattle.db_records.specs.declared.table.TableId.{TableId}
-use Rattle.table_store.specs.Rows.{TableRows, AllOfTable, rows_from}
+use Rattle.table_store.specs.Rows.{TableRows, rows_from}
 use Rattle.table_store.specs.Tables.{version_of}
 use Rattle.row_ranges.specs.Ranges.{has_row}
 use Rattle.row_ranges.specs.Walking.{leading}
@@ -15,5 +14,5 @@ returns c =
     let range = c.args.range.now in
     let rows : List Record = c.version-version.result.now.rows in
     ap (leading range) (c.from_key.ensures ∙ ap (λ (k : Key). rows_from k rows) c.in_ok-first.ensures)
-    ∙ walk-range range rows (subst (λ (t : TableId). AllOfTable t rows) (c.version-version.ensures.table ∙ c.table.ensures) c.table-in_order.ensures.of_table) c.table-in_order.ensures.rising
+    ∙ walk-range range rows c.table-in_order.ensures.rising
     ∙ ap (λ (v : TableRows). filter (has_row range) v.rows) (c.version-version.ensures.rows ∙ ap (version_of c.args.tables.now) c.table.ensures)

@@ -1,7 +1,10 @@
-use Rattle.std.proofs.Common.{ap, ◌∙◌}
+use Rattle.std.proofs.Common.{map, ◌∙◌}
+use Rattle.std.specs.Prelude.{filter}
+use Rattle.db_records.specs.Record.{key_of}
 use Rattle.depot_model.specs.Rules.{Rows}
 use Rattle.depot_rows.specs.Standing.{row_in}
 use Rattle.table_changes.specs.Changed.{rows_of}
+use Rattle.row_ranges.specs.Ranges.{has_row, range_table}
 use Rattle.row_changes.specs.Ranges.{removed}
 use Rattle.row_changes.specs.Overlay.{seen}
 use Rattle.row_changes.proofs.Removed.{removed-emptied}
@@ -9,8 +12,10 @@ use Rattle.row_changes.proofs.overlay.Overlay.empty.Goals as goal
 
 pub returns : goal.returns
 returns c =
+    let range = c.args.range.now in
     let rows : Rows = row_in (rows_of c.args.tables.now) in
-    λ q. c.in_ok-remove-2.ensures rows q
-    ∙ ap (λ (r : Rows). removed c.in_ok-touched.touched.items r q) (λ i k. c.in_ok-remove.ensures rows k i)
-    ∙ (λ i. removed (c.in_ok-touched.ensures i) (removed (c.in_ok-stored.ensures i) (seen c.args.self.now.touched rows)) q)
-    ∙ removed-emptied c.args.range.now (rows_of c.args.tables.now) c.args.self.now.touched q
+    let stored = map key_of (filter (has_row range) (rows_of c.args.tables.now (range_table range))) in
+    λ q. c.in_ok-remove_stored.ensures rows q
+    ∙ (λ i. removed stored (λ k. c.in_ok-remove.ensures rows k i) q)
+    ∙ (λ i. removed stored (removed (c.in_ok-touched.ensures i) (seen c.args.self.now.touched rows)) q)
+    ∙ removed-emptied range (rows_of c.args.tables.now) c.args.self.now.touched q
