@@ -11,12 +11,13 @@ ghost use Rattle.depot_model.specs.Rules.{IsSound};
 ghost use Rattle.depot_rows.specs.Standing.{HasRows};
 ghost use Rattle.row_reads.specs.Groups.{group_of, group_in, groups_in};
 
-use db_records::{GroupRecord, Key, Record, TableId};
+use db_records::{GroupRecord, Record, TableId};
 use depot_model::Caller;
-use depot_path::{Name, Sequence, Text, is_name};
+use depot_path::{Name, Sequence, is_name};
 use protect_table::Who;
+use row_ranges::{KeyRange, rows_in};
 use std::alloc::{AllocError, Global};
-use table_store::{Tables, Walk};
+use table_store::Tables;
 
 /// Whether a row lists the user, in a group whose name is one.
 fn is_listed(user: &Name, row: &GroupRecord) -> bool
@@ -46,19 +47,6 @@ fn push_group(
     }
 }
 
-/// All rows of the table of groups.
-#[tactic(auto, using(crate::proofs::Whole::all_groups))]
-fn group_rows(alloc: Global, tables: &Tables) -> Walk<'_>
-    ensures { result ≡ rows_of tables.now table_ids.Group }
-{
-    let version = tables.version(TableId::Group);
-    let _table = version.table();
-    version.from_key(&Key::Group {
-        group: Text::new(alloc),
-        user: Text::new(alloc),
-    })
-}
-
 /// Adds the group of a row, if it is one of a group that lists the user.
 fn push_row(
     alloc: Global,
@@ -79,7 +67,7 @@ fn groups_of(alloc: Global, tables: &Tables, user: &Name) -> Result<Sequence<Nam
     ensures { IfOk result (λ groups. groups ≡ groups_in user.now (rows_of tables.now table_ids.Group)) }
 {
     let mut groups = Sequence::new(alloc);
-    for row in group_rows(alloc, tables) {
+    for row in rows_in(alloc, tables, &KeyRange::Users)? {
         push_row(alloc, &mut groups, user, row)?;
     }
     Ok(groups)

@@ -9,11 +9,12 @@ ghost use Rattle.depot_model.specs.Rules.{IsSound, line_text as text_of_line};
 ghost use Rattle.depot_rows.specs.Standing.{HasRows};
 ghost use Rattle.row_reads.specs.Lines.{text_in, texts_in};
 
-use db_records::{Key, ProtectRecord, Record, TableId};
+use db_records::{ProtectRecord, Record, TableId};
 use depot_path::{Sequence, Text};
 use protect_table::{LineFault, Protects};
+use row_ranges::{KeyRange, rows_in};
 use std::alloc::{AllocError, Global};
-use table_store::{Tables, Walk};
+use table_store::Tables;
 
 /// Adds a word behind a space.
 fn append_word(text: &mut Text, word: &Text) -> Result<(), AllocError>
@@ -46,22 +47,13 @@ fn push_text(alloc: Global, texts: &mut Sequence<Text>, row: &Record) -> Result<
     Ok(())
 }
 
-/// All rows of the table of protections.
-#[tactic(auto, using(crate::proofs::Whole::all_lines))]
-fn protect_rows(tables: &Tables) -> Walk<'_>
-    ensures { result ≡ rows_of tables.now table_ids.Protect }
-{
-    let version = tables.version(TableId::Protect);
-    let _table = version.table();
-    version.from_key(&Key::Protect { line: 0 })
-}
-
 /// The lines of the table, in order.
+#[tactic(auto, using(crate::proofs::Whole::all_lines))]
 fn line_texts(alloc: Global, tables: &Tables) -> Result<Sequence<Text>, AllocError>
     ensures { IfOk result (λ texts. texts ≡ texts_in (rows_of tables.now table_ids.Protect)) }
 {
     let mut texts = Sequence::new(alloc);
-    for row in protect_rows(tables) {
+    for row in rows_in(alloc, tables, &KeyRange::Protections)? {
         push_text(alloc, &mut texts, row)?;
     }
     Ok(texts)
