@@ -84,12 +84,14 @@ fn the_first_fault_of_a_path_is_answered(rt: HostRuntime) {
 }
 
 #[test]
-fn a_path_has_at_most_1024_bytes(rt: HostRuntime) -> Result<(), Fail> {
+fn paths_and_patterns_have_at_most_1024_bytes(rt: HostRuntime) -> Result<(), Fail> {
     let mut text = Text::from_bytes(rt.alloc(), b"//a/")?;
     text.append(&[b'b'; 1020])?;
     assert_eq!(rt; path_fault(rt.alloc(), text.as_bytes()), 0);
+    assert_eq!(rt; spec_fault(rt.alloc(), text.as_bytes()), 0);
     text.append(b"%")?;
     assert_eq!(rt; path_fault(rt.alloc(), text.as_bytes()), 5);
+    assert_eq!(rt; spec_fault(rt.alloc(), text.as_bytes()), 5);
     Ok(())
 }
 
@@ -168,18 +170,24 @@ fn a_pattern_begins_with_its_literal_text(rt: HostRuntime) -> Result<(), Fail> {
 
 #[test]
 fn revisions_are_read(rt: HostRuntime) -> Result<(), Fail> {
-    let cases: [(&[u8], (i64, i64)); 12] = [
+    let cases: [(&[u8], (i64, i64)); 18] = [
         (b"//depot/a", (-9, -9)),
         (b"//depot/a#head", (-1, -9)),
+        (b"//depot/a#have", (-2, -9)),
         (b"//depot/a#0", (-3, -9)),
         (b"//depot/a#none", (-3, -9)),
+        (b"//depot/a#2", (2, -9)),
         (b"//depot/a#3,5", (3, 5)),
+        (b"//depot/a@1", (10_001, -9)),
         (b"//depot/a@30,50", (10_030, 10_050)),
         (b"//depot/a@30,@50", (10_030, 10_050)),
         (b"//depot/a@1,@1", (10_001, 10_001)),
-        (b"//depot/a@=7", (20_007, -9)),
+        (b"//depot/a@1,1", (10_001, 10_001)),
+        (b"//depot/a@=1", (20_001, -9)),
         (b"//depot/a@now", (-4, -9)),
+        (b"//depot/a@2023/11/14:22:13:19", (1_699_999_999, -9)),
         (b"//depot/a@2023/11/14:22:13:20", (1_700_000_000, -9)),
+        (b"//depot/a@2023/11/15", (1_700_006_400, -9)),
         (b"//depot/a@1969/12/31,2000/03/01", (-86_400, 951_868_800)),
     ];
     for (text, forms) in cases {
@@ -190,15 +198,24 @@ fn revisions_are_read(rt: HostRuntime) -> Result<(), Fail> {
 
 #[test]
 fn the_first_fault_of_a_file_specification_is_answered(rt: HostRuntime) {
-    let cases: [(&[u8], u8); 8] = [
+    let cases: [(&[u8], u8); 17] = [
+        (b"/depot/a#x", 1),
         (b"//depot//a#x", 2),
+        (b"//depot/%%1#x", 3),
+        (b"//depot/\x7F#x", 4),
+        (b"//depot/.#x", 6),
         (b"//depot/a#2147483647", 0),
         (b"//depot/a#2147483648", 7),
+        (b"//depot/a@2147483648", 7),
+        (b"//depot/a@=2147483648", 7),
+        (b"//depot/a@", 7),
         (b"//depot/a@1,2,3", 7),
         (b"//depot/a#1,@1", 8),
         (b"//depot/a#0,#3", 8),
+        (b"//depot/a@1,now", 8),
         (b"//depot/a@2023/13/01,@5", 8),
         (b"//depot/a@2023/13/01", 9),
+        (b"//depot/a@2023/02/29,2023/03/01", 9),
     ];
     for (text, fault) in cases {
         assert_eq!(rt; spec_fault(rt.alloc(), text), fault);
