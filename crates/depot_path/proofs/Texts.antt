@@ -2,8 +2,8 @@
 use Rattle.std.proofs.Common.{◌≡◌, ℕ, zero, suc, ◌+◌, ◌<◌, ◌≤◌, Bool, true, false, cond, List, [], ◌∷◌, ◌++◌, length, take, drop, map, Option, Some, None, refl, sym, ap, subst, ◌∙◌, arith, inl, inr}
 use Rattle.std.specs.Prelude.{◌&&◌, ◌==◌, is_some, option_map}
 use Rattle.std.specs.List.{AllZip}
-use Rattle.std.specs.Ordering.{nat_cmp, ordering_then}
-use Rattle.std.specs.Cmp.Lexicographic.{slice_cmp}
+use Rattle.std.specs.Ordering.{nat_cmp, ordering_then, ordering_reverse, is_eq}
+use Rattle.std.specs.Cmp.Lexicographic.{slice_cmp, nat_list_cmp_total, same_text, texts_ties}
 use Rattle.std.specs.Cmp.{ranked}
 use Rattle.std.specs.declared.cmp.Ordering.{Ordering}
 use Rattle.std.specs.declared.cmp.Ordering.TheVariants.{Less, Equal, Greater}
@@ -247,3 +247,68 @@ texts_are p t ts e = record { fill = sound p t ts e; first = λ others f. let r 
 
 pub texts_there : (p : List Piece) (t : List ℕ) (us : Texts) → IsFilling p t us → (ts : Texts) × (texts p t ≡ Some ts)
 texts_there p t us f = let r : Least p t us = complete p t us f in (r.0, r.1)
+
+-- ---- texts of the same lengths that fill a pattern to the same text are the same
+
+same_front : (u v x y : List ℕ) → length u ≡ length v → u ++ x ≡ v ++ y → u ≡ v
+same_front u v x y long e = sym (take_front u x (v ++ y) e) ∙ ap (λ n. take n (v ++ y)) long ∙ take_front v y (v ++ y) refl
+
+same_back : (u v x y : List ℕ) → length u ≡ length v → u ++ x ≡ v ++ y → x ≡ y
+same_back u v x y long e = sym (drop_front u x (v ++ y) e) ∙ ap (λ n. drop n (v ++ y)) long ∙ drop_front v y (v ++ y) refl
+
+same_texts : {u v : List ℕ} {us vs : Texts} → u ≡ v → us ≡ vs → u ∷ us ≡ v ∷ vs
+same_texts e f = cc
+
+abbrev Single : List Piece → Type 0
+Single p = (ts us : Texts) → AllZip StandsFor (specifiers p) ts → AllZip StandsFor (specifiers p) us → map length ts ≡ map length us → filled p ts ≡ filled p us → ts ≡ us
+
+single_end : Single []
+single_end [] [] f g long e = refl
+single_end [] (u ∷ us) f g long e = absurd g
+single_end (t ∷ ts) us f g long e = absurd f
+
+single_byte : (b : ℕ) (p : List Piece) → Single p → Single (Byte b ∷ p)
+single_byte b p ih ts us f g long e = ih ts us f g long (tails e)
+
+single_front : (p : List Piece) (t u : List ℕ) (ts us : Texts) → Single p → AllZip StandsFor (specifiers p) ts → AllZip StandsFor (specifiers p) us → length t ∷ map length ts ≡ length u ∷ map length us → t ++ filled p ts ≡ u ++ filled p us → t ∷ ts ≡ u ∷ us
+single_front p t u ts us ih f g long e =
+    same_texts (same_front t u (filled p ts) (filled p us) (heads long) e)
+    (ih ts us f g (tails long) (same_back t u (filled p ts) (filled p us) (heads long) e))
+
+single_star : (p : List Piece) → Single p → Single (Star ∷ p)
+single_star p ih [] us f g long e = absurd f
+single_star p ih (t ∷ ts) [] f g long e = absurd g
+single_star p ih (t ∷ ts) (u ∷ us) f g long e = single_front p t u ts us ih f.1 g.1 long e
+
+single_dots : (p : List Piece) → Single p → Single (Dots ∷ p)
+single_dots p ih [] us f g long e = absurd f
+single_dots p ih (t ∷ ts) [] f g long e = absurd g
+single_dots p ih (t ∷ ts) (u ∷ us) f g long e = single_front p t u ts us ih f.1 g.1 long e
+
+single_place : (k : ℕ) (p : List Piece) → Single p → Single (Place k ∷ p)
+single_place k p ih [] us f g long e = absurd f
+single_place k p ih (t ∷ ts) [] f g long e = absurd g
+single_place k p ih (t ∷ ts) (u ∷ us) f g long e = single_front p t u ts us ih f.1 g.1 long e
+
+single : (p : List Piece) → Single p
+single [] = single_end
+single (Byte b ∷ p) = single_byte b p (single p)
+single (Star ∷ p) = single_star p (single p)
+single (Dots ∷ p) = single_dots p (single p)
+single (Place k ∷ p) = single_place k p (single p)
+
+-- of two lists neither of which comes later
+same_order : (xs ys : List ℕ) → (slice_cmp nat_cmp xs ys ≡ Greater → ⊥) → (slice_cmp nat_cmp ys xs ≡ Greater → ⊥) → xs ≡ ys
+same_order xs ys f g = go (slice_cmp nat_cmp xs ys) refl
+  where
+    go : (o : Ordering) → slice_cmp nat_cmp xs ys ≡ o → xs ≡ ys
+    go Less e = absurd (g (nat_list_cmp_total.antisymm ys xs ∙ ap ordering_reverse e))
+    go Greater e = absurd (f e)
+    go Equal e = same_text xs ys (sym (texts_ties xs ys ∙ ap is_eq e))
+
+-- the texts whose lengths come first are what `texts` gives
+pub texts_only : (p : List Piece) (t : List ℕ) (us : Texts) → AreTexts p t us → texts p t ≡ Some us
+texts_only p t us f =
+    let r : Least p t us = complete p t us f.fill in
+    let g : IsFilling p t r.0 = sound p t r.0 r.1 in
+    r.1 ∙ ap (λ (ts : Texts). Some ts) (single p r.0 us g.each f.fill.each (same_order (map length r.0) (map length us) r.2 (f.first r.0 g)) (g.whole ∙ sym f.fill.whole))

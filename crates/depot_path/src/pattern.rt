@@ -229,9 +229,10 @@ impl Pattern {
     }
 }
 
-/// The texts that a pattern's specifiers stand for are those whose lengths come first, compared from the left, and there are some wherever
-/// a text fits.
+/// The texts that a pattern's specifiers stand for are exactly those whose lengths come first, compared from the left, and there are some
+/// wherever a text fits.
 pub fn texts_come_first()
     ensures first { (p : List Piece) (t : List ℕ) (ts : List (List ℕ)) → texts p t ≡ Some ts → AreTexts p t ts }
+    ensures only { (p : List Piece) (t : List ℕ) (ts : List (List ℕ)) → AreTexts p t ts → texts p t ≡ Some ts }
     ensures every { (p : List Piece) (t : List ℕ) (us : List (List ℕ)) → IsFilling p t us → (ts : List (List ℕ)) × (texts p t ≡ Some ts) }
 {}
