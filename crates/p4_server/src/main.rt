@@ -69,13 +69,13 @@ fn main(rt: HostRuntime) -> ExitCode {
     let Ok(words) = texts(alloc, &arguments) else {
         return ExitCode::from(NO_MEMORY);
     };
-    let Ok(journal) = FolderDisk::new(&rt, "depot.journal") else {
+    let Ok(journal) = FolderDisk::new(&rt, alloc, "depot.journal") else {
         return ExitCode::from(NO_MEMORY);
     };
-    let Ok(archive) = FolderDisk::new(&rt, "depot.archive") else {
+    let Ok(archive) = FolderDisk::new(&rt, alloc, "depot.archive") else {
         return ExitCode::from(NO_MEMORY);
     };
-    let mut doors = FolderDoors::new(&rt, alloc);
+    let mut doors = FolderDoors::new(&rt);
     let mut out = FileSink::output(rt.stdout());
     let clock = SystemClock::new(&rt);
     let ended = p4_top(

@@ -4,26 +4,26 @@ ghost use Rattle.std.specs.Prelude.{◌≡◌, ◌≤◌, ◌<◌, ◌^◌, leng
 ghost use Rattle.outside_api.specs.Count.{HasCause};
 
 use crate::count::Faults;
-use itoa::Buffer;
+use crate::paths::Paths;
 use outside_api::{Disk, Failed};
 use std::alloc::{AllocError, Global};
 use std::fs::{File, OpenOptions};
-use std::io::ErrorKind;
+use std::io::{ErrorKind, Read};
 use std::os::unix::fs::FileExt;
 use std::rt::Files;
 use std::{fs, io};
 
 /// The files of a folder, each of which is named by its number in decimal. A file that isn't there has no bytes, and neither the folder nor a
-/// file is made before something is written. It doesn't tell what the files hold.
+/// file is made before something is written. It doesn't tell what the files hold. Once it is made its calls take no memory.
 ///
 /// A sync brings to the device what was written since the last one, and the names of files and of the folder. The first sync brings there all that
 /// the folder holds, since an earlier run may have written it.
 #[derive(Drop)]
-pub struct FolderDisk<'a, R: Files<File = File> + AllocGlobal + Clone + Drop> {
+pub struct FolderDisk<'a, R: Files<File = File>> {
     rt: &'a R,
-    folder: String,
-    /// Whether no sync was asked yet.
-    is_new: bool,
+    paths: Paths,
+    /// Whether files that the list lacks may have been written since the last sync.
+    is_any_written: bool,
     /// The files that were written since the last sync.
     written: Vec<u32>,
     faults: Faults,
@@ -34,23 +34,12 @@ pub struct FolderDisk<'a, R: Files<File = File> + AllocGlobal + Clone + Drop> {
 /// The most bytes of a file.
 const MOST: u64 = 9_223_372_036_854_775_807;
 
-/// The path of a file.
-fn path_of(alloc: Global, folder: &str, file: u32) -> Result<String, AllocError> {
-    let mut path = String::from_str(alloc, folder)?;
-    path.push_str("/")?;
-    path.push_str(Buffer::new().format(file))?;
-    Ok(path)
-}
+/// Room for names of a folder; each of them fits.
+const NAMES: usize = 4_096;
 
 /// Opens a file to read it, where it is there.
-fn open<R: Files<File = File>>(
-    rt: &R,
-    alloc: Global,
-    folder: &str,
-    file: u32,
-) -> io::Result<Option<File>> {
-    let path = path_of(alloc, folder, file)?;
-    match File::open(rt, path.as_str()) {
+fn open<R: Files<File = File>>(rt: &R, paths: &mut Paths, file: u32) -> io::Result<Option<File>> {
+    match File::open(rt, paths.file(file)?) {
         Ok(opened) => Ok(Some(opened)),
         Err(error) => {
             if error.kind() == ErrorKind::NotFound {
@@ -63,22 +52,16 @@ fn open<R: Files<File = File>>(
 }
 
 /// Opens a file to write into it, and makes it, and the folder, where it isn't there.
-fn open_to_write<R: Files<File = File>>(
-    rt: &R,
-    alloc: Global,
-    folder: &str,
-    file: u32,
-) -> io::Result<File> {
-    let path = path_of(alloc, folder, file)?;
+fn open_to_write<R: Files<File = File>>(rt: &R, paths: &mut Paths, file: u32) -> io::Result<File> {
     let mut how = OpenOptions::new();
     how.write(true);
     how.create(true);
-    match how.open(rt, path.as_str()) {
+    match how.open(rt, paths.file(file)?) {
         Ok(opened) => Ok(opened),
         Err(error) => {
             if error.kind() == ErrorKind::NotFound {
-                fs::create_dir(rt, folder)?;
-                how.open(rt, path.as_str())
+                fs::create_dir(rt, paths.folder())?;
+                how.open(rt, paths.file(file)?)
             } else {
                 Err(error)
             }
@@ -87,13 +70,8 @@ fn open_to_write<R: Files<File = File>>(
 }
 
 /// The length of a file.
-fn length_of<R: Files<File = File>>(
-    rt: &R,
-    alloc: Global,
-    folder: &str,
-    file: u32,
-) -> io::Result<u64> {
-    match open(rt, alloc, folder, file)? {
+fn length_of<R: Files<File = File>>(rt: &R, paths: &mut Paths, file: u32) -> io::Result<u64> {
+    match open(rt, paths, file)? {
         Some(opened) => Ok(opened.metadata()?.len()),
         None => Ok(0),
     }
@@ -102,123 +80,106 @@ fn length_of<R: Files<File = File>>(
 /// Reads bytes of a file from a place on.
 fn read_from<R: Files<File = File>>(
     rt: &R,
-    alloc: Global,
-    folder: &str,
+    paths: &mut Paths,
     file: u32,
     at: u64,
     buffer: &mut [u8],
 ) -> io::Result<usize>
     ensures { IfOk result (λ n. n ≤ length buffer.old) }
 {
-    match open(rt, alloc, folder, file)? {
+    match open(rt, paths, file)? {
         Some(opened) => opened.read_at(buffer, at),
         None => Ok(0),
     }
 }
 
-/// Writes bytes into a file at a place.
-fn write_to<R: Files<File = File>>(
-    rt: &R,
-    alloc: Global,
-    folder: &str,
-    file: u32,
-    at: u64,
-    piece: &[u8],
-) -> io::Result<()> {
-    open_to_write(rt, alloc, folder, file)?.write_all_at(piece, at)
-}
-
-/// Cuts a file to a length.
-fn cut_to<R: Files<File = File>>(
-    rt: &R,
-    alloc: Global,
-    folder: &str,
-    file: u32,
-    length: u64,
-) -> io::Result<()> {
-    open_to_write(rt, alloc, folder, file)?.set_len(length)
-}
-
-/// Brings the files of the folder to the device, where it is there.
-fn sync_all_files<R: Files<File = File> + AllocGlobal + Clone + Drop>(
-    rt: &R,
-    folder: &str,
-) -> io::Result<()> {
-    if !fs::exists(rt, folder)? {
-        return Ok(());
+/// Brings a file to the device, where it is there.
+fn sync_file<R: Files<File = File>>(rt: &R, paths: &mut Paths, file: u32) -> io::Result<()> {
+    match open(rt, paths, file)? {
+        Some(opened) => opened.sync_all(),
+        None => Ok(()),
     }
-    for entry in fs::read_dir(rt, folder)? {
-        let entry = entry?;
-        File::open(rt, entry.path())?.sync_all()?;
+}
+
+/// The number that a file is named by.
+fn number_of(name: &[u8]) -> Option<u32> {
+    str::from_utf8(name).ok()?.parse::<u32>().ok()
+}
+
+/// Brings the files of these names, each ended by a zero byte, to the device.
+fn sync_named<R: Files<File = File>>(rt: &R, paths: &mut Paths, names: &[u8]) -> io::Result<()> {
+    for name in names.split(|byte| *byte == 0) {
+        if let Some(file) = number_of(name) {
+            sync_file(rt, paths, file)?;
+        }
+    }
+    Ok(())
+}
+
+/// Brings the files of the folder to the device.
+fn sync_all_files<R: Files<File = File>>(rt: &R, paths: &mut Paths) -> io::Result<()> {
+    let mut folder = rt.open_dir(paths.folder())?;
+    let mut names = [0u8; NAMES];
+    for _ in 0..u64::MAX {
+        let count = folder.read(&mut names)?;
+        if count == 0 {
+            return Ok(());
+        }
+        sync_named(rt, paths, &names[..count])?;
     }
     Ok(())
 }
 
 /// Brings these files to the device.
-fn sync_files<R: Files<File = File>>(
-    rt: &R,
-    alloc: Global,
-    folder: &str,
-    files: &[u32],
-) -> io::Result<()> {
+fn sync_files<R: Files<File = File>>(rt: &R, paths: &mut Paths, files: &[u32]) -> io::Result<()> {
     for file in files {
-        if let Some(opened) = open(rt, alloc, folder, *file)? {
-            opened.sync_all()?;
-        }
+        sync_file(rt, paths, *file)?;
     }
     Ok(())
 }
 
-/// Brings the names of the folder's files to the device, and that of the folder, where it is there.
-fn sync_names<R: Files<File = File>>(rt: &R, alloc: Global, folder: &str) -> io::Result<()> {
-    if !fs::exists(rt, folder)? {
-        return Ok(());
-    }
-    File::open(rt, folder)?.sync_all()?;
-    let mut parent = String::from_str(alloc, folder)?;
-    parent.push_str("/..")?;
-    File::open(rt, parent.as_str())?.sync_all()
-}
-
-/// Brings to the device what was written, or all of the folder.
-fn sync_folder<R: Files<File = File> + AllocGlobal + Clone + Drop>(
+/// Brings to the device these files, or all that the folder holds, the names of its files and its own, where it is there.
+fn sync_folder<R: Files<File = File>>(
     rt: &R,
-    folder: &str,
+    paths: &mut Paths,
     is_all: bool,
     written: &[u32],
 ) -> io::Result<()> {
-    if is_all {
-        sync_all_files(rt, folder)?;
-    } else {
-        sync_files(rt, rt.alloc(), folder, written)?;
+    if !fs::exists(rt, paths.folder())? {
+        return Ok(());
     }
-    sync_names(rt, rt.alloc(), folder)
+    if is_all {
+        sync_all_files(rt, paths)?;
+    } else {
+        sync_files(rt, paths, written)?;
+    }
+    File::open(rt, paths.folder())?.sync_all()?;
+    File::open(rt, paths.parent()?)?.sync_all()
 }
 
-impl<'a, R: Files<File = File> + AllocGlobal + Clone + Drop> FolderDisk<'a, R> {
+impl<'a, R: Files<File = File>> FolderDisk<'a, R> {
     /// The files of the folder.
-    pub fn new(rt: &'a R, folder: &str) -> Result<Self, AllocError>
+    pub fn new(rt: &'a R, alloc: Global, folder: &str) -> Result<Self, AllocError>
         ensures { IfOk result (λ disk. disk.faults.count ≡ 0) }
     {
         Ok(FolderDisk {
             rt,
-            folder: String::from_str(rt.alloc(), folder)?,
-            is_new: true,
-            written: Vec::new(rt.alloc()),
+            paths: Paths::new(alloc, folder)?,
+            is_any_written: true,
+            written: Vec::new(alloc),
             faults: Faults { count: 0 },
             calls: 0,
         })
     }
 
-    /// Notes that a file is written.
-    fn note(&mut self, file: u32) -> Result<(), AllocError>
+    /// Notes that a file is written. Where there is no memory for that, the next sync brings all files to the device.
+    fn note(&mut self, file: u32)
         ensures faults { self.new.faults ≡ self.old.faults }
         ensures calls { self.new.calls ≡ self.old.calls }
     {
-        if !self.written.contains(&file) {
-            self.written.push(file)?;
+        if !self.written.contains(&file) && self.written.push(file).is_err() {
+            self.is_any_written = true;
         }
-        Ok(())
     }
 }
 
@@ -236,7 +197,7 @@ fn counted<T: Drop>(faults: &mut Faults, answer: io::Result<T>) -> Result<T, Fai
     }
 }
 
-impl<R: Files<File = File> + AllocGlobal + Clone + Drop> Disk for FolderDisk<'_, R> {
+impl<R: Files<File = File>> Disk for FolderDisk<'_, R> {
     ghost use Rattle.real_world.specs.Untold.{no_files};
 
     ghost seen = { λ disk. no_files };
@@ -263,7 +224,7 @@ impl<R: Files<File = File> + AllocGlobal + Clone + Drop> Disk for FolderDisk<'_,
 
     fn length(&mut self, file: u32) -> Result<u64, Failed> {
         self.calls = self.calls.saturating_add(1);
-        let length = length_of(self.rt, self.rt.alloc(), self.folder.as_str(), file);
+        let length = length_of(self.rt, &mut self.paths, file);
         let length = counted(&mut self.faults, length)?;
         if length > MOST {
             self.faults.rise();
@@ -274,49 +235,35 @@ impl<R: Files<File = File> + AllocGlobal + Clone + Drop> Disk for FolderDisk<'_,
 
     fn read(&mut self, file: u32, at: u64, buffer: &mut [u8]) -> Result<usize, Failed> {
         self.calls = self.calls.saturating_add(1);
-        let count = read_from(
-            self.rt,
-            self.rt.alloc(),
-            self.folder.as_str(),
-            file,
-            at,
-            buffer,
-        );
+        let count = read_from(self.rt, &mut self.paths, file, at, buffer);
         counted(&mut self.faults, count)
     }
 
     fn write_at(&mut self, file: u32, at: u64, piece: &[u8]) -> Result<(), Failed> {
         self.calls = self.calls.saturating_add(1);
-        if at > MOST || piece.len() as u64 > MOST - at || self.note(file).is_err() {
+        if at > MOST || piece.len() as u64 > MOST - at {
             self.faults.rise();
             return Err(Failed);
         }
-        let written = write_to(
-            self.rt,
-            self.rt.alloc(),
-            self.folder.as_str(),
-            file,
-            at,
-            piece,
-        );
-        counted(&mut self.faults, written)
+        self.note(file);
+        let opened = open_to_write(self.rt, &mut self.paths, file);
+        let opened = counted(&mut self.faults, opened)?;
+        counted(&mut self.faults, opened.write_all_at(piece, at))
     }
 
     fn cut(&mut self, file: u32, length: u64) -> Result<(), Failed> {
         self.calls = self.calls.saturating_add(1);
-        if self.note(file).is_err() {
-            self.faults.rise();
-            return Err(Failed);
-        }
-        let cut = cut_to(self.rt, self.rt.alloc(), self.folder.as_str(), file, length);
-        counted(&mut self.faults, cut)
+        self.note(file);
+        let opened = open_to_write(self.rt, &mut self.paths, file);
+        let opened = counted(&mut self.faults, opened)?;
+        counted(&mut self.faults, opened.set_len(length))
     }
 
     fn sync(&mut self) -> Result<(), Failed> {
         self.calls = self.calls.saturating_add(1);
-        let synced = sync_folder(self.rt, self.folder.as_str(), self.is_new, &self.written);
+        let synced = sync_folder(self.rt, &mut self.paths, self.is_any_written, &self.written);
         counted(&mut self.faults, synced)?;
-        self.is_new = false;
+        self.is_any_written = false;
         self.written.clear();
         Ok(())
     }

@@ -8,6 +8,7 @@ mod clock;
 mod count;
 mod disk;
 mod doors;
+mod paths;
 mod stream;
 #[cfg(test)]
 mod tests;

@@ -31,7 +31,7 @@ fn a_sink_writes_its_file(rt: HostRuntime) -> Result<(), Fail> {
 #[test]
 fn doors_open_the_files_of_a_name(rt: HostRuntime) -> Result<(), Fail> {
     fs::write(&rt, "door", "x")?;
-    let mut doors = FolderDoors::new(&rt, rt.alloc());
+    let mut doors = FolderDoors::new(&rt);
     let (mut source, mut sink) = doors.come("door")?;
     let mut buffer = [0u8; 8];
     assert_eq!(rt; source.take(&mut buffer)?, 1);
@@ -45,7 +45,7 @@ fn doors_open_the_files_of_a_name(rt: HostRuntime) -> Result<(), Fail> {
 
 #[test]
 fn a_disk_keeps_numbered_files(rt: HostRuntime) -> Result<(), Fail> {
-    let mut disk = FolderDisk::new(&rt, "disk")?;
+    let mut disk = FolderDisk::new(&rt, rt.alloc(), "disk")?;
     let mut buffer = [0u8; 8];
     assert_eq!(rt; disk.length(7)?, 0);
     assert_eq!(rt; disk.read(7, 0, &mut buffer)?, 0);
