@@ -9,6 +9,7 @@ use crate::{Landing, commit_all, commit_settled};
 use db_records::{Change, CounterRecord, Op, Record};
 use depot_path::{Sequence, Text};
 use disk_journal::{Journal, make_files};
+use journal_groups::GroupReader;
 use memory_world::MemoryDisk;
 use outside_api::{Disk, DiskFault, Fetched};
 use std::alloc::{AllocError, Global};
@@ -34,6 +35,15 @@ fn build_is_seven(alloc: Global) -> Result<Change, AllocError> {
     Ok(Change { op: Op::Put, row })
 }
 
+/// Whether the journal of a disk begins with a group.
+fn has_a_group(alloc: Global, disk: &mut MemoryDisk) -> Result<bool, Fail> {
+    let mut bytes = [0u8; 64];
+    let count = disk.read(1, 0, &mut bytes)?;
+    let text = Text::from_bytes(alloc, &bytes[..count])?;
+    Ok(GroupReader::new(text, 0, 1).next(alloc)?.is_some())
+}
+
+/// A stop in the write of the mark leaves any byte in it, and the group counts exactly for one.
 #[test]
 fn a_stop_at_the_mark_leaves_any_byte_in_it(rt: HostRuntime) -> Result<(), Fail> {
     let alloc = rt.alloc();
@@ -47,6 +57,7 @@ fn a_stop_at_the_mark_leaves_any_byte_in_it(rt: HostRuntime) -> Result<(), Fail>
         assert!(rt; image.read(1, 0, &mut bytes) == Ok(51));
         assert_eq!(rt; bytes[1], byte);
         assert_eq!(rt; bytes[6], b'n');
+        assert_eq!(rt; has_a_group(alloc, &mut image)?, byte == b'e');
     }
     let mut before = disk.image(5, &[])?;
     let mut bytes = [1u8; 64];
@@ -59,7 +70,7 @@ fn a_stop_at_the_mark_leaves_any_byte_in_it(rt: HostRuntime) -> Result<(), Fail>
 /// The journal of one commit.
 const JOURNAL: &[u8] = b"@ex@\n@nx@ 1 31\n@pv@ 1 @db.counters@ @build@ 7\n@mx@\n";
 
-/// A stop after a call of a commit leaves a closed mark up to the call that writes it, and the whole
+/// A stop after a call of a commit leaves a closed mark, and no group, up to the call that writes it, and the whole
 /// text once the last call has ended, whatever the open bytes are.
 #[test]
 fn a_stop_at_each_call_of_a_commit(rt: HostRuntime) -> Result<(), Fail> {
@@ -73,6 +84,7 @@ fn a_stop_at_each_call_of_a_commit(rt: HostRuntime) -> Result<(), Fail> {
         let mut bytes = [0u8; 64];
         assert!(rt; image.read(1, 0, &mut bytes).is_ok());
         assert_eq!(rt; bytes[1], mark);
+        assert_eq!(rt; has_a_group(alloc, &mut image)?, mark == b'e');
     }
     let mut whole = disk.image(8, &[])?;
     let mut bytes = [0u8; 51];

@@ -215,49 +215,72 @@ fn a_commit_may_fail(rt: HostRuntime) -> Result<(), Fail> {
     Ok(())
 }
 
-/// What `dump` prints after a stop of the journal's disk after so many calls.
-fn printed_after_stop<R: Threads + Wait + Sync + Abort>(
+/// A script that ends within a block keeps what its commands did before.
+#[test]
+fn a_counter_stays_after_a_cut_block(rt: HostRuntime) -> Result<(), Fail> {
+    let alloc = rt.alloc();
+    let disks = made(&rt, alloc)?;
+    let wanted = Wanted {
+        status: 3,
+        output: b"... counter a\n... value 1\n\n... end 1\n\n",
+        lines: b"place 1 1 1700000000\nscript 1 4 49\n",
+    };
+    let script = b"session ann ws1 hostA\np4 counter a 1\ninput 10\nabc";
+    let disks = runs_script(&rt, alloc, &["schedule", "a"], script, disks, wanted)?;
+    let row = b"@pv@ 1 @db.counters@ @a@ 1\n";
+    runs(&rt, alloc, &["dump"], disks, 0, row)?;
+    Ok(())
+}
+
+/// After a stop of the journal's disk after so many calls, with these open bytes, `dump` prints the rows.
+fn prints_after_stop<R: Threads + Wait + Sync + Abort>(
     rt: &R,
     alloc: Global,
     journal: &MemoryDisk,
     calls: u64,
-) -> Result<Text, Fail> {
-    let mut doors = MemoryDoors::new(Vec::new(alloc), Vec::new(alloc));
-    let mut out = MemorySink::new(Vec::new(alloc));
-    let ended: Ended<MemoryDisk, MemorySource, MemorySink> = p4_top(
-        rt,
-        alloc,
-        &["dump"],
-        &mut doors,
-        journal.image(calls, b"")?,
-        disk(alloc, 0)?,
-        &mut out,
-        &FixedClock::new(1_700_000_000),
-        &OpenGate,
-    );
-    assert_eq!(rt; ended.status, 0);
-    Ok(Text::from_bytes(alloc, out.given())?)
+    pick: &[u8],
+    rows: &[u8],
+) -> Result<(), Fail> {
+    let disks = (journal.image(calls, pick)?, disk(alloc, 0)?);
+    runs(rt, alloc, &["dump"], disks, 0, rows)?;
+    Ok(())
 }
 
-/// The program stops after any call of a commit: a later run opens the files with the row or without it,
-/// and once the commit has ended with it.
-#[test]
-fn a_commit_is_whole_or_nothing(rt: HostRuntime) -> Result<(), Fail> {
-    let alloc = rt.alloc();
-    let disks = (disk(alloc, 0)?, disk(alloc, 0)?);
-    let disks = runs(&rt, alloc, &["init"], disks, 0, b"")?;
+/// The journal's disk after a session that set a counter, whose commit made the calls 13 to 16.
+fn committed<R: Threads + Wait + Sync + Abort>(rt: &R, alloc: Global) -> Result<MemoryDisk, Fail> {
+    let disks = made(rt, alloc)?;
     let wanted = Wanted {
         status: 0,
         output: OUTPUT,
         lines: PLACES,
     };
-    let (journal, _) = runs_script(&rt, alloc, &["schedule", "a"], SCRIPT, disks, wanted)?;
-    for calls in 5..16 {
-        let text = printed_after_stop(&rt, alloc, &journal, calls)?;
-        assert!(rt; text.is_empty() || text.as_bytes() == ROW);
+    Ok(runs_script(rt, alloc, &["schedule", "a"], SCRIPT, disks, wanted)?.0)
+}
+
+/// The program stops after any call of a commit: a later run opens the files without the row until the write of the mark, and with it once
+/// the commit has ended, whatever the open bytes are.
+#[test]
+fn a_commit_is_whole_or_nothing(rt: HostRuntime) -> Result<(), Fail> {
+    let alloc = rt.alloc();
+    let journal = committed(&rt, alloc)?;
+    for pick in [b"".as_slice(), &[b'e'; 64], &[b'm'; 64]] {
+        for calls in 5..15 {
+            prints_after_stop(&rt, alloc, &journal, calls, pick, b"")?;
+        }
+        prints_after_stop(&rt, alloc, &journal, 16, pick, ROW)?;
     }
-    let text = printed_after_stop(&rt, alloc, &journal, 16)?;
-    assert!(rt; text.as_bytes() == ROW);
+    Ok(())
+}
+
+/// The program stops within the write of the mark, which leaves any byte in it: a later run opens the files with the row exactly for one.
+#[test]
+fn each_byte_of_a_mark_opens(rt: HostRuntime) -> Result<(), Fail> {
+    let alloc = rt.alloc();
+    let journal = committed(&rt, alloc)?;
+    for byte in 0..=255u8 {
+        let rows = if byte == b'e' { ROW } else { b"" };
+        prints_after_stop(&rt, alloc, &journal, 15, &[byte], rows)?;
+    }
     Ok(())
 }
 

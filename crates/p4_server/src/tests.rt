@@ -249,37 +249,65 @@ fn a_line_has_at_most_64_words(rt: HostRuntime) -> Result<(), Fail> {
     answers(&rt, rt.alloc(), line.as_bytes(), bad_line)
 }
 
+/// The lines of a script that is cut at a byte: those of its places, and its fault, where the cut doesn't stand behind a line's end.
+fn lines_of_cut(
+    alloc: Global,
+    places: &[u8],
+    at: usize,
+    is_whole: bool,
+) -> Result<Text, AllocError> {
+    let mut lines = Text::from_bytes(alloc, places)?;
+    if !is_whole {
+        lines.append(b"script 1 4 ")?;
+        lines.append(itoa::Buffer::new().format(at).as_bytes())?;
+        lines.append(b"\n")?;
+    }
+    Ok(lines)
+}
+
+/// Runs the front of a script up to a byte, and compares what it is answered and its places.
+fn runs_cut<R: Threads + Wait + Sync + Abort>(
+    rt: &R,
+    alloc: Global,
+    front: &[u8],
+    is_whole: bool,
+    output: &[u8],
+    places: &[u8],
+) -> Result<(), Fail> {
+    let lines = lines_of_cut(alloc, places, front.len(), is_whole)?;
+    let status = if is_whole { 0 } else { 3 };
+    runs(rt, alloc, front, NONE, status, output, lines.as_bytes())
+}
+
 /// A script that is cut anywhere ends whole behind a line feed and otherwise at its length, and every
 /// command before is run.
 #[test]
 fn a_script_is_cut_at_any_byte(rt: HostRuntime) -> Result<(), Fail> {
     for at in 0..SCRIPT.len() + 1 {
-        let mut lines = Text::new(rt.alloc());
-        let mut output = b"".as_slice();
-        if at >= 41 {
-            lines.append(b"place 1 1 1700000000\n")?;
-            output = ONE;
-        }
-        if at >= 58 {
-            lines.append(b"place 1 2 1700000000\n")?;
-            output = BOTH;
-        }
-        let mut status = 0;
-        if at != 22 && at != 41 && at != 58 {
-            lines.append(b"script 1 4 ")?;
-            lines.append(itoa::Buffer::new().format(at).as_bytes())?;
-            lines.append(b"\n")?;
-            status = 3;
-        }
-        runs(
-            &rt,
-            rt.alloc(),
-            &SCRIPT[..at],
-            NONE,
-            status,
-            output,
-            lines.as_bytes(),
-        )?;
+        let (output, places) = match at {
+            0..=40 => (b"".as_slice(), b"".as_slice()),
+            41..=57 => (ONE, b"place 1 1 1700000000\n".as_slice()),
+            _ => (BOTH, PLACES),
+        };
+        let is_whole = at == 22 || at == 41 || at == 58;
+        runs_cut(&rt, rt.alloc(), &SCRIPT[..at], is_whole, output, places)?;
+    }
+    Ok(())
+}
+
+/// A block that isn't whole, and no command behind it, cuts a script as well.
+#[test]
+fn a_block_is_cut_at_any_byte(rt: HostRuntime) -> Result<(), Fail> {
+    let script = b"session ann ws1 hostA\np4 counter a 1\ninput 10\nabc".as_slice();
+    let one = b"... counter a\n... value 1\n\n... end 1\n\n".as_slice();
+    for at in 0..script.len() + 1 {
+        let (output, places) = if at < 37 {
+            (b"".as_slice(), b"".as_slice())
+        } else {
+            (one, b"place 1 1 1700000000\n".as_slice())
+        };
+        let is_whole = at == 22 || at == 37;
+        runs_cut(&rt, rt.alloc(), &script[..at], is_whole, output, places)?;
     }
     Ok(())
 }
