@@ -1,5 +1,8 @@
 //! What may be wrong with a script.
 
+ghost use Rattle.std.specs.Prelude.{◌≡◌};
+ghost use Rattle.wire_text.specs.declared.fault.ScriptError.TheVariants.{Memory};
+
 use std::alloc::AllocError;
 
 /// What is wrong with a script.
@@ -38,6 +41,8 @@ pub enum ScriptError {
 }
 
 impl From<AllocError> for ScriptError {
+    ghost from_gives = { λ _ error. error ≡ Memory };
+
     fn from(_: AllocError) -> Self {
         ScriptError::Memory
     }
