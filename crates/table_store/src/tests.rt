@@ -91,17 +91,24 @@ fn change_lines(draft: &mut Draft, alloc: Global, op: Op, lines: u32) -> Result<
     Ok(count)
 }
 
+/// How many rows a walk has.
+fn count_rows(rows: Walk<'_>) -> usize {
+    let mut count = 0usize;
+    for _row in rows {
+        count = count.saturating_add(1);
+    }
+    count
+}
+
 #[test]
 fn rows_of_many_pages_come_and_go(rt: HostRuntime) -> Result<(), Fail> {
     let alloc = rt.alloc();
     let mut draft = Version::empty(alloc, TableId::Protect)?.draft(alloc)?;
     assert_eq!(rt; change_lines(&mut draft, alloc, Op::Put, 10_000)?, 10_000);
     let version = draft.finish(alloc)?;
-    let mut count = 0usize;
-    for _row in version.from_key(&Key::Protect { line: 100 }) {
-        count = count.saturating_add(1);
-    }
-    assert_eq!(rt; count, 9_900);
+    let upper = version.from_key(&Key::Protect { line: 100 });
+    assert_eq!(rt; count_rows(upper), 9_900);
+    assert_eq!(rt; count_rows(version.rows()), 10_000);
     let mut draft = version.draft(alloc)?;
     assert_eq!(rt;
         change_lines(&mut draft, alloc, Op::Remove, 10_000)?,

@@ -86,13 +86,20 @@ impl Tree {
         self.list[count - 1].get(sought)
     }
 
+    /// All rows.
+    pub(crate) fn walk(&self) -> Walk<'_>
+        ensures { result ≡ self.now }
+    {
+        Walk::new(&[], &[], &self.list)
+    }
+
     /// The rows from the first at or above the key.
     pub(crate) fn walk_from(&self, sought: SearchKey<'_>) -> Walk<'_>
         ensures { result ≡ rows_from (sought_key sought.entry) self.now }
     {
         let count = branches_up_to(&self.list, sought);
         if count == 0 {
-            return Walk::new(&[], &[], &self.list);
+            return self.walk();
         }
         let (rows, pages) = self.list[count - 1].from_key(sought);
         Walk::new(rows, pages, &self.list[count..])

@@ -85,6 +85,13 @@ impl Version {
         self.tree.get(SearchKey::Given(key))
     }
 
+    /// All rows, in the order of their keys.
+    pub fn rows(&self) -> Walk<'_>
+        ensures { result ≡ self.now.rows }
+    {
+        self.tree.walk()
+    }
+
     /// The rows from the first key at or above the key, in the order of their keys.
     pub fn from_key(&self, key: &Key) -> Walk<'_>
         ensures { result ≡ rows_from key.now self.now.rows }

@@ -12,13 +12,13 @@ pub returns-then-count-eq0 : goal.returns-then-count-eq0
 returns-then-count-eq0 c =
     let key = sought_key c.args.sought in
     let count = rw c.deref.ensures.value at c.branches_up_to-count.ensures in
-    c.new.ensures
-    ∙ ap rows_of c.deref-then-count-eq0.ensures.value
+    c.walk.ensures
+    ∙ sym c.self.view_is
     ∙ sym (rows_from-before key _ _ count c.if-count-eq0.true)
     ∙ ap (rows_from key) c.self.view_is
 
-pub new-requires-2-clause-branches : goal.new-requires-2-clause-branches
-new-requires-2-clause-branches c =
+pub new-requires-clause-branches : goal.new-requires-clause-branches
+new-requires-clause-branches c =
     let n = c.branches_up_to-count.result in
     let shelves = c.deref-3.result.now in
     AllFilled-take (length shelves - n) (drop n shelves) (AllFilled-drop n shelves (rw c.deref-3.ensures.value c.self.invariant.filled))
@@ -31,7 +31,7 @@ returns c =
     let count = rw c.deref.ensures.value at c.branches_up_to-count.ensures in
     let rest = rows_of (take (length c.deref-3.result.now - n) (drop n c.deref-3.result.now)) in
     let behind : rest ≡ rows_of (drop (n - 1 + 1) shelves) = grind (arith, common_steps) in
-    c.new-2.ensures
+    c.new.ensures
     ∙ sym (append_assoc c.from_key.result.0.now (rows_of c.from_key.result.1.now) rest)
     ∙ ap (λ l. c.from_key.result.0.now ++ rows_of c.from_key.result.1.now ++ l) behind
     ∙ ap (λ l. l ++ rows_of (drop (n - 1 + 1) shelves)) (c.from_key.ensures.rows ∙ ap (rows_from key) (c.deref-2.ensures ∙ ap arc_value c.index.ensures))
