@@ -1,41 +1,21 @@
 //! The protections.
 
-ghost use Rattle.std.specs.Prelude.{◌≡◌, ◌++◌, ◌∷◌, List, [], IfOk, OnOk};
+ghost use Rattle.std.specs.Prelude.{◌≡◌, ◌++◌, List, [], IfOk, OnOk};
 ghost use Rattle.db_records.specs.declared.table.TableId.TheVariants as table_ids;
 ghost use Rattle.table_changes.specs.Changed.{rows_of};
 ghost use Rattle.depot_model.specs.Asking.{read_lines, protects as protects_in};
 ghost use Rattle.depot_model.specs.Deeds.{Deed};
-ghost use Rattle.depot_model.specs.Rules.{IsSound, line_text as text_of_line};
+ghost use Rattle.depot_model.specs.Rules.{IsSound};
 ghost use Rattle.depot_rows.specs.Standing.{HasRows};
 ghost use Rattle.row_reads.specs.Lines.{text_in, texts_in};
 
-use db_records::{ProtectRecord, Record, TableId};
+use db_records::{Record, TableId};
 use depot_path::{Sequence, Text};
+use depot_rows::line_text;
 use protect_table::{LineFault, Protects};
 use row_ranges::{KeyRange, rows_in};
 use std::alloc::{AllocError, Global};
 use table_store::Tables;
-
-/// Adds a word behind a space.
-fn append_word(text: &mut Text, word: &Text) -> Result<(), AllocError>
-    ensures { OnOk result (text.new ≡ text.old ++ 0x20 ∷ word.now) }
-{
-    text.append(b" ")?;
-    text.append(word.as_bytes())?;
-    Ok(())
-}
-
-/// The line that a row's words make.
-fn line_text(alloc: Global, line: &ProtectRecord) -> Result<Text, AllocError>
-    ensures { IfOk result (λ text. text ≡ text_of_line line.now) }
-{
-    let mut text = Text::from_bytes(alloc, line.mode.as_bytes())?;
-    append_word(&mut text, &line.kind)?;
-    append_word(&mut text, &line.name)?;
-    append_word(&mut text, &line.host)?;
-    append_word(&mut text, &line.path)?;
-    Ok(text)
-}
 
 /// Adds the line of a row, if it is one of the protections.
 fn push_text(alloc: Global, texts: &mut Sequence<Text>, row: &Record) -> Result<(), AllocError>

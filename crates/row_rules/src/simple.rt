@@ -1,13 +1,13 @@
 //! Rows that speak of no other row.
 
-ghost use Rattle.std.specs.Prelude.{◌≡◌, ◌++◌, ◌∷◌, IfOk, OnOk, is_ok};
-ghost use Rattle.depot_model.specs.Rules.{line_text as text_of_line};
+ghost use Rattle.std.specs.Prelude.{◌≡◌, IfOk, is_ok};
 ghost use Rattle.protect_table.specs.Line.{line_of};
 ghost use Rattle.row_rules.specs.Tests.{is_counter as counter_test, is_group as group_test, is_change as change_test, is_line as line_test, are_words as words_test};
 
 use crate::texts::{is_kept_name, is_status};
 use db_records::{ChangeRecord, CounterRecord, GroupRecord, ProtectRecord};
 use depot_path::{Text, is_name};
+use depot_rows::line_text;
 use protect_table::{LineFault, ProtectLine, line_words};
 use std::alloc::{AllocError, Global};
 
@@ -51,27 +51,6 @@ fn are_words(words: &[Text], row: &ProtectRecord) -> bool
         }
         _ => false,
     }
-}
-
-/// Adds a word behind a space.
-fn append_word(text: &mut Text, word: &Text) -> Result<(), AllocError>
-    ensures { OnOk result (text.new ≡ text.old ++ 0x20 ∷ word.now) }
-{
-    text.append(b" ")?;
-    text.append(word.as_bytes())?;
-    Ok(())
-}
-
-/// The line that a row's words make.
-fn line_text(alloc: Global, row: &ProtectRecord) -> Result<Text, AllocError>
-    ensures { IfOk result (λ text. text ≡ text_of_line row.now) }
-{
-    let mut text = Text::from_bytes(alloc, row.mode.as_bytes())?;
-    append_word(&mut text, &row.kind)?;
-    append_word(&mut text, &row.name)?;
-    append_word(&mut text, &row.host)?;
-    append_word(&mut text, &row.path)?;
-    Ok(text)
 }
 
 /// Whether a text is a line of the protections.
