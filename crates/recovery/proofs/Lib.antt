@@ -7,7 +7,6 @@ pub mod RootDamage
 pub mod FirstBad
 pub mod GroupDamage
 pub mod OnePut
-pub mod Revisions
 pub mod PassedOn
 pub mod Checkpoint
 pub mod Journals

@@ -150,7 +150,7 @@ fn check_rows<D: Disk>(
     ensures cause { IsCause (D.faults disk.old) (D.faults disk.new) (result ≡ Err DiskFault) }
 {
     let mut end = 0;
-    for row in revisions(alloc, tables) {
+    for row in revisions(tables) {
         end = end.max(check_row(alloc, disk, row, limit, piece)?);
     }
     Ok(end)

@@ -4,22 +4,14 @@ ghost use Rattle.std.specs.Prelude.{◌≡◌, ◌≤◌, ◌<◌, ◌+◌, IfSo
 ghost use Rattle.db_records.specs.declared.table.TableId.TheVariants.{Rev};
 ghost use Rattle.table_changes.specs.Changed.{rows_of};
 
-use db_records::{Key, RevRecord, TableId};
-use depot_path::Text;
-use std::alloc::Global;
+use db_records::{RevRecord, TableId};
 use table_store::{Tables, Walk};
 
 /// All rows of the table of revisions.
-#[tactic(auto, using(crate::proofs::Revisions::all_revisions))]
-pub(crate) fn revisions(alloc: Global, tables: &Tables) -> Walk<'_>
+pub(crate) fn revisions(tables: &Tables) -> Walk<'_>
     ensures { result ≡ rows_of tables.now Rev }
 {
-    let version = tables.version(TableId::Rev);
-    let _table = version.table();
-    version.from_key(&Key::Rev {
-        path: Text::new(alloc),
-        rev: 0,
-    })
+    tables.version(TableId::Rev).rows()
 }
 
 /// Where a revision's spot ends, where that isn't behind so many bytes.

@@ -1,6 +1,5 @@
 pub mod Deciding
 pub mod Rows
-pub mod FirstKeys
 pub mod Decimals
 pub mod FormRows
 pub mod Found

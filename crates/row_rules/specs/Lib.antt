@@ -2,4 +2,3 @@ pub mod Fixing
 pub mod Kept
 pub mod Stored
 pub mod Tests
-pub mod Walking

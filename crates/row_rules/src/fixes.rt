@@ -9,7 +9,6 @@ ghost use Rattle.row_rules.specs.Fixing.{HaveFewFixes, change_in_text, fixed_cha
 
 use crate::forms::value;
 use crate::numerals::small_value;
-use crate::walks::rows_of;
 use db_records::{Record, TableId};
 use spec_form::{Form, FormFaultKind, Shape};
 use std::alloc::{AllocError, Global};
@@ -73,7 +72,7 @@ pub(crate) fn have_few_fixes(alloc: Global, tables: &Tables) -> Result<bool, All
     ensures { IfOk result (λ few. IsTrue few ↔ HaveFewFixes (version_of tables.now table_ids.Domain).rows) }
 {
     let mut counts = BTreeMap::new(alloc);
-    for row in rows_of(alloc, tables, TableId::Domain) {
+    for row in tables.version(TableId::Domain).rows() {
         if let Some(change) = fixed_change(alloc, row)? {
             if !add_fix(&mut counts, change)? {
                 return Ok(false);

@@ -13,7 +13,6 @@ use crate::integrations::is_integration;
 use crate::lookups::is_there;
 use crate::revisions::keeps_revision;
 use crate::simple::{is_change, is_counter, is_group, is_line};
-use crate::walks::rows_of;
 use db_records::{ChangeRecord, Key, ProtectRecord, Record, TableId};
 use std::alloc::{AllocError, Global};
 use table_store::Tables;
@@ -73,7 +72,7 @@ pub(crate) fn all_keep(
     requires top { top ≡ top_in (stored tables.now) }
     ensures { IfOk result (λ keep. keep ≡ list_all (keeps_test (stored tables.now)) (version_of tables.now table).rows) }
 {
-    for row in rows_of(alloc, tables, table) {
+    for row in tables.version(table).rows() {
         if !keeps(alloc, tables, top, row)? {
             return Ok(false);
         }

@@ -17,7 +17,6 @@ mod rules;
 mod shelves;
 mod simple;
 mod texts;
-mod walks;
 
 pub use laws::rows_of_depots_keep_rules;
 pub use rules::{keep_rules, rows_keep_rules};

@@ -5,7 +5,6 @@ ghost use Rattle.db_records.specs.declared.table.TableId.TheVariants as table_id
 ghost use Rattle.table_store.specs.Tables.{version_of};
 ghost use Rattle.row_rules.specs.Tests.{is_lock as lock_test, path_in, is_again as again_test, locked_last as last_of, are_apart};
 
-use crate::walks::rows_of;
 use db_records::{Record, TableId};
 use depot_path::Text;
 use std::alloc::{AllocError, Global};
@@ -60,7 +59,7 @@ pub(crate) fn locks_are_apart(alloc: Global, tables: &Tables) -> Result<bool, Al
     ensures { IfOk result (λ apart. apart ≡ are_apart None (version_of tables.now table_ids.Working).rows) }
 {
     let mut last = None;
-    for row in rows_of(alloc, tables, TableId::Working) {
+    for row in tables.version(TableId::Working).rows() {
         if is_again(&last, row) {
             return Ok(false);
         }
