@@ -19,7 +19,7 @@ mod simple;
 mod texts;
 
 pub use laws::rows_of_depots_keep_rules;
-pub use rules::{keep_rules, rows_keep_rules};
+pub use rules::keep_rules;
 
 #[cfg(test)]
 mod tests;

@@ -89,8 +89,8 @@ fn both(first: bool, second: bool) -> bool
     first && second
 }
 
-/// Whether the rows of the tables keep the rules, but for how many fixes a change has. The one error is want of memory.
-pub fn rows_keep_rules(alloc: Global, tables: &Tables) -> Result<bool, AllocError>
+/// Whether the rows of the tables keep the rules, but for how many fixes a change has.
+fn rows_keep_rules(alloc: Global, tables: &Tables) -> Result<bool, AllocError>
     ensures { IfOk result (λ keep. IsTrue keep ↔ KeepRowRules (stored tables.now)) }
 {
     let top = value_of(alloc, tables, b"change")?;
