@@ -1,3 +1,4 @@
 pub mod Alike
 pub mod Granted
+pub mod Locking
 pub mod Sound

@@ -1,18 +1,21 @@
 -- What a request does in the tables of a depot. This project's own choice.
-use Rattle.std.specs.Prelude.{◌≡◌, IsTrue, List, map, Result, Ok, Err}
+use Rattle.std.specs.Prelude.{◌≡◌, IsTrue, List, Result, Ok, Err}
+use Rattle.std.specs.List.{list_any}
 use Rattle.db_records.specs.Table.{table_number}
 use Rattle.db_records.specs.declared.table.TableId.{TableId}
+use Rattle.db_records.specs.declared.table.TableId.TheVariants.{Working}
 use Rattle.table_changes.specs.Changed.{AllRows}
 use Rattle.depot_model.specs.declared.command.Command.{Command}
 use Rattle.depot_model.specs.declared.request.Request.{Request}
 use Rattle.depot_model.specs.declared.request.WordFault.{WordFault}
 use Rattle.depot_model.specs.Commands.{step}
-use Rattle.depot_model.specs.Counts.{count_deed}
 use Rattle.depot_model.specs.Deeds.{Deed}
 use Rattle.depot_model.specs.Step.{Step as ModelStep, after}
 use Rattle.depot_model.specs.Tables.{touches}
+use Rattle.depot_rows.specs.Effects.{Follow}
 use Rattle.depot_rows.specs.Standing.{HasRows}
 use Rattle.row_changes.specs.Differences.{AreDifferences}
+use Rattle.row_changes.specs.Locking.{is_hold}
 use Rattle.spec_ops.specs.declared.step.Step.{Step}
 use Rattle.command_core.specs.declared.outcome.Outcome.{Outcome}
 
@@ -28,9 +31,10 @@ HasNeededBy rows d (Err fault) = Unit {0}
 abbrev pub HasNeeded : AllRows → List Deed → Request → Type 0
 HasNeeded rows d request = HasNeededBy rows d request.command
 
--- a step of the code is the model's
-pub record IsStep (model : ModelStep) (made : Step) : Type 0 where
-  pub deeds : map count_deed made.deeds ≡ model.deeds
+-- a step of the code is the model's, and its deeds may follow the depot; where one of them locks a file, the table of opened files is the depot's
+pub record IsStep (all : AllRows) (d : List Deed) (model : ModelStep) (made : Step) : Type 0 where
+  pub deeds : Follow d made.deeds model.deeds
+  pub opened : IsTrue (list_any is_hold made.deeds) → HasRows all d Working
   pub rows : made.rows ≡ model.rows
 
 -- the reply is the step's, and the changes are exactly what its deeds make differ

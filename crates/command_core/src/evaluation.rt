@@ -1,15 +1,14 @@
 //! What a request does.
 
-ghost use Rattle.std.specs.Prelude.{◌≡◌, List, [], ◌∷◌, map, None, IfOk, IfSome, codes, true, false};
+ghost use Rattle.std.specs.Prelude.{◌≡◌, List, [], ◌∷◌, None, IfOk, IfSome, codes, true, false};
 ghost use Rattle.table_changes.specs.Changed.{AllFitIn, rows_of};
 ghost use Rattle.depot_model.specs.About.{about};
 ghost use Rattle.depot_model.specs.Built.{is_built};
 ghost use Rattle.depot_model.specs.Commands.{built_step, own_step as own_step_of, step};
-ghost use Rattle.depot_model.specs.Counts.{count_deed};
 ghost use Rattle.depot_model.specs.Deeds.{Deed};
 ghost use Rattle.depot_model.specs.Refusals.{refusal_row};
-ghost use Rattle.depot_model.specs.Rules.{IsSound};
-ghost use Rattle.depot_model.specs.Step.{after};
+ghost use Rattle.depot_model.specs.Rules.{IsSound, NotBoth};
+ghost use Rattle.depot_model.specs.Step.{Step as ModelStep, after};
 ghost use Rattle.depot_model.specs.declared.refusal.Refusal.TheVariants as refusals;
 ghost use Rattle.row_changes.specs.Differences.{AreDifferences};
 ghost use Rattle.command_core.specs.Outcomes.{HasNeeded, HasTouched, IsOutcome, IsStep};
@@ -20,7 +19,7 @@ use crate::rights::may_anywhere;
 use depot_model::{Command, Reply, Request};
 use depot_path::Sequence;
 use protect_table::Level;
-use row_changes::counter_changes;
+use row_changes::row_changes;
 use spec_ops::{Step, counter_delete, counter_set, counter_show};
 use std::alloc::{AllocError, Global};
 use table_store::Tables;
@@ -54,15 +53,21 @@ fn own_step(
     command: &Command,
 ) -> Result<Step, AllocError>
     ensures { IfOk result (λ step. (d : List Deed) → is_built command.now ≡ true → HasTouched (rows_of tables.now) d command.now →
-        IsStep (own_step_of d request.now command.now) step) }
+        IsStep (rows_of tables.now) d (own_step_of d request.now command.now) step) }
 {
     match command {
         Command::CounterShow { name } => {
             let shown = counter_show(alloc, tables, name)?;
             Ok(shown)
         }
-        Command::CounterSet { name, value } => counter_set(alloc, name, *value),
-        Command::CounterDelete { name } => counter_delete(alloc, name),
+        Command::CounterSet { name, value } => {
+            let set = counter_set(alloc, name, *value)?;
+            Ok(set)
+        }
+        Command::CounterDelete { name } => {
+            let deleted = counter_delete(alloc, name)?;
+            Ok(deleted)
+        }
         _ => unbuilt(alloc, command),
     }
 }
@@ -82,7 +87,7 @@ fn command_step(
     request: &Request,
     command: &Command,
 ) -> Result<Step, AllocError>
-    ensures { IfOk result (λ step. (d : List Deed) → IsSound d → HasTouched (rows_of tables.now) d command.now → IsStep (built_step is_built d request.now command.now) step) }
+    ensures { IfOk result (λ step. (d : List Deed) → IsSound d → HasTouched (rows_of tables.now) d command.now → IsStep (rows_of tables.now) d (built_step is_built d request.now command.now) step) }
 {
     let Some(need) = need_of(command) else {
         let refused = unbuilt(alloc, command)?;
@@ -99,7 +104,7 @@ fn command_step(
 
 /// The step of a request.
 fn request_step(alloc: Global, tables: &Tables, request: &Request) -> Result<Step, AllocError>
-    ensures { IfOk result (λ made. (d : List Deed) → IsSound d → HasNeeded (rows_of tables.now) d request.now → IsStep (step d request.now) made) }
+    ensures { IfOk result (λ made. (d : List Deed) → IsSound d → HasNeeded (rows_of tables.now) d request.now → IsStep (rows_of tables.now) d (step d request.now) made) }
 {
     match &request.command {
         Ok(command) => {
@@ -116,9 +121,11 @@ fn request_step(alloc: Global, tables: &Tables, request: &Request) -> Result<Ste
 /// The outcome of a step.
 fn finish(alloc: Global, tables: &Tables, step: Step) -> Result<Outcome, AllocError>
     ensures reply { IfOk result (λ outcome. outcome.reply.rows ≡ step.rows) }
-    ensures changes { IfOk result (λ outcome. (d : List Deed) → AreDifferences (rows_of tables.now) d (after d (map count_deed step.deeds)) outcome.changes) }
+    ensures changes { IfOk result (λ outcome. (d : List Deed) (model : ModelStep) → NotBoth d → IsStep (rows_of tables.now) d model step →
+        AreDifferences (rows_of tables.now) d (after d model.deeds) outcome.changes) }
+    ensures fit { IfOk result (λ outcome. AllFitIn (rows_of tables.now) outcome.changes) }
 {
-    let changes = counter_changes(alloc, tables, step.deeds.as_slice())?;
+    let changes = row_changes(alloc, tables, step.deeds.as_slice())?;
     Ok(Outcome {
         reply: Reply { rows: step.rows },
         changes: Sequence::from_vec(changes),

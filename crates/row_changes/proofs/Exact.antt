@@ -10,7 +10,7 @@ use Rattle.db_records.specs.declared.key.Key.{Key}
 use Rattle.db_records.specs.declared.record.Record.{Record}
 use Rattle.db_records.specs.declared.table.TableId.{TableId}
 use Rattle.table_store.specs.Rows.{row_at}
-use Rattle.table_changes.specs.Changed.{AllRows, changed_by}
+use Rattle.table_changes.specs.Changed.{AllRows, AllFitIn, changed_by}
 use Rattle.depot_model.specs.Deeds.{Deed}
 use Rattle.depot_model.specs.Records.{record_of, unplaced}
 use Rattle.depot_rows.specs.Effects.{AreRowsIn}
@@ -40,26 +40,30 @@ pub rows-in : (all : AllRows) (d : List Deed) (table : TableId) → HasRows all 
 rows-in all d table has key is = ap (λ (t : TableId). option_map unplaced (row_at key (all t))) is ∙ has key is
 
 module _ (all : AllRows) (touched : Touched) (changes : List Change) (ordered : IsOrdered key_cmp touched) (keyed : IsTrue (all_keyed touched.entries))
-    (made : AreMade (row_in all) touched.entries changes) (d e : List Deed)
-    (becomes : (table : TableId) → HasRows all d table → AreRowsIn (seen touched (row_in all)) e table) where
+    (made : AreMade (row_in all) touched.entries changes) where
   each : (key : Key) → IsDifference (row_in all key) (seen touched (row_in all) key) (change_at changes key)
   each = differences-each (row_in all) touched.entries changes (stored-keyed all) (are-keyed touched.entries keyed) made ordered
 
   rising : IsStrictlySortedBy key_cmp (map changed_key changes)
   rising = changed-rising (row_in all) touched.entries changes (stored-keyed all) (are-keyed touched.entries keyed) made ordered
 
-  left : (table : TableId) → HasRows all d table → (key : Key) → key_table key ≡ table → option_map unplaced (row_at key (changed_by all changes table)) ≡ record_of e key
-  left table has key is =
-      ap (λ (t : TableId). option_map unplaced (row_at key (changed_by all changes t))) (sym is)
-      ∙ ap (option_map unplaced) (stored-after all changes rising key)
-      ∙ difference-leaves (row_in all key) (seen touched (row_in all) key) (change_at changes key) (each key)
-      ∙ becomes table has key is
+  -- whatever depot the tables have the rows of, if any
+  pub differences-fit : AllFitIn all changes
+  differences-fit = all-fit all changes rising (made-fit (row_in all) touched.entries changes (stored-keyed all) (are-keyed touched.entries keyed) made)
 
-  pub differences-exact : AreDifferences all d e changes
-  differences-exact = record {
-    each = λ key has. subst (λ (row : Option Record). LeadsTo (row_in all key) row (change_at changes key)) (becomes (key_table key) has key refl)
-        (leads (row_in all key) (seen touched (row_in all) key) (change_at changes key) (each key));
-    rising = rising;
-    fit = all-fit all changes rising (made-fit (row_in all) touched.entries changes (stored-keyed all) (are-keyed touched.entries keyed) made);
-    left = left;
-  }
+  module _ (d e : List Deed) (becomes : (table : TableId) → HasRows all d table → AreRowsIn (seen touched (row_in all)) e table) where
+    left : (table : TableId) → HasRows all d table → (key : Key) → key_table key ≡ table → option_map unplaced (row_at key (changed_by all changes table)) ≡ record_of e key
+    left table has key is =
+        ap (λ (t : TableId). option_map unplaced (row_at key (changed_by all changes t))) (sym is)
+        ∙ ap (option_map unplaced) (stored-after all changes rising key)
+        ∙ difference-leaves (row_in all key) (seen touched (row_in all) key) (change_at changes key) (each key)
+        ∙ becomes table has key is
+
+    pub differences-exact : AreDifferences all d e changes
+    differences-exact = record {
+      each = λ key has. subst (λ (row : Option Record). LeadsTo (row_in all key) row (change_at changes key)) (becomes (key_table key) has key refl)
+          (leads (row_in all key) (seen touched (row_in all) key) (change_at changes key) (each key));
+      rising = rising;
+      fit = differences-fit;
+      left = left;
+    }

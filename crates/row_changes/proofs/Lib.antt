@@ -2,7 +2,6 @@ pub mod Made
 pub mod Kept
 pub mod Keyed
 pub mod Exact
-pub mod Counted
 pub mod Puts
 pub mod Applied
 pub mod Touched

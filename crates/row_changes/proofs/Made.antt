@@ -28,11 +28,6 @@ AreMade-push rows [] cs e (Some c) m d = (Some c, [], d, ap (λ (x : List Change
 AreMade-push rows (x ∷ xs) cs e first m d =
     (m.0, m.1 ++ listed first, m.2, ap (λ (x : List Change). x ++ listed first) m.3 ∙ append_assoc (listed m.0) m.1 (listed first), AreMade-push rows xs m.1 e first m.4 d)
 
--- no entries make no changes
-pub AreMade-nil : (rows : Rows) → AreMade rows [] []
-unfolding AreMade
-AreMade-nil rows = refl
-
 -- a change has the key of the rows between which it is
 pub changed-key : (q : Key) (before after : Option Record) (c : Change) → HasKey before q → HasKey after q → IsDifference before after (Some c) → changed_key c ≡ q
 changed-key q None None c b a d = absurd cc

@@ -10,7 +10,6 @@ use Rattle.std.specs.declared.cmp.Ordering.{Ordering}
 use Rattle.std.specs.declared.cmp.Ordering.TheVariants.{Less, Equal, Greater}
 use Rattle.std.specs.declared.ops.Bound.TheVariants.{Included, Unbounded}
 use Rattle.std.proofs.lemmas.Bool.{true≢false}
-use Rattle.std.proofs.lemmas.List.{append-nil}
 use Rattle.db_records.specs.declared.key.Key.{Key}
 use Rattle.db_records.specs.declared.record.Record.{Record}
 use Rattle.db_records.specs.Key.{key_cmp}
@@ -71,15 +70,9 @@ module _ (range : KeyRange) where
 -- ---- the walk
 
 module _ (range : KeyRange) (whole found : List Key) (es : Entries) (so : whole ≡ found ++ leading range (keys_of es)) where
-  pub walk-ends : es ≡ [] → found ≡ whole
-  walk-ends is = sym (so ∙ ap (λ (l : Entries). found ++ leading range (keys_of l)) is ∙ append-nil found)
-
   module _ (e : Key × Option Record) (rest : Entries) (is : es ≡ e ∷ rest) where
     next : (b : Bool) → is_in range e.0 ≡ b → whole ≡ found ++ cond b (e.0 ∷ leading range (keys_of rest)) []
     next b test = so ∙ ap (λ (l : Entries). found ++ leading range (keys_of l)) is ∙ ap (λ (b : Bool). found ++ cond b (e.0 ∷ leading range (keys_of rest)) []) test
-
-    pub walk-stops : is_in range e.0 ≡ false → found ≡ whole
-    walk-stops out = sym (next false out ∙ append-nil found)
 
     pub walk-goes : (key : Key) (new : List Key) → is_in range e.0 ≡ true → key ≡ e.0 → new ≡ found ++ key ∷ [] → whole ≡ new ++ leading range (keys_of rest)
     walk-goes key new test copy more =

@@ -3,7 +3,7 @@
 ghost use Rattle.std.specs.Prelude.{◌≡◌, OnOk, Some};
 ghost use Rattle.table_changes.specs.Changed.{rows_of};
 ghost use Rattle.depot_model.specs.Rules.{Rows};
-ghost use Rattle.depot_rows.specs.Effects.{effect, raised, put_at, group_row, IsFree};
+ghost use Rattle.depot_rows.specs.Effects.{effect, counted, raised, put_at, group_row, IsFree};
 ghost use Rattle.depot_rows.specs.Standing.{row_in};
 ghost use Rattle.row_changes.specs.Overlay.{seen, Becomes};
 ghost use Rattle.row_changes.specs.Users.{with_users};
@@ -11,7 +11,7 @@ ghost use Rattle.row_changes.specs.Users.{with_users};
 use crate::overlay::Overlay;
 use crate::rows::{locked_row, numbered_row, owed_row, paid_row, pending_row, working_row};
 use crate::words::{counter_value, how_word, kind_word, lock_of};
-use db_records::{DomainRecord, GroupRecord, HaveRecord, Key, LabelRecord, Record};
+use db_records::{CounterRecord, DomainRecord, GroupRecord, HaveRecord, Key, LabelRecord, Record};
 use depot_path::{DepotPath, Name, Sequence, Text};
 use depot_rows::{Deed, Held, How, Opening, Owing, Pending, SpecKind};
 use row_ranges::KeyRange;
@@ -40,6 +40,30 @@ impl Overlay {
             form: form.print(alloc)?,
         });
         self.put(key, Some(row))
+    }
+
+    /// A counter has a value, or is gone. That of changes is no one's to set.
+    pub(crate) fn count(
+        &mut self,
+        alloc: Global,
+        name: &[u8],
+        value: Option<u64>,
+    ) -> Result<(), AllocError>
+        ensures { OnOk result ((rows : Rows) → Becomes rows (counted name.now value) self.old.touched self.new.touched) }
+    {
+        if name == b"change".as_slice() {
+            return Ok(());
+        }
+        let key = Key::Counter {
+            name: Text::from_bytes(alloc, name)?,
+        };
+        match value {
+            Some(value) => {
+                let name = Text::from_bytes(alloc, name)?;
+                self.put(key, Some(Record::Counter(CounterRecord { name, value })))
+            }
+            None => self.put(key, None),
+        }
     }
 
     /// A change is pending no more.

@@ -3,7 +3,7 @@
 ghost use Rattle.std.specs.Prelude.{◌≡◌, IfOk, IsTrue, List, OnOk};
 ghost use Rattle.std.specs.List.{list_any};
 ghost use Rattle.db_records.specs.declared.table.TableId.TheVariants as table_ids;
-ghost use Rattle.table_changes.specs.Changed.{rows_of};
+ghost use Rattle.table_changes.specs.Changed.{rows_of, AllFitIn};
 ghost use Rattle.depot_model.specs.Deeds as model;
 ghost use Rattle.depot_model.specs.Rules.{NotBoth};
 ghost use Rattle.depot_model.specs.Step.{after};
@@ -53,10 +53,12 @@ pub fn row_changes(
     tables: &Tables,
     deeds: &[Deed],
 ) -> Result<Vec<Change>, AllocError>
-    ensures { IfOk result (λ changes. (d : List model.Deed) (done : List model.Deed)
+    ensures differences { IfOk result (λ changes. (d : List model.Deed) (done : List model.Deed)
         → NotBoth d → Follow d deeds.now done
         → (IsTrue (list_any is_hold deeds.now) → HasRows (rows_of tables.now) d table_ids.Working)
         → AreDifferences (rows_of tables.now) d (after d done) changes.items) }
+    // Whatever the tables have, each change fits after those before it.
+    ensures fit { IfOk result (λ changes. AllFitIn (rows_of tables.now) changes.items) }
 {
     let mut overlay = Overlay::new(alloc);
     for deed in deeds {

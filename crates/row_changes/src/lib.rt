@@ -4,7 +4,6 @@
 //! the tables, and at the end says what differs, as changes that a commit writes.
 #![tactic(auto)]
 
-mod counters;
 mod deeds;
 mod difference;
 mod engine;
@@ -16,7 +15,6 @@ mod rows;
 mod stored;
 mod words;
 
-pub use counters::counter_changes;
 pub use engine::row_changes;
 
 #[cfg(test)]

@@ -1,9 +1,9 @@
 //! A counter that is set and removed.
 
-use crate::counter_changes;
+use crate::row_changes;
 use db_records::{Change, CounterRecord, Op, Record, TableId};
-use depot_model::Count;
 use depot_path::{Name, Text};
+use depot_rows::Deed;
 use std::alloc::{AllocError, Global};
 use std::test::*;
 use table_store::{Tables, Version};
@@ -26,9 +26,9 @@ fn version(alloc: Global) -> Result<Version, Fail> {
 /// What setting or removing the counter changes.
 fn changed(alloc: Global, tables: &Tables, value: Option<u64>) -> Result<Vec<Change>, Fail> {
     let name = Name::read(alloc, b"build")?;
-    let mut counts = Vec::new(alloc);
-    counts.push(Count { name, value })?;
-    Ok(counter_changes(alloc, tables, &counts)?)
+    let mut deeds = Vec::new(alloc);
+    deeds.push(Deed::Count(name, value))?;
+    Ok(row_changes(alloc, tables, &deeds)?)
 }
 
 /// Whether the one change is of the row of the counter.

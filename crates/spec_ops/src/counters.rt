@@ -1,22 +1,23 @@
 //! `counter` (Command-Line Reference, "p4 counter").
 
-ghost use Rattle.std.specs.Prelude.{◌≡◌, List, map, IfOk};
+ghost use Rattle.std.specs.Prelude.{◌≡◌, List, IfOk};
 ghost use Rattle.std.specs.Option.{option_copied};
 ghost use Rattle.db_records.specs.declared.table.TableId.TheVariants as table_ids;
 ghost use Rattle.table_changes.specs.Changed.{rows_of};
 ghost use Rattle.table_store.specs.Rows.{row_at};
-ghost use Rattle.depot_model.specs.Deeds.{Deed};
+ghost use Rattle.depot_model.specs.Deeds.{Deed as ModelDeed};
 ghost use Rattle.depot_model.specs.Steps.Counters as model;
+ghost use Rattle.depot_rows.specs.Effects.{Follow};
 ghost use Rattle.depot_rows.specs.Standing.{HasRows};
 ghost use Rattle.db_records.specs.declared.key.Key.TheVariants as keys;
 ghost use Rattle.spec_ops.specs.Counters.{value_in};
-ghost use Rattle.depot_model.specs.Counts.{count_deed};
 
 use crate::reply_rows::{number_field, row_of, text_field};
 use crate::step::Step;
 use db_records::{Key, Record, TableId};
-use depot_model::{Count, Row};
+use depot_model::Row;
 use depot_path::{Name, Sequence, Text};
+use depot_rows::Deed;
 use std::alloc::{AllocError, Global};
 use table_store::Tables;
 
@@ -52,8 +53,8 @@ fn counter_value(alloc: Global, tables: &Tables, name: &Name) -> Result<u64, All
 
 /// `counter NAME`, from the table of counters alone.
 pub fn counter_show(alloc: Global, tables: &Tables, name: &Name) -> Result<Step, AllocError>
-    ensures deeds { IfOk result (λ step. (d : List Deed) → map count_deed step.deeds ≡ (model.counter_show d name.now).deeds) }
-    ensures rows { IfOk result (λ step. (d : List Deed) → HasRows (rows_of tables.now) d table_ids.Counter → step.rows ≡ (model.counter_show d name.now).rows) }
+    ensures deeds { IfOk result (λ step. (d : List ModelDeed) → Follow d step.deeds (model.counter_show d name.now).deeds) }
+    ensures rows { IfOk result (λ step. (d : List ModelDeed) → HasRows (rows_of tables.now) d table_ids.Counter → step.rows ≡ (model.counter_show d name.now).rows) }
 {
     let value = counter_value(alloc, tables, name)?;
     Step::tells(alloc, counter_row(alloc, name, value)?)
@@ -61,21 +62,20 @@ pub fn counter_show(alloc: Global, tables: &Tables, name: &Name) -> Result<Step,
 
 /// `counter NAME VALUE`
 pub fn counter_set(alloc: Global, name: &Name, value: u64) -> Result<Step, AllocError>
-    ensures deeds { IfOk result (λ step. map count_deed step.deeds ≡ (model.counter_set name.now value).deeds) }
+    ensures deeds { IfOk result (λ step. (d : List ModelDeed) → Follow d step.deeds (model.counter_set name.now value).deeds) }
     ensures rows { IfOk result (λ step. step.rows ≡ (model.counter_set name.now value).rows) }
 {
     let row = counter_row(alloc, name, value)?;
     let name = name.clone()?;
-    let value = Some(value);
-    Step::does(alloc, Count { name, value }, row)
+    Step::does(alloc, Deed::Count(name, Some(value)), row)
 }
 
 /// `counter -d NAME`
 pub fn counter_delete(alloc: Global, name: &Name) -> Result<Step, AllocError>
-    ensures deeds { IfOk result (λ step. map count_deed step.deeds ≡ (model.counter_delete name.now).deeds) }
+    ensures deeds { IfOk result (λ step. (d : List ModelDeed) → Follow d step.deeds (model.counter_delete name.now).deeds) }
     ensures rows { IfOk result (λ step. step.rows ≡ (model.counter_delete name.now).rows) }
 {
     let row = counter_row(alloc, name, 0)?;
     let name = name.clone()?;
-    Step::does(alloc, Count { name, value: None }, row)
+    Step::does(alloc, Deed::Count(name, None), row)
 }

@@ -2,15 +2,16 @@
 
 ghost use Rattle.std.specs.Prelude.{◌≡◌, [], ◌∷◌, IfOk};
 
-use depot_model::{Count, Row};
+use depot_model::Row;
 use depot_path::Sequence;
+use depot_rows::Deed;
 use std::alloc::{AllocError, Global};
 
 /// What a command does: its deeds, the first first, and the rows of its reply.
 #[derive(Drop)]
 pub struct Step {
     /// What it would do.
-    pub deeds: Sequence<Count>,
+    pub deeds: Sequence<Deed>,
     /// What it is answered.
     pub rows: Sequence<Row>,
 }
@@ -30,7 +31,7 @@ impl Step {
     }
 
     /// The step of a deed and a row.
-    pub fn does(alloc: Global, deed: Count, row: Row) -> Result<Step, AllocError>
+    pub fn does(alloc: Global, deed: Deed, row: Row) -> Result<Step, AllocError>
         ensures deeds { IfOk result (λ step. step.deeds ≡ deed ∷ []) }
         ensures rows { IfOk result (λ step. step.rows ≡ row ∷ []) }
     {
