@@ -7,8 +7,7 @@ use Rattle.table_changes.specs.Changed.{AllRows}
 use Rattle.depot_model.specs.declared.command.Command.{Command}
 use Rattle.depot_model.specs.declared.command.Command.TheVariants.{CounterShow, CounterSet, CounterDelete}
 use Rattle.depot_model.specs.declared.refusal.Refusal.{Refusal}
-use Rattle.depot_model.specs.declared.refusal.Refusal.TheVariants.{Denied, Unbuilt}
-use Rattle.depot_model.specs.declared.request.Caller.{Caller}
+use Rattle.depot_model.specs.declared.refusal.Refusal.TheVariants.{Denied}
 use Rattle.depot_model.specs.declared.request.Request.{Request}
 use Rattle.depot_model.specs.About.{about}
 use Rattle.depot_model.specs.Asking.{may_anywhere}
@@ -30,7 +29,7 @@ where_granted may need own = unless (refuse_if (not may) (Denied (codes "//...")
 
 module _ (all : AllRows) (d : List Deed) where
   -- a refusal has no deeds
-  pub refuses_as : (why : Refusal) (made : Step) → made.deeds ≡ [] → made.rows ≡ refusal_row why ∷ [] → IsStep all d (refuses why) made
+  refuses_as : (why : Refusal) (made : Step) → made.deeds ≡ [] → made.rows ≡ refusal_row why ∷ [] → IsStep all d (refuses why) made
   refuses_as why made none rows = record {
     deeds = let P : List done.Deed → Type 0 = λ deeds. Follow d deeds [] in subst P (sym none) tt;
     opened = let P : List done.Deed → Type 0 = λ deeds. IsTrue (list_any is_hold deeds) → HasRows all d Working in subst P (sym none) (λ held. absurd cc);
@@ -48,7 +47,7 @@ module _ (all : AllRows) (d : List Deed) where
       let P : Bool → Type 0 = λ b. IsStep all d (where_granted b need own) made in
       subst P (sym e) is
 
--- a command that is built, and one that isn't
+-- a command that is built
 module _ (d : List Deed) (request : Request) where
   pub built_is : (command : Command) → is_built command ≡ true
       → built_step is_built d request command ≡ where_granted (may_anywhere d request.caller (about command).need) (about command).need (own_step d request command)
@@ -56,9 +55,3 @@ module _ (d : List Deed) (request : Request) where
   built_is (CounterSet name value) e = refl
   built_is (CounterDelete name) e = refl
   built_is _ e = absurd cc
-
-  pub unbuilt_is : (command : Command) → is_built command ≡ false → built_step is_built d request command ≡ refuses (Unbuilt (about command).word)
-  unbuilt_is (CounterShow name) e = absurd cc
-  unbuilt_is (CounterSet name value) e = absurd cc
-  unbuilt_is (CounterDelete name) e = absurd cc
-  unbuilt_is _ e = refl

@@ -1,8 +1,7 @@
 -- Deeds that follow a depot lock a file exactly where the model's do.
-use Rattle.std.proofs.Common.{◌≡◌, Bool, true, false, List, [], ◌∷◌, Some, refl, sym, ap, subst, ◌∙◌, IsTrue}
+use Rattle.std.proofs.Common.{◌≡◌, Bool, true, false, List, [], ◌∷◌, Some, refl, sym, ap, ◌∙◌}
 use Rattle.std.specs.Prelude.{◌||◌}
 use Rattle.std.specs.List.{list_any}
-use Rattle.db_records.specs.declared.table.TableId.TheVariants.{Working}
 use Rattle.table_changes.specs.Changed.{AllRows}
 use Rattle.depot_model.specs.Deeds as model
 use Rattle.depot_model.specs.Step.{Step as ModelStep}
@@ -10,7 +9,6 @@ use Rattle.depot_rows.specs.declared.deed.Deed.{Deed}
 use Rattle.depot_rows.specs.declared.deed.Deed.TheVariants.{Spec, Guard, Group, Count, Pend, Drop, Open, Shut, Hold, Free, Got, Tag, Owe, Paid, Land}
 use Rattle.depot_rows.specs.Deed.{IsDeed}
 use Rattle.depot_rows.specs.Effects.{Follow}
-use Rattle.depot_rows.specs.Standing.{HasRows}
 use Rattle.row_changes.specs.Locking.{is_hold}
 use Rattle.spec_ops.specs.declared.step.Step.{Step}
 use Rattle.command_core.specs.Outcomes.{IsStep}

@@ -1,9 +1,8 @@
 -- What the words of a request promise of it (Command-Line Reference, each command's syntax).
-use Rattle.std.specs.Prelude.{Bool, true, ◌&&◌, Result, Ok, Err}
+use Rattle.std.specs.Prelude.{Bool, true, Result, Ok, Err}
 use Rattle.depot_path.specs.Name.{is_name}
 use Rattle.depot_model.specs.declared.command.Command.{Command}
 use Rattle.depot_model.specs.declared.command.Command.TheVariants.{CounterSet, CounterDelete}
-use Rattle.depot_model.specs.declared.request.Request.{Request}
 use Rattle.depot_model.specs.declared.request.WordFault.{WordFault}
 use Rattle.depot_model.specs.WellFormed.{is_command}
 

@@ -1,13 +1,11 @@
-use Rattle.std.proofs.Common.{◌≡◌, ℕ, refl, sym, ap, ◌∙◌, subst}
+use Rattle.std.proofs.Common.{ℕ, refl, sym, ◌∙◌, subst}
 use Rattle.db_records.specs.declared.table.TableId.TheVariants as tables
 use Rattle.table_changes.specs.Changed.{rows_of}
-use Rattle.depot_model.specs.About.{about}
 use Rattle.depot_model.specs.Asking.{may_anywhere}
 use Rattle.depot_model.specs.Commands.{own_step}
 use Rattle.depot_model.specs.Step.{Step as ModelStep}
 use Rattle.command_core.specs.Outcomes.{IsStep}
-use Rattle.depot_model.specs.declared.refusal.Refusal.TheVariants.{Unbuilt}
-use Rattle.command_core.proofs.Granted.{refuses_as, refused, granted, built_is, unbuilt_is, where_granted}
+use Rattle.command_core.proofs.Granted.{refused, granted, built_is, where_granted}
 use Rattle.command_core.proofs.evaluation.command_step.Goals as goal
 
 pub returns-then-not-may : goal.returns-then-not-may

@@ -1,4 +1,4 @@
-use Rattle.std.proofs.Common.{◌≡◌, refl, sym, subst}
+use Rattle.std.proofs.Common.{refl, sym, subst}
 use Rattle.db_records.specs.declared.table.TableId.TheVariants as tables
 use Rattle.table_changes.specs.Changed.{rows_of}
 use Rattle.depot_model.specs.declared.command.Command.{Command}
