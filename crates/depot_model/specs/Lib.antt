@@ -28,7 +28,6 @@ pub mod Run
 pub mod Order
 pub mod Records
 pub mod Filter
-pub mod Counts
 pub mod Cut
 pub mod Kept
 pub mod Machine

@@ -6,7 +6,6 @@
 #![tactic(auto)]
 
 mod command;
-mod deed;
 mod file_type;
 mod filter;
 mod laws;
@@ -17,7 +16,6 @@ mod reply;
 mod request;
 
 pub use command::{Command, FileArgument, Labelling, PatternArgument, Taking};
-pub use deed::Count;
 pub use file_type::{is_file_type, is_printed_type, printed_type};
 pub use filter::{Filter, FilterRule};
 pub use laws::{
