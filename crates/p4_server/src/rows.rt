@@ -2,11 +2,10 @@
 
 ghost use Rattle.std.specs.Prelude.{◌≡◌, ◌≤◌};
 ghost use Rattle.db_records.specs.Table.{all_tables};
-ghost use Rattle.p4_server.specs.Rows.{row_text, rows_text, tables_text, Prints, lowest};
+ghost use Rattle.p4_server.specs.Rows.{row_text, rows_text, tables_text, Prints};
 ghost use Rattle.table_store.specs.Tables.{version_of};
 
-use db_records::{Key, Op, Record, TableId};
-use depot_path::Text;
+use db_records::{Op, Record, TableId};
 use outside_api::Sink;
 use record_text::print_record;
 use std::alloc::Global;
@@ -36,62 +35,12 @@ fn give_row<K: Sink>(alloc: Global, row: &Record, out: &mut K) -> Result<(), Row
     }
 }
 
-/// A key of a table that none of its keys is below.
-fn lowest_key(alloc: Global, table: TableId) -> Key
-    ensures { result ≡ lowest table }
-{
-    let empty = || Text::new(alloc);
-    match table {
-        TableId::Counter => Key::Counter { name: empty() },
-        TableId::Group => Key::Group {
-            group: empty(),
-            user: empty(),
-        },
-        TableId::Protect => Key::Protect { line: 0 },
-        TableId::Domain => Key::Domain {
-            kind: empty(),
-            name: empty(),
-        },
-        TableId::Have => Key::Have {
-            client: empty(),
-            path: empty(),
-        },
-        TableId::Label => Key::Label {
-            label: empty(),
-            path: empty(),
-        },
-        TableId::Integed => Key::Integed {
-            to_file: empty(),
-            from_file: empty(),
-            start_from: 0,
-            end_from: 0,
-            start_to: 0,
-            end_to: 0,
-        },
-        TableId::Resolve => Key::Resolve {
-            client: empty(),
-            path: empty(),
-            from: empty(),
-        },
-        TableId::Working => Key::Working {
-            path: empty(),
-            client: empty(),
-        },
-        TableId::Change => Key::Change { change: 0 },
-        TableId::Rev => Key::Rev {
-            path: empty(),
-            rev: 0,
-        },
-    }
-}
-
 /// Gives the text of the rows of a table, in the order of their keys.
 fn give_rows<K: Sink>(alloc: Global, version: &Version, out: &mut K) -> Result<(), RowsFault>
     ensures prints { Prints (K.given out.old) (K.given out.new) (K.faults out.old) (K.faults out.new) (rows_text version.now.rows) result }
     ensures counts { K.faults out.old ≤ K.faults out.new }
 {
-    let first = lowest_key(alloc, version.table());
-    for row in version.from_key(&first) {
+    for row in version.rows() {
         match give_row(alloc, row, out) {
             Ok(()) => {}
             Err(fault) => return Err(fault),

@@ -1,19 +1,15 @@
-use Rattle.std.proofs.Common.{subst, Err, ◌≡◌, ◌++◌, ◌∷◌, List, ap, sym, ◌∙◌, map, arith}
+use Rattle.std.proofs.Common.{subst, Err, ◌≡◌, ◌++◌, ◌∷◌, List, sym, ◌∙◌, map, arith}
 use Rattle.std.specs.Borrow.{Bor}
-use Rattle.db_records.specs.declared.key.Key.{Key}
 use Rattle.db_records.specs.declared.record.Record.{Record}
-use Rattle.table_store.specs.Rows.{rows_from}
-use Rattle.p4_server.specs.Rows.{Prints, lowest, row_text, rows_text}
+use Rattle.p4_server.specs.Rows.{Prints, row_text, rows_text}
 use Rattle.wire_text.proofs.Pieces.{extended-nil}
-use Rattle.p4_server.proofs.RowsLemmas.{all_from_lowest, prints_last}
+use Rattle.p4_server.proofs.RowsLemmas.{prints_last}
 use Rattle.p4_server.proofs.rows.give_rows.Goals as goal
 
 pub loop-row-init : goal.loop-row-init
 loop-row-init g c = record {
   given = sym (extended-nil _);
-  items = c.into_iter-row-iterator.ensures.into_iter_gives ∙ (c.from_key-row-items.ensures
-      ∙ (ap (λ (key : Key). rows_from key c.args.version.now.rows) (c.lowest_key-first.ensures ∙ ap lowest c.table.ensures.table)
-      ∙ all_from_lowest c.args.version.now.table c.args.version.now.rows c.table.ensures.of_table));
+  items = c.into_iter-row-iterator.ensures.into_iter_gives ∙ c.rows-row-items.ensures;
   counts = omega arith;
 }
 
