@@ -1,7 +1,7 @@
 -- Spots that are good in all rows, and the damage that one is not.
-use Rattle.std.proofs.Common.{ℕ, ◌+◌, ◌≤◌, inl, inr, List, [], ◌∷◌, length, Result, Ok, Err, refl, sym, ◌∙◌, ap, subst, arith}
-use Rattle.std.specs.List.{Contains}
-use Rattle.std.proofs.lemmas.List.Elements.{Contains-append_right, Contains-append_cases, Contains-push_cases}
+use Rattle.std.proofs.Common.{◌≡◌, ℕ, ◌+◌, ◌≤◌, max, inl, inr, List, [], ◌∷◌, ◌++◌, length, Err, refl, sym, ◌∙◌, ap, subst, arith, append_assoc}
+use Rattle.std.proofs.lemmas.List.{append-nil}
+use Rattle.outside_api.specs.Disk.{Files}
 use Rattle.db_records.specs.declared.record.Record.{Record}
 use Rattle.db_records.specs.declared.record.Record.TheVariants.{Rev}
 use Rattle.db_records.specs.declared.rows.RevRecord.{RevRecord}
@@ -24,37 +24,73 @@ whole_row : (file : List ℕ) (row : Record) (place : ℕ) → IsWhole file row 
 whole_row file (Rev row) place whole within bad = whole_spot file row whole within bad.1
 whole_row file _ place whole within bad = absurd bad
 
-pub never_bad : (file : List ℕ) (rows : List Record) (row : Record) (place : ℕ) → AreWhole file rows → spots_end rows ≤ length file → Contains rows row → IsBadAt file row place → ⊥
-never_bad file [] row place whole within there bad = omega (arith, there.1)
-never_bad file (r ∷ rows) row place whole within there bad = elim (Contains-append_cases (r ∷ []) rows row there) [
-  | inl here ↦ elim (Contains-push_cases [] r row here) [
-    | inl none ↦ omega (arith, none.1)
-    | inr one ↦ whole_row file r place whole.0 (omega (arith, within)) (subst (λ (x : Record). IsBadAt file x place) (sym one) bad)
-  ]
-  | inr later ↦ never_bad file rows row place whole.1 (omega (arith, within)) later bad
-]
+whole_at : (file : List ℕ) (front : List Record) (row : Record) (after : List Record) → AreWhole file (front ++ row ∷ after) → IsWhole file row
+whole_at file [] row after whole = whole.0
+whole_at file (r ∷ front) row after whole = whole_at file front row after whole.1
+
+end_at : (front : List Record) (row : Record) (after : List Record) → spot_end row ≤ spots_end (front ++ row ∷ after)
+end_at [] row after = omega arith
+end_at (r ∷ front) row after = let later = end_at front row after in omega (arith, later)
+
+never_bad : (file : List ℕ) (rows : List Record) (place : ℕ) → AreWhole file rows → spots_end rows ≤ length file → IsSpotDamage file rows place → ⊥
+never_bad file rows place whole within bad =
+    let end : spot_end bad.row ≤ spots_end rows = subst (λ (l : List Record). spot_end bad.row ≤ spots_end l) (sym bad.parts) (end_at bad.front bad.row bad.after) in
+    whole_row file bad.row place (whole_at file bad.front bad.row bad.after (subst (AreWhole file) bad.parts whole)) (omega (arith, end, within)) bad.bad
 
 -- where all spots are good no damage is told
 pub nothing_bad : (X : Type 0) (file : List ℕ) (rows : List Record) (fault : OpenFault) → AreWhole file rows → spots_end rows ≤ length file → IsOfArchive fault → IfDamaged {X = X} (Err fault) (IsSpotDamage file rows) → SaysNothing fault
 nothing_bad X file rows Unmade whole within of damaged = absurd of
 nothing_bad X file rows (Damaged Journal found place) whole within of damaged = absurd of
-nothing_bad X file rows (Damaged Archive found place) whole within of damaged = absurd (never_bad file rows damaged.row place whole within damaged.there damaged.bad)
+nothing_bad X file rows (Damaged Archive found place) whole within of damaged = absurd (never_bad file rows place whole within damaged)
 nothing_bad X file rows DiskFault whole within of damaged = tt
 nothing_bad X file rows Memory whole within of damaged = tt
 
--- the first of the rows that are left, and those behind it
-pub left_later : (all : List Record) (row : Record) (rows : List Record) → ((r : Record) → Contains (row ∷ rows) r → Contains all r) → (r : Record) → Contains rows r → Contains all r
-left_later all row rows left r there = left r (Contains-append_right (row ∷ []) rows r there)
+-- the rows that were checked, and those that are left
+pub record AreChecked (seen : Files → Type 0) (limit : ℕ) (rows left : List Record) (end : ℕ) : Type 0 where
+  pub done : List Record
+  pub parts : rows ≡ done ++ left
+  pub end_is : end ≡ spots_end done
+  pub within : end ≤ limit
+  pub whole : (files : Files) → seen files → limit ≡ length (files 0) → AreWhole (files 0) done
 
-pub left_first : (all : List Record) (row : Record) (rows : List Record) → ((r : Record) → Contains (row ∷ rows) r → Contains all r) → Contains all row
-left_first all row rows left = left row (0, omega arith, refl)
+end_more : (rows : List Record) (row : Record) → spots_end (rows ++ row ∷ []) ≡ max (spots_end rows) (spot_end row)
+end_more [] row = omega arith
+end_more (r ∷ rows) row = let more = end_more rows row in omega (arith, more)
 
-pub left_all : (file : List ℕ) (all : List Record) (row : Record) (rows : List Record) → IsWhole file row → (AreWhole file (row ∷ rows) → AreWhole file all) → AreWhole file rows → AreWhole file all
-left_all file all row rows whole left rest = left (whole, rest)
+whole_more : (file : List ℕ) (rows : List Record) (row : Record) → AreWhole file rows → IsWhole file row → AreWhole file (rows ++ row ∷ [])
+whole_more file [] row whole one = (one, tt)
+whole_more file (r ∷ rows) row whole one = (whole.0, whole_more file rows row whole.1 one)
 
-pub bad_row : {X : Type 0} (r : Result X OpenFault) (fault : OpenFault) (file : List ℕ) (rows : List Record) (row : Record) → Contains rows row → IfDamaged r (IsBadAt file row) → IfDamaged r (IsSpotDamage file rows)
-bad_row (Ok x) fault file rows row there bad = tt
-bad_row (Err Unmade) fault file rows row there bad = tt
-bad_row (Err (Damaged disk found place)) fault file rows row there bad = record { row = row; there = there; bad = bad }
-bad_row (Err DiskFault) fault file rows row there bad = tt
-bad_row (Err Memory) fault file rows row there bad = tt
+pub checked_none : (seen : Files → Type 0) (limit : ℕ) (rows left : List Record) → left ≡ rows → AreChecked seen limit rows left 0
+checked_none seen limit rows left is = record { done = []; parts = sym is; end_is = refl; within = omega arith; whole = λ files read limit_is. tt }
+
+-- the first of the rows that are left
+pub checked_more : (seen : Files → Type 0) (limit : ℕ) (rows left : List Record) (row : Record) (rest : List Record) (end row_end top : ℕ) → AreChecked seen limit rows left end → left ≡ row ∷ rest
+    → row_end ≡ spot_end row → row_end ≤ limit → top ≡ max end row_end → ((files : Files) → seen files → limit ≡ length (files 0) → IsWhole (files 0) row) → AreChecked seen limit rows rest top
+checked_more seen limit rows left row rest end row_end top checked first is inside top_is whole = record {
+  done = checked.done ++ row ∷ [];
+  parts = checked.parts ∙ ap (λ (l : List Record). checked.done ++ l) first ∙ sym (append_assoc checked.done (row ∷ []) rest);
+  end_is = omega (arith, end_more checked.done row, checked.end_is, is, top_is);
+  within = omega (arith, checked.within, inside, top_is);
+  whole = λ files read limit_is. whole_more (files 0) checked.done row (checked.whole files read limit_is) (whole files read limit_is);
+}
+
+-- where none is left all were checked
+pub checked_all : (seen : Files → Type 0) (limit : ℕ) (rows left : List Record) (end : ℕ) → AreChecked seen limit rows left end → left ≡ []
+    → (end ≡ spots_end rows) × ((files : Files) → seen files → limit ≡ length (files 0) → AreWhole (files 0) rows)
+checked_all seen limit rows left end checked none =
+    let all : rows ≡ checked.done = checked.parts ∙ ap (λ (l : List Record). checked.done ++ l) none ∙ append-nil checked.done in
+    (checked.end_is ∙ ap spots_end (sym all), λ files read limit_is. subst (AreWhole (files 0)) (sym all) (checked.whole files read limit_is))
+
+-- damage of the first of them
+pub checked_bad : (seen : Files → Type 0) (limit : ℕ) (rows left : List Record) (row : Record) (rest : List Record) (end : ℕ) (files : Files) (place : ℕ) → AreChecked seen limit rows left end → left ≡ row ∷ rest
+    → seen files → limit ≡ length (files 0) → IsBadAt (files 0) row place → IsSpotDamage (files 0) rows place
+checked_bad seen limit rows left row rest end files place checked first read limit_is bad = record {
+  front = checked.done;
+  row = row;
+  after = rest;
+  parts = checked.parts ∙ ap (λ (l : List Record). checked.done ++ l) first;
+  whole = checked.whole files read limit_is;
+  within = omega (arith, checked.within, checked.end_is, limit_is);
+  bad = bad;
+}

@@ -1,5 +1,5 @@
 -- The contents of revisions in the archive's file (Helix Core database schema reference, "db.rev"; where a content lies is this project's own choice).
-use Rattle.std.specs.Prelude.{◌≡◌, ◌≢◌, ◌⊎◌, ◌+◌, ◌<◌, ℕ, IsTrue, List, length, take, drop, Contains}
+use Rattle.std.specs.Prelude.{◌≡◌, ◌≢◌, ◌⊎◌, ◌+◌, ◌<◌, ◌≤◌, ℕ, IsTrue, List, ◌∷◌, ◌++◌, length, take, drop}
 use Rattle.std.specs.List.{AllByRecursion}
 use Rattle.outside_api.specs.Disk.{Files}
 use Rattle.archive_file.specs.Archive.{Has}
@@ -10,7 +10,7 @@ use Rattle.db_records.specs.declared.rows.RevRecord.{RevRecord}
 use Rattle.db_records.specs.declared.table.TableId.TheVariants as tables
 use Rattle.depot_model.specs.Records.{digest}
 use Rattle.table_changes.specs.Changed.{AllRows}
-use Rattle.recovery.specs.Holding.{HoldWithin}
+use Rattle.recovery.specs.Holding.{HoldWithin, spots_end}
 use Rattle.recovery.specs.Rules.{KeepTheirRules}
 
 -- the bytes at the spot of a row
@@ -46,8 +46,12 @@ abbrev pub IsBadAt : List ℕ → Record → ℕ → Type 0
 IsBadAt file (Rev row) place = (place ≡ row.at) × IsBadSpot file row
 IsBadAt file _ place = ⊥
 
--- the place of a bad spot of one of these rows
+-- The place of the first bad spot of these rows: those before it are whole, and no spot of them ends behind the file.
 pub record IsSpotDamage (file : List ℕ) (rows : List Record) (place : ℕ) : Type 0 where
+  pub front : List Record
   pub row : Record
-  pub there : Contains rows row
+  pub after : List Record
+  pub parts : rows ≡ front ++ row ∷ after
+  pub whole : AreWhole file front
+  pub within : spots_end front ≤ length file
   pub bad : IsBadAt file row place

@@ -83,7 +83,7 @@ pub data IsJournalDiskDamage (journal : Files) (file place : ℕ) : Type 0 where
       → IsJournalDamage (changed_by no_rows puts) (journal (1 + 2 * generation)) place → IsJournalDiskDamage journal file place
   of_rules : IsRulesDamage journal file place → IsJournalDiskDamage journal file place
 
--- the place of a bad spot of the rows that the files hold, which keep their rules
+-- the place of the first bad spot of the rows that the files hold, by path and then by revision; the rows keep their rules
 pub record IsArchiveDamage (journal archive : Files) (place : ℕ) : Type 0 where
   pub rows : AllRows
   pub hold : Hold journal rows

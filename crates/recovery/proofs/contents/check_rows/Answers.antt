@@ -1,36 +1,48 @@
-use Rattle.std.proofs.Common.{◌≡◌, ◌≤◌, ◌∷◌, ℕ, List, max, sym, ◌∙◌, subst, ap, arith, rules}
-use Rattle.std.specs.List.{Contains}
-use Rattle.db_records.specs.declared.record.Record.{Record}
+use Rattle.std.proofs.Common.{◌≡◌, ◌∷◌, ◌∙◌, ℕ, max, arith, rules}
 use Rattle.db_records.specs.declared.table.TableId.TheVariants.{Rev}
 use Rattle.table_changes.specs.Changed.{rows_of}
-use Rattle.recovery.specs.Contents.{AreWhole}
-use Rattle.recovery.specs.Holding.{spot_end, spots_end}
-use Rattle.recovery.proofs.GoodSpots.{left_later, left_all}
+use Rattle.recovery.specs.Contents.{IsBadAt, IsSpotDamage}
+use Rattle.recovery.proofs.GoodSpots.{checked_none, checked_more, checked_all, checked_bad}
 use Rattle.recovery.proofs.Looks.{reads_on}
+use Rattle.recovery.proofs.PassedOn.{passed_damage}
 use Rattle.recovery.proofs.contents.check_rows.Goals as goal
 
-later_end : (end row_end spot rest all top : ℕ) → top ≡ max end row_end → row_end ≡ spot → max end (max spot rest) ≡ all → max top rest ≡ all
-later_end end row_end spot rest all top is same ends = omega (arith, is, same, ends)
+pub loop-row-init : goal.loop-row-init
+loop-row-init g c = record {
+  checked = checked_none (g.D.Disk.seen c.args.disk.now) c.args.limit (rows_of c.args.tables.now Rev) c.into_iter-row-iterator.result (c.into_iter-row-iterator.ensures.into_iter_gives ∙ c.revisions-row-items.ensures);
+  reads = search rules;
+  faults = omega arith;
+}
 
-later_within : (end row_end limit top : ℕ) → top ≡ max end row_end → end ≤ limit → row_end ≤ limit → top ≤ limit
-later_within end row_end limit top is one other = omega (arith, is, one, other)
+pub returns-in_err-check_row-clause-damaged : goal.returns-in_err-check_row-clause-damaged
+returns-in_err-check_row-clause-damaged g c = λ files read limit_is.
+    let inv = c.loop-row.invariant in
+    let rows = rows_of c.args.tables.now Rev in
+    let row = c.in-Some.row.now in
+    let rest = c.next.new.self in
+    let head : c.loop-row.row-iterator ≡ row ∷ rest = search rules in
+    passed_damage ℕ (IsBadAt (files 0) row) (IsSpotDamage (files 0) rows) c.from_residual.result c.in_err-check_row.field-0.0 c.from_residual.ensures.1 (c.in_err-check_row.ensures.damaged files (inv.reads.same.kept files read) limit_is)
+    (λ place bad. checked_bad (g.D.Disk.seen c.args.disk.now) c.args.limit rows c.loop-row.row-iterator row rest c.loop-row.end files place inv.checked head read limit_is bad)
+
+pub returns-clause-end : goal.returns-clause-end
+returns-clause-end g c =
+    let inv = c.loop-row.invariant in
+    ((checked_all (g.D.Disk.seen c.args.disk.now) c.args.limit (rows_of c.args.tables.now Rev) c.loop-row.row-iterator c.loop-row.end inv.checked c.in-None.ensures.steps.0).0, inv.checked.within)
+
+pub returns-clause-whole : goal.returns-clause-whole
+returns-clause-whole g c = (checked_all (g.D.Disk.seen c.args.disk.now) c.args.limit (rows_of c.args.tables.now Rev) c.loop-row.row-iterator c.loop-row.end c.loop-row.invariant.checked c.in-None.ensures.steps.0).1
 
 pub loop-row-preserved : goal.loop-row-preserved
 loop-row-preserved g c =
     let inv = c.loop-row.invariant in
-    let step = c.next.ensures in
     let ok = c.in_ok-check_row.ensures in
     let row = c.in-Some.row.now in
     let rest = c.next.new.self in
-    let all = rows_of c.args.tables.now Rev in
     let head : c.loop-row.row-iterator ≡ row ∷ rest = search rules in
     let top : c.max-end.result ≡ max c.loop-row.end c.in_ok-check_row.field-0 = search rules in
-    let ends : max c.loop-row.end (max (spot_end row) (spots_end rest)) ≡ spots_end all = ap (λ (rows : List Record). max c.loop-row.end (spots_end rows)) (sym head) ∙ inv.end in
     record {
-      end = later_end c.loop-row.end c.in_ok-check_row.field-0 (spot_end row) (spots_end rest) (spots_end all) c.max-end.result top ok.end.0 ends;
-      within = later_within c.loop-row.end c.in_ok-check_row.field-0 c.args.limit c.max-end.result top inv.within ok.end.1;
-      left = left_later all row rest (subst (λ (rows : List Record). (r : Record) → Contains rows r → Contains all r) head inv.left);
-      whole = λ files read limit_is. left_all (files 0) all row rest (ok.whole files (inv.reads.same.kept files read) limit_is) (subst (λ (rows : List Record). AreWhole (files 0) rows → AreWhole (files 0) all) head (inv.whole files read limit_is));
+      checked = checked_more (g.D.Disk.seen c.args.disk.now) c.args.limit (rows_of c.args.tables.now Rev) c.loop-row.row-iterator row rest c.loop-row.end c.in_ok-check_row.field-0 c.max-end.result inv.checked head ok.end.0 ok.end.1 top
+          (λ files read limit_is. ok.whole files (inv.reads.same.kept files read) limit_is);
       reads = reads_on g.D.Disk.seen g.D.Disk.may_leave g.D.Disk.moment g.D.Disk.left_since c.args.disk.now c.loop-row.disk c.check_row.new.disk inv.reads c.check_row.ensures.reads;
       faults = omega (arith, inv.faults, c.check_row.ensures.cause.never_falls);
     }
