@@ -1,8 +1,7 @@
 -- The records of a group, one after another.
-use Rattle.std.proofs.Common.{◌≡◌, ℕ, zero, suc, ◌+◌, ◌-◌, ◌<◌, ◌≤◌, Bool, true, false, cond, leb, List, [], ◌∷◌, ◌++◌, length, take, drop, refl, sym, ap, subst, ◌∙◌, append_assoc, arith, length-append, length-drop}
-use Rattle.std.specs.Prelude.{Err}
+use Rattle.std.proofs.Common.{◌≡◌, ℕ, zero, suc, ◌+◌, ◌-◌, ◌<◌, ◌≤◌, Bool, true, false, cond, leb, List, [], ◌∷◌, ◌++◌, length, take, drop, refl, sym, ap, subst, ◌∙◌, append_assoc, arith, length-append}
 use Rattle.std.proofs.Math.Seq.{take-append-add, drop-append_seam}
-use Rattle.std.proofs.lemmas.List.{take-append-drop, length-take-le, drop-drop, append-nil}
+use Rattle.std.proofs.lemmas.List.{take-append-drop, length-take-le}
 use Rattle.std.proofs.lemmas.Bool.{le-leb, lt-leb}
 use Rattle.db_records.specs.declared.change.Op.{Op}
 use Rattle.db_records.specs.declared.change.Op.TheVariants.{Put, Replace, Remove}
@@ -18,8 +17,6 @@ use Rattle.record_text.specs.Grammar.{record_at, spelling, IsRecord}
 use Rattle.record_text.proofs.RecordLaws.{record_reads}
 use Rattle.journal_groups.specs.Groups.{change_text}
 use Rattle.journal_groups.specs.Reading.{change_of, window_read, window_at, body_below, body_at}
-use Rattle.journal_groups.specs.declared.body.Body.{Body}
-use Rattle.journal_groups.specs.Reader.{with_front, goes_on, ReadsTheSame, HasReadAll}
 
 abbrev done : {A : Type 0} → A → List ℕ → Reading A
 done a rest = Done a rest
@@ -165,22 +162,20 @@ body_one (suc size) change rest fits le =
     ∙ ap (λ (k : ℕ). before change (body_below size (suc size - k) rest)) n
     ∙ ap (before change) (same_below size (suc size - length text) (suc size - length text) rest (omega arith) (omega arith))
 
--- ---- what was read before
+-- ---- records that were read before others
 
-pub regroup : (front : List Change) (change : Change) (r : Reading (List Change)) → with_front front (before change r) ≡ with_front (front ++ change ∷ []) r
-regroup front change (Done changes rest) = ap (λ (c : List Change). Done c rest) (sym (append_assoc front (change ∷ []) changes))
-regroup front change Ends = refl
-regroup front change (Wrong part left) = refl
+abbrev pub with_front : List Change → Reading (List Change) → Reading (List Change)
+with_front front reading = and_then reading (λ changes rest. Done (front ++ changes) rest)
+
+pub front_more : (change : Change) (front : List Change) (r : Reading (List Change)) → before change (with_front front r) ≡ with_front (change ∷ front) r
+front_more change front (Done changes rest) = refl
+front_more change front Ends = refl
+front_more change front (Wrong part left) = refl
 
 pub no_front : (r : Reading (List Change)) → with_front [] r ≡ r
 no_front (Done changes rest) = refl
 no_front Ends = refl
 no_front (Wrong part left) = refl
-
--- one record of a group is read
-pub one_goes_on : (front : List Change) (size : ℕ) (change : Change) (rest : List ℕ) → IsRecord change.row → length (change_text change) ≤ size
-    → with_front (front ++ change ∷ []) (body_at (size - length (change_text change)) rest) ≡ with_front front (body_at size (change_text change ++ rest))
-one_goes_on front size change rest fits le = sym (ap (with_front front) (body_one size change rest fits le) ∙ regroup front change (body_at (size - length (change_text change)) rest))
 
 -- ---- faults
 
@@ -194,26 +189,3 @@ fails_body fault front zero bytes pos e = absurd (omega arith)
 fails_body fault front (suc size) bytes pos e =
     fails_then fault (body_at (suc size) bytes) (λ changes rest. Done (front ++ changes) rest)
     (fails_then fault (window_at (suc size) bytes) (λ change rest. before change (body_below size (suc size - (length bytes - length rest)) rest)) e)
-
--- one record more, whatever follows
-pub moved_on : (front changes : List Change) (size read n : ℕ) (change : Change) (bytes rest more : List ℕ) → rest ≡ drop read bytes → changes ≡ front ++ change ∷ [] → n ≤ length rest → window_at size rest ≡ Done change (drop n rest)
-    → with_front changes (body_at (size - n) (drop (read + n) bytes ++ more)) ≡ with_front front (body_at size (drop read bytes ++ more))
-moved_on front changes size read n change bytes rest more back pushed short e =
-    let f = window_done size rest change (drop n rest) e in
-    let text = change_text change in
-    let l : length rest ≡ length text + length (drop n rest) = ap length f.parts ∙ length-append text (drop n rest) in
-    let d : length (drop n rest) ≡ length rest - n = length-drop n rest in
-    let same : n ≡ length text = omega arith in
-    let behind : drop (read + n) bytes ≡ drop n rest = sym (drop-drop n read bytes) ∙ ap (drop n) (sym back) in
-    let all : text ++ (drop n rest ++ more) ≡ drop read bytes ++ more = sym (append_assoc text (drop n rest) more) ∙ ap (λ (t : List ℕ). t ++ more) (sym f.parts ∙ back) in
-    ap (λ (c : List Change). with_front c (body_at (size - n) (drop (read + n) bytes ++ more))) pushed
-    ∙ ap (λ (t : List ℕ). with_front (front ++ change ∷ []) (body_at (size - n) (t ++ more))) behind
-    ∙ ap (λ (k : ℕ). with_front (front ++ change ∷ []) (body_at (size - k) (drop n rest ++ more))) same
-    ∙ one_goes_on front size change (drop n rest ++ more) f.fits f.within
-    ∙ ap (λ (t : List ℕ). with_front front (body_at size t)) all
-
--- a fault of the next record is one of all
-pub all_fails : (bytes : List ℕ) (old mid new : Body) (fault : RecordFault) → (old.read ≤ mid.read) × (mid.read ≤ length bytes) × ReadsTheSame bytes old mid → (new ≡ mid) × Fails fault (goes_on mid (drop mid.read bytes)) → HasReadAll {X = Unit {0}} bytes old new (Err fault)
-all_fails bytes old mid new fault so_far e =
-    let here : goes_on mid (drop mid.read bytes) ≡ goes_on old (drop old.read bytes) = ap (goes_on mid) (sym (append-nil (drop mid.read bytes))) ∙ so_far.2 [] ∙ ap (goes_on old) (append-nil (drop old.read bytes)) in
-    (subst (λ (b : Body). old.read ≤ b.read) (sym e.0) so_far.0, subst (λ (b : Body). b.read ≤ length bytes) (sym e.0) so_far.1, subst (Fails fault) here e.1, subst (ReadsTheSame bytes old) (sym e.0) so_far.2)

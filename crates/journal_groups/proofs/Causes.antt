@@ -140,7 +140,7 @@ behind_wrong number true rest part left e = (refl, some_wrong (group_at number r
 behind_wrong number false rest part left e = absurd (no_done_wrong None rest part left e)
 
 -- an open mark at the front
-opened_parts : (bytes rest : List ℕ) (o : Bool) → mark_at bytes ≡ Done o rest → o ≡ true → bytes ≡ mark open_byte ++ rest
+pub opened_parts : (bytes rest : List ℕ) (o : Bool) → mark_at bytes ≡ Done o rest → o ≡ true → bytes ≡ mark open_byte ++ rest
 opened_parts bytes rest o e is =
     let m = mark_done bytes o rest e in
     m.1.1 ∙ ap (λ (n : ℕ). mark n ++ rest) (eqb-true m.0 open_byte (m.1.0 ∙ is))

@@ -1,6 +1,7 @@
 -- What the readers of groups say to their callers.
 use Rattle.std.proofs.Common.{◌≡◌, ℕ, ◌+◌, ◌-◌, ◌<◌, ◌≤◌, ◌^◌, List, ◌++◌, length, take, drop, Option, Some, None, refl, sym, ap, subst, ◌∙◌, arith, length-append, length-drop}
 use Rattle.std.specs.Prelude.{Result, Ok, Err, IfOk, OnErr, ◌≢◌}
+use Rattle.std.specs.Result.{IfErr}
 use Rattle.std.proofs.lemmas.List.{take-append-drop, append_cancel_right}
 use Rattle.db_records.specs.declared.change.Change.{Change}
 use Rattle.record_text.specs.declared.fault.Part.{Part}
@@ -9,7 +10,7 @@ use Rattle.journal_groups.specs.declared.fault.GroupFault.{GroupFault}
 use Rattle.journal_groups.specs.declared.fault.GroupFault.TheVariants as faults
 use Rattle.journal_groups.specs.Groups.{group_text, IsGroup, mark, open_byte}
 use Rattle.journal_groups.specs.Reading.{group_at, next_at, GivesAt}
-use Rattle.journal_groups.specs.Reader.{State, IsNext, HasTaken}
+use Rattle.journal_groups.specs.Reader.{State, IsLeft, IsNext, HasTaken, HasRecords, IfOfText}
 use Rattle.journal_groups.specs.Causes.{GroupGoesOn, GoesOn, StopsAt, GroupStopsAt, IfShort, IfBad, IsShort, IsAnswer}
 use Rattle.journal_groups.proofs.Texts.{group_again, group_done, next_group, next_ends, next_found, next_ended}
 use Rattle.journal_groups.proofs.Causes.{group_ends, group_goes, group_stops, next_goes_on, goes_next, next_stops}
@@ -106,13 +107,17 @@ next_bad old new (Err (faults.BadGroup place)) small e =
     subst (StopsAt old.number old.left) n (next_stops old.number old.left e.1.0 e.1.1.0 small e.1.1.1.0)
 
 pub next_taken : (old new : State) (result : Next) → IsNext old new result → IfOk result (HasTaken old new)
-next_taken old new (Ok (Some changes)) e = let f = next_found old.number old.left changes new.left e.0 in (f.0, f.1, e.1, e.2)
+next_taken old new (Ok (Some changes)) e = let f = next_found old.number old.left changes new.left e.0 in (f.0, f.1, e.1, e.2, e.3)
 next_taken old new (Ok None) e = let f = next_ended old.number old.left e.1.0 e.1.1 in (e.0, (f.0, (e.1.0, f.1)))
 next_taken old new (Err fault) e = tt
 
-pub next_kept : (old new : State) (result : Next) → IsNext old new result → OnErr result (new ≡ old)
+pub next_kept : (old new : State) (result : Next) → IsNext old new result → OnErr result (IsLeft old new)
 next_kept old new (Ok x) e = tt
 next_kept old new (Err fault) e = e.0
+
+pub next_records : (old new : State) (result : Next) → IsNext old new result → IfErr result (λ fault. IfOfText fault (HasRecords old.number old.at old.left new.records new.reached))
+next_records old new (Ok x) e = tt
+next_records old new (Err fault) e = e.2
 
 -- what stands there is answered
 answered : (old new : State) (result : Next) (value : Option (List Change)) (rest : List ℕ) → IsNext old new result → next_at old.number old.left ≡ Done value rest → IsAnswer result value

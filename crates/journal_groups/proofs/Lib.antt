@@ -7,4 +7,5 @@ pub mod Committed
 pub mod Chained
 pub mod Halts
 pub mod Causes
+pub mod Records
 pub mod Clauses

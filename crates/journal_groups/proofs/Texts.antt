@@ -3,6 +3,7 @@ use Rattle.std.proofs.Common.{◌≡◌, ℕ, zero, suc, ◌+◌, ◌-◌, ◌�
 use Rattle.std.specs.Prelude.{codes, ◌≢◌}
 use Rattle.std.specs.Fmt.{decimal}
 use Rattle.std.proofs.lemmas.Bool.{ne_eqb, eqb-true, eqb-false}
+use Rattle.std.proofs.lemmas.List.{append-nil}
 use Rattle.std.proofs.lemmas.List.Concat.{flat_map-cons}
 use Rattle.db_records.specs.declared.change.Change.{Change}
 use Rattle.record_text.specs.Reading.{Reading, Done, Ends, and_then}
@@ -11,7 +12,7 @@ use Rattle.record_text.specs.Grammar.{largest_wide}
 use Rattle.record_text.proofs.Numbers.{number_reads}
 use Rattle.journal_groups.specs.Groups.{change_text, body_of, head_of, group_text, AreRecords, IsGroup, mark, open_byte}
 use Rattle.journal_groups.specs.Reading.{exactly, head_at, window_at, body_below, body_at, group_at, behind_sign, mark_at, behind_mark, next_at}
-use Rattle.journal_groups.proofs.Bodies.{window_done, before, body_one}
+use Rattle.journal_groups.proofs.Bodies.{window_done, before, body_one, with_front, front_more, no_front}
 use Rattle.journal_groups.proofs.Extended.{parts_of, exactly_whole, exactly_again}
 
 abbrev done : {A : Type 0} → A → List ℕ → Reading A
@@ -19,19 +20,30 @@ done a rest = Done a rest
 
 -- ---- records
 
-body_cons : (change : Change) (changes : List Change) (rest : List ℕ) → body_of (change ∷ changes) ++ rest ≡ change_text change ++ (body_of changes ++ rest)
+pub body_cons : (change : Change) (changes : List Change) (rest : List ℕ) → body_of (change ∷ changes) ++ rest ≡ change_text change ++ (body_of changes ++ rest)
 body_cons change changes rest = ap (λ (t : List ℕ). t ++ rest) (flat_map-cons change_text change changes) ∙ append_assoc (change_text change) (body_of changes) rest
 
-length_cons : (change : Change) (changes : List Change) → length (body_of (change ∷ changes)) ≡ length (change_text change) + length (body_of changes)
+pub length_cons : (change : Change) (changes : List Change) → length (body_of (change ∷ changes)) ≡ length (change_text change) + length (body_of changes)
 length_cons change changes = ap length (flat_map-cons change_text change changes) ∙ length-append (change_text change) (body_of changes)
 
-pub body_again : (changes : List Change) (size : ℕ) (rest : List ℕ) → AreRecords changes → size ≡ length (body_of changes) → body_at size (body_of changes ++ rest) ≡ Done changes rest
-body_again [] size rest are e = ap (λ (n : ℕ). body_at n rest) e
-body_again (change ∷ changes) size rest are e =
+pub body_joined : (xs ys : List Change) → body_of (xs ++ ys) ≡ body_of xs ++ body_of ys
+body_joined [] ys = refl
+body_joined (x ∷ xs) ys = ap (λ (l : List ℕ). change_text x ++ l) (body_joined xs ys) ∙ sym (append_assoc (change_text x) (body_of xs) (body_of ys))
+
+-- the records at the front are read, and then the others
+pub body_many : (changes : List Change) (size left : ℕ) (rest : List ℕ) → AreRecords changes → size ≡ length (body_of changes) + left → body_at size (body_of changes ++ rest) ≡ with_front changes (body_at left rest)
+body_many [] size left rest are e = let same : size ≡ left = omega (arith, e) in ap (λ (n : ℕ). body_at n rest) same ∙ sym (no_front (body_at left rest))
+body_many (change ∷ changes) size left rest are e =
     let l = length_cons change changes in
     let le : length (change_text change) ≤ size = omega arith in
-    let left : size - length (change_text change) ≡ length (body_of changes) = omega arith in
-    ap (body_at size) (body_cons change changes rest) ∙ body_one size change (body_of changes ++ rest) are.0 le ∙ ap (before change) (body_again changes (size - length (change_text change)) rest are.1 left)
+    let n : size - length (change_text change) ≡ length (body_of changes) + left = omega arith in
+    ap (body_at size) (body_cons change changes rest)
+    ∙ body_one size change (body_of changes ++ rest) are.0 le
+    ∙ ap (before change) (body_many changes (size - length (change_text change)) left rest are.1 n)
+    ∙ front_more change changes (body_at left rest)
+
+pub body_again : (changes : List Change) (size : ℕ) (rest : List ℕ) → AreRecords changes → size ≡ length (body_of changes) → body_at size (body_of changes ++ rest) ≡ Done changes rest
+body_again changes size rest are e = body_many changes size 0 rest are (omega (arith, e)) ∙ ap (λ (c : List Change). done c rest) (append-nil changes)
 
 -- what a body was read to be
 abbrev pub IsBody : List ℕ → ℕ → List Change → List ℕ → Type 0

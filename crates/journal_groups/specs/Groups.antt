@@ -1,6 +1,6 @@
 -- The text of a journal: groups of records, each behind a mark that is open, and then a mark that isn't. The records are those
 -- of a Helix Core journal (System Administrator Guide, "Journal files"); heads and marks are this project's own choice.
-use Rattle.std.specs.Prelude.{ℕ, suc, ◌≤◌, List, [], ◌∷◌, ◌++◌, length, codes}
+use Rattle.std.specs.Prelude.{◌≡◌, ℕ, suc, ◌+◌, ◌≤◌, List, [], ◌∷◌, ◌++◌, length, codes}
 use Rattle.std.specs.List.{flat_map, AllByRecursion}
 use Rattle.db_records.specs.declared.change.Change.{Change}
 use Rattle.record_text.specs.Spelling.{sign, spelled_number}
@@ -41,3 +41,14 @@ closed_byte = 0x6D
 abbrev pub groups_text : ℕ → List (List Change) → List ℕ
 groups_text number [] = []
 groups_text number (changes ∷ groups) = mark open_byte ++ (group_text number changes ++ groups_text (suc number) groups)
+
+-- With the first of these bytes at the one place, a group begins with these records, which end at the other: a head that says of how many bytes its
+-- records are, and they are no more.
+pub record GroupBegins (number at : ℕ) (bytes : List ℕ) (changes : List Change) (end : ℕ) : Type 0 where
+  pub size : ℕ
+  pub rest : List ℕ
+  pub wide : size ≤ largest_wide
+  pub are_records : AreRecords changes
+  pub within : length (body_of changes) ≤ size
+  pub parts : bytes ≡ head_of number size ++ (body_of changes ++ rest)
+  pub ends : end + length rest ≡ at + length bytes

@@ -1,11 +1,12 @@
 //! The groups of a journal's text one after another, from bytes that come in pieces.
 
-ghost use Rattle.std.specs.Prelude.{◌≡◌, ◌≢◌, ◌++◌, ◌+◌, ◌-◌, ◌<◌, ◌≤◌, ◌^◌, ℕ, List, length, Some, None, IfOk, OnOk, OnErr};
+ghost use Rattle.std.specs.Prelude.{◌≡◌, ◌≢◌, ◌++◌, ◌+◌, ◌-◌, ◌<◌, ◌≤◌, ◌^◌, ℕ, List, length, [], Ok, Some, None, IfOk, OnOk, OnErr};
+ghost use Rattle.std.specs.Result.{IfErr};
 ghost use Rattle.db_records.specs.declared.change.Change.{Change};
 ghost use Rattle.journal_groups.specs.Reading.{placed, IsWithin};
 ghost use Rattle.journal_groups.specs.Groups.{IsGroup, group_text, mark, open_byte};
 ghost use Rattle.journal_groups.specs.Causes.{GoesOn, StopsAt, IsAnswer, IsShort, IfShort, IfBad};
-ghost use Rattle.journal_groups.specs.Reader.{State, IsNext, IsBegun, HasBegun, HasTaken};
+ghost use Rattle.journal_groups.specs.Reader.{State, IsNext, IsLeft, HasBody, HasBegun, HasTaken, HasRecords, IfOfText};
 
 use crate::body::Body;
 use crate::fault::GroupFault;
@@ -33,11 +34,11 @@ pub struct GroupReader {
 
 impl Model for GroupReader {
     ghost use Rattle.std.specs.Prelude.{◌+◌, ◌<◌, ◌≤◌, ◌^◌, length, drop};
-    ghost use Rattle.journal_groups.specs.Reader.{State, IsBegun};
+    ghost use Rattle.journal_groups.specs.Reader.{State, IsBegun, records_of, read_of};
 
     ghost Value = { State };
 
-    ghost view = { λ a. record { left = drop a.taken a.bytes; at = a.at; number = a.number } };
+    ghost view = { λ a. record { left = drop a.taken a.bytes; at = a.at; number = a.number; records = records_of a.body; reached = a.at + read_of a.body } };
 
     ghost invariant = { λ a. (a.taken ≤ length a.bytes) × (a.at + length (drop a.taken a.bytes) < 2 ^ 63) × (a.number ≤ 2 ^ 63 + a.at) × IsBegun a.number (drop a.taken a.bytes) a.body };
 }
@@ -48,7 +49,7 @@ impl GroupReader {
     pub fn new(bytes: Text, at: u64, number: u64) -> GroupReader
         requires place { at + length bytes < 2 ^ 63 }
         requires number { number < 2 ^ 63 }
-        ensures { result ≡ record { left = bytes; at = at; number = number } }
+        ensures { result ≡ record { left = bytes; at = at; number = number; records = []; reached = at } }
     {
         GroupReader {
             bytes,
@@ -64,6 +65,26 @@ impl GroupReader {
         ensures { result ≡ self.now.at }
     {
         self.at
+    }
+
+    /// The records that were read of the next group, where it isn't whole yet.
+    pub fn records(&self) -> &[Change]
+        ensures { result.now ≡ self.now.records }
+    {
+        match &self.body {
+            Some(body) => body.changes.as_slice(),
+            None => &[],
+        }
+    }
+
+    /// The place where these records end.
+    pub fn reached(&self) -> u64
+        ensures { result ≡ self.now.reached }
+    {
+        match &self.body {
+            Some(body) => self.at + body.read as u64,
+            None => self.at,
+        }
     }
 
     /// How many bytes are left.
@@ -105,10 +126,13 @@ impl GroupReader {
         Ok(())
     }
 
-    /// What was read of the next group, or what its mark and head say, or nothing at a mark that isn't open.
-    fn begun(&mut self, alloc: Global) -> Result<Option<Body>, RecordFault>
+    /// Takes out what was read of the next group, or what its mark and head say, or nothing at a mark that
+    /// isn't open.
+    fn take_body(&mut self, alloc: Global) -> Result<Option<Body>, RecordFault>
         ensures small { self.old.number < 2 ^ 64 }
-        ensures same { self.new ≡ self.old }
+        ensures left { IsLeft self.old self.new }
+        ensures none { (self.new.records ≡ []) × (self.new.reached ≡ self.new.at) }
+        ensures same { result ≡ Ok None → self.new ≡ self.old }
         ensures begun { HasBegun self.old.number self.old.left result }
     {
         match self.body.take() {
@@ -127,7 +151,7 @@ impl GroupReader {
 
     /// Reads the rest of the next group.
     fn finish(&mut self, alloc: Global, part: Body) -> Result<Option<Sequence<Change>>, GroupFault>
-        requires { IsBegun self.old.number self.old.left (Some part) }
+        requires { HasBody self.old.number self.old.left part }
         ensures { IsNext self.old self.new result }
     {
         let mut body = part;
@@ -152,7 +176,7 @@ impl GroupReader {
         ensures small { self.old.number < 2 ^ 64 }
         ensures next { IsNext self.old self.new result }
     {
-        match self.begun(alloc) {
+        match self.take_body(alloc) {
             Ok(Some(body)) => self.finish(alloc, body),
             Ok(None) => Ok(None),
             Err(fault) => Err(self.fault(fault)),
@@ -161,8 +185,9 @@ impl GroupReader {
 
     /// The changes of the next group, or nothing at a mark that isn't open, where the committed text ends.
     ///
-    /// After an error, and after nothing, the reader stays as it was. After `Short` it goes on with
-    /// [`GroupReader::more`]. The places of faults are those of the whole text.
+    /// After nothing the reader stays as it was, and after an error the same bytes are left; it keeps the
+    /// records that it read. After `Short` it goes on with [`GroupReader::more`]. The places of faults are
+    /// those of the whole text.
     pub fn next(&mut self, alloc: Global) -> Result<Option<Sequence<Change>>, GroupFault>
         ensures next { IsNext self.old self.new result }
         // What is answered is the group whose text stands there.
@@ -170,7 +195,9 @@ impl GroupReader {
         // Where the text of a group of the next number stands behind an open mark, it is answered, unless there is no memory.
         ensures only { (changes : List Change) (rest : List ℕ) → IsGroup changes → self.old.left ≡ mark open_byte ++ (group_text self.old.number changes ++ rest) → IsAnswer result (Some changes) }
         ensures closed { (byte : ℕ) (rest : List ℕ) → byte ≢ open_byte → self.old.left ≡ mark byte ++ rest → IsAnswer result None }
-        ensures kept { OnErr result (self.new ≡ self.old) }
+        ensures kept { OnErr result (IsLeft self.old self.new) }
+        // Where the bytes are at fault, the records that were read are all that stand there whole.
+        ensures records { IfErr result (λ fault. IfOfText fault (HasRecords self.old.number self.old.at self.old.left self.new.records self.new.reached)) }
         // It is short just where all of the bytes may still become what is wanted.
         ensures short { IfShort result (λ place. GoesOn self.old.number self.old.left × (place ≡ self.old.at + length self.old.left)) }
         ensures goes { GoesOn self.old.number self.old.left → IsShort result (self.old.at + length self.old.left) }

@@ -1,10 +1,10 @@
 -- The puts of a checkpoint are those of its text.
-use Rattle.std.proofs.Common.{◌≡◌, ℕ, ◌<◌, ◌^◌, List, ◌++◌, Option, Some, refl, subst}
+use Rattle.std.proofs.Common.{◌≡◌, ℕ, List, ◌++◌, Option, Some, sym, ap, subst}
 use Rattle.db_records.specs.declared.change.Change.{Change}
 use Rattle.journal_groups.specs.Groups.{IsGroup, group_text, mark, open_byte}
-use Rattle.recovery.specs.Pieces.{IsFirst, IsUnreadable}
-use Rattle.recovery.proofs.Reading.{unreadable_before}
-use Rattle.recovery.proofs.Groups.{first_group, one_group, unreadable_group}
+use Rattle.journal_groups.specs.Causes.{BeginsWanted, group}
+use Rattle.recovery.specs.Pieces.{IsFirst}
+use Rattle.recovery.proofs.Groups.{first_group, one_group}
 
 module _ (generation number : ℕ) (file text : List ℕ) (numbers : number ≡ generation) (texts : text ≡ mark open_byte ++ file) where
   first_of : (rest : List ℕ) (found : Option (List Change)) (read : List Change) → found ≡ Some read → IsFirst number text rest found → IsFirst generation (mark open_byte ++ file) rest (Some read)
@@ -23,6 +23,6 @@ module _ (generation number : ℕ) (file text : List ℕ) (numbers : number ≡ 
   read_is_one rest found read puts behind is first is_group begins =
       one_group generation file behind rest puts read is_group (read_is_group rest found read is first) begins (read_text rest found read is first)
 
-  pub never_unreadable : (at place : ℕ) (puts : List Change) (behind : List ℕ) → generation < 2 ^ 64 → IsGroup puts → file ≡ group_text generation puts ++ behind → IsUnreadable number at text place → ⊥
-  never_unreadable at place puts behind small is_group begins bad =
-      unreadable_group generation at file behind puts place small is_group begins (unreadable_before generation number at at (mark open_byte ++ file) text place numbers refl texts bad)
+  pub begins_wanted : (puts : List Change) (behind : List ℕ) → IsGroup puts → file ≡ group_text generation puts ++ behind → BeginsWanted number text
+  begins_wanted puts behind is_group begins =
+      subst (BeginsWanted number) (sym texts) (subst (λ (n : ℕ). BeginsWanted n (mark open_byte ++ file)) (sym numbers) (group puts behind is_group (ap (λ (l : List ℕ). mark open_byte ++ l) begins)))

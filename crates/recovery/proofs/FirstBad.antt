@@ -1,17 +1,14 @@
 -- The first change with which changes are no longer good, and its place.
-use Rattle.std.proofs.Common.{◌≡◌, ℕ, zero, suc, ◌+◌, ◌-◌, ◌<◌, ◌≤◌, List, [], ◌∷◌, ◌++◌, length, take, drop, get_or, Err, refl, sym, ap, subst, ◌∙◌, arith, append_assoc, length-append}
+use Rattle.std.proofs.Common.{◌≡◌, ℕ, zero, suc, ◌+◌, ◌-◌, ◌<◌, ◌≤◌, List, [], ◌∷◌, ◌++◌, length, take, drop, get_or, Err, refl, sym, ap, subst, ◌∙◌, arith, length-append}
 use Rattle.std.proofs.lemmas.List.{take_more, take-append-drop, get_or-drop}
 use Rattle.db_records.specs.declared.change.Change.{Change}
 use Rattle.journal_groups.specs.Groups.{body_of, change_text}
+use Rattle.journal_groups.proofs.Texts.{body_joined}
 use Rattle.recovery.specs.Faults.{IfDamaged, Tells}
 use Rattle.recovery.specs.Pieces.{IsFirstBad, IsBadPlace}
 use Rattle.recovery.specs.declared.fault.OpenFault.{OpenFault}
 use Rattle.recovery.specs.declared.fault.OpenFault.TheVariants.{Unmade, Damaged, DiskFault, Memory}
 use Rattle.recovery.specs.declared.pieces.FileGroups.{FileGroups}
-
-pub body_joined : (xs ys : List Change) → body_of (xs ++ ys) ≡ body_of xs ++ body_of ys
-body_joined [] ys = refl
-body_joined (x ∷ xs) ys = ap (λ (l : List ℕ). change_text x ++ l) (body_joined xs ys) ∙ sym (append_assoc (change_text x) (body_of xs) (body_of ys))
 
 -- the text of one change more
 pub body_more : (changes : List Change) (i : ℕ) (change : Change) → i < length changes → change ≡ get_or changes i change → length (body_of (take (i + 1) changes)) ≡ length (body_of (take i changes)) + length (change_text change)
@@ -50,9 +47,9 @@ if_told X Memory place P is holds = tt
 
 -- the place that is told is that of the first bad change
 pub told_bad : (X : Type 0) (good : List Change → Type 0) (groups : FileGroups) (changes others : List Change) (n : ℕ) (fault : OpenFault) → others ≡ drop n changes → n < length changes → good (take n changes) → (good (take (n + 1) changes) → ⊥)
-    → Tells (λ _ _ place. place ≡ (groups.reader.at - length (body_of others)) - groups.front) fault → IfDamaged {X = X} (Err fault) (IsBadPlace good groups changes)
+    → Tells (λ _ _ place. place ≡ (groups.reader.reached - length (body_of others)) - groups.front) fault → IfDamaged {X = X} (Err fault) (IsBadPlace good groups changes)
 told_bad X good groups changes others n fault is within are none told =
-    if_told X fault ((groups.reader.at - length (body_of others)) - groups.front) (IsBadPlace good groups changes) told (length (body_of others), (refl, subst (λ (l : List Change). IsFirstBad good changes (length (body_of l))) (sym is) (first_bad good changes n within are none)))
+    if_told X fault ((groups.reader.reached - length (body_of others)) - groups.front) (IsBadPlace good groups changes) told (length (body_of others), (refl, subst (λ (l : List Change). IsFirstBad good changes (length (body_of l))) (sym is) (first_bad good changes n within are none)))
 
 -- its text and that of the changes behind it are within that of all
 pub bad_within : (good : List Change → Type 0) (changes : List Change) (left : ℕ) → IsFirstBad good changes left → left ≤ length (body_of changes)

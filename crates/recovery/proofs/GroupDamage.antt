@@ -1,17 +1,18 @@
 -- Where the text of a checkpoint or of a journal is damaged.
-use Rattle.std.proofs.Common.{◌≡◌, inl, inr, ◌⊎◌, ℕ, ◌+◌, ◌-◌, List, [], ◌∷◌, ◌++◌, length, Some, refl, sym, ap, subst, ◌∙◌, arith, append_assoc, length-append}
+use Rattle.std.proofs.Common.{◌≡◌, inl, inr, ◌⊎◌, ℕ, ◌+◌, ◌-◌, ◌≤◌, List, [], ◌∷◌, ◌++◌, length, Some, refl, sym, ap, subst, ◌∙◌, arith, length-append}
 use Rattle.outside_api.specs.Disk.{Files}
 use Rattle.db_records.specs.declared.change.Change.{Change}
-use Rattle.journal_groups.specs.Groups.{body_of, head_of, group_text, groups_text, mark, open_byte}
+use Rattle.journal_groups.specs.Groups.{GroupBegins, body_of, head_of, group_text, groups_text, mark, open_byte}
 use Rattle.journal_groups.specs.Causes.{GroupGoesOn, GroupStopsAt, GoesOn, in_mark, in_group, BeginsWanted, group, StopsAt}
-use Rattle.table_changes.specs.Changed.{AllRows, AllFitIn, no_rows}
+use Rattle.journal_groups.specs.Reader.{BeginsAt}
+use Rattle.table_changes.specs.Changed.{AllRows, AllFitIn, changed_by}
 use Rattle.recovery.specs.Damage.{IsCheckpointDamage, IsJournalDamage}
-use Rattle.recovery.specs.Holding.{ArePuts}
-use Rattle.recovery.specs.Pieces.{IsFirst, IsFirstBad, IsBadPlace, IsUnreadable, HasCome, text_left}
+use Rattle.recovery.specs.Holding.{ArePuts, joined}
+use Rattle.recovery.specs.Pieces.{IsBadRecord, IsFirst, IsBadPlace, IsTextDamage, IsUnreadable, HasCome, text_left}
 use Rattle.recovery.specs.Reading.{SoFar}
 use Rattle.recovery.specs.declared.pieces.FileGroups.{FileGroups}
 use Rattle.recovery.proofs.FirstBad.{bad_within}
-use Rattle.recovery.proofs.Reading.{unreadable_before}
+use Rattle.recovery.proofs.Stopped.{bad_record, group_begins}
 
 -- a byte that stands behind an open mark
 abbrev IsBehind : List ℕ → ℕ → List ℕ → List ℕ → Type 0
@@ -91,71 +92,87 @@ module _ (number : ℕ) where
       }
 
 -- the bytes of a checkpoint, which are read behind an open mark
-pub checkpoint_unreadable : (generation number at front found place : ℕ) (file text : List ℕ) → number ≡ generation → at ≡ 0 → front ≡ 5 → text ≡ mark open_byte ++ file → place ≡ found - front → IsUnreadable number at text found → IsCheckpointDamage generation file place
-checkpoint_unreadable generation number at front found place file text numbers starts five texts is unreadable =
-    go (unreadable_before generation number 0 at (mark open_byte ++ file) text found numbers starts texts unreadable)
-  where
-    go : IsUnreadable generation 0 (mark open_byte ++ file) found → IsCheckpointDamage generation file place
-    go (inl stops) =
-        let stopped = group_stops generation file ((0 + length (mark open_byte ++ file)) - found) stops in
-        let same : (0 + length (mark open_byte ++ file)) - found ≡ length file - place = omega (arith, stopped.place, ap length stopped.parts, length-append stopped.front (stopped.bad ∷ stopped.after), is, five) in
-        inl (subst (GroupStopsAt generation file) same stopped)
-    go (inr ends) = inr (inl (group_goes_on generation file ends.0, omega (arith, ends.1, is, five)))
+module _ (generation : ℕ) (file : List ℕ) where
+  unreadable : (found place : ℕ) → place ≡ found - 5 → IsUnreadable generation 0 (mark open_byte ++ file) found → GroupStopsAt generation file (length file - place) ⊎ (GroupGoesOn generation file × (place ≡ length file))
+  unreadable found place is (inl stops) =
+      let stopped = group_stops generation file ((0 + length (mark open_byte ++ file)) - found) stops in
+      let same : (0 + length (mark open_byte ++ file)) - found ≡ length file - place = omega (arith, stopped.place, ap length stopped.parts, length-append stopped.front (stopped.bad ∷ stopped.after), is) in
+      inl (subst (GroupStopsAt generation file) same stopped)
+  unreadable found place is (inr ends) = inr (group_goes_on generation file ends.0, omega (arith, ends.1, is))
 
--- the first record of a checkpoint that is bad
-pub checkpoint_bad : (good : List Change → Type 0) (generation : ℕ) (groups next : FileGroups) (file behind : List ℕ) (puts : List Change) → ((left : ℕ) → IsFirstBad good puts left → IsFirstBad ArePuts puts left ⊎ (ArePuts puts × IsFirstBad (AllFitIn no_rows) puts left))
-    → groups.reader.number ≡ generation → groups.reader.at ≡ 0 → groups.front ≡ 5 → next.front ≡ groups.front → HasCome groups next (Some puts) → file ≡ group_text generation puts ++ behind
-    → (place : ℕ) → IsBadPlace good next puts place → IsCheckpointDamage generation file place
-checkpoint_bad good generation groups next file behind puts kind number starts five same come is place told =
-    let left = told.0 in
-    let text = group_text generation puts in
-    let ends : next.reader.at ≡ 5 + length text = omega (arith, come.2, starts, ap (λ (n : ℕ). length (group_text n puts)) number) in
-    inr (inr (record {
-      puts = puts;
-      is_group = come.0;
-      begins = record { behind = behind; is = is };
-      left = left;
-      bad = kind left told.1.1;
-      place_is = omega (arith, ends, five, same, told.1.0, bad_within good puts left told.1.1, length-append (head_of generation (length (body_of puts))) (body_of puts));
-    }))
+  same_file : {xs : List ℕ} → mark open_byte ++ file ≡ mark open_byte ++ xs → file ≡ xs
+  same_file e = cc
+
+  begins_behind : (puts : List Change) (end : ℕ) → GroupBegins generation 0 file puts end → BeginsAt generation 0 (mark open_byte ++ file) puts (end + 5)
+  begins_behind puts end b = record {
+    group = file;
+    opened = refl;
+    begins = record { size = b.size; rest = b.rest; wide = b.wide; are_records = b.are_records; within = b.within; parts = b.parts; ends = omega (arith, b.ends) };
+  }
+
+  -- records are those of the file, five bytes before
+  begins_file : (puts : List Change) (end : ℕ) → BeginsAt generation 0 (mark open_byte ++ file) puts end → (5 + length (body_of puts) ≤ end) × GroupBegins generation 0 file puts (end - 5)
+  begins_file puts end there =
+      let b = there.begins in
+      let same = same_file there.opened in
+      let parts : file ≡ head_of generation b.size ++ (body_of puts ++ b.rest) = same ∙ b.parts in
+      let long : 5 + length (body_of puts) ≤ end = omega (arith, b.ends, ap length b.parts, length-append (head_of generation b.size) (body_of puts ++ b.rest), length-append (body_of puts) b.rest) in
+      (long, record { size = b.size; rest = b.rest; wide = b.wide; are_records = b.are_records; within = b.within; parts = parts; ends = omega (arith, b.ends, ap length same, long) })
+
+  bad_put : (found place : ℕ) → place ≡ found - 5 → IsBadRecord ArePuts (BeginsAt generation 0 (mark open_byte ++ file)) found → IsBadRecord ArePuts (GroupBegins generation 0 file) place
+  bad_put found place is bad =
+      let there = begins_file bad.changes bad.end bad.there in
+      record {
+        changes = bad.changes;
+        end = bad.end - 5;
+        there = there.1;
+        left = bad.left;
+        bad = bad.bad;
+        place_is = omega (arith, bad.place_is, is, there.0, bad_within ArePuts bad.changes bad.left bad.bad);
+      }
+
+  checkpoint_damage : (found place : ℕ) → place ≡ found - 5 → IsTextDamage ArePuts generation 0 (mark open_byte ++ file) found → IsCheckpointDamage generation file place
+  checkpoint_damage found place is (inl bad) = inl (bad_put found place is bad)
+  checkpoint_damage found place is (inr (good, stops)) = inr ((λ puts end there. good puts (end + 5) (begins_behind puts end there)), unreadable found place is stops)
+
+damage_before : (good : List Change → Type 0) (number same_number at same_at : ℕ) (text same_text : List ℕ) (place : ℕ) → same_number ≡ number → same_at ≡ at → same_text ≡ text → IsTextDamage good same_number same_at same_text place → IsTextDamage good number at text place
+damage_before good number same_number at same_at text same_text place numbers places texts is =
+    subst (λ (n : ℕ). IsTextDamage good n at text place) numbers (subst (λ (n : ℕ). IsTextDamage good same_number n text place) places (subst (λ (l : List ℕ). IsTextDamage good same_number same_at l place) texts is))
+
+pub checkpoint_text : (generation number at front found place : ℕ) (file text : List ℕ) → number ≡ generation → at ≡ 0 → front ≡ 5 → text ≡ mark open_byte ++ file → place ≡ found - front → IsTextDamage ArePuts number at text found → IsCheckpointDamage generation file place
+checkpoint_text generation number at front found place file text numbers starts five texts is damage =
+    checkpoint_damage generation file found place (is ∙ ap (λ (n : ℕ). found - n) five) (damage_before ArePuts generation number 0 at (mark open_byte ++ file) text found numbers starts texts damage)
+
+-- the first of the puts of a checkpoint that is bad
+pub checkpoint_bad : (generation : ℕ) (groups next : FileGroups) (file behind : List ℕ) (puts : List Change) → groups.reader.number ≡ generation → groups.reader.at ≡ 0 → groups.front ≡ 5 → next.front ≡ groups.front → HasCome groups next (Some puts)
+    → file ≡ group_text generation puts ++ behind → (place : ℕ) → IsBadPlace ArePuts next puts place → IsCheckpointDamage generation file place
+checkpoint_bad generation groups next file behind puts number starts five same come is place told =
+    let ends : next.reader.reached ≡ 0 + (5 + length (group_text generation puts)) = omega (arith, come.2, come.3, starts, ap (λ (n : ℕ). length (group_text n puts)) number) in
+    let there = group_begins generation 0 next.reader.reached (mark open_byte ++ file) behind puts come.0 (ap (λ (l : List ℕ). mark open_byte ++ l) is) ends in
+    let bad = bad_record ArePuts generation 0 (mark open_byte ++ file) next puts place there told in
+    checkpoint_damage generation file bad.0 place (bad.1.0 ∙ ap (λ (n : ℕ). bad.0 - n) (same ∙ five)) (inl bad.1.1)
 
 -- the text of a journal behind the groups that were read
 module _ (seen : Files → Type 0) (file count : ℕ) (groups : FileGroups) (old now : AllRows) (so_far : SoFar seen file count groups old now) (starts : groups.front ≡ 0) where
-  pub journal_unreadable : (files : Files) → seen files → (found place : ℕ) → place ≡ found - groups.front → IsUnreadable groups.reader.number groups.reader.at (text_left groups files) found → IsJournalDamage old (files file) place
-  journal_unreadable files read found place is unreadable =
+  pub journal_text : (files : Files) → seen files → (found place : ℕ) → place ≡ found - groups.front → IsTextDamage (AllFitIn now) groups.reader.number groups.reader.at (text_left groups files) found → IsJournalDamage old (files file) place
+  journal_text files read found place is damage =
       let same : found ≡ place = omega (arith, is, starts) in
+      let number = 1 + length so_far.done in
+      let at = length (groups_text 1 so_far.done) in
+      let text = text_left groups files in
+      let moved = damage_before (AllFitIn now) number groups.reader.number at groups.reader.at text text found so_far.number so_far.at refl damage in
       record {
         groups = so_far.done;
         are_groups = so_far.are_groups;
         fit = so_far.fit;
-        behind = text_left groups files;
+        behind = text;
         parts = (so_far.text files read).1;
-        next = inl (
-            subst (λ (n : ℕ). IsUnreadable (1 + length so_far.done) (length (groups_text 1 so_far.done)) (text_left groups files) n) same
-            (unreadable_before (1 + length so_far.done) groups.reader.number (length (groups_text 1 so_far.done)) groups.reader.at (text_left groups files) (text_left groups files) found so_far.number so_far.at refl unreadable));
+        next = subst (λ (n : ℕ). IsTextDamage (AllFitIn (changed_by old (joined so_far.done))) number at text n) same (subst (λ (rows : AllRows). IsTextDamage (AllFitIn rows) number at text found) so_far.rows_are moved);
       }
 
   pub journal_misfit : (next : FileGroups) (changes : List Change) → HasCome groups next (Some changes) → next.front ≡ groups.front → (files : Files) → seen files → IsFirst groups.reader.number (text_left groups files) (text_left next files) (Some changes)
       → (place : ℕ) → IsBadPlace (AllFitIn now) next changes place → IsJournalDamage old (files file) place
   journal_misfit next changes come same files read first place bad =
-      let number = 1 + length so_far.done in
-      let text = group_text number changes in
-      let front = mark open_byte ++ text in
-      let left = bad.0 in
-      let within = bad_within (AllFitIn now) changes left bad.1.1 in
-      let at : next.reader.at ≡ length (groups_text 1 so_far.done) + (5 + length text) = come.2 ∙ ap (λ (n : ℕ). groups.reader.at + (5 + length (group_text n changes))) so_far.number ∙ ap (λ (n : ℕ). n + (5 + length text)) so_far.at in
-      record {
-        groups = so_far.done;
-        are_groups = so_far.are_groups;
-        fit = so_far.fit;
-        behind = text_left groups files;
-        parts = (so_far.text files read).1;
-        next = inr (record {
-          changes = changes;
-          is_group = come.0;
-          begins = record { behind = text_left next files; is = first.1 ∙ ap (λ (n : ℕ). mark open_byte ++ (group_text n changes ++ text_left next files)) so_far.number ∙ sym (append_assoc (mark open_byte) text (text_left next files)) };
-          left = left;
-          bad = subst (λ (rows : AllRows). IsFirstBad (AllFitIn rows) changes left) so_far.rows_are bad.1.1;
-          place_is = omega (arith, at, bad.1.0, same, starts, within, length-append (head_of number (length (body_of changes))) (body_of changes));
-        });
-      }
+      let there = group_begins groups.reader.number groups.reader.at next.reader.reached (text_left groups files) (text_left next files) changes come.0 first.1 (come.3 ∙ come.2) in
+      let told = bad_record (AllFitIn now) groups.reader.number groups.reader.at (text_left groups files) next changes place there bad in
+      journal_text files read told.0 place (told.1.0 ∙ ap (λ (n : ℕ). told.0 - n) same) (inl told.1.1)

@@ -38,7 +38,7 @@ behind_groups number text left (d ∷ done) (g ∷ groups) are is has =
     rest_same e = cc
 
 -- the first of the groups, or the mark that isn't open
-begins_wanted : (number : ℕ) (text : List ℕ) (groups : List (List Change)) → HasGroups number text groups → BeginsWanted number text
+pub begins_wanted : (number : ℕ) (text : List ℕ) (groups : List (List Change)) → HasGroups number text groups → BeginsWanted number text
 begins_wanted number text [] has = closed has.byte has.after has.closed has.parts
 begins_wanted number text (g ∷ groups) has =
     let behind = groups_text (suc number) groups ++ (mark has.byte ++ has.after) in
@@ -60,13 +60,6 @@ unreadable_never number at text place small (inl stops) wanted =
     (stops.none stops.after).1 (subst (BeginsWanted number) (stops.parts ∙ sym (append_assoc stops.front (stops.bad ∷ []) stops.after)) wanted)
 unreadable_never number at text place small (inr ends) wanted = ends_never number text wanted (goes_next number text small ends.0)
 
--- a text that can't be read behind some groups has no groups
-pub unreadable_groups : (number at : ℕ) (text left : List ℕ) (done groups : List (List Change)) (place : ℕ) → number + length done < 2 ^ 64 → AllByRecursion IsGroup done → text ≡ groups_text number done ++ left
-    → IsUnreadable (number + length done) at left place → HasGroups number text groups → ⊥
-unreadable_groups number at text left done groups place small are is bad has =
-    let later = behind_groups number text left done groups are is has in
-    unreadable_never (number + length done) at left place small bad (begins_wanted (number + length done) left later.0 later.1.1)
-
 -- the groups of a text end at its first mark that isn't open
 pub ended_groups : (number byte : ℕ) (left behind : List ℕ) (text : List ℕ) (done : List (List Change)) → AllByRecursion IsGroup done → text ≡ groups_text number done ++ left → byte ≢ open_byte → left ≡ mark byte ++ behind → HasGroups number text done
 ended_groups number byte left behind text done are is shut left_is = record { byte = byte; after = behind; closed = shut; are_groups = are; parts = is ∙ ap (λ (l : List ℕ). groups_text number done ++ l) left_is }
@@ -81,10 +74,6 @@ one_group number text a b changes others is_group are_others one two =
   where
     same : {x y : List Change} {xs ys : List ℕ} → Done (Some x) xs ≡ Done (Some y) ys → x ≡ y
     same e = cc
-
-pub unreadable_group : (number at : ℕ) (text behind : List ℕ) (changes : List Change) (place : ℕ) → number < 2 ^ 64 → IsGroup changes → text ≡ group_text number changes ++ behind → IsUnreadable number at (mark open_byte ++ text) place → ⊥
-unreadable_group number at text behind changes place small is_group is bad =
-    unreadable_never number at (mark open_byte ++ text) place small bad (group changes behind is_group (ap (λ (l : List ℕ). mark open_byte ++ l) is))
 
 -- behind an open mark stands a group
 pub first_group : (number : ℕ) (text rest : List ℕ) (changes : List Change) → IsFirst number (mark open_byte ++ text) rest (Some changes) → text ≡ group_text number changes ++ rest

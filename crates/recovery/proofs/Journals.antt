@@ -1,19 +1,19 @@
 -- One group more of a journal, and the changes that it makes.
-use Rattle.std.proofs.Common.{◌≡◌, ℕ, suc, ◌+◌, ◌<◌, ◌≤◌, ◌^◌, List, [], ◌∷◌, ◌++◌, length, Some, refl, sym, ◌∙◌, ap, subst, arith, append_assoc, length-append}
+use Rattle.std.proofs.Common.{◌≡◌, ℕ, suc, ◌+◌, ◌<◌, ◌≤◌, ◌^◌, List, [], ◌∷◌, ◌++◌, length, Some, sym, ◌∙◌, ap, subst, arith, append_assoc, length-append}
 use Rattle.std.specs.List.{AllByRecursion}
 use Rattle.std.proofs.lemmas.List.{append-nil}
 use Rattle.outside_api.specs.Disk.{Files}
 use Rattle.db_records.specs.declared.change.Change.{Change}
 use Rattle.journal_groups.specs.Groups.{IsGroup, group_text, groups_text, mark, open_byte}
+use Rattle.journal_groups.specs.Causes.{BeginsWanted}
 use Rattle.journal_groups.specs.Committed.{HasGroups}
 use Rattle.table_changes.specs.Changed.{AllRows, AllFitIn, changed_by}
 use Rattle.recovery.specs.Holding.{joined}
-use Rattle.recovery.specs.Pieces.{IsFirst, IsUnreadable, KnowsEnd, HasCome, text_left}
+use Rattle.recovery.specs.Pieces.{IsFirst, KnowsEnd, HasCome, text_left}
 use Rattle.recovery.specs.Reading.{SoFar}
 use Rattle.recovery.specs.declared.pieces.FileGroups.{FileGroups}
 use Rattle.recovery.proofs.Fits.{changed_joined, fits_joined, fits_front, fits_behind, joined_append}
-use Rattle.recovery.proofs.Groups.{behind_groups, unreadable_groups}
-use Rattle.recovery.proofs.Reading.{unreadable_before}
+use Rattle.recovery.proofs.Groups.{behind_groups, begins_wanted}
 
 text_more : (n : ℕ) (done : List (List Change)) (c : List Change) (rest : List ℕ) → groups_text n done ++ (mark open_byte ++ (group_text (n + length done) c ++ rest)) ≡ groups_text n (done ++ c ∷ []) ++ rest
 text_more n [] c rest =
@@ -58,11 +58,11 @@ module _ (seen : Files → Type 0) (file count : ℕ) (groups : FileGroups) (old
   pub small_count : groups.reader.at < 2 ^ 63 → count + 1 < 2 ^ 64
   small_count short = omega (arith, short, so_far.count_is, so_far.at, few 1 so_far.done)
 
-  -- a text with groups is never unreadable behind some of them
-  pub never_stuck : groups.reader.at < 2 ^ 63 → (files : Files) → seen files → (all : List (List Change)) → HasGroups 1 (files file) all → (place : ℕ) → IsUnreadable groups.reader.number groups.reader.at (text_left groups files) place → ⊥
-  never_stuck short files read all has place bad =
-      unreadable_groups 1 groups.reader.at (files file) (text_left groups files) so_far.done all place (omega (arith, small_number short, so_far.number)) so_far.are_groups (so_far.text files read).1
-      (unreadable_before (1 + length so_far.done) groups.reader.number groups.reader.at groups.reader.at (text_left groups files) (text_left groups files) place so_far.number refl refl bad) has
+  -- behind some of the groups of a text stand others, or a mark that isn't open
+  pub next_wanted : (files : Files) → seen files → (all : List (List Change)) → HasGroups 1 (files file) all → BeginsWanted groups.reader.number (text_left groups files)
+  next_wanted files read all has =
+      let later = behind_groups 1 (files file) (text_left groups files) so_far.done all so_far.are_groups (so_far.text files read).1 has in
+      subst (λ (n : ℕ). BeginsWanted n (text_left groups files)) (sym so_far.number) (begins_wanted (1 + length so_far.done) (text_left groups files) later.0 later.1.1)
 
   module _ (next : FileGroups) (changes : List Change) (come : HasCome groups next (Some changes)) where
     more_text : (files : Files) → seen files → IsFirst groups.reader.number (text_left groups files) (text_left next files) (Some changes) → files file ≡ groups_text 1 (so_far.done ++ changes ∷ []) ++ text_left next files

@@ -5,8 +5,10 @@ pub mod Fits
 pub mod Roots
 pub mod RootDamage
 pub mod FirstBad
+pub mod Stopped
 pub mod GroupDamage
 pub mod OnePut
+pub mod PutsFit
 pub mod PassedOn
 pub mod Checkpoint
 pub mod Journals

@@ -71,10 +71,8 @@ rows_joined [] ys = refl
 rows_joined (x ∷ xs) ys = ap (λ (l : List Record). x.row ∷ l) (rows_joined xs ys)
 
 -- the first of some puts are puts
+pub puts_first : (xs ys : List Change) → ArePuts (xs ++ ys) → ArePuts xs
+puts_first xs ys are = record { all_put = puts_left xs ys are.all_put; rising = IsRising-left (rows_put xs) (rows_put ys) (subst IsRising (rows_joined xs ys) are.rising) }
+
 pub puts_front : (n : ℕ) (changes : List Change) → ArePuts changes → ArePuts (take n changes)
-puts_front n changes are =
-    let parts : changes ≡ take n changes ++ drop n changes = sym (take-append-drop n changes) in
-    record {
-      all_put = puts_left (take n changes) (drop n changes) (subst (AllByRecursion (λ (c : Change). c.op ≡ Put)) parts are.all_put);
-      rising = IsRising-left (rows_put (take n changes)) (rows_put (drop n changes)) (subst IsRising (ap rows_put parts ∙ rows_joined (take n changes) (drop n changes)) are.rising);
-    }
+puts_front n changes are = puts_first (take n changes) (drop n changes) (subst ArePuts (sym (take-append-drop n changes)) are)

@@ -40,3 +40,14 @@ no_damage X file (Damaged Journal found place) P of damaged never = absurd (neve
 no_damage X file (Damaged Archive found place) P of damaged never = absurd of
 no_damage X file DiskFault P of damaged never = tt
 no_damage X file Memory P of damaged never = tt
+
+-- a fault that says nothing tells of no damage
+pub nothing_damaged : {X : Type 0} (r : Result X OpenFault) (fault : OpenFault) (P : ℕ → Type 0) → IsErrAnd r (λ y. y ≡ fault) → SaysNothing fault → IfDamaged r P
+nothing_damaged (Ok x) fault P is says = tt
+nothing_damaged {X} (Err y) fault P is says = subst (λ (f : OpenFault). IfDamaged {X = X} (Err f) P) (sym is) (go fault says)
+  where
+    go : (f : OpenFault) → SaysNothing f → IfDamaged {X = X} (Err f) P
+    go Unmade says = tt
+    go (Damaged disk file place) says = absurd says
+    go DiskFault says = tt
+    go Memory says = tt

@@ -6,12 +6,12 @@ use Rattle.db_records.specs.declared.change.Change.{Change}
 use Rattle.db_records.specs.declared.table.TableId.TheVariants as tables
 use Rattle.disk_journal.specs.Images.{Committed, HasCommitted, Begins, IsRoot}
 use Rattle.disk_journal.specs.Text.{blocks}
-use Rattle.journal_groups.specs.Groups.{IsGroup, group_text, groups_text, mark, open_byte}
+use Rattle.journal_groups.specs.Groups.{GroupBegins, IsGroup, group_text, groups_text}
 use Rattle.journal_groups.specs.Causes.{GroupGoesOn, GroupStopsAt}
 use Rattle.table_changes.specs.Changed.{AllRows, AllFitIn, changed_by, no_rows}
 use Rattle.recovery.specs.Contents.{IsSpotDamage}
 use Rattle.recovery.specs.Holding.{ArePuts, HasAllRows, Hold, joined}
-use Rattle.recovery.specs.Pieces.{IsFirstBad, IsUnreadable}
+use Rattle.recovery.specs.Pieces.{AreAllGood, IsBadRecord, IsTextDamage}
 use Rattle.recovery.specs.Reading.{IsCheckpoint}
 use Rattle.recovery.specs.Rules.{KeepTheirRules}
 use Rattle.recovery.specs.declared.fault.DepotDisk.{DepotDisk}
@@ -30,40 +30,22 @@ pub record IsRootDamage (file : List ℕ) (place : ℕ) : Type 0 where
   pub goes_on : BeginsRoot (take place file)
   pub stops : place < length file → BeginsRoot (take (place + 1) file) → ⊥
 
--- The file begins with the group of a generation, and at the place stands its first record that is no put above those before it; or all are, and it
--- is the first that doesn't fit.
-pub record IsBadPut (generation : ℕ) (file : List ℕ) (place : ℕ) : Type 0 where
-  pub puts : List Change
-  pub is_group : IsGroup puts
-  pub begins : Begins (group_text generation puts) file
-  pub left : ℕ
-  pub bad : IsFirstBad ArePuts puts left ⊎ (ArePuts puts × IsFirstBad (AllFitIn no_rows) puts left)
-  pub place_is : place + left ≡ length (group_text generation puts)
-
--- the first byte of a file that no group of a generation goes on from, the end of a file that is too short for one, or a record that is bad
+-- The place in a checkpoint of its first record that is no put above those before it; or, where there is none, the first byte that no group of the
+-- generation goes on from, or the end of a file that is too short for one.
 abbrev pub IsCheckpointDamage : ℕ → List ℕ → ℕ → Type 0
 IsCheckpointDamage generation file place =
-    GroupStopsAt generation file (length file - place) ⊎ ((GroupGoesOn generation file × (place ≡ length file)) ⊎ IsBadPut generation file place)
+    IsBadRecord ArePuts (GroupBegins generation 0 file) place
+    ⊎ (AreAllGood ArePuts (GroupBegins generation 0 file) × (GroupStopsAt generation file (length file - place) ⊎ (GroupGoesOn generation file × (place ≡ length file))))
 
--- Behind an open mark, which stands at the one place, is a group, and at the other place stands its first record that doesn't fit.
-pub record IsMisfit (number at : ℕ) (rows : AllRows) (text : List ℕ) (place : ℕ) : Type 0 where
-  pub changes : List Change
-  pub is_group : IsGroup changes
-  pub begins : Begins (mark open_byte ++ group_text number changes) text
-  pub left : ℕ
-  pub bad : IsFirstBad (AllFitIn rows) changes left
-  pub place_is : place + left ≡ at + length (mark open_byte ++ group_text number changes)
-
--- The file begins with groups, whose changes fit these rows; of what is behind them the place is the first byte that no text goes on from, the end
--- of a text that is too short, or that of a record that doesn't fit.
+-- The file begins with groups, whose changes fit these rows. Of what is behind them the place is that of the next group's first record that doesn't fit;
+-- or, where there is none, the first byte that no text goes on from, or the end of a text that is too short.
 pub record IsJournalDamage (rows : AllRows) (file : List ℕ) (place : ℕ) : Type 0 where
   pub groups : List (List Change)
   pub are_groups : AllByRecursion IsGroup groups
   pub fit : AllFitIn rows (joined groups)
   pub behind : List ℕ
   pub parts : file ≡ groups_text 1 groups ++ behind
-  pub next : IsUnreadable (1 + length groups) (length (groups_text 1 groups)) behind place
-      ⊎ IsMisfit (1 + length groups) (length (groups_text 1 groups)) (changed_by rows (joined groups)) behind place
+  pub next : IsTextDamage (AllFitIn (changed_by rows (joined groups))) (1 + length groups) (length (groups_text 1 groups)) behind place
 
 -- The rows that the files hold break a rule, and the place is the end of the journal's committed text.
 pub record IsRulesDamage (journal : Files) (file place : ℕ) : Type 0 where

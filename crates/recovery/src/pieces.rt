@@ -5,7 +5,7 @@ ghost use Rattle.std.specs.Result.{IfErr};
 ghost use Rattle.outside_api.specs.Disk.{Files};
 ghost use Rattle.journal_groups.specs.Groups.{body_of};
 ghost use Rattle.recovery.specs.Looking.{OnlyReads, IsCause};
-ghost use Rattle.recovery.specs.Faults.{IfDamaged, IsOfFile, SaysNothing, Tells};
+ghost use Rattle.recovery.specs.Faults.{IsOfFile, SaysNothing, Tells};
 ghost use Rattle.recovery.specs.declared.fault.OpenFault.TheVariants.{Damaged, DiskFault};
 ghost use Rattle.recovery.specs.declared.fault.DepotDisk.TheVariants.{Journal};
 
@@ -37,7 +37,7 @@ pub(crate) struct FileGroups {
 }
 
 impl FileGroups {
-    ghost use Rattle.recovery.specs.Pieces.{text_left, KnowsEnd, IsFirst, HasCome, IsUnreadable};
+    ghost use Rattle.recovery.specs.Pieces.{text_left, KnowsEnd, IsFirst, HasCome, HasStopped};
 
     /// The groups of a file, the first of which has this number, behind these bytes. The one error beside
     /// a fault of the disk is want of memory.
@@ -114,14 +114,21 @@ impl FileGroups {
         }
     }
 
-    /// The fault of this file at the first of the last changes of the group that was read. It is want of
-    /// memory where there is none for the text of one of them.
+    /// The records that were read of the next group, where it isn't whole.
+    pub(crate) fn records(&self) -> &[Change]
+        ensures { result.now ≡ self.now.reader.records }
+    {
+        self.reader.records()
+    }
+
+    /// The fault of this file at the first of the last changes that were read. It is want of memory where
+    /// there is none for the text of one of them.
     pub(crate) fn damaged_before(&self, alloc: Global, changes: &[Change]) -> OpenFault
         ensures file { IsOfFile self.now.file result }
-        ensures place { Tells (λ disk file place. place ≡ (self.now.reader.at - length (body_of changes.now)) - self.now.front) result }
+        ensures place { Tells (λ disk file place. place ≡ (self.now.reader.reached - length (body_of changes.now)) - self.now.front) result }
         ensures no_disk { result ≢ DiskFault }
     {
-        let mut place = self.place();
+        let mut place = self.reader.reached();
         for change in changes {
             match print_record(alloc, change.op, &change.row) {
                 Ok(text) => place = place.saturating_sub(text.len() as u64),
@@ -131,31 +138,32 @@ impl FileGroups {
         self.damaged(place)
     }
 
-    /// The changes of the next group, or nothing at a mark that isn't open. The places of faults count
-    /// the bytes before the file's too.
+    /// The changes of the next group, or nothing at a mark that isn't open; or the place from which the text
+    /// can't be read on. Then the whole records before it are kept. The place counts the bytes before the
+    /// file's too.
     pub(crate) fn next<D: Disk>(
         &mut self,
         alloc: Global,
         disk: &mut D,
         piece: &mut [u8],
-    ) -> Result<Option<Sequence<Change>>, OpenFault>
+    ) -> Result<Result<Option<Sequence<Change>>, u64>, OpenFault>
         requires room { 0 < length piece.old }
-        ensures text { (files : Files) → D.seen disk.old files → KnowsEnd self.old files → IfOk result (λ found. KnowsEnd self.new files × IsFirst self.old.reader.number (text_left self.old files) (text_left self.new files) found) }
-        ensures come { IfOk result (HasCome self.old self.new) }
+        ensures text { (files : Files) → D.seen disk.old files → KnowsEnd self.old files → IfOk result (λ read. IfOk read (λ found. KnowsEnd self.new files × IsFirst self.old.reader.number (text_left self.old files) (text_left self.new files) found)) }
+        ensures come { IfOk result (λ read. IfOk read (HasCome self.old self.new)) }
         ensures file { (self.new.file ≡ self.old.file) × (self.new.front ≡ self.old.front) }
-        ensures damaged { (files : Files) → D.seen disk.old files → KnowsEnd self.old files → IfDamaged result (λ place. (found : ℕ) × ((place ≡ found - self.old.front) × IsUnreadable self.old.reader.number self.old.reader.at (text_left self.old files) found)) }
-        ensures fault { IfErr result (IsOfFile self.old.file) }
+        ensures stopped { (files : Files) → D.seen disk.old files → KnowsEnd self.old files → IfOk result (λ read. IfErr read (HasStopped self.old.reader.number self.old.reader.at (text_left self.old files) self.new.reader)) }
+        ensures fault { IfErr result SaysNothing }
         ensures reads { OnlyReads D.seen D.may_leave D.moment D.left_since disk.old disk.new }
         ensures cause { IsCause (D.faults disk.old) (D.faults disk.new) (result ≡ Err DiskFault) }
     {
         loop {
             match self.reader.next(alloc) {
-                Ok(found) => return Ok(found),
+                Ok(found) => return Ok(Ok(found)),
                 Err(GroupFault::Memory) => return Err(OpenFault::Memory),
-                Err(GroupFault::BadGroup(place)) => return Err(self.damaged(place)),
+                Err(GroupFault::BadGroup(place)) => return Ok(Err(place)),
                 Err(GroupFault::Short(place)) => {
                     if self.read == self.length {
-                        return Err(self.damaged(place));
+                        return Ok(Err(place));
                     }
                     self.read_piece(alloc, disk, piece)?;
                 }

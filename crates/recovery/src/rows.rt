@@ -1,10 +1,11 @@
 //! The rows of a generation: those of its checkpoint, changed by the groups of its journal.
 
-ghost use Rattle.std.specs.Prelude.{◌≡◌, ◌≢◌, ◌≤◌, ◌<◌, ◌+◌, ◌*◌, List, length, take, IfOk, OnOk, Err};
+ghost use Rattle.std.specs.Prelude.{◌≡◌, ◌≢◌, ◌≤◌, ◌<◌, ◌+◌, ◌-◌, ◌*◌, ◌^◌, ℕ, List, length, take, IfOk, OnOk, Err};
 ghost use Rattle.std.specs.Result.{IfErr};
 ghost use Rattle.outside_api.specs.Disk.{Files};
 ghost use Rattle.db_records.specs.declared.change.Change.{Change};
 ghost use Rattle.disk_journal.specs.Images.{Begins};
+ghost use Rattle.journal_groups.specs.Causes.{BeginsWanted};
 ghost use Rattle.journal_groups.specs.Groups.{group_text};
 ghost use Rattle.journal_groups.specs.Committed.{HasGroups};
 ghost use Rattle.table_changes.specs.Changed.{AllFitIn, changed_by, no_rows};
@@ -13,7 +14,7 @@ ghost use Rattle.recovery.specs.Damage.{IsCheckpointDamage, IsJournalDamage};
 ghost use Rattle.recovery.specs.Faults.{IfDamaged, IsOfFile, SaysNothing};
 ghost use Rattle.recovery.specs.Holding.{ArePuts, joined};
 ghost use Rattle.recovery.specs.Looking.{OnlyReads, IsCause};
-ghost use Rattle.recovery.specs.Pieces.{IsBadPlace};
+ghost use Rattle.recovery.specs.Pieces.{text_left, KnowsEnd, IsFirst, HasCome, IsBadPlace, IsTextDamage};
 ghost use Rattle.recovery.specs.Reading.{IsCheckpoint, HasCheckpoint, HasJournal};
 ghost use Rattle.recovery.specs.declared.fault.OpenFault.TheVariants.{DiskFault};
 
@@ -21,7 +22,7 @@ use crate::fault::OpenFault;
 use crate::pieces::FileGroups;
 use crate::puts::rising_puts;
 use db_records::Change;
-use depot_path::Text;
+use depot_path::{Sequence, Text};
 use outside_api::Disk;
 use std::alloc::{AllocError, Global};
 use table_changes::TablesDraft;
@@ -62,7 +63,7 @@ fn make_fitting(
     Ok(changes.len())
 }
 
-/// Makes the changes of the group that was read last.
+/// Makes changes, which end where what was read of groups does.
 fn make_changes(
     alloc: Global,
     groups: &FileGroups,
@@ -84,7 +85,7 @@ fn make_changes(
     Ok(())
 }
 
-/// Checks that the group that was read last puts rows, tables and keys rising.
+/// Checks that changes, which end where what was read of groups does, put rows, tables and keys rising.
 fn check_puts(alloc: Global, groups: &FileGroups, puts: &[Change]) -> Result<(), OpenFault>
     ensures puts { OnOk result (ArePuts puts.now) }
     ensures damaged { IfDamaged result (IsBadPlace ArePuts groups.now puts.now) }
@@ -98,6 +99,62 @@ fn check_puts(alloc: Global, groups: &FileGroups, puts: &[Change]) -> Result<(),
         return Err(groups.damaged_before(alloc, others));
     }
     Ok(())
+}
+
+/// The next group of a checkpoint. Where its text can't be read on, the first of the records before that
+/// place that is no put above the others is told.
+fn next_puts<D: Disk>(
+    alloc: Global,
+    disk: &mut D,
+    groups: &mut FileGroups,
+    piece: &mut [u8],
+) -> Result<Option<Sequence<Change>>, OpenFault>
+    requires room { 0 < length piece.old }
+    ensures text { (files : Files) → D.seen disk.old files → KnowsEnd groups.old files → IfOk result (λ found. KnowsEnd groups.new files × IsFirst groups.old.reader.number (text_left groups.old files) (text_left groups.new files) found) }
+    ensures come { IfOk result (HasCome groups.old groups.new) }
+    ensures file { (groups.new.file ≡ groups.old.file) × (groups.new.front ≡ groups.old.front) }
+    ensures only { (files : Files) → D.seen disk.old files → KnowsEnd groups.old files → groups.old.reader.number < 2 ^ 64 → BeginsWanted groups.old.reader.number (text_left groups.old files) → IfErr result SaysNothing }
+    ensures damaged { (files : Files) → D.seen disk.old files → KnowsEnd groups.old files → IfDamaged result (λ place. (found : ℕ) × ((place ≡ found - groups.old.front) × IsTextDamage ArePuts groups.old.reader.number groups.old.reader.at (text_left groups.old files) found)) }
+    ensures fault { IfErr result (IsOfFile groups.old.file) }
+    ensures reads { OnlyReads D.seen D.may_leave D.moment D.left_since disk.old disk.new }
+    ensures cause { IsCause (D.faults disk.old) (D.faults disk.new) (result ≡ Err DiskFault) }
+{
+    match groups.next(alloc, disk, piece)? {
+        Ok(found) => Ok(found),
+        Err(place) => {
+            check_puts(alloc, groups, groups.records())?;
+            Err(groups.damaged(place))
+        }
+    }
+}
+
+/// The next group of a journal. Where its text can't be read on, the first of the records before that place
+/// that doesn't fit is told.
+fn next_changes<D: Disk>(
+    alloc: Global,
+    disk: &mut D,
+    groups: &mut FileGroups,
+    piece: &mut [u8],
+    draft: &mut TablesDraft,
+) -> Result<Option<Sequence<Change>>, OpenFault>
+    requires room { 0 < length piece.old }
+    ensures text { (files : Files) → D.seen disk.old files → KnowsEnd groups.old files → IfOk result (λ found. KnowsEnd groups.new files × IsFirst groups.old.reader.number (text_left groups.old files) (text_left groups.new files) found) }
+    ensures come { IfOk result (HasCome groups.old groups.new) }
+    ensures file { (groups.new.file ≡ groups.old.file) × (groups.new.front ≡ groups.old.front) }
+    ensures draft { IfOk result (λ found. rows_of_draft draft.new ≡ rows_of_draft draft.old) }
+    ensures only { (files : Files) → D.seen disk.old files → KnowsEnd groups.old files → groups.old.reader.number < 2 ^ 64 → BeginsWanted groups.old.reader.number (text_left groups.old files) → IfErr result SaysNothing }
+    ensures damaged { (files : Files) → D.seen disk.old files → KnowsEnd groups.old files → IfDamaged result (λ place. (found : ℕ) × ((place ≡ found - groups.old.front) × IsTextDamage (AllFitIn (rows_of_draft draft.old)) groups.old.reader.number groups.old.reader.at (text_left groups.old files) found)) }
+    ensures fault { IfErr result (IsOfFile groups.old.file) }
+    ensures reads { OnlyReads D.seen D.may_leave D.moment D.left_since disk.old disk.new }
+    ensures cause { IsCause (D.faults disk.old) (D.faults disk.new) (result ≡ Err DiskFault) }
+{
+    match groups.next(alloc, disk, piece)? {
+        Ok(found) => Ok(found),
+        Err(place) => {
+            make_changes(alloc, groups, draft, groups.records())?;
+            Err(groups.damaged(place))
+        }
+    }
 }
 
 /// The rows of the checkpoint of a generation.
@@ -118,7 +175,7 @@ pub(crate) fn read_checkpoint<D: Disk>(
 {
     let front = Text::from_bytes(alloc, b"@ex@\n")?;
     let mut groups = FileGroups::open(disk, 2 + 2 * generation, front, generation as u64)?;
-    let Some(puts) = groups.next(alloc, disk, piece)? else {
+    let Some(puts) = next_puts(alloc, disk, &mut groups, piece)? else {
         return Err(groups.damaged(groups.place()));
     };
     check_puts(alloc, &groups, puts.as_slice())?;
@@ -146,7 +203,7 @@ pub(crate) fn read_journal<D: Disk>(
 {
     let mut groups = FileGroups::open(disk, 1 + 2 * generation, Text::new(alloc), 1)?;
     let mut count = 0u64;
-    while let Some(changes) = groups.next(alloc, disk, piece)? {
+    while let Some(changes) = next_changes(alloc, disk, &mut groups, piece, draft)? {
         make_changes(alloc, &groups, draft, changes.as_slice())?;
         count += 1;
     }

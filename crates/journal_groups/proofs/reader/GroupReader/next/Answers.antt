@@ -1,4 +1,4 @@
-use Rattle.journal_groups.proofs.Clauses.{next_taken, next_only, next_at_closed, next_kept, next_short, next_goes, next_bad}
+use Rattle.journal_groups.proofs.Clauses.{next_taken, next_only, next_at_closed, next_kept, next_records, next_short, next_goes, next_bad}
 use Rattle.journal_groups.proofs.reader.GroupReader.next.Goals as goal
 
 pub returns-clause-short : goal.returns-clause-short
@@ -21,3 +21,6 @@ returns-clause-closed c = λ byte rest shut same. next_at_closed c.args.self.now
 
 pub returns-clause-kept : goal.returns-clause-kept
 returns-clause-kept c = next_kept c.args.self.now c.advance.new.self c.advance.result c.advance.ensures.next
+
+pub returns-clause-records : goal.returns-clause-records
+returns-clause-records c = next_records c.args.self.now c.advance.new.self c.advance.result c.advance.ensures.next

@@ -1,0 +1,46 @@
+use Rattle.std.proofs.Common.{◌≡◌, ℕ, ◌-◌, List, Option, Err, sym, ap, subst, ◌∙◌}
+use Rattle.db_records.specs.declared.change.Change.{Change}
+use Rattle.recovery.specs.Faults.{IfDamaged}
+use Rattle.recovery.specs.Holding.{ArePuts}
+use Rattle.recovery.specs.Pieces.{text_left, IsBadPlace, IsTextDamage}
+use Rattle.recovery.specs.declared.fault.OpenFault.{OpenFault}
+use Rattle.recovery.proofs.Groups.{unreadable_never}
+use Rattle.recovery.proofs.OnePut.{puts_first}
+use Rattle.recovery.proofs.PassedOn.{passed_damage}
+use Rattle.recovery.proofs.Stopped.{stopped_record, stopped_text}
+use Rattle.recovery.proofs.rows.next_puts.Goals as goal
+
+pub returns-in_err-check_puts-in-Err-clause-only : goal.returns-in_err-check_puts-in-Err-clause-only
+returns-in_err-check_puts-in-Err-clause-only g c = λ files read knows small wanted.
+    let groups = c.args.groups.now in
+    let stopped = rw c.in-Err.is at (c.in_ok-found.ensures.stopped files read knows) in
+    absurd (unreadable_never groups.reader.number groups.reader.at (text_left groups files) c.in-Err.place small stopped.0 wanted)
+
+pub returns-in_err-check_puts-in-Err-clause-damaged : goal.returns-in_err-check_puts-in-Err-clause-damaged
+returns-in_err-check_puts-in-Err-clause-damaged g c = λ files read knows.
+    let groups = c.args.groups.now in
+    let next = c.next.new.self in
+    let good = ArePuts in
+    let stopped = rw c.in-Err.is at (c.in_ok-found.ensures.stopped files read knows) in
+    let P : ℕ → Type 0 = λ place. (found : ℕ) × ((place ≡ found - groups.front) × IsTextDamage good groups.reader.number groups.reader.at (text_left groups files) found) in
+    passed_damage (Unit {0}) (IsBadPlace good next c.records.result.now) P _ c.in_err-check_puts-in-Err.field-0.0 c.from_residual-in_err-check_puts-in-Err.ensures.1 c.in_err-check_puts-in-Err.ensures.damaged (λ place bad.
+    let told = stopped_record good groups.reader.number groups.reader.at (text_left groups files) next c.in-Err.place place stopped (subst (λ (l : List Change). IsBadPlace good next l place) c.records.ensures bad) in
+    (told.0, (told.1.0 ∙ ap (λ (n : ℕ). told.0 - n) c.next.ensures.file.1, told.1.1)))
+
+pub returns-in_ok-check_puts-in-Err-clause-only : goal.returns-in_ok-check_puts-in-Err-clause-only
+returns-in_ok-check_puts-in-Err-clause-only g c = λ files read knows small wanted.
+    let groups = c.args.groups.now in
+    let stopped = rw c.in-Err.is at (c.in_ok-found.ensures.stopped files read knows) in
+    absurd (unreadable_never groups.reader.number groups.reader.at (text_left groups files) c.in-Err.place small stopped.0 wanted)
+
+pub returns-in_ok-check_puts-in-Err-clause-damaged : goal.returns-in_ok-check_puts-in-Err-clause-damaged
+returns-in_ok-check_puts-in-Err-clause-damaged g c = λ files read knows.
+    let groups = c.args.groups.now in
+    let next = c.next.new.self in
+    let place = c.in-Err.place in
+    let good = ArePuts in
+    let stopped = rw c.in-Err.is at (c.in_ok-found.ensures.stopped files read knows) in
+    let P : ℕ → Type 0 = λ place. (found : ℕ) × ((place ≡ found - groups.front) × IsTextDamage good groups.reader.number groups.reader.at (text_left groups files) found) in
+    let are = subst good c.records.ensures c.in_ok-check_puts-in-Err.ensures.puts in
+    let told : P (place - next.front) = (place, (ap (λ (n : ℕ). place - n) c.next.ensures.file.1, stopped_text good groups.reader.number groups.reader.at (text_left groups files) next.reader place puts_first stopped are)) in
+    subst (λ (fault : OpenFault). IfDamaged {X = Option (List Change)} (Err fault) P) (sym c.damaged.ensures) told
