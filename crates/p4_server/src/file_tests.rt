@@ -351,6 +351,37 @@ fn a_changed_byte_is_damage_at_its_place(rt: HostRuntime) -> Result<(), Fail> {
     Ok(())
 }
 
+/// In one group stands a record that doesn't fit, and behind it a byte from which no journal goes on: the record
+/// is told, also where the file ends in the group, as soon as all of the record is there.
+#[test]
+fn a_record_is_told_before_a_byte_behind_it(rt: HostRuntime) -> Result<(), Fail> {
+    let alloc = rt.alloc();
+    let journal =
+        b"@ex@\n@nx@ 1 93\n@pv@ 1 @db.counters@ @build@ 7\n@pv@ 1 @db.counters@ @build@ 8\n@pv@ 1 @db.counters@ @later@ x\n";
+    for length in 0..journal.len() + 1 {
+        let place = if length < 77 { length } else { 46 };
+        is_damaged(&rt, alloc, 1, &journal[..length], place)?;
+    }
+    Ok(())
+}
+
+/// The same of a checkpoint, with a record whose key doesn't rise and with one that is no put.
+#[test]
+fn a_put_is_told_before_a_byte_behind_it(rt: HostRuntime) -> Result<(), Fail> {
+    let alloc = rt.alloc();
+    let cases: [&[u8]; 2] = [
+        b"@nx@ 0 93\n@pv@ 1 @db.counters@ @build@ 7\n@pv@ 1 @db.counters@ @apple@ 8\n@pv@ 1 @db.counters@ @later@ x\n",
+        b"@nx@ 0 93\n@pv@ 1 @db.counters@ @build@ 7\n@rv@ 1 @db.counters@ @build@ 8\n@pv@ 1 @db.counters@ @later@ x\n",
+    ];
+    for checkpoint in cases {
+        for length in 0..checkpoint.len() + 1 {
+            let place = if length < 72 { length } else { 41 };
+            is_damaged(&rt, alloc, 2, &checkpoint[..length], place)?;
+        }
+    }
+    Ok(())
+}
+
 /// A revision that a client has, of a client and of a file that aren't there: what is committed keeps no rules, up to its end.
 #[test]
 fn a_broken_rule_is_damage_where_the_journal_ends(rt: HostRuntime) -> Result<(), Fail> {
@@ -415,6 +446,29 @@ fn a_content_is_damaged_at_its_spot(rt: HostRuntime) -> Result<(), Fail> {
         put(&mut disks.0, 1, REVISION)?;
         put(&mut disks.1, 0, content)?;
         runs(&rt, alloc, &["dump"], disks, status, lines)?;
+    }
+    Ok(())
+}
+
+/// The journal of two revisions, of which the content of the first by path has five bytes from place 7 on, and
+/// that of the other from place 2 on.
+const REVISIONS: &[u8] =
+    b"@ex@\n@nx@ 1 262\n@pv@ 1 @db.counters@ @change@ 1\n@pv@ 1 @db.change@ 1 @submitted@ @ann@ @ws1@ 1700000000 @one@\n@pv@ 1 @db.rev@ @//depot/a@ 1 1 @add@ @text@ @5D41402ABC4B2A76B9719D911017C592@ 5 7\n@pv@ 1 @db.rev@ @//depot/b@ 1 1 @add@ @text@ @5D41402ABC4B2A76B9719D911017C592@ 5 2\n@mx@\n";
+
+/// Of two bad spots that of the first path is told, and not the first in the archive.
+#[test]
+fn the_first_bad_spot_is_that_of_the_first_path(rt: HostRuntime) -> Result<(), Fail> {
+    let alloc = rt.alloc();
+    let cases: [(&[u8], &[u8]); 3] = [
+        (b"..hellOhellO", b"damaged archive 0 7\n"),
+        (b"..hellOhello", b"damaged archive 0 2\n"),
+        (b"..hellohellO", b"damaged archive 0 7\n"),
+    ];
+    for (content, lines) in cases {
+        let mut disks = made(&rt, alloc)?;
+        put(&mut disks.0, 1, REVISIONS)?;
+        put(&mut disks.1, 0, content)?;
+        runs(&rt, alloc, &["dump"], disks, 2, lines)?;
     }
     Ok(())
 }
