@@ -59,6 +59,24 @@ fn a_journal_is_read_byte_by_byte(rt: HostRuntime) -> Result<(), Fail> {
     Ok(())
 }
 
+/// The records of a group that isn't whole are kept, and those alone that are there.
+#[test]
+fn records_are_kept_before_a_fault(rt: HostRuntime) -> Result<(), Fail> {
+    let bytes = Text::from_bytes(
+        rt.alloc(),
+        b"@ex@\n@nx@ 1 93\n@pv@ 1 @db.counters@ @build@ 7\n@pv@ 1 @db",
+    )?;
+    assert!(rt; bytes.len() == 56);
+    let mut reader = GroupReader::new(bytes, 0, 1);
+    assert!(rt; reader.records().is_empty());
+    assert_eq!(rt; reader.reached(), 0);
+    assert!(rt; matches!(reader.next(rt.alloc()), Err(GroupFault::Short(56))));
+    assert_eq!(rt; reader.records().len(), 1);
+    assert_eq!(rt; reader.reached(), 46);
+    assert_eq!(rt; reader.place(), 0);
+    Ok(())
+}
+
 #[test]
 fn faults_have_their_places(rt: HostRuntime) {
     let faults = [

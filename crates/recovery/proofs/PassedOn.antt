@@ -33,14 +33,6 @@ passed_unmade Y {X} (Err y) fault is unmade = subst (λ (f : OpenFault). IsUnmad
     go DiskFault has = has
     go Memory has = has
 
--- a fault that can't be a damage says nothing
-pub no_damage : (X : Type 0) (file : ℕ) (fault : OpenFault) (P : ℕ → Type 0) → IsOfFile file fault → IfDamaged {X = X} (Err fault) P → ((place : ℕ) → P place → ⊥) → SaysNothing fault
-no_damage X file Unmade P of damaged never = absurd of
-no_damage X file (Damaged Journal found place) P of damaged never = absurd (never place damaged)
-no_damage X file (Damaged Archive found place) P of damaged never = absurd of
-no_damage X file DiskFault P of damaged never = tt
-no_damage X file Memory P of damaged never = tt
-
 -- a fault that says nothing tells of no damage
 pub nothing_damaged : {X : Type 0} (r : Result X OpenFault) (fault : OpenFault) (P : ℕ → Type 0) → IsErrAnd r (λ y. y ≡ fault) → SaysNothing fault → IfDamaged r P
 nothing_damaged (Ok x) fault P is says = tt

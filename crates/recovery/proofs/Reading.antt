@@ -40,10 +40,6 @@ pub first_before : (number same_number : ℕ) (text same_text rest : List ℕ) (
 first_before number same_number text same_text rest found numbers texts first =
     subst (λ (n : ℕ). IsFirst n text rest found) numbers (subst (λ (l : List ℕ). IsFirst same_number l rest found) texts first)
 
-pub unreadable_before : (number same_number at same_at : ℕ) (text same_text : List ℕ) (place : ℕ) → same_number ≡ number → same_at ≡ at → same_text ≡ text → IsUnreadable same_number same_at same_text place → IsUnreadable number at text place
-unreadable_before number same_number at same_at text same_text place numbers places texts is =
-    subst (λ (n : ℕ). IsUnreadable n at text place) numbers (subst (λ (n : ℕ). IsUnreadable same_number n text place) places (subst (λ (l : List ℕ). IsUnreadable same_number same_at l place) texts is))
-
 -- no text goes on from a byte of what was read, whatever is behind
 pub stops_before : (number at : ℕ) (left rest : List ℕ) (place : ℕ) → StopsAt number left ((at + length left) - place) → IsUnreadable number at (left ++ rest) place
 stops_before number at left rest place stops = inl (record {
