@@ -15,3 +15,6 @@ pub use files::{have_of, label_of, opened_of};
 pub use laws::depots_with_the_same_rows_give_the_same_rights;
 pub use protections::protects_of;
 pub use views::view_of;
+
+#[cfg(test)]
+mod tests;

@@ -86,102 +86,57 @@ fn a_job_is_closed(rt: HostRuntime) -> Result<(), Fail> {
     Ok(())
 }
 
+/// Texts that are no forms, each with its line, by their first fault.
+const FAULTS: [(FormFaultKind, &[(Shape, &[u8], usize)]); 5] = [
+    (
+        FormFaultKind::Missing,
+        &[(Shape::Fix, b"", 0), (Shape::Change, b"Change:\tnew\n", 0)],
+    ),
+    (
+        FormFaultKind::NoField,
+        &[
+            (Shape::Change, b"#\n\nChange new\n", 3),
+            (Shape::Change, b" x\nStream:\n", 1),
+            (Shape::Change, b"\n \t\nStream:\n", 2),
+            (Shape::Change, b"Change:\tnew\n\tx\n", 2),
+        ],
+    ),
+    (
+        FormFaultKind::UnknownField,
+        &[
+            (Shape::Client, b"Client: a\nStream: //s/a\n", 2),
+            (Shape::Client, b"Client: a\nAltRoots:\n\t/b\n", 2),
+            (
+                Shape::Client,
+                b"Client: a\nChangeView:\n\t//depot/...@7\n",
+                2,
+            ),
+            (Shape::Client, b"Client: a\nServerID: main\n", 2),
+            (Shape::Client, b"Client: a\nType: graph\n", 2),
+            (Shape::Client, b"Client: a\nBackup: disable\n", 2),
+            (Shape::Change, b"Change:\tnew\n: x\n", 2),
+        ],
+    ),
+    (
+        FormFaultKind::Twice,
+        &[(Shape::Group, b"Group: a\nUsers:\n\tann\nUsers:\n", 4)],
+    ),
+    (
+        FormFaultKind::NotUtf8,
+        &[(Shape::Label, b"Label: \xff\nLabel:\n", 0)],
+    ),
+];
+
 #[test]
 fn the_first_fault_is_told(rt: HostRuntime) -> Result<(), Fail> {
-    let alloc = rt.alloc();
-    let cases = [
-        (Shape::Fix, b"".as_slice(), FormFaultKind::Missing, 0),
-        (
-            Shape::Change,
-            b"Change:\tnew\n".as_slice(),
-            FormFaultKind::Missing,
-            0,
-        ),
-        (
-            Shape::Change,
-            b"#\n\nChange new\n".as_slice(),
-            FormFaultKind::NoField,
-            3,
-        ),
-        (
-            Shape::Change,
-            b" x\nStream:\n".as_slice(),
-            FormFaultKind::NoField,
-            1,
-        ),
-        (
-            Shape::Change,
-            b"\n \t\nStream:\n".as_slice(),
-            FormFaultKind::NoField,
-            2,
-        ),
-        (
-            Shape::Change,
-            b"Change:\tnew\n\tx\n".as_slice(),
-            FormFaultKind::NoField,
-            2,
-        ),
-        (
-            Shape::Client,
-            b"Client: a\nStream: //s/a\n".as_slice(),
-            FormFaultKind::UnknownField,
-            2,
-        ),
-        (
-            Shape::Client,
-            b"Client: a\nAltRoots:\n\t/b\n".as_slice(),
-            FormFaultKind::UnknownField,
-            2,
-        ),
-        (
-            Shape::Client,
-            b"Client: a\nChangeView:\n\t//depot/...@7\n".as_slice(),
-            FormFaultKind::UnknownField,
-            2,
-        ),
-        (
-            Shape::Client,
-            b"Client: a\nServerID: main\n".as_slice(),
-            FormFaultKind::UnknownField,
-            2,
-        ),
-        (
-            Shape::Client,
-            b"Client: a\nType: graph\n".as_slice(),
-            FormFaultKind::UnknownField,
-            2,
-        ),
-        (
-            Shape::Client,
-            b"Client: a\nBackup: disable\n".as_slice(),
-            FormFaultKind::UnknownField,
-            2,
-        ),
-        (
-            Shape::Change,
-            b"Change:\tnew\n: x\n".as_slice(),
-            FormFaultKind::UnknownField,
-            2,
-        ),
-        (
-            Shape::Group,
-            b"Group: a\nUsers:\n\tann\nUsers:\n".as_slice(),
-            FormFaultKind::Twice,
-            4,
-        ),
-        (
-            Shape::Label,
-            b"Label: \xff\nLabel:\n".as_slice(),
-            FormFaultKind::NotUtf8,
-            0,
-        ),
-    ];
-    for (shape, text, what, line) in cases {
-        match Form::read(alloc, text, shape) {
-            Ok(_) => return Err(Fail::from("the text is no form")),
-            Err(fault) => {
-                assert!(rt; fault.what == what);
-                assert_eq!(rt; fault.line, line);
+    for (what, texts) in FAULTS {
+        for &(shape, text, line) in texts {
+            match Form::read(rt.alloc(), text, shape) {
+                Ok(_) => return Err(Fail::from("the text is no form")),
+                Err(fault) => {
+                    assert!(rt; fault.what == what);
+                    assert_eq!(rt; fault.line, line);
+                }
             }
         }
     }
