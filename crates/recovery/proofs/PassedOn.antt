@@ -1,10 +1,9 @@
 -- Faults that are passed on, and those that say nothing.
 use Rattle.std.proofs.Common.{◌≡◌, ℕ, Result, Ok, Err, sym, subst}
 use Rattle.std.specs.Result.{IfErr, IsErrAnd}
-use Rattle.recovery.specs.declared.fault.DepotDisk.TheVariants.{Journal, Archive}
 use Rattle.recovery.specs.declared.fault.OpenFault.{OpenFault}
 use Rattle.recovery.specs.declared.fault.OpenFault.TheVariants.{Unmade, Damaged, DiskFault, Memory}
-use Rattle.recovery.specs.Faults.{SaysNothing, IsOfFile, IfDamaged, IsUnmadeOrSaysNothing}
+use Rattle.recovery.specs.Faults.{SaysNothing, IfDamaged, IsUnmadeOrSaysNothing}
 
 -- what holds of a fault holds where it is passed on
 pub passed_on : {X : Type 0} (r : Result X OpenFault) (fault : OpenFault) (P : OpenFault → Type 0) → IsErrAnd r (λ y. y ≡ fault) → P fault → IfErr r P
