@@ -20,6 +20,10 @@ use std::alloc::Global;
 /// The longest file that is read, in bytes. A mark fits behind it.
 const LONGEST: u64 = 0x7FFF_FFFF_FFFF_FFFA;
 
+/// What was read of the next group: its changes, or nothing at a mark that isn't open; or the place from
+/// which the text can't be read on.
+pub(crate) type GroupRead = Result<Option<Sequence<Change>>, u64>;
+
 /// The groups of a file one after another, behind some bytes. At most one group and one piece of the file are held.
 #[derive(Drop)]
 pub(crate) struct FileGroups {
@@ -138,15 +142,14 @@ impl FileGroups {
         self.damaged(place)
     }
 
-    /// The changes of the next group, or nothing at a mark that isn't open; or the place from which the text
-    /// can't be read on. Then the whole records before it are kept. The place counts the bytes before the
-    /// file's too.
+    /// Reads the next group. Where the text can't be read on, the whole records before that place are kept;
+    /// the place counts the bytes before the file's too.
     pub(crate) fn next<D: Disk>(
         &mut self,
         alloc: Global,
         disk: &mut D,
         piece: &mut [u8],
-    ) -> Result<Result<Option<Sequence<Change>>, u64>, OpenFault>
+    ) -> Result<GroupRead, OpenFault>
         requires room { 0 < length piece.old }
         ensures text { (files : Files) → D.seen disk.old files → KnowsEnd self.old files → IfOk result (λ read. IfOk read (λ found. KnowsEnd self.new files × IsFirst self.old.reader.number (text_left self.old files) (text_left self.new files) found)) }
         ensures come { IfOk result (λ read. IfOk read (HasCome self.old self.new)) }
