@@ -14,7 +14,7 @@ use std::alloc::Global;
 const FILE: u32 = 0;
 
 /// Why a content can't be given.
-#[derive(Clone, Copy, Debug, PartialEq, Eq)]
+#[derive(Clone, Copy, PartialEq, Eq)]
 pub enum ContentFault {
     /// The disk has failed.
     DiskFault,

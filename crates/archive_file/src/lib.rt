@@ -6,6 +6,3 @@ mod digests;
 
 pub use archive::{Archive, ContentFault};
 pub use digests::digest;
-
-#[cfg(test)]
-mod tests;

@@ -32,9 +32,6 @@ use depot_path::Text;
 pub use laws::words_spell_well_formed_commands;
 use std::alloc::Global;
 
-#[cfg(test)]
-mod tests;
-
 /// The command of a form with these options and arguments.
 fn form_command(alloc: Global, form: Form, words: &Invocation) -> Result<Command, WordFault>
     ensures { Answers WordFault.Memory result (spec.form_command form (seen words.now)) }

@@ -3,7 +3,7 @@
 use crate::record::Record;
 
 /// What is done with a row.
-#[derive(Clone, Copy, Debug, PartialEq, Eq)]
+#[derive(Clone, Copy, PartialEq, Eq)]
 pub enum Op {
     /// A row is added. No row has its key.
     Put,
@@ -21,7 +21,7 @@ pub struct Change {
 }
 
 /// Where a content stands in the archive.
-#[derive(Clone, Copy, Debug, PartialEq, Eq)]
+#[derive(Clone, Copy, PartialEq, Eq)]
 pub struct Spot {
     /// The place of its first byte.
     pub at: u64,

@@ -19,6 +19,3 @@ pub use rows::{
     ProtectRecord, ResolveRecord, RevRecord, WorkingRecord,
 };
 pub use table::TableId;
-
-#[cfg(test)]
-mod tests;

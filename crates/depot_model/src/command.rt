@@ -6,7 +6,7 @@ ghost use Rattle.depot_model.specs.About.{about};
 use depot_path::{FileSpec, Name, Pattern, Sequence, Text};
 
 /// A file spec as it was given.
-#[derive(Debug, Drop)]
+#[derive(Drop)]
 pub struct FileArgument {
     /// The text.
     pub text: Text,
@@ -15,7 +15,7 @@ pub struct FileArgument {
 }
 
 /// A pattern as it was given.
-#[derive(Debug, Drop)]
+#[derive(Drop)]
 pub struct PatternArgument {
     /// The text.
     pub text: Text,
@@ -24,7 +24,7 @@ pub struct PatternArgument {
 }
 
 /// Which side a resolve takes.
-#[derive(Clone, Copy, Debug, PartialEq, Eq)]
+#[derive(Clone, Copy, PartialEq, Eq)]
 pub enum Taking {
     /// `-at`
     Theirs,
@@ -33,7 +33,7 @@ pub enum Taking {
 }
 
 /// What `labelsync` does with labelled files that it doesn't take.
-#[derive(Clone, Copy, Debug, PartialEq, Eq)]
+#[derive(Clone, Copy, PartialEq, Eq)]
 pub enum Labelling {
     /// It removes them.
     Exact,
@@ -44,7 +44,7 @@ pub enum Labelling {
 }
 
 /// A command, one variant for each form of words.
-#[derive(Debug, Drop)]
+#[derive(Drop)]
 pub enum Command {
     /// `counter NAME`
     CounterShow {

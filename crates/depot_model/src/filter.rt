@@ -9,7 +9,7 @@ use std::alloc::Global;
 use std::marker::Model;
 
 /// A pattern of a filter.
-#[derive(Debug, Drop)]
+#[derive(Drop)]
 pub struct FilterRule {
     /// Whether it keeps files out.
     pub keeps_out: bool,
@@ -18,7 +18,7 @@ pub struct FilterRule {
 }
 
 /// Which files a replica has, seen in contracts as its rules. The last rule that fits a file decides.
-#[derive(Debug, Drop)]
+#[derive(Drop)]
 pub struct Filter {
     rules: Sequence<FilterRule>,
 }

@@ -27,6 +27,3 @@ pub use order::{Answer, Place};
 pub use refusal::{Limit, Refusal};
 pub use reply::{Field, Reply, Row};
 pub use request::{Asked, Caller, Content, Request, Session, WordFault};
-
-#[cfg(test)]
-mod tests;

@@ -3,7 +3,7 @@
 use depot_path::{Sequence, Text};
 
 /// A command line of a script.
-#[derive(Debug, Drop)]
+#[derive(Drop)]
 pub enum Line {
     /// The words, in order.
     Words(Sequence<Text>),

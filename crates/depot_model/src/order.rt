@@ -3,7 +3,7 @@
 use depot_path::Text;
 
 /// The place of a command in the order.
-#[derive(Clone, Copy, Debug, PartialEq, Eq)]
+#[derive(Clone, Copy, PartialEq, Eq)]
 pub struct Place {
     /// The party, from 1.
     pub party: u32,
@@ -16,7 +16,7 @@ pub struct Place {
 }
 
 /// A place and what was printed to it.
-#[derive(Debug, Drop)]
+#[derive(Drop)]
 pub struct Answer {
     /// The place.
     pub place: Place,

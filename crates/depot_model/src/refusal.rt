@@ -3,7 +3,7 @@
 use depot_path::{DepotPath, Name, PathFault, Text};
 
 /// What has a limit.
-#[derive(Clone, Copy, Debug, PartialEq, Eq)]
+#[derive(Clone, Copy, PartialEq, Eq)]
 pub enum Limit {
     /// 200 lines of a view.
     View,
@@ -28,7 +28,7 @@ pub enum Limit {
 }
 
 /// Why a command or a file is refused, one variant a code.
-#[derive(Debug, Drop)]
+#[derive(Drop)]
 pub enum Refusal {
     /// 1: no command of that word.
     UnknownCommand(Text),

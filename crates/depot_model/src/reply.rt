@@ -3,7 +3,7 @@
 use depot_path::{Sequence, Text};
 
 /// A named value of a row.
-#[derive(Debug, Drop)]
+#[derive(Drop)]
 pub struct Field {
     /// The field's name.
     pub name: Text,
@@ -12,7 +12,7 @@ pub struct Field {
 }
 
 /// A row of a reply: its fields in order, and the content of a file where one is printed.
-#[derive(Debug, Drop)]
+#[derive(Drop)]
 pub struct Row {
     /// The fields.
     pub fields: Sequence<Field>,
@@ -21,7 +21,7 @@ pub struct Row {
 }
 
 /// The answer to a command.
-#[derive(Debug, Drop)]
+#[derive(Drop)]
 pub struct Reply {
     /// Its rows, in order.
     pub rows: Sequence<Row>,

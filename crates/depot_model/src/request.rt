@@ -7,7 +7,7 @@ use depot_path::{DepotPath, Name, PathFault, Sequence, Text};
 use std::alloc::AllocError;
 
 /// Who asks: the names in the head of a session's script.
-#[derive(Debug, Drop)]
+#[derive(Drop)]
 pub struct Caller {
     /// The user.
     pub user: Name,
@@ -31,7 +31,7 @@ impl Caller {
 }
 
 /// What a session says that a file of its client workspace holds.
-#[derive(Debug, Drop)]
+#[derive(Drop)]
 pub struct Content {
     /// The file's path in the workspace.
     pub path: DepotPath,
@@ -40,7 +40,7 @@ pub struct Content {
 }
 
 /// Why the words of a command line are no command.
-#[derive(Debug, Drop)]
+#[derive(Drop)]
 pub enum WordFault {
     /// No command of that word.
     UnknownCommand(Text),
@@ -57,7 +57,7 @@ pub enum WordFault {
 }
 
 /// What a command line asks, with all that it brings.
-#[derive(Debug, Drop)]
+#[derive(Drop)]
 pub struct Asked {
     /// The command, or why the words are none.
     pub command: Result<Command, WordFault>,
@@ -68,7 +68,7 @@ pub struct Asked {
 }
 
 /// A session's commands, in the order of its script.
-#[derive(Debug, Drop)]
+#[derive(Drop)]
 pub struct Session {
     /// Who asks.
     pub caller: Caller,
@@ -77,7 +77,7 @@ pub struct Session {
 }
 
 /// A command with all that its reply depends on beside the depot.
-#[derive(Debug, Drop)]
+#[derive(Drop)]
 pub struct Request {
     /// Who asks.
     pub caller: Caller,

@@ -4,7 +4,7 @@ ghost use Rattle.std.specs.Prelude.{◌≡◌};
 ghost use Rattle.depot_path.specs.Fault.{code_of};
 
 /// Why a text is no path, pattern or file specification.
-#[derive(Clone, Copy, Debug, PartialEq, Eq)]
+#[derive(Clone, Copy, PartialEq, Eq)]
 pub enum PathFault {
     /// It doesn't begin with `//`.
     NoSlashes,

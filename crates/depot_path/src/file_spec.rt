@@ -12,7 +12,7 @@ use crate::revision::{Wanted, read_wanted};
 use std::alloc::Global;
 
 /// Files, and the revisions of them that are asked for.
-#[derive(Clone, Debug, Drop, PartialEq, Eq)]
+#[derive(Clone, Drop, PartialEq, Eq)]
 pub struct FileSpec {
     /// Which files.
     pub pattern: Pattern,

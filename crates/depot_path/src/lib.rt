@@ -33,6 +33,3 @@ pub use revision::{RevSpec, Wanted};
 pub use sequence::Sequence;
 pub use text::Text;
 pub use utf8::{Tail, is_utf8};
-
-#[cfg(test)]
-mod tests;

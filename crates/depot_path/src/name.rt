@@ -20,7 +20,7 @@ use std::hash::{Hash, Hasher};
 use std::marker::Model;
 
 /// Why a text is no name.
-#[derive(Clone, Copy, Debug, PartialEq, Eq)]
+#[derive(Clone, Copy, PartialEq, Eq)]
 pub enum NameFault {
     /// It isn't one.
     NotAName,
@@ -30,7 +30,7 @@ pub enum NameFault {
 
 /// A name of 1 to 128 bytes of UTF-8 without control bytes, spaces and `/@#*%"`, which doesn't begin
 /// with `-` and isn't all digits.
-#[derive(Clone, Debug, Drop)]
+#[derive(Clone, Drop)]
 pub struct Name {
     text: Text,
 }

@@ -19,7 +19,7 @@ use std::marker::Model;
 /// The path of a file in a depot, or in a client workspace where its first component is a client's name.
 ///
 /// It is written with escapes and kept without them, and has two or more components and at most 1,024 bytes as it is written.
-#[derive(Clone, Debug, Drop)]
+#[derive(Clone, Drop)]
 pub struct DepotPath {
     bytes: Text,
 }

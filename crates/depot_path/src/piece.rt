@@ -1,7 +1,7 @@
 //! The pieces of patterns.
 
 /// A byte of a pattern, or a specifier in it.
-#[derive(Clone, Copy, Debug, PartialEq, Eq)]
+#[derive(Clone, Copy, PartialEq, Eq)]
 pub enum Piece {
     /// A byte that stands for itself.
     Byte(u8),

@@ -13,7 +13,7 @@ use crate::name::{Name, is_name};
 use std::alloc::Global;
 
 /// One revision of a file.
-#[derive(Clone, Debug, Drop, PartialEq, Eq)]
+#[derive(Clone, Drop, PartialEq, Eq)]
 pub enum RevSpec {
     /// `#n`: the n-th revision, from 1.
     Number(u32),
@@ -34,7 +34,7 @@ pub enum RevSpec {
 }
 
 /// The revisions that a file specification asks for.
-#[derive(Clone, Debug, Drop, PartialEq, Eq)]
+#[derive(Clone, Drop, PartialEq, Eq)]
 pub enum Wanted {
     /// None is given.
     Head,

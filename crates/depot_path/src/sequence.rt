@@ -7,7 +7,7 @@ use std::alloc::{AllocError, Global};
 use std::marker::Model;
 
 /// A vector that contracts see as a list.
-#[derive(Clone, Debug, Drop)]
+#[derive(Clone, Drop)]
 pub struct Sequence<T> {
     items: Vec<T>,
 }

@@ -14,7 +14,7 @@ use std::hash::{Hash, Hasher};
 use std::marker::Model;
 
 /// Bytes of any kind: a word, a value, a line, a content. Texts are ordered by their bytes.
-#[derive(Clone, Debug, Drop)]
+#[derive(Clone, Drop)]
 pub struct Text {
     bytes: Vec<u8>,
 }

@@ -4,7 +4,7 @@ ghost use Rattle.std.specs.Prelude.{◌≡◌};
 ghost use Rattle.depot_path.specs.Utf8.{is_utf8 as utf8_test, tail_of as tail_after, tail_past};
 
 /// What follows within a character.
-#[derive(Clone, Copy, Debug, PartialEq, Eq)]
+#[derive(Clone, Copy, PartialEq, Eq)]
 pub struct Tail {
     /// How many bytes follow.
     pub more: u8,

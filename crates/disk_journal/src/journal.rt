@@ -22,7 +22,7 @@ const OPEN: u8 = b'e';
 const CLOSED: u8 = b'm';
 
 /// What a failed call may or may not have made count.
-#[derive(Clone, Copy, Debug, Drop, PartialEq, Eq)]
+#[derive(Clone, Copy, Drop, PartialEq, Eq)]
 pub(crate) enum Doubt {
     /// Nothing.
     Nothing,
@@ -33,13 +33,13 @@ pub(crate) enum Doubt {
 }
 
 /// The text of a journal's next group and of the closed mark behind it.
-#[derive(Debug, Drop)]
+#[derive(Drop)]
 pub struct Prepared {
     text: Text,
 }
 
 /// A group that is on the disk: its generation, and its number in it, from 1.
-#[derive(Clone, Copy, Debug, Drop, PartialEq, Eq)]
+#[derive(Clone, Copy, Drop, PartialEq, Eq)]
 pub struct Receipt {
     pub generation: u32,
     pub group: u64,

@@ -6,7 +6,7 @@ ghost use Rattle.journal_groups.specs.declared.fault.GroupFault.TheVariants.{Mem
 use std::alloc::AllocError;
 
 /// Why bytes begin with nothing that is wanted. A place counts bytes from the text's begin.
-#[derive(Clone, Copy, Debug, PartialEq, Eq)]
+#[derive(Clone, Copy, PartialEq, Eq)]
 pub enum GroupFault {
     /// At this place stands the first byte that can't go on.
     BadGroup(u64),

@@ -18,6 +18,3 @@ pub use group::{print_group, read_group};
 pub use laws::{faults_have_their_cause, groups_have_one_text};
 pub use moved::Moved;
 pub use reader::GroupReader;
-
-#[cfg(test)]
-mod tests;

@@ -1,7 +1,7 @@
 //! What a step of a replica did.
 
 /// What a replica took from its master in one step.
-#[derive(Clone, Copy, Debug, PartialEq, Eq)]
+#[derive(Clone, Copy, PartialEq, Eq)]
 pub enum Moved {
     /// There was nothing to take.
     Nothing,

@@ -1,7 +1,7 @@
 //! How a commit ended.
 
 /// How the commit of some changes ended.
-#[derive(Clone, Copy, Debug, Drop, PartialEq, Eq)]
+#[derive(Clone, Copy, Drop, PartialEq, Eq)]
 pub enum Landing {
     /// The group is on the disk.
     Landed,

@@ -6,6 +6,3 @@ mod runs;
 
 pub use landing::Landing;
 pub use runs::{commit_all, commit_changes, commit_settled};
-
-#[cfg(test)]
-mod tests;

@@ -1,7 +1,7 @@
 //! The calls that a disk in memory was asked, as it keeps them.
 
 /// What a call did to the disk.
-#[derive(Debug, Drop)]
+#[derive(Drop)]
 pub(crate) enum Call {
     /// Nothing: a length, a read, or a sync that failed.
     Look,

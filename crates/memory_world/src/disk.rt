@@ -16,7 +16,7 @@ use outside_api::{Disk, Failed};
 use std::alloc::{AllocError, Global};
 
 /// A disk in memory. A call that finds no memory for what it keeps fails as well.
-#[derive(Debug, Drop)]
+#[derive(Drop)]
 pub struct MemoryDisk {
     alloc: Global,
     failing: Failing,

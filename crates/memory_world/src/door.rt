@@ -7,7 +7,7 @@ use crate::stream::{MemorySink, MemorySource};
 use depot_path::Text;
 
 /// The source and the sink of a party's name, neither of which has failed yet.
-#[derive(Debug, Drop)]
+#[derive(Drop)]
 pub struct Door {
     name: Text,
     source: MemorySource,

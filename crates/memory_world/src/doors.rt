@@ -11,7 +11,7 @@ use crate::stream::{MemorySink, MemorySource};
 use outside_api::{Doors, Failed};
 
 /// Doors of parties, each of which opens once.
-#[derive(Debug, Drop)]
+#[derive(Drop)]
 pub struct MemoryDoors {
     doors: Vec<Door>,
     calls: Failing,

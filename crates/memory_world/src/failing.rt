@@ -4,7 +4,7 @@ ghost use Rattle.std.specs.Prelude.{◌≡◌, ◌≤◌, IsTrue, IsFalse};
 ghost use Rattle.outside_api.specs.Count.{HasRisen};
 
 /// The calls of one object: those of the numbers in `fails`, counted from 1, fail.
-#[derive(Debug, Drop)]
+#[derive(Drop)]
 pub(crate) struct Failing {
     fails: Vec<u64>,
     calls: u64,

@@ -10,7 +10,7 @@ use crate::files::{copy_files, cut_file, write_file};
 use std::alloc::{AllocError, Global};
 
 /// A range of a file at whose places a stop may leave any bytes.
-#[derive(Clone, Copy, Debug, Drop)]
+#[derive(Clone, Copy, Drop)]
 pub(crate) struct OpenRange {
     pub file: u32,
     pub at: u64,

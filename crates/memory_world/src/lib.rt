@@ -20,6 +20,3 @@ pub use link::MemoryLink;
 pub use lossy::{Loss, LossyLink};
 pub use stream::{MemorySink, MemorySource};
 pub use timing::{FixedClock, OpenGate};
-
-#[cfg(test)]
-mod tests;

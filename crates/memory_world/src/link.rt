@@ -13,14 +13,14 @@ use depot_path::Text;
 use outside_api::{Failed, Fetched, Link};
 
 /// When so many bytes of the newest generation were committed, and none of a later one.
-#[derive(Clone, Copy, Debug)]
+#[derive(Clone, Copy)]
 pub(crate) struct Moment {
     newest: usize,
     bytes: usize,
 }
 
 /// A link to a journal in memory, whose committed texts stay as they are.
-#[derive(Debug, Drop)]
+#[derive(Drop)]
 pub struct MemoryLink {
     texts: Vec<Text>,
     pub(crate) calls: Failing,

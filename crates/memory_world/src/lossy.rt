@@ -9,7 +9,7 @@ use crate::link::MemoryLink;
 use outside_api::{Failed, Fetched, Link};
 
 /// What befalls one call of a link.
-#[derive(Clone, Copy, Debug, PartialEq, Eq)]
+#[derive(Clone, Copy, PartialEq, Eq)]
 pub enum Loss {
     /// It fails.
     Fail,
@@ -20,7 +20,7 @@ pub enum Loss {
 }
 
 /// A link in memory whose calls meet one loss each, in order. When they are spent it loses nothing.
-#[derive(Debug, Drop)]
+#[derive(Drop)]
 pub struct LossyLink {
     inner: MemoryLink,
     losses: Vec<Loss>,

@@ -10,7 +10,7 @@ use depot_path::Text;
 use outside_api::{Failed, Sink, Source};
 
 /// A source of bytes in memory.
-#[derive(Debug, Drop)]
+#[derive(Drop)]
 pub struct MemorySource {
     bytes: Text,
     at: usize,
@@ -63,7 +63,7 @@ impl Source for MemorySource {
 }
 
 /// A sink that keeps what it is given.
-#[derive(Debug, Drop)]
+#[derive(Drop)]
 pub struct MemorySink {
     given: Text,
     calls: Failing,

@@ -25,6 +25,3 @@ mod view;
 pub use lanes::{Entry, with_lane};
 pub use orders::Orders;
 pub use seats::{LaneSeat, Note, OrderSeat};
-
-#[cfg(test)]
-mod tests;

@@ -3,7 +3,7 @@
 use crate::stream::Failed;
 
 /// The disk has failed: its count has risen in the call that answers this.
-#[derive(Clone, Copy, Debug, PartialEq, Eq)]
+#[derive(Clone, Copy, PartialEq, Eq)]
 pub struct DiskFault;
 
 impl From<Failed> for DiskFault {

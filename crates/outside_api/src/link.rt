@@ -7,7 +7,7 @@ ghost use Rattle.outside_api.specs.Link.{IsEarlier, Answers, Fits};
 use crate::stream::Failed;
 
 /// What was fetched of a journal.
-#[derive(Clone, Copy, Debug, PartialEq, Eq)]
+#[derive(Clone, Copy, PartialEq, Eq)]
 pub enum Fetched {
     /// So many bytes, at least 1, at the front of the buffer.
     Bytes(usize),

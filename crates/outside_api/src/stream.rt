@@ -5,7 +5,7 @@ ghost use Rattle.outside_api.specs.Count.{HasCause};
 ghost use Rattle.outside_api.specs.Told.{prepended, extended, IsAtEnd};
 
 /// The outside has failed: the count of the object that answers this has risen in the call.
-#[derive(Clone, Copy, Debug, PartialEq, Eq)]
+#[derive(Clone, Copy, PartialEq, Eq)]
 pub struct Failed;
 
 /// What bytes come from, as a script of a session.

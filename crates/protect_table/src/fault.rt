@@ -1,7 +1,7 @@
 //! Why lines are no protections table.
 
 /// What is wrong with a line.
-#[derive(Clone, Copy, Debug, PartialEq, Eq)]
+#[derive(Clone, Copy, PartialEq, Eq)]
 pub enum LineFault {
     /// It doesn't begin with a mode.
     BadMode,
@@ -14,7 +14,7 @@ pub enum LineFault {
 }
 
 /// Which line is wrong, and why.
-#[derive(Clone, Copy, Debug, PartialEq, Eq)]
+#[derive(Clone, Copy, PartialEq, Eq)]
 pub struct ProtectFault {
     /// What is wrong.
     pub what: LineFault,

@@ -23,6 +23,3 @@ pub use mode::{Grantee, Mode};
 pub use protects::Protects;
 pub use who::{Level, Who};
 pub use words::line_words;
-
-#[cfg(test)]
-mod tests;

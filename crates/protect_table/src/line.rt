@@ -12,7 +12,7 @@ use depot_path::{PathFault, Pattern, Text};
 use std::alloc::Global;
 
 /// A line of the protections table (Command-Line Reference, "p4 protect").
-#[derive(Debug, Drop)]
+#[derive(Drop)]
 pub struct ProtectLine {
     /// What it grants, or denies where it is an exclusion.
     pub mode: Mode,

@@ -5,7 +5,7 @@ ghost use Rattle.depot_path.specs.Bytes.{same};
 ghost use Rattle.protect_table.specs.Mode.{mode_of, single_mode_of, grantee_of, grants as mode_grants, denies as mode_denies, need_of, is_single};
 
 /// What a line grants, or denies where it is an exclusion (Command-Line Reference, "p4 protect", "Permission levels and access rights").
-#[derive(Clone, Copy, Debug, PartialEq, Eq)]
+#[derive(Clone, Copy, PartialEq, Eq)]
 pub enum Mode {
     /// `list`: need 1.
     List,
@@ -28,7 +28,7 @@ pub enum Mode {
 }
 
 /// Whether a line's name is that of users or of groups.
-#[derive(Clone, Copy, Debug, PartialEq, Eq)]
+#[derive(Clone, Copy, PartialEq, Eq)]
 pub enum Grantee {
     /// `user`.
     User,

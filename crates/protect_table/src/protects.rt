@@ -16,7 +16,7 @@ use std::alloc::Global;
 use std::marker::Model;
 
 /// The protections table, seen in contracts as the list of its lines.
-#[derive(Debug, Drop)]
+#[derive(Drop)]
 pub struct Protects {
     lines: Sequence<ProtectLine>,
 }

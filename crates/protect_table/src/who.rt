@@ -3,7 +3,7 @@
 use depot_path::{Name, Sequence};
 
 /// A caller.
-#[derive(Debug, Drop)]
+#[derive(Drop)]
 pub struct Who {
     /// The user.
     pub user: Name,
@@ -14,5 +14,5 @@ pub struct Who {
 }
 
 /// A need, 1 list, 2 read, 3 open, 4 write, 5 admin or 6 super; or the greatest need that is granted, 0 where none is.
-#[derive(Clone, Copy, Debug, PartialEq, Eq, PartialOrd, Ord)]
+#[derive(Clone, Copy, PartialEq, Eq, PartialOrd, Ord)]
 pub struct Level(pub u8);

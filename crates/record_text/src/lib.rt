@@ -25,6 +25,3 @@ pub use number::number_of;
 pub use printing::{append_record, print_record};
 pub use reading::read_record;
 pub use word::common_front;
-
-#[cfg(test)]
-mod tests;

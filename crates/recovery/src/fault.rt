@@ -8,7 +8,7 @@ use outside_api::{DiskFault, Failed};
 use std::alloc::AllocError;
 
 /// Why no files were made.
-#[derive(Clone, Copy, Debug, PartialEq, Eq)]
+#[derive(Clone, Copy, PartialEq, Eq)]
 pub enum MakeFault {
     /// There are files already: the root isn't empty.
     Made,
@@ -17,7 +17,7 @@ pub enum MakeFault {
 }
 
 /// A disk of a depot.
-#[derive(Clone, Copy, Debug, PartialEq, Eq)]
+#[derive(Clone, Copy, PartialEq, Eq)]
 pub enum DepotDisk {
     /// That of the root, the checkpoints and the journals.
     Journal,
@@ -26,7 +26,7 @@ pub enum DepotDisk {
 }
 
 /// Why files weren't opened.
-#[derive(Clone, Copy, Debug, PartialEq, Eq)]
+#[derive(Clone, Copy, PartialEq, Eq)]
 pub enum OpenFault {
     /// There are no files: the root is empty.
     Unmade,

@@ -8,6 +8,3 @@ mod walk;
 
 pub use range::KeyRange;
 pub use walk::{RangeWalk, rows_in};
-
-#[cfg(test)]
-mod tests;

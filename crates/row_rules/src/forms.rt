@@ -1,6 +1,8 @@
 //! Rows of forms.
 
-ghost use Rattle.std.specs.Prelude.{◌≡◌, ◌≤◌, IfOk, is_ok, true};
+ghost use Rattle.std.specs.Prelude.{◌≡◌, ◌≤◌, IfOk, is_ok, is_some, codes, true};
+ghost use Rattle.db_records.specs.declared.key.Key.TheVariants as keys;
+ghost use Rattle.depot_path.specs.Bytes.{same};
 ghost use Rattle.depot_path.specs.Name.{is_name as name_test};
 ghost use Rattle.view_map.specs.Reading.{view_of};
 ghost use Rattle.depot_model.specs.Rules.{top_in, is_one_of, is_job_name as job_name_test};
@@ -8,10 +10,10 @@ ghost use Rattle.depot_model.specs.Values.{value_of as value_in};
 ghost use Rattle.row_rules.specs.Stored.{stored};
 ghost use Rattle.row_rules.specs.Tests.{form_read, is_client_text as client_text, is_label_text as label_text, is_job_text as job_text, is_fix_text as fix_text, spaced as spaced_words, job_words, fix_words, is_client_form as client_test, is_fix_form as fix_test, is_form as form_test};
 
-use crate::lookups::{has_form, is_there};
+use crate::lookups::{has_change, has_form};
 use crate::numerals::{is_positive, numeral_up_to};
 use crate::shelves::is_shelf;
-use db_records::{DomainRecord, Key};
+use db_records::DomainRecord;
 use depot_path::{Name, Text, are_digits, is_name};
 use spec_form::{Form, FormFaultKind, Shape};
 use std::alloc::{AllocError, Global};
@@ -154,6 +156,22 @@ fn is_fix_word(word: &[u8]) -> bool
     word == b"on".as_slice() || word == b"off".as_slice()
 }
 
+/// Whether a name is these two words with a space between.
+fn is_spaced(alloc: Global, name: &[u8], first: &[u8], second: &[u8]) -> Result<bool, AllocError>
+    ensures { IfOk result (λ is. is ≡ same name.now (spaced_words first.now second.now)) }
+{
+    let text = spaced(alloc, first, second)?;
+    Ok(name == text.as_bytes())
+}
+
+/// Whether there is a job of the name.
+fn has_job(alloc: Global, tables: &Tables, name: &[u8]) -> Result<bool, AllocError>
+    ensures { IfOk result (λ has. has ≡ is_some (stored tables.now (keys.Domain (codes "job") name.now))) }
+{
+    let name = Text::from_bytes(alloc, name)?;
+    has_form(alloc, tables, b"job", &name)
+}
+
 /// Whether a form is one of a fix of the name.
 #[tactic(auto, using(crate::proofs::UpTo::some_is))]
 fn is_fix_form(
@@ -167,18 +185,19 @@ fn is_fix_form(
     requires top { top ≡ top_in (stored tables.now) }
     ensures { IfOk result (λ is. is ≡ fix_test (stored tables.now) name.now form.now) }
 {
-    let job = Text::from_bytes(alloc, value(form, "Job"))?;
-    let named = spaced(alloc, job.as_bytes(), value(form, "Change"))?;
-    let has_job = has_form(alloc, tables, b"job", &job)?;
-    let Some(change) = numeral_up_to(alloc, top, value(form, "Change"))? else {
+    let job = value(form, "Job");
+    let number = value(form, "Change");
+    let is_named = is_spaced(alloc, name, job, number)?;
+    let has_job = has_job(alloc, tables, job)?;
+    let Some(change) = numeral_up_to(alloc, top, number)? else {
         return Ok(false);
     };
     let state = value(form, "State");
     Ok(
-        name == named.as_bytes()
+        is_named
             && has_job
             && is_fix_word(state)
-            && (state != b"on".as_slice() || is_there(tables, &Key::Change { change })),
+            && (state != b"on".as_slice() || has_change(tables, change)),
     )
 }
 

@@ -20,6 +20,3 @@ mod texts;
 
 pub use laws::rows_of_depots_keep_rules;
 pub use rules::keep_rules;
-
-#[cfg(test)]
-mod tests;

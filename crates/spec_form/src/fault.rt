@@ -8,7 +8,7 @@ ghost use Rattle.spec_form.specs.declared.fault.ValueFault.TheVariants as values
 use std::alloc::{AllocError, AllocFailed};
 
 /// What is wrong with a text that is no form, or with one of its lines.
-#[derive(Clone, Copy, Debug, PartialEq, Eq)]
+#[derive(Clone, Copy, PartialEq, Eq)]
 pub enum FormFaultKind {
     /// The line begins no field and goes on with none.
     NoField,
@@ -25,7 +25,7 @@ pub enum FormFaultKind {
 }
 
 /// Why a text is no form: what is wrong, and in which line.
-#[derive(Clone, Copy, Debug, PartialEq, Eq)]
+#[derive(Clone, Copy, PartialEq, Eq)]
 pub struct FormFault {
     /// What is wrong.
     pub what: FormFaultKind,
@@ -59,7 +59,7 @@ impl<T: Drop> From<AllocFailed<T>> for FormFaultKind {
 }
 
 /// Why a form can't have a value in one of its fields.
-#[derive(Clone, Copy, Debug, PartialEq, Eq)]
+#[derive(Clone, Copy, PartialEq, Eq)]
 pub enum ValueFault {
     /// The form has no single field of this name.
     NoSingleField,

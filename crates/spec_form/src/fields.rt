@@ -15,7 +15,7 @@ use std::alloc::{AllocError, Global};
 use std::marker::Model;
 
 /// The fields of a form, in the order in which they were first seen. No two have one name.
-#[derive(Debug, Drop)]
+#[derive(Drop)]
 pub struct Fields {
     by_name: IndexMap<Vec<u8>, Sequence<Text>>,
 }

@@ -17,7 +17,7 @@ use std::alloc::{AllocError, Global};
 use std::marker::Model;
 
 /// A field of a form, as it is read and as contracts see it.
-#[derive(Debug, Drop)]
+#[derive(Drop)]
 pub struct Field {
     /// Its name.
     pub name: Text,
@@ -28,7 +28,7 @@ pub struct Field {
 /// A form of some shape, with its fields in the order in which they were first seen (Helix Core
 /// Command-Line Reference, on specs and their forms). Each form that there is prints to a text
 /// that reads to the same form.
-#[derive(Debug, Drop)]
+#[derive(Drop)]
 pub struct Form {
     shape: Shape,
     fields: Fields,

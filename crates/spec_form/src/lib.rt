@@ -10,8 +10,6 @@ mod place;
 mod print;
 mod reader;
 mod shape;
-#[cfg(test)]
-mod tests;
 
 pub use fault::{FormFault, FormFaultKind, ValueFault};
 pub use fields::Fields;

@@ -4,7 +4,7 @@ ghost use Rattle.std.specs.Prelude.{◌≡◌};
 ghost use Rattle.spec_form.specs.Shapes.{fields_of, kind_in, kind_of, seen_rows};
 
 /// What a form is of.
-#[derive(Clone, Copy, Debug, PartialEq, Eq)]
+#[derive(Clone, Copy, PartialEq, Eq)]
 pub enum Shape {
     /// A client (`p4 client`).
     Client,
@@ -25,7 +25,7 @@ pub enum Shape {
 }
 
 /// How many lines a field has.
-#[derive(Clone, Copy, Debug, PartialEq, Eq)]
+#[derive(Clone, Copy, PartialEq, Eq)]
 pub enum FieldKind {
     /// At most one, behind its name.
     Single,

@@ -9,6 +9,3 @@ mod draft;
 
 pub use changing::{change_tables, no_changes_change_nothing};
 pub use draft::TablesDraft;
-
-#[cfg(test)]
-mod tests;

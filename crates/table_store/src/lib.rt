@@ -19,6 +19,3 @@ pub use draft::Draft;
 pub use tables::Tables;
 pub use version::Version;
 pub use walk::Walk;
-
-#[cfg(test)]
-mod tests;

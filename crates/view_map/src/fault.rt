@@ -1,7 +1,7 @@
 //! Why lines are no view.
 
 /// What is wrong with a view.
-#[derive(Clone, Copy, Debug, PartialEq, Eq)]
+#[derive(Clone, Copy, PartialEq, Eq)]
 pub enum ViewCause {
     /// The line isn't an optional sign and two patterns with spaces between.
     BadLine,
@@ -16,7 +16,7 @@ pub enum ViewCause {
 }
 
 /// What is wrong with a view, and in which line.
-#[derive(Clone, Copy, Debug, PartialEq, Eq)]
+#[derive(Clone, Copy, PartialEq, Eq)]
 pub struct ViewFault {
     /// What is wrong.
     pub what: ViewCause,

@@ -21,6 +21,3 @@ pub use line::{Sign, ViewLine};
 pub use mapped::Mapped;
 pub use specifiers::{Label, answering, same_specifiers};
 pub use view::View;
-
-#[cfg(test)]
-mod tests;

@@ -14,7 +14,7 @@ use depot_path::{Name, PathFault, Pattern, Piece, Text};
 use std::alloc::{AllocError, Global};
 
 /// What a line of a view does, by the sign before it (Command-Line Reference, "Views").
-#[derive(Clone, Copy, Debug, PartialEq, Eq)]
+#[derive(Clone, Copy, PartialEq, Eq)]
 pub enum Sign {
     /// No sign: it maps files, and no earlier line puts a file where this one may.
     Plain,
@@ -25,7 +25,7 @@ pub enum Sign {
 }
 
 /// A line of a view.
-#[derive(Debug, Drop)]
+#[derive(Drop)]
 pub struct ViewLine {
     /// What it does.
     pub sign: Sign,

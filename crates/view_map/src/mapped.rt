@@ -3,7 +3,7 @@
 use depot_path::{ClientPath, DepotPath, Sequence};
 
 /// Where a view puts a file.
-#[derive(Debug, Drop)]
+#[derive(Drop)]
 pub enum Mapped {
     /// Nowhere: the file has no client path.
     Nothing,

@@ -8,7 +8,7 @@ use depot_path::{Pattern, Piece, Sequence, Text};
 use std::alloc::{AllocError, Global};
 
 /// A specifier of a pattern, by what answers it in another.
-#[derive(Clone, Copy, Debug, PartialEq, Eq)]
+#[derive(Clone, Copy, PartialEq, Eq)]
 pub enum Label {
     /// The `*` before which so many others stand.
     Star(usize),

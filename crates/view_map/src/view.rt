@@ -22,7 +22,7 @@ use std::marker::Model;
 const LINES: usize = 200;
 
 /// A client's view, seen in contracts as the list of its lines. Both sides of each line have the same specifiers.
-#[derive(Debug, Drop)]
+#[derive(Drop)]
 pub struct View {
     lines: Sequence<ViewLine>,
 }

@@ -1,9 +1,9 @@
-use Rattle.std.proofs.Common.{[], ◌<◌, get_or, sym, ◌≡◌, ◌-◌, ◌≤◌, ◌∙◌, ◌++◌, length, take, drop, min, ap, subst, arith, length-take}
+use Rattle.std.proofs.Common.{[], ◌<◌, get_or, refl, sym, ◌≡◌, ◌-◌, ◌≤◌, ◌∙◌, ◌++◌, length, take, drop, min, ap, subst, arith, length-take}
 use Rattle.disk_journal.specs.Text.{blocks}
-use Rattle.outside_api.specs.declared.link.Fetched.TheVariants.{Bytes}
+use Rattle.outside_api.specs.declared.link.Fetched.TheVariants.{Bytes, End}
 use Rattle.disk_journal.specs.Older.{IsClosed}
 use Rattle.disk_journal.proofs.Fetched.{text_read}
-use Rattle.disk_journal.proofs.Linked.{answers_older, answers_newest}
+use Rattle.disk_journal.proofs.Linked.{answers_older, answers_newest, answers_later}
 use Rattle.disk_journal.proofs.Standing.{image_text}
 use Rattle.disk_journal.proofs.journal.Journal.fetch.Goals as goal
 
@@ -34,3 +34,32 @@ pub returns-clause-as_link : goal.returns-clause-as_link
 returns-clause-as_link g c = λ was doubt before files stands read count are.
     let same : c.args.generation ≡ was.generation = omega (arith, c.if-generation-self.false, c.if-generation-self-2.false, stands.generation) in
     answers_newest before was c.args.generation c.args.at (length c.args.buffer.now) (Bytes c.in_ok-count.count) _ (omega (arith, same, count)) (returns-clause-text g c was doubt files stands read same)
+
+pub returns-then-generation-self-clause-text : goal.returns-then-generation-self-clause-text
+returns-then-generation-self-clause-text g c = λ was doubt files stands read same.
+    absurd (omega (arith, c.if-generation-self.true, stands.generation, same))
+
+pub returns-then-generation-self-clause-older : goal.returns-then-generation-self-clause-older
+returns-then-generation-self-clause-older g c = λ groups files below read is. absurd (omega (arith, c.if-generation-self.true, below))
+
+pub returns-then-generation-self-clause-as_link : goal.returns-then-generation-self-clause-as_link
+returns-then-generation-self-clause-as_link g c = λ was doubt before files stands read count are.
+    answers_later before was c.args.generation c.args.at c.args.buffer.now (omega (arith, c.if-generation-self.true, stands.generation, count))
+
+pub returns-then-generation-self-2-clause-text : goal.returns-then-generation-self-2-clause-text
+returns-then-generation-self-2-clause-text g c = λ was doubt files stands read same.
+    absurd (omega (arith, c.if-generation-self-2.true, stands.generation, same))
+
+pub returns-then-at-self-clause-text : goal.returns-then-at-self-clause-text
+returns-then-at-self-clause-text g c = λ was doubt files stands read same. (omega (arith, c.if-at-self.true, stands.length), refl)
+
+pub returns-then-at-self-clause-older : goal.returns-then-at-self-clause-older
+returns-then-at-self-clause-older g c = λ groups files below read is. absurd (omega (arith, c.if-generation-self-2.false, below))
+
+pub returns-then-at-self-clause-as_link : goal.returns-then-at-self-clause-as_link
+returns-then-at-self-clause-as_link g c = λ was doubt before files stands read count are.
+    let same : c.args.generation ≡ was.generation = omega (arith, c.if-generation-self.false, c.if-generation-self-2.false, stands.generation) in
+    answers_newest before was c.args.generation c.args.at (length c.args.buffer.now) End c.args.buffer.now (omega (arith, same, count)) (omega (arith, c.if-at-self.true, stands.length), refl)
+
+pub returns-clause-older : goal.returns-clause-older
+returns-clause-older g c = λ groups files below read is. absurd (omega (arith, c.if-generation-self-2.false, below))
