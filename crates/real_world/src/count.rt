@@ -4,7 +4,7 @@ ghost use Rattle.std.specs.Prelude.{◌≤◌};
 ghost use Rattle.outside_api.specs.Count.{HasRisen};
 
 /// A count of faults. At its end it stays.
-#[derive(Debug, Drop)]
+#[derive(Drop)]
 pub(crate) struct Faults {
     pub count: u64,
 }

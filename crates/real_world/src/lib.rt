@@ -8,10 +8,9 @@ mod clock;
 mod count;
 mod disk;
 mod doors;
+mod handles;
 mod paths;
 mod stream;
-#[cfg(test)]
-mod tests;
 
 pub use clock::SystemClock;
 pub use disk::FolderDisk;

@@ -4,7 +4,7 @@ use itoa::Buffer;
 use std::alloc::{AllocError, Global};
 
 /// The path of a folder, with room for that of a file in it, so that a file is named without taking memory.
-#[derive(Debug, Drop)]
+#[derive(Drop)]
 pub(crate) struct Paths {
     folder: String,
     room: String,
