@@ -38,10 +38,10 @@ or_right : (a b : Bool) → b ≡ true → (a || b) ≡ true
 or_right true b e = refl
 or_right false b e = e
 
-same_text : (a b : List ℕ) → same a b ≡ true → a ≡ b
+pub same_text : (a b : List ℕ) → same a b ≡ true → a ≡ b
 same_text a b e = (bytes_eq-Decides a b).0 e
 
-same_self : (a : List ℕ) → same a a ≡ true
+pub same_self : (a : List ℕ) → same a a ≡ true
 same_self a = (bytes_eq-Decides a a).1 refl
 
 -- ---- some of the rows
@@ -59,7 +59,7 @@ module _ (test : Record → Bool) where
   chosen_rise r kept true e h = (e, h)
   chosen_rise r kept false e h = h
 
-  kept_rise : (rows : List Record) → IsRising rows → IsRising (filter test rows)
+  pub kept_rise : (rows : List Record) → IsRising rows → IsRising (filter test rows)
   kept_rise [] up = tt
   kept_rise (r ∷ rows) up = chosen_rise r (filter test rows) (test r) (above_kept (key_of r) rows up.0) (kept_rise rows up.1)
 
@@ -67,12 +67,12 @@ module _ (test : Record → Bool) where
   chosen_of t r kept true e h = (e, h)
   chosen_of t r kept false e h = h
 
-  kept_of : (t : TableId) (rows : List Record) → AllOfTable t rows → AllOfTable t (filter test rows)
+  pub kept_of : (t : TableId) (rows : List Record) → AllOfTable t rows → AllOfTable t (filter test rows)
   kept_of t [] of = tt
   kept_of t (r ∷ rows) of = chosen_of t r (filter test rows) (test r) of.0 (kept_of t rows of.1)
 
   -- the row that has a key, where it passes
-  abbrev pass : Bool → Record → Option Record
+  abbrev pub pass : Bool → Record → Option Record
   pass b r = if b then Some r else None
 
   chosen_at : (key : Key) (r : Record) (rows : List Record) (b : Bool) (o : Ordering) → test r ≡ b → key_cmp (key_of r) key ≡ o → IsRising (r ∷ rows)
@@ -90,7 +90,7 @@ module _ (test : Record → Bool) where
   chosen_at key r rows false Less e k up more = more ∙ sym (ap (λ found. option_and_then (λ x. pass (test x) x) found) (behind key r rows Less k refl))
   chosen_at key r rows false Greater e k up more = more ∙ sym (ap (λ found. option_and_then (λ x. pass (test x) x) found) (behind key r rows Greater k refl))
 
-  kept_at : (key : Key) (rows : List Record) → IsRising rows → row_at key (filter test rows) ≡ option_and_then (λ x. pass (test x) x) (row_at key rows)
+  pub kept_at : (key : Key) (rows : List Record) → IsRising rows → row_at key (filter test rows) ≡ option_and_then (λ x. pass (test x) x) (row_at key rows)
   kept_at key [] up = refl
   kept_at key (r ∷ rows) up = chosen_at key r rows (test r) (key_cmp (key_of r) key) refl refl up (kept_at key rows up.1)
 
@@ -377,7 +377,7 @@ module _ (user : List ℕ) where
       at_key (keys.Domain a b) k = absurd cc
       at_key (keys.Have a b) k = absurd cc
       at_key (keys.Label a b) k = absurd cc
-      at_key (keys.Integed a b x y u v) k = absurd cc
+      at_key (keys.Integed a b x y u v how change) k = absurd cc
       at_key (keys.Resolve a b x) k = absurd cc
       at_key (keys.Working a b) k = absurd cc
       at_key (keys.Change n) k = absurd cc
@@ -408,7 +408,7 @@ module _ (user : List ℕ) (d e : List Deed) (left : IsSound d) (right : IsSound
   alike_key (keys.Domain a b) k = absurd cc
   alike_key (keys.Have a b) k = absurd cc
   alike_key (keys.Label a b) k = absurd cc
-  alike_key (keys.Integed a b x y u v) k = absurd cc
+  alike_key (keys.Integed a b x y u v how change) k = absurd cc
   alike_key (keys.Resolve a b x) k = absurd cc
   alike_key (keys.Working a b) k = absurd cc
   alike_key (keys.Change n) k = absurd cc

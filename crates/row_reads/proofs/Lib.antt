@@ -1,7 +1,11 @@
 pub mod Alike
+pub mod CountersRead
+pub mod FormsRead
 pub mod FoundRows
 pub mod GroupsListed
 pub mod LinesRead
+pub mod Named
 pub mod Rights
+pub mod UsersRead
 pub mod ViewsRead
 pub mod Whole

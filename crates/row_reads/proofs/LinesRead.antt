@@ -1,6 +1,7 @@
 -- The rows of the protections spell the lines of the depot.
 use Rattle.std.proofs.Common.{◌≡◌, ℕ, zero, suc, ◌+◌, ◌<◌, Bool, true, false, IsTrue, List, [], ◌∷◌, length, Option, Some, None, Result, Ok, Err, refl, sym, ap, ◌∙◌, subst, arith}
-use Rattle.std.specs.Prelude.{IfSome, is_ok, slice_get, option_and_then, nat_lt, if◌then◌else◌}
+use Rattle.std.specs.Prelude.{IfSome, is_ok, map, slice_get, option_and_then, nat_lt, if◌then◌else◌}
+use Rattle.std.specs.List.{join_with_byte}
 use Rattle.std.specs.Cmp.{nat_cmp_is}
 use Rattle.std.specs.declared.cmp.Ordering.TheVariants.{Less, Equal, Greater}
 use Rattle.std.proofs.lemmas.Option.{slice_get_within}
@@ -27,6 +28,7 @@ use Rattle.depot_model.specs.Deeds.{Deed}
 use Rattle.depot_model.specs.Latest.{guard_lines}
 use Rattle.depot_model.specs.Records.{record_of, protect_record}
 use Rattle.depot_model.specs.Rules.{Rows, IsRow, IsSound, line_text}
+use Rattle.depot_model.specs.Steps.Protections.{kept_line}
 use Rattle.row_reads.specs.Lines.{texts_in}
 use Rattle.depot_rows.specs.Standing.{unplaced_at}
 use Rattle.row_reads.proofs.Alike.{rows_alike, above_all, here, behind, unplaced_row}
@@ -165,6 +167,27 @@ read_alike m n (line ∷ lines) all =
     ap (λ words. joined words (lines_from (m + 1) (texts_in (rows_from_lines (suc n) lines all.1)))) all.0.again
     ∙ ap (joined (words_of line)) (read_alike (m + 1) (suc n) lines all.1)
 
+-- ---- they have the words that are kept
+
+words_kept : (n : ℕ) (words : List (List ℕ)) (row : ProtectRecord) → protect_record n words ≡ Some (Protect row) → line_text row ≡ join_with_byte 0x20 words
+words_kept n [] row e = absurd cc
+words_kept n (a ∷ []) row e = absurd cc
+words_kept n (a ∷ b ∷ []) row e = absurd cc
+words_kept n (a ∷ b ∷ c ∷ []) row e = absurd cc
+words_kept n (a ∷ b ∷ c ∷ d ∷ []) row e = absurd cc
+words_kept n (a ∷ b ∷ c ∷ d ∷ w ∷ v ∷ more) row e = absurd cc
+words_kept n (a ∷ b ∷ c ∷ d ∷ w ∷ []) row e =
+    let is : Protect (record { line = n; mode = a; kind = b; name = c; host = d; path = w }) ≡ Protect row = cc in
+    let same : record { line = n; mode = a; kind = b; name = c; host = d; path = w } ≡ row = cc in
+    ap line_text (sym same)
+
+kept_alike : (n : ℕ) (lines : List (List ℕ)) (all : AllSpelled n lines) → texts_in (rows_from_lines n lines all) ≡ map kept_line lines
+kept_alike n [] all = refl
+kept_alike n (line ∷ lines) all =
+    let first = words_kept n (words_of line) all.0.row all.0.is in
+    let rest = kept_alike (suc n) lines all.1 in
+    λ i. first i ∷ rest i
+
 module _ (d : List Deed) (sound : IsSound d) where
   line_kept : (i : ℕ) (line : List ℕ) → slice_get (guard_lines d) i ≡ Some line → IfSome (protect_record (suc i) (words_of line)) (IsRow (record_of d))
   line_kept i line e =
@@ -187,7 +210,7 @@ module _ (d : List Deed) (sound : IsSound d) where
   own_at (keys.Domain a b) of = absurd cc
   own_at (keys.Have a b) of = absurd cc
   own_at (keys.Label a b) of = absurd cc
-  own_at (keys.Integed a b x y u v) of = absurd cc
+  own_at (keys.Integed a b x y u v how change) of = absurd cc
   own_at (keys.Resolve a b x) of = absurd cc
   own_at (keys.Working a b) of = absurd cc
   own_at (keys.Change n) of = absurd cc
@@ -205,6 +228,12 @@ module _ (d : List Deed) (sound : IsSound d) where
       let alike = rows_alike tables.Protect rows own_rows up own_rise of own_lines (λ key k. has key k ∙ sym (own_at key k)) in
       ap (λ rs. read_lines (texts_in rs)) alike ∙ ap lines_or_none (read_alike 1 1 (guard_lines d) all)
 
+  pub rows_kept : (rows : List Record) → IsRising rows → AllOfTable tables.Protect rows
+      → ((key : Key) → key_table key ≡ tables.Protect → row_at key rows ≡ record_of d key) → texts_in rows ≡ map kept_line (guard_lines d)
+  rows_kept rows up of has =
+      let alike = rows_alike tables.Protect rows own_rows up own_rise of own_lines (λ key k. has key k ∙ sym (own_at key k)) in
+      ap (λ rs. texts_in rs) alike ∙ kept_alike 1 (guard_lines d) all
+
 -- depots with the same rows have the same protections
 pub same_protects : (d e : List Deed) → IsSound d → IsSound e → ((key : Key) → record_of d key ≡ record_of e key) → protects d ≡ protects e
 same_protects d e left right same_rows =
@@ -220,3 +249,12 @@ lines_spelled version rows are is of up d sound has =
     let Q : List Record → Type 0 = λ rs. AllOfTable version.table rs in
     let ours : AllOfTable tables.Protect rows = subst P is (subst Q are of) in
     rows_read d sound rows (subst IsRising are up) ours (λ key k. sym (unplaced_row tables.Protect (λ e. cc) rows ours key) ∙ has key k)
+
+pub lines_kept : (version : TableRows) (rows : List Record) → version.rows ≡ rows → version.table ≡ tables.Protect → AllOfTable version.table version.rows
+    → IsRising version.rows → (d : List Deed) → IsSound d → ((key : Key) → key_table key ≡ tables.Protect → unplaced_at rows key ≡ record_of d key)
+    → texts_in rows ≡ map kept_line (guard_lines d)
+lines_kept version rows are is of up d sound has =
+    let P : TableId → Type 0 = λ t. AllOfTable t rows in
+    let Q : List Record → Type 0 = λ rs. AllOfTable version.table rs in
+    let ours : AllOfTable tables.Protect rows = subst P is (subst Q are of) in
+    rows_kept d sound rows (subst IsRising are up) ours (λ key k. sym (unplaced_row tables.Protect (λ e. cc) rows ours key) ∙ has key k)

@@ -16,3 +16,11 @@ group_in user _ = []
 
 abbrev pub groups_in : List ℕ → List Record → List (List ℕ)
 groups_in user rows = flat_map (group_in user) rows
+
+-- the users in rows of groups
+abbrev pub user_in : Record → List (List ℕ)
+user_in (Group r) = r.user ∷ []
+user_in _ = []
+
+abbrev pub users_in : List Record → List (List ℕ)
+users_in rows = flat_map user_in rows

@@ -1,3 +1,5 @@
+pub mod Counters
+pub mod Forms
 pub mod Found
 pub mod Groups
 pub mod Lines

@@ -5,16 +5,23 @@
 #![tactic(auto)]
 
 mod callers;
+mod counters;
 mod files;
+mod forms;
+mod groups;
 mod laws;
 mod protections;
+mod saved;
+mod syntax;
 mod views;
 
 pub use callers::who_of;
+pub use counters::counters_of;
 pub use files::{have_of, label_of, opened_of};
+pub use forms::{form_names, form_value, is_locked_form, is_locked_label, saved_form};
+pub use groups::users_of;
 pub use laws::depots_with_the_same_rows_give_the_same_rights;
-pub use protections::protects_of;
+pub use protections::{protection_lines, protects_of};
+pub use saved::{is_client, is_label};
+pub use syntax::in_client_syntax;
 pub use views::view_of;
-
-#[cfg(test)]
-mod tests;

@@ -1,11 +1,13 @@
 //! The protections.
 
-ghost use Rattle.std.specs.Prelude.{◌≡◌, ◌++◌, List, [], IfOk, OnOk};
+ghost use Rattle.std.specs.Prelude.{◌≡◌, ◌++◌, List, [], map, IfOk, OnOk};
 ghost use Rattle.db_records.specs.declared.table.TableId.TheVariants as table_ids;
 ghost use Rattle.table_changes.specs.Changed.{rows_of};
 ghost use Rattle.depot_model.specs.Asking.{read_lines, protects as protects_in};
 ghost use Rattle.depot_model.specs.Deeds.{Deed};
+ghost use Rattle.depot_model.specs.Latest.{guard_lines};
 ghost use Rattle.depot_model.specs.Rules.{IsSound};
+ghost use Rattle.depot_model.specs.Steps.Protections.{kept_line};
 ghost use Rattle.depot_rows.specs.Standing.{HasRows};
 ghost use Rattle.row_reads.specs.Lines.{text_in, texts_in};
 
@@ -78,4 +80,22 @@ pub fn protects_of(alloc: Global, tables: &Tables) -> Result<Protects, AllocErro
     rows_spell_lines(tables);
     let texts = line_texts(alloc, tables)?;
     read(alloc, texts.as_slice())
+}
+
+/// The rows of a sound depot have the words of its lines.
+fn rows_keep_lines(tables: &Tables)
+    ensures { (d : List Deed) → IsSound d → HasRows (rows_of tables.now) d table_ids.Protect → texts_in (rows_of tables.now table_ids.Protect) ≡ map kept_line (guard_lines d) }
+{
+    let version = tables.version(TableId::Protect);
+    let _table = version.table();
+}
+
+/// The lines of the protections, each with one space between its words (Command-Line Reference, "p4 protect"), from the table of
+/// protections alone.
+pub fn protection_lines(alloc: Global, tables: &Tables) -> Result<Sequence<Text>, AllocError>
+    ensures { IfOk result (λ lines. (d : List Deed) → IsSound d → HasRows (rows_of tables.now) d table_ids.Protect → lines ≡ map kept_line (guard_lines d)) }
+{
+    rows_keep_lines(tables);
+    let lines = line_texts(alloc, tables)?;
+    Ok(lines)
 }

@@ -1,8 +1,7 @@
 //! Views of clients.
 
-ghost use Rattle.std.specs.Prelude.{◌≡◌, List, [], codes, IfOk, Some, None, if◌then◌else◌};
+ghost use Rattle.std.specs.Prelude.{◌≡◌, List, [], IfOk, Some, None, if◌then◌else◌};
 ghost use Rattle.std.specs.Option.{option_copied};
-ghost use Rattle.db_records.specs.declared.key.Key.TheVariants as keys;
 ghost use Rattle.db_records.specs.declared.table.TableId.TheVariants as table_ids;
 ghost use Rattle.table_changes.specs.Changed.{rows_of};
 ghost use Rattle.depot_model.specs.Asking.{view, is_client};
@@ -11,8 +10,9 @@ ghost use Rattle.depot_model.specs.Rules.{IsSound};
 ghost use Rattle.depot_rows.specs.Standing.{HasRows};
 ghost use Rattle.row_reads.specs.Views.{view_in_form as view_of_form, view_in as view_of_text, view_in_row as view_of_row};
 
-use db_records::{Key, Record, TableId};
-use depot_path::{Name, Text};
+use crate::saved::form_key;
+use db_records::{Record, TableId};
+use depot_path::Name;
 use spec_form::{Form, FormFaultKind, Shape};
 use std::alloc::{AllocError, Global};
 use table_store::Tables;
@@ -74,21 +74,12 @@ fn view_in_row(
     }
 }
 
-/// The key of a client's form.
-fn client_key(alloc: Global, client: &Name) -> Result<Key, AllocError>
-    ensures { IfOk result (λ key. key ≡ keys.Domain (codes "client") client.now) }
-{
-    let kind = Text::from_bytes(alloc, b"client")?;
-    let name = Text::from_bytes(alloc, client.as_bytes())?;
-    Ok(Key::Domain { kind, name })
-}
-
 /// The view of a client, None exactly where it isn't saved (Command-Line Reference, "p4 client"), from the table of forms alone.
 pub fn view_of(alloc: Global, tables: &Tables, client: &Name) -> Result<Option<View>, AllocError>
     ensures { IfOk result (λ found. (d : List Deed) → IsSound d → HasRows (rows_of tables.now) d table_ids.Domain →
         found ≡ (if is_client d client.now then Some (view d client.now) else None)) }
 {
-    let key = client_key(alloc, client)?;
+    let key = form_key(alloc, b"client", client.as_bytes())?;
     let version = tables.version(TableId::Domain);
     let row = version.get(&key);
     let view = view_in_row(alloc, client, row)?;

@@ -11,5 +11,6 @@ returns c = λ d sound has.
     let version = c.version-version in
     c.in_ok-view.ensures
     ∙ view_read d c.args.client.now _ sound
-    (at_key tables.Domain d _ c.in_ok-key.key (keys.Domain (codes "client") c.args.client.now) version.result.now _ has refl c.in_ok-key.ensures
+    (at_key tables.Domain d _ c.in_ok-key.key (keys.Domain (codes "client") c.args.client.now) version.result.now _ has refl
+    (c.in_ok-key.ensures ∙ ap (λ name. keys.Domain (codes "client") name) c.as_bytes.ensures.value)
     (ap (λ v. v.rows) version.ensures.rows) c.get-row.ensures)

@@ -1,0 +1,2 @@
+pub mod NamesRise
+pub mod Told

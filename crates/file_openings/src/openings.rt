@@ -1,0 +1,36 @@
+//! The openings of a file.
+
+ghost use Rattle.std.specs.Prelude.{◌≡◌, ℕ, List, IfOk, Ok, filter, map};
+ghost use Rattle.depot_path.specs.Path.{path_of, printed};
+ghost use Rattle.db_records.specs.declared.table.TableId.TheVariants as table_ids;
+ghost use Rattle.row_ranges.specs.Ranges.{has_row};
+ghost use Rattle.table_changes.specs.Changed.{rows_of};
+ghost use Rattle.depot_model.specs.Deeds.{Deed};
+ghost use Rattle.depot_model.specs.Records.{working_record};
+ghost use Rattle.depot_rows.specs.Standing.{HasRows};
+ghost use Rattle.file_openings.specs.Openings.{openings};
+
+use db_records::TableId;
+use depot_path::DepotPath;
+use row_ranges::KeyRange;
+use std::alloc::{AllocError, Global};
+use table_store::Tables;
+
+/// The range of the rows of a file's openings. The one error is want of memory.
+pub fn openings_of(alloc: Global, path: &DepotPath) -> Result<KeyRange, AllocError>
+    ensures range { IfOk result (λ range. range ≡ KeyRange.OpenedFiles (printed path.now)) }
+    ensures read_again { path_of (printed path.now) ≡ Ok path.now }
+{
+    let path = path.print(alloc)?;
+    Ok(KeyRange::OpenedFiles { path })
+}
+
+/// The rows in that range are those of the openings that a depot has of the file, in the order of the clients' names (Command-Line Reference, "p4
+/// opened", option -a), from the table of opened files alone.
+pub fn rows_are_openings(tables: &Tables)
+    ensures { (d : List Deed) (path : List ℕ) → path_of (printed path) ≡ Ok path → HasRows (rows_of tables.now) d table_ids.Working →
+        filter (has_row (KeyRange.OpenedFiles (printed path))) (rows_of tables.now table_ids.Working) ≡ map (working_record d) (openings d path) }
+{
+    let version = tables.version(TableId::Working);
+    let _table = version.table();
+}

@@ -1,0 +1,15 @@
+use Rattle.std.proofs.Common.{◌≡◌, List, [], take, drop}
+use Rattle.std.specs.Prelude.{filter, flat_map}
+use Rattle.table_changes.specs.Changed.{rows_of}
+use Rattle.depot_model.specs.Arguments.{over}
+use Rattle.depot_model.specs.Deeds.{Deed}
+use Rattle.depot_model.specs.Step.{Step as ModelStep, both, tells}
+use Rattle.file_steps.specs.Goes.{Goes}
+use Rattle.file_steps.proofs.loops.over.Given as goal
+
+abbrev pub invariant-loop-i : goal.invariant-loop-i
+invariant-loop-i g l = (d : List Deed) → g.S.FileSet.reads l.set (rows_of l.tables) d → g.A.FileAct.reads l.act (rows_of l.tables) d
+    → (m : ModelStep) × Goes (g.A.FileAct.is_later l.act d) (rows_of l.tables) d d m l.step
+    × (both m (over (λ a. filter (g.S.FileSet.names l.set d a) (g.S.FileSet.files l.set d)) (λ a. tells (g.S.FileSet.rows_without l.set a)) (g.A.FileAct.acts l.act d)
+    (flat_map (λ a. filter (g.S.FileSet.names l.set d a) (g.S.FileSet.files l.set d)) (take l.i l.arguments)) (drop l.i l.arguments))
+    ≡ over (λ a. filter (g.S.FileSet.names l.set d a) (g.S.FileSet.files l.set d)) (λ a. tells (g.S.FileSet.rows_without l.set a)) (g.A.FileAct.acts l.act d) [] l.arguments)

@@ -1,0 +1,10 @@
+pub mod Rising
+pub mod Walking
+pub mod Fronts
+pub mod RowsListed
+pub mod Told
+pub mod Sifting
+pub mod Starts
+pub mod Naming
+pub mod Selection
+pub mod OpenedFiles

@@ -1,0 +1,62 @@
+-- What the asker says of a file is what the model says of it.
+use Rattle.std.proofs.Common.{◌≡◌, ℕ, Bool, true, false, List, Option, Some, None, refl, ◌∙◌}
+use Rattle.std.specs.Prelude.{◌&&◌, if◌then◌else◌}
+use Rattle.std.specs.List.{list_any}
+use Rattle.std.proofs.lemmas.Bool.{false≢true}
+use Rattle.depot_path.specs.Fit.{fits}
+use Rattle.depot_path.specs.declared.file_spec.FileSpec.{FileSpec}
+use Rattle.view_map.specs.Mapping.{path_in, at_path, after_deciding}
+use Rattle.view_map.specs.declared.line.ViewLine.{ViewLine}
+use Rattle.view_map.specs.declared.mapped.Mapped.{Mapped}
+use Rattle.view_map.specs.declared.mapped.Mapped.TheVariants.{Nothing, At as MappedAt}
+use Rattle.protect_table.specs.Rights.{may}
+use Rattle.depot_model.specs.declared.request.Caller.{Caller}
+use Rattle.depot_model.specs.Arguments.{fits_at, in_client_syntax, names}
+use Rattle.depot_model.specs.Asking.{may_list, view}
+use Rattle.depot_model.specs.Choice.{chosen, is_live_choice, shown}
+use Rattle.depot_model.specs.Deeds.{Deed}
+use Rattle.depot_rows.proofs.Keys.{right-true}
+use Rattle.named_files.specs.Asked.{IsAsker, is_named, is_placed}
+use Rattle.named_files.specs.declared.asker.Asker.{Asker}
+
+-- where the view's answer says
+pub place_is : (later : List ViewLine) (place : Option (List ℕ)) (path : List ℕ) (rivals : List (List ℕ)) → MappedAt path rivals ≡ at_path later place → Some path ≡ place
+place_is later None path rivals e = absurd cc
+place_is later (Some p) path rivals e = cc
+
+pub no_place_is : (later : List ViewLine) (place : Option (List ℕ)) → Nothing ≡ at_path later place → None ≡ place
+no_place_is later None e = refl
+no_place_is later (Some p) e = absurd cc
+
+module _ (d : List Deed) (caller : Caller) (asker : Asker) (is : IsAsker d caller asker) where
+  pub named_is : (spec : FileSpec) (path : List ℕ) → is_named asker spec.pattern path ≡ names true d caller spec path
+  named_is spec path =
+      λ i. may (is.protects i) (is.who i) path 1 && (if in_client_syntax (is.client i) spec.pattern then fits_at spec.pattern (path_in (is.view i) path) else fits spec.pattern path)
+
+  pub placed_if_named : (spec : FileSpec) (path : List ℕ) → names true d caller spec path ≡ true → is_placed asker spec.pattern path ≡ true
+  placed_if_named spec path e = right-true (may asker.protects asker.who path 1) (is_placed asker spec.pattern path) (named_is spec path ∙ e)
+
+  -- a file that is shown at a place is put there
+  abbrev shown_at : List Deed → FileSpec → Mapped → Option (List ℕ)
+  shown_at e spec place = elim place [
+    | Nothing ↦ None
+    | MappedAt p rivals ↦ if list_any (λ rival. is_live_choice d rival (chosen d caller rival spec.wanted)) rivals then None else Some p
+  ]
+
+  shown_is_put : (spec : FileSpec) (later : List ViewLine) (place : Option (List ℕ)) → fits_at spec.pattern (shown_at d spec (at_path later place)) ≡ true → fits_at spec.pattern place ≡ true
+  shown_is_put spec later None e = absurd (false≢true e)
+  shown_is_put spec later (Some p) e = go (list_any (λ rival. is_live_choice d rival (chosen d caller rival spec.wanted)) _) e
+    where
+      go : (b : Bool) → fits_at spec.pattern (if b then None else Some p) ≡ true → fits spec.pattern p ≡ true
+      go true h = absurd (false≢true h)
+      go false h = h
+
+  pub placed_if_shown : (spec : FileSpec) (path : List ℕ) → names false d caller spec path ≡ true → is_placed asker spec.pattern path ≡ true
+  placed_if_shown spec path e =
+      (λ i. if in_client_syntax (is.client i) spec.pattern then fits_at spec.pattern (path_in (is.view i) path) else fits spec.pattern path)
+      ∙ go (in_client_syntax caller.client spec.pattern) (right-true (may_list d caller path) _ e)
+    where
+      go : (b : Bool) → (if b then fits_at spec.pattern (shown d caller spec.wanted path) else fits spec.pattern path) ≡ true
+          → (if b then fits_at spec.pattern (path_in (view d caller.client) path) else fits spec.pattern path) ≡ true
+      go true h = shown_is_put spec (after_deciding (view d caller.client) path) (path_in (view d caller.client) path) h
+      go false h = h

@@ -1,0 +1,36 @@
+-- The files that any client has opened, as the rows of opened files have them: a row a client, in the order of paths (Command-Line Reference,
+-- "p4 opened", option -a; Helix Core database schema reference, "db.working").
+use Rattle.std.specs.Prelude.{ℕ, Bool, false, List, [], ◌∷◌, ◌++◌, filter, flat_map, if◌then◌else◌, length, nat_lt, Option, Some, None}
+use Rattle.depot_path.specs.Bytes.{same}
+use Rattle.db_records.specs.declared.record.Record.{Record}
+use Rattle.db_records.specs.declared.record.Record.TheVariants.{Working}
+use Rattle.depot_model.specs.Arguments.{open_paths, paths_of}
+use Rattle.depot_model.specs.Deeds.{Deed}
+use Rattle.depot_model.specs.Steps.Opening.{openers}
+use Rattle.named_files.specs.Listed.{path_in_text}
+
+abbrev pub opened_anywhere : List Deed → List (List ℕ)
+opened_anywhere d = filter (λ path. nat_lt 0 (length (openers d path))) (paths_of open_paths d)
+
+-- a text is that of the row before
+abbrev pub is_last : Option (List ℕ) → List ℕ → Bool
+is_last None text = false
+is_last (Some last) text = same last text
+
+-- the text of the path of a row, where that of the row before is another
+abbrev pub new_text : Option (List ℕ) → Record → List (List ℕ)
+new_text last (Working r) = if is_last last r.path then [] else r.path ∷ []
+new_text last _ = []
+
+abbrev pub next_last : Option (List ℕ) → Record → Option (List ℕ)
+next_last last (Working r) = Some r.path
+next_last last _ = last
+
+-- the texts of rows after one, each once
+abbrev pub texts_after : Option (List ℕ) → List Record → List (List ℕ)
+texts_after last [] = []
+texts_after last (row ∷ rows) = new_text last row ++ texts_after (next_last last row) rows
+
+-- their paths
+abbrev pub paths_after : Option (List ℕ) → List Record → List (List ℕ)
+paths_after last rows = flat_map path_in_text (texts_after last rows)

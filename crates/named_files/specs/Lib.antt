@@ -1,0 +1,4 @@
+pub mod Anywhere
+pub mod Asked
+pub mod Listed
+pub mod Sets

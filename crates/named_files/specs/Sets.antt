@@ -1,0 +1,43 @@
+-- Which files of a list an argument names, and what is read for it. This project's own choice.
+use Rattle.std.specs.Prelude.{ℕ, Bool, true, false, ◌==◌, ◌&&◌, List, [], ◌∷◌, Option, Some, None}
+use Rattle.db_records.specs.declared.record.Record.{Record}
+use Rattle.db_records.specs.declared.record.Record.TheVariants.{Working}
+use Rattle.table_changes.specs.Changed.{AllRows}
+use Rattle.depot_model.specs.declared.command.FileArgument.{FileArgument}
+use Rattle.depot_model.specs.declared.refusal.Refusal.TheVariants.{NoSuchFile, NotOpen}
+use Rattle.depot_model.specs.declared.reply.Row.{Row}
+use Rattle.depot_model.specs.declared.request.Caller.{Caller}
+use Rattle.depot_model.specs.Arguments.{names}
+use Rattle.depot_model.specs.Deeds.{Deed}
+use Rattle.depot_model.specs.Opened.{opened}
+use Rattle.depot_model.specs.Refusals.{refusal_row}
+use Rattle.depot_model.specs.Rules.{IsSound}
+use Rattle.depot_model.specs.Steps.Reverting.{is_selected}
+use Rattle.depot_rows.specs.Standing.{HasRows}
+use Rattle.named_files.specs.Asked.{IsAsker}
+use Rattle.named_files.specs.Listed.{listing_table}
+use Rattle.named_files.specs.declared.asker.Asker.{Asker}
+use Rattle.named_files.specs.declared.listing.Listing.{Listing}
+use Rattle.named_files.specs.declared.listing.Listing.TheVariants.{Had, OpenedBy, Submitted}
+
+-- the asker is that of the depot, and the rows of the list are the depot's
+pub record Reads (caller : Caller) (asker : Asker) (listing : Listing) (rows : AllRows) (d : List Deed) : Type 0 where
+  pub sound : IsSound d
+  pub asked : IsAsker d caller asker
+  pub listed : HasRows rows d (listing_table listing)
+
+-- the rows for an argument that names no file of a list
+abbrev pub rows_without : Listing → FileArgument → List Row
+rows_without (Had client) argument = refusal_row (NoSuchFile argument.text) ∷ []
+rows_without (OpenedBy client) argument = refusal_row (NotOpen argument.text) ∷ []
+rows_without Submitted argument = refusal_row (NoSuchFile argument.text) ∷ []
+
+-- a row of a file opened in the change, where one is given
+abbrev pub selected_in : Option ℕ → Option Record → Bool
+selected_in None (Some (Working r)) = true
+selected_in (Some n) (Some (Working r)) = r.change == n
+selected_in change _ = false
+
+-- the argument names the file, and the client has it opened in the change
+abbrev pub is_chosen : Caller → Option ℕ → List Deed → FileArgument → List ℕ → Bool
+is_chosen caller change d argument path = names true d caller argument.spec path && is_selected change (opened d caller.client path)

@@ -1,0 +1,164 @@
+//! The files that any client has opened, as arguments name them.
+
+ghost use Rattle.std.specs.Prelude.{◌≡◌, ◌++◌, ℕ, List, IfOk, OnOk, None, filter, flat_map};
+ghost use Rattle.std.specs.Option.{option_copied};
+ghost use Rattle.db_records.specs.declared.table.TableId.TheVariants as table_ids;
+ghost use Rattle.table_changes.specs.Changed.{rows_of};
+ghost use Rattle.depot_model.specs.Deeds.{Deed};
+ghost use Rattle.depot_model.specs.Rules.{IsSound};
+ghost use Rattle.depot_rows.specs.Standing.{HasRows};
+ghost use Rattle.named_files.specs.Anywhere.{is_last as last_test, new_text, next_last, opened_anywhere, paths_after};
+ghost use Rattle.named_files.specs.Listed.{has_beginning, is_in_front, listing_table, path_in_text};
+
+use crate::asker::Asker;
+use crate::beginning::beginning_of;
+use crate::front::rows_in;
+use crate::listing::{Listing, read_path};
+use db_records::{Record, TableId};
+use depot_model::{Caller, FileArgument};
+use depot_path::{DepotPath, Name, Sequence, Text};
+use file_steps::{FileSet, not_open};
+use reply_rows::Step;
+use std::alloc::{AllocError, Global};
+use table_store::Tables;
+
+/// The files that any client has opened, of which the arguments of a caller name some.
+#[derive(Drop)]
+pub struct OpenedAnywhere<'a> {
+    pub caller: &'a Caller,
+    pub asker: &'a Asker,
+}
+
+/// Whether a text is that of the row before.
+fn is_last(last: Option<&Text>, text: &Text) -> bool
+    ensures { result ≡ last_test (option_copied last.entry) text.now }
+{
+    match last {
+        Some(last) => last.as_bytes() == text.as_bytes(),
+        None => false,
+    }
+}
+
+/// Adds the path that a text spells, where it is that path as printed.
+fn add_path(alloc: Global, paths: &mut Sequence<DepotPath>, text: &Text) -> Result<(), AllocError>
+    ensures { OnOk result (paths.new ≡ paths.old ++ path_in_text text.now) }
+{
+    if let Some(path) = read_path(alloc, text)? {
+        paths.push(path)?;
+    }
+    Ok(())
+}
+
+/// Adds the path of a row, unless it is that of the row before, and gives its text.
+fn add_new<'a>(
+    alloc: Global,
+    paths: &mut Sequence<DepotPath>,
+    last: Option<&'a Text>,
+    row: &'a Record,
+) -> Result<Option<&'a Text>, AllocError>
+    ensures paths { OnOk result (paths.new ≡ paths.old ++ flat_map path_in_text (new_text (option_copied last.entry) row.now)) }
+    ensures last { IfOk result (λ next. option_copied next ≡ next_last (option_copied last.entry) row.now) }
+{
+    let Record::Working(row) = row else {
+        return Ok(last);
+    };
+    if !is_last(last, &row.path) {
+        add_path(alloc, paths, &row.path)?;
+    }
+    Ok(Some(&row.path))
+}
+
+/// The files of the rows whose printed paths begin with a text, each once.
+fn opened_below(
+    alloc: Global,
+    tables: &Tables,
+    listing: &Listing,
+    beginning: &Text,
+) -> Result<Sequence<DepotPath>, AllocError>
+    ensures { IfOk result (λ paths. paths ≡ paths_after None (filter (is_in_front listing.now beginning.now) (rows_of tables.now (listing_table listing.now)))) }
+{
+    let mut paths = Sequence::new(alloc);
+    let mut last = None;
+    for row in rows_in(alloc, tables, listing, beginning)? {
+        last = add_new(alloc, &mut paths, last, row)?;
+    }
+    Ok(paths)
+}
+
+/// The rows of a sound depot tell the files that any client has opened, in the order of their paths.
+fn rows_tell_files(tables: &Tables)
+    ensures { (d : List Deed) (client beginning : List ℕ) → IsSound d → HasRows (rows_of tables.now) d table_ids.Working →
+        paths_after None (filter (is_in_front (Listing.OpenedBy client) beginning) (rows_of tables.now table_ids.Working)) ≡ filter (has_beginning beginning) (opened_anywhere d) }
+{
+    let version = tables.version(TableId::Working);
+    let _table = version.table();
+}
+
+/// Those among the files, in the order of their paths, whose printed paths begin with a text.
+fn anywhere_below(
+    alloc: Global,
+    tables: &Tables,
+    client: &Name,
+    beginning: &Text,
+) -> Result<Sequence<DepotPath>, AllocError>
+    ensures { IfOk result (λ paths. (d : List Deed) → IsSound d → HasRows (rows_of tables.now) d table_ids.Working → paths ≡ filter (has_beginning beginning.now) (opened_anywhere d)) }
+{
+    rows_tell_files(tables);
+    // the openings of all clients stand among those of each
+    let listing = Listing::opened_by(client)?;
+    let paths = opened_below(alloc, tables, &listing, beginning)?;
+    Ok(paths)
+}
+
+impl<'a> FileSet for OpenedAnywhere<'a> {
+    ghost use Rattle.std.specs.Prelude.{◌∷◌, [], true};
+    ghost use Rattle.depot_model.specs.Arguments.{names as names_file};
+    ghost use Rattle.depot_model.specs.Refusals.{refusal_row};
+    ghost use Rattle.depot_model.specs.declared.refusal.Refusal.TheVariants as refusals;
+    ghost use Rattle.named_files.specs.declared.listing.Listing.TheVariants.{OpenedBy};
+    ghost use Rattle.named_files.specs.Anywhere.{opened_anywhere};
+    ghost use Rattle.named_files.specs.Sets.{Reads};
+
+    ghost reads = { λ set rows d. Reads set.caller.now set.asker.now (OpenedBy set.caller.now.client) rows d };
+
+    ghost files = { λ set d. opened_anywhere d };
+
+    ghost names = { λ set d argument path. names_file true d set.caller.now argument.spec path };
+
+    ghost rows_without = { λ set argument. refusal_row (refusals.NotOpen argument.text) ∷ [] };
+
+    fn candidates(
+        &self,
+        alloc: Global,
+        tables: &Tables,
+        argument: &FileArgument,
+    ) -> Result<Sequence<DepotPath>, AllocError> {
+        let found = beginning_of(alloc, self.asker, &argument.spec.pattern)?;
+        match found {
+            Some(beginning) => {
+                let paths = anywhere_below(alloc, tables, &self.caller.client, &beginning)?;
+                Ok(paths)
+            }
+            None => {
+                let paths = Sequence::new(alloc);
+                Ok(paths)
+            }
+        }
+    }
+
+    fn is_named(
+        &self,
+        alloc: Global,
+        _tables: &Tables,
+        argument: &FileArgument,
+        path: &DepotPath,
+    ) -> Result<bool, AllocError> {
+        let named = self.asker.names(alloc, &argument.spec.pattern, path)?;
+        Ok(named)
+    }
+
+    fn missing(&self, alloc: Global, argument: &FileArgument) -> Result<Step, AllocError> {
+        let step = not_open(alloc, argument)?;
+        Ok(step)
+    }
+}

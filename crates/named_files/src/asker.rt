@@ -1,0 +1,130 @@
+//! Who asks, with the rights and the view.
+
+ghost use Rattle.std.specs.Prelude.{◌≡◌, List, [], IfOk};
+ghost use Rattle.db_records.specs.declared.table.TableId.TheVariants as table_ids;
+ghost use Rattle.depot_model.specs.Asking.{view as view_in};
+ghost use Rattle.depot_model.specs.Deeds.{Deed};
+ghost use Rattle.depot_model.specs.Rules.{IsSound};
+ghost use Rattle.depot_rows.specs.Standing.{HasRows};
+ghost use Rattle.protect_table.specs.Rights.{may as may_at};
+ghost use Rattle.table_changes.specs.Changed.{rows_of};
+ghost use Rattle.view_map.specs.Mapping.{path_in};
+ghost use Rattle.named_files.specs.Asked.{IsAsker, is_named, is_placed};
+
+use depot_model::Caller;
+use depot_path::{ClientPath, DepotPath, Name, Pattern};
+use protect_table::{Level, Protects, Who};
+use row_reads::{in_client_syntax, protects_of, view_of, who_of};
+use std::alloc::{AllocError, Global};
+use table_store::Tables;
+use view_map::{Mapped, View};
+
+/// Who asks: the client, the rights and the view.
+#[derive(Drop)]
+pub struct Asker {
+    /// The client.
+    pub client: Name,
+    /// The protections.
+    pub protects: Protects,
+    /// The caller with the groups.
+    pub who: Who,
+    /// The view of the client, without lines where it isn't saved.
+    pub view: View,
+}
+
+/// A copy of a name.
+fn own_name(name: &Name) -> Result<Name, AllocError>
+    ensures { IfOk result (λ own. own ≡ name.now) }
+{
+    name.clone()
+}
+
+/// The view without lines.
+fn no_view(alloc: Global, client: &Name) -> Result<View, AllocError>
+    ensures { IfOk result (λ view. view ≡ []) }
+{
+    match View::from_lines(alloc, client, &[]) {
+        Ok(view) => Ok(view),
+        Err(_) => Err(AllocError),
+    }
+}
+
+/// The view of a client, without lines where it isn't saved.
+fn view_or_none(alloc: Global, tables: &Tables, client: &Name) -> Result<View, AllocError>
+    ensures { IfOk result (λ found. (d : List Deed) → IsSound d → HasRows (rows_of tables.now) d table_ids.Domain → found ≡ view_in d client.now) }
+{
+    match view_of(alloc, tables, client)? {
+        Some(view) => Ok(view),
+        None => no_view(alloc, client),
+    }
+}
+
+impl Asker {
+    /// The asker of a request, from the tables of groups, protections and forms alone. The one error is want of memory.
+    pub fn of(alloc: Global, tables: &Tables, caller: &Caller) -> Result<Asker, AllocError>
+        ensures { IfOk result (λ asker. (d : List Deed) → IsSound d → HasRows (rows_of tables.now) d table_ids.Group → HasRows (rows_of tables.now) d table_ids.Protect →
+            HasRows (rows_of tables.now) d table_ids.Domain → IsAsker d caller.now asker) }
+    {
+        let client = own_name(&caller.client)?;
+        let protects = protects_of(alloc, tables)?;
+        let who = who_of(alloc, tables, caller)?;
+        let view = view_or_none(alloc, tables, &caller.client)?;
+        Ok(Asker {
+            client,
+            protects,
+            who,
+            view,
+        })
+    }
+
+    /// Whether the asker may do at a path what the need asks.
+    pub fn may(&self, path: &DepotPath, need: Level) -> bool
+        ensures { result ≡ may_at self.now.protects self.now.who path.now need.0 }
+    {
+        self.protects.may(&self.who, path, need)
+    }
+
+    /// Where the view puts a file.
+    pub fn place(&self, alloc: Global, path: &DepotPath) -> Result<Option<ClientPath>, AllocError>
+        ensures { IfOk result (λ place. place ≡ path_in self.now.view path.now) }
+    {
+        match self.view.to_client(alloc, path)? {
+            Mapped::At { path, .. } => Ok(Some(path)),
+            Mapped::Nothing => Ok(None),
+        }
+    }
+
+    /// Whether the pattern fits a file, or in client syntax the place where the view puts it.
+    fn is_placed(
+        &self,
+        alloc: Global,
+        pattern: &Pattern,
+        path: &DepotPath,
+    ) -> Result<bool, AllocError>
+        ensures { IfOk result (λ placed. placed ≡ is_placed self.now pattern.now path.now) }
+    {
+        if !in_client_syntax(&self.client, pattern) {
+            return Ok(pattern.matches(path));
+        }
+        match self.place(alloc, path)? {
+            Some(place) => Ok(pattern.matches(&place)),
+            None => Ok(false),
+        }
+    }
+
+    /// Whether an argument of this pattern names a file that the asker may list.
+    pub fn names(
+        &self,
+        alloc: Global,
+        pattern: &Pattern,
+        path: &DepotPath,
+    ) -> Result<bool, AllocError>
+        ensures { IfOk result (λ named. named ≡ is_named self.now pattern.now path.now) }
+    {
+        if !self.may(path, Level(1)) {
+            return Ok(false);
+        }
+        let placed = self.is_placed(alloc, pattern, path)?;
+        Ok(placed)
+    }
+}

@@ -1,0 +1,22 @@
+//! The files that an argument names, from the rows of the tables.
+//!
+//! A [`Listing`] is a list of files as a table has it, as those that a client has. An [`Asker`] says which of them an argument names, and
+//! [`candidates`] walks over the rows from the text alone with which every file begins that the argument may name. [`ListedFiles`],
+//! [`SelectedFiles`] and [`OpenedAnywhere`] are the sets of files over which commands go.
+#![tactic(auto)]
+
+mod anywhere;
+mod asker;
+mod beginning;
+mod choosing;
+mod front;
+mod listed_files;
+mod listing;
+mod selected_files;
+
+pub use anywhere::OpenedAnywhere;
+pub use asker::Asker;
+pub use choosing::candidates;
+pub use listed_files::ListedFiles;
+pub use listing::Listing;
+pub use selected_files::SelectedFiles;

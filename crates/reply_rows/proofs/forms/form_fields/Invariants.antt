@@ -1,0 +1,9 @@
+use Rattle.std.proofs.Common.{◌≡◌, ◌++◌}
+use Rattle.std.specs.List.{flat_map}
+use Rattle.depot_model.specs.FormRows.{form_fields, shown_field}
+use Rattle.spec_form.specs.Fields.{seen_fields}
+use Rattle.reply_rows.proofs.forms.form_fields.Given as goal
+
+-- the fields, and those that are left
+abbrev pub invariant-loop-name : goal.invariant-loop-name
+invariant-loop-name l = l.fields ++ flat_map (shown_field l.shape) (seen_fields l.name-iterator) ≡ form_fields l.form

@@ -1,0 +1,57 @@
+-- When a step of the code is one of the model. This project's own choice.
+use Rattle.std.specs.Prelude.{◌≡◌, ◌++◌, ℕ, List, [], ◌∷◌, map, Some, option_map}
+use Rattle.std.specs.Option.{option_to_list}
+use Rattle.depot_path.specs.Path.{printed}
+use Rattle.db_records.specs.declared.change.Spot.{Spot}
+use Rattle.db_records.specs.declared.key.Key.TheVariants as keys
+use Rattle.db_records.specs.declared.record.Record.TheVariants as records
+use Rattle.db_records.specs.declared.rows.RevRecord.{RevRecord}
+use Rattle.table_changes.specs.Changed.{AllRows}
+use Rattle.depot_model.specs.declared.reply.Row.{Row}
+use Rattle.depot_model.specs.Deeds.{Deed}
+use Rattle.depot_model.specs.Step.{Step as ModelStep}
+use Rattle.depot_model.specs.Steps.Submitting.{content_at}
+use Rattle.depot_rows.specs.Effects.{Follow}
+use Rattle.depot_rows.specs.Standing.{row_in}
+use Rattle.depot_rows.specs.declared.deed.Deed.{Deed as Done}
+use Rattle.reply_rows.specs.declared.step.Step.{Step}
+
+-- rows alone
+abbrev pub told : List Row → Step
+told rows = record { deeds = []; rows = rows; stores = []; reads = [] }
+
+-- deeds and a row
+abbrev pub does : List Done → Row → Step
+does deeds row = record { deeds = deeds; rows = row ∷ []; stores = []; reads = [] }
+
+-- a row with an empty text in the place of its content
+abbrev pub waiting : Row → Row
+waiting row = record row { content = option_map (λ _. []) row.content }
+
+-- the contents of rows, in their order
+abbrev pub contents_of : List Row → List (List ℕ)
+contents_of [] = []
+contents_of (row ∷ rows) = option_to_list row.content ++ contents_of rows
+
+-- the spot is that of a revision with this content
+pub record IsSpotOf (all : AllRows) (d : List Deed) (content : List ℕ) (spot : Spot) : Type 0 where
+  pub path : List ℕ
+  pub rev : ℕ
+  pub row : RevRecord
+  pub there : row_in all (keys.Rev (printed path) rev) ≡ Some (records.Rev row)
+  pub at : spot ≡ record { at = row.at; length = row.length }
+  pub content_is : content_at d path rev ≡ Some content
+
+-- each content at its spot
+abbrev pub StandAt : AllRows → List Deed → List (List ℕ) → List Spot → Type 0
+StandAt all d [] [] = Unit {0}
+StandAt all d (content ∷ contents) (spot ∷ spots) = IsSpotOf all d content spot × StandAt all d contents spots
+StandAt all d _ _ = ⊥
+
+-- Its deeds are the model's and may follow a depot; its rows are the model's, waiting for their contents, which stand at the spots by the rows of the
+-- depot before the command; and it stores nothing.
+pub record IsMade (all : AllRows) (d e : List Deed) (model : ModelStep) (step : Step) : Type 0 where
+  pub deeds : Follow e step.deeds model.deeds
+  pub rows : step.rows ≡ map waiting model.rows
+  pub stores : step.stores ≡ []
+  pub reads : StandAt all d (contents_of model.rows) step.reads

@@ -1,0 +1,9 @@
+use Rattle.std.proofs.Common.{◌≡◌, ◌++◌}
+use Rattle.std.specs.Prelude.{filter}
+use Rattle.table_changes.specs.Changed.{rows_of}
+use Rattle.row_ranges.specs.Ranges.{has_row, range_table}
+use Rattle.row_reads.specs.Forms.{names_in}
+use Rattle.row_reads.proofs.forms.names_of_rows.Given as goal
+
+abbrev pub invariant-loop-row : goal.invariant-loop-row
+invariant-loop-row l = l.names ++ names_in l.row-iterator ≡ names_in (filter (has_row l.range) (rows_of l.tables (range_table l.range)))

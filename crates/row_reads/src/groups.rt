@@ -1,0 +1,64 @@
+//! The users of groups.
+
+ghost use Rattle.std.specs.Prelude.{◌≡◌, ◌++◌, ℕ, List, filter, IfOk, OnOk};
+ghost use Rattle.db_records.specs.declared.table.TableId.TheVariants as table_ids;
+ghost use Rattle.table_changes.specs.Changed.{rows_of};
+ghost use Rattle.row_ranges.specs.Ranges.{has_row, range_table};
+ghost use Rattle.row_ranges.specs.declared.range.KeyRange.TheVariants as ranges;
+ghost use Rattle.depot_model.specs.Deeds.{Deed};
+ghost use Rattle.depot_model.specs.Latest.{users};
+ghost use Rattle.depot_model.specs.Steps.Groups.{by_name};
+ghost use Rattle.depot_rows.specs.Standing.{HasRows};
+ghost use Rattle.row_reads.specs.Groups.{user_in, users_in};
+
+use db_records::{Record, TableId};
+use depot_path::{Name, Sequence, Text};
+use row_ranges::{KeyRange, rows_in};
+use std::alloc::{AllocError, Global};
+use table_store::Tables;
+
+/// Adds the user of a row, if it is one of a group.
+fn push_user(alloc: Global, users: &mut Sequence<Text>, row: &Record) -> Result<(), AllocError>
+    ensures { OnOk result (users.new ≡ users.old ++ user_in row.now) }
+{
+    if let Record::Group(row) = row {
+        users.push(Text::from_bytes(alloc, row.user.as_bytes())?)?;
+    }
+    Ok(())
+}
+
+/// The users in the rows of a range.
+fn users_of_rows(
+    alloc: Global,
+    tables: &Tables,
+    range: &KeyRange,
+) -> Result<Sequence<Text>, AllocError>
+    ensures { IfOk result (λ users. users ≡ users_in (filter (has_row range.now) (rows_of tables.now (range_table range.now)))) }
+{
+    let mut users = Sequence::new(alloc);
+    for row in rows_in(alloc, tables, range)? {
+        push_user(alloc, &mut users, row)?;
+    }
+    Ok(users)
+}
+
+/// The rows of a depot list the users of a group.
+fn rows_list_users(tables: &Tables)
+    ensures { (d : List Deed) (group : List ℕ) → HasRows (rows_of tables.now) d table_ids.Group →
+        users_in (filter (has_row (ranges.GroupUsers group)) (rows_of tables.now table_ids.Group)) ≡ by_name (users d group) }
+{
+    let version = tables.version(TableId::Group);
+    let _table = version.table();
+}
+
+/// The users of a group, each once, in the order of bytes (Command-Line Reference, "p4 group"), from the table of groups alone.
+pub fn users_of(alloc: Global, tables: &Tables, group: &Name) -> Result<Sequence<Text>, AllocError>
+    ensures { IfOk result (λ listed. (d : List Deed) → HasRows (rows_of tables.now) d table_ids.Group → listed ≡ by_name (users d group.now)) }
+{
+    rows_list_users(tables);
+    let range = KeyRange::GroupUsers {
+        group: Text::from_bytes(alloc, group.as_bytes())?,
+    };
+    let users = users_of_rows(alloc, tables, &range)?;
+    Ok(users)
+}
