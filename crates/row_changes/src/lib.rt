@@ -16,8 +16,3 @@ mod stored;
 mod words;
 
 pub use engine::row_changes;
-
-#[cfg(test)]
-mod small_depot;
-#[cfg(test)]
-mod tests;

@@ -1,0 +1,11 @@
+use Rattle.depots_alike.proofs.Staying.{contents_stay}
+use Rattle.depots_alike.proofs.Whole.{step_same, rows_stay}
+use Rattle.depots_alike.proofs.laws.depots_with_the_same_rows_and_contents_answer_alike.Goals as goal
+
+pub returns : goal.returns
+returns c = record {
+  step = λ built d e request left right rows contents. step_same d e (record { left = left; right = right; rows = rows; contents = contents }) request built;
+  rows = λ built d e request dones left right rows contents follow.
+      rows_stay d e (record { left = left; right = right; rows = rows; contents = contents }) request built dones follow;
+  contents = λ d e deeds left right rows contents. contents_stay d e deeds (record { left = left; right = right; rows = rows; contents = contents });
+}

@@ -1,0 +1,12 @@
+pub mod Steps
+pub mod Flat
+pub mod Known
+pub mod Files
+pub mod Spelled
+pub mod Tagging
+pub mod Opening
+pub mod Steady
+pub mod Moving
+pub mod Resolving
+pub mod Integrating
+pub mod Reading

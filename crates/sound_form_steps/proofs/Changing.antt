@@ -1,0 +1,88 @@
+-- Steps that save and delete pending changes; and the step of a checkpoint.
+use Rattle.std.proofs.Common.{◌≡◌, ◌≤◌, ◌+◌, ℕ, Bool, true, false, List, [], ◌∷◌, length, Option, Some, None, inl, inr, refl, sym, ap, subst, ◌∙◌, arith}
+use Rattle.std.specs.Prelude.{◌||◌, not, codes, nat_le, nat_lt, IfSome, IsSomeAnd, is_some}
+use Rattle.std.specs.Option.{option_map_or}
+use Rattle.std.proofs.lemmas.Bool.Decides.{nat_tests}
+use Rattle.depot_path.specs.Bytes.{same}
+use Rattle.depot_model.specs.Deeds.{Deed, Drop, Count, Opening, Pending}
+use Rattle.depot_model.specs.Fixes.{is_fixing}
+use Rattle.depot_model.specs.Numbers.{pending, landing}
+use Rattle.depot_model.specs.Opened.{opened}
+use Rattle.depot_model.specs.Rules.{IsSound}
+use Rattle.depot_model.specs.Shelves.{is_shelved}
+use Rattle.depot_model.specs.Step.{after, refuse_if}
+use Rattle.depot_model.specs.Steps.Changing.{change_delete, delete_refusals}
+use Rattle.depot_model.specs.Steps.Checkpoint.{generation, checkpoint}
+use Rattle.depot_model.specs.Steps.Opening.{is_of}
+use Rattle.depot_model.specs.Steps.Submitting.{openings_of}
+use Rattle.depot_model.specs.declared.refusal.Refusal.TheVariants.{NotYours, NotDeletable, OverLimit}
+use Rattle.depot_model.specs.declared.refusal.Limit.TheVariants.{Generation}
+use Rattle.depot_model.specs.declared.request.Caller.{Caller}
+use Rattle.depot_rows.proofs.Keys.{same-is, right-true}
+use Rattle.sound_deeds.specs.Keeping.{HasNoOpening, IsOpenChange}
+use Rattle.sound_deeds.proofs.Whole.{one_sound}
+use Rattle.sound_form_steps.proofs.Found.{opening_in, no_fix, no_shelf}
+use Rattle.sound_file_steps.proofs.Known.{IsKnown, opened_known}
+use Rattle.sound_form_steps.proofs.Members.{In, in_some}
+use Rattle.sound_file_steps.proofs.Steps.{not_refused, unless_sound}
+
+either_false : (a b : Bool) → (a || b) ≡ false → (a ≡ false) × (b ≡ false)
+either_false true b e = absurd cc
+either_false false b e = (refl, e)
+
+not_false : (b : Bool) → not b ≡ false → b ≡ true
+not_false true e = refl
+not_false false e = absurd cc
+
+none_of : {A : Type 0} (o : Option A) → is_some o ≡ false → o ≡ None
+none_of None e = refl
+none_of (Some x) e = absurd cc
+
+module _ (d : List Deed) (sound : IsSound d) where
+  -- ---- change -d
+
+  module _ (caller : Caller) (n : ℕ) (unshelved : is_shelved d n ≡ false) (unfixed : is_fixing d n ≡ false) where
+    -- the change is the caller's, where it is pending
+    its_client : (p : Option Pending) (q : Pending) → p ≡ Some q → not (option_map_or (is_of caller) p true) ≡ false → q.client ≡ caller.client
+    its_client None q e h = absurd cc
+    its_client (Some p) q e h =
+        let one : p ≡ q = cc in
+        ap (λ (x : Pending). x.client) (sym one)
+        ∙ same-is p.client caller.client (right-true (same p.user caller.user) (same p.client caller.client) (not_false (is_of caller p) h))
+
+    unopened : not (option_map_or (is_of caller) (pending d n) true) ≡ false → nat_lt 0 (length (openings_of d caller n)) ≡ false → HasNoOpening d n
+    unopened own empty client path = go (opened d client path) refl
+      where
+        by_change : (o : Opening) → opened d client path ≡ Some o → o.change ≡ n → IsOpenChange d o.client n → o.client ≡ client → n ≡ 0
+        by_change o e is (inl zero_is) same_client = zero_is
+        by_change o e is (inr some) same_client = absurd (at (pending d n) refl some)
+          where
+            at : (p : Option Pending) → pending d n ≡ p → IsSomeAnd p (λ x. x.client ≡ o.client) → ⊥
+            at None f h = h
+            at (Some q) f h =
+                let mine : client ≡ caller.client = sym same_client ∙ sym h ∙ its_client (pending d n) q f own in
+                let there : In (openings_of d caller n) o = opening_in d caller n path o (ap (λ (c : List ℕ). opened d c path) (sym mine) ∙ e) is in
+                let some_opened = in_some (openings_of d caller n) o there in
+                absurd (let clash : true ≡ false = sym some_opened ∙ empty in cc)
+
+        go : (x : Option Opening) → opened d client path ≡ x → IfSome x (λ o. o.change ≡ n → n ≡ 0)
+        go None e = tt
+        go (Some o) e = λ is.
+            let known : IsKnown d client path o = opened_known d sound client path o e in
+            by_change o e is (subst (λ (m : ℕ). IsOpenChange d o.client m) is known.ties) known.client_is
+
+    pub change_delete_sound : IsSound (after d (change_delete d caller n).deeds)
+    change_delete_sound = unless_sound d sound (delete_refusals d caller n) _ (λ none.
+        let own = either_false _ _ (not_refused _ (NotYours n) none.1.0) in
+        let free = either_false (is_some (landing d n)) _ (not_refused _ (NotDeletable n) none.1.1.0) in
+        one_sound d (Drop n) sound refl (none_of (landing d n) free.0, no_shelf d sound n unshelved) (unopened own.0 free.1, no_fix d sound n unfixed))
+
+  -- ---- checkpoint
+
+  pub checkpoint_sound : IsSound (after d (checkpoint d).deeds)
+  checkpoint_sound = unless_sound d sound (refuse_if (nat_le 4095 (generation d)) (OverLimit Generation) ∷ []) _ (λ none.
+      let below : nat_le 4095 (generation d) ≡ false = not_refused (nat_le 4095 (generation d)) (OverLimit Generation) none.0 in
+      one_sound d (Count (codes "journal") (Some (generation d + 1))) sound refl (refl, λ journal. (omega arith, fits (generation d) below)) tt)
+    where
+      fits : (g : ℕ) → nat_le 4095 g ≡ false → g + 1 ≤ 4095
+      fits g e = grind (arith, nat_tests)

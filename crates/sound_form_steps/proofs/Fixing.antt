@@ -1,0 +1,165 @@
+-- The step that takes fixes off.
+use Rattle.std.proofs.Common.{◌≡◌, ◌≤◌, ℕ, Bool, true, false, List, [], ◌∷◌, ◌++◌, Option, Some, None, refl, sym, ap, subst, ◌∙◌, arith}
+use Rattle.std.specs.Prelude.{◌&&◌, not, codes, map, nat_le, IsSome, if◌then◌else◌}
+use Rattle.std.specs.List.{list_all}
+use Rattle.std.specs.Option.{option_or}
+use Rattle.std.proofs.lemmas.Bool.Decides.{nat_tests}
+use Rattle.depot_path.specs.Bytes.{same}
+use Rattle.depot_path.specs.Digits.{number_of}
+use Rattle.spec_form.specs.Form.{FormValue, with_field, has_field}
+use Rattle.spec_form.specs.Printing.{printed_form}
+use Rattle.spec_form.specs.declared.shape.Shape.TheVariants.{Fix as FixShape}
+use Rattle.depot_model.specs.Deeds.{Deed, Spec, FixForm}
+use Rattle.depot_model.specs.Fixes.{job, fix_name, has_fix, is_on}
+use Rattle.depot_model.specs.Latest.{spec, spec_said, latest, when}
+use Rattle.depot_model.specs.Numbers.{top}
+use Rattle.depot_model.specs.Numerals.{is_numeral}
+use Rattle.depot_model.specs.Records.{record_of}
+use Rattle.depot_model.specs.Rules.{IsSound, IsOneOf, IsSpelled, top_in, number_in}
+use Rattle.depot_model.specs.Step.{Step, nothing, after, all_of}
+use Rattle.depot_model.specs.Steps.Jobs.{unfix, unfix_job, fix_delete, distinct, is_change, no_job}
+use Rattle.depot_model.specs.declared.refusal.Refusal.TheVariants.{NoSuchChange}
+use Rattle.depot_model.specs.Step.{refuse_if}
+use Rattle.depot_rows.proofs.Changes.{top_value}
+use Rattle.depot_rows.proofs.Keys.{left-true, right-true}
+use Rattle.sound_deeds.specs.Keeping.{FixKeeps, FixesFit}
+use Rattle.sound_deeds.specs.Loose.{IsLooseFix}
+use Rattle.sound_deeds.proofs.Parts.{loose_of, tied_of}
+use Rattle.sound_deeds.proofs.Read.{spelled_reads, value_is, number_is}
+use Rattle.sound_deeds.proofs.Ties.{fix_said}
+use Rattle.sound_deeds.proofs.Whole.{one_sound}
+use Rattle.sound_form_steps.proofs.Fields.{other_value, own_value, has_valued, state_spelled}
+use Rattle.sound_form_steps.proofs.Found.{saved_fix, spelled}
+use Rattle.sound_file_steps.proofs.Known.{job_known}
+use Rattle.sound_file_steps.proofs.Steps.{AllOf, joined, unless_all}
+
+-- the fixes of a sound depot fit
+pub fixes_fit : (d : List Deed) → IsSound d → FixesFit d
+fixes_fit d sound n jobs apart all =
+    (tied_of d sound).fixes_fit n jobs apart ((λ i. list_all (λ j. fix_said d (loose_of d sound) n j i) jobs) ∙ all)
+
+-- fixes that are off
+pub record IsOff (d : List Deed) (deed : Deed) : Type 0 where
+  pub name : List ℕ
+  pub form : FormValue
+  pub is : deed ≡ Spec FixForm name form
+  pub spelled : IsSpelled FixForm form
+  pub keeps : FixKeeps d name form
+  pub off : is_on form ≡ false
+
+module _ (d : List Deed) (name : List ℕ) (form : FormValue) where
+  -- a fix that is on is so before one is off
+  on_before : is_on form ≡ false → (n : ℕ) (job : List ℕ) → has_fix (Spec FixForm name form ∷ d) n job ≡ true → has_fix d n job ≡ true
+  on_before off n job h = go (same name (fix_name job n)) h
+    where
+      go : (b : Bool) → (elim (option_or (when b form) (latest (spec_said FixForm (fix_name job n)) d)) as (λ _. Bool) [ None ↦ false | Some f ↦ is_on f ]) ≡ true
+          → has_fix d n job ≡ true
+      go true k = absurd (let clash : true ≡ false = sym k ∙ off in cc)
+      go false k = k
+
+  all_before : is_on form ≡ false → (n : ℕ) (jobs : List (List ℕ)) → list_all (has_fix (Spec FixForm name form ∷ d) n) jobs ≡ true → list_all (has_fix d n) jobs ≡ true
+  all_before off n [] e = refl
+  all_before off n (job ∷ jobs) e =
+      (λ i. on_before off n job (left-true (has_fix (Spec FixForm name form ∷ d) n job) (list_all (has_fix (Spec FixForm name form ∷ d) n) jobs) e) i && list_all (has_fix d n) jobs)
+      ∙ all_before off n jobs (right-true (has_fix (Spec FixForm name form ∷ d) n job) (list_all (has_fix (Spec FixForm name form ∷ d) n) jobs) e)
+
+  still_fit : is_on form ≡ false → FixesFit d → FixesFit (Spec FixForm name form ∷ d)
+  still_fit off fit n jobs apart all = fit n jobs apart (all_before off n jobs all)
+
+  off_sound : IsSound d → IsSpelled FixForm form → FixKeeps d name form → is_on form ≡ false → IsSound (Spec FixForm name form ∷ d)
+  off_sound sound is keeps off = one_sound d (Spec FixForm name form) sound refl (is, keeps)
+      ((λ on. absurd (let clash : true ≡ false = sym on ∙ off in cc)), still_fit off (fixes_fit d sound))
+
+  still_off : (deeds : List Deed) → AllOf (IsOff d) deeds → AllOf (IsOff (Spec FixForm name form ∷ d)) deeds
+  still_off [] m = tt
+  still_off (deed ∷ deeds) m = (
+    record {
+      name = (m.0).name;
+      form = (m.0).form;
+      is = (m.0).is;
+      spelled = (m.0).spelled;
+      keeps = record {
+        named = ((m.0).keeps).named;
+        job = ((m.0).keeps).job;
+        change_is = ((m.0).keeps).change_is;
+        change_fits = ((m.0).keeps).change_fits;
+        state = ((m.0).keeps).state;
+      };
+      off = (m.0).off;
+    },
+    still_off deeds m.1,
+  )
+
+pub offs_sound : (d deeds : List Deed) → IsSound d → AllOf (IsOff d) deeds → IsSound (after d deeds)
+offs_sound d [] sound m = sound
+offs_sound d (deed ∷ deeds) sound m =
+    let first : Deed = Spec FixForm (m.0).name (m.0).form in
+    let here : IsSound (first ∷ d) = off_sound d (m.0).name (m.0).form sound (m.0).spelled (m.0).keeps (m.0).off in
+    subst (λ (x : Deed). IsSound (after (x ∷ d) deeds)) (sym (m.0).is) (offs_sound (first ∷ d) deeds here (still_off d (m.0).name (m.0).form deeds m.1))
+
+-- ---- fix -d
+
+module _ (d : List Deed) (sound : IsSound d) (n : ℕ) (name : List ℕ) (form : FormValue) (saved : spec d FixForm (fix_name name n) ≡ Some form) (on : is_on form ≡ true) where
+  fix : IsLooseFix (record_of d) (fix_name name n) (printed_form form)
+  fix = saved_fix d sound (fix_name name n) form saved
+
+  is_form : IsSpelled FixForm form
+  is_form = spelled d sound FixForm (fix_name name n) form saved
+
+  abbrev off_form : FormValue
+  off_form = with_field (codes "State") (codes "off") form
+
+  has_state : has_field (codes "State") form.fields ≡ true
+  has_state = has_valued (codes "State") form.fields (λ none. absurd (let e : same [] (codes "on") ≡ true = ap (λ (w : List ℕ). same w (codes "on")) (sym none) ∙ on in cc))
+
+  off_meets : IsOff d (Spec FixForm (fix_name name n) off_form)
+  off_meets =
+      let value = value_is FixShape form (spelled_reads FixForm form is_form) in
+      let number = number_is FixShape form (spelled_reads FixForm form is_form) (codes "Change") in
+      let jobs = other_value (codes "State") (codes "off") form (codes "Job") refl in
+      let changes = other_value (codes "State") (codes "off") form (codes "Change") refl in
+      let states = own_value (codes "State") (codes "off") form has_state in
+      let tops = top_value d in
+      let fits : number_in FixShape (codes "Change") (printed_form form) ≤ top_in (record_of d) = le_is (right-true _ _ fix.change) in
+      record {
+        name = fix_name name n;
+        form = off_form;
+        is = refl;
+        spelled = state_spelled form (codes "off") is_form has_state refl;
+        keeps = record {
+          named = fix.named ∙ (λ i. (value (codes "Job") ∙ sym jobs) i ++ 0x20 ∷ (value (codes "Change") ∙ sym changes) i);
+          job = subst (λ (w : List ℕ). IsSome (job d w)) (value (codes "Job") ∙ sym jobs) (job_known d _ fix.job);
+          change_is = ap is_numeral (changes ∙ sym (value (codes "Change"))) ∙ left-true _ _ fix.change;
+          change_fits = subst (λ (m : ℕ). m ≤ top d) (number ∙ ap number_of (sym changes)) (subst (λ (m : ℕ). number_in FixShape (codes "Change") (printed_form form) ≤ m) tops fits);
+          state = subst (λ (w : List ℕ). IsOneOf (codes "on" ∷ codes "off" ∷ []) w) (sym states) refl;
+        };
+        off = ap (λ (w : List ℕ). same w (codes "on")) states;
+      }
+    where
+      le_is : {a b : ℕ} → nat_le a b ≡ true → a ≤ b
+      le_is h = grind (arith, nat_tests)
+
+module _ (d : List Deed) (sound : IsSound d) (n : ℕ) where
+  job_off : (name : List ℕ) → AllOf (IsOff d) (unfix_job d n name).deeds
+  job_off name = go (spec d FixForm (fix_name name n)) refl
+    where
+      go : (o : Option FormValue) → spec d FixForm (fix_name name n) ≡ o
+          → AllOf (IsOff d) (elim o as (λ _. Step) [
+            | None ↦ nothing
+            | Some form ↦ if (elim o as (λ _. Bool) [ None ↦ false | Some f ↦ is_on f ]) then unfix n name form else nothing
+          ]).deeds
+      go None e = tt
+      go (Some form) e = test (is_on form) refl
+        where
+          test : (b : Bool) → is_on form ≡ b → AllOf (IsOff d) (if b then unfix n name form else nothing).deeds
+          test true on = (off_meets d sound n name form e on, tt)
+          test false on = tt
+
+  pub fix_delete_sound : (names : List (List ℕ)) → IsSound (after d (fix_delete d n names).deeds)
+  fix_delete_sound names = offs_sound d (fix_delete d n names).deeds sound
+      (unless_all (IsOff d) (refuse_if (not (is_change d n)) (NoSuchChange n) ∷ map (no_job d) names) (all_of (unfix_job d n) (distinct names))
+      (λ none. each (distinct names)))
+    where
+      each : (xs : List (List ℕ)) → AllOf (IsOff d) (all_of (unfix_job d n) xs).deeds
+      each [] = tt
+      each (x ∷ xs) = joined (IsOff d) (unfix_job d n x).deeds (all_of (unfix_job d n) xs).deeds (job_off x) (each xs)

@@ -1,0 +1,221 @@
+-- The step that takes shelved files away.
+use Rattle.std.proofs.Common.{◌≡◌, ◌≤◌, ◌<◌, ◌^◌, ℕ, Bool, true, false, List, [], ◌∷◌, ◌++◌, length, Option, Some, None, Ok, refl, sym, ap, subst, ◌∙◌, arith}
+use Rattle.std.specs.Prelude.{◌&&◌, ◌||◌, ◌==◌, not, codes, decimal, map, sum, nat_lt, is_some, if◌then◌else◌}
+use Rattle.std.specs.List.{list_any}
+use Rattle.depot_path.specs.Bytes.{same, is_among, is_control}
+use Rattle.depot_path.specs.Digits.{number_of}
+use Rattle.depot_path.specs.Path.{path_fault, first_fault, printed, unescaped, unless as path_unless, is_path, is_text, begins_with_slashes, has_empty_component, has_bad_escape, has_dot_component, has_three_dots, components}
+use Rattle.depot_path.specs.Utf8.{is_utf8}
+use Rattle.depot_path.specs.declared.fault.PathFault.{PathFault}
+use Rattle.depot_path.specs.declared.fault.PathFault.TheVariants.{NoSlashes, EmptyPart, BadEscape, BadByte, TooLong, Dots}
+use Rattle.depot_path.proofs.Paths.{prints_path}
+use Rattle.spec_form.proofs.Good.{GoodValue}
+use Rattle.spec_form.proofs.Printed.{good_reads_back}
+use Rattle.spec_form.specs.Form.{value_lines}
+use Rattle.spec_form.specs.Shapes.{fields_of}
+use Rattle.spec_form.specs.Texts.{trimmed_start, is_blank}
+use Rattle.spec_form.specs.declared.shape.Shape.TheVariants.{Shelf}
+use Rattle.depot_model.specs.Arguments.{named, names, over_all, no_file}
+use Rattle.depot_model.specs.Asking.{to_open}
+use Rattle.depot_model.specs.Deeds.{Deed, Spec, ShelfForm, Pending}
+use Rattle.depot_model.specs.Numbers.{pending, landing, top}
+use Rattle.depot_model.specs.Numerals.{is_numeral}
+use Rattle.depot_model.specs.Rules.{IsSound, IsSpelled}
+use Rattle.depot_model.specs.Shelves.{shelf_name, kept_paths, gone_form}
+use Rattle.depot_model.specs.Step.{Step, after, refuse_if}
+use Rattle.depot_model.specs.Steps.Opening.{is_of, change_refusal, right_refusal}
+use Rattle.depot_model.specs.Steps.Shelving.{unkeep, within_forms, size_in, shelve_delete, shelf_refusal}
+use Rattle.depot_model.specs.Values.{valued}
+use Rattle.depot_model.specs.declared.command.FileArgument.{FileArgument}
+use Rattle.depot_model.specs.declared.refusal.Refusal.{Refusal}
+use Rattle.depot_model.specs.declared.refusal.Refusal.TheVariants.{NoSuchChange, NotYours, OverLimit}
+use Rattle.depot_model.specs.declared.refusal.Limit.TheVariants.{Files, Shelf as LimitShelf}
+use Rattle.depot_model.specs.declared.request.Caller.{Caller}
+use Rattle.depot_rows.proofs.Changes.{change_of, top_value}
+use Rattle.depot_rows.proofs.Keys.{same-is, left-true, right-true, number-is}
+use Rattle.sound_deeds.specs.Keeping.{ShelfKeeps, is_number_of}
+use Rattle.sound_deeds.proofs.Whole.{one_sound}
+use Rattle.sound_form_steps.proofs.Fields.{value_back}
+use Rattle.sound_deeds.proofs.Decimals.{decimal_digits, numeral_decimal, number_decimal, digits_without, digits_utf8, digits_trimmed}
+use Rattle.sound_form_steps.proofs.Shelving.{kept_are}
+use Rattle.sound_file_steps.proofs.Spelled.{good_name}
+use Rattle.sound_file_steps.proofs.Steps.{AllOf, all_filtered, unless_all, over_any}
+
+-- ---- texts as values
+
+either_false : (a b : Bool) → (a || b) ≡ false → (a ≡ false) × (b ≡ false)
+either_false true b e = absurd cc
+either_false false b e = (refl, e)
+
+is_false : (b : Bool) → not b ≡ true → b ≡ false
+is_false true e = absurd cc
+is_false false e = refl
+
+is_true : (b : Bool) → not b ≡ false → b ≡ true
+is_true true e = refl
+is_true false e = absurd cc
+
+no_control : (c : ℕ) → is_control c ≡ true → (text : List ℕ) → list_any is_control text ≡ false → is_among text c ≡ false
+no_control c h [] e = refl
+no_control c h (b ∷ text) e = go (b == c) refl (either_false (is_control b) (list_any is_control text) e) (no_control c h text)
+  where
+    go : (r : Bool) → (b == c) ≡ r → (is_control b ≡ false) × (list_any is_control text ≡ false) → (list_any is_control text ≡ false → is_among text c ≡ false)
+        → (r || is_among text c) ≡ false
+    go true k both later = absurd (let f : is_control b ≡ true = ap is_control (number-is b c k) ∙ h in let g = both.0 in cc)
+    go false k both later = later both.1
+
+-- what the text of a path is
+record IsPathText (text : List ℕ) : Type 0 where
+  slashes : begins_with_slashes text ≡ true
+  plain : is_text text ≡ true
+
+no_fault : (a b c e f g : Bool)
+    → first_fault ((a, TooLong) ∷ (b, NoSlashes) ∷ (c, EmptyPart) ∷ (e, BadEscape) ∷ (f, BadByte) ∷ (g, Dots) ∷ []) ≡ None → (b ≡ false) × (f ≡ false)
+no_fault true b c e f g h = absurd cc
+no_fault false true c e f g h = absurd cc
+no_fault false false true e f g h = absurd cc
+no_fault false false false true f g h = absurd cc
+no_fault false false false false true g h = absurd cc
+no_fault false false false false false g h = (refl, refl)
+
+path_text_is : (path : List ℕ) → is_path path ≡ true → IsPathText (printed path)
+path_text_is path is = go (path_fault (printed path)) refl (prints_path path is)
+  where
+    go : (o : Option PathFault) → path_fault (printed path) ≡ o → path_unless o (unescaped 0 (printed path)) ≡ Ok path → IsPathText (printed path)
+    go (Some fault) e h = absurd cc
+    go None e h =
+        let free = no_fault (nat_lt 1024 (length (printed path))) (not (begins_with_slashes (printed path)))
+        (nat_lt (length (components (printed path))) 2 || has_empty_component (printed path)) (has_bad_escape (printed path))
+        (list_any (is_among (codes "@#*")) (printed path) || not (is_text (printed path))) (has_dot_component (printed path) || has_three_dots (printed path)) e in
+        record {
+          slashes = is_true (begins_with_slashes (printed path)) free.0;
+          plain = is_true (is_text (printed path)) (either_false (list_any (is_among (codes "@#*")) (printed path)) (not (is_text (printed path))) free.1).1;
+        }
+
+start_stays : (text : List ℕ) → begins_with_slashes text ≡ true → trimmed_start text ≡ text
+start_stays [] e = refl
+start_stays (b ∷ text) e = go (is_blank b) refl
+  where
+    go : (r : Bool) → is_blank b ≡ r → (if r then trimmed_start text else b ∷ text) ≡ b ∷ text
+    go true h = absurd (let first : b ≡ 0x2F = begins b text e in let f : is_blank b ≡ false = ap is_blank first in cc)
+      where
+        begins : (x : ℕ) (more : List ℕ) → begins_with_slashes (x ∷ more) ≡ true → x ≡ 0x2F
+        begins x [] k = absurd (let f : codes "//" ≡ x ∷ [] = same-is (codes "//") (x ∷ []) k in cc)
+        begins x (y ∷ more) k = let f : codes "//" ≡ x ∷ y ∷ [] = same-is (codes "//") (x ∷ y ∷ []) k in cc
+    go false h = refl
+
+pub good_path : (path : List ℕ) → is_path path ≡ true → GoodValue (value_lines (printed path))
+good_path path is =
+    let text = path_text_is path is in
+    record {
+      value = printed path;
+      is = refl;
+      clean = record {
+        one = no_control 0x0A refl (printed path) (is_false (list_any is_control (printed path)) (right-true (is_utf8 (printed path)) (not (list_any is_control (printed path))) text.plain));
+        utf8 = left-true (is_utf8 (printed path)) (not (list_any is_control (printed path))) text.plain;
+      };
+      trimmed = start_stays (printed path) text.slashes;
+    }
+
+pub good_decimal : (n : ℕ) → GoodValue (value_lines (decimal n))
+good_decimal n = record {
+  value = decimal n;
+  is = refl;
+  clean = record { one = digits_without 0x0A refl (decimal n) (decimal_digits n); utf8 = digits_utf8 (decimal n) (decimal_digits n) };
+  trimmed = digits_trimmed (decimal n) (decimal_digits n);
+}
+
+gone_spelled : (n : ℕ) (path : List ℕ) → is_path path ≡ true → IsSpelled ShelfForm (gone_form n path)
+unfolding fields_of
+gone_spelled n path is = (
+  refl,
+  good_reads_back Shelf (valued (codes "State") (codes "gone") ∷ valued (codes "Change") (decimal n) ∷ valued (codes "Path") (printed path) ∷ [])
+      (good_name (codes "gone") refl, refl, (good_decimal n, refl, (good_path path is, refl, tt))) refl,
+)
+
+-- ---- forms of files that are gone
+
+pub record IsGone (d : List Deed) (deed : Deed) : Type 0 where
+  pub number : ℕ
+  pub path : List ℕ
+  pub is : deed ≡ Spec ShelfForm (shelf_name number path) (gone_form number path)
+  pub pathed : is_path path ≡ true
+  pub fits : number ≤ top d
+  pub small : number < 2 ^ 64
+
+gone_keeps : (d : List Deed) (n : ℕ) (path : List ℕ) → is_path path ≡ true → n ≤ top d → n < 2 ^ 64 → ShelfKeeps d (shelf_name n path) (gone_form n path)
+gone_keeps d n path is fits small = record {
+  path = path;
+  is_path = is;
+  path_is = value_back (printed path);
+  named = sym (λ i. value_back (decimal n) i ++ 0x20 ∷ value_back (printed path) i);
+  numbers = λ i. number_true i && (true && (true && true));
+  change_is = ap is_numeral (value_back (decimal n)) ∙ numeral_decimal n small;
+  change_fits = subst (λ (m : ℕ). m ≤ top d) (sym (ap number_of (value_back (decimal n)) ∙ number_decimal n small)) fits;
+  state = refl;
+  kept = λ e. absurd (let f = ap (same (codes "gone")) e in cc);
+}
+  where
+    number_true : is_number_of (gone_form n path) (codes "Change") ≡ true
+    number_true = or_true _ _ (ap is_numeral (value_back (decimal n)) ∙ numeral_decimal n small)
+      where
+        or_true : (a b : Bool) → b ≡ true → (a || b) ≡ true
+        or_true true b e = refl
+        or_true false b e = e
+
+pub gones_sound : (d deeds : List Deed) → IsSound d → AllOf (IsGone d) deeds → IsSound (after d deeds)
+gones_sound d [] sound m = sound
+gones_sound d (deed ∷ deeds) sound m =
+    let n = (m.0).number in
+    let path = (m.0).path in
+    let first : Deed = Spec ShelfForm (shelf_name n path) (gone_form n path) in
+    let here : IsSound (first ∷ d) = one_sound d first sound refl (gone_spelled n path (m.0).pathed, gone_keeps d n path (m.0).pathed (m.0).fits (m.0).small) tt in
+    subst (λ (x : Deed). IsSound (after (x ∷ d) deeds)) (sym (m.0).is) (gones_sound (first ∷ d) deeds here (still n path deeds m.1))
+  where
+    still : (n : ℕ) (path : List ℕ) (xs : List Deed) → AllOf (IsGone d) xs → AllOf (IsGone (Spec ShelfForm (shelf_name n path) (gone_form n path) ∷ d)) xs
+    still n path [] k = tt
+    still n path (x ∷ xs) k = (
+      record {
+        number = (k.0).number;
+        path = (k.0).path;
+        is = (k.0).is;
+        pathed = (k.0).pathed;
+        fits = (k.0).fits;
+        small = (k.0).small;
+      },
+      still n path xs k.1,
+    )
+
+-- ---- shelve -d
+
+module _ (d : List Deed) (sound : IsSound d) (caller : Caller) (n : ℕ) where
+  pending_fits : (p : Option Pending) → pending d n ≡ p → (elim p as (λ _. Option Refusal) [ None ↦ Some (NoSuchChange n) | Some q ↦ refuse_if (not (is_of caller q)) (NotYours n) ]) ≡ None
+      → (n ≤ top d) × (n < 2 ^ 64)
+  pending_fits None e h = absurd cc
+  pending_fits (Some p) e h =
+      let there : is_some (change_of (pending d n) (landing d n)) ≡ true = ap (λ (o : Option Pending). is_some (change_of o (landing d n))) e in
+      let low = (sound.rules).top_is n there in
+      let tops = top_value d in
+      let most = (sound.rules).top_fits in
+      (omega (arith, low, tops), omega (arith, low, most))
+
+  module _ (fits : n ≤ top d) (small : n < 2 ^ 64) where
+    gone_one : (path : List ℕ) → is_path path ≡ true → AllOf (IsGone d) (unkeep d caller n path).deeds
+    gone_one path is = unless_all (IsGone d) (right_refusal to_open d caller path ∷ []) _
+        (λ none. (record { number = n; path = path; is = refl; pathed = is; fits = fits; small = small }, tt))
+
+  forms_within : (step : Step) → AllOf (IsGone d) step.deeds → AllOf (IsGone d) (within_forms step).deeds
+  forms_within step h =
+      unless_all (IsGone d) (refuse_if (nat_lt 10000 (length step.deeds)) (OverLimit Files) ∷ refuse_if (nat_lt 16777216 (sum (map size_in step.deeds))) (OverLimit LimitShelf) ∷ []) step (λ none. h)
+
+  pub shelve_delete_sound : (files : List FileArgument) → IsSound (after d (shelve_delete d caller n files).deeds)
+  shelve_delete_sound files = gones_sound d (shelve_delete d caller n files).deeds sound
+      (unless_all (IsGone d) (change_refusal d caller n ∷ shelf_refusal d caller n ∷ []) (within_forms step) (λ none.
+      let numbers = pending_fits (pending d n) refl none.0 in
+      forms_within step
+      (over_any (IsGone d) is_path (named true d caller (kept_paths d n)) (λ _. unkeep d caller n)
+      (λ a. all_filtered is_path (names true d caller a.spec) (kept_paths d n) (kept_are d sound.paths n))
+      (λ a x is. gone_one numbers.0 numbers.1 x is) no_file (λ a. tt) files)))
+    where
+      step : Step
+      step = over_all (named true d caller (kept_paths d n)) no_file (λ _. unkeep d caller n) files

@@ -1,0 +1,139 @@
+-- Types and contents as values of forms.
+use Rattle.std.proofs.Common.{◌≡◌, ◌<◌, ◌/◌, ◌%◌, ℕ, zero, suc, Bool, true, false, List, [], ◌∷◌, ◌++◌, length, Ok, Err, refl, sym, ap, subst, ◌∙◌, arith}
+use Rattle.std.specs.Prelude.{◌&&◌, ◌||◌, ◌==◌, not, codes, filter, nat_lt, nat_le, slice_index, if◌then◌else◌}
+use Rattle.std.specs.List.{list_all}
+use Rattle.std.proofs.lemmas.Bool.Decides.{nat_tests}
+use Rattle.hex.proofs.HexLemmas.{decode_of-encode_lower}
+use Rattle.hex.specs.Hex.{IsBytes, encode_lower, encode_with, lower_digits}
+use Rattle.depot_path.specs.Bytes.{same, is_among}
+use Rattle.depot_path.specs.Name.{is_name}
+use Rattle.depot_path.specs.Utf8.{is_utf8}
+use Rattle.spec_form.proofs.Good.{GoodValue}
+use Rattle.spec_form.proofs.Utf8.{ascii-cons}
+use Rattle.spec_form.specs.Form.{value_lines}
+use Rattle.depot_model.specs.Rules.{is_content_text}
+use Rattle.depot_model.specs.Types.{base_type, modifiers, is_base, are_modifiers, is_type, printed_type, is_printed_type}
+use Rattle.depot_rows.proofs.Keys.{same-is, same-self, left-true, right-true}
+use Rattle.sound_file_steps.proofs.Known.{both_true}
+
+-- ---- types
+
+abbrev from_f : Bool → List ℕ
+from_f d = if d then 70 ∷ [] else []
+
+abbrev from_l : Bool → Bool → List ℕ
+from_l c d = if c then 108 ∷ from_f d else from_f d
+
+abbrev from_w : Bool → Bool → Bool → List ℕ
+from_w b c d = if b then 119 ∷ from_l c d else from_l c d
+
+abbrev from_x : Bool → Bool → Bool → Bool → List ℕ
+from_x a b c d = if a then 120 ∷ from_w b c d else from_w b c d
+
+text_named : (a b c d : Bool) → is_name (codes "text" ++ codes "+" ++ from_x a b c d) ≡ true
+text_named true true true true = refl
+text_named true true true false = refl
+text_named true true false true = refl
+text_named true true false false = refl
+text_named true false true true = refl
+text_named true false true false = refl
+text_named true false false true = refl
+text_named true false false false = refl
+text_named false true true true = refl
+text_named false true true false = refl
+text_named false true false true = refl
+text_named false true false false = refl
+text_named false false true true = refl
+text_named false false true false = refl
+text_named false false false true = refl
+text_named false false false false = refl
+
+binary_named : (a b c d : Bool) → is_name (codes "binary" ++ codes "+" ++ from_x a b c d) ≡ true
+binary_named true true true true = refl
+binary_named true true true false = refl
+binary_named true true false true = refl
+binary_named true true false false = refl
+binary_named true false true true = refl
+binary_named true false true false = refl
+binary_named true false false true = refl
+binary_named true false false false = refl
+binary_named false true true true = refl
+binary_named false true true false = refl
+binary_named false true false true = refl
+binary_named false true false false = refl
+binary_named false false true true = refl
+binary_named false false true false = refl
+binary_named false false false true = refl
+binary_named false false false false = refl
+
+either_base : (base : List ℕ) → is_base base ≡ true → (P : List ℕ → Type 0) → P (codes "text") → P (codes "binary") → P base
+either_base base e P p q = go (same base (codes "text")) (same base (codes "binary")) refl refl e
+  where
+    go : (a b : Bool) → same base (codes "text") ≡ a → same base (codes "binary") ≡ b → (a || b) ≡ true → P base
+    go true b h k f = subst P (sym (same-is base (codes "text") h)) p
+    go false true h k f = subst P (sym (same-is base (codes "binary") k)) q
+    go false false h k f = absurd cc
+
+pub type_named : (type : List ℕ) → is_printed_type type ≡ true → is_name type ≡ true
+type_named type e =
+    go (same type (base_type type)) refl (same-is (printed_type type) type (right-true (is_type type) (same (printed_type type) type) e))
+  where
+    based : is_base (base_type type) ≡ true
+    based = left-true (is_base (base_type type)) (same type (base_type type) || are_modifiers (modifiers type)) (left-true (is_type type) (same (printed_type type) type) e)
+
+    test : ℕ → Bool
+    test b = is_among (modifiers type) b
+
+    go : (plain : Bool) → same type (base_type type) ≡ plain
+        → (if plain then type else base_type type ++ codes "+" ++ filter (λ b. is_among (modifiers type) b) (codes "xwlF")) ≡ type → is_name type ≡ true
+    go true h k = ap is_name (same-is type (base_type type) h) ∙ either_base (base_type type) based (λ base. is_name base ≡ true) refl refl
+    go false h k =
+        ap is_name (sym k)
+        ∙ either_base (base_type type) based
+        (λ base. is_name (base ++ codes "+" ++ from_x (is_among (modifiers type) 120) (is_among (modifiers type) 119) (is_among (modifiers type) 108) (is_among (modifiers type) 70)) ≡ true)
+        (text_named (is_among (modifiers type) 120) (is_among (modifiers type) 119) (is_among (modifiers type) 108) (is_among (modifiers type) 70))
+        (binary_named (is_among (modifiers type) 120) (is_among (modifiers type) 119) (is_among (modifiers type) 108) (is_among (modifiers type) 70))
+
+-- ---- contents
+
+abbrev is_plain : ℕ → Bool
+is_plain b = nat_lt b 0x80 && not (b == 0x0A)
+
+index_plain : (xs : List ℕ) (k : ℕ) → list_all is_plain xs ≡ true → is_plain (slice_index xs k) ≡ true
+index_plain [] k e = refl
+index_plain (x ∷ xs) zero e = left-true (is_plain x) (list_all is_plain xs) e
+index_plain (x ∷ xs) (suc k) e = index_plain xs k (right-true (is_plain x) (list_all is_plain xs) e)
+
+encoded_plain : (block : List ℕ) → list_all is_plain (encode_lower block) ≡ true
+unfolding encode_with
+encoded_plain [] = refl
+encoded_plain (b ∷ block) =
+    both_true _ _ (index_plain lower_digits (b / 16) refl) (both_true _ _ (index_plain lower_digits (b % 16) refl) (encoded_plain block))
+
+plain_utf8 : (xs : List ℕ) → list_all is_plain xs ≡ true → is_utf8 xs ≡ true
+plain_utf8 [] e = refl
+plain_utf8 (x ∷ xs) e = ascii-cons x xs (small x (left-true (nat_lt x 0x80) (not (x == 0x0A)) (left-true (is_plain x) (list_all is_plain xs) e))) ∙ plain_utf8 xs (right-true (is_plain x) (list_all is_plain xs) e)
+  where
+    small : (y : ℕ) → nat_lt y 0x80 ≡ true → y < 0x80
+    small y h = grind (arith, nat_tests)
+
+plain_line : (xs : List ℕ) → list_all is_plain xs ≡ true → is_among xs 0x0A ≡ false
+plain_line [] e = refl
+plain_line (x ∷ xs) e = go (x == 0x0A) (right-true (nat_lt x 0x80) (not (x == 0x0A)) (left-true (is_plain x) (list_all is_plain xs) e)) (plain_line xs (right-true (is_plain x) (list_all is_plain xs) e))
+  where
+    go : (b : Bool) → not b ≡ true → is_among xs 0x0A ≡ false → (b || is_among xs 0x0A) ≡ false
+    go true h later = absurd cc
+    go false h later = later
+
+pub good_content : (block : List ℕ) → GoodValue (value_lines (codes "x" ++ encode_lower block))
+good_content block = record {
+  value = codes "x" ++ encode_lower block;
+  is = refl;
+  clean = record { one = plain_line (encode_lower block) (encoded_plain block); utf8 = ascii-cons 120 (encode_lower block) (omega arith) ∙ plain_utf8 (encode_lower block) (encoded_plain block) };
+  trimmed = refl;
+}
+
+pub content_is : (block : List ℕ) → IsBytes block → nat_le (length block) 8388608 ≡ true → is_content_text (codes "x" ++ encode_lower block) ≡ true
+content_is block bytes small =
+    ap (λ r. elim r [ Err fault ↦ false | Ok x ↦ same (encode_lower x) (encode_lower block) && nat_le (length x) 8388608 ]) (decode_of-encode_lower block bytes)
+    ∙ both_true (same (encode_lower block) (encode_lower block)) (nat_le (length block) 8388608) (same-self (encode_lower block)) small

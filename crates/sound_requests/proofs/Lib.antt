@@ -1,0 +1,3 @@
+pub mod Whole
+pub mod All
+pub mod Bytes

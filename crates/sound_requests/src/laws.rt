@@ -1,0 +1,17 @@
+//! The law of all requests and sound depots.
+
+ghost use Rattle.std.specs.Prelude.{Bool, List, IsTrue};
+ghost use Rattle.depot_model.specs.declared.command.Command.{Command};
+ghost use Rattle.depot_model.specs.declared.request.Request.{Request};
+ghost use Rattle.depot_model.specs.Commands.{step_of};
+ghost use Rattle.depot_model.specs.Deeds.{Deed};
+ghost use Rattle.depot_model.specs.Rules.{IsSound};
+ghost use Rattle.depot_model.specs.Step.{after};
+ghost use Rattle.sound_requests.specs.Asked.{IsAsked, is_typed};
+
+/// The step of a request leaves a sound depot sound, whichever commands are built, where its command, if it has one, is well-formed, its contents
+/// are no longer than a block of a script, and its parts are of their types.
+pub fn requests_keep_depots_sound()
+    ensures { (built : Command → Bool) (d : List Deed) (request : Request) → IsSound d → IsAsked request → IsTrue (is_typed request) →
+        IsSound (after d (step_of built d request).deeds) }
+{}
