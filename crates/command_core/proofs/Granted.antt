@@ -1,57 +1,65 @@
--- The step of a command that a caller may or may not give.
-use Rattle.std.proofs.Common.{◌≡◌, ℕ, Bool, true, false, not, List, [], ◌∷◌, None, refl, sym, subst}
-use Rattle.std.specs.Prelude.{codes, IsTrue}
-use Rattle.std.specs.List.{list_any}
-use Rattle.db_records.specs.declared.table.TableId.TheVariants.{Working}
+-- The step of a command is that of its first refusal, or else its own.
+use Rattle.std.proofs.Common.{◌≡◌, ℕ, Bool, true, false, List, [], ◌∷◌, ◌++◌, Option, Some, None, refl, sym, ap, ◌∙◌, subst}
+use Rattle.std.specs.Prelude.{if◌then◌else◌, option_map}
 use Rattle.table_changes.specs.Changed.{AllRows}
 use Rattle.depot_model.specs.declared.command.Command.{Command}
-use Rattle.depot_model.specs.declared.command.Command.TheVariants.{CounterShow, CounterSet, CounterDelete}
+use Rattle.depot_model.specs.declared.command.Command.TheVariants.{CounterShow, CounterSet, CounterDelete, Counters, ClientShow, ClientSave, LabelShow, LabelSave, Labels, GroupShow, GroupSave, ProtectShow, ProtectSave, Have, Reopen, Lock, Unlock, Opened}
 use Rattle.depot_model.specs.declared.refusal.Refusal.{Refusal}
-use Rattle.depot_model.specs.declared.refusal.Refusal.TheVariants.{Denied}
+use Rattle.depot_model.specs.declared.refusal.Refusal.TheVariants.{Unbuilt}
+use Rattle.depot_model.specs.declared.reply.Row.{Row}
 use Rattle.depot_model.specs.declared.request.Request.{Request}
 use Rattle.depot_model.specs.About.{about}
-use Rattle.depot_model.specs.Asking.{may_anywhere}
 use Rattle.depot_model.specs.Built.{is_built}
 use Rattle.depot_model.specs.Commands.{built_step, own_step}
+use Rattle.depot_model.specs.Common.{common_refusals, last_refusals}
 use Rattle.depot_model.specs.Deeds.{Deed}
 use Rattle.depot_model.specs.Refusals.{refusal_row}
-use Rattle.depot_model.specs.Step.{Step as ModelStep, unless, refuse_if, refuses}
-use Rattle.depot_rows.specs.declared.deed.Deed as done
-use Rattle.depot_rows.specs.Effects.{Follow}
-use Rattle.depot_rows.specs.Standing.{HasRows}
-use Rattle.row_changes.specs.Locking.{is_hold}
-use Rattle.spec_ops.specs.declared.step.Step.{Step}
-use Rattle.command_core.specs.Outcomes.{IsStep}
+use Rattle.depot_model.specs.Step.{Step as ModelStep, unless, refuses}
+use Rattle.reply_rows.specs.declared.step.Step.{Step}
+use Rattle.reply_rows.specs.Made.{IsMade, told}
+use Rattle.reply_rows.proofs.Bare.{refuses_made}
+use Rattle.command_core.specs.Refusing.{first_of}
 
--- a step where the caller has a right somewhere; the other refusals that are common to all commands never hold
-abbrev pub where_granted : Bool → ℕ → ModelStep → ModelStep
-where_granted may need own = unless (refuse_if (not may) (Denied (codes "//...") need) ∷ None ∷ None ∷ []) own
+-- the step of the first refusal, where there is one
+pub refusing : (all : AllRows) (d : List Deed) (tests : List (Option Refusal)) (own : ModelStep) (row : Row) (step : Step)
+    → Some row ≡ option_map refusal_row (first_of tests) → step ≡ told (row ∷ []) → IsMade all d d (unless tests own) step
+refusing all d [] own row step holds is = absurd cc
+refusing all d (None ∷ tests) own row step holds is = refusing all d tests own row step holds is
+refusing all d (Some why ∷ tests) own row step holds is =
+    let same : row ≡ refusal_row why = cc in
+    subst (λ (s : Step). IsMade all d d (refuses why) s) (sym (is ∙ (λ i. told (same i ∷ [])))) (refuses_made all d d why)
 
-module _ (all : AllRows) (d : List Deed) where
-  -- a refusal has no deeds
-  refuses_as : (why : Refusal) (made : Step) → made.deeds ≡ [] → made.rows ≡ refusal_row why ∷ [] → IsStep all d (refuses why) made
-  refuses_as why made none rows = record {
-    deeds = let P : List done.Deed → Type 0 = λ deeds. Follow d deeds [] in subst P (sym none) tt;
-    opened = let P : List done.Deed → Type 0 = λ deeds. IsTrue (list_any is_hold deeds) → HasRows all d Working in subst P (sym none) (λ held. absurd cc);
-    rows = rows;
-  }
+-- its own, where there is none
+pub granting : (all : AllRows) (d : List Deed) (tests : List (Option Refusal)) (own : ModelStep) (step : Step)
+    → None ≡ option_map refusal_row (first_of tests) → IsMade all d d own step → IsMade all d d (unless tests own) step
+granting all d [] own step none is = is
+granting all d (None ∷ tests) own step none is = granting all d tests own step none is
+granting all d (Some why ∷ tests) own step none is = absurd cc
 
-  pub refused : (may : Bool) (need : ℕ) (own : ModelStep) (made : Step) → may ≡ false → made.deeds ≡ []
-      → made.rows ≡ refusal_row (Denied (codes "//...") need) ∷ [] → IsStep all d (where_granted may need own) made
-  refused may need own made e none rows =
-      let P : Bool → Type 0 = λ b. IsStep all d (where_granted b need own) made in
-      subst P (sym e) (refuses_as (Denied (codes "//...") need) made none rows)
-
-  pub granted : (may : Bool) (need : ℕ) (own : ModelStep) (made : Step) → may ≡ true → IsStep all d own made → IsStep all d (where_granted may need own) made
-  granted may need own made e is =
-      let P : Bool → Type 0 = λ b. IsStep all d (where_granted b need own) made in
-      subst P (sym e) is
-
--- a command that is built
+-- a command that is built, without a refusal of its own before its step
 module _ (d : List Deed) (request : Request) where
   pub built_is : (command : Command) → is_built command ≡ true
-      → built_step is_built d request command ≡ where_granted (may_anywhere d request.caller (about command).need) (about command).need (own_step d request command)
+      → built_step is_built d request command ≡ unless (common_refusals d request.caller (about command)) (own_step d request command)
   built_is (CounterShow name) e = refl
   built_is (CounterSet name value) e = refl
   built_is (CounterDelete name) e = refl
+  built_is Counters e = refl
+  built_is (ClientShow name) e = refl
+  built_is ClientSave e = refl
+  built_is (LabelShow name) e = refl
+  built_is LabelSave e = refl
+  built_is Labels e = refl
+  built_is (GroupShow name) e = refl
+  built_is GroupSave e = refl
+  built_is ProtectShow e = refl
+  built_is ProtectSave e = refl
+  built_is (Have files) e = refl
+  built_is (Reopen change file_type files) e = refl
+  built_is (Lock change files) e = refl
+  built_is (Unlock change files) e = refl
+  built_is (Opened all files) e = refl
   built_is _ e = absurd cc
+
+  pub unbuilt_is : (command : Command) → is_built command ≡ false → built_step is_built d request command ≡ refuses (Unbuilt (about command).word)
+  unbuilt_is command e = λ i. if e i then unless (common_refusals d request.caller (about command) ++ last_refusals d command) (own_step d request command)
+      else refuses (Unbuilt (about command).word)

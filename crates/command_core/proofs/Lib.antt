@@ -1,4 +1,3 @@
-pub mod Alike
 pub mod Granted
 pub mod Locking
-pub mod Sound
+pub mod Refusals

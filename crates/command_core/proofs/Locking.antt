@@ -1,20 +1,31 @@
--- Deeds that follow a depot lock a file exactly where the model's do.
-use Rattle.std.proofs.Common.{◌≡◌, Bool, true, false, List, [], ◌∷◌, Some, refl, sym, ap, ◌∙◌}
-use Rattle.std.specs.Prelude.{◌||◌}
-use Rattle.std.specs.List.{list_any}
+-- Where a deed of a step locks a file, the command writes the table of opened files.
+use Rattle.std.proofs.Common.{◌≡◌, ℕ, Bool, true, false, List, [], ◌∷◌, Some, Result, Ok, Err, refl, sym, ap, ◌∙◌, subst}
+use Rattle.std.specs.Prelude.{◌||◌, ◌&&◌, IsTrue}
+use Rattle.std.specs.List.{list_any, list_all}
+use Rattle.db_records.specs.Table.{table_number}
+use Rattle.db_records.specs.declared.table.TableId.TheVariants.{Working}
 use Rattle.table_changes.specs.Changed.{AllRows}
+use Rattle.depot_model.specs.declared.command.Command.{Command}
+use Rattle.depot_model.specs.declared.request.Request.{Request}
+use Rattle.depot_model.specs.declared.request.WordFault.{WordFault}
+use Rattle.depot_model.specs.Built.{is_built}
+use Rattle.depot_model.specs.Commands.{built_step, step}
+use Rattle.depot_model.specs.Common.{word_refusal}
 use Rattle.depot_model.specs.Deeds as model
-use Rattle.depot_model.specs.Step.{Step as ModelStep}
+use Rattle.depot_model.specs.Step.{Step as ModelStep, refuses}
+use Rattle.depot_model.specs.Tables.{is_in, own_tables, touches, writes}
 use Rattle.depot_rows.specs.declared.deed.Deed.{Deed}
 use Rattle.depot_rows.specs.declared.deed.Deed.TheVariants.{Spec, Guard, Group, Count, Pend, Drop, Open, Shut, Hold, Free, Got, Tag, Owe, Paid, Land}
 use Rattle.depot_rows.specs.Deed.{IsDeed}
 use Rattle.depot_rows.specs.Effects.{Follow}
+use Rattle.depot_rows.specs.Standing.{HasRows}
 use Rattle.row_changes.specs.Locking.{is_hold}
-use Rattle.spec_ops.specs.declared.step.Step.{Step}
-use Rattle.command_core.specs.Outcomes.{IsStep}
+use Rattle.step_tables.specs.DeedTables.{stays_in}
+use Rattle.step_tables.proofs.Whole.{step_stays}
+use Rattle.command_core.specs.Outcomes.{HasNeeded, HasNeededBy}
 
 -- a deed of the model locks a file
-abbrev pub locks : model.Deed → Bool
+abbrev locks : model.Deed → Bool
 locks (model.Hold held) = true
 locks _ = false
 
@@ -38,17 +49,62 @@ one_locks d (Owe o) deed is = ap locks (some-is is)
 one_locks d (Paid held from how) deed is = ap locks (some-is is)
 one_locks d (Land l) deed is = ap locks is.1
 
-pub lock_alike : (d : List model.Deed) (dones : List Deed) (deeds : List model.Deed) → Follow d dones deeds → list_any is_hold dones ≡ list_any locks deeds
+-- deeds that follow a depot lock a file exactly where the model's do
+lock_alike : (d : List model.Deed) (dones : List Deed) (deeds : List model.Deed) → Follow d dones deeds → list_any is_hold dones ≡ list_any locks deeds
 lock_alike d [] [] follow = refl
 lock_alike d [] (deed ∷ deeds) follow = absurd follow
 lock_alike d (done ∷ dones) [] follow = absurd follow
 lock_alike d (done ∷ dones) (deed ∷ deeds) follow = λ i. one_locks d done deed follow.0 i || lock_alike (deed ∷ d) dones deeds follow.2 i
 
--- a step that locks no file
-pub lockless : (all : AllRows) (d : List model.Deed) (told : ModelStep) (made : Step) → list_any locks told.deeds ≡ false → Follow d made.deeds told.deeds
-    → made.rows ≡ told.rows → IsStep all d told made
-lockless all d told made none follow rows = record {
-  deeds = follow;
-  opened = λ held. absurd (let one : true ≡ false = sym held ∙ lock_alike d made.deeds told.deeds follow ∙ none in cc);
-  rows = rows;
-}
+-- a deed that stays in tables without that of opened files locks none
+module _ (tables : List ℕ) (without : is_in tables 8 ≡ false) where
+  both_are : (a b : Bool) → (a && b) ≡ true → (a ≡ true) × (b ≡ true)
+  both_are true b e = (refl, e)
+  both_are false b e = absurd cc
+
+  one_stays : (deed : model.Deed) → stays_in tables deed ≡ true → locks deed ≡ false
+  one_stays (model.Hold held) e = absurd (let here = (both_are (is_in tables 8) true e).0 in cc)
+  one_stays (model.Spec kind name form) e = refl
+  one_stays (model.Guard lines) e = refl
+  one_stays (model.Group name users) e = refl
+  one_stays (model.Count name value) e = refl
+  one_stays (model.Pend p) e = refl
+  one_stays (model.Drop n) e = refl
+  one_stays (model.Open o) e = refl
+  one_stays (model.Shut held) e = refl
+  one_stays (model.Free held) e = refl
+  one_stays (model.Got held rev) e = refl
+  one_stays (model.Tag label path rev) e = refl
+  one_stays (model.Owe o) e = refl
+  one_stays (model.Paid held from how) e = refl
+  one_stays (model.Land l) e = refl
+
+  none_locks : (deeds : List model.Deed) → list_all (stays_in tables) deeds ≡ true → list_any locks deeds ≡ false
+  none_locks [] e = refl
+  none_locks (deed ∷ deeds) e =
+      let parts = both_are (stays_in tables deed) (list_all (stays_in tables) deeds) e in
+      λ i. one_stays deed parts.0 i || none_locks deeds parts.1 i
+
+or_true : (a b : Bool) → b ≡ true → (a || b) ≡ true
+or_true true b e = refl
+or_true false b e = e
+
+module _ (all : AllRows) (d : List model.Deed) (request : Request) where
+  abbrev step_for : Result Command WordFault → ModelStep
+  step_for asked = elim asked [ Err fault ↦ refuses (word_refusal fault) | Ok command ↦ built_step is_built d request command ]
+
+  by_command : (command : Command) (dones : List Deed) → request.command ≡ Ok command → HasNeededBy all d (Ok command) → Follow d dones (step d request).deeds
+      → IsTrue (list_any is_hold dones) → (written : Bool) → writes command 8 ≡ written → HasRows all d Working
+  by_command command dones asked has follow held true e = has Working (or_true (is_in (1 ∷ 2 ∷ 3 ∷ (own_tables command).read) 8) (writes command 8) e)
+  by_command command dones asked has follow held false e =
+      absurd (let one : true ≡ false = sym held ∙ lock_alike d dones (step d request).deeds follow
+      ∙ none_locks (own_tables command).written e (step d request).deeds (step_stays is_built d request command asked).each in cc)
+
+  by_words : (asked : Result Command WordFault) (dones : List Deed) → request.command ≡ asked → HasNeededBy all d asked → Follow d dones (step d request).deeds
+      → IsTrue (list_any is_hold dones) → HasRows all d Working
+  by_words (Ok command) dones asked has follow held = by_command command dones asked has follow held (writes command 8) refl
+  by_words (Err fault) dones asked has follow held =
+      absurd (let one : true ≡ false = sym held ∙ lock_alike d dones (step d request).deeds follow ∙ ap (λ k. list_any locks (step_for k).deeds) asked in cc)
+
+  pub opened_has_rows : (dones : List Deed) → HasNeeded all d request → Follow d dones (step d request).deeds → IsTrue (list_any is_hold dones) → HasRows all d Working
+  opened_has_rows dones has follow held = by_words request.command dones refl has follow held

@@ -1,14 +1,18 @@
 //! The outcome of a request.
 
-use db_records::Change;
+use db_records::{Change, Spot};
 use depot_model::Reply;
-use depot_path::Sequence;
+use depot_path::{Sequence, Text};
 
-/// What a request is answered, and what it changes in the tables.
+/// What a request is answered, and what it changes.
 #[derive(Drop)]
 pub struct Outcome {
-    /// What it is answered.
+    /// What it is answered. A row that lacks its content has an empty one.
     pub reply: Reply,
     /// What it changes: each row that differs, once, in the order of the keys.
     pub changes: Sequence<Change>,
+    /// The contents that it stores, which are put into the archive one after another from the archive's end.
+    pub stores: Sequence<Text>,
+    /// Where the contents stand that the rows lack, in the order of the rows.
+    pub reads: Sequence<Spot>,
 }

@@ -1,34 +1,41 @@
 //! `counter` (Command-Line Reference, "p4 counter").
 
-ghost use Rattle.std.specs.Prelude.{◌≡◌, List, IfOk};
+ghost use Rattle.std.specs.Prelude.{◌≡◌, ◌∷◌, [], List, map, IfOk};
 ghost use Rattle.std.specs.Option.{option_copied};
 ghost use Rattle.db_records.specs.declared.table.TableId.TheVariants as table_ids;
-ghost use Rattle.table_changes.specs.Changed.{rows_of};
+ghost use Rattle.table_changes.specs.Changed.{AllRows, rows_of};
 ghost use Rattle.table_store.specs.Rows.{row_at};
-ghost use Rattle.depot_model.specs.Deeds.{Deed as ModelDeed};
+ghost use Rattle.depot_model.specs.Deeds.{Count, Deed as ModelDeed};
+ghost use Rattle.depot_model.specs.Step.{does};
 ghost use Rattle.depot_model.specs.Steps.Counters as model;
-ghost use Rattle.depot_rows.specs.Effects.{Follow};
 ghost use Rattle.depot_rows.specs.Standing.{HasRows};
 ghost use Rattle.db_records.specs.declared.key.Key.TheVariants as keys;
+ghost use Rattle.reply_rows.specs.Made.{IsMade};
 ghost use Rattle.spec_ops.specs.Counters.{value_in};
 
-use crate::reply_rows::{number_field, row_of, text_field};
-use crate::step::Step;
-use db_records::{Key, Record, TableId};
+use db_records::{CounterRecord, Key, Record, TableId};
 use depot_model::Row;
 use depot_path::{Name, Sequence, Text};
-use depot_rows::Deed;
+use reply_rows::{Step, number_field, row_of, text_field};
+use row_reads::counters_of;
 use std::alloc::{AllocError, Global};
 use table_store::Tables;
 
-/// The row of a counter, 0 standing for no value.
-fn counter_row(alloc: Global, name: &Name, value: u64) -> Result<Row, AllocError>
+/// The row of a value, 0 standing for none.
+fn value_row(alloc: Global, name: &[u8], value: u64) -> Result<Row, AllocError>
     ensures { IfOk result (λ row. row ≡ model.counter_row name.now value) }
 {
     let mut fields = Sequence::new(alloc);
-    fields.push(text_field(alloc, b"counter", name.as_bytes())?)?;
+    fields.push(text_field(alloc, b"counter", name)?)?;
     fields.push(number_field(alloc, b"value", value)?)?;
     Ok(row_of(fields))
+}
+
+/// The row of a counter.
+fn counter_row(alloc: Global, name: &Name, value: u64) -> Result<Row, AllocError>
+    ensures { IfOk result (λ row. row ≡ model.counter_row name.now value) }
+{
+    value_row(alloc, name.as_bytes(), value)
 }
 
 /// The value in the row of a counter, 0 where there is none.
@@ -53,29 +60,63 @@ fn counter_value(alloc: Global, tables: &Tables, name: &Name) -> Result<u64, All
 
 /// `counter NAME`, from the table of counters alone.
 pub fn counter_show(alloc: Global, tables: &Tables, name: &Name) -> Result<Step, AllocError>
-    ensures deeds { IfOk result (λ step. (d : List ModelDeed) → Follow d step.deeds (model.counter_show d name.now).deeds) }
-    ensures rows { IfOk result (λ step. (d : List ModelDeed) → HasRows (rows_of tables.now) d table_ids.Counter → step.rows ≡ (model.counter_show d name.now).rows) }
+    ensures { IfOk result (λ step. (d : List ModelDeed) → HasRows (rows_of tables.now) d table_ids.Counter → IsMade (rows_of tables.now) d d (model.counter_show d name.now) step) }
 {
     let value = counter_value(alloc, tables, name)?;
-    Step::tells(alloc, counter_row(alloc, name, value)?)
+    let step = Step::tells(alloc, counter_row(alloc, name, value)?)?;
+    Ok(step)
+}
+
+/// The same name once more.
+fn copy_of(name: &Name) -> Result<Name, AllocError>
+    ensures { IfOk result (λ copy. copy ≡ name.now) }
+{
+    name.clone()
+}
+
+/// The step of a counter that gets a value, or none, with the value that its row shows.
+fn count(alloc: Global, name: &Name, value: Option<u64>, shown: u64) -> Result<Step, AllocError>
+    ensures { IfOk result (λ step. (all : AllRows) (d : List ModelDeed) → IsMade all d d (does (Count name.now value ∷ []) (model.counter_row name.now shown)) step) }
+{
+    let mut step = Step::tells(alloc, counter_row(alloc, name, shown)?)?;
+    let name = copy_of(name)?;
+    step.deeds.count(name, value)?;
+    Ok(step)
 }
 
 /// `counter NAME VALUE`
 pub fn counter_set(alloc: Global, name: &Name, value: u64) -> Result<Step, AllocError>
-    ensures deeds { IfOk result (λ step. (d : List ModelDeed) → Follow d step.deeds (model.counter_set name.now value).deeds) }
-    ensures rows { IfOk result (λ step. step.rows ≡ (model.counter_set name.now value).rows) }
+    ensures { IfOk result (λ step. (all : AllRows) (d : List ModelDeed) → IsMade all d d (model.counter_set name.now value) step) }
 {
-    let row = counter_row(alloc, name, value)?;
-    let name = name.clone()?;
-    Step::does(alloc, Deed::Count(name, Some(value)), row)
+    count(alloc, name, Some(value), value)
 }
 
 /// `counter -d NAME`
 pub fn counter_delete(alloc: Global, name: &Name) -> Result<Step, AllocError>
-    ensures deeds { IfOk result (λ step. (d : List ModelDeed) → Follow d step.deeds (model.counter_delete name.now).deeds) }
-    ensures rows { IfOk result (λ step. step.rows ≡ (model.counter_delete name.now).rows) }
+    ensures { IfOk result (λ step. (all : AllRows) (d : List ModelDeed) → IsMade all d d (model.counter_delete name.now) step) }
 {
-    let row = counter_row(alloc, name, 0)?;
-    let name = name.clone()?;
-    Step::does(alloc, Deed::Count(name, None), row)
+    count(alloc, name, None, 0)
+}
+
+/// The rows of counters.
+fn counter_rows(alloc: Global, counters: &[CounterRecord]) -> Result<Sequence<Row>, AllocError>
+    ensures { IfOk result (λ rows. rows ≡ map (λ c. model.counter_row c.name c.value) counters.now) }
+{
+    let mut rows = Sequence::new(alloc);
+    for counter in counters {
+        rows.push(value_row(alloc, counter.name.as_bytes(), counter.value)?)?;
+    }
+    Ok(rows)
+}
+
+/// `counters`, from the table of counters alone.
+pub fn counter_list(alloc: Global, tables: &Tables) -> Result<Step, AllocError>
+    ensures { IfOk result (λ step. (d : List ModelDeed) → HasRows (rows_of tables.now) d table_ids.Counter → IsMade (rows_of tables.now) d d (model.counters d) step) }
+{
+    let counters = counters_of(alloc, tables)?;
+    let rows = counter_rows(alloc, counters.as_slice())?;
+    Ok(Step {
+        rows,
+        ..Step::new(alloc)
+    })
 }

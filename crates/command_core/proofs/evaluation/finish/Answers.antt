@@ -10,7 +10,7 @@ use Rattle.depot_rows.specs.Effects.{Follow}
 use Rattle.depot_rows.specs.Standing.{HasRows}
 use Rattle.row_changes.specs.Differences.{AreDifferences}
 use Rattle.row_changes.specs.Locking.{is_hold}
-use Rattle.spec_ops.specs.declared.step.Step.{Step}
+use Rattle.reply_rows.specs.declared.step.Step.{Step}
 use Rattle.command_core.specs.Outcomes.{IsStep}
 use Rattle.command_core.proofs.evaluation.finish.Goals as goal
 
@@ -21,7 +21,7 @@ same_changes all d told made given changes items same is differ step =
     let P : List Deed → Type 0 = λ deeds. Follow d deeds told.deeds in
     let Q : List Deed → Type 0 = λ deeds. IsTrue (list_any is_hold deeds) → HasRows all d Working in
     let R : List Change → Type 0 = λ cs. AreDifferences all d (after d told.deeds) cs in
-    subst R (sym is) (differ (subst P (sym same) step.deeds) (subst Q (sym same) step.opened))
+    subst R (sym is) (differ (subst P (sym same) step.is_made.deeds) (subst Q (sym same) step.opened))
 
 pub returns-clause-changes : goal.returns-clause-changes
 returns-clause-changes c = λ d told apart step.

@@ -1,5 +1,6 @@
-use Rattle.command_core.proofs.Sound.{step_kept}
+use Rattle.depot_model.specs.Built.{is_built}
+use Rattle.sound_requests.proofs.All.{asked_sound}
 use Rattle.command_core.proofs.laws.steps_keep_depots_sound.Goals as goal
 
 pub returns : goal.returns
-returns c = λ d request sound free named. step_kept d request sound free named
+returns c = λ d request sound asked typed. asked_sound is_built d request sound asked typed

@@ -1,0 +1,41 @@
+-- The first of the common refusals that holds.
+use Rattle.std.proofs.Common.{◌≡◌, ℕ, Bool, true, false, List, [], ◌∷◌, ◌++◌, Option, Some, None, length, take, drop, get_or, ◌≤◌, ◌<◌, ◌-◌, refl, sym, ap, ◌∙◌, arith}
+use Rattle.std.specs.Prelude.{flat_map, not}
+use Rattle.std.proofs.lemmas.List.{take_all}
+use Rattle.depot_model.specs.declared.command.FileArgument.{FileArgument}
+use Rattle.depot_model.specs.declared.refusal.Refusal.{Refusal}
+use Rattle.depot_model.specs.declared.refusal.Refusal.TheVariants.{NoSuchLabel}
+use Rattle.depot_model.specs.Common.{first_unknown}
+use Rattle.depot_model.specs.Step.{refuse_if}
+use Rattle.command_core.specs.Refusing.{first_of}
+
+-- where the caller has the right and its client is there, an unknown name is the first
+pub first_is : (may lacks : Bool) (denied none : Refusal) (unknown : Option Refusal) → may ≡ true → lacks ≡ false
+    → first_of (refuse_if (not may) denied ∷ refuse_if lacks none ∷ unknown ∷ []) ≡ unknown
+first_is true false denied none None e k = refl
+first_is true false denied none (Some why) e k = refl
+first_is true true denied none unknown e k = absurd cc
+first_is false lacks denied none unknown e k = absurd cc
+
+-- the first item and those behind it
+parted : (rest : List FileArgument) (x : FileArgument) → 1 ≤ length rest → x ≡ get_or rest 0 x → x ∷ take (length rest - 1) (drop 1 rest) ≡ rest
+parted [] x few is = absurd (omega arith)
+parted (y ∷ rest) x few is = λ i. is i ∷ take_all (length (y ∷ rest) - 1) rest (omega arith) i
+
+module _ (unknown : FileArgument → List (List ℕ)) (rest : List FileArgument) where
+  abbrev names : List FileArgument → List (List ℕ)
+  names files = flat_map unknown files
+
+  pub unknown_here : (file : FileArgument) (name : List ℕ) → 1 ≤ length rest → file ≡ get_or rest 0 file → name ∷ [] ≡ unknown file
+      → Some (NoSuchLabel name) ≡ first_unknown (names rest)
+  unknown_here file name some is here =
+      (λ i. first_unknown (here i ++ names (take (length rest - 1) (drop 1 rest)))) ∙ ap (λ files. first_unknown (names files)) (parted rest file some is)
+
+  pub unknown_later : (file : FileArgument) → 1 ≤ length rest → file ≡ get_or rest 0 file → [] ≡ unknown file
+      → names (take (length rest - 1) (drop 1 rest)) ≡ names rest
+  unknown_later file some is here =
+      (λ i. here i ++ names (take (length rest - 1) (drop 1 rest))) ∙ ap names (parted rest file some is)
+
+pub unknown_nowhere : (unknown : FileArgument → List (List ℕ)) (rest : List FileArgument) → length rest < 1 → None ≡ first_unknown (flat_map unknown rest)
+unknown_nowhere unknown [] none = refl
+unknown_nowhere unknown (file ∷ rest) none = absurd (omega arith)

@@ -1,0 +1,171 @@
+//! What is known of each form of command: whether it is built, the right that it needs, whether it needs a client, and its arguments.
+
+ghost use Rattle.std.specs.Prelude.{◌≡◌};
+ghost use Rattle.depot_model.specs.About.{about};
+ghost use Rattle.depot_model.specs.Built.{is_built as built};
+
+use depot_model::{Command, FileArgument, PatternArgument};
+use protect_table::Level;
+use std::slice;
+
+/// Whether a command is built.
+pub(crate) fn is_built(command: &Command) -> bool
+    ensures { result ≡ built command.now }
+{
+    matches!(
+        command,
+        Command::CounterShow { .. }
+            | Command::CounterSet { .. }
+            | Command::CounterDelete { .. }
+            | Command::Counters
+            | Command::ClientShow { .. }
+            | Command::ClientSave
+            | Command::LabelShow { .. }
+            | Command::LabelSave
+            | Command::Labels
+            | Command::GroupShow { .. }
+            | Command::GroupSave
+            | Command::ProtectShow
+            | Command::ProtectSave
+            | Command::Have { .. }
+            | Command::Reopen { .. }
+            | Command::Lock { .. }
+            | Command::Unlock { .. }
+            | Command::Opened { .. }
+    )
+}
+
+/// The right that a command needs somewhere.
+pub(crate) fn need_of(command: &Command) -> Level
+    ensures { result.0 ≡ (about command.now).need }
+{
+    match command {
+        Command::GroupSave | Command::ProtectShow | Command::ProtectSave | Command::Checkpoint =>
+            Level(6),
+        Command::CounterSet { .. }
+        | Command::CounterDelete { .. }
+        | Command::Lock { .. }
+        | Command::Unlock { .. }
+        | Command::SubmitChange { .. }
+        | Command::SubmitDefault { .. } => Level(4),
+        Command::LabelSave
+        | Command::Add { .. }
+        | Command::Edit { .. }
+        | Command::Delete { .. }
+        | Command::Move { .. }
+        | Command::Revert { .. }
+        | Command::Reopen { .. }
+        | Command::ChangeSave
+        | Command::ChangeDelete { .. }
+        | Command::Tag { .. }
+        | Command::LabelSync { .. }
+        | Command::Integrate { .. }
+        | Command::Resolve { .. }
+        | Command::Shelve { .. }
+        | Command::ShelveDelete { .. }
+        | Command::Unshelve { .. }
+        | Command::JobSave
+        | Command::Fix { .. }
+        | Command::FixDelete { .. } => Level(3),
+        Command::Sync { .. } | Command::Print { .. } => Level(2),
+        Command::CounterShow { .. }
+        | Command::Counters
+        | Command::ClientShow { .. }
+        | Command::ClientSave
+        | Command::LabelShow { .. }
+        | Command::GroupShow { .. }
+        | Command::Where { .. }
+        | Command::Opened { .. }
+        | Command::ChangeShow { .. }
+        | Command::Changes { .. }
+        | Command::Have { .. }
+        | Command::Labels
+        | Command::Integrated { .. }
+        | Command::Files { .. }
+        | Command::FileLog { .. }
+        | Command::Describe { .. }
+        | Command::Dirs { .. }
+        | Command::FileStat { .. }
+        | Command::DescribeShelved { .. }
+        | Command::JobShow { .. }
+        | Command::Jobs
+        | Command::Fixes { .. }
+        | Command::Pull => Level(1),
+    }
+}
+
+/// Whether a command needs the caller's client.
+pub(crate) fn needs_client(command: &Command) -> bool
+    ensures { result ≡ (about command.now).needs_client }
+{
+    matches!(
+        command,
+        Command::Where { .. }
+            | Command::Add { .. }
+            | Command::Edit { .. }
+            | Command::Delete { .. }
+            | Command::Move { .. }
+            | Command::Revert { .. }
+            | Command::Reopen { .. }
+            | Command::Lock { .. }
+            | Command::Unlock { .. }
+            | Command::Opened { .. }
+            | Command::ChangeSave
+            | Command::ChangeShow { .. }
+            | Command::ChangeDelete { .. }
+            | Command::SubmitChange { .. }
+            | Command::SubmitDefault { .. }
+            | Command::Sync { .. }
+            | Command::Have { .. }
+            | Command::LabelSync { .. }
+            | Command::Integrate { .. }
+            | Command::Resolve { .. }
+            | Command::Shelve { .. }
+            | Command::ShelveDelete { .. }
+            | Command::Unshelve { .. }
+    )
+}
+
+/// The file arguments of a command.
+pub(crate) fn files_of(command: &Command) -> &[FileArgument]
+    ensures { result.now ≡ (about command.now).files }
+{
+    match command {
+        Command::Where { paths: files }
+        | Command::Add { paths: files, .. }
+        | Command::Edit { files, .. }
+        | Command::Delete { files, .. }
+        | Command::Revert { files, .. }
+        | Command::Reopen { files, .. }
+        | Command::Lock { files, .. }
+        | Command::Unlock { files, .. }
+        | Command::Opened { files, .. }
+        | Command::Changes { files, .. }
+        | Command::Sync { files, .. }
+        | Command::Have { files }
+        | Command::Tag { files, .. }
+        | Command::LabelSync { files, .. }
+        | Command::Resolve { files, .. }
+        | Command::Integrated { files }
+        | Command::Files { files, .. }
+        | Command::FileLog { files }
+        | Command::Print { files }
+        | Command::Dirs { patterns: files }
+        | Command::FileStat { files }
+        | Command::Shelve { files, .. }
+        | Command::ShelveDelete { files, .. }
+        | Command::Unshelve { files, .. } => files.as_slice(),
+        Command::Move { from, .. } | Command::Integrate { from, .. } => slice::from_ref(from),
+        _ => &[],
+    }
+}
+
+/// The pattern arguments of a command.
+pub(crate) fn patterns_of(command: &Command) -> &[PatternArgument]
+    ensures { result.now ≡ (about command.now).patterns }
+{
+    match command {
+        Command::Move { to, .. } | Command::Integrate { to, .. } => slice::from_ref(to),
+        _ => &[],
+    }
+}

@@ -1,0 +1,21 @@
+use Rattle.std.proofs.Common.{List, ap, sym, subst, ◌∙◌, map}
+use Rattle.std.specs.Prelude.{filter_map}
+use Rattle.table_changes.specs.Changed.{rows_of}
+use Rattle.depot_model.specs.declared.reply.Row.{Row}
+use Rattle.depot_model.specs.Opened.{opened}
+use Rattle.depot_model.specs.Steps.Reverting.{opened_row, openers_shown, show_opened}
+use Rattle.reply_rows.specs.Made.{IsMade, told}
+use Rattle.reply_rows.specs.declared.step.Step.{Step}
+use Rattle.reply_rows.proofs.Bare.{tells_made}
+use Rattle.opened_files.proofs.OpenedRows.{all_shown, bare}
+use Rattle.opened_files.proofs.showing.ShowingFileAct.act.Goals as goal
+
+pub returns : goal.returns
+returns c = λ d e has later.
+    let own = c.args.self.now in
+    let caller = own.caller.now in
+    let path = c.args.path.now in
+    let openings = filter_map (λ client. opened d client path) (openers_shown own.all d caller path) in
+    let is = c.in_ok-step.ensures d has ∙ ap (λ (rs : List Row). told rs) (all_shown d path own.all caller) in
+    subst (λ (x : Step). IsMade (rows_of c.args.tables.now) d e (show_opened own.all d caller c.args._argument.now path) x) (sym is)
+    (tells_made (rows_of c.args.tables.now) d e (map (opened_row d) openings) (bare d openings))

@@ -1,0 +1,17 @@
+use Rattle.std.proofs.Common.{subst}
+use Rattle.table_changes.specs.Changed.{rows_of}
+use Rattle.depot_model.specs.declared.command.FileArgument.{FileArgument}
+use Rattle.depot_model.specs.Arguments.{within_files}
+use Rattle.depot_model.specs.Step.{Step as ModelStep}
+use Rattle.depot_model.specs.Steps.Reverting.{unlock_file}
+use Rattle.reply_rows.specs.Made.{IsMade}
+use Rattle.named_files.proofs.Selection.{over_selected}
+use Rattle.opened_files.proofs.unlocking.unlock_asked.Goals as goal
+
+pub returns : goal.returns
+returns c = λ d reads.
+    let caller = c.args.caller.now in
+    let rows = rows_of c.args.tables.now in
+    let done = c.in_ok-done.ensures d (record { sound = reads.sound; asked = reads.asked; listed = reads.listed }) reads in
+    subst (λ (m : ModelStep). IsMade rows d d (within_files m) c.in_ok-step.step)
+    (over_selected d caller c.args.change (λ (a : FileArgument). unlock_file d caller) c.args.arguments.now) (c.in_ok-step.ensures rows d d _ done)

@@ -1,0 +1,5 @@
+pub mod Changes
+pub mod Locks
+pub mod Reopened
+pub mod Shown
+pub mod Staying

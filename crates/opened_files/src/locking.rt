@@ -1,0 +1,159 @@
+//! `lock` (Command-Line Reference, "p4 lock").
+
+ghost use Rattle.std.specs.Prelude.{◌≡◌, List, IfOk};
+ghost use Rattle.std.specs.Option.{option_copied};
+ghost use Rattle.db_records.specs.declared.table.TableId.TheVariants as table_ids;
+ghost use Rattle.table_changes.specs.Changed.{AllRows, rows_of};
+ghost use Rattle.depot_model.specs.Deeds.{Deed};
+ghost use Rattle.depot_model.specs.Opened.{holder};
+ghost use Rattle.depot_model.specs.Rules.{IsSound};
+ghost use Rattle.depot_model.specs.Steps.Reverting as model;
+ghost use Rattle.depot_rows.specs.Standing.{HasRows};
+ghost use Rattle.reply_rows.specs.Made.{IsMade};
+ghost use Rattle.opened_files.specs.Locks.{NoOther, Reads, hold_step, locking as locking_by, other_of as other_in};
+
+use crate::held::{action_row, held};
+use depot_model::{Caller, FileArgument};
+use depot_path::{DepotPath, Name};
+use file_steps::{FileAct, over, within_files};
+use named_files::{Asker, SelectedFiles};
+use protect_table::Level;
+use reply_rows::{Step, denied_row, locked_row};
+use revision_reads::holder_of;
+use std::alloc::{AllocError, Global};
+use table_store::Tables;
+
+/// What `lock` does with a file.
+#[derive(Drop)]
+struct Locking<'a> {
+    caller: &'a Caller,
+    asker: &'a Asker,
+}
+
+/// The other client that has a lock.
+fn other_of<'a>(client: &Name, who: &'a Option<Name>) -> Option<&'a Name>
+    ensures { option_copied result ≡ other_in client.now who.now }
+{
+    match who {
+        Some(who) => {
+            if who.as_bytes() == client.as_bytes() {
+                None
+            } else {
+                Some(who)
+            }
+        }
+        None => None,
+    }
+}
+
+/// The step that locks a file.
+fn hold(alloc: Global, caller: &Caller, path: &DepotPath) -> Result<Step, AllocError>
+    ensures { IfOk result (λ step. (all : AllRows) (d e : List Deed) → NoOther caller.now.client (holder e path.now) → IsMade all d e (hold_step caller.now path.now) step) }
+{
+    // the bytes of a path are one
+    let _bytes = path.as_bytes();
+    let file = held(&caller.client, path)?;
+    let row = action_row(alloc, path, b"locked")?;
+    let step = Step::holds(alloc, file, row)?;
+    Ok(step)
+}
+
+/// What a lock does to a file, by the caller's right and by who has its lock.
+fn lock_file(
+    alloc: Global,
+    caller: &Caller,
+    path: &DepotPath,
+    may: bool,
+    who: &Option<Name>,
+) -> Result<Step, AllocError>
+    ensures { IfOk result (λ step. (all : AllRows) (d e : List Deed) → (NoOther caller.now.client who.now → NoOther caller.now.client (holder e path.now)) →
+        IsMade all d e (locking_by caller.now path.now may who.now) step) }
+{
+    if !may {
+        let row = denied_row(alloc, path, Level(4))?;
+        let step = Step::tells(alloc, row)?;
+        return Ok(step);
+    }
+    match other_of(&caller.client, who) {
+        Some(other) => {
+            let row = locked_row(alloc, path, other)?;
+            let step = Step::tells(alloc, row)?;
+            Ok(step)
+        }
+        None => {
+            let step = hold(alloc, caller, path)?;
+            Ok(step)
+        }
+    }
+}
+
+impl<'a> FileAct for Locking<'a> {
+    ghost use Rattle.depot_model.specs.Steps.Reverting.{lock_file as step_of_file};
+    ghost use Rattle.opened_files.specs.Locks.{Reads, StaysFree};
+    ghost use Rattle.opened_files.specs.Staying.{lock_stays};
+
+    ghost reads = { λ locking rows d. Reads locking.caller.now locking.asker.now rows d };
+
+    ghost acts = { λ locking d argument path. step_of_file d locking.caller.now path };
+
+    ghost is_later = { λ locking d e. StaysFree locking.caller.now.client d e };
+
+    fn act(
+        &self,
+        alloc: Global,
+        tables: &Tables,
+        _argument: &FileArgument,
+        path: &DepotPath,
+    ) -> Result<Step, AllocError> {
+        let may = self.asker.may(path, Level(4));
+        let who = holder_of(alloc, tables, path)?;
+        let step = lock_file(alloc, self.caller, path, may, &who)?;
+        Ok(step)
+    }
+
+    ghost first = { λ locking d path free. free };
+
+    ghost next = { λ locking d e argument path later. lock_stays d e locking.caller.now path later };
+}
+
+/// `lock` of an asker.
+fn lock_asked(
+    alloc: Global,
+    tables: &Tables,
+    caller: &Caller,
+    asker: &Asker,
+    change: Option<u32>,
+    arguments: &[FileArgument],
+) -> Result<Step, AllocError>
+    ensures { IfOk result (λ step. (d : List Deed) → Reads caller.now asker.now (rows_of tables.now) d → IsMade (rows_of tables.now) d d (model.lock d caller.now change arguments.now) step) }
+{
+    let files = SelectedFiles {
+        caller,
+        asker,
+        change,
+    };
+    let locking = Locking { caller, asker };
+    let done = over(alloc, tables, &files, &locking, arguments)?;
+    let step = within_files(alloc, done)?;
+    Ok(step)
+}
+
+/// `lock [-c CHANGE] FILE...`: locks files that the client has opened, in the change where one is given, so that no other client submits them, from
+/// the tables of groups, protections, forms and opened files alone. The one error is want of memory.
+pub fn lock(
+    alloc: Global,
+    tables: &Tables,
+    caller: &Caller,
+    change: Option<u32>,
+    arguments: &[FileArgument],
+) -> Result<Step, AllocError>
+    ensures { IfOk result (λ step. (d : List Deed) → IsSound d → HasRows (rows_of tables.now) d table_ids.Group → HasRows (rows_of tables.now) d table_ids.Protect →
+        HasRows (rows_of tables.now) d table_ids.Domain → HasRows (rows_of tables.now) d table_ids.Working →
+        IsMade (rows_of tables.now) d d (model.lock d caller.now change arguments.now) step) }
+{
+    let asker = Asker::of(alloc, tables, caller)?;
+    let done = lock_asked(alloc, tables, caller, &asker, change, arguments);
+    drop(asker);
+    let step = done?;
+    Ok(step)
+}

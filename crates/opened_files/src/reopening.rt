@@ -1,0 +1,188 @@
+//! `reopen` (Command-Line Reference, "p4 reopen").
+
+ghost use Rattle.std.specs.Prelude.{◌≡◌, [], List, IfOk, None};
+ghost use Rattle.db_records.specs.declared.table.TableId.TheVariants as table_ids;
+ghost use Rattle.table_changes.specs.Changed.{AllRows, rows_of};
+ghost use Rattle.depot_model.specs.Arguments as arguments_of;
+ghost use Rattle.depot_model.specs.Deeds.{Deed};
+ghost use Rattle.depot_model.specs.Rules.{IsSound};
+ghost use Rattle.depot_model.specs.Steps.Reverting as model;
+ghost use Rattle.depot_rows.specs.Deed.{opening_of as opening_of_deed};
+ghost use Rattle.depot_rows.specs.Standing.{HasRows};
+ghost use Rattle.reply_rows.specs.Made.{IsMade};
+ghost use Rattle.opening_reads.specs.Read.{opening_in_row};
+ghost use Rattle.opened_files.specs.Locks.{Reads};
+ghost use Rattle.opened_files.specs.Reopened.{open_step, reopening as reopening_by};
+
+use crate::changes::reopened_change_refusal;
+use db_records::WorkingRecord;
+use depot_model::{Caller, FileArgument, Row};
+use depot_path::{DepotPath, Name, Text};
+use depot_rows::Opening;
+use file_openings::opening_of;
+use file_steps::{FileAct, over, within_files};
+use named_files::{Asker, SelectedFiles};
+use opening_reads::reopened_in;
+use protect_table::Level;
+use reply_rows::{RowBuilder, Step, denied_row};
+use std::alloc::{AllocError, Global};
+use table_store::Tables;
+
+/// What `reopen` does with a file.
+#[derive(Drop)]
+struct Reopening<'a> {
+    caller: &'a Caller,
+    asker: &'a Asker,
+    change: Option<u32>,
+    file_type: &'a Option<Text>,
+}
+
+/// The row of a file that is opened anew.
+fn reopen_row(alloc: Global, opening: &Opening) -> Result<Row, AllocError>
+    ensures { IfOk result (λ row. row ≡ model.reopen_row (opening_of_deed opening.now)) }
+{
+    let row = RowBuilder::new(alloc).path(b"depotFile", &opening.path)?;
+    let row = row.change(b"change", opening.change)?;
+    let row = row.text(b"type", opening.file_type.as_bytes())?;
+    Ok(row.row())
+}
+
+/// The step that opens a file anew.
+fn open_anew(
+    alloc: Global,
+    client: &Name,
+    path: &DepotPath,
+    row: &WorkingRecord,
+    change: Option<u32>,
+    file_type: &Option<Text>,
+) -> Result<Step, AllocError>
+    ensures { IfOk result (λ step. (all : AllRows) (d e : List Deed) →
+        IsMade all d e (open_step (opening_of_deed (opening_in_row client.now path.now row.now change file_type.now))) step) }
+{
+    // the bytes of a path are one
+    let _bytes = path.as_bytes();
+    let opening = reopened_in(alloc, client, path, row, change, file_type)?;
+    let told = reopen_row(alloc, &opening)?;
+    let step = Step::opens(alloc, opening, told)?;
+    Ok(step)
+}
+
+/// What is done with a file of this row, by the caller's right.
+fn reopen_file(
+    alloc: Global,
+    client: &Name,
+    path: &DepotPath,
+    may: bool,
+    row: &WorkingRecord,
+    change: Option<u32>,
+    file_type: &Option<Text>,
+) -> Result<Step, AllocError>
+    ensures { IfOk result (λ step. (all : AllRows) (d e : List Deed) →
+        IsMade all d e (reopening_by path.now may (opening_of_deed (opening_in_row client.now path.now row.now change file_type.now))) step) }
+{
+    if may {
+        let step = open_anew(alloc, client, path, row, change, file_type)?;
+        Ok(step)
+    } else {
+        let row = denied_row(alloc, path, Level(3))?;
+        let step = Step::tells(alloc, row)?;
+        Ok(step)
+    }
+}
+
+impl<'a> FileAct for Reopening<'a> {
+    ghost use Rattle.depot_model.specs.Steps.Reverting.{reopen_file as step_of_file};
+    ghost use Rattle.opened_files.specs.Locks.{Reads};
+
+    ghost reads = { λ reopening rows d. Reads reopening.caller.now reopening.asker.now rows d };
+
+    ghost acts = { λ reopening d argument path. step_of_file d reopening.caller.now reopening.change reopening.file_type.now path };
+
+    ghost is_later = { λ reopening d e. Unit {0} };
+
+    fn act(
+        &self,
+        alloc: Global,
+        tables: &Tables,
+        _argument: &FileArgument,
+        path: &DepotPath,
+    ) -> Result<Step, AllocError> {
+        let client = &self.caller.client;
+        let may = self.asker.may(path, Level(3));
+        let row = opening_of(alloc, tables, client, path)?;
+        match row {
+            Some(row) => {
+                let step = reopen_file(alloc, client, path, may, row, self.change, self.file_type)?;
+                Ok(step)
+            }
+            None => {
+                let step = Step::new(alloc);
+                Ok(step)
+            }
+        }
+    }
+
+    ghost first = { λ reopening d. tt };
+
+    ghost next = { λ reopening d e argument path later. tt };
+}
+
+/// `reopen` of an asker, where the change isn't refused.
+fn reopen_files(
+    alloc: Global,
+    tables: &Tables,
+    caller: &Caller,
+    asker: &Asker,
+    change: Option<u32>,
+    file_type: &Option<Text>,
+    arguments: &[FileArgument],
+) -> Result<Step, AllocError>
+    ensures { IfOk result (λ step. (d : List Deed) → Reads caller.now asker.now (rows_of tables.now) d →
+        IsMade (rows_of tables.now) d d
+        (arguments_of.within_files (arguments_of.over (model.selected d caller.now None) model.not_open (λ _. model.reopen_file d caller.now change file_type.now) [] arguments.now)) step) }
+{
+    let files = SelectedFiles {
+        caller,
+        asker,
+        change: None,
+    };
+    let reopening = Reopening {
+        caller,
+        asker,
+        change,
+        file_type,
+    };
+    let done = over(alloc, tables, &files, &reopening, arguments)?;
+    let step = within_files(alloc, done)?;
+    Ok(step)
+}
+
+/// `reopen [-c CHANGE] [-t TYPE] FILE...`: moves files that the client has opened into another change, or gives them another type, from the tables
+/// of groups, protections, forms, changes and opened files alone. The one error is want of memory.
+pub fn reopen(
+    alloc: Global,
+    tables: &Tables,
+    caller: &Caller,
+    change: Option<u32>,
+    file_type: &Option<Text>,
+    arguments: &[FileArgument],
+) -> Result<Step, AllocError>
+    ensures { IfOk result (λ step. (d : List Deed) → IsSound d → HasRows (rows_of tables.now) d table_ids.Group → HasRows (rows_of tables.now) d table_ids.Protect →
+        HasRows (rows_of tables.now) d table_ids.Domain → HasRows (rows_of tables.now) d table_ids.Change → HasRows (rows_of tables.now) d table_ids.Working →
+        IsMade (rows_of tables.now) d d (model.reopen d caller.now change file_type.now arguments.now) step) }
+{
+    let refusal = reopened_change_refusal(alloc, tables, caller, change)?;
+    match refusal {
+        Some(row) => {
+            let step = Step::tells(alloc, row)?;
+            Ok(step)
+        }
+        None => {
+            let asker = Asker::of(alloc, tables, caller)?;
+            let done = reopen_files(alloc, tables, caller, &asker, change, file_type, arguments);
+            drop(asker);
+            let step = done?;
+            Ok(step)
+        }
+    }
+}

@@ -1,0 +1,146 @@
+//! `unlock` (Command-Line Reference, "p4 unlock").
+
+ghost use Rattle.std.specs.Prelude.{◌≡◌, List, IfOk};
+ghost use Rattle.db_records.specs.declared.table.TableId.TheVariants as table_ids;
+ghost use Rattle.table_changes.specs.Changed.{AllRows, rows_of};
+ghost use Rattle.depot_model.specs.Deeds.{Deed};
+ghost use Rattle.depot_model.specs.Rules.{IsSound};
+ghost use Rattle.depot_model.specs.Steps.Reverting as model;
+ghost use Rattle.depot_rows.specs.Standing.{HasRows};
+ghost use Rattle.reply_rows.specs.Made.{IsMade};
+ghost use Rattle.opened_files.specs.Locks.{Reads, free_step, unlocking as unlocking_by};
+
+use crate::held::{action_row, held};
+use depot_model::{Caller, FileArgument};
+use depot_path::{DepotPath, Name};
+use file_steps::{FileAct, over, within_files};
+use named_files::{Asker, SelectedFiles};
+use protect_table::Level;
+use reply_rows::{Step, denied_row};
+use revision_reads::holder_of;
+use std::alloc::{AllocError, Global};
+use table_store::Tables;
+
+/// What `unlock` does with a file.
+#[derive(Drop)]
+struct Unlocking<'a> {
+    caller: &'a Caller,
+    asker: &'a Asker,
+}
+
+/// Whether the caller's client has a lock.
+fn is_own(caller: &Caller, who: &Option<Name>) -> bool
+    ensures { result ≡ model.is_held_by caller.now who.now }
+{
+    match who {
+        Some(who) => who.as_bytes() == caller.client.as_bytes(),
+        None => false,
+    }
+}
+
+/// The step that unlocks a file.
+fn free(alloc: Global, caller: &Caller, path: &DepotPath) -> Result<Step, AllocError>
+    ensures { IfOk result (λ step. (all : AllRows) (d e : List Deed) → IsMade all d e (free_step caller.now path.now) step) }
+{
+    // the bytes of a path are one
+    let _bytes = path.as_bytes();
+    let file = held(&caller.client, path)?;
+    let row = action_row(alloc, path, b"unlocked")?;
+    let step = Step::frees(alloc, file, row)?;
+    Ok(step)
+}
+
+/// What an unlock does to a file, by the caller's right and by who has its lock.
+fn unlock_file(
+    alloc: Global,
+    caller: &Caller,
+    path: &DepotPath,
+    may: bool,
+    who: &Option<Name>,
+) -> Result<Step, AllocError>
+    ensures { IfOk result (λ step. (all : AllRows) (d e : List Deed) → IsMade all d e (unlocking_by caller.now path.now may who.now) step) }
+{
+    if !may {
+        let row = denied_row(alloc, path, Level(4))?;
+        let step = Step::tells(alloc, row)?;
+        return Ok(step);
+    }
+    let own = is_own(caller, who);
+    if own {
+        let step = free(alloc, caller, path)?;
+        Ok(step)
+    } else {
+        let step = Step::new(alloc);
+        Ok(step)
+    }
+}
+
+impl<'a> FileAct for Unlocking<'a> {
+    ghost use Rattle.depot_model.specs.Steps.Reverting.{unlock_file as step_of_file};
+    ghost use Rattle.opened_files.specs.Locks.{Reads};
+
+    ghost reads = { λ unlocking rows d. Reads unlocking.caller.now unlocking.asker.now rows d };
+
+    ghost acts = { λ unlocking d argument path. step_of_file d unlocking.caller.now path };
+
+    ghost is_later = { λ unlocking d e. Unit {0} };
+
+    fn act(
+        &self,
+        alloc: Global,
+        tables: &Tables,
+        _argument: &FileArgument,
+        path: &DepotPath,
+    ) -> Result<Step, AllocError> {
+        let may = self.asker.may(path, Level(4));
+        let who = holder_of(alloc, tables, path)?;
+        let step = unlock_file(alloc, self.caller, path, may, &who)?;
+        Ok(step)
+    }
+
+    ghost first = { λ unlocking d. tt };
+
+    ghost next = { λ unlocking d e argument path later. tt };
+}
+
+/// `unlock` of an asker.
+fn unlock_asked(
+    alloc: Global,
+    tables: &Tables,
+    caller: &Caller,
+    asker: &Asker,
+    change: Option<u32>,
+    arguments: &[FileArgument],
+) -> Result<Step, AllocError>
+    ensures { IfOk result (λ step. (d : List Deed) → Reads caller.now asker.now (rows_of tables.now) d → IsMade (rows_of tables.now) d d (model.unlock d caller.now change arguments.now) step) }
+{
+    let files = SelectedFiles {
+        caller,
+        asker,
+        change,
+    };
+    let unlocking = Unlocking { caller, asker };
+    let done = over(alloc, tables, &files, &unlocking, arguments)?;
+    let step = within_files(alloc, done)?;
+    Ok(step)
+}
+
+/// `unlock [-c CHANGE] FILE...`: frees the client's locks of files that it has opened, in the change where one is given, from the tables of groups,
+/// protections, forms and opened files alone. The one error is want of memory.
+pub fn unlock(
+    alloc: Global,
+    tables: &Tables,
+    caller: &Caller,
+    change: Option<u32>,
+    arguments: &[FileArgument],
+) -> Result<Step, AllocError>
+    ensures { IfOk result (λ step. (d : List Deed) → IsSound d → HasRows (rows_of tables.now) d table_ids.Group → HasRows (rows_of tables.now) d table_ids.Protect →
+        HasRows (rows_of tables.now) d table_ids.Domain → HasRows (rows_of tables.now) d table_ids.Working →
+        IsMade (rows_of tables.now) d d (model.unlock d caller.now change arguments.now) step) }
+{
+    let asker = Asker::of(alloc, tables, caller)?;
+    let done = unlock_asked(alloc, tables, caller, &asker, change, arguments);
+    drop(asker);
+    let step = done?;
+    Ok(step)
+}

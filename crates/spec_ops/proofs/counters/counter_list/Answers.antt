@@ -1,0 +1,16 @@
+use Rattle.std.proofs.Common.{List, ap, sym, subst, ◌∙◌}
+use Rattle.std.specs.Prelude.{map}
+use Rattle.db_records.specs.declared.rows.CounterRecord.{CounterRecord}
+use Rattle.table_changes.specs.Changed.{rows_of}
+use Rattle.depot_model.specs.Steps.Counters.{counter_row, counters}
+use Rattle.reply_rows.specs.declared.step.Step.{Step}
+use Rattle.reply_rows.specs.Made.{IsMade}
+use Rattle.spec_ops.proofs.Made.{counters_made}
+use Rattle.spec_ops.proofs.counters.counter_list.Goals as goal
+
+pub returns : goal.returns
+returns c = λ d has.
+    let all = rows_of c.args.tables.now in
+    let made = counters_made all d c.in_ok-rows.rows (c.in_ok-rows.ensures
+    ∙ ap (λ (l : List CounterRecord). map (λ (r : CounterRecord). counter_row r.name r.value) l) (c.as_slice.ensures ∙ c.in_ok-counters.ensures d has)) in
+    subst (λ (s : Step). IsMade all d d (counters d) (record s { rows = c.in_ok-rows.rows })) (sym c.new.ensures) made

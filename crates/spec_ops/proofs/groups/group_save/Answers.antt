@@ -1,0 +1,9 @@
+use Rattle.spec_form.specs.declared.shape.Shape.TheVariants.{Group}
+use Rattle.depot_model.specs.Steps.Groups.{saved}
+use Rattle.spec_ops.proofs.Made.{read_made}
+use Rattle.spec_ops.proofs.groups.group_save.Goals as goal
+
+pub returns-in_ok-step-in-Ok : goal.returns-in_ok-step-in-Ok
+returns-in_ok-step-in-Ok c = λ all d.
+    let input = c.args.input.now in
+    read_made all d Group input (saved input) c.in_ok-step-in-Ok.step c.in-Ok.form c.in-Ok.ensures.read (c.in_ok-step-in-Ok.ensures all d)

@@ -1,0 +1,17 @@
+use Rattle.std.proofs.Common.{◌≡◌, ◌++◌, List, length}
+use Rattle.std.specs.Prelude.{filter_map, option_map}
+use Rattle.db_records.specs.declared.table.TableId.TheVariants as table_ids
+use Rattle.table_changes.specs.Changed.{rows_of}
+use Rattle.depot_model.specs.Deeds.{Deed, LabelForm}
+use Rattle.depot_model.specs.Latest.{spec}
+use Rattle.depot_model.specs.Rules.{IsSound}
+use Rattle.depot_model.specs.Steps.Labels.{listed}
+use Rattle.depot_rows.specs.Standing.{HasRows}
+use Rattle.spec_ops.proofs.labels.label_rows.Given as goal
+
+abbrev pub invariant-loop-rest : goal.invariant-loop-rest
+invariant-loop-rest l = (d : List Deed) → IsSound d → HasRows (rows_of l.tables) d table_ids.Domain
+    → l.rows ++ filter_map (λ name. option_map (listed name) (spec d LabelForm name)) l.rest ≡ filter_map (λ name. option_map (listed name) (spec d LabelForm name)) l.names
+
+abbrev pub decreases-loop-rest : goal.decreases-loop-rest
+decreases-loop-rest l = length l.rest
