@@ -1,5 +1,7 @@
 mod Groups
-mod Counts
+mod Differences
+mod Laws
+mod Staying
 pub mod Contents
 pub mod Places
 pub mod Kept

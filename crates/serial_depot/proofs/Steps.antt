@@ -15,21 +15,22 @@ use Rattle.depot_model.specs.Commands.{step}
 use Rattle.depot_model.specs.Deeds.{Deed}
 use Rattle.depot_model.specs.Kept.{IsChange}
 use Rattle.depot_model.specs.Places.{Placed, done_at, taken}
-use Rattle.depot_model.specs.Revisions.{revision}
+use Rattle.depot_model.specs.Records.{SameRows}
 use Rattle.depot_model.specs.Step.{after}
+use Rattle.depot_model.specs.Steps.Submitting.{content_at}
 use Rattle.depot_model.specs.declared.request.Request.{Request}
 use Rattle.depot_rows.specs.Standing.{Stand}
 use Rattle.recovery.specs.Holding.{HasAllRows}
 use Rattle.session_loop.specs.Taking.{placed_by}
-use Rattle.serial_depot.specs.Counts.{AreCounts}
-use Rattle.serial_depot.specs.Holding.{generation_in, AllHaveContents, StandsWith, IsKeptSometime}
+use Rattle.serial_depot.specs.Committing.{AreChangesOf}
+use Rattle.serial_depot.specs.Holding.{generation_in, SameContents, AllHaveContents, StandsWith, IsKeptSometime}
 use Rattle.serial_depot.specs.Running.{IsOfFault, IsDoubtOf, HasRun}
 use Rattle.serial_depot.specs.declared.depot.SerialDepot.{SerialDepot}
-use Rattle.serial_depot.proofs.Contents.{contents_alike, revision_after}
-use Rattle.serial_depot.proofs.Counts.{generation_after, stand_alike}
+use Rattle.serial_depot.proofs.Contents.{contents_alike}
 use Rattle.serial_depot.proofs.Groups.{group_added}
 use Rattle.serial_depot.proofs.Kept.{kept_in_doubt, kept_now}
 use Rattle.serial_depot.proofs.Places.{taken-push, taken-append, quiet_more, same_stand, no_difference, kept_more, kept_whole}
+use Rattle.serial_depot.proofs.Staying.{contents_stay}
 
 true_is_not_false : true ≡ false → ⊥
 true_is_not_false e = cc
@@ -40,22 +41,16 @@ sometime_more images start places p image (k, le, kept) = (k, omega (arith, leng
 
 -- the depot after a fault place, which does nothing, and the places after it
 behind_fault : (images : Files → Type 0) (rows : AllRows) (was : Committed) (start : List Deed) (places : List Placed) (text : List ℕ) → (f : IsOfFault images rows was start places text) → taken step start places ≡ taken step (taken step start f.before) f.later
-behind_fault images rows was start places text f =
-    ap (taken step start) f.parts
-    ∙ (taken-append start f.before (f.faulty ∷ f.later)
-    ∙ ap (λ (p : Placed). taken step (after (taken step start f.before) (done_at step (taken step start f.before) p)) f.later) f.faulty_is)
+behind_fault images rows was start places text f = ap (taken step start) f.parts ∙ taken-append start f.before (placed_by f.request true ∷ f.later)
 
--- one more place, after which the depot is another with the same rows and revisions, leaves in doubt what was
+-- one more place, after which the depot is another with the same rows and contents, leaves in doubt what was
 doubt_more : (images : Files → Type 0) (rows : AllRows) (was : Committed) (start : List Deed) (places : List Placed) (p : Placed) (doubt : Doubtful) → (IsChange (taken step start places) p → ⊥)
-    → Stand rows (taken step start places) → Stand rows (taken step start (places ++ p ∷ [])) → ((path : List ℕ) (n : ℕ) → revision (taken step start (places ++ p ∷ [])) path n ≡ revision (taken step start places) path n)
+    → SameContents (taken step start places) (taken step start (places ++ p ∷ []))
     → IsDoubtOf images rows was start places doubt → IsDoubtOf images rows was start (places ++ p ∷ []) doubt
-doubt_more images rows was start places p nothing idle before now alike h = tt
-doubt_more images rows was start places p (opening checkpoint) idle before now alike h = h
-doubt_more images rows was start places p (group text) idle before now alike f =
+doubt_more images rows was start places p nothing idle same_contents h = tt
+doubt_more images rows was start places p (opening checkpoint) idle same_contents h = h
+doubt_more images rows was start places p (group text) idle same_contents f =
     let Idle : List Deed → Type 0 = λ d. IsChange d p → ⊥ in
-    let old = taken step start places in
-    let new = taken step start (places ++ p ∷ []) in
-    let deeds = (step (taken step start f.before) f.request).deeds in
     record {
       changes = f.changes;
       is_group = f.is_group;
@@ -63,16 +58,13 @@ doubt_more images rows was start places p (group text) idle before now alike f =
       fit = f.fit;
       before = f.before;
       request = f.request;
-      faulty = f.faulty;
       later = f.later ++ p ∷ [];
-      parts = ap (λ (ps : List Placed). ps ++ p ∷ []) f.parts ∙ append_assoc f.before (f.faulty ∷ f.later) (p ∷ []);
-      faulty_is = f.faulty_is;
-      counts = f.counts;
+      parts = ap (λ (ps : List Placed). ps ++ p ∷ []) f.parts ∙ append_assoc f.before (placed_by f.request true ∷ f.later) (p ∷ []);
       quiet = quiet_more (taken step start f.before) f.later p f.quiet (subst Idle (behind_fault images rows was start places text f) idle);
-      stand = stand_alike (changed_by rows f.changes) old new deeds f.counts (same_stand rows old new before now) now.sound f.stand;
-      contents = λ archive here.
-          contents_alike (changed_by rows f.changes) (changed_by rows f.changes) (after old deeds) (after new deeds) archive archive refl refl
-          (λ path n. revision_after new deeds f.counts path n ∙ (alike path n ∙ sym (revision_after old deeds f.counts path n))) (f.contents archive here);
+      stand = f.stand;
+      same_contents = λ path n. f.same_contents path n ∙ same_contents path n;
+      are_changes = f.are_changes;
+      contents = f.contents;
     }
 
 module _ {D : Type 0} (may_leave : D → Files → Type 0) (moment : D → ℕ) (left_since : D → ℕ → Files → Type 0) (depot : SerialDepot D) (since : ℕ) (start : List Deed) (places : List Placed) (request : Request) (h : HasRun may_leave moment left_since depot since start places) where
@@ -100,33 +92,34 @@ module _ {D : Type 0} (may_leave : D → Files → Type 0) (moment : D → ℕ) 
   failed_is : taken step start failed ≡ current
   failed_is = taken-push start places (placed_by request true)
 
-  -- a fault place makes no revision, and neither does a deed of a counter
-  alike_failed : (path : List ℕ) (n : ℕ) → revision (taken step start failed) path n ≡ revision current path n
-  alike_failed path n = ap (λ (d : List Deed). revision d path n) failed_is
-
-  alike_done : AreCounts deeds → (path : List ℕ) (n : ℕ) → revision (taken step start done) path n ≡ revision current path n
-  alike_done counts path n = ap (λ (d : List Deed). revision d path n) done_is ∙ revision_after current deeds counts path n
+  -- a fault place leaves the contents
+  contents_failed : SameContents current (taken step start failed)
+  contents_failed path n = ap (λ (d : List Deed). content_at d path n) (sym failed_is)
 
   -- the command changed no row
-  pub has_run_idle : AreCounts deeds → Stand rows (after current deeds) → HasRun may_leave moment left_since depot since start done
-  has_run_idle counts stand =
+  pub has_run_idle : AreChangesOf rows request [] → HasRun may_leave moment left_since depot since start done
+  has_run_idle made =
+      let stand : Stand rows (after current deeds) = made.stand current h.stand in
+      let same_rows : SameRows current (after current deeds) = same_stand rows current (after current deeds) h.stand stand in
+      let same_contents : SameContents current (after current deeds) = contents_stay current deeds h.stand.sound stand.sound same_rows in
       let On : List Deed → Type 0 = Stand rows in
-      let now : Stand rows (taken step start done) = subst On (sym done_is) stand in
+      let With : List Deed → Type 0 = AllHaveContents images rows in
+      let Contents : List Deed → Type 0 = SameContents current in
       record {
         was = h.was;
         doubt = h.doubt;
         stands = h.stands;
         has = h.has;
-        stand = now;
-        generation = ap generation_in done_is ∙ (generation_after current deeds counts ∙ h.generation);
-        contents = λ archive here. contents_alike rows rows current (taken step start done) archive archive refl refl (alike_done counts) (h.contents archive here);
-        in_doubt = doubt_more images rows h.was start places (placed_by request false) h.doubt (λ change. no_difference current (after current deeds) (same_stand rows current (after current deeds) h.stand stand) change.1) h.stand now (alike_done counts) h.in_doubt;
+        stand = subst On (sym done_is) stand;
+        generation = ap generation_in done_is ∙ (made.generation current h.stand ∙ h.generation);
+        contents = subst With (sym done_is) (λ archive here. contents_alike rows rows current (after current deeds) archive archive refl refl same_contents (h.contents archive here));
+        in_doubt = doubt_more images rows h.was start places (placed_by request false) h.doubt (λ change. no_difference current (after current deeds) same_rows change.1) (subst Contents (sym done_is) same_contents) h.in_doubt;
         later = h.later;
         any_moment = λ image left. sometime_more images start places (placed_by request false) image (h.any_moment image left);
       }
 
-  module _ (tables' : Tables) (journal' : Journal D) (changes : List Change) (text : List ℕ) (text_is : text ≡ group_text (length h.was.groups + 1) changes) (is_group : IsGroup changes) (fit : AllFitIn rows changes) (counts : AreCounts deeds) (stand : Stand (changed_by rows changes) (after current deeds))
-      (contents : AllHaveContents images (changed_by rows changes) (after current deeds)) (leaves : LeavesOnly moment left_since depot.journal.disk journal'.disk (λ c. HasWithOrWithout h.was h.doubt c ⊎ HasWithOrWithout h.was (group text) c)) where
+  module _ (tables' : Tables) (journal' : Journal D) (changes : List Change) (text : List ℕ) (text_is : text ≡ group_text (length h.was.groups + 1) changes) (is_group : IsGroup changes) (fit : AllFitIn rows changes) (made : AreChangesOf rows request changes)
+      (with_contents : AllHaveContents images (changed_by rows changes) (after current deeds)) (leaves : LeavesOnly moment left_since depot.journal.disk journal'.disk (λ c. HasWithOrWithout h.was h.doubt c ⊎ HasWithOrWithout h.was (group text) c)) where
     abbrev depot' : SerialDepot D
     depot' = record { tables = tables'; journal = journal'; archive = depot.archive }
 
@@ -142,7 +135,7 @@ module _ {D : Type 0} (may_leave : D → Files → Type 0) (moment : D → ℕ) 
     moments p with_group_kept image left =
         let was_kept : (doubt : Doubtful) → IsDoubtOf images rows h.was start places doubt → HasWithOrWithout h.was doubt image → IsKeptSometime images start (places ++ p ∷ []) image
         = λ doubt in_doubt has_it.
-        sometime_more images start places p image (length places, omega arith, kept_whole (StandsWith images image) start places (kept_now images h.was rows start places h.has h.generation h.stand h.contents doubt in_doubt image has_it)) in
+        sometime_more images start places p image (length places, omega arith, kept_whole (StandsWith images image) start places (kept_now images h.was rows start places h.has h.stand h.generation h.contents doubt in_doubt image has_it)) in
         ⊎_elim
         (λ was_left. sometime_more images start places p image (h.any_moment image was_left))
         (λ fresh. ⊎_elim
@@ -155,13 +148,13 @@ module _ {D : Type 0} (may_leave : D → Files → Type 0) (moment : D → ℕ) 
     pub has_run_done : Stands may_leave journal' (with_group h.was text) nothing → rows_of tables' ≡ changed_by rows changes → HasRun may_leave moment left_since depot' since start done
     has_run_done stands rows_are =
         let On : List Deed → Type 0 = Stand (changed_by rows changes) in
-        let now : Stand (changed_by rows changes) (taken step start done) = subst On (sym done_is) stand in
-        let generation : generation_in (taken step start done) ≡ h.was.generation = ap generation_in done_is ∙ (generation_after current deeds counts ∙ h.generation) in
+        let now : Stand (changed_by rows changes) (taken step start done) = subst On (sym done_is) (made.stand current h.stand) in
+        let generation : generation_in (taken step start done) ≡ h.was.generation = ap generation_in done_is ∙ (made.generation current h.stand ∙ h.generation) in
         let Has : AllRows → Type 0 = HasAllRows (with_group h.was text) in
         let OnRows : AllRows → Type 0 = λ r. Stand r (taken step start done) in
         let With : List Deed → Type 0 = AllHaveContents images (changed_by rows changes) in
         let WithRows : AllRows → Type 0 = λ r. AllHaveContents images r (taken step start done) in
-        let with_contents : AllHaveContents images (changed_by rows changes) (taken step start done) = subst With (sym done_is) contents in
+        let contents : AllHaveContents images (changed_by rows changes) (taken step start done) = subst With (sym done_is) with_contents in
         record {
           was = with_group h.was text;
           doubt = nothing;
@@ -169,43 +162,38 @@ module _ {D : Type 0} (may_leave : D → Files → Type 0) (moment : D → ℕ) 
           has = subst Has (sym rows_are) with_it;
           stand = subst OnRows (sym rows_are) now;
           generation = generation;
-          contents = subst WithRows (sym rows_are) with_contents;
+          contents = subst WithRows (sym rows_are) contents;
           in_doubt = tt;
           later = omega (arith, h.later, leaves.later);
           any_moment = moments (placed_by request false) (λ image committed. (
             length done,
             omega arith,
-            kept_whole (StandsWith images image) start done (inl (record { was = with_group h.was text; committed = committed; rows = changed_by rows changes; has = with_it; stand = now; generation = generation; contents = with_contents })),
+            kept_whole (StandsWith images image) start done (inl (record { was = with_group h.was text; committed = committed; rows = changed_by rows changes; has = with_it; stand = now; generation = generation; contents = contents })),
           ));
         }
 
     -- what the fault place would have done
     of_this_fault : IsOfFault images rows h.was start failed text
-    of_this_fault =
-        let On : List Deed → Type 0 = λ d. Stand (changed_by rows changes) (after d deeds) in
-        let With : List Deed → Type 0 = λ d. AllHaveContents images (changed_by rows changes) (after d deeds) in
-        record {
-          changes = changes;
-          is_group = is_group;
-          text_is = text_is;
-          fit = fit;
-          before = places;
-          request = request;
-          faulty = placed_by request true;
-          later = [];
-          parts = refl;
-          faulty_is = refl;
-          counts = counts;
-          quiet = tt;
-          stand = subst On (sym failed_is) stand;
-          contents = subst With (sym failed_is) contents;
-        }
+    of_this_fault = record {
+      changes = changes;
+      is_group = is_group;
+      text_is = text_is;
+      fit = fit;
+      before = places;
+      request = request;
+      later = [];
+      parts = refl;
+      quiet = tt;
+      stand = h.stand;
+      same_contents = contents_failed;
+      are_changes = made;
+      contents = with_contents;
+    }
 
     doubt_after : (now : Doubtful) → IsAfterFault h.doubt text now → IsDoubtOf images rows h.was start failed now
     doubt_after now (inl same) =
-        let On : List Deed → Type 0 = Stand rows in
         let P : Doubtful → Type 0 = IsDoubtOf images rows h.was start failed in
-        subst P (sym same) (doubt_more images rows h.was start places (placed_by request true) h.doubt (λ change. absurd (true_is_not_false change.0)) h.stand (subst On (sym failed_is) h.stand) alike_failed h.in_doubt)
+        subst P (sym same) (doubt_more images rows h.was start places (placed_by request true) h.doubt (λ change. absurd (true_is_not_false change.0)) contents_failed h.in_doubt)
     doubt_after now (inr (inl none)) = let P : Doubtful → Type 0 = IsDoubtOf images rows h.was start failed in subst P (sym none) tt
     doubt_after now (inr (inr this)) = let P : Doubtful → Type 0 = IsDoubtOf images rows h.was start failed in subst P (sym this) of_this_fault
 
@@ -232,6 +220,6 @@ module _ {D : Type 0} (may_leave : D → Files → Type 0) (moment : D → ℕ) 
           any_moment = moments (placed_by request true) (λ image committed. (
             length failed,
             omega arith,
-            kept_whole (StandsWith images image) start failed (inr (kept_in_doubt images h.was rows start failed h.has generation text of_this_fault image committed)),
+            kept_whole (StandsWith images image) start failed (inr (kept_in_doubt images h.was rows start failed h.has (subst On (sym failed_is) h.stand) generation text of_this_fault image committed)),
           ));
         }

@@ -1,14 +1,30 @@
--- What a commit leaves.
+-- What a commit needs, and what it leaves.
 use Rattle.std.specs.Prelude.{◌≡◌, ℕ, Bool, true, false, List, [], ◌∷◌, if◌then◌else◌}
 use Rattle.outside_api.specs.Disk.{Files}
+use Rattle.db_records.specs.declared.change.Change.{Change}
+use Rattle.journal_groups.specs.Groups.{AreRecords}
 use Rattle.disk_journal.specs.Images.{Committed, with_group}
 use Rattle.disk_journal.specs.Stands.{Doubtful, nothing, Stands}
 use Rattle.disk_journal.specs.declared.journal.Journal.{Journal}
 use Rattle.journal_runs.specs.Runs.{IsAfterFault}
+use Rattle.table_changes.specs.Changed.{AllRows, changed_by}
+use Rattle.depot_model.specs.Commands.{step}
+use Rattle.depot_model.specs.Deeds.{Deed}
 use Rattle.depot_model.specs.Printed.{printed}
 use Rattle.depot_model.specs.Rows.{disk_row}
+use Rattle.depot_model.specs.Step.{after}
 use Rattle.depot_model.specs.declared.order.Answer.{Answer}
 use Rattle.depot_model.specs.declared.order.Place.{Place}
+use Rattle.depot_model.specs.declared.request.Request.{Request}
+use Rattle.depot_rows.specs.Standing.{Stand}
+use Rattle.serial_depot.specs.Holding.{generation_in}
+
+-- Changes of these rows are those of a request: they have a text, and the rows after them are those of each depot with these rows after the request's
+-- step, which is of the same generation.
+pub record AreChangesOf (rows : AllRows) (request : Request) (changes : List Change) : Type 0 where
+  pub records : AreRecords changes
+  pub stand : (d : List Deed) → Stand rows d → Stand (changed_by rows changes) (after d (step d request).deeds)
+  pub generation : (d : List Deed) → Stand rows d → generation_in (after d (step d request).deeds) ≡ generation_in d
 
 -- the journal has the group; or the disk failed, and it has what it had, perhaps with the group in doubt
 abbrev pub StandsBy : {D : Type 0} → (D → Files → Type 0) → Journal D → Committed → Doubtful → List ℕ → Bool → Type 0

@@ -10,6 +10,7 @@ use Rattle.depot_model.specs.Kept.{IsKept}
 use Rattle.depot_model.specs.Places.{Placed}
 use Rattle.depot_model.specs.Records.{record_of}
 use Rattle.depot_model.specs.Rules.{value_of}
+use Rattle.depot_model.specs.Steps.Submitting.{content_at}
 use Rattle.depot_rows.specs.Standing.{Stand}
 use Rattle.recovery.specs.Holding.{HasAllRows, spots_end}
 use Rattle.recovery.specs.Standing.{HasContents}
@@ -17,6 +18,10 @@ use Rattle.recovery.specs.Standing.{HasContents}
 -- the generation that a depot tells
 abbrev pub generation_in : List Deed → ℕ
 generation_in d = value_of (record_of d (keys.Counter (codes "journal")))
+
+-- two depots with the same contents of revisions
+abbrev pub SameContents : List Deed → List Deed → Type 0
+SameContents d e = (path : List ℕ) (n : ℕ) → content_at d path n ≡ content_at e path n
 
 -- An image of the archive's disk has the contents of the depot at the spots of these rows, and no spot ends behind it.
 pub record HasItsContents (rows : AllRows) (d : List Deed) (archive : Files) : Type 0 where

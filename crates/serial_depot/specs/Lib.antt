@@ -1,4 +1,3 @@
 pub mod Committing
-pub mod Counts
 pub mod Holding
 pub mod Running

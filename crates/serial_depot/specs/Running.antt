@@ -1,5 +1,5 @@
 -- A depot in files that has taken commands.
-use Rattle.std.specs.Prelude.{◌≡◌, ℕ, ◌≤◌, ◌+◌, true, List, [], ◌∷◌, ◌++◌, length, Some}
+use Rattle.std.specs.Prelude.{◌≡◌, ℕ, ◌≤◌, ◌+◌, true, List, ◌∷◌, ◌++◌, length}
 use Rattle.outside_api.specs.Disk.{Files}
 use Rattle.archive_file.specs.Archive as archives
 use Rattle.db_records.specs.declared.change.Change.{Change}
@@ -15,11 +15,13 @@ use Rattle.depot_model.specs.Step.{after}
 use Rattle.depot_model.specs.declared.request.Request.{Request}
 use Rattle.depot_rows.specs.Standing.{Stand}
 use Rattle.recovery.specs.Holding.{HasAllRows}
-use Rattle.serial_depot.specs.Counts.{AreCounts}
-use Rattle.serial_depot.specs.Holding.{generation_in, AllHaveContents, IsKeptSometime}
+use Rattle.session_loop.specs.Taking.{placed_by}
+use Rattle.serial_depot.specs.Committing.{AreChangesOf}
+use Rattle.serial_depot.specs.Holding.{generation_in, SameContents, AllHaveContents, IsKeptSometime}
 use Rattle.serial_depot.specs.declared.depot.SerialDepot.{SerialDepot}
 
--- The group is that of the changes of a fault place, after which no place is a change. These images of the archive's disk have the contents with it too.
+-- The group is that of the changes of a fault place. No place after it is a change, so that the depot has the same rows and contents as before it.
+-- These images of the archive's disk have the contents with the group too.
 pub record IsOfFault (images : Files → Type 0) (rows : AllRows) (was : Committed) (start : List Deed) (places : List Placed) (text : List ℕ) : Type 0 where
   pub changes : List Change
   pub is_group : IsGroup changes
@@ -27,14 +29,13 @@ pub record IsOfFault (images : Files → Type 0) (rows : AllRows) (was : Committ
   pub fit : AllFitIn rows changes
   pub before : List Placed
   pub request : Request
-  pub faulty : Placed
   pub later : List Placed
-  pub parts : places ≡ before ++ faulty ∷ later
-  pub faulty_is : faulty ≡ record { request = Some request; fault = true }
-  pub counts : AreCounts (step (taken step start before) request).deeds
+  pub parts : places ≡ before ++ placed_by request true ∷ later
   pub quiet : NoChange (taken step start before) later
-  pub stand : Stand (changed_by rows changes) (after (taken step start places) (step (taken step start before) request).deeds)
-  pub contents : AllHaveContents images (changed_by rows changes) (after (taken step start places) (step (taken step start before) request).deeds)
+  pub stand : Stand rows (taken step start before)
+  pub same_contents : SameContents (taken step start before) (taken step start places)
+  pub are_changes : AreChangesOf rows request changes
+  pub contents : AllHaveContents images (changed_by rows changes) (after (taken step start before) (step (taken step start before) request).deeds)
 
 -- what is in doubt after places
 abbrev pub IsDoubtOf : (Files → Type 0) → AllRows → Committed → List Deed → List Placed → Doubtful → Type 0

@@ -5,6 +5,7 @@
 #![tactic(auto)]
 
 mod commit;
+mod counting;
 mod depot;
 mod placing;
 mod taking;

@@ -1,7 +1,6 @@
 //! Giving a command its place.
 
 ghost use Rattle.std.specs.Prelude.{◌≡◌, ◌≤◌, ℕ, List, [], true, false, IfOk, OnErr};
-ghost use Rattle.journal_groups.specs.Groups.{AreRecords};
 ghost use Rattle.archive_file.specs.Archive.{disk_of as archive_disk_of};
 ghost use Rattle.outside_api.specs.Count.{HasRisen};
 ghost use Rattle.table_changes.specs.Changed.{AllFitIn, changed_by, rows_of};
@@ -10,11 +9,9 @@ ghost use Rattle.depot_model.specs.Deeds.{Deed};
 ghost use Rattle.depot_model.specs.Places.{Placed, taken};
 ghost use Rattle.depot_model.specs.Step.{after};
 ghost use Rattle.depot_model.specs.declared.request.Request.{Request};
-ghost use Rattle.depot_rows.specs.Standing.{Stand};
 ghost use Rattle.disk_journal.specs.Stands.{disk_of};
 ghost use Rattle.session_loop.specs.Taking.{with_place};
-ghost use Rattle.serial_depot.specs.Committing.{IsToldAt};
-ghost use Rattle.serial_depot.specs.Counts.{AreCounts};
+ghost use Rattle.serial_depot.specs.Committing.{AreChangesOf, IsToldAt};
 ghost use Rattle.serial_depot.specs.Holding.{AllHaveContents};
 ghost use Rattle.serial_depot.specs.Running.{CanCommit, HasRun};
 
@@ -45,8 +42,8 @@ impl<D: Disk> SerialDepot<D> {
         ensures nothing { OnErr result (self.new ≡ self.old) }
         ensures told { IfOk result (IsToldAt place reply) }
         ensures ran { (since : ℕ) (start : List Deed) (places : List Placed) (request : Request) →
-            HasRun D.may_leave D.moment D.left_since self.old since start places → AreRecords changes.now → AreCounts (step (taken step start places) request).deeds →
-            Stand (changed_by (rows_of self.old.tables) changes.now) (after (taken step start places) (step (taken step start places) request).deeds) →
+            HasRun D.may_leave D.moment D.left_since self.old since start places →
+            AreChangesOf (rows_of self.old.tables) request changes.now →
             AllHaveContents (D.may_leave (archive_disk_of self.old.archive)) (changed_by (rows_of self.old.tables) changes.now) (after (taken step start places) (step (taken step start places) request).deeds) →
             IfOk result (λ answer. HasRun D.may_leave D.moment D.left_since self.new since start (with_place places request answer)) }
         ensures no_call { changes.now ≡ [] → self.new ≡ self.old }

@@ -1,9 +1,6 @@
 //! Taking commands one after another.
 
-ghost use Rattle.std.specs.Prelude.{◌≡◌, ◌≤◌, ℕ, List, All, true, false, IfOk, OnErr};
-ghost use Rattle.db_records.specs.Record.{table_of};
-ghost use Rattle.db_records.specs.declared.table.TableId.TheVariants.{Counter};
-ghost use Rattle.record_text.specs.Grammar.{IsRecord, largest_wide};
+ghost use Rattle.std.specs.Prelude.{◌≡◌, ◌≤◌, ℕ, List, [], All, IsTrue, true, false, IfOk, OnErr};
 ghost use Rattle.outside_api.specs.Count.{HasRisen};
 ghost use Rattle.depot_model.specs.Deeds.{Deed};
 ghost use Rattle.depot_model.specs.Commands.{step};
@@ -13,15 +10,17 @@ ghost use Rattle.depot_model.specs.Step.{after};
 ghost use Rattle.depot_rows.specs.Standing.{Stand};
 ghost use Rattle.table_changes.specs.Changed.{rows_of};
 ghost use Rattle.disk_journal.specs.Stands.{disk_of};
+ghost use Rattle.row_texts.specs.Texts.{is_counted};
 ghost use Rattle.session_loop.specs.Taking.{Answers, IsProper, place_by, with_place};
 ghost use Rattle.serial_depot.specs.Running.{CanCommit, HasRun};
 
+use crate::counting::{are_counted, know_records};
 use crate::depot::SerialDepot;
 use command_core::{Outcome, evaluate};
-use db_records::{Change, Record};
 use depot_model::{Answer, Place, Request};
 use outside_api::{Disk, Gate};
 use session_loop::Taker;
+use sound_requests::requests_are_typed;
 use std::alloc::{AllocError, Global};
 use wire_text::print_reply;
 
@@ -37,33 +36,18 @@ fn place_of(request: &Request) -> Place
     }
 }
 
-/// A number is no greater than one that a text can say.
-fn know_number(number: u64)
-    ensures { number ≤ largest_wide }
+/// Whether an outcome can be committed and answered: a text may say the numbers of each row that is
+/// changed, and the reply needs no content of the archive.
+fn is_ready(outcome: &Outcome) -> bool
+    ensures { result ≡ true → All (λ change. IsTrue (is_counted change.row)) outcome.now.changes × (outcome.now.reads ≡ []) }
 {
-    let _number = number;
-}
-
-/// The row of a counter has a text.
-fn know_record(row: &Record)
-    ensures { table_of row.now ≡ Counter → IsRecord row.now }
-{
-    if let Record::Counter(row) = row {
-        know_number(row.value);
-    }
-}
-
-/// The rows of counters have a text.
-fn know_records(changes: &[Change])
-    ensures { All (λ change. table_of change.row ≡ Counter → IsRecord change.row) changes.now }
-{
-    for change in changes {
-        know_record(&change.row);
-    }
+    outcome.reads.is_empty() && are_counted(outcome.changes.as_slice())
 }
 
 impl<D: Disk> SerialDepot<D> {
-    /// Takes the command of a request.
+    /// Takes the command of a request. A command that would change a row with a number that no text
+    /// says, or whose reply needs contents of the archive, is answered as want of memory, before any
+    /// call of a disk.
     fn take_request<G: Gate>(
         &mut self,
         alloc: Global,
@@ -83,11 +67,16 @@ impl<D: Disk> SerialDepot<D> {
         ensures never_falls { D.faults (disk_of self.old.journal) ≤ D.faults (disk_of self.new.journal) }
         ensures cause { IfOk result (λ answer. answer.place.fault ≡ true → HasRisen (D.faults (disk_of self.old.journal)) (D.faults (disk_of self.new.journal))) }
     {
-        let Outcome { reply, changes } = evaluate(alloc, &self.tables, request)?;
+        requests_are_typed(request);
+        let outcome = evaluate(alloc, &self.tables, request)?;
+        if !is_ready(&outcome) {
+            drop(outcome);
+            return Err(AllocError);
+        }
         gate.pass(request.party, request.number);
-        let text = print_reply(alloc, &reply, request.number)?;
-        know_records(changes.as_slice());
-        let answer = self.place(alloc, place_of(request), text, changes.as_slice())?;
+        let text = print_reply(alloc, &outcome.reply, request.number)?;
+        know_records(outcome.changes.as_slice());
+        let answer = self.place(alloc, place_of(request), text, outcome.changes.as_slice())?;
         gate.answered(request.party, request.number);
         Ok(answer)
     }
@@ -106,6 +95,8 @@ impl<D: Disk> Taker for SerialDepot<D> {
         gate: &G,
         request: Request,
     ) -> Result<Answer, AllocError> {
-        self.take_request(alloc, gate, &request)
+        let answer = self.take_request(alloc, gate, &request);
+        drop(request);
+        answer
     }
 }

@@ -1,36 +1,94 @@
--- The commands that lines ask are well-formed.
-use Rattle.std.proofs.Common.{◌≡◌, sym, subst, ℕ, Bool, List, [], ◌∷◌, Option, Some, None, is_some, IfOk}
+-- The commands that lines ask are well-formed, and their contents short.
+use Rattle.std.proofs.Common.{◌≡◌, refl, sym, subst, ℕ, Bool, true, false, List, [], ◌∷◌, Option, Some, None}
+use Rattle.std.specs.Prelude.{◌&&◌, map, is_some, if◌then◌else◌}
+use Rattle.std.specs.List.{list_all}
 use Rattle.std.proofs.lemmas.List.Elements.{All-nil, All-cons}
 use Rattle.indexmap.specs.IndexMap.{insert_entry, shift_remove_entry}
 use Rattle.depot_path.specs.Bytes.{same}
 use Rattle.depot_model.specs.declared.request.Asked.{Asked}
-use Rattle.command_words.specs.WellFormed.{IsWellFormed}
+use Rattle.command_words.specs.Reading.{command_of}
 use Rattle.command_words.proofs.FormedLines.{each_line}
 use Rattle.wire_text.specs.declared.entry.Entry.{Entry}
 use Rattle.wire_text.specs.declared.entry.Entry.TheVariants.{Put, Clear, Command as Asks}
 use Rattle.wire_text.specs.declared.head.Head.{Head}
 use Rattle.wire_text.specs.declared.head.Head.TheVariants.{Session as SessionHead, Replica}
-use Rattle.wire_text.specs.Script.{script_of}
-use Rattle.session_loop.specs.Asking.{asked_by, asked_from, session_of, commands_of, asking_of, AreWellFormed}
+use Rattle.wire_text.specs.Script.{script_of, is_short, has_short_content}
+use Rattle.wire_text.proofs.Short.{script_short}
+use Rattle.session_loop.specs.Asking.{asked_by, asked_from, content_of, taken_contents, takes_contents, session_of, commands_of, asking_of, AreProper, AreWellFormed}
 
 abbrev IsAskedWell : Asked → Type 0
-IsAskedWell asked = IfOk asked.command IsWellFormed
+IsAskedWell asked = AreProper asked.command asked.contents
 
-entries_ask : (contents : List (List ℕ × List ℕ)) (entries : List Entry) → AreWellFormed (asked_from contents entries)
-entries_ask contents [] = All-nil IsAskedWell
-entries_ask contents (Put content ∷ entries) = entries_ask (insert_entry same contents content.path content.bytes) entries
-entries_ask contents (Clear path ∷ entries) = entries_ask (shift_remove_entry (same path) contents) entries
-entries_ask contents (Asks item ∷ entries) =
-    All-cons IsAskedWell (asked_by contents item) (asked_from contents entries) (each_line item.line (is_some item.input)).value (entries_ask contents entries)
+-- ---- contents are short
 
-pub scripts_ask : (head : Option Head) (entries : List Entry) → AreWellFormed (commands_of (session_of head entries))
-scripts_ask (Some (SessionHead caller)) entries = entries_ask [] entries
-scripts_ask (Some (Replica caller patterns)) entries = All-nil IsAskedWell
-scripts_ask None entries = All-nil IsAskedWell
+abbrev is_short_text : List ℕ × List ℕ → Bool
+is_short_text entry = is_short (content_of entry)
+
+abbrev are_short : List (List ℕ × List ℕ) → Bool
+are_short contents = list_all is_short_text contents
+
+both_true : (a b : Bool) → a ≡ true → b ≡ true → (a && b) ≡ true
+both_true a b e f = λ i. e i && f i
+
+left_true : (a b : Bool) → (a && b) ≡ true → a ≡ true
+left_true true b e = refl
+left_true false b e = absurd cc
+
+right_true : (a b : Bool) → (a && b) ≡ true → b ≡ true
+right_true true b e = e
+right_true false b e = absurd cc
+
+inserted_short : (contents : List (List ℕ × List ℕ)) (path bytes : List ℕ) → is_short_text (path, bytes) ≡ true → are_short contents ≡ true
+    → are_short (insert_entry same contents path bytes) ≡ true
+inserted_short [] path bytes one all = both_true (is_short_text (path, bytes)) true one refl
+inserted_short (e ∷ contents) path bytes one all = go (same path e.0) (inserted_short contents path bytes one (right_true (is_short_text e) (are_short contents) all))
+  where
+    go : (b : Bool) → are_short (insert_entry same contents path bytes) ≡ true
+        → are_short (if b then (e.0, bytes) ∷ contents else e ∷ insert_entry same contents path bytes) ≡ true
+    go true later = both_true (is_short_text (e.0, bytes)) (are_short contents) one (right_true (is_short_text e) (are_short contents) all)
+    go false later = both_true (is_short_text e) (are_short (insert_entry same contents path bytes)) (left_true (is_short_text e) (are_short contents) all) later
+
+removed_short : (path : List ℕ) (contents : List (List ℕ × List ℕ)) → are_short contents ≡ true → are_short (shift_remove_entry (same path) contents) ≡ true
+removed_short path [] all = refl
+removed_short path (e ∷ contents) all = go (same path e.0) (removed_short path contents (right_true (is_short_text e) (are_short contents) all))
+  where
+    go : (b : Bool) → are_short (shift_remove_entry (same path) contents) ≡ true
+        → are_short (if b then contents else e ∷ shift_remove_entry (same path) contents) ≡ true
+    go true later = right_true (is_short_text e) (are_short contents) all
+    go false later = both_true (is_short_text e) (are_short (shift_remove_entry (same path) contents)) (left_true (is_short_text e) (are_short contents) all) later
+
+mapped_short : (contents : List (List ℕ × List ℕ)) → are_short contents ≡ true → list_all is_short (map content_of contents) ≡ true
+mapped_short [] all = refl
+mapped_short (e ∷ contents) all = both_true (is_short_text e) (list_all is_short (map content_of contents)) (left_true (is_short_text e) (are_short contents) all)
+    (mapped_short contents (right_true (is_short_text e) (are_short contents) all))
+
+taken_short : (takes : Bool) (contents : List (List ℕ × List ℕ)) → are_short contents ≡ true → list_all is_short (taken_contents takes contents) ≡ true
+taken_short true contents all = mapped_short contents all
+taken_short false contents all = refl
+
+-- ---- what is asked
+
+entries_ask : (contents : List (List ℕ × List ℕ)) (entries : List Entry) → are_short contents ≡ true → list_all has_short_content entries ≡ true
+    → AreWellFormed (asked_from contents entries)
+entries_ask contents [] short all = All-nil IsAskedWell
+entries_ask contents (Put content ∷ entries) short all =
+    entries_ask (insert_entry same contents content.path content.bytes) entries
+    (inserted_short contents content.path content.bytes (left_true (has_short_content (Put content)) (list_all has_short_content entries) all) short)
+    (right_true (has_short_content (Put content)) (list_all has_short_content entries) all)
+entries_ask contents (Clear path ∷ entries) short all = entries_ask (shift_remove_entry (same path) contents) entries (removed_short path contents short) all
+entries_ask contents (Asks item ∷ entries) short all =
+    All-cons IsAskedWell (asked_by contents item) (asked_from contents entries)
+    ((each_line item.line (is_some item.input)).value, taken_short (takes_contents (command_of item.line (is_some item.input))) contents short)
+    (entries_ask contents entries short all)
+
+pub scripts_ask : (head : Option Head) (entries : List Entry) → list_all has_short_content entries ≡ true → AreWellFormed (commands_of (session_of head entries))
+scripts_ask (Some (SessionHead caller)) entries all = entries_ask [] entries refl all
+scripts_ask (Some (Replica caller patterns)) entries all = All-nil IsAskedWell
+scripts_ask None entries all = All-nil IsAskedWell
 
 pub bytes_ask : (bytes : List ℕ) → AreWellFormed (commands_of (asking_of bytes).session)
-bytes_ask bytes = scripts_ask (script_of bytes).head (script_of bytes).entries
+bytes_ask bytes = scripts_ask (script_of bytes).head (script_of bytes).entries (script_short bytes)
 
 -- commands that are those of a script's entries
-pub asked_well : (commands : List Asked) (entries : List Entry) → commands ≡ asked_from [] entries → AreWellFormed commands
-asked_well commands entries e = subst AreWellFormed (sym e) (entries_ask [] entries)
+pub asked_well : (commands : List Asked) (entries : List Entry) → commands ≡ asked_from [] entries → list_all has_short_content entries ≡ true → AreWellFormed commands
+asked_well commands entries e all = subst AreWellFormed (sym e) (entries_ask [] entries refl all)

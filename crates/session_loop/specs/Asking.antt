@@ -1,8 +1,8 @@
 -- What a session asks: the commands of its script's lines. A line brings the input that stands before it, and a submit or a shelve also the
 -- contents that are in force there, the last one of each file, in the order in which the files were first named since they were last cleared
 -- (this project's own choice).
-use Rattle.std.specs.Prelude.{ℕ, Bool, true, false, List, [], ◌∷◌, map, Option, Some, None, is_some, Result, Ok, IfOk}
-use Rattle.std.specs.List.{All}
+use Rattle.std.specs.Prelude.{ℕ, Bool, true, false, List, [], ◌∷◌, map, Option, Some, None, is_some, Result, Ok, IfOk, IsTrue}
+use Rattle.std.specs.List.{All, list_all}
 use Rattle.indexmap.specs.IndexMap.{insert_entry, shift_remove_entry}
 use Rattle.depot_path.specs.Bytes.{same}
 use Rattle.depot_model.specs.declared.command.Command.{Command}
@@ -20,7 +20,7 @@ use Rattle.wire_text.specs.declared.fault.ScriptFault.{ScriptFault}
 use Rattle.wire_text.specs.declared.fault.ScriptFaultKind.TheVariants.{BadHead}
 use Rattle.wire_text.specs.declared.head.Head.{Head}
 use Rattle.wire_text.specs.declared.head.Head.TheVariants.{Session as SessionHead, Replica}
-use Rattle.wire_text.specs.Script.{Script, script_of, fault_at}
+use Rattle.wire_text.specs.Script.{Script, script_of, fault_at, is_short}
 
 -- ---- lines
 
@@ -78,6 +78,10 @@ abbrev pub commands_of : Option Session → List Asked
 commands_of (Some session) = session.commands
 commands_of None = []
 
--- the commands that words spell are well-formed
+-- a command, where words spell one, is well-formed, and contents are short
+abbrev pub AreProper : Result Command WordFault → List Content → Type 0
+AreProper command contents = IfOk command IsWellFormed × IsTrue (list_all is_short contents)
+
+-- so is each that is asked
 abbrev pub AreWellFormed : List Asked → Type 0
-AreWellFormed commands = All (λ (asked : Asked). IfOk asked.command IsWellFormed) commands
+AreWellFormed commands = All (λ (asked : Asked). AreProper asked.command asked.contents) commands

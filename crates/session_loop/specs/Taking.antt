@@ -1,6 +1,6 @@
 -- What who takes commands promises: each command gets its place behind those before it, and is answered what the model says there. This project's
 -- own choice.
-use Rattle.std.specs.Prelude.{◌≡◌, ℕ, Bool, List, [], ◌∷◌, ◌++◌, Some, IfOk}
+use Rattle.std.specs.Prelude.{◌≡◌, ℕ, Bool, List, [], ◌∷◌, ◌++◌, Some}
 use Rattle.depot_model.specs.Deeds.{Deed}
 use Rattle.depot_model.specs.Commands.{step}
 use Rattle.depot_model.specs.Places.{Placed, told_at, taken}
@@ -8,11 +8,11 @@ use Rattle.depot_model.specs.Printed.{printed}
 use Rattle.depot_model.specs.declared.order.Answer.{Answer}
 use Rattle.depot_model.specs.declared.order.Place.{Place}
 use Rattle.depot_model.specs.declared.request.Request.{Request}
-use Rattle.command_words.specs.WellFormed.{IsWellFormed}
+use Rattle.session_loop.specs.Asking.{AreProper}
 
--- its command, where it has one, is well-formed
+-- its command, where it has one, is well-formed, and its contents are short
 abbrev pub IsProper : Request → Type 0
-IsProper request = IfOk request.command IsWellFormed
+IsProper request = AreProper request.command request.contents
 
 -- the place of a request
 abbrev pub place_by : Request → Bool → Place

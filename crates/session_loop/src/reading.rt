@@ -1,6 +1,8 @@
 //! Reading a session: what its script asks, line by line.
 
-ghost use Rattle.std.specs.Prelude.{◌≡◌, ◌≤◌, ◌+◌, ◌++◌, ◌∷◌, List, [], length, map, IfOk, OnOk};
+ghost use Rattle.std.specs.Prelude.{◌≡◌, ◌≤◌, ◌+◌, ◌++◌, ◌∷◌, List, [], ◌≢◌, Err, length, map, IfOk, OnOk, IsTrue, IsFalse};
+ghost use Rattle.std.specs.List.{list_all};
+ghost use Rattle.wire_text.specs.Script.{has_short_content};
 ghost use Rattle.wire_text.specs.declared.entry.Entry.{Entry};
 ghost use Rattle.session_loop.specs.Asking as spec;
 ghost use Rattle.session_loop.specs.Reading.{IsReadSession, end_for};
@@ -16,7 +18,7 @@ use wire_text::{
 };
 
 /// What was read of a session.
-#[derive(Debug, Drop)]
+#[derive(Drop)]
 pub struct ReadSession {
     /// The session, where the script has the head of one.
     pub session: Option<Session>,
@@ -72,6 +74,28 @@ fn taken_contents(
     }
 }
 
+/// Whether no memory was left to read a command.
+fn wants_memory(command: &Result<Command, WordFault>) -> bool
+    ensures { IsFalse result → command.now ≢ Err WordFault.Memory }
+{
+    matches!(command, Err(WordFault::Memory))
+}
+
+/// What a command takes of the contents, where memory was left to read it.
+fn contents_for(
+    alloc: Global,
+    command: &Result<Command, WordFault>,
+    contents: &IndexMap<ClientPath, Text>,
+) -> Result<Sequence<Content>, AllocError>
+    ensures taken { IfOk result (λ taken. taken ≡ spec.taken_contents (spec.takes_contents command.now) contents.now.entries) }
+    ensures read { OnOk result (command.now ≢ Err WordFault.Memory) }
+{
+    if wants_memory(command) {
+        return Err(AllocError);
+    }
+    taken_contents(alloc, takes_contents(command), contents)
+}
+
 /// What a line asks.
 fn asked(
     alloc: Global,
@@ -80,16 +104,19 @@ fn asked(
 ) -> Result<Asked, AllocError>
     ensures { IfOk result (λ asked. asked ≡ spec.asked_by contents.now.entries item) }
 {
-    let command = read_command(alloc, &item.line, item.input.is_some());
-    if let Err(WordFault::Memory) = &command {
-        return Err(AllocError);
+    let Item { line, input, .. } = item;
+    let command = read_command(alloc, &line, input.is_some());
+    match contents_for(alloc, &command, contents) {
+        Ok(contents) => Ok(Asked {
+            command,
+            input,
+            contents,
+        }),
+        Err(error) => {
+            drop(command);
+            Err(error)
+        }
     }
-    let contents = taken_contents(alloc, takes_contents(&command), contents)?;
-    Ok(Asked {
-        command,
-        input: item.input,
-        contents,
-    })
 }
 
 /// Goes on by an entry of the script.
@@ -127,6 +154,7 @@ fn session(
     head: Option<Head>,
     entries: Sequence<Entry>,
 ) -> Result<Option<Session>, AllocError>
+    requires short { IsTrue (list_all has_short_content entries) }
     ensures value { IfOk result (λ session. session ≡ spec.session_of head entries) }
     ensures few { IfOk result (λ session. length (spec.commands_of session) ≤ length entries) }
     ensures formed { IfOk result (λ session. spec.AreWellFormed (spec.commands_of session)) }

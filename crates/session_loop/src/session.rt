@@ -1,13 +1,12 @@
 //! Taking the commands of a session, one after another.
 
-ghost use Rattle.std.specs.Prelude.{◌≡◌, ◌≤◌, ◌<◌, ◌^◌, ◌-◌, ℕ, List, Option, Some, [], length, map, slice_get, true, false, IfOk, OnErr};
+ghost use Rattle.std.specs.Prelude.{◌≡◌, ◌≤◌, ◌<◌, ◌^◌, ◌-◌, ℕ, List, Option, Some, [], length, map, slice_get, true, false, vec_len, vec_capacity, IfOk, OnOk, OnErr};
 ghost use Rattle.outside_api.specs.Count.{HasCause, HasRisen, counted};
 ghost use Rattle.depot_model.specs.Deeds.{Deed};
 ghost use Rattle.depot_model.specs.Places.{Placed};
 ghost use Rattle.depot_model.specs.declared.request.Session.{Session};
 ghost use Rattle.depot_model.specs.Run.{placed, request_of};
-ghost use Rattle.command_words.specs.WellFormed.{IsWellFormed};
-ghost use Rattle.session_loop.specs.Asking.{AreWellFormed};
+ghost use Rattle.session_loop.specs.Asking.{AreProper, AreWellFormed};
 ghost use Rattle.session_loop.specs.Served.{AreCaused, IsTaken, IsAnswered, IsServed, fault_count};
 
 use crate::taker::Taker;
@@ -18,7 +17,7 @@ use std::alloc::{AllocError, Global};
 use wire_text::{GiveFault, give_all, give_memory};
 
 /// How far a session came.
-#[derive(Clone, Copy, Debug, PartialEq, Eq)]
+#[derive(Clone, Copy, PartialEq, Eq)]
 pub struct SessionRun {
     /// How many of its commands were taken.
     pub commands: u32,
@@ -26,19 +25,47 @@ pub struct SessionRun {
     pub failed: bool,
 }
 
+/// The request of a place, by a caller of its own.
+fn request_by(place: &Place, caller: Caller, asked: Asked) -> Request
+    ensures { result ≡ request_of place.now caller asked }
+{
+    let Asked {
+        command,
+        input,
+        contents,
+    } = asked;
+    Request {
+        caller,
+        party: place.party,
+        number: place.number,
+        moment: place.moment,
+        command,
+        input,
+        contents,
+    }
+}
+
 /// The request of a place.
 fn request(place: &Place, caller: &Caller, asked: Asked) -> Result<Request, AllocError>
     ensures { IfOk result (λ request. request ≡ request_of place.now caller.now asked) }
 {
-    Ok(Request {
-        caller: caller.copy()?,
-        party: place.party,
-        number: place.number,
-        moment: place.moment,
-        command: asked.command,
-        input: asked.input,
-        contents: asked.contents,
-    })
+    match caller.copy() {
+        Ok(caller) => Ok(request_by(place, caller, asked)),
+        Err(error) => {
+            drop(asked);
+            Err(error)
+        }
+    }
+}
+
+/// Makes room for a place, so that the value may be used up.
+fn with_room<T: Drop>(order: &mut Vec<Place>, value: T) -> Result<T, AllocError>
+    ensures value { IfOk result (λ kept. kept ≡ value) }
+    ensures room { OnOk result (vec_len order.new < vec_capacity order.new) }
+    ensures same { order.new.items ≡ order.old.items }
+{
+    order.reserve(1)?;
+    Ok(value)
 }
 
 /// Takes a command: it gets its place, which goes to the end of the order, and its reply. Without
@@ -56,7 +83,7 @@ fn take_command<T: Taker, C: Clock, G: Gate>(
 ) -> Result<Text, AllocError>
     requires { T.can_take taker.old }
     ensures can { T.can_take taker.new }
-    ensures ok { (since : ℕ) (start : List Deed) (places : List Placed) → T.has_run taker.old since start places → IfOk asked.command IsWellFormed →
+    ensures ok { (since : ℕ) (start : List Deed) (places : List Placed) → T.has_run taker.old since start places → AreProper asked.command asked.contents →
         IfOk result (IsTaken (C.may_give clock.now) (T.has_run taker.new since) party number caller.now asked start places order.old.items order.new.items) }
     ensures same_taker { OnErr result (taker.new ≡ taker.old) }
     ensures same_order { OnErr result (order.new.items ≡ order.old.items) }
@@ -68,8 +95,7 @@ fn take_command<T: Taker, C: Clock, G: Gate>(
         moment: clock.now(),
         fault: false,
     };
-    let request = request(&place, caller, asked)?;
-    order.reserve(1)?;
+    let request = with_room(order, request(&place, caller, asked)?)?;
     let Answer { place, reply } = taker.take(alloc, gate, request)?;
     order.push(place).unwrap();
     Ok(reply)
@@ -90,7 +116,7 @@ fn answer<T: Taker, K: Sink, C: Clock, G: Gate>(
 ) -> Result<(), GiveFault>
     requires { T.can_take taker.old }
     ensures can { T.can_take taker.new }
-    ensures answered { (since : ℕ) (start : List Deed) (places : List Placed) → T.has_run taker.old since start places → IfOk asked.command IsWellFormed →
+    ensures answered { (since : ℕ) (start : List Deed) (places : List Placed) → T.has_run taker.old since start places → AreProper asked.command asked.contents →
         IsAnswered (C.may_give clock.now) (T.has_run taker.new since) party number caller.now asked start places order.old.items order.new.items (K.given sink.old) (K.given sink.new) result }
     ensures places { AreCaused (T.faults taker.old) (T.faults taker.new) order.old.items order.new.items }
     ensures cause { HasCause (K.faults sink.old) (K.faults sink.new) result }

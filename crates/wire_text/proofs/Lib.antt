@@ -6,6 +6,7 @@ pub mod Says
 pub mod Heads
 pub mod Arms
 pub mod Scripts
+pub mod Short
 pub mod Items
 mod Examples
 pub mod Values

@@ -1,6 +1,6 @@
 -- What the bytes of a script say: its head, and then one thing after another; and the first fault that ends it. The form of scripts is this
 -- project's own choice.
-use Rattle.std.specs.Prelude.{◌≡◌, ℕ, zero, suc, ◌+◌, ◌-◌, Bool, true, false, ◌==◌, nat_le, nat_lt, is_some, List, [], ◌∷◌, ◌++◌, length, take, drop, codes, if◌then◌else◌, Option, Some, None, Result, Ok, Err}
+use Rattle.std.specs.Prelude.{ℕ, zero, suc, ◌+◌, ◌-◌, Bool, true, false, ◌==◌, nat_le, nat_lt, is_some, List, [], ◌∷◌, ◌++◌, length, take, drop, if◌then◌else◌, Option, Some, None, Result, Ok, Err}
 use Rattle.std.specs.Option.{option_to_list}
 use Rattle.wire_text.specs.Parts.{upto, past, is_in}
 use Rattle.wire_text.specs.Head.{head_of, client_of}
@@ -12,6 +12,7 @@ use Rattle.wire_text.specs.declared.fault.ScriptFaultKind.TheVariants.{BadHead, 
 use Rattle.wire_text.specs.declared.head.Head.{Head}
 use Rattle.wire_text.specs.declared.entry.Entry.{Entry}
 use Rattle.wire_text.specs.declared.entry.Entry.TheVariants.{Put, Clear, Command}
+use Rattle.depot_model.specs.declared.request.Content.{Content}
 use Rattle.wire_text.specs.declared.line_kind.LineKind.{LineKind}
 use Rattle.wire_text.specs.declared.line_kind.LineKind.TheVariants.{Skipped, Block, Clear as Clears, Input, CommandLine, Bad, LongBlock}
 
@@ -28,6 +29,14 @@ pub record Part : Type 0 where
   pub size : ℕ
   pub entry : Option Entry
   pub input : Option (List ℕ)
+
+-- a content is no longer than a block may be
+abbrev pub is_short : Content → Bool
+is_short content = nat_le (length content.bytes) 8388608
+
+abbrev pub has_short_content : Entry → Bool
+has_short_content (Put content) = is_short content
+has_short_content _ = true
 
 -- a block with which a text begins, given what stands behind it: a line feed
 abbrev pub block_before : List ℕ → List ℕ → Result (List ℕ) ScriptFaultKind

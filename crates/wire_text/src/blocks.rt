@@ -9,7 +9,7 @@ use outside_api::Source;
 use std::alloc::{AllocError, Global};
 
 /// What comes where bytes are wanted.
-#[derive(Debug, Drop)]
+#[derive(Drop)]
 enum BytesRead {
     /// So many bytes.
     Bytes(Vec<u8>),
@@ -18,7 +18,7 @@ enum BytesRead {
 }
 
 /// What comes where a block is wanted.
-#[derive(Debug, Drop)]
+#[derive(Drop)]
 pub(crate) enum BlockRead {
     /// The block, behind which a line feed was passed.
     Block(Text),

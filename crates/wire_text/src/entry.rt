@@ -4,7 +4,7 @@ use depot_model::{Content, Line};
 use depot_path::{ClientPath, Text};
 
 /// A command of a script.
-#[derive(Debug, Drop)]
+#[derive(Drop)]
 pub struct Item {
     /// Its number among the script's commands, from 1.
     pub number: u32,
@@ -15,7 +15,7 @@ pub struct Item {
 }
 
 /// One thing that a script says.
-#[derive(Debug, Drop)]
+#[derive(Drop)]
 pub enum Entry {
     /// From here on a file of the client workspace holds these bytes.
     Put(Content),

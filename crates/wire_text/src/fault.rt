@@ -6,7 +6,7 @@ ghost use Rattle.wire_text.specs.declared.fault.ScriptError.TheVariants.{Memory}
 use std::alloc::AllocError;
 
 /// What is wrong with a script.
-#[derive(Clone, Copy, Debug, PartialEq, Eq)]
+#[derive(Clone, Copy, PartialEq, Eq)]
 pub enum ScriptFaultKind {
     /// The first line is no head.
     BadHead,
@@ -21,7 +21,7 @@ pub enum ScriptFaultKind {
 }
 
 /// What is wrong with a script, and where.
-#[derive(Clone, Copy, Debug, PartialEq, Eq)]
+#[derive(Clone, Copy, PartialEq, Eq)]
 pub struct ScriptFault {
     /// What is wrong.
     pub what: ScriptFaultKind,
@@ -30,7 +30,7 @@ pub struct ScriptFault {
 }
 
 /// Why a script can't be read on.
-#[derive(Clone, Copy, Debug, PartialEq, Eq)]
+#[derive(Clone, Copy, PartialEq, Eq)]
 pub enum ScriptError {
     /// It isn't of the form of a script.
     Fault(ScriptFault),

@@ -10,7 +10,7 @@ use itoa::Buffer;
 use outside_api::Sink;
 
 /// The sink has failed before it had taken all of a piece.
-#[derive(Clone, Copy, Debug, PartialEq, Eq)]
+#[derive(Clone, Copy, PartialEq, Eq)]
 pub struct GiveFault;
 
 /// Gives a whole piece, part by part. It takes no memory.

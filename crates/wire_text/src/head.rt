@@ -12,7 +12,7 @@ use depot_path::{Name, PathFault, Pattern, Sequence, Text, is_name};
 use std::alloc::{AllocError, Global};
 
 /// Who a script speaks for.
-#[derive(Debug, Drop)]
+#[derive(Drop)]
 pub enum Head {
     /// A session with the depot.
     Session(Caller),
@@ -51,7 +51,20 @@ fn name_of(alloc: Global, bytes: &[u8]) -> Result<Name, AllocError>
     }
 }
 
-/// The caller of these three names.
+/// The caller of three names.
+fn make_caller(alloc: Global, user: &[u8], client: &[u8], host: &[u8]) -> Result<Caller, AllocError>
+    requires user { IsTrue (name_test user.now) }
+    requires client { IsTrue (name_test client.now) }
+    requires host { IsTrue (name_test host.now) }
+    ensures { IfOk result (λ caller. caller ≡ record { user = user.now; client = client.now; host = host.now }) }
+{
+    let user = name_of(alloc, user)?;
+    let client = name_of(alloc, client)?;
+    let host = name_of(alloc, host)?;
+    Ok(Caller { user, client, host })
+}
+
+/// The caller of these three names, where they are names.
 fn caller_of(
     alloc: Global,
     user: &[u8],
@@ -61,11 +74,7 @@ fn caller_of(
     ensures { IfOk result (λ caller. caller ≡ are_names user.now client.now host.now) }
 {
     if is_name(user) && is_name(client) && is_name(host) {
-        Ok(Some(Caller {
-            user: name_of(alloc, user)?,
-            client: name_of(alloc, client)?,
-            host: name_of(alloc, host)?,
-        }))
+        Ok(Some(make_caller(alloc, user, client, host)?))
     } else {
         Ok(None)
     }

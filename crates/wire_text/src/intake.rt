@@ -15,7 +15,7 @@ pub const MAX_SCRIPT: u64 = 67_108_864;
 const BUFFER: usize = 8_192;
 
 /// Why no further byte came.
-#[derive(Clone, Copy, Debug, PartialEq, Eq)]
+#[derive(Clone, Copy, PartialEq, Eq)]
 pub(crate) enum Stop {
     /// The source is at its end.
     End,
@@ -26,7 +26,7 @@ pub(crate) enum Stop {
 }
 
 /// Bytes of a script that were taken from its source and not read yet.
-#[derive(Debug, Drop)]
+#[derive(Drop)]
 pub(crate) struct Intake {
     buffer: Vec<u8>,
     start: usize,

@@ -15,8 +15,6 @@ mod parts;
 mod printing;
 mod reader;
 mod script;
-#[cfg(test)]
-mod tests;
 mod words;
 
 pub use contents::pass_entry;

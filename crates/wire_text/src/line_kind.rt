@@ -13,7 +13,7 @@ use std::alloc::{AllocError, Global};
 pub const MAX_BLOCK: u32 = 8_388_608;
 
 /// What a line of a script is for.
-#[derive(Debug, Drop)]
+#[derive(Drop)]
 pub(crate) enum LineKind {
     /// For nothing.
     Skipped,
@@ -32,7 +32,7 @@ pub(crate) enum LineKind {
 }
 
 /// Why a word is no length of a block.
-#[derive(Clone, Copy, Debug, PartialEq, Eq)]
+#[derive(Clone, Copy, PartialEq, Eq)]
 enum LengthFault {
     /// It isn't digits.
     NoLength,

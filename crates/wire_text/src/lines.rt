@@ -12,7 +12,7 @@ use std::alloc::{AllocError, Global};
 pub const MAX_LINE: usize = 8_192;
 
 /// What comes where a line is wanted.
-#[derive(Debug, Drop)]
+#[derive(Drop)]
 pub(crate) enum LineRead {
     /// A line, without its line feed.
     Line(Vec<u8>),

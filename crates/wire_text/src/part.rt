@@ -19,7 +19,7 @@ use outside_api::Source;
 use std::alloc::{AllocError, Global};
 
 /// What comes where a part of a script is wanted.
-#[derive(Debug, Drop)]
+#[derive(Drop)]
 pub(crate) enum PartRead {
     /// A part, and what it says if it says something.
     Read(Option<Entry>),

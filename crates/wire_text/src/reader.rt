@@ -17,7 +17,7 @@ use outside_api::Source;
 use std::alloc::{AllocError, Global};
 
 /// What comes where a command is wanted.
-#[derive(Debug, Drop)]
+#[derive(Drop)]
 pub(crate) enum ItemRead {
     /// A command.
     Item(Item),

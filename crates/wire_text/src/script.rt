@@ -1,6 +1,7 @@
 //! Reading a whole script.
 
-ghost use Rattle.std.specs.Prelude.{◌≡◌, ◌<◌, ◌≤◌, [], ◌++◌, length, None, Some, IfOk, OnOk};
+ghost use Rattle.std.specs.Prelude.{◌≡◌, ◌<◌, ◌≤◌, [], ◌++◌, length, None, Some, IfOk, OnOk, IsTrue};
+ghost use Rattle.std.specs.List.{list_all};
 ghost use Rattle.std.specs.Option.{option_to_list};
 ghost use Rattle.wire_text.specs.Reading.{HeadCase, EntriesCase, IsReadScript, point_at, end_by, head_stopped};
 ghost use Rattle.wire_text.specs.Script as spec;
@@ -16,7 +17,7 @@ use outside_api::Source;
 use std::alloc::{AllocError, Global};
 
 /// How a script ends.
-#[derive(Clone, Copy, Debug, PartialEq, Eq)]
+#[derive(Clone, Copy, PartialEq, Eq)]
 pub enum ScriptEnd {
     /// It was read to its end.
     Whole,
@@ -27,7 +28,7 @@ pub enum ScriptEnd {
 }
 
 /// What was read of a script.
-#[derive(Debug, Drop)]
+#[derive(Drop)]
 pub struct ReadScript {
     /// Whom it speaks for, where it begins with a head.
     pub head: Option<Head>,
@@ -38,7 +39,7 @@ pub struct ReadScript {
 }
 
 /// What comes where a head is wanted.
-#[derive(Debug, Drop)]
+#[derive(Drop)]
 pub(crate) enum HeadRead {
     /// The head.
     Head(Head),
@@ -134,6 +135,7 @@ fn read_entries<S: Source>(
     requires most { intake.old.place ≤ 67108864 }
     ensures read { IfOk result (λ read. EntriesCase (S.left source.old) (S.left source.new) (S.faults source.old) (S.faults source.new) intake.old.held (point_at client.now intake.old.place 1 None) read.0 read.1) }
     ensures few { IfOk result (λ read. length read.0 < 67108864) }
+    ensures short { IfOk result (λ read. IsTrue (list_all spec.has_short_content read.0)) }
     ensures counts { S.faults source.old ≤ S.faults source.new }
 {
     let mut entries = Sequence::new(alloc);
@@ -163,6 +165,7 @@ fn without_head(alloc: Global, end: ScriptEnd) -> ReadScript
 pub fn read_script<S: Source>(alloc: Global, source: &mut S) -> Result<ReadScript, AllocError>
     ensures read { IfOk result (IsReadScript (S.left source.old) (S.left source.new) (S.faults source.old) (S.faults source.new)) }
     ensures few { IfOk result (λ read. length read.entries < 67108864) }
+    ensures short { IfOk result (λ read. IsTrue (list_all spec.has_short_content read.entries)) }
     ensures counts { S.faults source.old ≤ S.faults source.new }
 {
     let mut intake = Intake::new(alloc)?;

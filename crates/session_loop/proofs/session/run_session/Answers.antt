@@ -2,12 +2,10 @@ use Rattle.std.proofs.Common.{◌≡◌, ℕ, zero, suc, ◌∷◌, [], ◌++◌
 use Rattle.std.specs.Prelude.{slice_get}
 use Rattle.std.specs.Vec.Iter.{into_iter_items}
 use Rattle.std.specs.List.{AllByRecursion}
-use Rattle.std.specs.Prelude.{IfOk}
 use Rattle.std.proofs.lemmas.List.Elements.{recursion_from_All}
 use Rattle.std.proofs.lemmas.List.{length_push}
 use Rattle.depot_model.specs.declared.request.Asked.{Asked}
-use Rattle.command_words.specs.WellFormed.{IsWellFormed}
-use Rattle.session_loop.specs.Asking.{AreWellFormed}
+use Rattle.session_loop.specs.Asking.{AreProper, AreWellFormed}
 use Rattle.session_loop.proofs.Turns.{served_none, served_more, served_last}
 use Rattle.session_loop.proofs.Faults.{caused_none, caused_more}
 use Rattle.session_loop.proofs.session.run_session.Goals as goal
@@ -25,12 +23,12 @@ next_is commands before left rest asked count s e n =
     subst P (ap (λ (cs : List Asked). before ++ cs) (sym s) ∙ e) (subst Q (sym n) (get_next before asked rest))
 
 -- what holds of all commands holds of the next
-formed_at : (commands : List Asked) (n : ℕ) (asked : Asked) → AreWellFormed commands → slice_get commands n ≡ Some asked → IfOk asked.command IsWellFormed
-formed_at commands n asked all is = go commands n (recursion_from_All (λ (a : Asked). IfOk a.command IsWellFormed) commands all) is
+formed_at : (commands : List Asked) (n : ℕ) (asked : Asked) → AreWellFormed commands → slice_get commands n ≡ Some asked → AreProper asked.command asked.contents
+formed_at commands n asked all is = go commands n (recursion_from_All (λ (a : Asked). AreProper a.command a.contents) commands all) is
   where
-    go : (commands : List Asked) (n : ℕ) → AllByRecursion (λ (a : Asked). IfOk a.command IsWellFormed) commands → slice_get commands n ≡ Some asked → IfOk asked.command IsWellFormed
+    go : (commands : List Asked) (n : ℕ) → AllByRecursion (λ (a : Asked). AreProper a.command a.contents) commands → slice_get commands n ≡ Some asked → AreProper asked.command asked.contents
     go [] n every at = absurd cc
-    go (first ∷ commands) zero every at = let e : first ≡ asked = cc in let P : Asked → Type 0 = λ a. IfOk a.command IsWellFormed in subst P e every.0
+    go (first ∷ commands) zero every at = let e : first ≡ asked = cc in let P : Asked → Type 0 = λ a. AreProper a.command a.contents in subst P e every.0
     go (first ∷ commands) (suc n) every at = go commands n every.1 at
 
 pub loop-asked-init : goal.loop-asked-init

@@ -1,8 +1,8 @@
 use Rattle.std.proofs.Common.{◌≤◌, ◌+◌, ◌++◌, List, length, Option, Some, None, ap, arith}
 use Rattle.std.specs.Option.{option_to_list}
 use Rattle.std.proofs.lemmas.List.{length_push, append-nil}
-use Rattle.wire_text.specs.Reading.{point_at}
 use Rattle.wire_text.proofs.Scripts.{goes_none, goes_then, entries_end, entries_break, number_most}
+use Rattle.wire_text.proofs.Short.{goes_short}
 use Rattle.wire_text.proofs.script.read_entries.Goals as goal
 
 -- an entry more, or none
@@ -47,3 +47,9 @@ loop-input-preserved g c =
       most = k.1;
       counts = omega (arith, c.loop-input.invariant.counts, c.in_ok-entry.ensures.counts);
     }
+
+pub returns-in-Ended-clause-short : goal.returns-in-Ended-clause-short
+returns-in-Ended-clause-short g c = goes_short c.loop-input.invariant.goes
+
+pub returns-in-Failed-clause-short : goal.returns-in-Failed-clause-short
+returns-in-Failed-clause-short g c = goes_short c.loop-input.invariant.goes
