@@ -100,7 +100,7 @@ module _ {D : Type 0} (seen may_leave : D → Files → Type 0) (moment : D → 
       let images = may_leave (archives.disk_of depot.archive) in
       kept_leads (StandsWith images j) (λ e. StandFor e j a) (pair_stands images j a a_left) d places (length places)
       (kept_whole (StandsWith images j) d places
-      (kept_now images ran.was (rows_of depot.tables) d places ran.has ran.generation ran.stand ran.contents ran.doubt ran.in_doubt j (ran.stands.holds j j_left)))
+      (kept_now images ran.was (rows_of depot.tables) d places ran.has ran.stand ran.generation ran.contents ran.doubt ran.in_doubt j (ran.stands.holds j j_left)))
 
   -- and each of those of some moment since, for some of the first
   pub kept_since : (depot : SerialDepot D) (since : ℕ) (d : List Deed) (places : List Placed) → HasRun may_leave moment left_since depot since d places

@@ -9,7 +9,7 @@ use recovery::DepotDisk;
 use wire_text::{ScriptEnd, ScriptFault};
 
 /// How a party ends.
-#[derive(Clone, Copy, Debug, PartialEq, Eq)]
+#[derive(Clone, Copy, PartialEq, Eq)]
 pub enum PartyCause {
     /// Its script was read to its end, and every reply was given.
     Whole,
@@ -35,7 +35,7 @@ pub struct PartyEnd<K> {
 }
 
 /// Why the program ends.
-#[derive(Clone, Copy, Debug, PartialEq, Eq)]
+#[derive(Clone, Copy, PartialEq, Eq)]
 pub enum Cause {
     /// All is done.
     Done,

@@ -29,7 +29,7 @@ pub struct PartyRun<S, K> {
 }
 
 /// Why a party wasn't run.
-#[derive(Clone, Copy, Debug, PartialEq, Eq)]
+#[derive(Clone, Copy, PartialEq, Eq)]
 pub enum NotRun {
     /// Its door failed.
     Doors,

@@ -13,7 +13,7 @@ use table_store::{Tables, Version};
 use wire_text::give_all;
 
 /// Why not all rows are printed.
-#[derive(Clone, Copy, Debug, PartialEq, Eq)]
+#[derive(Clone, Copy, PartialEq, Eq)]
 pub enum RowsFault {
     /// The sink has failed.
     Sink,

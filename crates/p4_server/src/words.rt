@@ -6,7 +6,7 @@ ghost use Rattle.p4_server.specs.Words.{words_of, job_of, job_of_word, asked};
 use depot_path::is_name;
 
 /// What the program is to do.
-#[derive(Clone, Copy, Debug, PartialEq, Eq)]
+#[derive(Clone, Copy, PartialEq, Eq)]
 pub enum Mode<'a> {
     /// Make the files of an empty depot.
     Init,

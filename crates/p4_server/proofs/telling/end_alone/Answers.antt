@@ -1,8 +1,14 @@
+use Rattle.std.proofs.Common.{sym, subst}
+use Rattle.p4_server.specs.Lines.{cause_line}
+use Rattle.p4_server.specs.Telling.{OutGot}
 use Rattle.p4_server.proofs.Tellings.{got_lines}
 use Rattle.p4_server.proofs.telling.end_alone.Goals as goal
 
 pub returns-clause-told : goal.returns-clause-told
-returns-clause-told g c = record {
-  unrun = record { order_is = c.new.ensures; parties_are = c.new-2.ensures; sources_are = c.new-3.ensures };
-  lines = got_lines _ _ _ _ _ c.give_cause.result c.give_cause.ensures.given c.give_cause.ensures.cause;
-}
+returns-clause-told g c =
+    let before = c.args.out.now in
+    let now = c.give_cause.new.out in record {
+      unrun = c.ended_alone.ensures.unrun;
+      lines = subst (λ cause. OutGot (g.K.Sink.given before) (g.K.Sink.given now) (g.K.Sink.faults before) (g.K.Sink.faults now) (cause_line cause)) (sym c.ended_alone.ensures.cause)
+          (got_lines _ _ _ _ _ c.give_cause.result c.give_cause.ensures.given c.give_cause.ensures.cause);
+    }
