@@ -5,7 +5,7 @@ use Rattle.std.specs.Option.{option_map_or}
 use Rattle.depot_path.specs.Answers.{◌>>=◌}
 use Rattle.depot_path.specs.Name.{is_name}
 use Rattle.depot_model.specs.Types.{is_printed_type}
-use Rattle.depot_model.specs.WellFormed.{is_command, is_type_or_none, answer_one_another, spells_path}
+use Rattle.depot_model.specs.WellFormed.{is_command, is_type_or_none, answer_one_another, spells_path, asks_head, asks_rightly}
 use Rattle.depot_model.specs.declared.command.Command.{Command}
 use Rattle.depot_model.specs.declared.command.FileArgument.{FileArgument}
 use Rattle.depot_model.specs.declared.request.WordFault.{WordFault}
@@ -14,13 +14,14 @@ use Rattle.command_words.specs.Fields.{optional}
 use Rattle.command_words.specs.Values as values
 use Rattle.command_words.specs.WellFormed.{IsWellFormed, has_names, has_numbers, is_number, is_name_or_none, is_number_or_none}
 use Rattle.command_words.specs.declared.arguments.Takes.{Takes}
-use Rattle.command_words.specs.declared.arguments.Takes.TheVariants.{Path}
+use Rattle.command_words.specs.declared.arguments.Takes.TheVariants.{Path, NoRevision}
 use Rattle.command_words.specs.declared.ends.Ends.{Ends}
 use Rattle.command_words.proofs.Giving.{Gives, Passes, both, gives, after_it, after_any}
 use Rattle.command_words.proofs.FormedArguments as found
 
-pub formed : (command : Command) → is_command command ≡ true → has_names command ≡ true → has_numbers command ≡ true → Gives {E = WordFault} IsWellFormed (Ok command)
-formed command f n m = gives IsWellFormed command (record { form = f; names = n; numbers = m })
+pub formed : (command : Command) → is_command command ≡ true → has_names command ≡ true → has_numbers command ≡ true → asks_rightly command ≡ true
+    → Gives {E = WordFault} IsWellFormed (Ok command)
+formed command f n m h = gives IsWellFormed command (record { form = f; names = n; numbers = m; heads = h })
 
 -- ---- options
 
@@ -67,8 +68,17 @@ pub after_paths : (Q : Command → Type 0) (command : List ℕ) (words : List (L
     ((files : List FileArgument) → list_all spells_path files ≡ true → Gives Q (f files)) → Gives Q (arguments.some_files command Path words >>= f)
 after_paths Q command words f k = after_it _ Q _ f (found.paths command words) k
 
+pub after_heads : (Q : Command → Type 0) (command : List ℕ) (words : List (List ℕ)) (f : List FileArgument → Result Command WordFault) →
+    ((files : List FileArgument) → list_all asks_head files ≡ true → Gives Q (f files)) → Gives Q (arguments.some_files command NoRevision words >>= f)
+after_heads Q command words f k = after_it _ Q _ f (found.heads command words) k
+
+pub after_head_ends : (Q : Command → Type 0) (command : List ℕ) (words : List (List ℕ)) (f : Ends → Result Command WordFault) →
+    ((given : Ends) → answer_one_another given.from given.to ≡ true → asks_head given.from ≡ true → Gives Q (f given))
+    → Gives Q (arguments.both_ends command NoRevision words >>= f)
+after_head_ends Q command words f k = after_it _ Q _ f (found.head_ends command words) (λ given h. k given h.0 h.1)
+
 pub after_ends : (Q : Command → Type 0) (command : List ℕ) (takes : Takes) (words : List (List ℕ)) (f : Ends → Result Command WordFault) →
     ((given : Ends) → answer_one_another given.from given.to ≡ true → Gives Q (f given)) → Gives Q (arguments.both_ends command takes words >>= f)
 after_ends Q command takes words f k = after_it _ Q _ f (found.ends command takes words) k
 
-pub ruleset steps = (after_number, after_change, after_name, after_type, after_wanted_number, after_wanted_name, after_one_name, after_name_or_none, after_number_or_none, after_paths, after_ends, after_any, formed, both, refl)
+pub ruleset steps = (after_number, after_change, after_name, after_type, after_wanted_number, after_wanted_name, after_one_name, after_name_or_none, after_number_or_none, after_paths, after_heads, after_head_ends, after_ends, after_any, formed, both, refl)

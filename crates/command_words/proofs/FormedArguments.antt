@@ -8,6 +8,8 @@ use Rattle.depot_path.specs.Fit.{is_specifier}
 use Rattle.depot_path.specs.Name.{is_name}
 use Rattle.depot_path.specs.declared.file_spec.FileSpec.{FileSpec}
 use Rattle.depot_path.specs.declared.piece.Piece.{Piece}
+use Rattle.depot_path.specs.declared.revision.Wanted.{Wanted}
+use Rattle.depot_path.specs.declared.revision.Wanted.TheVariants.{Head, One, Range}
 use Rattle.view_map.specs.Specifiers.{same_specifiers}
 use Rattle.depot_model.specs.Types.{is_type, printed_type, is_printed_type}
 use Rattle.depot_model.specs.WellFormed as formed
@@ -21,7 +23,7 @@ use Rattle.command_words.specs.Options.{Invocation}
 use Rattle.command_words.specs.Values.{most_number, number, change, is_default, name, file_type}
 use Rattle.command_words.specs.WellFormed.{is_number}
 use Rattle.command_words.specs.declared.arguments.Takes.{Takes}
-use Rattle.command_words.specs.declared.arguments.Takes.TheVariants.{Path}
+use Rattle.command_words.specs.declared.arguments.Takes.TheVariants.{Path, NoRevision}
 use Rattle.command_words.specs.declared.ends.Ends.{Ends}
 use Rattle.command_words.proofs.Giving.{Gives, Passes, both, second_of_both, gives, refused, after_it, after_any, given_where, refused_where, weaker}
 use Rattle.command_words.proofs.PrintedTypes.{printed_types}
@@ -99,6 +101,30 @@ path_spelled command word = weaker _ _ (spec.file command Path word) (λ argumen
 pub paths : (command : List ℕ) (words : List (List ℕ)) → Passes (list_all formed.spells_path) (spec.some_files command Path words)
 paths command words = after_any _ (spec.some_words command words) _ (λ given. each formed.spells_path (spec.file command Path) given (path_spelled command))
 
+-- arguments that take no revision ask for the head
+no_revision : (wanted : Wanted) → (spec.has_revision wanted && true) ≡ false → (elim wanted as (λ _. Bool) [ Head ↦ true | _ ↦ false ]) ≡ true
+no_revision Head h = refl
+no_revision (One revision) h = absurd cc
+no_revision (Range first second) h = absurd cc
+
+abbrev AsksHead : FileSpec → Type 0
+AsksHead given = (elim given.wanted as (λ _. Bool) [ Head ↦ true | _ ↦ false ]) ≡ true
+
+fits_head : (command text : List ℕ) (given : FileSpec) → Gives AsksHead (spec.fit command NoRevision text given)
+fits_head command text given =
+    refused_where AsksHead (spec.is_range given.wanted && true) _ _ (λ _.
+    refused_where AsksHead (spec.has_revision given.wanted && true) _ _ (λ none.
+    gives AsksHead given (no_revision given.wanted none)))
+
+pub head_asked : (command text : List ℕ) → Passes formed.asks_head (spec.file command NoRevision text)
+head_asked command text =
+    after_any _ (spec.file_spec text) _ (λ given.
+    after_it AsksHead _ (spec.fit command NoRevision text given) _ (fits_head command text given)
+    (λ fitting h. gives _ (spec.file_argument text fitting) h))
+
+pub heads : (command : List ℕ) (words : List (List ℕ)) → Passes (list_all formed.asks_head) (spec.some_files command NoRevision words)
+heads command words = after_any _ (spec.some_words command words) _ (λ given. each formed.asks_head (spec.file command NoRevision) given (head_asked command))
+
 -- ---- a source and a target
 
 abbrev pub AnswerOneAnother : Ends → Type 0
@@ -108,6 +134,20 @@ targets : (command : List ℕ) (from : FileArgument) (text : List ℕ) → Passe
 targets command from text =
     after_any _ (spec.target_pattern text) _ (λ pattern.
     given_where _ (same_specifiers from.spec.pattern pattern) (spec.pattern_argument text pattern) (BadUsage command) (λ h. h))
+
+module _ (Q : FileArgument → Type 0) where
+  ends_after : (command : List ℕ) (takes : Takes) (word : List ℕ) (words : List (List ℕ)) → Gives Q (spec.file command takes word)
+      → Gives (λ (given : Ends). AnswerOneAnother given × Q given.from) (spec.both_ends command takes (word ∷ words))
+  ends_after command takes word words asked =
+      after_it Q _ (spec.file command takes word) _ asked (λ from q.
+      after_it (λ to. formed.answer_one_another from to ≡ true) _ (spec.exactly_one command (spec.target command from) words) _
+      (exactly_one (formed.answer_one_another from) command (spec.target command from) words (targets command from))
+      (λ to h. gives _ (record { from = from; to = to }) (h, q)))
+
+pub head_ends : (command : List ℕ) (words : List (List ℕ))
+    → Gives (λ (given : Ends). AnswerOneAnother given × (formed.asks_head given.from ≡ true)) (spec.both_ends command NoRevision words)
+head_ends command [] = refused _ _
+head_ends command (word ∷ words) = ends_after (λ from. formed.asks_head from ≡ true) command NoRevision word words (head_asked command word)
 
 pub ends : (command : List ℕ) (takes : Takes) (words : List (List ℕ)) → Gives AnswerOneAnother (spec.both_ends command takes words)
 ends command takes [] = refused _ _

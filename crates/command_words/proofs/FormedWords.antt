@@ -42,11 +42,11 @@ counter_set : (command word : List ℕ) (words : List (List ℕ)) → Gives IsWe
 counter_set command word words =
     after_it (λ n. is_settable n ≡ true) _ (spec.free_name command word) _ (free_name command word) (λ name h.
     after_any _ (arguments.exactly_one command (values.value command) words) _ (λ value.
-    formed (commands.CounterSet name value) (first_of_both (is_free name) (is_name name) h) (second_of_both (is_free name) (is_name name) h) refl))
+    formed (commands.CounterSet name value) (first_of_both (is_free name) (is_name name) h) (second_of_both (is_free name) (is_name name) h) refl refl))
 
 counter_show : (command word : List ℕ) → Gives IsWellFormed (spec.counter_show command word)
 counter_show command word =
-    after_it (λ n. is_name n ≡ true) _ (values.name command word) _ (found.names command word) (λ name h. formed (commands.CounterShow name) refl h refl)
+    after_it (λ n. is_name n ≡ true) _ (values.name command word) _ (found.names command word) (λ name h. formed (commands.CounterShow name) refl h refl refl)
 
 counter : (command : List ℕ) (words : List (List ℕ)) → Gives IsWellFormed (spec.counter_words command words)
 counter command [] = refused _ _
@@ -57,12 +57,12 @@ counter_delete : (words : Invocation) → Gives IsWellFormed (spec.counter_delet
 counter_delete words =
     after_it (λ n. is_settable n ≡ true) _ (arguments.exactly_one words.command (spec.free_name words.command) words.arguments) _
     (found.exactly_one is_settable words.command (spec.free_name words.command) words.arguments (free_name words.command)) (λ name h.
-    formed (commands.CounterDelete name) (first_of_both (is_free name) (is_name name) h) (second_of_both (is_free name) (is_name name) h) refl)
+    formed (commands.CounterDelete name) (first_of_both (is_free name) (is_name name) h) (second_of_both (is_free name) (is_name name) h) refl refl)
 
 admin : (command : List ℕ) (words : List (List ℕ)) → Gives IsWellFormed (spec.admin_words command words)
 admin command [] = refused _ _
 admin command (word ∷ rest) =
-    taken_where _ (same word (codes "checkpoint")) _ (BadUsage command) (λ h. after_any _ (arguments.no_word command rest) _ (λ none. formed commands.Checkpoint refl refl refl))
+    taken_where _ (same word (codes "checkpoint")) _ (BadUsage command) (λ h. after_any _ (arguments.no_word command rest) _ (λ none. formed commands.Checkpoint refl refl refl refl))
 
 pub word_form : (form : WordForm) (words : Invocation) → Gives IsWellFormed (spec.word_command form words)
 word_form forms.Counter words = counter words.command words.arguments

@@ -3,7 +3,7 @@
 use Rattle.std.specs.Prelude.{◌≡◌, ℕ, Bool, true, ◌&&◌, nat_le, List, Option}
 use Rattle.std.specs.Option.{option_map_or}
 use Rattle.depot_path.specs.Name.{is_name}
-use Rattle.depot_model.specs.WellFormed.{is_command}
+use Rattle.depot_model.specs.WellFormed.{is_command, asks_rightly}
 use Rattle.depot_model.specs.declared.command.Command.{Command}
 use Rattle.depot_model.specs.declared.command.Command.TheVariants as commands
 use Rattle.command_words.specs.Values.{most_number}
@@ -56,8 +56,9 @@ has_numbers (commands.Fixes change job) = is_number_or_none change
 has_numbers _ = true
 
 -- types are as they are printed, paths are paths, the two sides of a move or an integration answer one another, no counter that the program
--- keeps is set; names are names, and numbers are as small as words spell them
+-- keeps is set; names are names, numbers are as small as words spell them, and arguments of commands that take no revision ask for the head
 pub record IsWellFormed (command : Command) : Type 0 where
   pub form : is_command command ≡ true
   pub names : has_names command ≡ true
   pub numbers : has_numbers command ≡ true
+  pub heads : asks_rightly command ≡ true

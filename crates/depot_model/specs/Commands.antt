@@ -5,7 +5,6 @@ use Rattle.depot_model.specs.declared.command.Command.{Command}
 use Rattle.depot_model.specs.declared.command.Command.TheVariants.{CounterShow, CounterSet, CounterDelete, Counters, ClientShow, ClientSave, LabelShow, LabelSave, GroupShow, GroupSave, ProtectShow, ProtectSave, Where, Add, Edit, Delete, Revert, Reopen, Lock, Unlock, Opened, ChangeSave, ChangeShow, ChangeDelete, Changes, SubmitChange, SubmitDefault, Sync, Have, Tag, LabelSync, Labels, Integrate, Resolve, Integrated, Files, FileLog, Print, Describe, Dirs, FileStat, Checkpoint, Pull, Move, Shelve, ShelveDelete, Unshelve, DescribeShelved, JobShow, JobSave, Jobs, Fix, FixDelete, Fixes}
 use Rattle.depot_model.specs.Deeds.{Deed}
 use Rattle.depot_model.specs.About.{about}
-use Rattle.depot_model.specs.Built.{is_built}
 use Rattle.depot_model.specs.Common.{common_refusals, word_refusal, last_refusals}
 use Rattle.depot_model.specs.Step.{Step, refuses, unless}
 use Rattle.depot_model.specs.Steps.Counters.{counter_show, counter_set, counter_delete, counters}
@@ -100,7 +99,3 @@ built_step built d request command = if built command then whole_step d request 
 -- what the command of a request does to a depot, and what it is answered; words that are no command are refused
 abbrev pub step_of : (Command → Bool) → List Deed → Request → Step
 step_of built d request = elim request.command [ Err fault ↦ refuses (word_refusal fault) | Ok command ↦ built_step built d request command ]
-
--- what it does and is answered today
-abbrev pub step : List Deed → Request → Step
-step d request = step_of is_built d request

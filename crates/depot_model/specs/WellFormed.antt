@@ -1,13 +1,14 @@
 -- What the words of a command promise of it: a type is printed, a path is one, the two sides of a move answer one another, and the counters that
 -- the program keeps aren't set (Command-Line Reference, each command's syntax).
-use Rattle.std.specs.Prelude.{ℕ, Bool, true, not, ◌&&◌, List, codes, Option}
+use Rattle.std.specs.Prelude.{ℕ, Bool, true, false, not, ◌&&◌, List, codes, Option}
 use Rattle.std.specs.Option.{option_map_or}
 use Rattle.std.specs.List.{list_all}
 use Rattle.depot_path.specs.Bytes.{same}
 use Rattle.depot_path.specs.Path.{is_path}
+use Rattle.depot_path.specs.declared.revision.Wanted.TheVariants.{Head}
 use Rattle.view_map.specs.Specifiers.{same_specifiers}
 use Rattle.depot_model.specs.declared.command.Command.{Command}
-use Rattle.depot_model.specs.declared.command.Command.TheVariants.{CounterSet, CounterDelete, Add, Edit, Reopen, Move, Integrate, Where}
+use Rattle.depot_model.specs.declared.command.Command.TheVariants.{CounterSet, CounterDelete, Add, Edit, Delete, Reopen, Move, Integrate, Integrated, Where}
 use Rattle.depot_model.specs.declared.command.FileArgument.{FileArgument}
 use Rattle.depot_model.specs.declared.command.PatternArgument.{PatternArgument}
 use Rattle.depot_model.specs.Types.{is_printed_type}
@@ -35,3 +36,14 @@ is_command (Reopen change type files) = is_type_or_none type
 is_command (Move change from to) = answer_one_another from to
 is_command (Integrate change from to) = answer_one_another from to
 is_command _ = true
+
+-- commands that take no revision have arguments that ask for none
+abbrev pub asks_head : FileArgument → Bool
+asks_head argument = elim argument.spec.wanted [ Head ↦ true | _ ↦ false ]
+
+abbrev pub asks_rightly : Command → Bool
+asks_rightly (Edit change type files) = list_all asks_head files
+asks_rightly (Delete change files) = list_all asks_head files
+asks_rightly (Move change from to) = asks_head from
+asks_rightly (Integrated files) = list_all asks_head files
+asks_rightly _ = true

@@ -14,6 +14,7 @@ use Rattle.depot_model.specs.Records.{record_of, integrations, pairs_of, pair_of
 use Rattle.depot_model.specs.Revisions.{Revision, revisions, revision, entries_at, head, credits_from, has_credit, credited}
 use Rattle.depot_model.specs.Rows.{how_word}
 use Rattle.depot_model.specs.Rules.{IsSound, change_of, has_paths, entry_paths, path_or_none}
+use Rattle.depot_rows.proofs.Entries.{In}
 use Rattle.depot_rows.proofs.Keys.{same-is, same-self, left-true, right-true}
 use Rattle.depot_rows.proofs.Paths.{at_path-here}
 use Rattle.depots_alike.specs.Contents.{seen}
@@ -25,11 +26,7 @@ use Rattle.depots_alike.proofs.Twins.{Twins, turned}
 
 -- ---- what is in a list
 
-abbrev In : {A : Type 0} → List A → A → Type 0
-In [] x = ⊥
-In (y ∷ ys) x = (y ≡ x) ⊎ In ys x
-
-or_true : (b : Bool) → (b || true) ≡ true
+pub or_true : (b : Bool) → (b || true) ≡ true
 or_true true = refl
 or_true false = refl
 
@@ -48,7 +45,7 @@ module _ {A : Type 0} where
   in_either (y ∷ xs) ys x (inl e) = inl (inl e)
   in_either (y ∷ xs) ys x (inr h) = elim (in_either xs ys x h) [ inl k ↦ inl (inr k) | inr k ↦ inr k ]
 
-  one_of : (test : A → Bool) (xs : List A) → list_any test xs ≡ true → (x : A) × In xs x × (test x ≡ true)
+  pub one_of : (test : A → Bool) (xs : List A) → list_any test xs ≡ true → (x : A) × In xs x × (test x ≡ true)
   one_of test [] e = absurd cc
   one_of test (x ∷ xs) e = go (test x) refl e (one_of test xs)
     where
@@ -57,12 +54,12 @@ module _ {A : Type 0} where
       go true k f later = (x, inl refl, k)
       go false k f later = let rest = later f in (rest.0, inr rest.1, rest.2)
 
-  any_of : (test : A → Bool) (xs : List A) (x : A) → In xs x → test x ≡ true → list_any test xs ≡ true
+  pub any_of : (test : A → Bool) (xs : List A) (x : A) → In xs x → test x ≡ true → list_any test xs ≡ true
   any_of test [] x k h = absurd k
   any_of test (y ∷ xs) x (inl e) h = ap (λ b. b || list_any test xs) (ap test e ∙ h)
   any_of test (y ∷ xs) x (inr k) h = ap (λ b. test y || b) (any_of test xs x k h) ∙ or_true (test y)
 
-  place_of : (xs : List A) (x : A) → In xs x → (k : ℕ) × (slice_get xs k ≡ Some x)
+  pub place_of : (xs : List A) (x : A) → In xs x → (k : ℕ) × (slice_get xs k ≡ Some x)
   place_of [] x h = absurd h
   place_of (y ∷ xs) x (inl e) = (zero, ap Some e)
   place_of (y ∷ xs) x (inr h) = let rest = place_of xs x h in (suc rest.0, rest.1)
@@ -97,17 +94,17 @@ in_map f (y ∷ xs) x (inr h) = inr (in_map f xs x h)
 
 -- ---- the words of a credit, and of the other record of its pair
 
-abbrev is_how : List ℕ → Bool
+abbrev pub is_how : List ℕ → Bool
 is_how word = list_any (λ how. same (how_word how) word) (CopyFrom ∷ BranchFrom ∷ DeleteFrom ∷ Ignored ∷ MovedFrom ∷ [])
 
-own_word : (how : How) → is_how (how_word how) ≡ true
+pub own_word : (how : How) → is_how (how_word how) ≡ true
 own_word CopyFrom = refl
 own_word BranchFrom = refl
 own_word DeleteFrom = refl
 own_word Ignored = refl
 own_word MovedFrom = refl
 
-other_word : (how : How) → is_how (into_word how) ≡ false
+pub other_word : (how : How) → is_how (into_word how) ≡ false
 other_word CopyFrom = refl
 other_word BranchFrom = refl
 other_word DeleteFrom = refl
@@ -134,22 +131,22 @@ is_first change path n c z (inr (inr h)) how = absurd h
 -- ---- credits and their records
 
 -- a record says this credit of a revision of a path
-record IsOf (z : IntegedRecord) (path : List ℕ) (r : Revision) (c : Credit) : Type 0 where
-  to : z.to_file ≡ printed path
-  from : z.from_file ≡ printed c.from
-  first : z.start_from ≡ c.first
-  last : z.end_from ≡ c.last
-  change : z.change ≡ (r.landing).change
-  pathed : is_path path ≡ true
-  from_pathed : is_path c.from ≡ true
+pub record IsOf (z : IntegedRecord) (path : List ℕ) (r : Revision) (c : Credit) : Type 0 where
+  pub to : z.to_file ≡ printed path
+  pub from : z.from_file ≡ printed c.from
+  pub first : z.start_from ≡ c.first
+  pub last : z.end_from ≡ c.last
+  pub change : z.change ≡ (r.landing).change
+  pub pathed : is_path path ≡ true
+  pub from_pathed : is_path c.from ≡ true
 
-record Tells (d : List Deed) (z : IntegedRecord) : Type 0 where
-  path : List ℕ
-  made : Revision
-  credit : Credit
-  there : In (revisions d path) made
-  listed : In (made.entry).credits credit
-  of : IsOf z path made credit
+pub record Tells (d : List Deed) (z : IntegedRecord) : Type 0 where
+  pub path : List ℕ
+  pub made : Revision
+  pub credit : Credit
+  pub there : In (revisions d path) made
+  pub listed : In (made.entry).credits credit
+  pub of : IsOf z path made credit
 
 abbrev made_by : Landing → Entry → Revision
 made_by l e = record { landing = l; entry = e }
@@ -228,7 +225,7 @@ told_before d l z t = record {
 }
 
 -- each record of a credit tells a revision with it
-tells : (d : List Deed) → list_all has_paths d ≡ true → (z : IntegedRecord) → In (integrations d) z → is_how z.how ≡ true → Tells d z
+pub tells : (d : List Deed) → list_all has_paths d ≡ true → (z : IntegedRecord) → In (integrations d) z → is_how z.how ≡ true → Tells d z
 tells [] paths z h how = absurd h
 tells (Land l ∷ d) paths z h how = elim (in_either (pairs_of d l) (integrations d) z h) [
   | inl k ↦ told_here d l (left-true (has_paths (Land l)) (list_all has_paths d) paths) z k how
@@ -239,11 +236,11 @@ tells (deed ∷ d) paths z h how =
     record { path = t.path; made = t.made; credit = t.credit; there = t.there; listed = t.listed; of = t.of }
 
 -- each credit of a revision has its record
-record Written (d : List Deed) (path : List ℕ) (r : Revision) (c : Credit) : Type 0 where
-  written : IntegedRecord
-  there : In (integrations d) written
-  word : is_how written.how ≡ true
-  of : IsOf written path r c
+pub record Written (d : List Deed) (path : List ℕ) (r : Revision) (c : Credit) : Type 0 where
+  pub written : IntegedRecord
+  pub there : In (integrations d) written
+  pub word : is_how written.how ≡ true
+  pub of : IsOf written path r c
 
 written_here : (d : List Deed) (l : Landing) → has_paths (Land l) ≡ true → (path : List ℕ) (r : Revision) (c : Credit) → In (entries_at path l) r → In (r.entry).credits c
     → Written (Land l ∷ d) path r c
@@ -271,7 +268,7 @@ written_here d l all path r c h listed =
       };
     }
 
-writes : (d : List Deed) → list_all has_paths d ≡ true → (path : List ℕ) (r : Revision) (c : Credit) → In (revisions d path) r → In (r.entry).credits c
+pub writes : (d : List Deed) → list_all has_paths d ≡ true → (path : List ℕ) (r : Revision) (c : Credit) → In (revisions d path) r → In (r.entry).credits c
     → Written d path r c
 writes [] paths path r c h listed = absurd h
 writes (Land l ∷ d) paths path r c h listed = elim (in_either (revisions d path) (entries_at path l) r h) [
@@ -285,7 +282,7 @@ writes (deed ∷ d) paths path r c h listed =
 
 -- ---- two depots
 
-one_path : (p q : List ℕ) → is_path p ≡ true → is_path q ≡ true → printed p ≡ printed q → p ≡ q
+pub one_path : (p q : List ℕ) → is_path p ≡ true → is_path q ≡ true → printed p ≡ printed q → p ≡ q
 one_path p q is other e = let both : Some p ≡ Some q = sym (path_back p is) ∙ ap path_in e ∙ path_back q other in cc
 
 -- what the other depot tells of a credit
@@ -353,12 +350,12 @@ module _ (e : List Deed) (sound : IsSound e) (path : List ℕ) (is : is_path pat
       some_row : {r : Record} {o : Option Record} → o ≡ Some r → IsSome o
       some_row k = ap is_some k
 
-  one_number : (m n : ℕ) (a b : Revision) → revision e path m ≡ Some a → revision e path n ≡ Some b → (a.landing).change ≡ (b.landing).change → m ≡ n
+  pub one_number : (m n : ℕ) (a b : Revision) → revision e path m ≡ Some a → revision e path n ≡ Some b → (a.landing).change ≡ (b.landing).change → m ≡ n
   one_number m n a b there here one =
       not_apart m n (λ less. not_less (a.landing).change (b.landing).change one (below m n a b there here less))
       (λ less. not_less (b.landing).change (a.landing).change (sym one) (below n m b a here there less))
 
-in_revision : (d : List Deed) (path : List ℕ) (n : ℕ) (r : Revision) → revision d path n ≡ Some r → In (revisions d path) r
+pub in_revision : (d : List Deed) (path : List ℕ) (n : ℕ) (r : Revision) → revision d path n ≡ Some r → In (revisions d path) r
 in_revision d path zero r e = absurd cc
 in_revision d path (suc n) r e = in_place (revisions d path) n r e
 

@@ -25,7 +25,7 @@ use Rattle.depots_alike.proofs.Choosing.{head_same, revision_same, chosen_same, 
 use Rattle.depots_alike.proofs.Files.{type_seen, named_submitted}
 use Rattle.depots_alike.proofs.Ranges.{in_range_same}
 use Rattle.depots_alike.proofs.Simple.{named_change_same}
-use Rattle.depots_alike.proofs.Turning.{turns_same}
+use Rattle.depots_alike.proofs.Turning.{turns_same_with}
 use Rattle.depots_alike.proofs.Twins.{Twins}
 
 module _ (caller : Caller) (change : Option ℕ) where
@@ -78,39 +78,41 @@ module _ (caller : Caller) (change : Option ℕ) where
     new_type_same : (s t : List ℕ) (n : ℕ) → new_type d s t n ≡ new_type e s t n
     new_type_same s t n = λ i. if is_live_head_same d e alike t i then head_type_same t i else type_same s n i
 
-    to_same : (wanted : Wanted) (s t : List ℕ) → integrate_to d caller change wanted s t ≡ integrate_to e caller change wanted s t
-    to_same wanted s t =
-        let revs = uncredited_same wanted s t in
-        let type = ap (λ rs. new_type d s t (unwrap_or (last_or None rs) 0)) revs ∙ new_type_same s t (unwrap_or (last_or None (uncredited e caller wanted s t)) 0) in
-        let barred = ap (exclusive_refusal d t caller.client) type
-        ∙ exclusive_same d e alike t caller.client (new_type e s t (unwrap_or (last_or None (uncredited e caller wanted s t)) 0)) in
-        let each = ap (integrate_revs d caller change s t) revs ∙ revs_same s t (uncredited e caller wanted s t) in
-        λ i. unless (
-        right_same d e alike caller to_open t i
-        ∷ refuse_if (not (is_some (shown_same d e alike caller Head t i))) (NotInView (printed t))
-        ∷ refuse_if (is_some (alike.openings caller.client t i)) (AlreadyOpen t)
-        ∷ barred i
-        ∷ [])
-        (each i)
+    module _ (b c : List Deed) (opened_alike : Alike b c) where
+      to_same : (wanted : Wanted) (s t : List ℕ) → integrate_to d b caller change wanted s t ≡ integrate_to e c caller change wanted s t
+      to_same wanted s t =
+          let revs = uncredited_same wanted s t in
+          let type = ap (λ rs. new_type d s t (unwrap_or (last_or None rs) 0)) revs ∙ new_type_same s t (unwrap_or (last_or None (uncredited e caller wanted s t)) 0) in
+          let barred = ap (exclusive_refusal b t caller.client) type
+          ∙ exclusive_same b c opened_alike t caller.client (new_type e s t (unwrap_or (last_or None (uncredited e caller wanted s t)) 0)) in
+          let each = ap (integrate_revs d caller change s t) revs ∙ revs_same s t (uncredited e caller wanted s t) in
+          λ i. unless (
+          right_same d e alike caller to_open t i
+          ∷ refuse_if (not (is_some (shown_same d e alike caller Head t i))) (NotInView (printed t))
+          ∷ refuse_if (is_some (opened_alike.openings caller.client t i)) (AlreadyOpen t)
+          ∷ barred i
+          ∷ [])
+          (each i)
 
-    module _ (from : FileArgument) (to : PatternArgument) (s : List ℕ) where
-      chosen_there : integrate_chosen d caller change from to s ≡ integrate_chosen e caller change from to s
-      chosen_there =
-          let text = target_text_same d e alike caller from to s in
-          let target = target_at_same d e alike caller to (target_text d caller from to s) (target_text e caller from to s) text in
-          λ i. elim (target i) as (λ _. Step) [ None ↦ refuses (NotInView (printed (text i))) | Some t ↦ to_same (from.spec).wanted s t i ]
+      module _ (from : FileArgument) (to : PatternArgument) (s : List ℕ) where
+        chosen_there : integrate_chosen d b caller change from to s ≡ integrate_chosen e c caller change from to s
+        chosen_there =
+            let text = target_text_same d e alike caller from to s in
+            let target = target_at_same d e alike caller to (target_text d caller from to s) (target_text e caller from to s) text in
+            λ i. elim (target i) as (λ _. Step) [ None ↦ refuses (NotInView (printed (text i))) | Some t ↦ to_same (from.spec).wanted s t i ]
 
-      file_same : integrate_file d caller change from to s ≡ integrate_file e caller change from to s
-      file_same = λ i. unless (right_same d e alike caller to_read s i ∷ []) (elim (chosen_same d e alike caller s (from.spec).wanted i) as (λ _. Step) [
-        | PassedOver ↦ nothing
-        | At n ↦ chosen_there i
-      ])
+        file_same : integrate_file d caller change from to b s ≡ integrate_file e caller change from to c s
+        file_same = λ i. unless (right_same d e alike caller to_read s i ∷ []) (elim (chosen_same d e alike caller s (from.spec).wanted i) as (λ _. Step) [
+          | PassedOver ↦ nothing
+          | At n ↦ chosen_there i
+        ])
 
   module _ (from : FileArgument) (to : PatternArgument) where
     all_same : (d e : List Deed) → Alike d e → (sources : List (List ℕ)) → integrate_all d caller change from to sources ≡ integrate_all e caller change from to sources
     all_same d e alike [] = refl
-    all_same d e alike (s ∷ sources) = turns_same (λ x. integrate_file x caller change from to) (λ x y twin. file_same x y twin from to)
-        (λ x path. (integrate_file_stays caller change from to x path).each) d e alike (s ∷ sources)
+    all_same d e alike (s ∷ sources) = turns_same_with (integrate_file d caller change from to) (integrate_file e caller change from to)
+        (λ b c opened_alike. file_same d e alike b c opened_alike from to)
+        (λ b path. (integrate_file_stays caller change from to d b path).each) d e alike (s ∷ sources)
 
 pub integrate_same : (d e : List Deed) → Twins d e → (caller : Caller) (change : Option ℕ) (from : FileArgument) (to : PatternArgument)
     → integrate d caller change from to ≡ integrate e caller change from to

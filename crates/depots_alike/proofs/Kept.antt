@@ -31,7 +31,7 @@ use Rattle.depots_alike.proofs.Searches.{spec_same, by_path}
 use Rattle.depots_alike.proofs.Twins.{Twins}
 
 -- digits before a space part a text one way
-parts_are : (xs ys a b : List ℕ) → list_all is_digit xs ≡ true → list_all is_digit ys ≡ true → xs ++ 0x20 ∷ a ≡ ys ++ 0x20 ∷ b → (xs ≡ ys) × (a ≡ b)
+pub parts_are : (xs ys a b : List ℕ) → list_all is_digit xs ≡ true → list_all is_digit ys ≡ true → xs ++ 0x20 ∷ a ≡ ys ++ 0x20 ∷ b → (xs ≡ ys) × (a ≡ b)
 parts_are [] [] a b p q e = (refl, cc)
 parts_are [] (y ∷ ys) a b p q e =
     let one : 0x20 ≡ y = cc in

@@ -11,13 +11,14 @@ use Rattle.std.proofs.lemmas.Cmp.{nat_cmp_total}
 use Rattle.depot_model.specs.declared.command.FileArgument.{FileArgument}
 use Rattle.depot_model.specs.declared.refusal.Refusal.TheVariants.{NoSuchFile}
 use Rattle.depot_model.specs.declared.request.Caller.{Caller}
+use Rattle.depot_model.specs.Arguments.{named, not_in, submitted}
 use Rattle.depot_model.specs.Deeds.{Deed, Pend, Drop, Land, Landing}
 use Rattle.depot_model.specs.Latest.{latest, when}
 use Rattle.depot_model.specs.Numbers.{pending, pending_said, landing}
 use Rattle.depot_model.specs.Refusals.{refusal_row}
 use Rattle.depot_model.specs.Revisions.{Revision, revision}
 use Rattle.depot_model.specs.Step.{tells}
-use Rattle.depot_model.specs.Steps.Changes.{Listed, number_inserted, numbers, listed_pending, listed_landing, is_listable, listed_submitted, listed, change_at, made_of, is_made, passes, change_row, at_most, missing, changes}
+use Rattle.depot_model.specs.Steps.Changes.{Listed, number_inserted, numbers, listed_pending, listed_landing, is_listable, listed_submitted, listed, change_at, made_of, made_over, is_made, passes, change_row, at_most, missing, changes}
 use Rattle.depots_alike.specs.Contents.{bare, seen}
 use Rattle.depots_alike.proofs.Alike.{alike_of}
 use Rattle.depots_alike.proofs.Changes.{files_of_change_same}
@@ -158,13 +159,20 @@ module _ (d e : List Deed) (twins : Twins d e) (caller : Caller) where
   change_at_same path n = sym (change_seen (revision d path n))
       ∙ ap (option_map (λ (r : Revision). r.landing.change)) (revision_same d e (alike_of d e twins) path n) ∙ change_seen (revision e path n)
 
-  made_of_same : (a : FileArgument) → made_of d caller a ≡ made_of e caller a
-  made_of_same a = λ i. flat_map (λ path. filter_map (λ n. change_at_same path n i) (in_range_same d e (alike_of d e twins) caller path (a.spec).wanted i))
-      (named_submitted d e twins caller a i)
+  made_of_same : (a : FileArgument) (paths : List (List ℕ)) → made_of d caller a paths ≡ made_of e caller a paths
+  made_of_same a paths = λ i. flat_map (λ path. filter_map (λ n. change_at_same path n i) (in_range_same d e (alike_of d e twins) caller path (a.spec).wanted i)) paths
+
+  made_over_same : (taken others : List (List ℕ)) → taken ≡ others → (arguments : List FileArgument)
+      → made_over d caller taken arguments ≡ made_over e caller others arguments
+  made_over_same taken others one [] = refl
+  made_over_same taken others one (a ∷ arguments) = λ i.
+      made_of_same a (not_in (one i) (named_submitted d e twins caller a i)) i
+      ++ made_over_same (taken ++ named false d caller (submitted d) a) (others ++ named false e caller (submitted e) a)
+      (λ j. one j ++ named_submitted d e twins caller a j) arguments i
 
   is_made_same : (arguments : List FileArgument) (n : ℕ) → is_made d caller arguments n ≡ is_made e caller arguments n
   is_made_same [] n = refl
-  is_made_same (a ∷ arguments) n = λ i. list_any (λ m. m == n) (flat_map (λ a. made_of_same a i) (a ∷ arguments))
+  is_made_same (a ∷ arguments) n = λ i. list_any (λ m. m == n) (made_over_same [] [] refl (a ∷ arguments) i)
 
   -- ---- changes
 

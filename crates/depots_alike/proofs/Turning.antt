@@ -38,16 +38,21 @@ use Rattle.depots_alike.proofs.Twins.{Twins}
 
 -- ---- files in turn
 
+pub turns_same_with : (act other : List Deed → List ℕ → Step) → ((d e : List Deed) → Alike d e → (path : List ℕ) → act d path ≡ other e path)
+    → ((d : List Deed) (path : List ℕ) → list_all (stays_in file_tables) (act d path).deeds ≡ true)
+    → (d e : List Deed) → Alike d e → (paths : List (List ℕ)) → in_turn act d paths ≡ in_turn other e paths
+turns_same_with act other step stays d e alike [] = refl
+turns_same_with act other step stays d e alike (path ∷ paths) =
+    let one = step d e alike path in
+    let rest : in_turn act (after d (act d path).deeds) paths ≡ in_turn other (after e (other e path).deeds) paths =
+    turns_same_with act other step stays (after d (act d path).deeds) (after e (act d path).deeds) (all_grown d e (act d path).deeds (stays d path) alike) paths
+    ∙ ap (λ (s : Step). in_turn other (after e s.deeds) paths) one in
+    λ i. both (one i) (rest i)
+
 pub turns_same : (act : List Deed → List ℕ → Step) → ((d e : List Deed) → Alike d e → (path : List ℕ) → act d path ≡ act e path)
     → ((d : List Deed) (path : List ℕ) → list_all (stays_in file_tables) (act d path).deeds ≡ true)
     → (d e : List Deed) → Alike d e → (paths : List (List ℕ)) → in_turn act d paths ≡ in_turn act e paths
-turns_same act step stays d e alike [] = refl
-turns_same act step stays d e alike (path ∷ paths) =
-    let one = step d e alike path in
-    let rest : in_turn act (after d (act d path).deeds) paths ≡ in_turn act (after e (act e path).deeds) paths =
-    turns_same act step stays (after d (act d path).deeds) (after e (act d path).deeds) (all_grown d e (act d path).deeds (stays d path) alike) paths
-    ∙ ap (λ (s : Step). in_turn act (after e s.deeds) paths) one in
-    λ i. both (one i) (rest i)
+turns_same act = turns_same_with act act
 
 -- deeds on opened files and owed resolves leave have lists too
 wider : (deed : Deed) → stays_in (7 ∷ 8 ∷ []) deed ≡ true → stays_in file_tables deed ≡ true

@@ -104,10 +104,21 @@ opened_own o e = go (same o.client o.client) (same o.path o.path) (same-self o.c
     go true false h k = absurd cc
     go false b h k = absurd cc
 
-module _ (d : List Deed) (caller : Caller) (saved : is_client d caller.client ≡ true) (change : Option ℕ) (free : named_change_refusal d caller change ≡ None) where
+module _ (d : List Deed) (sound : IsSound d) (caller : Caller) (saved : is_client d caller.client ≡ true) (change : Option ℕ)
+    (free : named_change_refusal d caller change ≡ None) where
+  typed : (path : List ℕ) (n : ℕ) → is_path path ≡ true → IsType (type_at d path n)
+  typed path n is = go (revision d path n) (rev_type d sound path n is)
+    where
+      go : (o : Option Revision) → IfSome o (λ r. IsType (r.entry).file_type) → IsType (elim o [ None ↦ codes "text" | Some r ↦ (r.entry).file_type ])
+      go None h = refl
+      go (Some r) h = h
+
   module _ (e : List Deed) (s_sound : IsSound e) (same_depot : Same d e) (s : List ℕ) (s_is : is_path s ≡ true) where
     saved_there : is_client e caller.client ≡ true
     saved_there = sym (same_depot.clients caller.client) ∙ saved
+
+    under : (p : List ℕ) (n : ℕ) → n ≤ head d p → n ≤ head e p
+    under p n h = subst (λ (m : ℕ). n ≤ m) (same_depot.heads p) h
 
     into : IsOpenChange e caller.client (unwrap_or change 0)
     into = go (named_change_ok d caller change free)
@@ -116,35 +127,28 @@ module _ (d : List Deed) (caller : Caller) (saved : is_client d caller.client �
         go (inl none) = inl none
         go (inr some) = inr (subst (λ p. IsSomeAnd p (λ x. x.client ≡ caller.client)) (same_depot.changes (unwrap_or change 0)) some)
 
-    typed : (path : List ℕ) (n : ℕ) → is_path path ≡ true → IsType (type_at e path n)
-    typed path n is = go (revision e path n) (rev_type e s_sound path n is)
-      where
-        go : (o : Option Revision) → IfSome o (λ r. IsType (r.entry).file_type) → IsType (elim o [ None ↦ codes "text" | Some r ↦ (r.entry).file_type ])
-        go None h = refl
-        go (Some r) h = h
-
-    module _ (t : List ℕ) (t_is : is_path t ≡ true) (first last : ℕ) (low : 1 ≤ first) (run : first ≤ last) (high : last ≤ head e s) where
+    module _ (t : List ℕ) (t_is : is_path t ≡ true) (first last : ℕ) (low : 1 ≤ first) (run : first ≤ last) (high : last ≤ head d s) where
       abbrev new : Action → List ℕ → Option Source → Opening
-      new action type source = opening e caller change action type t source
+      new action type source = opening d caller change action type t source
 
       keeps : (action : Action) → is_move action ≡ false → (type : List ℕ) → IsType type → (source : Option Source) → IfSome source (IsTaken e)
           → OpeningKeeps e (new action type source)
       keeps action still type type_is source taken =
-          record { client = saved_there; base = le_self (head e t); file_type = type_is; source = taken; moved = sym still }
+          record { client = saved_there; base = under t (head d t) (le_self (head d t)); file_type = type_is; source = taken; moved = sym still }
 
       two : (is_path t && (is_path s && true)) ≡ true
       two = λ i. t_is i && (s_is i && true)
 
       integrated : (type : List ℕ) → IsType type → (row : Row)
-          → Ends e (does (Open (new Integrate type None) ∷ Got (held caller t) (head e t) ∷ Owe (owing caller s t first last) ∷ []) row)
+          → Ends e (does (Open (new Integrate type None) ∷ Got (held caller t) (head d t) ∷ Owe (owing caller s t first last) ∷ []) row)
       integrated type type_is row = record {
-        sound = all_sound e (Open (new Integrate type None) ∷ Got (held caller t) (head e t) ∷ Owe (owing caller s t first last) ∷ []) s_sound (
+        sound = all_sound e (Open (new Integrate type None) ∷ Got (held caller t) (head d t) ∷ Owe (owing caller s t first last) ∷ []) s_sound (
           opening_has t None None t_is tt tt,
           keeps Integrate refl type type_is None tt,
           (
             only (is_path t) t_is,
-            ((λ have. saved_there), le_self (head e t)),
-            (two, (saved_there, opened_own (new Integrate type None) e, low, run, high), tt),
+            ((λ have. saved_there), under t (head d t) (le_self (head d t))),
+            (two, (saved_there, opened_own (new Integrate type None) e, low, run, under s last high), tt),
           ),
         )
             (into, (tt, (tt, tt)));
@@ -158,86 +162,87 @@ module _ (d : List Deed) (caller : Caller) (saved : is_client d caller.client �
         sound = all_sound e (Open (new action type source) ∷ Owe (owing caller s t first last) ∷ Paid (held caller t) s how ∷ []) s_sound (
           opening_has t None source t_is tt source_is,
           keeps action still type type_is source taken,
-          (two, (saved_there, opened_own (new action type source) e, low, run, high), (two, tt, tt)),
+          (two, (saved_there, opened_own (new action type source) e, low, run, under s last high), (two, tt, tt)),
         )
             (into, (tt, (tt, tt)));
         alike = record { clients = λ c. refl; labels = λ l. refl; heads = λ p. refl; changes = λ n. refl };
       }
 
-      live_ends : Ends e (integrate_live e caller change s t first last)
-      live_ends = go (is_live_head e t) _ _
+      live_ends : Ends e (integrate_live d caller change s t first last)
+      live_ends = go (is_live_head d t) _ _
         where
           above : 1 ≤ last
           above = omega arith
 
           go : (b : Bool) (left right : Row)
               → Ends e (if b
-              then does (Open (new Integrate (type_at e t (head e t)) None) ∷ Got (held caller t) (head e t) ∷ Owe (owing caller s t first last) ∷ []) left
-              else does (Open (new Branch (type_at e s last) (Some (record { path = s; rev = last }))) ∷ Owe (owing caller s t first last)
+              then does (Open (new Integrate (type_at d t (head d t)) None) ∷ Got (held caller t) (head d t) ∷ Owe (owing caller s t first last) ∷ []) left
+              else does (Open (new Branch (type_at d s last) (Some (record { path = s; rev = last }))) ∷ Owe (owing caller s t first last)
               ∷ Paid (held caller t) s BranchFrom ∷ []) right)
-          go true left right = integrated (type_at e t (head e t)) (typed t (head e t) t_is) left
-          go false left right = paid_at_once Branch refl (type_at e s last) (typed s last s_is) (Some (record { path = s; rev = last })) s_is (above, high) BranchFrom right
+          go true left right = integrated (type_at d t (head d t)) (typed t (head d t) t_is) left
+          go false left right =
+              paid_at_once Branch refl (type_at d s last) (typed s last s_is) (Some (record { path = s; rev = last })) s_is (above, under s last high) BranchFrom right
 
-      deleted_ends : Ends e (integrate_deleted e caller change s t first last)
-      deleted_ends = go (is_live_head e t) _
+      deleted_ends : Ends e (integrate_deleted d caller change s t first last)
+      deleted_ends = go (is_live_head d t) _
         where
           go : (b : Bool) (left : Row)
               → Ends e (if b
-              then does (Open (new Delete (type_at e t (head e t)) None) ∷ Owe (owing caller s t first last) ∷ Paid (held caller t) s DeleteFrom ∷ []) left
+              then does (Open (new Delete (type_at d t (head d t)) None) ∷ Owe (owing caller s t first last) ∷ Paid (held caller t) s DeleteFrom ∷ []) left
               else refuses (AllIntegrated t))
-          go true left = paid_at_once Delete refl (type_at e t (head e t)) (typed t (head e t) t_is) None tt tt DeleteFrom left
+          go true left = paid_at_once Delete refl (type_at d t (head d t)) (typed t (head d t) t_is) None tt tt DeleteFrom left
           go false left = record { sound = s_sound; alike = same_self e }
 
-      either_ends : Ends e (if is_live_at e s last then integrate_live e caller change s t first last else integrate_deleted e caller change s t first last)
-      either_ends = go (is_live_at e s last)
+      either_ends : Ends e (if is_live_at d s last then integrate_live d caller change s t first last else integrate_deleted d caller change s t first last)
+      either_ends = go (is_live_at d s last)
         where
-          go : (b : Bool) → Ends e (if b then integrate_live e caller change s t first last else integrate_deleted e caller change s t first last)
+          go : (b : Bool) → Ends e (if b then integrate_live d caller change s t first last else integrate_deleted d caller change s t first last)
           go true = live_ends
           go false = deleted_ends
 
-    revs_end : (t : List ℕ) → is_path t ≡ true → (revs : List ℕ) → Rise 1 (head e s) revs → Ends e (integrate_revs e caller change s t revs)
+    revs_end : (t : List ℕ) → is_path t ≡ true → (revs : List ℕ) → Rise 1 (head d s) revs → Ends e (integrate_revs d caller change s t revs)
     revs_end t t_is [] rise = record { sound = s_sound; alike = same_self e }
     revs_end t t_is (first ∷ revs) rise =
-        let within = last_within first (head e s) revs rise.1 rise.2 in
+        let within = last_within first (head d s) revs rise.1 rise.2 in
         either_ends t t_is first (unwrap_or (last_or (Some first) revs) first) rise.0 within.0 within.1
 
-    to_ends : (wanted : Wanted) (t : List ℕ) → is_path t ≡ true → Ends e (integrate_to e caller change wanted s t)
+    to_ends : (wanted : Wanted) (t : List ℕ) → is_path t ≡ true → Ends e (integrate_to d e caller change wanted s t)
     to_ends wanted t t_is = unless_ends e s_sound
-        (right_refusal to_open e caller t ∷ refuse_if (not (is_some (shown e caller Head t))) (NotInView (printed t))
+        (right_refusal to_open d caller t ∷ refuse_if (not (is_some (shown d caller Head t))) (NotInView (printed t))
         ∷ refuse_if (is_some (opened e caller.client t)) (AlreadyOpen t)
-        ∷ exclusive_refusal e t caller.client (new_type e s t (unwrap_or (last_or None (uncredited e caller wanted s t)) 0)) ∷ [])
-        (integrate_revs e caller change s t (uncredited e caller wanted s t))
-        (λ none. revs_end t t_is (uncredited e caller wanted s t)
-        (rise_filter 1 (head e s) _ (in_range e caller s wanted) (rise_filter 1 (head e s) _ (range_with_len 1 (head e s)) (rise_range 1 (head e s) (head e s) (omega arith)))))
+        ∷ exclusive_refusal e t caller.client (new_type d s t (unwrap_or (last_or None (uncredited d caller wanted s t)) 0)) ∷ [])
+        (integrate_revs d caller change s t (uncredited d caller wanted s t))
+        (λ none. revs_end t t_is (uncredited d caller wanted s t)
+        (rise_filter 1 (head d s) _ (in_range d caller s wanted) (rise_filter 1 (head d s) _ (range_with_len 1 (head d s)) (rise_range 1 (head d s) (head d s) (omega arith)))))
 
-    file_ends : (from : FileArgument) (to : PatternArgument) → Ends e (integrate_file e caller change from to s)
-    file_ends from to = unless_ends e s_sound (right_refusal to_read e caller s ∷ [])
-        (elim (chosen e caller s (from.spec).wanted) [ PassedOver ↦ nothing | At n ↦ integrate_chosen e caller change from to s ])
-        (λ none. go (chosen e caller s (from.spec).wanted))
+    file_ends : (from : FileArgument) (to : PatternArgument) → Ends e (integrate_file d caller change from to e s)
+    file_ends from to = unless_ends e s_sound (right_refusal to_read d caller s ∷ [])
+        (elim (chosen d caller s (from.spec).wanted) [ PassedOver ↦ nothing | At n ↦ integrate_chosen d e caller change from to s ])
+        (λ none. go (chosen d caller s (from.spec).wanted))
       where
         aimed : (x : Option (List ℕ)) → IfSome x (λ t. is_path t ≡ true)
             → Ends e (elim x as (λ _. Step) [
-              | None ↦ refuses (NotInView (printed (target_text e caller from to s)))
-              | Some t ↦ integrate_to e caller change (from.spec).wanted s t
+              | None ↦ refuses (NotInView (printed (target_text d caller from to s)))
+              | Some t ↦ integrate_to d e caller change (from.spec).wanted s t
             ])
         aimed None h = record { sound = s_sound; alike = same_self e }
         aimed (Some t) h = to_ends (from.spec).wanted t h
 
-        go : (c : Choice) → Ends e (elim c as (λ _. Step) [ PassedOver ↦ nothing | At n ↦ integrate_chosen e caller change from to s ])
+        go : (c : Choice) → Ends e (elim c as (λ _. Step) [ PassedOver ↦ nothing | At n ↦ integrate_chosen d e caller change from to s ])
         go PassedOver = record { sound = s_sound; alike = same_self e }
-        go (At n) = aimed (target_at e caller to (target_text e caller from to s)) (target_is e caller to (target_text e caller from to s))
+        go (At n) = aimed (target_at d caller to (target_text d caller from to s)) (target_is d caller to (target_text d caller from to s))
 
-  all_sound_of : IsSound d → (from : FileArgument) (to : PatternArgument) (paths : List (List ℕ)) → list_all is_path paths ≡ true
+  all_sound_of : (from : FileArgument) (to : PatternArgument) (paths : List (List ℕ)) → list_all is_path paths ≡ true
       → IsSound (after d (integrate_all d caller change from to paths).deeds)
-  all_sound_of sound from to [] all = sound
-  all_sound_of sound from to (path ∷ paths) all =
-      turns_sound d is_path (λ e. integrate_file e caller change from to) (λ e t same_depot x is. file_ends e t same_depot x is from to) d sound (same_self d) (path ∷ paths) all
+  all_sound_of from to [] all = sound
+  all_sound_of from to (path ∷ paths) all =
+      turns_sound d is_path (integrate_file d caller change from to) (λ e t same_depot x is. file_ends e t same_depot x is from to) d sound (same_self d) (path ∷ paths) all
 
 pub integrate_sound : (d : List Deed) → IsSound d → (caller : Caller) → is_client d caller.client ≡ true → (change : Option ℕ) (from : FileArgument) (to : PatternArgument)
     → IsSound (after d (integrate d caller change from to).deeds)
 integrate_sound d sound caller saved change from to =
     unless_sound d sound (named_change_refusal d caller change ∷ []) (within_files step) (λ none.
-    within_sound d sound step (all_sound_of d caller saved change none.0 sound from to (named false d caller (submitted d) from)
+    within_sound d sound step (all_sound_of d sound caller saved change none.0 from to (named false d caller (submitted d) from)
     (all_filtered is_path (names false d caller from.spec) (submitted d) (submitted_are d sound.paths))))
   where
     step : Step

@@ -174,6 +174,30 @@ module _ (d : List Deed) (sound : IsSound d) where
       go (Err fault) e h = absurd cc
       go (Ok path) e h = (path, e, same-is (printed path) text h)
 
+  -- a form of a file that is kept in a change shows that it has shelved files
+  pub shelf_there : (n : ℕ) (name : List ℕ) (form : FormValue) → spec d ShelfForm name ≡ Some form → is_kept form ≡ true → is_of_change n form ≡ true
+      → is_shelved d n ≡ true
+  shelf_there n name form e on of =
+      let reads = spelled_reads ShelfForm form (spelled ShelfForm name form e) in
+      let value = value_is ShelfShape form reads in
+      let shelf = saved_shelf name form e in
+      let text : value_of form (codes "Change") ≡ decimal n = same-is (value_of form (codes "Change")) (decimal n) of in
+      let pathed : IsPath (value_of form (codes "Path")) = subst (λ (w : List ℕ). IsPath w) (value (codes "Path")) shelf.path in
+      let file = path_in_text (value_of form (codes "Path")) pathed in
+      let path : List ℕ = file.0 in
+      let name_is : name ≡ shelf_name n path =
+      shelf.named ∙ (λ i. (value (codes "Change") ∙ text) i ++ 0x20 ∷ (value (codes "Path") ∙ sym file.2) i) in
+      let kept_is : kept d n path ≡ when (is_kept form) form =
+      ap (λ (x : List ℕ). option_and_then (λ f. when (is_kept f) f) (spec d ShelfForm x)) (sym name_is)
+      ∙ ap (option_and_then (λ f. when (is_kept f) f)) e in
+      let some : is_some (kept d n path) ≡ true = ap is_some (kept_is ∙ ap (λ (b : Bool). when b form) on) in
+      let paths : paths_in (value_of form (codes "Path")) ≡ path ∷ [] =
+      ap (λ (r : Result (List ℕ) PathFault). elim r as (λ _. List (List ℕ)) [ Err fault ↦ [] | Ok p ↦ p ∷ [] ]) file.1 in
+      let there : In (kept_paths d n) path =
+      in_filter (λ p. is_some (kept d n p)) (paths_of (shelf_paths n) d) path
+      (told_in (spec_said ShelfForm name) (shelf_paths n) path form (shelf_tells n name path form of paths) d e) some in
+      in_some (kept_paths d n) path there
+
   pub no_shelf : (n : ℕ) → is_shelved d n ≡ false → HasNoShelf d n
   no_shelf n none name = go (spec d ShelfForm name) refl
     where
@@ -186,19 +210,4 @@ module _ (d : List Deed) (sound : IsSound d) where
           let numeral : is_numeral (value_of form (codes "Change")) ≡ true = ap is_numeral (sym (value (codes "Change"))) ∙ left-true _ _ (shelf.change) in
           let text : value_of form (codes "Change") ≡ decimal n = sym (numeral_is (value_of form (codes "Change")) numeral) ∙ ap decimal is in
           let of : is_of_change n form ≡ true = ap (λ (w : List ℕ). same w (decimal n)) text ∙ same-self (decimal n) in
-          let pathed : IsPath (value_of form (codes "Path")) = subst (λ (w : List ℕ). IsPath w) (value (codes "Path")) shelf.path in
-          let file = path_in_text (value_of form (codes "Path")) pathed in
-          let path : List ℕ = file.0 in
-          let name_is : name ≡ shelf_name n path =
-          shelf.named ∙ (λ i. (value (codes "Change") ∙ text) i ++ 0x20 ∷ (value (codes "Path") ∙ sym file.2) i) in
-          let kept_is : kept d n path ≡ when (is_kept form) form =
-          ap (λ (x : List ℕ). option_and_then (λ f. when (is_kept f) f) (spec d ShelfForm x)) (sym name_is)
-          ∙ ap (option_and_then (λ f. when (is_kept f) f)) e in
-          let some : is_some (kept d n path) ≡ true = ap is_some (kept_is ∙ ap (λ (b : Bool). when b form) on) in
-          let paths : paths_in (value_of form (codes "Path")) ≡ path ∷ [] =
-          ap (λ (r : Result (List ℕ) PathFault). elim r as (λ _. List (List ℕ)) [ Err fault ↦ [] | Ok p ↦ p ∷ [] ]) file.1 in
-          let there : In (kept_paths d n) path =
-          in_filter (λ p. is_some (kept d n p)) (paths_of (shelf_paths n) d) path
-          (told_in (spec_said ShelfForm name) (shelf_paths n) path form (shelf_tells n name path form of paths) d e) some in
-          let more = in_some (kept_paths d n) path there in
-          absurd (let clash : true ≡ false = sym more ∙ none in cc)
+          absurd (let clash : true ≡ false = sym (shelf_there n name form e on of) ∙ none in cc)

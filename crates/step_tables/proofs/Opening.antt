@@ -225,21 +225,21 @@ module _ (caller : Caller) (change : Option ℕ) (from : FileArgument) (to : Pat
       stays_if (is_live_at d s last) (integrate_live d caller change s t first last) (integrate_deleted d caller change s t first last)
       (integrate_live_stays d s t first last) (integrate_deleted_stays d s t first last)
 
-  integrate_chosen_stays : (d : List Deed) (s : List ℕ) → Stays (4 ∷ 7 ∷ 8 ∷ []) (integrate_chosen d caller change from to s)
-  integrate_chosen_stays d s = stays_where (integrate_to d caller change (from.spec).wanted s)
+  integrate_chosen_stays : (d e : List Deed) (s : List ℕ) → Stays (4 ∷ 7 ∷ 8 ∷ []) (integrate_chosen d e caller change from to s)
+  integrate_chosen_stays d e s = stays_where (integrate_to d e caller change (from.spec).wanted s)
       (λ t. stays_refused (right_refusal to_open d caller t) _ _ (integrate_revs_stay d s t (uncredited d caller (from.spec).wanted s t))) _ (only_tells _)
       (target_at d caller to (target_text d caller from to s))
 
-  pub integrate_file_stays : (d : List Deed) (s : List ℕ) → Stays (4 ∷ 7 ∷ 8 ∷ []) (integrate_file d caller change from to s)
-  integrate_file_stays d s = stays_refused (right_refusal to_read d caller s) _ _ (go (chosen d caller s (from.spec).wanted))
+  pub integrate_file_stays : (d e : List Deed) (s : List ℕ) → Stays (4 ∷ 7 ∷ 8 ∷ []) (integrate_file d caller change from to e s)
+  integrate_file_stays d e s = stays_refused (right_refusal to_read d caller s) _ _ (go (chosen d caller s (from.spec).wanted))
     where
-      go : (choice : Choice) → Stays (4 ∷ 7 ∷ 8 ∷ []) (elim choice as (λ _. Step) [ PassedOver ↦ nothing | At n ↦ integrate_chosen d caller change from to s ])
+      go : (choice : Choice) → Stays (4 ∷ 7 ∷ 8 ∷ []) (elim choice as (λ _. Step) [ PassedOver ↦ nothing | At n ↦ integrate_chosen d e caller change from to s ])
       go PassedOver = only_tells _
-      go (At n) = integrate_chosen_stays d s
+      go (At n) = integrate_chosen_stays d e s
 
   integrate_all_stays : (d : List Deed) (sources : List (List ℕ)) → Stays (4 ∷ 7 ∷ 8 ∷ []) (integrate_all d caller change from to sources)
   integrate_all_stays d [] = only_tells _
-  integrate_all_stays d (s ∷ sources) = stays_in_turn (λ e. integrate_file e caller change from to) integrate_file_stays d (s ∷ sources)
+  integrate_all_stays d (s ∷ sources) = stays_in_turn (integrate_file d caller change from to) (integrate_file_stays d) d (s ∷ sources)
 
   pub integrate_stays : (d : List Deed) → Stays (4 ∷ 7 ∷ 8 ∷ []) (integrate d caller change from to)
   integrate_stays d = stays_refused (named_change_refusal d caller change) _ _

@@ -20,7 +20,7 @@ use Rattle.step_tables.proofs.Saving.{client_save_stays, group_save_stays, prote
 use Rattle.step_tables.proofs.Submitting.{change_save_stays, change_delete_stays, submit_change_stays, submit_default_stays}
 
 module _ (d : List Deed) (request : Request) where
-  own_stays : (command : Command) → Stays (own_tables command).written (own_step d request command)
+  pub own_stays : (command : Command) → Stays (own_tables command).written (own_step d request command)
   own_stays (CounterShow name) = only_tells _
   own_stays (CounterSet name value) = done _ _ refl
   own_stays (CounterDelete name) = done _ _ refl

@@ -12,7 +12,7 @@ use Rattle.depot_model.specs.Revisions.{Revision, revision}
 use Rattle.depot_model.specs.Numbers.{pending, landing}
 use Rattle.depot_model.specs.Asking.{may_list}
 use Rattle.depot_model.specs.Range.{in_range}
-use Rattle.depot_model.specs.Arguments.{named, submitted}
+use Rattle.depot_model.specs.Arguments.{named, not_in, submitted}
 use Rattle.depot_model.specs.Rows.{row, text_field, number_field}
 use Rattle.depot_model.specs.Refusals.{refusal_row}
 use Rattle.depot_model.specs.Step.{Step, tells}
@@ -58,13 +58,19 @@ listed d caller n = option_or (option_map listed_pending (pending d n)) (listed_
 abbrev pub change_at : List Deed → List ℕ → ℕ → Option ℕ
 change_at d path n = option_map (λ (r : Revision). r.landing.change) (revision d path n)
 
-abbrev pub made_of : List Deed → Caller → FileArgument → List ℕ
-made_of d caller argument =
-    flat_map (λ path. filter_map (change_at d path) (in_range d caller path argument.spec.wanted)) (named false d caller (submitted d) argument)
+abbrev pub made_of : List Deed → Caller → FileArgument → List (List ℕ) → List ℕ
+made_of d caller argument paths = flat_map (λ path. filter_map (change_at d path) (in_range d caller path argument.spec.wanted)) paths
+
+-- each file counts by the first argument that names it
+abbrev pub made_over : List Deed → Caller → List (List ℕ) → List FileArgument → List ℕ
+made_over d caller taken [] = []
+made_over d caller taken (a ∷ arguments) =
+    let files = named false d caller (submitted d) a in
+    made_of d caller a (not_in taken files) ++ made_over d caller (taken ++ files) arguments
 
 abbrev pub is_made : List Deed → Caller → List FileArgument → ℕ → Bool
 is_made d caller [] n = true
-is_made d caller (a ∷ arguments) n = list_any (λ m. m == n) (flat_map (made_of d caller) (a ∷ arguments))
+is_made d caller (a ∷ arguments) n = list_any (λ m. m == n) (made_over d caller [] (a ∷ arguments))
 
 abbrev pub passes : Option (List ℕ) → List ℕ → Bool
 passes wanted text = option_map_or (same text) wanted true

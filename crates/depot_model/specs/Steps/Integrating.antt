@@ -75,35 +75,36 @@ integrate_revs d caller change s t (first ∷ revs) =
 abbrev pub new_type : List Deed → List ℕ → List ℕ → ℕ → List ℕ
 new_type d s t last = if is_live_head d t then type_at d t (head d t) else type_at d s last
 
-abbrev pub integrate_to : List Deed → Caller → Option ℕ → Wanted → List ℕ → List ℕ → Step
-integrate_to d caller change wanted s t =
+-- what is opened is that of the depot e, after what the command did with the sources before; all else is that of the depot d before the command
+abbrev pub integrate_to : List Deed → List Deed → Caller → Option ℕ → Wanted → List ℕ → List ℕ → Step
+integrate_to d e caller change wanted s t =
     let revs = uncredited d caller wanted s t in
     unless (
     right_refusal to_open d caller t
     ∷ refuse_if (not (is_some (shown d caller Head t))) (NotInView (printed t))
-    ∷ refuse_if (is_some (opened d caller.client t)) (AlreadyOpen t)
-    ∷ exclusive_refusal d t caller.client (new_type d s t (unwrap_or (last_or None revs) 0))
+    ∷ refuse_if (is_some (opened e caller.client t)) (AlreadyOpen t)
+    ∷ exclusive_refusal e t caller.client (new_type d s t (unwrap_or (last_or None revs) 0))
     ∷ [])
     (integrate_revs d caller change s t revs)
 
-abbrev pub integrate_chosen : List Deed → Caller → Option ℕ → FileArgument → PatternArgument → List ℕ → Step
-integrate_chosen d caller change from to s =
+abbrev pub integrate_chosen : List Deed → List Deed → Caller → Option ℕ → FileArgument → PatternArgument → List ℕ → Step
+integrate_chosen d e caller change from to s =
     let text = target_text d caller from to s in
     elim (target_at d caller to text) [
       | None ↦ refuses (NotInView (printed text))
-      | Some t ↦ integrate_to d caller change from.spec.wanted s t
+      | Some t ↦ integrate_to d e caller change from.spec.wanted s t
     ]
 
 -- a file passed over gives no row
-abbrev pub integrate_file : List Deed → Caller → Option ℕ → FileArgument → PatternArgument → List ℕ → Step
-integrate_file d caller change from to s = unless (right_refusal to_read d caller s ∷ []) (elim (chosen d caller s from.spec.wanted) [
+abbrev pub integrate_file : List Deed → Caller → Option ℕ → FileArgument → PatternArgument → List Deed → List ℕ → Step
+integrate_file d caller change from to e s = unless (right_refusal to_read d caller s ∷ []) (elim (chosen d caller s from.spec.wanted) [
   | PassedOver ↦ nothing
-  | At n ↦ integrate_chosen d caller change from to s
+  | At n ↦ integrate_chosen d e caller change from to s
 ])
 
 abbrev pub integrate_all : List Deed → Caller → Option ℕ → FileArgument → PatternArgument → List (List ℕ) → Step
 integrate_all d caller change from to [] = refuses (NoSuchFile from.text)
-integrate_all d caller change from to (s ∷ sources) = in_turn (λ e. integrate_file e caller change from to) d (s ∷ sources)
+integrate_all d caller change from to (s ∷ sources) = in_turn (integrate_file d caller change from to) d (s ∷ sources)
 
 abbrev pub integrate : List Deed → Caller → Option ℕ → FileArgument → PatternArgument → Step
 integrate d caller change from to = unless (named_change_refusal d caller change ∷ [])

@@ -14,7 +14,7 @@ use Rattle.depot_model.specs.Filter.{filter_of}
 use Rattle.depot_model.specs.Cut.{cut}
 use Rattle.depot_model.specs.Tables.{needs_of}
 use Rattle.depot_model.specs.Machine.{Need}
-use Rattle.depot_model.specs.Replica.{replica_reply_of}
+use Rattle.depot_runs.specs.Replica.{replica_reply_of}
 use Rattle.depot_model.specs.Shelves.{is_shelved}
 use Rattle.depot_model.specs.Places.{Placed}
 use Rattle.depot_model.proofs.Scene.{after_all, ann, file, block, does, asked, with_blocks, with_input, row, client_of_ann}

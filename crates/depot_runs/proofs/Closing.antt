@@ -8,7 +8,7 @@ use Rattle.depot_model.specs.Places.{Placed}
 use Rattle.spec_form.specs.declared.shape.Shape.TheVariants.{Job as JobShape}
 use Rattle.spec_form.specs.Form.{FormValue}
 use Rattle.depot_model.proofs.Scene.{whole, ann, file, block, does, with_blocks, with_input, reply, row, client_of_ann}
-use Rattle.depot_model.specs.Folds.{job_state, fix_state}
+use Rattle.depot_runs.specs.Folds.{job_state, fix_state}
 use Rattle.depot_model.specs.Fixes.{fix_form}
 
 abbrev saves_job : Placed

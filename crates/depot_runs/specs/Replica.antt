@@ -8,15 +8,16 @@ use Rattle.depot_model.specs.declared.command.Command.TheVariants.{DescribeShelv
 use Rattle.depot_model.specs.declared.refusal.Refusal.TheVariants.{ReadOnly}
 use Rattle.depot_model.specs.Deeds.{Deed}
 use Rattle.depot_model.specs.About.{about}
-use Rattle.depot_model.specs.Built.{is_built}
+use Rattle.depot_runs.specs.Built.{is_built}
 use Rattle.depot_model.specs.Tables.{own_tables}
 use Rattle.depot_model.specs.Common.{word_refusal}
 use Rattle.depot_model.specs.Refusals.{refusal_row}
 use Rattle.depot_model.specs.Rows.{row, number_field}
 use Rattle.depot_model.specs.Step.{after}
-use Rattle.depot_model.specs.Commands.{step, built_step}
+use Rattle.depot_model.specs.Commands.{built_step}
+use Rattle.depot_runs.specs.Today.{step}
 use Rattle.depot_model.specs.Places.{Placed, done_at}
-use Rattle.depot_model.specs.Kept.{IsChange}
+use Rattle.depot_runs.specs.Kept.{IsChange}
 
 abbrev pub shows_shelf : Command → Bool
 shows_shelf (DescribeShelved n) = true

@@ -11,7 +11,7 @@ use Rattle.depot_model.specs.Latest.{latest, spec, spec_said}
 use Rattle.depot_model.specs.Shelves.{shelf_name, is_shelved}
 use Rattle.depot_model.specs.Fixes.{job, has_fix, fix_name, closed}
 use Rattle.depot_model.specs.Step.{Step, after}
-use Rattle.depot_model.specs.Commands.{step}
+use Rattle.depot_runs.specs.Today.{step}
 use Rattle.depot_model.specs.Places.{Placed, done_at, taken}
 use Rattle.std.specs.List.{list_all}
 use Rattle.depot_path.specs.Bytes.{same}

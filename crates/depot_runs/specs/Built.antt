@@ -1,0 +1,70 @@
+-- The commands that are built. Each other one is refused as not built yet; this goes when all are.
+use Rattle.std.specs.Prelude.{Bool, true, false, ◌||◌}
+use Rattle.depot_model.specs.declared.command.Command.{Command}
+use Rattle.depot_model.specs.declared.command.Command.TheVariants.{CounterShow, CounterSet, CounterDelete, Counters, ClientShow, ClientSave, LabelShow, LabelSave, Labels, GroupShow, GroupSave, ProtectShow, ProtectSave, Add, Edit, Delete, Revert, Reopen, Lock, Unlock, Opened, ChangeShow, ChangeSave, ChangeDelete, Changes, Describe, Where, Sync, Have, Tag, LabelSync, Files, FileLog, Print, Dirs, FileStat, Integrated, SubmitChange, SubmitDefault}
+
+-- counters, clients, labels, groups and protections
+abbrev pub is_spec : Command → Bool
+is_spec (CounterShow name) = true
+is_spec (CounterSet name value) = true
+is_spec (CounterDelete name) = true
+is_spec Counters = true
+is_spec (ClientShow name) = true
+is_spec ClientSave = true
+is_spec (LabelShow name) = true
+is_spec LabelSave = true
+is_spec Labels = true
+is_spec (GroupShow name) = true
+is_spec GroupSave = true
+is_spec ProtectShow = true
+is_spec ProtectSave = true
+is_spec _ = false
+
+-- opened files
+abbrev pub is_opening : Command → Bool
+is_opening (Add change file_type paths) = true
+is_opening (Edit change file_type files) = true
+is_opening (Delete change files) = true
+is_opening (Revert change files) = true
+is_opening (Reopen change file_type files) = true
+is_opening (Lock change files) = true
+is_opening (Unlock change files) = true
+is_opening (Opened all files) = true
+is_opening _ = false
+
+-- changes
+abbrev pub is_change : Command → Bool
+is_change (ChangeShow change) = true
+is_change ChangeSave = true
+is_change (ChangeDelete change) = true
+is_change (Changes most status user client files) = true
+is_change (Describe change) = true
+is_change _ = false
+
+-- have lists, labels and integration
+abbrev pub is_syncing : Command → Bool
+is_syncing (Where paths) = true
+is_syncing (Sync again shows files) = true
+is_syncing (Have files) = true
+is_syncing (Tag label removes files) = true
+is_syncing (LabelSync label labelling files) = true
+is_syncing _ = false
+
+-- submitted files
+abbrev pub is_history : Command → Bool
+is_history (Files live files) = true
+is_history (FileLog files) = true
+is_history (Print files) = true
+is_history (Dirs patterns) = true
+is_history (FileStat files) = true
+is_history (Integrated files) = true
+is_history _ = false
+
+-- submits
+abbrev pub is_submit : Command → Bool
+is_submit (SubmitChange change) = true
+is_submit (SubmitDefault text) = true
+is_submit _ = false
+
+abbrev pub is_built : Command → Bool
+is_built command = is_spec command || (is_opening command || (is_change command || (is_syncing command || (is_history command || is_submit command))))
