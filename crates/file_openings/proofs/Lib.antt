@@ -1,2 +1,4 @@
+pub mod FirstBars
 pub mod NamesRise
+pub mod PlusBytes
 pub mod Told

@@ -1,5 +1,5 @@
 -- The rows of a file's openings are those that the depot has, by the names of clients.
-use Rattle.std.proofs.Common.{◌≡◌, ℕ, Bool, true, false, cond, List, [], ◌∷◌, Option, Some, None, Ok, refl, sym, ap, subst, ◌∙◌}
+use Rattle.std.proofs.Common.{◌≡◌, ℕ, Bool, true, false, List, [], ◌∷◌, Option, Some, None, Ok, refl, sym, ap, subst, ◌∙◌}
 use Rattle.std.specs.Prelude.{◌&&◌, ◌||◌, filter, filter_map, if◌then◌else◌, is_some, map, option_and_then, option_map}
 use Rattle.std.specs.List.{cons_option, list_any}
 use Rattle.std.specs.Option.{option_flatten, option_map_or, option_or}
@@ -33,7 +33,7 @@ use Rattle.depot_model.specs.Steps.Opening.{opener_of}
 use Rattle.depot_rows.proofs.Keys.{same-is, same-self}
 use Rattle.depot_rows.proofs.Locks.{opened-is}
 use Rattle.depot_rows.specs.Standing.{unplaced_at}
-use Rattle.row_reads.proofs.Alike.{above_all, behind, here, itself, rows_alike, unplaced_row}
+use Rattle.row_reads.proofs.Alike.{behind, here, itself, rows_alike, unplaced_row}
 use Rattle.row_reads.proofs.FoundRows.{at_own_path}
 use Rattle.row_reads.proofs.GroupsListed.{kept_at, kept_of, kept_rise}
 use Rattle.file_openings.specs.Openings.{openings}

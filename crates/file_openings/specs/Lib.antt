@@ -1,1 +1,3 @@
+pub mod Barring
 pub mod Openings
+pub mod Plus

@@ -4,8 +4,12 @@
 //! follows the openings of the file that it speaks of.
 #![tactic(auto)]
 
+mod barring;
+mod exclusive;
 mod openings;
 mod own;
 
+pub use barring::barred_by;
+pub use exclusive::is_exclusive;
 pub use openings::{openings_of, rows_are_openings};
 pub use own::opening_of;

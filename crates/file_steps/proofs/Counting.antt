@@ -98,7 +98,7 @@ more_files (a ∷ dones) (suc i) = let more = one_more a (files_changed dones) i
 
 -- ---- the place of a path
 
-placed : (p q : List ℕ) (rest : List (List ℕ)) (o : Ordering) → path_cmp p q ≡ o
+pub placed : (p q : List ℕ) (rest : List (List ℕ)) (o : Ordering) → path_cmp p q ≡ o
     → path_inserted p (q ∷ rest) ≡ (if is_eq o then q ∷ rest else (if is_lt o then p ∷ q ∷ rest else q ∷ path_inserted p rest))
 placed p q rest o e = λ i.
     if (paths_ties p q ∙ ap is_eq e) i then q ∷ rest else (if is_lt (e i) then p ∷ q ∷ rest else q ∷ path_inserted p rest)

@@ -68,7 +68,7 @@ kept_on f before so_far p items rest whole are new old =
     ∙ ap (λ (x : List (List ℕ)). before ++ x) (first_kept f p rest) ∙ ap (λ (x : List (List ℕ)). before ++ filter f x) (sym are) ∙ old
 
 -- the first item and those behind it
-pub parted : (rest : List (List ℕ)) (p : List ℕ) → 1 ≤ length rest → p ≡ get_or rest 0 p → p ∷ take (length rest - 1) (drop 1 rest) ≡ rest
+pub parted : {A : Type 0} (rest : List A) (p : A) → 1 ≤ length rest → p ≡ get_or rest 0 p → p ∷ take (length rest - 1) (drop 1 rest) ≡ rest
 parted [] p few is = absurd (omega arith)
 parted (x ∷ rest) p few is = λ i. is i ∷ take_all (length (x ∷ rest) - 1) rest (omega arith) i
 

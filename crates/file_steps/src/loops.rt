@@ -55,8 +55,8 @@ fn add_named<S: FileSet>(
     Ok(())
 }
 
-/// The files that an argument names.
-fn named_by<S: FileSet>(
+/// The files that an argument names, in path order. The one error is want of memory.
+pub fn named_by<S: FileSet>(
     alloc: Global,
     tables: &Tables,
     set: &S,

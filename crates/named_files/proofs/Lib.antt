@@ -8,3 +8,7 @@ pub mod Starts
 pub mod Naming
 pub mod Selection
 pub mod OpenedFiles
+pub mod Wanting
+pub mod Heads
+pub mod Begun
+pub mod Spelled

@@ -5,7 +5,7 @@ use Rattle.std.specs.List.{list_any}
 use Rattle.std.proofs.lemmas.Bool.{false≢true}
 use Rattle.depot_path.specs.Fit.{fits}
 use Rattle.depot_path.specs.declared.file_spec.FileSpec.{FileSpec}
-use Rattle.view_map.specs.Mapping.{path_in, at_path, after_deciding}
+use Rattle.view_map.specs.Mapping.{path_in, at_path, after_deciding, mapped}
 use Rattle.view_map.specs.declared.line.ViewLine.{ViewLine}
 use Rattle.view_map.specs.declared.mapped.Mapped.{Mapped}
 use Rattle.view_map.specs.declared.mapped.Mapped.TheVariants.{Nothing, At as MappedAt}
@@ -16,7 +16,8 @@ use Rattle.depot_model.specs.Asking.{may_list, view}
 use Rattle.depot_model.specs.Choice.{chosen, is_live_choice, shown}
 use Rattle.depot_model.specs.Deeds.{Deed}
 use Rattle.depot_rows.proofs.Keys.{right-true}
-use Rattle.named_files.specs.Asked.{IsAsker, is_named, is_placed}
+use Rattle.revision_reads.specs.Shown.{shown_in}
+use Rattle.named_files.specs.Asked.{IsAsker, is_named, is_placed, is_shown}
 use Rattle.named_files.specs.declared.asker.Asker.{Asker}
 
 -- where the view's answer says
@@ -36,14 +37,25 @@ module _ (d : List Deed) (caller : Caller) (asker : Asker) (is : IsAsker d calle
   pub placed_if_named : (spec : FileSpec) (path : List ℕ) → names true d caller spec path ≡ true → is_placed asker spec.pattern path ≡ true
   placed_if_named spec path e = right-true (may asker.protects asker.who path 1) (is_placed asker spec.pattern path) (named_is spec path ∙ e)
 
-  -- a file that is shown at a place is put there
-  abbrev shown_at : List Deed → FileSpec → Mapped → Option (List ℕ)
-  shown_at e spec place = elim place [
+  abbrev shown_at : FileSpec → Mapped → Option (List ℕ)
+  shown_at spec place = elim place [
     | Nothing ↦ None
     | MappedAt p rivals ↦ if list_any (λ rival. is_live_choice d rival (chosen d caller rival spec.wanted)) rivals then None else Some p
   ]
 
-  shown_is_put : (spec : FileSpec) (later : List ViewLine) (place : Option (List ℕ)) → fits_at spec.pattern (shown_at d spec (at_path later place)) ≡ true → fits_at spec.pattern place ≡ true
+  shown_in_place : (spec : FileSpec) (place : Mapped) → shown_in d caller spec.wanted place ≡ shown_at spec place
+  shown_in_place spec Nothing = refl
+  shown_in_place spec (MappedAt p rivals) = refl
+
+  pub shown_is : (spec : FileSpec) (path : List ℕ) → is_shown d caller asker spec.pattern spec.wanted path ≡ names false d caller spec path
+  shown_is spec path =
+      (λ i. may (is.protects i) (is.who i) path 1
+      && (if in_client_syntax (is.client i) spec.pattern then fits_at spec.pattern (shown_in d caller spec.wanted (mapped (is.view i) path)) else fits spec.pattern path))
+      ∙ (λ i. may_list d caller path
+      && (if in_client_syntax caller.client spec.pattern then fits_at spec.pattern (shown_in_place spec (mapped (view d caller.client) path) i) else fits spec.pattern path))
+
+  -- a file that is shown at a place is put there
+  shown_is_put : (spec : FileSpec) (later : List ViewLine) (place : Option (List ℕ)) → fits_at spec.pattern (shown_at spec (at_path later place)) ≡ true → fits_at spec.pattern place ≡ true
   shown_is_put spec later None e = absurd (false≢true e)
   shown_is_put spec later (Some p) e = go (list_any (λ rival. is_live_choice d rival (chosen d caller rival spec.wanted)) _) e
     where

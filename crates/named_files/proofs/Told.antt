@@ -170,7 +170,7 @@ landed_are_paths : (deed : Deed) → has_paths deed ≡ true → list_all is_pat
 landed_are_paths (Land l) all = entries_are_paths l.entries all
 landed_are_paths _ all = refl
 
-files_rise : (listing : Listing) (d : List Deed) → IsSound d → Rise (files_of listing d)
+pub files_rise : (listing : Listing) (d : List Deed) → IsSound d → Rise (files_of listing d)
 files_rise (Had client) d sound =
     filter_rises (λ path. not (have d client path == 0)) (paths_of (got_paths client) d) (told_rise (got_paths client) (got_are_paths client) d sound.paths)
 files_rise (OpenedBy client) d sound =

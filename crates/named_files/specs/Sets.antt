@@ -1,7 +1,10 @@
 -- Which files of a list an argument names, and what is read for it. This project's own choice.
-use Rattle.std.specs.Prelude.{ℕ, Bool, true, false, ◌==◌, ◌&&◌, List, [], ◌∷◌, Option, Some, None}
+use Rattle.std.specs.Prelude.{ℕ, Bool, true, false, ◌==◌, ◌&&◌, List, [], ◌∷◌, Option, Some, None, is_some}
+use Rattle.depot_path.specs.declared.file_spec.FileSpec.{FileSpec}
+use Rattle.depot_path.specs.declared.revision.Wanted.TheVariants.{Head}
 use Rattle.db_records.specs.declared.record.Record.{Record}
 use Rattle.db_records.specs.declared.record.Record.TheVariants.{Working}
+use Rattle.db_records.specs.declared.table.TableId.TheVariants as tables
 use Rattle.table_changes.specs.Changed.{AllRows}
 use Rattle.depot_model.specs.declared.command.FileArgument.{FileArgument}
 use Rattle.depot_model.specs.declared.refusal.Refusal.TheVariants.{NoSuchFile, NotOpen}
@@ -12,6 +15,7 @@ use Rattle.depot_model.specs.Deeds.{Deed}
 use Rattle.depot_model.specs.Opened.{opened}
 use Rattle.depot_model.specs.Refusals.{refusal_row}
 use Rattle.depot_model.specs.Rules.{IsSound}
+use Rattle.depot_model.specs.Steps.Listing.{chosen_revision}
 use Rattle.depot_model.specs.Steps.Reverting.{is_selected}
 use Rattle.depot_rows.specs.Standing.{HasRows}
 use Rattle.named_files.specs.Asked.{IsAsker}
@@ -25,6 +29,33 @@ pub record Reads (caller : Caller) (asker : Asker) (listing : Listing) (rows : A
   pub sound : IsSound d
   pub asked : IsAsker d caller asker
   pub listed : HasRows rows d (listing_table listing)
+
+-- and so are those of the tables by which a file is shown at a choice of revisions
+pub record ShownReads (caller : Caller) (asker : Asker) (listing : Listing) (rows : AllRows) (d : List Deed) : Type 0 where
+  pub sound : IsSound d
+  pub asked : IsAsker d caller asker
+  pub listed : HasRows rows d (listing_table listing)
+  pub has_have : HasRows rows d tables.Have
+  pub has_label : HasRows rows d tables.Label
+  pub has_domain : HasRows rows d tables.Domain
+  pub has_rev : HasRows rows d tables.Rev
+  pub has_change : HasRows rows d tables.Change
+
+-- or at the heads
+pub record HeadReads (caller : Caller) (asker : Asker) (listing : Listing) (rows : AllRows) (d : List Deed) : Type 0 where
+  pub sound : IsSound d
+  pub asked : IsAsker d caller asker
+  pub listed : HasRows rows d (listing_table listing)
+  pub has_domain : HasRows rows d tables.Domain
+  pub has_rev : HasRows rows d tables.Rev
+
+-- an argument's files, whichever revision it asks for
+abbrev pub at_head : FileSpec → FileSpec
+at_head spec = record spec { wanted = Head }
+
+-- the argument names the file, and chooses one of its revisions
+abbrev pub is_listed : Caller → List Deed → FileArgument → List ℕ → Bool
+is_listed caller d argument path = names false d caller argument.spec path && is_some (chosen_revision d caller argument path)
 
 -- the rows for an argument that names no file of a list
 abbrev pub rows_without : Listing → FileArgument → List Row

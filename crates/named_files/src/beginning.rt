@@ -4,7 +4,7 @@ ghost use Rattle.std.specs.Prelude.{◌≡◌, ℕ, List, true, IfOk};
 ghost use Rattle.std.specs.List.{list_any};
 ghost use Rattle.depot_path.specs.Bytes.{begins_with};
 ghost use Rattle.depot_path.specs.Path.{printed};
-ghost use Rattle.named_files.specs.Asked.{is_placed, may_begin};
+ghost use Rattle.named_files.specs.Asked.{is_begun, is_placed, may_begin};
 
 use crate::asker::Asker;
 use depot_path::{Pattern, Text};
@@ -53,14 +53,14 @@ fn common_beginning(alloc: Global, texts: &[Text]) -> Result<Option<Text>, Alloc
     }
 }
 
-/// The text with which every file begins, as it is printed, at whose place a pattern fits; None where there is no such file. In client syntax
-/// it is what the texts have in common with which the lines of the view put files there.
-pub(crate) fn beginning_of(
+/// The text with which every file begins, as it is printed, that begins itself with the literal text of a pattern, or in client syntax whose place
+/// does; None where there is no such file. In client syntax it is what the texts have in common with which the lines of the view put files there.
+pub(crate) fn begun_of(
     alloc: Global,
     asker: &Asker,
     pattern: &Pattern,
 ) -> Result<Option<Text>, AllocError>
-    ensures { IfOk result (λ found. (path : List ℕ) → is_placed asker.now pattern.now path ≡ true → may_begin found (printed path) ≡ true) }
+    ensures { IfOk result (λ found. (path : List ℕ) → is_begun asker.now pattern.now path ≡ true → may_begin found (printed path) ≡ true) }
 {
     let start = pattern.beginning(alloc)?;
     if !in_client_syntax(&asker.client, pattern) {
@@ -68,5 +68,17 @@ pub(crate) fn beginning_of(
     }
     let texts = asker.view.beginnings(alloc, start.as_bytes())?;
     let found = common_beginning(alloc, texts.as_slice())?;
+    Ok(found)
+}
+
+/// The text with which every file begins, as it is printed, at whose place a pattern fits; None where there is no such file.
+pub(crate) fn beginning_of(
+    alloc: Global,
+    asker: &Asker,
+    pattern: &Pattern,
+) -> Result<Option<Text>, AllocError>
+    ensures { IfOk result (λ found. (path : List ℕ) → is_placed asker.now pattern.now path ≡ true → may_begin found (printed path) ≡ true) }
+{
+    let found = begun_of(alloc, asker, pattern)?;
     Ok(found)
 }

@@ -2,21 +2,29 @@
 //!
 //! A [`Listing`] is a list of files as a table has it, as those that a client has. An [`Asker`] says which of them an argument names, and
 //! [`candidates`] walks over the rows from the text alone with which every file begins that the argument may name. [`ListedFiles`],
-//! [`SelectedFiles`] and [`OpenedAnywhere`] are the sets of files over which commands go.
+//! [`ShownFiles`], [`HeadFiles`], [`ChosenFiles`], [`SelectedFiles`] and [`OpenedAnywhere`] are the sets of files over which commands go.
 #![tactic(auto)]
 
 mod anywhere;
 mod asker;
 mod beginning;
 mod choosing;
+mod chosen_files;
 mod front;
+mod head_files;
 mod listed_files;
 mod listing;
 mod selected_files;
+mod shown_files;
+mod spelling;
 
 pub use anywhere::OpenedAnywhere;
 pub use asker::Asker;
-pub use choosing::candidates;
+pub use choosing::{all_files, begun_candidates, candidates};
+pub use chosen_files::ChosenFiles;
+pub use head_files::HeadFiles;
 pub use listed_files::ListedFiles;
 pub use listing::Listing;
 pub use selected_files::SelectedFiles;
+pub use shown_files::ShownFiles;
+pub use spelling::spelled_path;

@@ -1,1 +1,4 @@
+pub mod InChange
+pub mod Onwards
 pub mod Opens
+pub mod Owing

@@ -1,1 +1,3 @@
+pub mod InChange
 pub mod Read
+pub mod Owed

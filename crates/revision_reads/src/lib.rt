@@ -9,12 +9,18 @@ mod history;
 mod holders;
 mod moments;
 mod probe;
+mod range;
 mod revisions;
 mod search;
 mod shown;
+mod targets;
 
 pub use choice::{Chosen, chosen_of, is_live_choice, standing_rows_are_those_of_all_tables};
-pub use history::{change_of, chosen_revision, revisions_have_their_changes, revisions_up_to};
+pub use history::{
+    change_of, chosen_revision, revisions_have_their_changes, revisions_up_to, stored_choice,
+};
 pub use holders::holder_of;
+pub use range::in_range;
 pub use revisions::{head_of, is_live_at, is_live_head, revision_of};
-pub use shown::shown_of;
+pub use shown::{shown_by, shown_of};
+pub use targets::{file_at, first_live, printed_text, shown_in_view, target_at, target_text};

@@ -13,7 +13,8 @@ ghost use Rattle.reply_rows.specs.Made.{IsMade};
 ghost use Rattle.reply_rows.specs.Refusing.{first_of};
 ghost use Rattle.spec_ops.specs.Saving.{client_refusals, view_fault, view_refusal as refusal_of_view};
 
-use crate::saving::{keep_form, named, shown_row, unread};
+use crate::saving::{keep_form, shown_row};
+use command_parts::{named, unread};
 use depot_model::{Limit, Row};
 use depot_path::{Name, Text, is_name};
 use depot_rows::SpecKind;

@@ -16,7 +16,8 @@ ghost use Rattle.reply_rows.specs.Made.{IsMade};
 ghost use Rattle.reply_rows.specs.Refusing.{first_of};
 ghost use Rattle.spec_ops.specs.Saving.{group_refusals, group_row as row_of_group, saved_row as row_of_saved, users_refusals};
 
-use crate::saving::{named, saved_row, unread};
+use crate::saving::saved_row;
+use command_parts::{named, unread};
 use depot_model::{Limit, Row};
 use depot_path::{Name, Sequence, Text, is_name};
 use reply_rows::{Step, bad_form_row, limit_row, push_numbered, row_of, text_field};

@@ -15,7 +15,7 @@ ghost use Rattle.reply_rows.specs.Made.{IsMade};
 ghost use Rattle.reply_rows.specs.Refusing.{first_of};
 ghost use Rattle.spec_ops.specs.Saving.{lines_refusal as refusal_of_lines, lines_row as row_of_lines, protect_fault, protect_refusals, saved_alone};
 
-use crate::saving::unread;
+use command_parts::unread;
 use depot_model::{Limit, Row};
 use depot_path::{Sequence, Text};
 use protect_table::{LineFault, ProtectFault, Protects, line_words};

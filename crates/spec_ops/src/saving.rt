@@ -1,51 +1,22 @@
 //! What the commands share that save forms or show them.
 
-ghost use Rattle.std.specs.Prelude.{◌≡◌, ◌≢◌, ◌∷◌, [], true, List, IfOk};
+ghost use Rattle.std.specs.Prelude.{◌≡◌, ◌∷◌, [], List, IfOk};
 ghost use Rattle.std.specs.Option.{option_copied};
-ghost use Rattle.depot_path.specs.Name.{is_name as name_test};
-ghost use Rattle.spec_form.specs.declared.fault.FormFaultKind.TheVariants.{Memory};
 ghost use Rattle.table_changes.specs.Changed.{AllRows};
 ghost use Rattle.depot_model.specs.Deeds.{Deed, Spec};
-ghost use Rattle.depot_model.specs.Refusals.{refusal_row};
 ghost use Rattle.depot_model.specs.Step.{does};
 ghost use Rattle.depot_model.specs.Values.{value_of};
-ghost use Rattle.depot_model.specs.declared.refusal.Refusal.TheVariants.{BadForm};
 ghost use Rattle.depot_rows.specs.Deed.{kind_of};
-ghost use Rattle.reply_rows.specs.Made.{IsMade, told};
+ghost use Rattle.reply_rows.specs.Made.{IsMade};
 ghost use Rattle.spec_ops.specs.Saving.{saved_row as row_of_saved, shown};
 
 use depot_model::Row;
-use depot_path::{Name, Sequence, Text};
+use depot_path::{Sequence, Text};
 use depot_rows::SpecKind;
-use reply_rows::{Step, bad_form_row, form_fields, row_of, text_field};
+use reply_rows::{Step, form_fields, row_of, text_field};
 use row_reads::form_value;
-use spec_form::{Form, FormFault, FormFaultKind};
+use spec_form::Form;
 use std::alloc::{AllocError, Global};
-
-/// The step of a form that can't be read.
-pub(crate) fn unread(alloc: Global, fault: FormFault) -> Result<Step, AllocError>
-    ensures known { IfOk result (λ step. fault.what ≢ Memory) }
-    ensures told { IfOk result (λ step. step ≡ told (refusal_row (BadForm fault.line) ∷ [])) }
-{
-    match fault.what {
-        FormFaultKind::Memory => Err(AllocError),
-        _ => {
-            let step = Step::tells(alloc, bad_form_row(alloc, fault.line)?)?;
-            Ok(step)
-        }
-    }
-}
-
-/// The name that a text is.
-pub(crate) fn named(alloc: Global, text: &[u8]) -> Result<Name, AllocError>
-    requires { name_test text.now ≡ true }
-    ensures { IfOk result (λ name. name ≡ text.now) }
-{
-    match Name::read(alloc, text) {
-        Ok(name) => Ok(name),
-        Err(_) => Err(AllocError),
-    }
-}
 
 /// The row that tells that something is saved, by its name.
 pub(crate) fn saved_row(alloc: Global, field: &[u8], name: &[u8]) -> Result<Row, AllocError>

@@ -2,9 +2,7 @@ use Rattle.std.proofs.Common.{◌≡◌, Option, Some, None, List, refl, ap, ◌
 use Rattle.std.specs.Prelude.{option_map}
 use Rattle.depot_path.specs.Path.{printed}
 use Rattle.db_records.specs.declared.key.Key.TheVariants as keys
-use Rattle.db_records.specs.declared.record.Record.{Record}
 use Rattle.db_records.specs.declared.record.Record.TheVariants.{Working}
-use Rattle.db_records.specs.declared.rows.WorkingRecord.{WorkingRecord}
 use Rattle.db_records.specs.declared.table.TableId.TheVariants as tables
 use Rattle.depot_model.specs.Deeds.{Deed, Opening}
 use Rattle.depot_model.specs.Opened.{opened}

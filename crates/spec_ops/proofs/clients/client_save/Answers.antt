@@ -1,6 +1,6 @@
 use Rattle.spec_form.specs.declared.shape.Shape.TheVariants.{Client}
 use Rattle.depot_model.specs.Steps.Clients.{saved}
-use Rattle.spec_ops.proofs.Made.{read_made}
+use Rattle.command_parts.proofs.Refused.{read_made}
 use Rattle.spec_ops.proofs.clients.client_save.Goals as goal
 
 pub returns-in_ok-step-in-Ok : goal.returns-in_ok-step-in-Ok

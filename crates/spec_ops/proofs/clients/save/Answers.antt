@@ -2,7 +2,8 @@ use Rattle.std.proofs.Common.{sym, ◌∙◌, subst}
 use Rattle.depot_model.specs.Step.{Step as ModelStep}
 use Rattle.reply_rows.specs.Made.{IsMade}
 use Rattle.spec_ops.specs.Saving.{client_refusals}
-use Rattle.spec_ops.proofs.Made.{client_kept, client_saved, granted_made, refused_made}
+use Rattle.command_parts.proofs.Refused.{granted_made, refused_made}
+use Rattle.spec_ops.proofs.Made.{client_kept, client_saved}
 use Rattle.spec_ops.proofs.clients.save.Goals as goal
 
 pub returns-in_ok-step-in-Some : goal.returns-in_ok-step-in-Some

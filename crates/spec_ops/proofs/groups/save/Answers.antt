@@ -5,7 +5,8 @@ use Rattle.depot_model.specs.Values.{value_of}
 use Rattle.reply_rows.specs.Made.{IsMade}
 use Rattle.spec_form.specs.Form.{lines_of}
 use Rattle.spec_ops.specs.Saving.{group_refusals}
-use Rattle.spec_ops.proofs.Made.{granted_made, group_kept, refused_made}
+use Rattle.command_parts.proofs.Refused.{granted_made, refused_made}
+use Rattle.spec_ops.proofs.Made.{group_kept}
 use Rattle.spec_ops.proofs.groups.save.Goals as goal
 
 pub returns-in_ok-step-in-Some : goal.returns-in_ok-step-in-Some

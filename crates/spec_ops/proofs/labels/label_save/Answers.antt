@@ -1,7 +1,7 @@
 use Rattle.table_changes.specs.Changed.{rows_of}
 use Rattle.spec_form.specs.declared.shape.Shape.TheVariants.{Label}
 use Rattle.depot_model.specs.Steps.Labels.{saved}
-use Rattle.spec_ops.proofs.Made.{read_made, unread_made}
+use Rattle.command_parts.proofs.Refused.{read_made, unread_made}
 use Rattle.spec_ops.proofs.labels.label_save.Goals as goal
 
 pub returns-in_ok-step-in-Ok : goal.returns-in_ok-step-in-Ok

@@ -1,7 +1,8 @@
 use Rattle.std.proofs.Common.{sym, ◌∙◌}
 use Rattle.table_changes.specs.Changed.{rows_of}
 use Rattle.spec_ops.specs.Saving.{label_refusals}
-use Rattle.spec_ops.proofs.Made.{granted_made, label_kept, refused_made}
+use Rattle.command_parts.proofs.Refused.{granted_made, refused_made}
+use Rattle.spec_ops.proofs.Made.{label_kept}
 use Rattle.spec_ops.proofs.labels.save.Goals as goal
 
 pub returns-in_ok-step-in-Some : goal.returns-in_ok-step-in-Some

@@ -4,7 +4,7 @@ use Rattle.spec_form.specs.Form.{FormValue, lines_of}
 use Rattle.spec_form.specs.declared.shape.Shape.TheVariants.{Protect}
 use Rattle.depot_model.specs.Steps.Protections.{saved}
 use Rattle.reply_rows.specs.Made.{IsMade}
-use Rattle.spec_ops.proofs.Made.{read_made}
+use Rattle.command_parts.proofs.Refused.{read_made}
 use Rattle.spec_ops.proofs.protections.protect_save.Goals as goal
 
 pub returns-in_ok-step-in-Ok : goal.returns-in_ok-step-in-Ok

@@ -2,7 +2,8 @@ use Rattle.std.proofs.Common.{sym, ◌∙◌, subst}
 use Rattle.depot_model.specs.Step.{Step as ModelStep}
 use Rattle.reply_rows.specs.Made.{IsMade}
 use Rattle.spec_ops.specs.Saving.{protect_refusals}
-use Rattle.spec_ops.proofs.Made.{granted_made, lines_kept, lines_saved}
+use Rattle.command_parts.proofs.Refused.{granted_made}
+use Rattle.spec_ops.proofs.Made.{lines_kept, lines_saved}
 use Rattle.spec_ops.proofs.protections.save.Goals as goal
 
 pub returns-in_ok-step-in-None : goal.returns-in_ok-step-in-None

@@ -1,0 +1,23 @@
+-- What rows tell of changes.
+use Rattle.std.proofs.Common.{◌≡◌, ℕ, Option, Some, None, List, refl}
+use Rattle.depot_model.specs.declared.request.Caller.{Caller}
+use Rattle.depot_model.specs.declared.refusal.Refusal.{Refusal}
+use Rattle.depot_model.specs.declared.refusal.Refusal.TheVariants.{NoSuchChange, NotYours}
+use Rattle.std.specs.Prelude.{option_map, not}
+use Rattle.db_records.specs.declared.record.Record.{Record}
+use Rattle.depot_model.specs.Deeds.{Deed, Pending, Landing}
+use Rattle.depot_model.specs.Numbers.{pending, landing}
+use Rattle.depot_model.specs.Records.{change_record, pending_record, landed_record}
+use Rattle.depot_model.specs.Step.{refuse_if}
+use Rattle.depot_model.specs.Steps.Opening.{change_refusal, is_of}
+use Rattle.command_parts.specs.Changes.{change_told}
+
+pub told_is : (d : List Deed) (caller : Caller) (n : ℕ) → change_told caller n (change_record d n) ≡ change_refusal d caller n
+told_is d caller n = go (pending d n) (landing d n)
+  where
+    go : (p : Option Pending) (l : Option Landing)
+        → change_told caller n (elim p as (λ _. Option Record) [ Some x ↦ Some (pending_record x) | None ↦ option_map landed_record l ])
+        ≡ (elim p as (λ _. Option Refusal) [ None ↦ Some (NoSuchChange n) | Some x ↦ refuse_if (not (is_of caller x)) (NotYours n) ])
+    go None None = refl
+    go None (Some l) = refl
+    go (Some p) l = refl

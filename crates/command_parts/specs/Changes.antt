@@ -1,0 +1,14 @@
+-- The refusal of a change that is named, by its row (Helix Core database schema reference, "db.change").
+use Rattle.std.specs.Prelude.{ℕ, not, ◌&&◌, codes, if◌then◌else◌, Option, Some, None}
+use Rattle.depot_path.specs.Bytes.{same}
+use Rattle.db_records.specs.declared.record.Record.{Record}
+use Rattle.db_records.specs.declared.record.Record.TheVariants.{Change}
+use Rattle.depot_model.specs.declared.request.Caller.{Caller}
+use Rattle.depot_model.specs.declared.refusal.Refusal.{Refusal}
+use Rattle.depot_model.specs.declared.refusal.Refusal.TheVariants.{NoSuchChange, NotYours}
+use Rattle.depot_model.specs.Step.{refuse_if}
+
+abbrev pub change_told : Caller → ℕ → Option Record → Option Refusal
+change_told caller n (Some (Change r)) =
+    if same r.status (codes "pending") then refuse_if (not (same r.user caller.user && same r.client caller.client)) (NotYours n) else Some (NoSuchChange n)
+change_told caller n _ = Some (NoSuchChange n)

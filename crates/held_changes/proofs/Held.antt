@@ -1,0 +1,137 @@
+-- A change is shelved, or fixes jobs, exactly where one of the forms holds it.
+use Rattle.std.proofs.Common.{◌≡◌, ℕ, Bool, true, false, List, [], ◌∷◌, ◌++◌, length, Option, Some, None, inl, inr, refl, sym, ap, ◌∙◌}
+use Rattle.std.specs.Prelude.{◌&&◌, ◌||◌, codes, decimal, filter, filter_map, if◌then◌else◌, is_some, nat_lt, option_and_then}
+use Rattle.std.specs.List.{cons_option, list_all, list_any}
+use Rattle.std.specs.Option.{option_map_or}
+use Rattle.std.proofs.lemmas.Bool.{true≢false}
+use Rattle.depot_path.specs.Bytes.{same}
+use Rattle.depot_path.specs.Digits.{is_digits}
+use Rattle.depot_path.specs.Path.{printed, is_path}
+use Rattle.spec_form.specs.Form.{FormValue}
+use Rattle.spec_form.specs.declared.shape.Shape.TheVariants.{Shelf as ShelfShape}
+use Rattle.depot_model.specs.Arguments.{paths_of}
+use Rattle.depot_model.specs.Deeds.{Deed, ShelfForm, FixForm}
+use Rattle.depot_model.specs.Fixes.{is_on, is_fixing}
+use Rattle.depot_model.specs.Latest.{keys_of, spec, spec_name, spec_said, when}
+use Rattle.depot_model.specs.Numerals.{is_numeral}
+use Rattle.depot_model.specs.Rules.{IsSound}
+use Rattle.depot_model.specs.Shelves.{is_kept, is_of_change, is_shelved, kept, kept_paths, shelf_name, shelf_paths}
+use Rattle.depot_model.specs.Values.{value_of}
+use Rattle.depot_rows.proofs.Keys.{same-self, left-true, right-true}
+use Rattle.sound_deeds.proofs.Decimals.{decimal_digits}
+use Rattle.sound_deeds.proofs.Read.{spelled_reads, value_is}
+use Rattle.sound_form_steps.proofs.Found.{saved_shelf, shelf_there, spec_names, spelled}
+use Rattle.sound_form_steps.proofs.Members.{In, in_some, key_in}
+use Rattle.sound_form_steps.proofs.Shelving.{kept_are}
+use Rattle.depots_alike.proofs.Kept.{parts_are}
+use Rattle.held_changes.specs.Holding.{holds, is_held}
+
+-- ---- fixes
+
+module _ (f : List ℕ → Option FormValue) (p q : FormValue → Bool) where
+  some_counted : (names : List (List ℕ))
+      → list_any (λ name. option_map_or (λ form. p form && q form) (f name) false) names ≡ nat_lt 0 (length (filter q (filter p (filter_map f names))))
+  some_counted [] = refl
+  some_counted (name ∷ names) = go (f name) (some_counted names)
+    where
+      rest : List FormValue
+      rest = filter_map f names
+
+      later : Bool
+      later = list_any (λ x. option_map_or (λ form. p form && q form) (f x) false) names
+
+      go : (o : Option FormValue) → later ≡ nat_lt 0 (length (filter q (filter p rest)))
+          → (option_map_or (λ form. p form && q form) o false || later) ≡ nat_lt 0 (length (filter q (filter p (cons_option o rest))))
+      go None h = h
+      go (Some form) h = by_first (p form)
+        where
+          by_second : (b : Bool)
+              → (b || later) ≡ nat_lt 0 (length (if b then form ∷ filter q (filter p rest) else filter q (filter p rest)))
+          by_second true = sym (in_some (form ∷ filter q (filter p rest)) form (inl refl))
+          by_second false = h
+
+          by_first : (b : Bool) → ((b && q form) || later) ≡ nat_lt 0 (length (filter q (if b then form ∷ filter p rest else filter p rest)))
+          by_first true = by_second (q form)
+          by_first false = h
+
+pub fixing_held : (d : List Deed) (n : ℕ) → list_any (is_held FixForm d (codes "on") (decimal n)) (keys_of (spec_name FixForm) d) ≡ is_fixing d n
+fixing_held d n = some_counted (spec d FixForm) is_on (is_of_change n) (keys_of (spec_name FixForm) d)
+
+-- ---- shelved files
+
+some_of : (test : List ℕ → Bool) (xs : List (List ℕ)) (x : List ℕ) → In xs x → test x ≡ true → list_any test xs ≡ true
+some_of test [] x h e = absurd h
+some_of test (y ∷ ys) x (inl is) e = ap (λ b. b || list_any test ys) (ap test is ∙ e)
+some_of test (y ∷ ys) x (inr later) e = go (test y) (some_of test ys x later e)
+  where
+    go : (b : Bool) → list_any test ys ≡ true → (b || list_any test ys) ≡ true
+    go true h = refl
+    go false h = h
+
+none_of : (test : List ℕ → Bool) → ((x : List ℕ) → test x ≡ false) → (xs : List (List ℕ)) → list_any test xs ≡ false
+none_of test all [] = refl
+none_of test all (x ∷ xs) = (λ i. all x i || list_any test xs) ∙ none_of test all xs
+
+module _ (test : List ℕ → Bool) where
+  found : (xs : List (List ℕ)) → list_all is_path (filter test xs) ≡ true → nat_lt 0 (length (filter test xs)) ≡ true
+      → (z : List ℕ) × (is_path z ≡ true) × (test z ≡ true)
+  found [] all h = absurd (let f : false ≡ true = h in cc)
+  found (x ∷ xs) all h = go (test x) refl all h (found xs)
+    where
+      go : (b : Bool) → test x ≡ b → list_all is_path (if b then x ∷ filter test xs else filter test xs) ≡ true
+          → nat_lt 0 (length (if b then x ∷ filter test xs else filter test xs)) ≡ true
+          → (list_all is_path (filter test xs) ≡ true → nat_lt 0 (length (filter test xs)) ≡ true → (z : List ℕ) × (is_path z ≡ true) × (test z ≡ true))
+          → (z : List ℕ) × (is_path z ≡ true) × (test z ≡ true)
+      go true e k l later = (x, left-true (is_path x) (list_all is_path (filter test xs)) k, e)
+      go false e k l later = later k l
+
+module _ (d : List Deed) (sound : IsSound d) (n : ℕ) where
+  abbrev held_in : List ℕ → Bool
+  held_in = is_held ShelfForm d (codes "kept") (decimal n)
+
+  path_holds : (z : List ℕ) → is_path z ≡ true → is_some (kept d n z) ≡ true → list_any held_in (keys_of (spec_name ShelfForm) d) ≡ true
+  path_holds z is some = go (spec d ShelfForm (shelf_name n z)) refl some
+    where
+      is_when : (b : Bool) (form : FormValue) → is_some (when b form) ≡ true → b ≡ true
+      is_when true form h = refl
+      is_when false form h = absurd cc
+
+      go : (o : Option FormValue) → spec d ShelfForm (shelf_name n z) ≡ o → is_some (option_and_then (λ form. when (is_kept form) form) o) ≡ true
+          → list_any held_in (keys_of (spec_name ShelfForm) d) ≡ true
+      go None e h = absurd cc
+      go (Some form) e h =
+          let reads = spelled_reads ShelfForm form (spelled d sound ShelfForm (shelf_name n z) form e) in
+          let value = value_is ShelfShape form reads in
+          let shelf = saved_shelf d sound (shelf_name n z) form e in
+          let numeral : is_numeral (value_of form (codes "Change")) ≡ true = ap is_numeral (sym (value (codes "Change"))) ∙ left-true _ _ (shelf.change) in
+          let digits = right-true _ _ (left-true (is_digits (value_of form (codes "Change"))) _ numeral) in
+          let named : decimal n ++ 0x20 ∷ printed z ≡ value_of form (codes "Change") ++ 0x20 ∷ value_of form (codes "Path") =
+          shelf.named ∙ (λ i. value (codes "Change") i ++ 0x20 ∷ value (codes "Path") i) in
+          let parts = parts_are (decimal n) (value_of form (codes "Change")) (printed z) (value_of form (codes "Path")) (decimal_digits n) digits named in
+          let of : is_of_change n form ≡ true = ap (λ (w : List ℕ). same w (decimal n)) (sym parts.0) ∙ same-self (decimal n) in
+          let on : is_kept form ≡ true = is_when (is_kept form) form h in
+          let held : held_in (shelf_name n z) ≡ true =
+          ap (λ (o : Option FormValue). option_map_or (holds (codes "kept") (decimal n)) o false) e ∙ (λ i. on i && of i) in
+          some_of held_in (keys_of (spec_name ShelfForm) d) (shelf_name n z)
+          (key_in (spec_said ShelfForm (shelf_name n z)) (spec_name ShelfForm) (shelf_name n z) form (spec_names ShelfForm (shelf_name n z) form) d e) held
+
+  none_holds : is_shelved d n ≡ false → (name : List ℕ) → held_in name ≡ false
+  none_holds none name = go (spec d ShelfForm name) refl
+    where
+      go : (o : Option FormValue) → spec d ShelfForm name ≡ o → option_map_or (holds (codes "kept") (decimal n)) o false ≡ false
+      go None e = refl
+      go (Some form) e = by_kept (is_kept form) refl (is_of_change n form) refl
+        where
+          by_kept : (b : Bool) → is_kept form ≡ b → (c : Bool) → is_of_change n form ≡ c → (b && c) ≡ false
+          by_kept false on c of = refl
+          by_kept true on false of = refl
+          by_kept true on true of = absurd (true≢false (sym (shelf_there d sound n name form e on of) ∙ none))
+
+  pub shelved_held : list_any held_in (keys_of (spec_name ShelfForm) d) ≡ is_shelved d n
+  shelved_held = go (is_shelved d n) refl
+    where
+      go : (b : Bool) → is_shelved d n ≡ b → list_any held_in (keys_of (spec_name ShelfForm) d) ≡ b
+      go true e =
+          let file = found (λ path. is_some (kept d n path)) (paths_of (shelf_paths n) d) (kept_are d sound.paths n) e in
+          path_holds file.0 file.1 file.2
+      go false e = none_of held_in (none_holds e) (keys_of (spec_name ShelfForm) d)

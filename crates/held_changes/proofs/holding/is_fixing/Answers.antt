@@ -1,0 +1,14 @@
+use Rattle.std.proofs.Common.{ℕ, List, ap, ◌∙◌}
+use Rattle.std.specs.Prelude.{codes}
+use Rattle.std.specs.List.{list_any}
+use Rattle.depot_model.specs.Deeds.{FixForm}
+use Rattle.depot_model.specs.Latest.{keys_of, spec_name}
+use Rattle.held_changes.specs.Holding.{is_held}
+use Rattle.held_changes.proofs.Held.{fixing_held}
+use Rattle.held_changes.proofs.holding.is_fixing.Goals as goal
+
+pub returns : goal.returns
+returns c = λ d sound has.
+    c.in_ok-fixing.ensures d sound has
+    ∙ ap (λ (number : List ℕ). list_any (is_held FixForm d (codes "on") number) (keys_of (spec_name FixForm) d)) (c.as_bytes.ensures ∙ c.in_ok-number.ensures)
+    ∙ fixing_held d c.args.change

@@ -1,0 +1,120 @@
+//! Whether a form holds a change.
+
+ghost use Rattle.std.specs.Prelude.{◌≡◌, List, false, IfOk, decimal};
+ghost use Rattle.std.specs.List.{list_any};
+ghost use Rattle.std.specs.Option.{option_copied, option_map_or};
+ghost use Rattle.db_records.specs.declared.table.TableId.TheVariants as table_ids;
+ghost use Rattle.table_changes.specs.Changed.{rows_of};
+ghost use Rattle.depot_model.specs.Deeds.{Deed};
+ghost use Rattle.depot_model.specs.Fixes.{is_fixing as is_fixing_in};
+ghost use Rattle.depot_model.specs.Latest.{keys_of, spec, spec_name};
+ghost use Rattle.depot_model.specs.Rules.{IsSound};
+ghost use Rattle.depot_model.specs.Shelves.{is_shelved as is_shelved_in};
+ghost use Rattle.depot_rows.specs.Deed.{kind_of};
+ghost use Rattle.depot_rows.specs.Standing.{HasRows};
+ghost use Rattle.held_changes.specs.Holding.{holds, is_held};
+
+use depot_path::Text;
+use depot_rows::SpecKind;
+use itoa::Buffer;
+use row_reads::{form_names, form_value, saved_form};
+use spec_form::Form;
+use std::alloc::{AllocError, Global};
+use table_store::Tables;
+
+/// Whether a form is in a state and of a change.
+fn is_in_state(form: &Form, state: &[u8], change: &[u8]) -> bool
+    ensures { result ≡ holds state.now change.now form.now }
+{
+    form_value(form, "State") == state && form_value(form, "Change") == change
+}
+
+/// Whether there is a form that is in a state and of a change.
+fn is_some_in_state(form: Option<&Form>, state: &[u8], change: &[u8]) -> bool
+    ensures { result ≡ option_map_or (holds state.now change.now) (option_copied form.entry) false }
+{
+    match form {
+        Some(form) => is_in_state(form, state, change),
+        None => false,
+    }
+}
+
+/// Whether the form that is saved under a name is in a state and of a change.
+fn is_held_under(
+    alloc: Global,
+    tables: &Tables,
+    kind: SpecKind,
+    state: &[u8],
+    change: &[u8],
+    name: &Text,
+) -> Result<bool, AllocError>
+    ensures { IfOk result (λ held. (d : List Deed) → IsSound d → HasRows (rows_of tables.now) d table_ids.Domain →
+        held ≡ is_held (kind_of kind) d state.now change.now name.now) }
+{
+    let form = saved_form(alloc, tables, kind, name.as_bytes())?;
+    let held = is_some_in_state(form.as_ref(), state, change);
+    Ok(held)
+}
+
+/// Whether one of the forms that are saved under names is in a state and of a change.
+fn some_is_held(
+    alloc: Global,
+    tables: &Tables,
+    kind: SpecKind,
+    state: &[u8],
+    change: &[u8],
+    names: &[Text],
+) -> Result<bool, AllocError>
+    ensures { IfOk result (λ held. (d : List Deed) → IsSound d → HasRows (rows_of tables.now) d table_ids.Domain →
+        held ≡ list_any (is_held (kind_of kind) d state.now change.now) names.now) }
+{
+    let mut rest = names;
+    while let [name, after @ ..] = rest {
+        if is_held_under(alloc, tables, kind, state, change, name)? {
+            return Ok(true);
+        }
+        rest = after;
+    }
+    Ok(false)
+}
+
+/// Whether a form of a kind is in a state and of a change.
+fn any_is_held(
+    alloc: Global,
+    tables: &Tables,
+    kind: SpecKind,
+    state: &[u8],
+    change: &[u8],
+) -> Result<bool, AllocError>
+    ensures { IfOk result (λ held. (d : List Deed) → IsSound d → HasRows (rows_of tables.now) d table_ids.Domain →
+        held ≡ list_any (is_held (kind_of kind) d state.now change.now) (keys_of (spec_name (kind_of kind)) d)) }
+{
+    let names = form_names(alloc, tables, kind)?;
+    let held = some_is_held(alloc, tables, kind, state, change, names.as_slice())?;
+    Ok(held)
+}
+
+/// The digits of a number.
+fn number_text(alloc: Global, number: u32) -> Result<Text, AllocError>
+    ensures { IfOk result (λ text. text ≡ decimal number) }
+{
+    Text::from_bytes(alloc, Buffer::new().format(number).as_bytes())
+}
+
+/// Whether a change has shelved files (Command-Line Reference, "p4 shelve"), from the table of forms alone. It looks at every shelved file.
+pub fn is_shelved(alloc: Global, tables: &Tables, change: u32) -> Result<bool, AllocError>
+    ensures { IfOk result (λ shelved. (d : List Deed) → IsSound d → HasRows (rows_of tables.now) d table_ids.Domain → shelved ≡ is_shelved_in d change) }
+{
+    let number = number_text(alloc, change)?;
+    let shelved = any_is_held(alloc, tables, SpecKind::Shelf, b"kept", number.as_bytes())?;
+    Ok(shelved)
+}
+
+/// Whether a change fixes jobs (Command-Line Reference, "p4 fix"), from the table of forms alone. It looks at every fix.
+pub fn is_fixing(alloc: Global, tables: &Tables, change: u32) -> Result<bool, AllocError>
+    ensures { IfOk result (λ fixing. (d : List Deed) → IsSound d → HasRows (rows_of tables.now) d table_ids.Domain → fixing ≡ is_fixing_in d change) }
+{
+    let number = number_text(alloc, change)?;
+    let fixing = any_is_held(alloc, tables, SpecKind::Fix, b"on", number.as_bytes())?;
+    Ok(fixing)
+}

@@ -1,0 +1,58 @@
+-- Where the arguments ask for no revision, they name what they name at the heads; and the loop over chosen files is the model's.
+use Rattle.std.proofs.Common.{◌≡◌, ℕ, Bool, true, false, List, [], ◌∷◌, refl, sym, ap, ◌∙◌}
+use Rattle.std.specs.Prelude.{filter, is_some}
+use Rattle.std.specs.List.{list_all}
+use Rattle.depot_path.specs.declared.file_spec.FileSpec.{FileSpec}
+use Rattle.depot_path.specs.declared.revision.Wanted.{Wanted}
+use Rattle.depot_path.specs.declared.revision.Wanted.TheVariants.{Head, One, Range}
+use Rattle.depot_model.specs.declared.command.FileArgument.{FileArgument}
+use Rattle.depot_model.specs.declared.request.Caller.{Caller}
+use Rattle.depot_model.specs.Arguments.{everything, named, names, over, over_all, submitted}
+use Rattle.depot_model.specs.Deeds.{Deed}
+use Rattle.depot_model.specs.Step.{Step as ModelStep}
+use Rattle.depot_model.specs.Steps.Listing.{chosen_revision, listed}
+use Rattle.depot_model.specs.WellFormed.{asks_head}
+use Rattle.depot_rows.proofs.Keys.{left-true, right-true}
+use Rattle.file_steps.proofs.Alike.{AllAlike, over_alike}
+use Rattle.named_files.specs.Sets.{at_head, is_listed}
+use Rattle.named_files.proofs.Selection.{both_tests}
+
+-- ---- arguments that ask for no revision
+
+head_is : (spec : FileSpec) (wanted : Wanted) → spec.wanted ≡ wanted → (elim wanted as (λ _. Bool) [ Head ↦ true | _ ↦ false ]) ≡ true → at_head spec ≡ spec
+head_is spec Head is asks = λ i. record { pattern = spec.pattern; wanted = sym is i }
+head_is spec (One end) is asks = absurd cc
+head_is spec (Range first second) is asks = absurd cc
+
+pub at_own_head : (a : FileArgument) → asks_head a ≡ true → at_head a.spec ≡ a.spec
+at_own_head a asks = head_is a.spec a.spec.wanted refl asks
+
+module _ (d : List Deed) (caller : Caller) (files : List (List ℕ)) where
+  abbrev pub at_heads : FileArgument → List (List ℕ)
+  at_heads a = filter (names false d caller (at_head a.spec)) files
+
+  all_heads : (arguments : List FileArgument) → list_all asks_head arguments ≡ true → AllAlike at_heads (named false d caller files) arguments
+  all_heads [] asks = tt
+  all_heads (a ∷ arguments) asks = (
+    ap (λ (spec : FileSpec). filter (names false d caller spec) files) (at_own_head a (left-true (asks_head a) (list_all asks_head arguments) asks)),
+    all_heads arguments (right-true (asks_head a) (list_all asks_head arguments) asks),
+  )
+
+  -- the loop over the files at the heads is the model's
+  pub over_heads : (missing : FileArgument → ModelStep) (act : FileArgument → List ℕ → ModelStep) (arguments : List FileArgument) → list_all asks_head arguments ≡ true
+      → over at_heads missing act [] arguments ≡ over (named false d caller files) missing act [] arguments
+  over_heads missing act arguments asks = over_alike at_heads (named false d caller files) missing act [] arguments (all_heads arguments asks)
+
+  -- also where the arguments may be absent
+  pub over_all_heads : (missing : FileArgument → ModelStep) (act : FileArgument → List ℕ → ModelStep) (arguments : List FileArgument) → list_all asks_head arguments ≡ true
+      → over_all at_heads missing act arguments ≡ over_all (named false d caller files) missing act arguments
+  over_all_heads missing act [] asks = refl
+  over_all_heads missing act (a ∷ arguments) asks = over_heads missing act (a ∷ arguments) asks
+
+-- ---- arguments that choose a revision
+
+-- the loop over the submitted files of which arguments choose a revision is the model's
+pub over_listed : (d : List Deed) (caller : Caller) (missing : FileArgument → ModelStep) (act : FileArgument → List ℕ → ModelStep) (arguments : List FileArgument)
+    → over (λ a. filter (is_listed caller d a) (submitted d)) missing act [] arguments ≡ over (listed d caller) missing act [] arguments
+over_listed d caller missing act arguments = λ i.
+    over (λ a. both_tests (λ path. is_some (chosen_revision d caller a path)) (names false d caller a.spec) (submitted d) i) missing act [] arguments

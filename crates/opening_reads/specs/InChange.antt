@@ -1,0 +1,20 @@
+-- The openings of a client in a change, 0 for the default one (Command-Line Reference, "p4 opened", "p4 submit").
+use Rattle.std.specs.Prelude.{ℕ, Bool, ◌==◌, List, [], ◌∷◌, filter, filter_map, if◌then◌else◌, Option, Some, None}
+use Rattle.db_records.specs.declared.rows.WorkingRecord.{WorkingRecord}
+use Rattle.depot_model.specs.Arguments.{opened_by}
+use Rattle.depot_model.specs.Deeds.{Deed, Opening}
+use Rattle.depot_model.specs.Opened.{opened}
+use Rattle.depot_rows.specs.declared.deed.Opening.{Opening as DeedOpening}
+use Rattle.opening_reads.specs.Read.{opening_in_row}
+
+abbrev pub is_in : ℕ → Opening → Bool
+is_in n o = o.change == n
+
+-- those of the client, in path order: of the caller's client the openings that a submit takes
+abbrev pub opened_in : List Deed → List ℕ → ℕ → List Opening
+opened_in d client n = filter (is_in n) (filter_map (opened d client) (opened_by d client))
+
+-- the opening of a row, where there is one of the change
+abbrev pub opening_in_change : List ℕ → List ℕ → ℕ → Option WorkingRecord → List DeedOpening
+opening_in_change client path n None = []
+opening_in_change client path n (Some r) = if r.change == n then opening_in_row client path r None None ∷ [] else []

@@ -1,0 +1,46 @@
+//! Numbers of changes.
+
+ghost use Rattle.std.specs.Prelude.{◌≡◌, List, IfOk, codes};
+ghost use Rattle.std.specs.Option.{option_copied};
+ghost use Rattle.db_records.specs.declared.key.Key.TheVariants as keys;
+ghost use Rattle.db_records.specs.declared.table.TableId.TheVariants as table_ids;
+ghost use Rattle.table_changes.specs.Changed.{rows_of};
+ghost use Rattle.depot_model.specs.Deeds.{Deed};
+ghost use Rattle.depot_model.specs.Numbers.{top};
+ghost use Rattle.depot_model.specs.Rules.{value_of};
+ghost use Rattle.depot_rows.specs.Standing.{HasRows};
+
+use db_records::{Key, Record, TableId};
+use depot_path::Text;
+use std::alloc::{AllocError, Global};
+use table_store::Tables;
+
+/// The value in the row of a counter, 0 where there is none.
+fn value_in(row: Option<&Record>) -> u64
+    ensures { result ≡ value_of (option_copied row.entry) }
+{
+    match row {
+        Some(Record::Counter(row)) => row.value,
+        _ => 0,
+    }
+}
+
+/// The key of the counter of changes.
+fn change_key(alloc: Global) -> Result<Key, AllocError>
+    ensures { IfOk result (λ key. key ≡ keys.Counter (codes "change")) }
+{
+    let name = Text::from_bytes(alloc, b"change")?;
+    Ok(Key::Counter { name })
+}
+
+/// The greatest number in a pending or submitted change, 0 where there is none (Command-Line Reference, "p4 change"), from the table of counters
+/// alone. The one error is want of memory.
+pub fn top_change(alloc: Global, tables: &Tables) -> Result<u64, AllocError>
+    ensures { IfOk result (λ number. (d : List Deed) → HasRows (rows_of tables.now) d table_ids.Counter → number ≡ top d) }
+{
+    let key = change_key(alloc)?;
+    let version = tables.version(TableId::Counter);
+    let row = version.get(&key);
+    let number = value_in(row);
+    Ok(number)
+}
