@@ -12,7 +12,7 @@ use Rattle.depot_model.specs.Latest.{keys_of}
 use Rattle.depot_model.specs.Opened.{opened}
 use Rattle.depot_model.specs.Steps.Opening.{opener_of, openers}
 use Rattle.depot_model.specs.Steps.Reverting.{opened_files, openers_shown}
-use Rattle.depot_rows.proofs.Keys.{same-is, same-self}
+use Rattle.depot_rows.proofs.Keys.{same-is}
 use Rattle.file_openings.proofs.Told.{named}
 
 some_kept : (test : List ℕ → Bool) (cs : List (List ℕ)) → nat_lt 0 (length (filter test cs)) ≡ list_any test cs

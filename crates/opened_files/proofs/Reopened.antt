@@ -1,7 +1,6 @@
 -- What `reopen` does with a file by its row is what the model does.
 use Rattle.std.proofs.Common.{◌≡◌, ℕ, Bool, List, Option, Some, None, refl, sym, ap, ◌∙◌}
 use Rattle.std.specs.Prelude.{option_map}
-use Rattle.depot_path.specs.Path.{is_path}
 use Rattle.db_records.specs.declared.record.Record.{Record}
 use Rattle.db_records.specs.declared.record.Record.TheVariants.{Working}
 use Rattle.db_records.specs.declared.rows.WorkingRecord.{WorkingRecord}

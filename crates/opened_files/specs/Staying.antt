@@ -1,5 +1,5 @@
 -- Locks of one client let no other client lock a file. This project's own choice.
-use Rattle.std.specs.Prelude.{refl, ℕ, Bool, true, false, not, codes, List, [], ◌∷◌, Option, Some, None, if◌then◌else◌, is_some}
+use Rattle.std.specs.Prelude.{refl, ℕ, Bool, true, false, not, List, [], ◌∷◌, Option, Some, None, if◌then◌else◌, is_some}
 use Rattle.std.proofs.Common.{inl, inr}
 use Rattle.depot_path.specs.Bytes.{same}
 use Rattle.depot_model.specs.declared.request.Caller.{Caller}
@@ -7,8 +7,7 @@ use Rattle.depot_model.specs.declared.refusal.Refusal.TheVariants.{Locked}
 use Rattle.depot_model.specs.Asking.{may_at}
 use Rattle.depot_model.specs.Deeds.{Deed, Hold}
 use Rattle.depot_model.specs.Opened.{holder, opened}
-use Rattle.depot_model.specs.Rows.{row, path_field, text_field}
-use Rattle.depot_model.specs.Step.{Step as ModelStep, after, does, refuse_if, unless}
+use Rattle.depot_model.specs.Step.{Step as ModelStep, after, refuse_if, unless}
 use Rattle.depot_model.specs.Steps.Opening.{held}
 use Rattle.depot_model.specs.Steps.Reverting.{lock_file}
 use Rattle.opened_files.specs.Locks.{NoOther, StaysFree, hold_step, locking}

@@ -14,7 +14,7 @@ ghost use Rattle.opening_reads.specs.Read.{opening_in_row};
 ghost use Rattle.opened_files.specs.Locks.{Reads};
 ghost use Rattle.opened_files.specs.Reopened.{open_step, reopening as reopening_by};
 
-use crate::changes::reopened_change_refusal;
+use command_parts::reopened_change_refusal;
 use db_records::WorkingRecord;
 use depot_model::{Caller, FileArgument, Row};
 use depot_path::{DepotPath, Name, Text};

@@ -1,4 +1,4 @@
-use Rattle.std.proofs.Common.{◌≡◌, Option, [], sym, ap, subst, ◌∙◌}
+use Rattle.std.proofs.Common.{◌≡◌, [], sym, ap, subst, ◌∙◌}
 use Rattle.std.specs.Prelude.{option_map}
 use Rattle.std.specs.Option.{option_copied}
 use Rattle.db_records.specs.declared.record.Record.TheVariants.{Working}

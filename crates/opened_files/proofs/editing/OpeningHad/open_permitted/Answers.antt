@@ -1,0 +1,33 @@
+use Rattle.std.proofs.Common.{List, ℕ, [], ◌∷◌, Option, sym, subst, ◌∙◌}
+use Rattle.std.specs.Prelude.{is_none}
+use Rattle.depot_path.specs.Path.{printed}
+use Rattle.table_changes.specs.Changed.{rows_of}
+use Rattle.depot_model.specs.declared.refusal.Refusal.TheVariants.{NotInView}
+use Rattle.depot_model.specs.Step.{Step as ModelStep, refuse_if, unless}
+use Rattle.depot_rows.specs.Deed.{action_of}
+use Rattle.reply_rows.specs.Made.{IsMade}
+use Rattle.reply_rows.proofs.Joined.{made_refusal}
+use Rattle.opened_files.specs.Opens.{opens_shown}
+use Rattle.opened_files.proofs.editing.OpeningHad.open_permitted.Goals as goal
+
+pub returns-in_ok-step-in-Some : goal.returns-in_ok-step-in-Some
+returns-in_ok-step-in-Some c = λ d e reads.
+    let own = c.args.self.now in
+    let caller = own.caller.now in
+    let path = c.args.path.now in
+    let rows = rows_of c.args.tables.now in
+    let step = c.in_ok-step-in-Some.step in
+    let by : Option (List ℕ) → ModelStep = λ p. unless (refuse_if (is_none p) (NotInView (printed path)) ∷ []) (opens_shown d caller (action_of own.action) own.change own.file_type.now p path) in
+    subst (λ (p : Option (List ℕ)). IsMade rows d e (by p) step) (sym c.in-Some.is ∙ c.in_ok-place.ensures d reads.sound reads.forms reads.revisions (reads.revisions, tt))
+    (c.in_ok-step-in-Some.ensures d e reads)
+
+pub returns-in_ok-step-in-None : goal.returns-in_ok-step-in-None
+returns-in_ok-step-in-None c = λ d e reads.
+    let own = c.args.self.now in
+    let caller = own.caller.now in
+    let path = c.args.path.now in
+    let rows = rows_of c.args.tables.now in
+    let step = c.in_ok-step-in-None.step in
+    let by : Option (List ℕ) → ModelStep = λ p. unless (refuse_if (is_none p) (NotInView (printed path)) ∷ []) (opens_shown d caller (action_of own.action) own.change own.file_type.now p path) in
+    subst (λ (p : Option (List ℕ)). IsMade rows d e (by p) step) (sym c.in-None.is ∙ c.in_ok-place.ensures d reads.sound reads.forms reads.revisions (reads.revisions, tt))
+    (made_refusal rows d e (NotInView (printed path)) c.in_ok-row-in-None.row step c.in_ok-row-in-None.ensures c.in_ok-step-in-None.ensures)

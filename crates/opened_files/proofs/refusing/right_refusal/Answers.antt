@@ -1,0 +1,25 @@
+use Rattle.std.proofs.Common.{◌≡◌, Bool, Some, sym, ap, ◌∙◌}
+use Rattle.std.specs.Prelude.{not, option_map}
+use Rattle.depot_path.specs.Path.{printed}
+use Rattle.protect_table.specs.Rights.{may}
+use Rattle.depot_model.specs.declared.refusal.Refusal.TheVariants.{Denied}
+use Rattle.depot_model.specs.declared.reply.Row.{Row}
+use Rattle.depot_model.specs.Asking.{may_at}
+use Rattle.depot_model.specs.Refusals.{refusal_row}
+use Rattle.depot_model.specs.Step.{refuse_if}
+use Rattle.opened_files.proofs.refusing.right_refusal.Goals as goal
+
+pub returns-then-may : goal.returns-then-may
+returns-then-may c = λ d caller asked.
+    let path = c.args.path.now in
+    let need = c.args.need.0 in
+    let may_is : c.may.result ≡ may_at d caller path need = c.may.ensures ∙ (λ i. may (asked.protects i) (asked.who i) path need) in
+    ap (λ (m : Bool). option_map refusal_row (refuse_if (not m) (Denied (printed path) need))) (sym c.if-may.true ∙ may_is)
+
+pub returns : goal.returns
+returns c = λ d caller asked.
+    let path = c.args.path.now in
+    let need = c.args.need.0 in
+    let may_is : c.may.result ≡ may_at d caller path need = c.may.ensures ∙ (λ i. may (asked.protects i) (asked.who i) path need) in
+    ap (λ (r : Row). Some r) c.in_ok-row.ensures
+    ∙ ap (λ (m : Bool). option_map refusal_row (refuse_if (not m) (Denied (printed path) need))) (sym c.if-may.false ∙ may_is)

@@ -1,0 +1,51 @@
+-- What `add` does with a file once it is known that the caller may open it, where the view shows it, and whether it is there; and what is read for it.
+-- This project's own choice.
+use Rattle.std.specs.Prelude.{ℕ, Bool, List, [], ◌∷◌, Option, Some, None, is_none, is_some, if◌then◌else◌}
+use Rattle.depot_path.specs.Path.{printed}
+use Rattle.depot_path.specs.declared.revision.Wanted.TheVariants.{Head}
+use Rattle.db_records.specs.declared.table.TableId.TheVariants as table_ids
+use Rattle.table_changes.specs.Changed.{AllRows}
+use Rattle.view_map.specs.Mapping.{files_at}
+use Rattle.depot_model.specs.declared.command.FileArgument.{FileArgument}
+use Rattle.depot_model.specs.declared.request.Caller.{Caller}
+use Rattle.depot_model.specs.declared.refusal.Refusal.{Refusal}
+use Rattle.depot_model.specs.declared.refusal.Refusal.TheVariants.{AlreadyOpen, Exists, NotInView}
+use Rattle.depot_model.specs.Arguments.{in_client_syntax}
+use Rattle.depot_model.specs.Choice.{shown}
+use Rattle.depot_model.specs.Deeds.{Deed}
+use Rattle.depot_model.specs.Opened.{opened}
+use Rattle.depot_model.specs.Revisions.{is_live_head}
+use Rattle.depot_model.specs.Rules.{IsSound}
+use Rattle.depot_model.specs.Step.{Step, refuse_if, unless}
+use Rattle.depot_model.specs.Steps.Adding.{first_live, opening}
+use Rattle.depot_model.specs.Steps.Opening.{exclusive_refusal}
+use Rattle.depot_rows.specs.Standing.{HasRows}
+use Rattle.named_files.specs.Asked.{IsAsker}
+use Rattle.named_files.specs.declared.asker.Asker.{Asker}
+use Rattle.opened_files.specs.Opens.{open_step}
+
+-- the file of a path that an argument spells
+abbrev pub spelled_file : List Deed → Asker → FileArgument → List ℕ → Option (List ℕ)
+spelled_file d asker argument path =
+    if in_client_syntax asker.client argument.spec.pattern then first_live d (files_at asker.view path) else Some path
+
+-- why a file can't be made anew: it is opened, or there, or another client has it opened alone
+abbrev pub new_refusal : List ℕ → Bool → Bool → Option Refusal → Option Refusal
+new_refusal path is_open there barred = if is_open then Some (AlreadyOpen path) else (if there then Some (Exists path) else barred)
+
+abbrev pub adds_shown : List Deed → Caller → Option ℕ → List ℕ → List ℕ → Option (List ℕ) → Step
+adds_shown d caller change type path place =
+    unless (new_refusal path (is_some (opened d caller.client path)) (is_live_head d path) (exclusive_refusal d path caller.client type) ∷ [])
+    (open_step (opening d caller change type path) place)
+
+-- unless the view doesn't show it
+abbrev pub adds_permitted : List Deed → Caller → Option ℕ → List ℕ → List ℕ → Step
+adds_permitted d caller change type path =
+    unless (refuse_if (is_none (shown d caller Head path)) (NotInView (printed path)) ∷ []) (adds_shown d caller change type path (shown d caller Head path))
+
+-- the asker is that of the depot, and so are the opened files and the revisions
+pub record Reads (caller : Caller) (asker : Asker) (rows : AllRows) (d : List Deed) : Type 0 where
+  pub sound : IsSound d
+  pub asked : IsAsker d caller asker
+  pub listed : HasRows rows d table_ids.Working
+  pub revisions : HasRows rows d table_ids.Rev

@@ -1,0 +1,391 @@
+//! `add` (Command-Line Reference, "p4 add").
+
+ghost use Rattle.std.specs.Prelude.{◌≡◌, [], List, IfOk, None, Some, codes, is_some, option_map, true, unwrap_or};
+ghost use Rattle.std.specs.List.{list_all};
+ghost use Rattle.std.specs.Option.{option_to_list};
+ghost use Rattle.db_records.specs.declared.table.TableId.TheVariants as table_ids;
+ghost use Rattle.table_changes.specs.Changed.{rows_of};
+ghost use Rattle.depot_model.specs.Arguments as arguments_of;
+ghost use Rattle.depot_model.specs.Deeds.{Deed};
+ghost use Rattle.depot_model.specs.Opened.{opened};
+ghost use Rattle.depot_model.specs.Refusals.{refusal_row};
+ghost use Rattle.depot_model.specs.Revisions.{is_live_head as live_head};
+ghost use Rattle.depot_model.specs.Rules.{IsSound};
+ghost use Rattle.depot_model.specs.Step.{refuses};
+ghost use Rattle.depot_model.specs.Steps.Adding as model;
+ghost use Rattle.depot_model.specs.Steps.Opening.{exclusive_refusal as exclusive_refusal_in};
+ghost use Rattle.depot_model.specs.WellFormed.{spells_path};
+ghost use Rattle.depot_model.specs.declared.refusal.Refusal.TheVariants as refusals;
+ghost use Rattle.depot_path.specs.Path.{printed};
+ghost use Rattle.depot_rows.specs.Standing.{HasRows};
+ghost use Rattle.reply_rows.specs.Made.{IsMade};
+ghost use Rattle.opened_files.specs.Adds.{Reads, adds_permitted, adds_shown, new_refusal as new_refusal_by, spelled_file as file_spelled};
+ghost use Rattle.opened_files.specs.Opens.{open_step};
+
+use crate::editing::open_file;
+use crate::refusing::{exclusive_refusal, right_refusal, unseen_row};
+use command_parts::named_change_refusal;
+use depot_model::{Caller, FileArgument, Row};
+use depot_path::{ClientPath, DepotPath, Name, Sequence, Text, Wanted};
+use depot_rows::{Action, Opening};
+use file_openings::opening_of;
+use file_steps::{FileAct, FileFinder, over_found, within_files};
+use named_files::{Asker, spelled_path};
+use protect_table::Level;
+use reply_rows::{Step, already_open_row, exists_row, not_in_view_row};
+use revision_reads::{file_at, head_of, is_live_head, shown_in_view};
+use row_reads::in_client_syntax;
+use std::alloc::{AllocError, Global};
+use table_store::Tables;
+
+/// The files that `add` takes.
+#[derive(Drop)]
+struct FilesToAdd<'a> {
+    caller: &'a Caller,
+    asker: &'a Asker,
+}
+
+/// What `add` does with a file.
+#[derive(Drop)]
+struct Adding<'a> {
+    caller: &'a Caller,
+    asker: &'a Asker,
+    change: Option<u32>,
+    file_type: &'a Text,
+}
+
+/// The file of a path that an argument spells: itself, or in client syntax that of the place.
+fn spelled_file(
+    alloc: Global,
+    tables: &Tables,
+    asker: &Asker,
+    argument: &FileArgument,
+    path: DepotPath,
+) -> Result<Option<DepotPath>, AllocError>
+    ensures { IfOk result (λ file. (d : List Deed) → IsSound d → HasRows (rows_of tables.now) d table_ids.Rev → file ≡ file_spelled d asker.now argument.now path) }
+{
+    if in_client_syntax(&asker.client, &argument.spec.pattern) {
+        let file = file_at(alloc, tables, &asker.view, &path)?;
+        Ok(file)
+    } else {
+        Ok(Some(path))
+    }
+}
+
+/// The list of a file, if there is one.
+fn in_list(alloc: Global, file: Option<DepotPath>) -> Result<Sequence<DepotPath>, AllocError>
+    ensures { IfOk result (λ files. files ≡ option_to_list file) }
+{
+    let mut files = Sequence::new(alloc);
+    if let Some(file) = file {
+        files.push(file)?;
+    }
+    Ok(files)
+}
+
+impl<'a> FileFinder for FilesToAdd<'a> {
+    ghost use Rattle.std.specs.Prelude.{◌∷◌, []};
+    ghost use Rattle.depot_path.specs.Path.{printed};
+    ghost use Rattle.depot_model.specs.Refusals.{refusal_row};
+    ghost use Rattle.depot_model.specs.Steps.Adding.{files_to_add, spelled};
+    ghost use Rattle.depot_model.specs.declared.refusal.Refusal.TheVariants as refusals;
+    ghost use Rattle.opened_files.specs.Adds.{Reads};
+
+    ghost reads = { λ finder rows d. Reads finder.caller.now finder.asker.now rows d };
+
+    ghost found = { λ finder d argument. files_to_add d finder.caller.now argument };
+
+    ghost rows_without = { λ finder argument. refusal_row (refusals.NotInView (printed (spelled argument))) ∷ [] };
+
+    fn find(
+        &self,
+        alloc: Global,
+        tables: &Tables,
+        argument: &FileArgument,
+    ) -> Result<Sequence<DepotPath>, AllocError> {
+        let spelled = spelled_path(alloc, argument)?;
+        match spelled {
+            Some(path) => {
+                let file = spelled_file(alloc, tables, self.asker, argument, path)?;
+                let files = in_list(alloc, file)?;
+                Ok(files)
+            }
+            None => Ok(Sequence::new(alloc)),
+        }
+    }
+
+    fn missing(&self, alloc: Global, argument: &FileArgument) -> Result<Step, AllocError> {
+        let spelled = spelled_path(alloc, argument)?;
+        match spelled {
+            Some(path) => {
+                let row = unseen_row(alloc, &path)?;
+                let step = Step::tells(alloc, row)?;
+                Ok(step)
+            }
+            None => {
+                let row = not_in_view_row(alloc, argument.text.as_bytes())?;
+                let step = Step::tells(alloc, row)?;
+                Ok(step)
+            }
+        }
+    }
+}
+
+/// Whether a client has a file opened.
+fn is_opened(
+    alloc: Global,
+    tables: &Tables,
+    client: &Name,
+    path: &DepotPath,
+) -> Result<bool, AllocError>
+    ensures { IfOk result (λ opened_now. (d : List Deed) → HasRows (rows_of tables.now) d table_ids.Working → opened_now ≡ is_some (opened d client.now path.now)) }
+{
+    let row = opening_of(alloc, tables, client, path)?;
+    Ok(row.is_some())
+}
+
+/// The row that refuses a file that can't be made anew, since this client has it opened, or it is there, or another client has it opened alone, from
+/// the tables of opened files and revisions alone. The one error is want of memory.
+pub(crate) fn new_refusal(
+    alloc: Global,
+    tables: &Tables,
+    path: &DepotPath,
+    client: &Name,
+    file_type: &Text,
+    is_open: bool,
+) -> Result<Option<Row>, AllocError>
+    ensures { IfOk result (λ row. (d : List Deed) → IsSound d → HasRows (rows_of tables.now) d table_ids.Working → HasRows (rows_of tables.now) d table_ids.Rev →
+        row ≡ option_map refusal_row (new_refusal_by path.now is_open (live_head d path.now) (exclusive_refusal_in d path.now client.now file_type.now))) }
+{
+    if is_open {
+        let row = already_open_row(alloc, path)?;
+        return Ok(Some(row));
+    }
+    let there = is_live_head(alloc, tables, path)?;
+    if there {
+        let row = exists_row(alloc, path)?;
+        return Ok(Some(row));
+    }
+    let row = exclusive_refusal(alloc, tables, path, client, file_type)?;
+    Ok(row)
+}
+
+/// The opening that adds a file.
+fn new_opening(
+    caller: &Caller,
+    path: &DepotPath,
+    base: u32,
+    change: Option<u32>,
+    file_type: &Text,
+) -> Result<Opening, AllocError>
+    ensures { IfOk result (λ opening. opening ≡ record {
+      client = caller.now.client;
+      path = path.now;
+      base = base;
+      action = Action.Add;
+      file_type = file_type.now;
+      change = unwrap_or change 0;
+      source = None;
+      moved = None;
+    }) }
+{
+    let client = caller.client.clone()?;
+    let path = path.clone()?;
+    let file_type = file_type.clone()?;
+    Ok(Opening {
+        client,
+        path,
+        base,
+        action: Action::Add,
+        file_type,
+        change: change.unwrap_or(0),
+        source: None,
+        moved: None,
+    })
+}
+
+/// The step that adds a file.
+fn add_new(
+    alloc: Global,
+    tables: &Tables,
+    caller: &Caller,
+    path: &DepotPath,
+    place: &ClientPath,
+    change: Option<u32>,
+    file_type: &Text,
+) -> Result<Step, AllocError>
+    ensures { IfOk result (λ step. (d e : List Deed) → IsSound d → HasRows (rows_of tables.now) d table_ids.Rev →
+        IsMade (rows_of tables.now) d e (open_step (model.opening d caller.now change file_type.now path.now) (Some place.now)) step) }
+{
+    let base = head_of(alloc, tables, path)?;
+    let opening = new_opening(caller, path, base, change, file_type)?;
+    let step = open_file(alloc, opening, place)?;
+    Ok(step)
+}
+
+impl<'a> Adding<'a> {
+    /// What is done with a file that the view shows.
+    fn add_shown(
+        &self,
+        alloc: Global,
+        tables: &Tables,
+        path: &DepotPath,
+        place: &ClientPath,
+    ) -> Result<Step, AllocError>
+        ensures { IfOk result (λ step. (d e : List Deed) → Reads self.now.caller.now self.now.asker.now (rows_of tables.now) d →
+            IsMade (rows_of tables.now) d e (adds_shown d self.now.caller.now self.now.change self.now.file_type.now path.now (Some place.now)) step) }
+    {
+        let client = &self.caller.client;
+        let open = is_opened(alloc, tables, client, path)?;
+        let refusal = new_refusal(alloc, tables, path, client, self.file_type, open)?;
+        match refusal {
+            Some(row) => {
+                let step = Step::tells(alloc, row)?;
+                Ok(step)
+            }
+            None => {
+                let step = add_new(
+                    alloc,
+                    tables,
+                    self.caller,
+                    path,
+                    place,
+                    self.change,
+                    self.file_type,
+                )?;
+                Ok(step)
+            }
+        }
+    }
+
+    /// What is done with a file that the caller may open.
+    fn add_permitted(
+        &self,
+        alloc: Global,
+        tables: &Tables,
+        path: &DepotPath,
+    ) -> Result<Step, AllocError>
+        ensures { IfOk result (λ step. (d e : List Deed) → Reads self.now.caller.now self.now.asker.now (rows_of tables.now) d →
+            IsMade (rows_of tables.now) d e (adds_permitted d self.now.caller.now self.now.change self.now.file_type.now path.now) step) }
+    {
+        let view = &self.asker.view;
+        let place = shown_in_view(alloc, tables, self.caller, view, path, &Wanted::Head)?;
+        match place {
+            Some(place) => {
+                let step = self.add_shown(alloc, tables, path, &place)?;
+                Ok(step)
+            }
+            None => {
+                let row = unseen_row(alloc, path)?;
+                let step = Step::tells(alloc, row)?;
+                Ok(step)
+            }
+        }
+    }
+}
+
+impl<'a> FileAct for Adding<'a> {
+    ghost use Rattle.depot_model.specs.Steps.Adding.{add_file};
+    ghost use Rattle.opened_files.specs.Adds.{Reads};
+
+    ghost reads = { λ act rows d. Reads act.caller.now act.asker.now rows d };
+
+    ghost acts = { λ act d argument path. add_file d act.caller.now act.change act.file_type.now path };
+
+    ghost is_later = { λ act d e. Unit {0} };
+
+    fn act(
+        &self,
+        alloc: Global,
+        tables: &Tables,
+        _argument: &FileArgument,
+        path: &DepotPath,
+    ) -> Result<Step, AllocError> {
+        let refusal = right_refusal(alloc, self.asker, path, Level(3))?;
+        match refusal {
+            Some(row) => {
+                let step = Step::tells(alloc, row)?;
+                Ok(step)
+            }
+            None => {
+                let step = self.add_permitted(alloc, tables, path)?;
+                Ok(step)
+            }
+        }
+    }
+
+    ghost first = { λ act d. tt };
+
+    ghost next = { λ act d e argument path later. tt };
+}
+
+/// The type that is asked for, or else `text`.
+fn type_or_text(alloc: Global, file_type: &Option<Text>) -> Result<Text, AllocError>
+    ensures { IfOk result (λ text. text ≡ unwrap_or file_type.now (codes "text")) }
+{
+    match file_type {
+        Some(file_type) => file_type.clone(),
+        None => Text::from_bytes(alloc, b"text"),
+    }
+}
+
+/// `add` of an asker, where the change isn't refused.
+fn add_paths(
+    alloc: Global,
+    tables: &Tables,
+    caller: &Caller,
+    asker: &Asker,
+    change: Option<u32>,
+    file_type: &Option<Text>,
+    arguments: &[FileArgument],
+) -> Result<Step, AllocError>
+    ensures { IfOk result (λ step. (d : List Deed) → list_all spells_path arguments.now ≡ true → Reads caller.now asker.now (rows_of tables.now) d →
+        IsMade (rows_of tables.now) d d
+        (arguments_of.within_files (arguments_of.over (model.files_to_add d caller.now) (λ a. refuses (refusals.NotInView (printed (model.spelled a))))
+        (λ _. model.add_file d caller.now change (unwrap_or file_type.now (codes "text"))) [] arguments.now)) step) }
+{
+    let own_type = type_or_text(alloc, file_type)?;
+    let files = FilesToAdd { caller, asker };
+    let adding = Adding {
+        caller,
+        asker,
+        change,
+        file_type: &own_type,
+    };
+    let added = over_found(alloc, tables, &files, &adding, arguments);
+    drop(own_type);
+    let done = added?;
+    let step = within_files(alloc, done)?;
+    Ok(step)
+}
+
+/// `add [-c CHANGE] [-t TYPE] PATH...`: opens files that aren't there, to add them with a submit, each argument being a path, from the tables of
+/// groups, protections, forms, changes, opened files and revisions alone. The one error is want of memory.
+pub fn add(
+    alloc: Global,
+    tables: &Tables,
+    caller: &Caller,
+    change: Option<u32>,
+    file_type: &Option<Text>,
+    arguments: &[FileArgument],
+) -> Result<Step, AllocError>
+    ensures { IfOk result (λ step. (d : List Deed) → list_all spells_path arguments.now ≡ true → IsSound d → HasRows (rows_of tables.now) d table_ids.Group →
+        HasRows (rows_of tables.now) d table_ids.Protect → HasRows (rows_of tables.now) d table_ids.Domain → HasRows (rows_of tables.now) d table_ids.Change →
+        HasRows (rows_of tables.now) d table_ids.Working → HasRows (rows_of tables.now) d table_ids.Rev →
+        IsMade (rows_of tables.now) d d (model.add d caller.now change file_type.now arguments.now) step) }
+{
+    let refusal = named_change_refusal(alloc, tables, caller, change)?;
+    match refusal {
+        Some(row) => {
+            let step = Step::tells(alloc, row)?;
+            Ok(step)
+        }
+        None => {
+            let asker = Asker::of(alloc, tables, caller)?;
+            let done = add_paths(alloc, tables, caller, &asker, change, file_type, arguments);
+            drop(asker);
+            let step = done?;
+            Ok(step)
+        }
+    }
+}

@@ -1,0 +1,75 @@
+//! What a client has of a file that it is to open.
+
+ghost use Rattle.std.specs.Prelude.{◌≡◌, List, IfOk, codes, option_map, unwrap_or};
+ghost use Rattle.std.specs.Option.{option_copied};
+ghost use Rattle.db_records.specs.declared.table.TableId.TheVariants as table_ids;
+ghost use Rattle.table_changes.specs.Changed.{rows_of};
+ghost use Rattle.depot_model.specs.Deeds.{Deed};
+ghost use Rattle.depot_model.specs.Steps.Editing as model;
+ghost use Rattle.depot_rows.specs.Standing.{HasRows};
+ghost use Rattle.opened_files.specs.Opens.{type_in};
+
+use crate::copies::own_text;
+use db_records::RevRecord;
+use depot_model::Caller;
+use depot_path::{DepotPath, Text};
+use revision_reads::revision_of;
+use row_reads::have_of;
+use std::alloc::{AllocError, Global};
+use table_store::Tables;
+
+/// The type of a revision, `text` where there is none.
+fn type_of(alloc: Global, row: Option<&RevRecord>) -> Result<Text, AllocError>
+    ensures { IfOk result (λ text. text ≡ type_in (option_copied row.entry)) }
+{
+    match row {
+        Some(row) => {
+            let file_type = row.file_type.clone()?;
+            Ok(file_type)
+        }
+        None => {
+            let file_type = Text::from_bytes(alloc, b"text")?;
+            Ok(file_type)
+        }
+    }
+}
+
+/// The type of the revision of a file that the caller's client has, `text` where it has none (Command-Line Reference, "p4 edit"), from the tables of
+/// have lists and revisions alone. The one error is want of memory.
+pub fn had_type(
+    alloc: Global,
+    tables: &Tables,
+    caller: &Caller,
+    path: &DepotPath,
+) -> Result<Text, AllocError>
+    ensures { IfOk result (λ file_type. (d : List Deed) → HasRows (rows_of tables.now) d table_ids.Have → HasRows (rows_of tables.now) d table_ids.Rev →
+        file_type ≡ model.had_type d caller.now path.now) }
+{
+    let rev = have_of(alloc, tables, &caller.client, path)?;
+    let row = revision_of(alloc, tables, path, rev)?;
+    let file_type = type_of(alloc, row)?;
+    Ok(file_type)
+}
+
+/// The type that is asked for, or else that of the revision that the client has.
+pub(crate) fn first_type(
+    alloc: Global,
+    tables: &Tables,
+    caller: &Caller,
+    path: &DepotPath,
+    asked: &Option<Text>,
+) -> Result<Text, AllocError>
+    ensures { IfOk result (λ file_type. (d : List Deed) → HasRows (rows_of tables.now) d table_ids.Have → HasRows (rows_of tables.now) d table_ids.Rev →
+        file_type ≡ unwrap_or asked.now (model.had_type d caller.now path.now)) }
+{
+    match asked {
+        Some(asked) => {
+            let file_type = own_text(asked)?;
+            Ok(file_type)
+        }
+        None => {
+            let file_type = had_type(alloc, tables, caller, path)?;
+            Ok(file_type)
+        }
+    }
+}
