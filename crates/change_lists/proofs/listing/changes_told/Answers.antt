@@ -1,0 +1,31 @@
+use Rattle.std.proofs.Common.{◌≡◌, ◌≤◌, Bool, true, false, List, [], ◌∷◌, ℕ, length, refl, sym, ap, arith, ◌∙◌, ◌++◌}
+use Rattle.std.specs.Prelude.{◌==◌, flat_map}
+use Rattle.std.proofs.lemmas.Bool.{true≢false}
+use Rattle.std.proofs.lemmas.Bool.Decides.{nat_tests}
+use Rattle.depot_model.specs.declared.command.FileArgument.{FileArgument}
+use Rattle.depot_model.specs.declared.reply.Row.{Row}
+use Rattle.depot_model.specs.Steps.Changes.{at_most, missing, numbers}
+use Rattle.change_lists.specs.Listed.{rows_of_numbers}
+use Rattle.change_lists.proofs.ListedRows.{rows_are}
+use Rattle.change_lists.proofs.listing.changes_told.Goals as goal
+
+not_zero : (m : ℕ) → 1 ≤ m → (m == 0) ≡ false
+not_zero m h = grind (arith, nat_tests)
+
+empty_is : (l : List FileArgument) (b : Bool) → b ≡ (length l == 0) → b ≡ true → l ≡ []
+empty_is [] b e t = refl
+empty_is (a ∷ l) b e t = absurd (true≢false (sym t ∙ e ∙ not_zero (length (a ∷ l)) (omega arith)))
+
+pub returns : goal.returns
+returns c = λ d reads.
+    let caller = c.args.caller.now in
+    let files = c.args.files.now in
+    let all = c.is_empty.result in
+    let made = c.deref.result.now in
+    let told = rows_of_numbers d caller c.args.status.now c.args.user.now c.args.client.now all made (numbers d) in
+    c.in_ok-tell_all.ensures d reads.sound reads.asked reads.has_change reads.has_rev
+    ∙ ap (λ (l : List Row). l ++ at_most c.args.most told) (c.in_ok-made.ensures.rows d reads ∙ ap (λ (l : List Row). l ++ flat_map (missing d caller) files) c.new-rows.ensures)
+    ∙ ap (λ (l : List Row). flat_map (missing d caller) files ++ l)
+    (sym (rows_are d caller c.args.status.now c.args.user.now c.args.client.now c.args.most all made files (empty_is files all c.is_empty.ensures)
+    (λ none. c.is_empty.ensures ∙ ap (λ (l : List FileArgument). length l == 0) none)
+    (c.deref.ensures.value ∙ c.in_ok-made.ensures.made d reads)))

@@ -1,0 +1,15 @@
+use Rattle.std.proofs.Common.{Bor, Option, sym, ap, ◌∙◌}
+use Rattle.std.specs.Prelude.{option_map}
+use Rattle.std.specs.Option.{option_copied}
+use Rattle.db_records.specs.declared.record.Record.{Record}
+use Rattle.db_records.specs.declared.record.Record.TheVariants as records
+use Rattle.db_records.specs.declared.rows.ChangeRecord.{ChangeRecord}
+use Rattle.change_lists.specs.Listed.{told_of}
+use Rattle.change_lists.proofs.listing.tell_change.Goals as goal
+
+pub returns-in_ok-told-in-Some : goal.returns-in_ok-told-in-Some
+returns-in_ok-told-in-Some c = λ d sound asked has_change has_rev are.
+    let f = c.args.filter.now in
+    c.in_ok-told-in-Some.ensures d sound asked has_rev are
+    ∙ ap (λ (r : Option Record). told_of d c.args.caller.now f.status.now f.user.now f.client.now r)
+    (ap (λ (o : Option (Bor ChangeRecord)). option_map records.Change (option_copied o)) (sym c.in-Some.is) ∙ c.change_of-found.ensures d has_change)

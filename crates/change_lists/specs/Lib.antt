@@ -1,0 +1,7 @@
+pub mod Deleting
+pub mod Describing
+pub mod Files
+pub mod Listed
+pub mod Lines
+pub mod Saving
+pub mod Showing
