@@ -1,1 +1,3 @@
 pub mod Having
+pub mod Placing
+pub mod Syncing

@@ -2,5 +2,10 @@
 #![tactic(auto)]
 
 mod having;
+mod placing;
+mod rows;
+mod syncing;
 
 pub use having::have;
+pub use placing::where_is;
+pub use syncing::sync;

@@ -1,0 +1,11 @@
+use Rattle.std.proofs.Common.{List, ap, ◌∙◌}
+use Rattle.view_map.specs.Mapping.{path_in}
+use Rattle.view_map.specs.declared.line.ViewLine.{ViewLine}
+use Rattle.have_sync.specs.Syncing.{sync_row_of}
+use Rattle.have_sync.proofs.rows.shown_row.Goals as goal
+
+pub returns : goal.returns
+returns c = λ d caller asked has.
+    let path = c.args.path.now in
+    c.in_ok-row.ensures
+    ∙ (λ i. sync_row_of path ((c.in_ok-place.ensures ∙ ap (λ (v : List ViewLine). path_in v path) asked.view) i) c.args.rev c.args.action.now (c.in_ok-size.ensures d has i))

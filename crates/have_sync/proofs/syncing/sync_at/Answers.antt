@@ -1,0 +1,27 @@
+use Rattle.std.proofs.Common.{ℕ, subst, sym, ap, ◌∙◌}
+use Rattle.std.specs.Prelude.{option_map}
+use Rattle.std.specs.Option.{option_copied}
+use Rattle.db_records.specs.declared.record.Record.TheVariants.{Working}
+use Rattle.table_changes.specs.Changed.{rows_of}
+use Rattle.depot_model.specs.Steps.Syncing.{sync_have}
+use Rattle.reply_rows.specs.Made.{IsMade}
+use Rattle.have_sync.proofs.Synced.{where_not, where_opened}
+use Rattle.have_sync.proofs.syncing.sync_at.Goals as goal
+
+pub returns-in_ok-step-in-Some : goal.returns-in_ok-step-in-Some
+returns-in_ok-step-in-Some c = λ d e reads.
+    let syncing = c.args.syncing.now in
+    where_opened (rows_of c.args.tables.now) d e syncing.caller.now syncing.again c.args.argument.now c.args.path.now c.args.rev c.in_ok-step-in-Some.step c.in-Some.row.now
+    (ap (λ r. option_map Working (option_copied r)) (sym c.in-Some.is) ∙ c.in_ok-row.ensures d reads.working)
+    (λ o is. c.in_ok-step-in-Some.ensures d e o reads is)
+
+pub returns-in_ok-step-in-None : goal.returns-in_ok-step-in-None
+returns-in_ok-step-in-None c = λ d e reads.
+    let syncing = c.args.syncing.now in
+    let caller = syncing.caller.now in
+    let path = c.args.path.now in
+    let rows = rows_of c.args.tables.now in
+    let step = c.in_ok-step-in-None.step in
+    where_not rows d e caller syncing.again c.args.argument.now path c.args.rev step
+    (ap (λ r. option_map Working (option_copied r)) (sym c.in-None.is) ∙ c.in_ok-row.ensures d reads.working)
+    (subst (λ (n : ℕ). IsMade rows d e (sync_have syncing.again d caller path n) step) (c.in_ok-wanted-in-None.ensures d reads) (c.in_ok-step-in-None.ensures d e reads))

@@ -1,0 +1,388 @@
+//! `sync` (Command-Line Reference, "p4 sync").
+
+ghost use Rattle.std.specs.Prelude.{◌≡◌, ◌<◌, List, IfOk, is_some};
+ghost use Rattle.std.specs.Option.{option_copied};
+ghost use Rattle.db_records.specs.declared.table.TableId.TheVariants as table_ids;
+ghost use Rattle.table_changes.specs.Changed.{AllRows, rows_of};
+ghost use Rattle.depot_model.specs.Choice as choices;
+ghost use Rattle.depot_model.specs.Choice.{chosen, shown as shown_in};
+ghost use Rattle.depot_model.specs.Deeds.{Deed, Opening};
+ghost use Rattle.depot_model.specs.Rules.{IsSound};
+ghost use Rattle.depot_model.specs.Step.{Step as ModelStep};
+ghost use Rattle.depot_model.specs.Steps.Syncing as model;
+ghost use Rattle.depot_rows.specs.Standing.{HasRows};
+ghost use Rattle.reply_rows.specs.Made.{IsMade};
+ghost use Rattle.have_sync.specs.Syncing.{Reads, get_step, owe_step, reaches as reaches_in};
+
+use crate::rows::{changed_row, shown_row};
+use db_records::ResolveRecord;
+use deed_list::Deeds;
+use depot_model::{Caller, FileArgument};
+use depot_path::{DepotPath, Name};
+use depot_rows::Owing;
+use file_openings::opening_of;
+use file_steps::{FileAct, over_all, within_files};
+use named_files::{Asker, Listing, ShownFiles};
+use opening_reads::{held, owed_of};
+use protect_table::Level;
+use reply_rows::{Step, denied_row};
+use revision_reads::{Chosen, chosen_of, is_live_at, shown_by};
+use row_reads::have_of;
+use std::alloc::{AllocError, Global};
+use table_store::Tables;
+
+/// What `sync` does with a file.
+#[derive(Drop)]
+struct Syncing<'a> {
+    caller: &'a Caller,
+    asker: &'a Asker,
+    again: bool,
+}
+
+/// What becomes of the revision in the have list, 0 for none; None where nothing is to be done.
+fn sync_word(again: bool, had: u32, wanted: u32) -> Option<&'static [u8]>
+    ensures { option_copied result ≡ model.sync_word again had wanted }
+{
+    if had == 0 {
+        if wanted == 0 { None } else { Some(b"added") }
+    } else if wanted == 0 {
+        Some(b"deleted")
+    } else if had == wanted {
+        if again { Some(b"refreshed") } else { None }
+    } else {
+        Some(b"updated")
+    }
+}
+
+/// The step of a file whose revision in the have list becomes another one, or is fetched again.
+fn get(
+    alloc: Global,
+    tables: &Tables,
+    caller: &Caller,
+    asker: &Asker,
+    path: &DepotPath,
+    had: u32,
+    wanted: u32,
+    word: &[u8],
+) -> Result<Step, AllocError>
+    ensures { IfOk result (λ step. (d e : List Deed) → Reads caller.now asker.now (rows_of tables.now) d →
+        IsMade (rows_of tables.now) d e (get_step d caller.now path.now had wanted word.now) step) }
+{
+    // the bytes of a path are one
+    let _bytes = path.as_bytes();
+    let stays = had == wanted;
+    if stays {
+        let told = changed_row(alloc, tables, asker, path, had, wanted, word)?;
+        let again = Step::tells(alloc, told)?;
+        return Ok(again);
+    }
+    let file = held(&caller.client, path)?;
+    let row = changed_row(alloc, tables, asker, path, had, wanted, word)?;
+    let step = Step::gets(alloc, file, wanted, row)?;
+    Ok(step)
+}
+
+/// What is done with a file that the client hasn't opened, and is to have at a revision, 0 for none.
+fn sync_have(
+    alloc: Global,
+    tables: &Tables,
+    caller: &Caller,
+    asker: &Asker,
+    again: bool,
+    path: &DepotPath,
+    wanted: u32,
+) -> Result<Step, AllocError>
+    ensures { IfOk result (λ step. (d e : List Deed) → Reads caller.now asker.now (rows_of tables.now) d →
+        IsMade (rows_of tables.now) d e (model.sync_have again d caller.now path.now wanted) step) }
+{
+    let had = have_of(alloc, tables, &caller.client, path)?;
+    let said = sync_word(again, had, wanted);
+    match said {
+        Some(word) => {
+            let step = get(alloc, tables, caller, asker, path, had, wanted, word)?;
+            Ok(step)
+        }
+        None => {
+            let step = Step::new(alloc);
+            Ok(step)
+        }
+    }
+}
+
+/// Whether a row is of a resolve up to a revision or more.
+fn reaches(row: Option<&ResolveRecord>, rev: u32) -> bool
+    ensures { result ≡ reaches_in (option_copied row.entry) rev }
+{
+    match row {
+        Some(row) => rev <= row.last,
+        None => false,
+    }
+}
+
+/// The resolve of a file from itself.
+fn owing(client: &Name, path: &DepotPath, first: u32, last: u32) -> Result<Owing, AllocError>
+    ensures { IfOk result (λ owing. owing ≡ record { client = client.now; path = path.now; from = path.now; first = first; last = last }) }
+{
+    let client = client.clone()?;
+    let from = path.clone()?;
+    let path = path.clone()?;
+    Ok(Owing {
+        client,
+        path,
+        from,
+        first,
+        last,
+    })
+}
+
+/// The step of an opened file that gets a resolve.
+fn owe(
+    alloc: Global,
+    tables: &Tables,
+    caller: &Caller,
+    asker: &Asker,
+    path: &DepotPath,
+    base: u32,
+    rev: u32,
+) -> Result<Step, AllocError>
+    requires { base < rev }
+    ensures { IfOk result (λ step. (d e : List Deed) → Reads caller.now asker.now (rows_of tables.now) d →
+        IsMade (rows_of tables.now) d e (owe_step d caller.now path.now base rev) step) }
+{
+    // the bytes of a path are one
+    let _bytes = path.as_bytes();
+    let owing = owing(&caller.client, path, base + 1, rev)?;
+    let row = shown_row(alloc, tables, asker, path, rev, b"owed")?;
+    let step = Step::owes(alloc, owing, row)?;
+    Ok(step)
+}
+
+/// What is done with a file that the client has opened from a revision.
+fn sync_opened(
+    alloc: Global,
+    tables: &Tables,
+    caller: &Caller,
+    asker: &Asker,
+    path: &DepotPath,
+    base: u32,
+    rev: u32,
+) -> Result<Step, AllocError>
+    ensures { IfOk result (λ step. (d e : List Deed) (o : Opening) → Reads caller.now asker.now (rows_of tables.now) d → o.base ≡ base →
+        IsMade (rows_of tables.now) d e (model.sync_opened d caller.now o path.now rev) step) }
+{
+    let current = rev <= base;
+    if current {
+        let nothing = Step::new(alloc);
+        return Ok(nothing);
+    }
+    let row = owed_of(alloc, tables, &caller.client, path, path)?;
+    let owed = reaches(row, rev);
+    if owed {
+        let waits = Step::new(alloc);
+        Ok(waits)
+    } else {
+        let step = owe(alloc, tables, caller, asker, path, base, rev)?;
+        Ok(step)
+    }
+}
+
+/// Whether the client's view shows a file at the choice of the argument.
+fn is_shown(
+    alloc: Global,
+    tables: &Tables,
+    caller: &Caller,
+    asker: &Asker,
+    argument: &FileArgument,
+    path: &DepotPath,
+) -> Result<bool, AllocError>
+    ensures { IfOk result (λ shown. (d : List Deed) → Reads caller.now asker.now (rows_of tables.now) d → shown ≡ is_some (shown_in d caller.now argument.now.spec.wanted path.now)) }
+{
+    let wanted = &argument.spec.wanted;
+    let place = shown_by(alloc, tables, caller, &asker.view, path, wanted)?;
+    let shown = place.is_some();
+    drop(place);
+    Ok(shown)
+}
+
+/// The revision that the client is to have where one is chosen, 0 for none.
+fn wanted_rev(
+    alloc: Global,
+    tables: &Tables,
+    caller: &Caller,
+    asker: &Asker,
+    argument: &FileArgument,
+    path: &DepotPath,
+    rev: u32,
+) -> Result<u32, AllocError>
+    ensures { IfOk result (λ wanted. (d : List Deed) → Reads caller.now asker.now (rows_of tables.now) d → wanted ≡ model.wanted_rev d caller.now argument.now path.now rev) }
+{
+    let live = is_live_at(alloc, tables, path, rev)?;
+    if !live {
+        return Ok(0);
+    }
+    let shown = is_shown(alloc, tables, caller, asker, argument, path)?;
+    if shown { Ok(rev) } else { Ok(0) }
+}
+
+/// What is done with a file where a revision is chosen, 0 for none.
+fn sync_at(
+    alloc: Global,
+    tables: &Tables,
+    syncing: &Syncing<'_>,
+    argument: &FileArgument,
+    path: &DepotPath,
+    rev: u32,
+) -> Result<Step, AllocError>
+    ensures { IfOk result (λ step. (d e : List Deed) → Reads syncing.now.caller.now syncing.now.asker.now (rows_of tables.now) d →
+        IsMade (rows_of tables.now) d e (model.sync_to syncing.now.again d syncing.now.caller.now argument.now path.now (choices.At rev)) step) }
+{
+    let caller = syncing.caller;
+    let asker = syncing.asker;
+    let row = opening_of(alloc, tables, &caller.client, path)?;
+    match row {
+        Some(row) => {
+            let step = sync_opened(alloc, tables, caller, asker, path, row.base, rev)?;
+            Ok(step)
+        }
+        None => {
+            let wanted = wanted_rev(alloc, tables, caller, asker, argument, path, rev)?;
+            let step = sync_have(alloc, tables, caller, asker, syncing.again, path, wanted)?;
+            Ok(step)
+        }
+    }
+}
+
+/// What is done with a file by the choice of the argument.
+fn sync_to(
+    alloc: Global,
+    tables: &Tables,
+    syncing: &Syncing<'_>,
+    argument: &FileArgument,
+    path: &DepotPath,
+) -> Result<Step, AllocError>
+    ensures { IfOk result (λ step. (d e : List Deed) → Reads syncing.now.caller.now syncing.now.asker.now (rows_of tables.now) d →
+        IsMade (rows_of tables.now) d e
+        (model.sync_to syncing.now.again d syncing.now.caller.now argument.now path.now (chosen d syncing.now.caller.now path.now argument.now.spec.wanted)) step) }
+{
+    let choice = chosen_of(alloc, tables, syncing.caller, path, &argument.spec.wanted)?;
+    match choice {
+        Chosen::PassedOver => {
+            let step = Step::new(alloc);
+            Ok(step)
+        }
+        Chosen::At(rev) => {
+            let step = sync_at(alloc, tables, syncing, argument, path, rev)?;
+            Ok(step)
+        }
+    }
+}
+
+impl<'a> FileAct for Syncing<'a> {
+    ghost use Rattle.depot_model.specs.Steps.Syncing.{sync_file as step_of_file};
+    ghost use Rattle.have_sync.specs.Syncing.{Reads};
+
+    ghost reads = { λ syncing rows d. Reads syncing.caller.now syncing.asker.now rows d };
+
+    ghost acts = { λ syncing d argument path. step_of_file syncing.again d syncing.caller.now argument path };
+
+    ghost is_later = { λ syncing d e. Unit {0} };
+
+    fn act(
+        &self,
+        alloc: Global,
+        tables: &Tables,
+        argument: &FileArgument,
+        path: &DepotPath,
+    ) -> Result<Step, AllocError> {
+        let may = self.asker.may(path, Level(2));
+        if may {
+            let step = sync_to(alloc, tables, self, argument, path)?;
+            Ok(step)
+        } else {
+            let row = denied_row(alloc, path, Level(2))?;
+            let step = Step::tells(alloc, row)?;
+            Ok(step)
+        }
+    }
+
+    ghost first = { λ syncing d. tt };
+
+    ghost next = { λ syncing d e argument path later. tt };
+}
+
+/// The step, or its rows alone where it only shows.
+fn shown_alone(alloc: Global, shows: bool, step: Step) -> Step
+    ensures { (all : AllRows) (d e : List Deed) (m : ModelStep) → IsMade all d e m step → IsMade all d e (model.shows_alone shows m) result }
+{
+    if !shows {
+        return step;
+    }
+    let Step {
+        deeds,
+        rows,
+        stores,
+        reads,
+    } = step;
+    drop(deeds);
+    Step {
+        deeds: Deeds::new(alloc),
+        rows,
+        stores,
+        reads,
+    }
+}
+
+/// `sync` of an asker.
+fn sync_asked(
+    alloc: Global,
+    tables: &Tables,
+    caller: &Caller,
+    asker: &Asker,
+    again: bool,
+    shows: bool,
+    arguments: &[FileArgument],
+) -> Result<Step, AllocError>
+    ensures { IfOk result (λ step. (d : List Deed) → Reads caller.now asker.now (rows_of tables.now) d →
+        IsMade (rows_of tables.now) d d (model.sync d caller.now again shows arguments.now) step) }
+{
+    let listing = Listing::Submitted;
+    let files = ShownFiles {
+        caller,
+        asker,
+        listing: &listing,
+    };
+    let syncing = Syncing {
+        caller,
+        asker,
+        again,
+    };
+    let done = over_all(alloc, tables, &files, &syncing, arguments);
+    drop(listing);
+    let whole = done?;
+    let told = shown_alone(alloc, shows, whole);
+    let step = within_files(alloc, told)?;
+    Ok(step)
+}
+
+/// `sync [-f] [-n] [FILE...]`: the client is to have the files at the revisions that the arguments choose, and files that it has opened get a
+/// resolve that is owed; with `-n` it is shown alone. It reads the tables of groups, protections, forms, have lists, labels, resolves, opened
+/// files, changes and revisions, and of each file that is named its rows alone. The one error is want of memory.
+pub fn sync(
+    alloc: Global,
+    tables: &Tables,
+    caller: &Caller,
+    again: bool,
+    shows: bool,
+    arguments: &[FileArgument],
+) -> Result<Step, AllocError>
+    ensures { IfOk result (λ step. (d : List Deed) → IsSound d → HasRows (rows_of tables.now) d table_ids.Group → HasRows (rows_of tables.now) d table_ids.Protect →
+        HasRows (rows_of tables.now) d table_ids.Domain → HasRows (rows_of tables.now) d table_ids.Have → HasRows (rows_of tables.now) d table_ids.Label →
+        HasRows (rows_of tables.now) d table_ids.Resolve → HasRows (rows_of tables.now) d table_ids.Working → HasRows (rows_of tables.now) d table_ids.Change →
+        HasRows (rows_of tables.now) d table_ids.Rev → IsMade (rows_of tables.now) d d (model.sync d caller.now again shows arguments.now) step) }
+{
+    let asker = Asker::of(alloc, tables, caller)?;
+    let done = sync_asked(alloc, tables, caller, &asker, again, shows, arguments);
+    drop(asker);
+    let step = done?;
+    Ok(step)
+}

@@ -1,0 +1,5 @@
+use Rattle.table_changes.specs.Changed.{rows_of}
+use Rattle.label_ops.proofs.labelling.sync_files.Goals as goal
+
+pub returns : goal.returns
+returns c = λ d reads. c.in_ok-step.ensures (rows_of c.args.tables.now) d d _ (c.in_ok-whole.ensures d reads reads)

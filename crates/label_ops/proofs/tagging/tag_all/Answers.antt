@@ -1,0 +1,18 @@
+use Rattle.std.proofs.Common.{[]}
+use Rattle.table_changes.specs.Changed.{rows_of}
+use Rattle.depot_model.specs.Steps.Tagging.{made_label, tag_files}
+use Rattle.label_ops.proofs.Following.{files_tag}
+use Rattle.label_ops.proofs.Made.{tagged_on}
+use Rattle.label_ops.proofs.tagging.tag_all.Goals as goal
+
+pub returns : goal.returns
+returns c = λ d reads.
+    let caller = c.args.caller.now in
+    let label = c.args.label.now in
+    let removes = c.args.removes in
+    let arguments = c.args.arguments.now in
+    let rows = rows_of c.args.tables.now in
+    let said = c.in_ok-add.ensures in
+    c.in_ok-step.ensures rows d d _
+    (tagged_on rows d (record { deeds = made_label d label; rows = [] }) (tag_files d caller label removes arguments) c.in_ok-made.made c.in_ok-more.more c.add.new.self
+    (files_tag d caller label removes arguments) (c.in_ok-made.ensures d d reads.has_domain) (c.in_ok-more.ensures d reads) said.deeds said.rows said.stores said.reads)

@@ -1,0 +1,17 @@
+use Rattle.std.proofs.Common.{ℕ, subst}
+use Rattle.table_changes.specs.Changed.{rows_of}
+use Rattle.depot_model.specs.Latest.{labelled}
+use Rattle.depot_model.specs.Steps.Tagging.{tag_to}
+use Rattle.reply_rows.specs.Made.{IsMade}
+use Rattle.label_ops.proofs.taking.take.Goals as goal
+
+pub returns : goal.returns
+returns c = λ d e reads.
+    let taking = c.args.taking.now in
+    let label = taking.label.now in
+    let path = c.args.path.now in
+    let rows = rows_of c.args.tables.now in
+    let step = c.in_ok-step.step in
+    let old_is = c.in_ok-old.ensures d reads.has_label in
+    subst (λ (n : ℕ). IsMade rows d e (tag_to label path (labelled d label path) n) step) (c.in_ok-new.ensures d reads old_is)
+    (subst (λ (n : ℕ). IsMade rows d e (tag_to label path n c.in_ok-new.new) step) old_is (c.in_ok-step.ensures rows d e))

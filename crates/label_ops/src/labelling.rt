@@ -1,0 +1,92 @@
+//! `labelsync` (Command-Line Reference, "p4 labelsync").
+
+ghost use Rattle.std.specs.Prelude.{List, IfOk};
+ghost use Rattle.db_records.specs.declared.table.TableId.TheVariants as table_ids;
+ghost use Rattle.table_changes.specs.Changed.{rows_of};
+ghost use Rattle.depot_model.specs.Deeds.{Deed};
+ghost use Rattle.depot_model.specs.Rules.{IsSound};
+ghost use Rattle.depot_model.specs.Steps.Tagging as model;
+ghost use Rattle.depot_rows.specs.Standing.{HasRows};
+ghost use Rattle.named_files.specs.declared.listing.Listing.TheVariants.{Submitted};
+ghost use Rattle.named_files.specs.Sets.{ShownReads};
+ghost use Rattle.reply_rows.specs.Made.{IsMade};
+ghost use Rattle.label_ops.specs.Tagged.{synced};
+
+use crate::taking::Taking;
+use depot_model::{Caller, FileArgument, Labelling};
+use depot_path::Name;
+use file_steps::{over_all, within_files};
+use named_files::{Asker, Listing, ShownFiles};
+use reply_rows::{Step, label_locked_row, no_such_label_row};
+use row_reads::{is_label, is_locked_label};
+use std::alloc::{AllocError, Global};
+use table_store::Tables;
+
+/// What `labelsync` does with files, where the label isn't refused.
+fn sync_files(
+    alloc: Global,
+    tables: &Tables,
+    caller: &Caller,
+    asker: &Asker,
+    label: &Name,
+    labelling: Labelling,
+    arguments: &[FileArgument],
+) -> Result<Step, AllocError>
+    ensures { IfOk result (λ step. (d : List Deed) → ShownReads caller.now asker.now Submitted (rows_of tables.now) d →
+        IsMade (rows_of tables.now) d d (synced d caller.now label.now labelling arguments.now) step) }
+{
+    let listing = Listing::Submitted;
+    let files = ShownFiles {
+        caller,
+        asker,
+        listing: &listing,
+    };
+    let taking = Taking {
+        caller,
+        asker,
+        label,
+        labelling,
+        have: true,
+    };
+    let done = over_all(alloc, tables, &files, &taking, arguments);
+    drop(listing);
+    let whole = done?;
+    let step = within_files(alloc, whole)?;
+    Ok(step)
+}
+
+/// `labelsync -l LABEL [-a or -d] [FILE...]`: the label has the files at the revisions that the arguments choose, for an argument without one at
+/// those of the client's have list, and loses the other files that are named; with `-a` it keeps them, and with `-d` it loses all that are named.
+/// It is refused where the label isn't saved, or is locked. It reads the tables of groups, protections, forms, have lists, labels, changes and
+/// revisions, and of each file that is named its rows alone. The one error is want of memory.
+pub fn labelsync(
+    alloc: Global,
+    tables: &Tables,
+    caller: &Caller,
+    label: &Name,
+    labelling: Labelling,
+    arguments: &[FileArgument],
+) -> Result<Step, AllocError>
+    ensures { IfOk result (λ step. (d : List Deed) → IsSound d → HasRows (rows_of tables.now) d table_ids.Group → HasRows (rows_of tables.now) d table_ids.Protect →
+        HasRows (rows_of tables.now) d table_ids.Domain → HasRows (rows_of tables.now) d table_ids.Have → HasRows (rows_of tables.now) d table_ids.Label →
+        HasRows (rows_of tables.now) d table_ids.Change → HasRows (rows_of tables.now) d table_ids.Rev →
+        IsMade (rows_of tables.now) d d (model.labelsync d caller.now label.now labelling arguments.now) step) }
+{
+    let there = is_label(alloc, tables, label)?;
+    if !there {
+        let row = no_such_label_row(alloc, label)?;
+        let absent = Step::tells(alloc, row)?;
+        return Ok(absent);
+    }
+    let locked = is_locked_label(alloc, tables, label)?;
+    if locked {
+        let told = label_locked_row(alloc, label)?;
+        let refused = Step::tells(alloc, told)?;
+        return Ok(refused);
+    }
+    let asker = Asker::of(alloc, tables, caller)?;
+    let done = sync_files(alloc, tables, caller, &asker, label, labelling, arguments);
+    drop(asker);
+    let step = done?;
+    Ok(step)
+}

@@ -1,0 +1,105 @@
+//! `tag` (Command-Line Reference, "p4 tag").
+
+ghost use Rattle.std.specs.Prelude.{List, IfOk};
+ghost use Rattle.db_records.specs.declared.table.TableId.TheVariants as table_ids;
+ghost use Rattle.table_changes.specs.Changed.{rows_of};
+ghost use Rattle.depot_model.specs.Deeds.{Deed};
+ghost use Rattle.depot_model.specs.Rules.{IsSound};
+ghost use Rattle.depot_model.specs.Steps.Tagging as model;
+ghost use Rattle.depot_rows.specs.Standing.{HasRows};
+ghost use Rattle.named_files.specs.declared.listing.Listing.TheVariants.{Submitted};
+ghost use Rattle.named_files.specs.Sets.{ShownReads};
+ghost use Rattle.reply_rows.specs.Made.{IsMade};
+ghost use Rattle.label_ops.specs.Tagged.{tagged};
+
+use crate::making::make_label;
+use crate::taking::{Taking, labelling_of};
+use depot_model::{Caller, FileArgument};
+use depot_path::Name;
+use file_steps::{over, within_files};
+use named_files::{Asker, Listing, ShownFiles};
+use reply_rows::{Step, label_locked_row};
+use row_reads::is_locked_label;
+use std::alloc::{AllocError, Global};
+use table_store::Tables;
+
+/// What `tag` does with files.
+fn tag_files(
+    alloc: Global,
+    tables: &Tables,
+    caller: &Caller,
+    asker: &Asker,
+    label: &Name,
+    removes: bool,
+    arguments: &[FileArgument],
+) -> Result<Step, AllocError>
+    ensures { IfOk result (λ step. (d : List Deed) → ShownReads caller.now asker.now Submitted (rows_of tables.now) d →
+        IsMade (rows_of tables.now) d d (model.tag_files d caller.now label.now removes arguments.now) step) }
+{
+    let listing = Listing::Submitted;
+    let files = ShownFiles {
+        caller,
+        asker,
+        listing: &listing,
+    };
+    let taking = Taking {
+        caller,
+        asker,
+        label,
+        labelling: labelling_of(removes),
+        have: false,
+    };
+    let done = over(alloc, tables, &files, &taking, arguments);
+    drop(listing);
+    let step = done?;
+    Ok(step)
+}
+
+/// What `tag` does, where the label isn't locked.
+fn tag_all(
+    alloc: Global,
+    tables: &Tables,
+    caller: &Caller,
+    asker: &Asker,
+    label: &Name,
+    removes: bool,
+    arguments: &[FileArgument],
+) -> Result<Step, AllocError>
+    ensures { IfOk result (λ step. (d : List Deed) → ShownReads caller.now asker.now Submitted (rows_of tables.now) d →
+        IsMade (rows_of tables.now) d d (tagged d caller.now label.now removes arguments.now) step) }
+{
+    let mut made = make_label(alloc, tables, label)?;
+    let more = tag_files(alloc, tables, caller, asker, label, removes, arguments)?;
+    made.add(more)?;
+    let step = within_files(alloc, made)?;
+    Ok(step)
+}
+
+/// `tag -l LABEL [-d] FILE...`: the label has the files at the revisions that the arguments choose, with `-d` no more; it is made where it is
+/// absent. It is refused where the label is locked. It reads the tables of groups, protections, forms, have lists, labels, changes and revisions,
+/// and of each file that is named its rows alone. The one error is want of memory.
+pub fn tag(
+    alloc: Global,
+    tables: &Tables,
+    caller: &Caller,
+    label: &Name,
+    removes: bool,
+    arguments: &[FileArgument],
+) -> Result<Step, AllocError>
+    ensures { IfOk result (λ step. (d : List Deed) → IsSound d → HasRows (rows_of tables.now) d table_ids.Group → HasRows (rows_of tables.now) d table_ids.Protect →
+        HasRows (rows_of tables.now) d table_ids.Domain → HasRows (rows_of tables.now) d table_ids.Have → HasRows (rows_of tables.now) d table_ids.Label →
+        HasRows (rows_of tables.now) d table_ids.Change → HasRows (rows_of tables.now) d table_ids.Rev →
+        IsMade (rows_of tables.now) d d (model.tag d caller.now label.now removes arguments.now) step) }
+{
+    let locked = is_locked_label(alloc, tables, label)?;
+    if locked {
+        let row = label_locked_row(alloc, label)?;
+        let refused = Step::tells(alloc, row)?;
+        return Ok(refused);
+    }
+    let asker = Asker::of(alloc, tables, caller)?;
+    let done = tag_all(alloc, tables, caller, &asker, label, removes, arguments);
+    drop(asker);
+    let step = done?;
+    Ok(step)
+}
