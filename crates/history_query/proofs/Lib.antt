@@ -1,0 +1,9 @@
+pub mod Told
+pub mod Printed
+pub mod Stated
+pub mod Pushed
+pub mod Credits
+pub mod Logged
+pub mod Fitting
+pub mod Above
+pub mod Taken

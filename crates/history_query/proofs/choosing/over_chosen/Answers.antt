@@ -1,0 +1,24 @@
+use Rattle.std.proofs.Common.{[], ◌∷◌, subst}
+use Rattle.table_changes.specs.Changed.{rows_of}
+use Rattle.depot_model.specs.declared.command.FileArgument.{FileArgument}
+use Rattle.depot_model.specs.declared.refusal.Refusal.TheVariants.{NoSuchFile}
+use Rattle.depot_model.specs.Refusals.{refusal_row}
+use Rattle.depot_model.specs.Step.{Step as ModelStep, tells}
+use Rattle.reply_rows.specs.Made.{IsMade}
+use Rattle.named_files.proofs.Heads.{over_listed}
+use Rattle.history_query.proofs.choosing.over_chosen.Goals as goal
+
+pub returns : goal.returns
+returns g c = λ d asked reads has.
+    subst (λ (m : ModelStep). IsMade (rows_of c.args.tables.now) d d m c.in_ok-step.step)
+    (over_listed d c.args.caller.now (λ (a : FileArgument). tells (refusal_row (NoSuchFile a.text) ∷ [])) _ c.args.arguments.now)
+    (c.in_ok-step.ensures d (record {
+      sound = reads.sound;
+      asked = asked;
+      listed = reads.has_rev;
+      has_have = reads.has_have;
+      has_label = reads.has_label;
+      has_domain = reads.has_domain;
+      has_rev = reads.has_rev;
+      has_change = reads.has_change;
+    }) has)

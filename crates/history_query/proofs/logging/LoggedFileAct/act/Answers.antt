@@ -1,0 +1,30 @@
+use Rattle.std.proofs.Common.{ℕ, Option, sym, ap, subst, ◌∙◌}
+use Rattle.std.specs.Prelude.{option_map}
+use Rattle.depot_path.specs.Path.{is_path}
+use Rattle.table_changes.specs.Changed.{rows_of}
+use Rattle.depot_model.specs.Step.{Step as ModelStep, tells}
+use Rattle.depot_model.specs.Steps.Listing.{Numbered, chosen_revision}
+use Rattle.reply_rows.specs.Made.{IsMade, told}
+use Rattle.reply_rows.specs.declared.step.Step.{Step}
+use Rattle.reply_rows.proofs.Bare.{tells_made}
+use Rattle.revision_reads.proofs.Wanting.{wanted_had}
+use Rattle.history_query.specs.Logging.{rows_logged}
+use Rattle.history_query.proofs.Logged.{log_told, logs_bare, number_told}
+use Rattle.history_query.proofs.logging.LoggedFileAct.act.Goals as goal
+
+pub returns : goal.returns
+returns c = λ d e reads later.
+    let caller = c.args.self.now.caller.now in
+    let path = c.args.path.now in
+    let wanted = c.args.argument.now.spec.wanted in
+    let all = rows_of c.args.tables.now in
+    let found = chosen_revision d caller c.args.argument.now path in
+    let choice = reads.choice in
+    let bytes = c.as_bytes-bytes in
+    let has = wanted_had all d choice.has_domain choice.has_have choice.has_label choice.has_change choice.has_rev wanted in
+    let rows = rows_logged d caller path (option_map (λ (r : Numbered). r.number) found) in
+    let number = number_told _ found (c.in_ok-row.ensures d choice.sound choice.has_rev has) in
+    let is = c.in_ok-step.ensures d caller reads ∙ ap (λ (n : Option ℕ). told (rows_logged d caller path n)) number in
+    subst (λ (m : ModelStep). IsMade all d e m c.in_ok-step.step)
+    (log_told d caller path choice.sound (ap is_path (sym bytes.ensures.value) ∙ bytes.ensures.path) found)
+    (subst (λ (x : Step). IsMade all d e (tells rows) x) (sym is) (tells_made all d e rows (logs_bare d caller path (option_map (λ (r : Numbered). r.number) found))))

@@ -1,0 +1,43 @@
+use Rattle.std.proofs.Common.{◌≡◌, Bool, [], ◌∷◌, true, false, sym, subst, ◌∙◌}
+use Rattle.std.specs.Prelude.{not}
+use Rattle.depot_path.specs.Path.{printed}
+use Rattle.protect_table.specs.Rights.{may}
+use Rattle.table_changes.specs.Changed.{rows_of}
+use Rattle.depot_model.specs.Asking.{may_at}
+use Rattle.depot_model.specs.Choice.{chosen}
+use Rattle.depot_model.specs.Step.{refuse_if, refuses, unless}
+use Rattle.depot_model.specs.Steps.History.{print_chosen}
+use Rattle.depot_model.specs.declared.refusal.Refusal.TheVariants.{Denied}
+use Rattle.reply_rows.specs.Made.{IsMade}
+use Rattle.reply_rows.specs.declared.step.Step.{Step}
+use Rattle.reply_rows.proofs.Bare.{refuses_made}
+use Rattle.revision_reads.proofs.Wanting.{wanted_had}
+use Rattle.history_query.proofs.Printed.{printed_made}
+use Rattle.history_query.proofs.printing.PrintedFileAct.act.Goals as goal
+
+pub returns-then-not-may : goal.returns-then-not-may
+returns-then-not-may c = λ d e reads later.
+    let caller = c.args.self.now.caller.now in
+    let path = c.args.path.now in
+    let all = rows_of c.args.tables.now in
+    let model = print_chosen d caller c.args.argument.now path in
+    let denied : may_at d caller path 2 ≡ false =
+    sym (c.may.ensures ∙ (λ i. may (reads.asked.protects i) (reads.asked.who i) path 2)) ∙ c.if-not-may.true in
+    let step : IsMade all d e (refuses (Denied (printed path) 2)) c.in_ok-step.step =
+    subst (λ (x : Step). IsMade all d e (refuses (Denied (printed path) 2)) x) (sym c.in_ok-step.ensures) (refuses_made all d e (Denied (printed path) 2)) in
+    subst (λ (b : Bool). IsMade all d e (unless (refuse_if (not b) (Denied (printed path) 2) ∷ []) model) c.in_ok-step.step) (sym denied) step
+
+pub returns : goal.returns
+returns c = λ d e reads later.
+    let caller = c.args.self.now.caller.now in
+    let path = c.args.path.now in
+    let wanted = c.args.argument.now.spec.wanted in
+    let all = rows_of c.args.tables.now in
+    let model = print_chosen d caller c.args.argument.now path in
+    let choice = reads.choice in
+    let has = wanted_had all d choice.has_domain choice.has_have choice.has_label choice.has_change choice.has_rev wanted in
+    let allowed : may_at d caller path 2 ≡ true =
+    sym (c.may.ensures ∙ (λ i. may (reads.asked.protects i) (reads.asked.who i) path 2)) ∙ c.if-not-may.false in
+    let made = printed_made all d e path (chosen d caller path wanted) _ (c.in_ok-row.ensures.row d choice.sound choice.has_rev has) c.in_ok-row.ensures.stored in
+    let step : IsMade all d e model c.in_ok-step-2.step = subst (λ (x : Step). IsMade all d e model x) (sym c.in_ok-step-2.ensures) made in
+    subst (λ (b : Bool). IsMade all d e (unless (refuse_if (not b) (Denied (printed path) 2) ∷ []) model) c.in_ok-step-2.step) (sym allowed) step

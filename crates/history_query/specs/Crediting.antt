@@ -1,0 +1,59 @@
+-- The integration records of a file, as the rows of the table have them (Command-Line Reference, "p4 integrated"; Helix Core database schema
+-- reference, "db.integed").
+use Rattle.std.specs.Prelude.{ℕ, Bool, false, List, [], ◌∷◌, filter, flat_map, if◌then◌else◌, Option, Some, None, Ok, Err}
+use Rattle.depot_path.specs.Path.{path_of}
+use Rattle.db_records.specs.declared.record.Record.{Record}
+use Rattle.db_records.specs.declared.record.Record.TheVariants.{Integed}
+use Rattle.db_records.specs.declared.rows.IntegedRecord.{IntegedRecord}
+use Rattle.db_records.specs.declared.table.TableId.TheVariants as tables
+use Rattle.protect_table.specs.Rights.{may}
+use Rattle.table_changes.specs.Changed.{AllRows}
+use Rattle.depot_model.specs.declared.reply.Row.{Row}
+use Rattle.depot_model.specs.declared.request.Caller.{Caller}
+use Rattle.depot_model.specs.Deeds.{Deed}
+use Rattle.depot_model.specs.Steps.History.{integrated_row}
+use Rattle.depot_rows.specs.Standing.{HasRows}
+use Rattle.named_files.specs.Asked.{IsAsker}
+use Rattle.named_files.specs.declared.asker.Asker.{Asker}
+
+-- the asker may list the file whose path a text spells
+abbrev pub may_list_in : Asker → List ℕ → Bool
+may_list_in asker text = elim (path_of text) [ Err fault ↦ false | Ok path ↦ may asker.protects asker.who path 1 ]
+
+-- the rows that are integration records
+abbrev pub integeds : List Record → List IntegedRecord
+integeds [] = []
+integeds (Integed r ∷ rows) = r ∷ integeds rows
+integeds (_ ∷ rows) = integeds rows
+
+-- those of them whose other file the asker may list
+abbrev pub is_listed_in : Asker → IntegedRecord → Bool
+is_listed_in asker r = may_list_in asker r.from_file
+
+abbrev pub listed_in : Asker → List Record → List IntegedRecord
+listed_in asker rows = filter (is_listed_in asker) (integeds rows)
+
+-- the row of such a record
+abbrev pub integed_in : Record → Option IntegedRecord
+integed_in (Integed r) = Some r
+integed_in _ = None
+
+abbrev pub told_by : Asker → Option IntegedRecord → List Row
+told_by asker None = []
+told_by asker (Some r) = if is_listed_in asker r then integrated_row r ∷ [] else []
+
+abbrev pub rows_told_in : Asker → List Record → List Row
+rows_told_in asker rows = flat_map (λ row. told_by asker (integed_in row)) rows
+
+-- the record that a row is, if it is to be listed
+abbrev pub listed_by : Asker → Option IntegedRecord → List IntegedRecord
+listed_by asker None = []
+listed_by asker (Some r) = if is_listed_in asker r then r ∷ [] else []
+
+abbrev pub records_listed_in : Asker → List Record → List IntegedRecord
+records_listed_in asker rows = flat_map (λ row. listed_by asker (integed_in row)) rows
+
+-- the asker is that of the depot, and the integration records are the depot's
+pub record RecordReads (caller : Caller) (asker : Asker) (rows : AllRows) (d : List Deed) : Type 0 where
+  pub asked : IsAsker d caller asker
+  pub has_integed : HasRows rows d tables.Integed

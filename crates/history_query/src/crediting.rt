@@ -1,0 +1,142 @@
+//! The integration records of a file.
+
+ghost use Rattle.std.specs.Prelude.{◌≡◌, ◌∷◌, ◌++◌, [], ℕ, List, IfOk, OnOk, Ok, Some, filter, map, if◌then◌else◌};
+ghost use Rattle.std.specs.Option.{option_copied};
+ghost use Rattle.depot_path.specs.Path.{path_of, printed};
+ghost use Rattle.db_records.specs.declared.table.TableId.TheVariants as table_ids;
+ghost use Rattle.row_ranges.specs.Ranges.{has_row, range_table};
+ghost use Rattle.table_changes.specs.Changed.{rows_of};
+ghost use Rattle.depot_model.specs.declared.request.Caller.{Caller as Asking};
+ghost use Rattle.depot_model.specs.Deeds.{Deed};
+ghost use Rattle.depot_model.specs.Steps.History.{records_of as records_in};
+ghost use Rattle.depot_rows.specs.Standing.{HasRows};
+ghost use Rattle.named_files.specs.Asked.{IsAsker};
+ghost use Rattle.named_files.specs.declared.asker.Asker.{Asker as Asks};
+ghost use Rattle.history_query.specs.Crediting.{integed_in, listed_by, listed_in, may_list_in, records_listed_in};
+
+use db_records::{IntegedRecord, Record, TableId};
+use depot_path::{DepotPath, PathFault, Text};
+use named_files::Asker;
+use protect_table::Level;
+use row_ranges::{KeyRange, rows_in};
+use std::alloc::{AllocError, Global};
+use table_store::Tables;
+
+/// Whether the asker may list the file whose path a text spells.
+pub(crate) fn may_list(alloc: Global, asker: &Asker, text: &Text) -> Result<bool, AllocError>
+    ensures { IfOk result (λ may. may ≡ may_list_in asker.now text.now) }
+{
+    match DepotPath::read(alloc, text.as_bytes()) {
+        Ok(path) => {
+            let may = asker.may(&path, Level(1));
+            Ok(may)
+        }
+        Err(PathFault::Memory) => Err(AllocError),
+        Err(_) => Ok(false),
+    }
+}
+
+/// The integration record that a row is, if it is one.
+pub(crate) fn as_integed(row: &Record) -> Option<&IntegedRecord>
+    ensures { option_copied result ≡ integed_in row.now }
+{
+    match row {
+        Record::Integed(integed) => Some(integed),
+        _ => None,
+    }
+}
+
+/// Adds a record, if it is to be listed.
+fn add_if<'a>(
+    records: &mut Vec<&'a IntegedRecord>,
+    listed: bool,
+    integed: &'a IntegedRecord,
+) -> Result<(), AllocError>
+    ensures { OnOk result (map (λ r. r.now) records.new.items ≡ map (λ r. r.now) records.old.items ++ (if listed then integed.now ∷ [] else [])) }
+{
+    if listed {
+        records.push(integed)?;
+    }
+    Ok(())
+}
+
+/// Adds a record, if the asker may list its other file.
+fn add_listed<'a>(
+    alloc: Global,
+    records: &mut Vec<&'a IntegedRecord>,
+    asker: &Asker,
+    integed: &'a IntegedRecord,
+) -> Result<(), AllocError>
+    ensures { OnOk result (map (λ r. r.now) records.new.items ≡ map (λ r. r.now) records.old.items ++ listed_by asker.now (Some integed.now)) }
+{
+    let may = may_list(alloc, asker, &integed.from_file)?;
+    add_if(records, may, integed)?;
+    Ok(())
+}
+
+/// Adds a record, if there is one and the asker may list its other file.
+fn add_found<'a>(
+    alloc: Global,
+    records: &mut Vec<&'a IntegedRecord>,
+    asker: &Asker,
+    found: Option<&'a IntegedRecord>,
+) -> Result<(), AllocError>
+    ensures { OnOk result (map (λ r. r.now) records.new.items ≡ map (λ r. r.now) records.old.items ++ listed_by asker.now (option_copied found.entry)) }
+{
+    match found {
+        None => Ok(()),
+        Some(integed) => {
+            add_listed(alloc, records, asker, integed)?;
+            Ok(())
+        }
+    }
+}
+
+/// Adds the record that a row is, if the asker may list its other file.
+fn add_row<'a>(
+    alloc: Global,
+    records: &mut Vec<&'a IntegedRecord>,
+    asker: &Asker,
+    row: &'a Record,
+) -> Result<(), AllocError>
+    ensures { OnOk result (map (λ r. r.now) records.new.items ≡ map (λ r. r.now) records.old.items ++ listed_by asker.now (integed_in row.now)) }
+{
+    let found = as_integed(row);
+    add_found(alloc, records, asker, found)?;
+    Ok(())
+}
+
+/// The range of the rows of a file's integration records. The one error, here and below, is want of memory.
+pub(crate) fn range_of(alloc: Global, path: &DepotPath) -> Result<KeyRange, AllocError>
+    ensures range { IfOk result (λ range. range ≡ KeyRange.Integrations (printed path.now)) }
+    ensures read_again { path_of (printed path.now) ≡ Ok path.now }
+{
+    let to_file = path.print(alloc)?;
+    Ok(KeyRange::Integrations { to_file })
+}
+
+/// The integration records in a range whose other file the asker may list, in the order of their keys.
+pub(crate) fn records_of<'a>(
+    alloc: Global,
+    tables: &'a Tables,
+    asker: &Asker,
+    range: &'a KeyRange,
+) -> Result<Vec<&'a IntegedRecord>, AllocError>
+    ensures { IfOk result (λ records. map (λ r. r.now) records.items ≡ records_listed_in asker.now (filter (has_row range.now) (rows_of tables.now (range_table range.now)))) }
+{
+    let mut records = Vec::new(alloc);
+    for row in rows_in(alloc, tables, range)? {
+        add_row(alloc, &mut records, asker, row)?;
+    }
+    Ok(records)
+}
+
+/// The records of a file in its range are those of the depot (Command-Line Reference, "p4 integrated"), from the table of integration records
+/// alone.
+pub(crate) fn rows_are_records(tables: &Tables)
+    ensures { (d : List Deed) (caller : Asking) (asker : Asks) (path : List ℕ) → IsAsker d caller asker → HasRows (rows_of tables.now) d table_ids.Integed →
+        listed_in asker (filter (has_row (KeyRange.Integrations (printed path))) (rows_of tables.now table_ids.Integed)) ≡ records_in d caller path }
+{
+    let version = tables.version(TableId::Integed);
+    let _table = version.table();
+}

@@ -1,0 +1,224 @@
+//! The directories that an argument names.
+
+ghost use Rattle.std.specs.Prelude.{◌≡◌, ◌++◌, ◌<◌, ◌==◌, ◌&&◌, [], List, IfOk, OnOk, Some, flat_map, if◌then◌else◌, length, map, slice_index, take};
+ghost use Rattle.std.specs.Option.{option_to_list};
+ghost use Rattle.db_records.specs.declared.table.TableId.TheVariants as table_ids;
+ghost use Rattle.depot_path.specs.Path.{escaped, printed};
+ghost use Rattle.table_changes.specs.Changed.{rows_of};
+ghost use Rattle.depot_path.specs.declared.revision.Wanted.TheVariants.{Head};
+ghost use Rattle.depot_model.specs.declared.request.Caller.{Caller as Asking};
+ghost use Rattle.depot_model.specs.Arguments.{in_client_syntax as client_syntax};
+ghost use Rattle.depot_model.specs.Asking.{may_list};
+ghost use Rattle.depot_model.specs.Choice.{shown};
+ghost use Rattle.depot_model.specs.Deeds.{Deed};
+ghost use Rattle.depot_model.specs.Revisions.{is_live_head as live_head};
+ghost use Rattle.depot_model.specs.Rules.{IsSound};
+ghost use Rattle.depot_model.specs.Steps.History as model;
+ghost use Rattle.depot_rows.specs.Standing.{HasRows};
+ghost use Rattle.named_files.specs.Asked.{IsAsker};
+ghost use Rattle.history_query.specs.Directories.{all_directories, all_fitting, begun_directories, fitting_inserted};
+
+use crate::texts::TextSet;
+use depot_model::Caller;
+use depot_path::{DepotPath, Pattern, Sequence, Text, Wanted};
+use named_files::{Asker, Listing, begun_candidates};
+use protect_table::Level;
+use revision_reads::{is_live_head, shown_by};
+use row_reads::in_client_syntax;
+use std::alloc::{AllocError, Global};
+use table_store::Tables;
+
+/// Adds a byte as it is printed in a path.
+fn push_escaped(text: &mut Text, byte: u8) -> Result<(), AllocError>
+    ensures { OnOk result (text.new ≡ text.old ++ escaped byte) }
+{
+    match byte {
+        b'@' => text.append(b"%40"),
+        b'#' => text.append(b"%23"),
+        b'*' => text.append(b"%2A"),
+        b'%' => text.append(b"%25"),
+        _ => text.append(&[byte]),
+    }
+}
+
+/// A directory as it is printed.
+fn print_directory(alloc: Global, directory: &[u8]) -> Result<Text, AllocError>
+    ensures { IfOk result (λ text. text ≡ printed directory.now) }
+{
+    let mut text = Text::new(alloc);
+    for byte in directory {
+        push_escaped(&mut text, *byte)?;
+    }
+    Ok(text)
+}
+
+/// Adds a directory, if it fits the pattern.
+fn add_fitting(
+    alloc: Global,
+    set: &mut TextSet,
+    pattern: &Pattern,
+    directory: &[u8],
+) -> Result<(), AllocError>
+    ensures { OnOk result (set.new ≡ fitting_inserted pattern.now directory.now set.old) }
+{
+    let found = pattern.texts(alloc, directory)?;
+    if found.is_none() {
+        return Ok(());
+    }
+    let text = print_directory(alloc, directory)?;
+    set.insert(text)?;
+    Ok(())
+}
+
+/// Adds the text before a place, where a slash stands there and it fits the pattern.
+fn add_before(
+    alloc: Global,
+    set: &mut TextSet,
+    pattern: &Pattern,
+    path: &[u8],
+    at: usize,
+) -> Result<(), AllocError>
+    requires { at < length path.now }
+    ensures { OnOk result (set.new ≡ (if slice_index path.now at == 0x2F then fitting_inserted pattern.now (take at path.now) set.old else set.old)) }
+{
+    if path[at] == b'/' {
+        add_fitting(alloc, set, pattern, &path[..at])?;
+    }
+    Ok(())
+}
+
+/// Adds the directories above a path that fit the pattern.
+fn add_directories(
+    alloc: Global,
+    set: &mut TextSet,
+    pattern: &Pattern,
+    path: &DepotPath,
+) -> Result<(), AllocError>
+    ensures { OnOk result (set.new ≡ all_fitting pattern.now (model.directories path.now) set.old) }
+{
+    let bytes = path.as_bytes();
+    let mut end = bytes.len();
+    while end > 2 {
+        end -= 1;
+        add_before(alloc, set, pattern, bytes, end)?;
+    }
+    Ok(())
+}
+
+/// The path whose directories an argument asks for, of a file that is listed and live.
+fn seen_of(
+    alloc: Global,
+    tables: &Tables,
+    caller: &Caller,
+    asker: &Asker,
+    pattern: &Pattern,
+    path: DepotPath,
+) -> Result<Option<DepotPath>, AllocError>
+    ensures { IfOk result (λ seen. (d : List Deed) → IsSound d → IsAsker d caller.now asker.now → HasRows (rows_of tables.now) d table_ids.Rev →
+        seen ≡ (if client_syntax caller.now.client pattern.now then shown d caller.now Head path else Some path)) }
+{
+    if !in_client_syntax(&asker.client, pattern) {
+        return Ok(Some(path));
+    }
+    let head = Wanted::Head;
+    let place = shown_by(alloc, tables, caller, &asker.view, &path, &head)?;
+    drop(head);
+    Ok(place)
+}
+
+/// Whether the asker may list a file, and it is live.
+fn is_seen(
+    alloc: Global,
+    tables: &Tables,
+    asker: &Asker,
+    path: &DepotPath,
+) -> Result<bool, AllocError>
+    ensures { IfOk result (λ seen. (d : List Deed) (caller : Asking) → IsSound d → IsAsker d caller asker.now → HasRows (rows_of tables.now) d table_ids.Rev →
+        seen ≡ (may_list d caller path.now && live_head d path.now)) }
+{
+    if !asker.may(path, Level(1)) {
+        return Ok(false);
+    }
+    let live = is_live_head(alloc, tables, path)?;
+    Ok(live)
+}
+
+/// Adds the directories of a path, if there is one, that fit the pattern.
+fn add_seen(
+    alloc: Global,
+    set: &mut TextSet,
+    pattern: &Pattern,
+    seen: Option<DepotPath>,
+) -> Result<(), AllocError>
+    ensures { OnOk result (set.new ≡ all_fitting pattern.now (flat_map model.directories (option_to_list seen)) set.old) }
+{
+    if let Some(seen) = seen {
+        add_directories(alloc, set, pattern, &seen)?;
+    }
+    Ok(())
+}
+
+/// Adds the directories of a file that fit the pattern.
+fn add_file(
+    alloc: Global,
+    tables: &Tables,
+    caller: &Caller,
+    asker: &Asker,
+    pattern: &Pattern,
+    set: &mut TextSet,
+    path: DepotPath,
+) -> Result<(), AllocError>
+    ensures { OnOk result ((d : List Deed) → IsSound d → IsAsker d caller.now asker.now → HasRows (rows_of tables.now) d table_ids.Rev →
+        set.new ≡ all_fitting pattern.now (begun_directories d caller.now asker.now pattern.now path) set.old) }
+{
+    // the bytes of a path are one
+    let _bytes = path.as_bytes();
+    let visible = is_seen(alloc, tables, asker, &path)?;
+    if !visible {
+        return Ok(());
+    }
+    let seen = seen_of(alloc, tables, caller, asker, pattern, path)?;
+    add_seen(alloc, set, pattern, seen)?;
+    Ok(())
+}
+
+/// The directories of files that fit the pattern, as they are printed.
+fn directories_among(
+    alloc: Global,
+    tables: &Tables,
+    caller: &Caller,
+    asker: &Asker,
+    pattern: &Pattern,
+    paths: Sequence<DepotPath>,
+) -> Result<TextSet, AllocError>
+    ensures { IfOk result (λ set. (d : List Deed) → IsSound d → IsAsker d caller.now asker.now → HasRows (rows_of tables.now) d table_ids.Rev →
+        set ≡ all_fitting pattern.now (all_directories d caller.now asker.now pattern.now paths) []) }
+{
+    let mut set = TextSet::new(alloc);
+    let mut rest = paths.into_vec();
+    while let Some(path) = rest.pop() {
+        add_file(alloc, tables, caller, asker, pattern, &mut set, path)?;
+    }
+    Ok(set)
+}
+
+/// The directories that an argument names, as they are printed, in their order. It walks over the rows alone of files that begin with the literal
+/// text with which the argument begins. The one error is want of memory.
+pub(crate) fn directories(
+    alloc: Global,
+    tables: &Tables,
+    caller: &Caller,
+    asker: &Asker,
+    pattern: &Pattern,
+) -> Result<Sequence<Text>, AllocError>
+    ensures { IfOk result (λ texts. (d : List Deed) → IsSound d → IsAsker d caller.now asker.now → HasRows (rows_of tables.now) d table_ids.Rev →
+        texts ≡ map printed (model.dirs_of d caller.now pattern.now)) }
+{
+    let listing = Listing::Submitted;
+    let found = begun_candidates(alloc, tables, asker, &listing, pattern);
+    drop(listing);
+    let paths = found?;
+    let set = directories_among(alloc, tables, caller, asker, pattern, paths)?;
+    let texts = set.into_sequence(alloc)?;
+    Ok(texts)
+}

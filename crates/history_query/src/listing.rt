@@ -1,0 +1,148 @@
+//! `files` (Command-Line Reference, "p4 files").
+
+ghost use Rattle.std.specs.Prelude.{◌≡◌, ◌&&◌, not, bytes_eq, codes, List, IfOk, option_map};
+ghost use Rattle.db_records.specs.declared.record.Record.TheVariants.{Change, Rev};
+ghost use Rattle.db_records.specs.declared.table.TableId.TheVariants as table_ids;
+ghost use Rattle.table_changes.specs.Changed.{rows_of};
+ghost use Rattle.depot_model.specs.Deeds.{Deed};
+ghost use Rattle.depot_model.specs.Rules.{IsSound};
+ghost use Rattle.depot_model.specs.Steps.Listing as model;
+ghost use Rattle.depot_rows.specs.Standing.{HasRows};
+ghost use Rattle.named_files.specs.Asked.{IsAsker};
+ghost use Rattle.reply_rows.specs.Made.{IsMade, told as told_rows};
+ghost use Rattle.history_query.specs.Choosing.{ChoiceReads};
+ghost use Rattle.history_query.specs.Listing.{file_row_of, rows_told};
+ghost use Rattle.history_query.specs.Telling.{told_records};
+
+use crate::choosing::over_chosen;
+use crate::telling::{Told, told_of};
+use db_records::{ChangeRecord, RevRecord};
+use depot_model::{Caller, FileArgument, Row};
+use depot_path::DepotPath;
+use file_steps::FileAct;
+use named_files::Asker;
+use reply_rows::{RowBuilder, Step};
+use std::alloc::{AllocError, Global};
+use table_store::Tables;
+
+/// What `files` tells of a file.
+#[derive(Drop)]
+struct Listed<'a> {
+    caller: &'a Caller,
+    /// Revisions that are deleted have no row.
+    live: bool,
+}
+
+/// Whether a revision isn't deleted.
+fn is_live(row: &RevRecord) -> bool
+    ensures { result ≡ (not (bytes_eq row.now.action (codes "delete")) && not (bytes_eq row.now.action (codes "move/delete"))) }
+{
+    let action = row.action.as_bytes();
+    !(action == b"delete".as_slice()) && !(action == b"move/delete".as_slice())
+}
+
+/// The row of a revision.
+fn file_row(
+    alloc: Global,
+    path: &DepotPath,
+    row: &RevRecord,
+    change: &ChangeRecord,
+) -> Result<Row, AllocError>
+    ensures { IfOk result (λ made. made ≡ file_row_of path.now (Rev row.now) (Change change.now)) }
+{
+    let made = RowBuilder::new(alloc).path(b"depotFile", path)?;
+    let made = made.number(b"rev", u64::from(row.rev))?;
+    let made = made.number(b"change", u64::from(row.change))?;
+    let made = made.text(b"action", row.action.as_bytes())?;
+    let made = made.text(b"type", row.file_type.as_bytes())?;
+    let made = made.number(b"time", change.moment)?;
+    Ok(made.row())
+}
+
+/// What is told of a file.
+fn tell_file(
+    alloc: Global,
+    live: bool,
+    path: &DepotPath,
+    told: Option<Told<'_>>,
+) -> Result<Step, AllocError>
+    ensures { IfOk result (λ step. step ≡ told_rows (rows_told live path.now (option_map told_records told.entry))) }
+{
+    match told {
+        None => Ok(Step::new(alloc)),
+        Some(told) => {
+            let there = is_live(told.row);
+            if live && !there {
+                return Ok(Step::new(alloc));
+            }
+            let row = file_row(alloc, path, told.row, told.change)?;
+            let step = Step::tells(alloc, row)?;
+            Ok(step)
+        }
+    }
+}
+
+impl<'a> FileAct for Listed<'a> {
+    ghost use Rattle.depot_model.specs.Steps.Listing.{tells_file};
+    ghost use Rattle.history_query.specs.Choosing.{ChoiceReads as Reads};
+
+    ghost reads = { λ listed rows d. Reads rows d };
+
+    ghost acts = { λ listed d argument path. tells_file listed.live d listed.caller.now argument path };
+
+    ghost is_later = { λ listed d e. Unit {0} };
+
+    fn act(
+        &self,
+        alloc: Global,
+        tables: &Tables,
+        argument: &FileArgument,
+        path: &DepotPath,
+    ) -> Result<Step, AllocError> {
+        let told = told_of(alloc, tables, self.caller, path, &argument.spec.wanted)?;
+        let step = tell_file(alloc, self.live, path, told)?;
+        Ok(step)
+    }
+
+    ghost first = { λ listed d. tt };
+
+    ghost next = { λ listed d e argument path later. tt };
+}
+
+/// `files` of an asker.
+fn files_asked(
+    alloc: Global,
+    tables: &Tables,
+    caller: &Caller,
+    asker: &Asker,
+    live: bool,
+    arguments: &[FileArgument],
+) -> Result<Step, AllocError>
+    ensures { IfOk result (λ step. (d : List Deed) → IsAsker d caller.now asker.now → ChoiceReads (rows_of tables.now) d →
+        IsMade (rows_of tables.now) d d (model.files d caller.now live arguments.now) step) }
+{
+    let act = Listed { caller, live };
+    let step = over_chosen(alloc, tables, caller, asker, &act, arguments)?;
+    Ok(step)
+}
+
+/// `files [-e] FILE...`: the revisions that arguments choose of files, with `-e` those alone that aren't deleted, from the tables of groups,
+/// protections, forms, have lists, labels, changes and revisions alone. The one error is want of memory.
+pub fn files(
+    alloc: Global,
+    tables: &Tables,
+    caller: &Caller,
+    live: bool,
+    arguments: &[FileArgument],
+) -> Result<Step, AllocError>
+    ensures { IfOk result (λ step. (d : List Deed) → IsSound d → HasRows (rows_of tables.now) d table_ids.Group → HasRows (rows_of tables.now) d table_ids.Protect →
+        HasRows (rows_of tables.now) d table_ids.Domain → HasRows (rows_of tables.now) d table_ids.Have → HasRows (rows_of tables.now) d table_ids.Label →
+        HasRows (rows_of tables.now) d table_ids.Change → HasRows (rows_of tables.now) d table_ids.Rev →
+        IsMade (rows_of tables.now) d d (model.files d caller.now live arguments.now) step) }
+{
+    let asker = Asker::of(alloc, tables, caller)?;
+    let done = files_asked(alloc, tables, caller, &asker, live, arguments);
+    drop(asker);
+    let step = done?;
+    Ok(step)
+}

@@ -1,0 +1,188 @@
+//! `print` (Command-Line Reference, "p4 print").
+
+ghost use Rattle.std.specs.Prelude.{◌≡◌, ◌∷◌, ◌++◌, [], List, IfOk, OnOk};
+ghost use Rattle.std.specs.Option.{option_copied};
+ghost use Rattle.depot_path.specs.Path.{printed};
+ghost use Rattle.db_records.specs.declared.table.TableId.TheVariants as table_ids;
+ghost use Rattle.table_changes.specs.Changed.{rows_of};
+ghost use Rattle.depot_model.specs.Deeds.{Deed};
+ghost use Rattle.depot_model.specs.Refusals.{refusal_row};
+ghost use Rattle.depot_model.specs.Rules.{IsSound};
+ghost use Rattle.depot_model.specs.Steps.History as model;
+ghost use Rattle.depot_model.specs.declared.refusal.Refusal.TheVariants as refusals;
+ghost use Rattle.depot_rows.specs.Standing.{HasRows};
+ghost use Rattle.named_files.specs.Asked.{IsAsker};
+ghost use Rattle.reply_rows.specs.Made.{IsMade, told as told_rows};
+ghost use Rattle.history_query.specs.Choosing.{ChoiceReads};
+ghost use Rattle.history_query.specs.Printing.{awaited, length_fields, print_row_of, prints, spots as spots_in};
+
+use crate::choosing::over_chosen;
+use db_records::{RevRecord, Spot};
+use depot_model::{Caller, FileArgument, Row};
+use depot_path::{DepotPath, Sequence, Text};
+use file_steps::FileAct;
+use named_files::Asker;
+use protect_table::Level;
+use reply_rows::{RowBuilder, Step, denied_row};
+use revision_reads::stored_choice;
+use std::alloc::{AllocError, Global};
+use table_store::Tables;
+
+/// What `print` tells of a file.
+#[derive(Drop)]
+struct Printed<'a> {
+    caller: &'a Caller,
+    asker: &'a Asker,
+}
+
+/// With the length of the content, if there is one.
+fn with_length(made: RowBuilder, row: &RevRecord) -> Result<RowBuilder, AllocError>
+    ensures { IfOk result (λ more. more ≡ made ++ length_fields row.now.digest row.now.length) }
+{
+    match row.digest.as_bytes() {
+        [] => Ok(made),
+        [_, ..] => {
+            let more = made.number(b"fileSize", row.length)?;
+            Ok(more)
+        }
+    }
+}
+
+/// The content for which the row of a revision waits, an empty one, if there is one.
+fn awaited_of(alloc: Global, row: &RevRecord) -> Option<Text>
+    ensures { result ≡ awaited row.now.digest }
+{
+    match row.digest.as_bytes() {
+        [] => None,
+        [_, ..] => Some(Text::new(alloc)),
+    }
+}
+
+/// The row of a revision, which waits for its content.
+fn print_row(alloc: Global, path: &DepotPath, row: &RevRecord) -> Result<Row, AllocError>
+    ensures { IfOk result (λ made. made ≡ print_row_of path.now row.now) }
+{
+    let made = RowBuilder::new(alloc).path(b"depotFile", path)?;
+    let made = made.number(b"rev", u64::from(row.rev))?;
+    let made = made.number(b"change", u64::from(row.change))?;
+    let made = made.text(b"action", row.action.as_bytes())?;
+    let made = made.text(b"type", row.file_type.as_bytes())?;
+    let made = with_length(made, row)?;
+    let mut made = made.row();
+    made.content = awaited_of(alloc, row);
+    Ok(made)
+}
+
+/// Adds where the content of a revision stands, if it has one.
+fn add_spot(spots: &mut Sequence<Spot>, row: &RevRecord) -> Result<(), AllocError>
+    ensures { OnOk result (spots.new ≡ spots.old ++ spots_in row.now.digest row.now) }
+{
+    match row.digest.as_bytes() {
+        [] => Ok(()),
+        [_, ..] => {
+            spots.push(Spot {
+                at: row.at,
+                length: row.length,
+            })?;
+            Ok(())
+        }
+    }
+}
+
+/// What is printed of a chosen revision, if there is one.
+fn print_revision(
+    alloc: Global,
+    path: &DepotPath,
+    row: Option<&RevRecord>,
+) -> Result<Step, AllocError>
+    ensures { IfOk result (λ step. step ≡ prints path.now (option_copied row.entry)) }
+{
+    match row {
+        None => Ok(Step::new(alloc)),
+        Some(row) => {
+            let made = print_row(alloc, path, row)?;
+            let mut step = Step::tells(alloc, made)?;
+            add_spot(&mut step.reads, row)?;
+            Ok(step)
+        }
+    }
+}
+
+/// What is told of a file that the caller may not read.
+fn deny(alloc: Global, path: &DepotPath) -> Result<Step, AllocError>
+    ensures { IfOk result (λ step. step ≡ told_rows (refusal_row (refusals.Denied (printed path.now) 2) ∷ [])) }
+{
+    let row = denied_row(alloc, path, Level(2))?;
+    let step = Step::tells(alloc, row)?;
+    Ok(step)
+}
+
+impl<'a> FileAct for Printed<'a> {
+    ghost use Rattle.depot_model.specs.Step.{unless};
+    ghost use Rattle.depot_model.specs.Asking.{to_read};
+    ghost use Rattle.depot_model.specs.Steps.History.{print_chosen};
+    ghost use Rattle.depot_model.specs.Steps.Opening.{right_refusal};
+    ghost use Rattle.history_query.specs.Printing.{PrintReads};
+
+    ghost reads = { λ printed rows d. PrintReads printed.caller.now printed.asker.now rows d };
+
+    ghost acts = { λ printed d argument path. unless (right_refusal to_read d printed.caller.now path ∷ []) (print_chosen d printed.caller.now argument path) };
+
+    ghost is_later = { λ printed d e. Unit {0} };
+
+    fn act(
+        &self,
+        alloc: Global,
+        tables: &Tables,
+        argument: &FileArgument,
+        path: &DepotPath,
+    ) -> Result<Step, AllocError> {
+        if !self.asker.may(path, Level(2)) {
+            let step = deny(alloc, path)?;
+            return Ok(step);
+        }
+        let row = stored_choice(alloc, tables, self.caller, path, &argument.spec.wanted)?;
+        let step = print_revision(alloc, path, row)?;
+        Ok(step)
+    }
+
+    ghost first = { λ printed d. tt };
+
+    ghost next = { λ printed d e argument path later. tt };
+}
+
+/// `print` of an asker.
+fn print_asked(
+    alloc: Global,
+    tables: &Tables,
+    caller: &Caller,
+    asker: &Asker,
+    arguments: &[FileArgument],
+) -> Result<Step, AllocError>
+    ensures { IfOk result (λ step. (d : List Deed) → IsAsker d caller.now asker.now → ChoiceReads (rows_of tables.now) d →
+        IsMade (rows_of tables.now) d d (model.print d caller.now arguments.now) step) }
+{
+    let act = Printed { caller, asker };
+    let step = over_chosen(alloc, tables, caller, asker, &act, arguments)?;
+    Ok(step)
+}
+
+/// `print FILE...`: the revisions that arguments choose of files, whose rows wait for their contents, from the tables of groups, protections,
+/// forms, have lists, labels, changes and revisions alone. The one error is want of memory.
+pub fn print(
+    alloc: Global,
+    tables: &Tables,
+    caller: &Caller,
+    arguments: &[FileArgument],
+) -> Result<Step, AllocError>
+    ensures { IfOk result (λ step. (d : List Deed) → IsSound d → HasRows (rows_of tables.now) d table_ids.Group → HasRows (rows_of tables.now) d table_ids.Protect →
+        HasRows (rows_of tables.now) d table_ids.Domain → HasRows (rows_of tables.now) d table_ids.Have → HasRows (rows_of tables.now) d table_ids.Label →
+        HasRows (rows_of tables.now) d table_ids.Change → HasRows (rows_of tables.now) d table_ids.Rev →
+        IsMade (rows_of tables.now) d d (model.print d caller.now arguments.now) step) }
+{
+    let asker = Asker::of(alloc, tables, caller)?;
+    let done = print_asked(alloc, tables, caller, &asker, arguments);
+    drop(asker);
+    let step = done?;
+    Ok(step)
+}
