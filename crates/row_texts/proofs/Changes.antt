@@ -28,7 +28,7 @@ use Rattle.row_texts.specs.Texts.{IsOf64Bits, is_counted}
 not_below : (key : Key) → key_cmp key key ≡ Less → ⊥
 not_below key less = let same : key_cmp key key ≡ Equal = (keys_equal key key).1 refl in cc
 
-own_change : (changes : List Change) → IsStrictlySortedBy key_cmp (map changed_key changes) → AllByRecursion (λ change. change_at changes (changed_key change) ≡ Some change) changes
+pub own_change : (changes : List Change) → IsStrictlySortedBy key_cmp (map changed_key changes) → AllByRecursion (λ change. change_at changes (changed_key change) ≡ Some change) changes
 unfolding IsStrictlySortedBy
 own_change [] rising = tt
 own_change (c ∷ cs) rising = (ap (λ (b : Bool). if b then Some c else change_at cs (changed_key c)) (at-self (changed_key c) (changed_key c) refl), later cs rising.0 (own_change cs rising.1))

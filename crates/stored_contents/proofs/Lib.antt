@@ -1,0 +1,3 @@
+mod Old
+mod New
+pub mod Whole

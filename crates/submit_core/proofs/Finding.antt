@@ -1,0 +1,99 @@
+-- Where contents are found, and that the first that is found is taken.
+use Rattle.std.proofs.Common.{◌≡◌, ℕ, Bool, true, false, List, Option, Some, None, refl, sym, ap, subst, ◌∙◌}
+use Rattle.std.specs.Prelude.{option_map, if◌then◌else◌, is_none}
+use Rattle.std.specs.Option.{option_or}
+use Rattle.depot_path.specs.Path.{is_path, printed}
+use Rattle.db_records.specs.declared.key.Key.TheVariants as keys
+use Rattle.db_records.specs.declared.record.Record.{Record}
+use Rattle.db_records.specs.declared.record.Record.TheVariants as records
+use Rattle.db_records.specs.declared.rows.RevRecord.{RevRecord}
+use Rattle.db_records.specs.declared.table.TableId.TheVariants as tables
+use Rattle.table_store.specs.Rows.{row_at}
+use Rattle.table_changes.specs.Changed.{AllRows}
+use Rattle.depot_model.specs.Deeds.{Deed}
+use Rattle.depot_model.specs.Records.{rev_record, unplaced}
+use Rattle.depot_model.specs.Revisions.{Revision, revision}
+use Rattle.depot_model.specs.Rules.{IsSound}
+use Rattle.depot_model.specs.Steps.Submitting.{content_at}
+use Rattle.depot_rows.specs.Standing.{HasRows}
+use Rattle.reply_rows.specs.Made.{IsSpotOf}
+use Rattle.submit_core.specs.Content.{IsFound, found_in_row, is_absent}
+use Rattle.submit_core.specs.Contents.{TellsContent}
+use Rattle.submit_core.specs.declared.content.Found.{Found}
+use Rattle.submit_core.specs.declared.content.Found.TheVariants.{Old, Block, Absent}
+use Rattle.submit_core.proofs.ContentRows.{said, told, untold}
+
+abbrev is_rev : Record → Bool
+is_rev (records.Rev r) = true
+is_rev _ = false
+
+module _ (all : AllRows) (d : List Deed) (path : List ℕ) (n : ℕ) (sound : IsSound d) (has : HasRows all d tables.Rev) (good : is_path path ≡ true) where
+  abbrev row : Option Record
+  row = row_at (keys.Rev (printed path) n) (all tables.Rev)
+
+  other : (r : Record) → is_rev (unplaced r) ≡ false → row ≡ Some r → ⊥
+  other r apart e = go (revision d path n) (ap (option_map unplaced) (sym e) ∙ said all d path n sound has good)
+    where
+      go : (o : Option Revision) → Some (unplaced r) ≡ option_map (rev_record n) o → ⊥
+      go None is = absurd cc
+      go (Some v) is = let one : unplaced r ≡ rev_record n v = cc in absurd (let differ : false ≡ true = sym apart ∙ ap is_rev one in cc)
+
+  spot_of : (r : RevRecord) → row ≡ Some (records.Rev r) → (bytes : List ℕ) → content_at d path n ≡ Some bytes
+      → IsSpotOf all d bytes (record { at = r.at; length = r.length })
+  spot_of r e bytes is = record { path = path; rev = n; row = r; there = e; at = refl; content_is = is }
+
+  of_row : (r : RevRecord) → row ≡ Some (records.Rev r) → (x : Option (List ℕ)) → content_at d path n ≡ x → TellsContent r x
+      → IsFound all d (found_in_row (Some (records.Rev r))) x
+  of_row r e None is t =
+      subst (λ (b : Bool). IsFound all d (if b then Old (record { digest = r.digest; spot = record { at = r.at; length = r.length } }) else Absent) None) (sym t) tt
+  of_row r e (Some bytes) is t =
+      subst (λ (b : Bool). IsFound all d (if b then Old (record { digest = r.digest; spot = record { at = r.at; length = r.length } }) else Absent) (Some bytes))
+      (sym t.0) (spot_of r e bytes is, (t.1, t.2))
+
+  pub found : (r : Option Record) → row ≡ r → IsFound all d (found_in_row r) (content_at d path n)
+  found None e = subst (λ (x : Option (List ℕ)). IsFound all d Absent x) (sym (untold all d path n sound has good e)) tt
+  found (Some (records.Rev r)) e = of_row r e (content_at d path n) refl (told all d path n sound has good r e)
+  found (Some (records.Counter r)) e = absurd (other (records.Counter r) refl e)
+  found (Some (records.Group r)) e = absurd (other (records.Group r) refl e)
+  found (Some (records.Protect r)) e = absurd (other (records.Protect r) refl e)
+  found (Some (records.Domain r)) e = absurd (other (records.Domain r) refl e)
+  found (Some (records.Have r)) e = absurd (other (records.Have r) refl e)
+  found (Some (records.Label r)) e = absurd (other (records.Label r) refl e)
+  found (Some (records.Integed r)) e = absurd (other (records.Integed r) refl e)
+  found (Some (records.Resolve r)) e = absurd (other (records.Resolve r) refl e)
+  found (Some (records.Working r)) e = absurd (other (records.Working r) refl e)
+  found (Some (records.Change r)) e = absurd (other (records.Change r) refl e)
+
+-- ---- one of two
+
+module _ (all : AllRows) (d : List Deed) where
+  -- what is there is taken, whatever else there is
+  pub first_found : (found : Found) (x y : Option (List ℕ)) → is_absent found ≡ false → IsFound all d found x → IsFound all d found (option_or x y)
+  first_found (Old stored) (Some bytes) y e h = h
+  first_found (Old stored) None y e h = absurd h
+  first_found (Block text) (Some bytes) y e h = h
+  first_found (Block text) None y e h = absurd h
+  first_found Absent x y e h = absurd (let no : true ≡ false = e in cc)
+
+  -- what isn't there leaves the other
+  pub second_found : (found other : Found) (x y : Option (List ℕ)) → is_absent found ≡ true → IsFound all d found x → IsFound all d other y → IsFound all d other (option_or x y)
+  second_found Absent other None y e h k = k
+  second_found Absent other (Some bytes) y e h k = absurd h
+  second_found (Old stored) other x y e h k = absurd (let no : false ≡ true = e in cc)
+  second_found (Block text) other x y e h k = absurd (let no : false ≡ true = e in cc)
+
+  -- an answer is absent where there is no content
+  pub absent_is : (found : Found) (x : Option (List ℕ)) → IsFound all d found x → is_absent found ≡ is_none x
+  absent_is (Old stored) (Some bytes) h = refl
+  absent_is (Old stored) None h = absurd h
+  absent_is (Block text) (Some bytes) h = refl
+  absent_is (Block text) None h = absurd h
+  absent_is Absent (Some bytes) h = absurd h
+  absent_is Absent None h = refl
+
+  -- a content that is there, and one that isn't
+  pub is_first : (found : Found) (b : List ℕ) (o y : Option (List ℕ)) → Some b ≡ o → IsFound all d found (Some b) → IsFound all d found (option_or o y)
+  is_first found b o y e h = subst (λ (x : Option (List ℕ)). IsFound all d found (option_or x y)) e h
+
+  pub is_other : (found : Found) (o y : Option (List ℕ)) → None ≡ o → IsFound all d found y → IsFound all d found (option_or o y)
+  is_other found o y e h = subst (λ (x : Option (List ℕ)). IsFound all d found (option_or x y)) e h

@@ -1,0 +1,15 @@
+pub mod OwedRows
+pub mod CreditRows
+pub mod ContentRows
+pub mod Finding
+pub mod Blocking
+pub mod OpeningRows
+pub mod Refusing
+pub mod Filing
+pub mod Ending
+pub mod FixRows
+pub mod Steps
+pub mod Opened
+pub mod Stepping
+pub mod Deciding
+pub mod PendingRows

@@ -1,0 +1,15 @@
+use Rattle.std.proofs.Common.{List, take}
+use Rattle.std.specs.Prelude.{flat_map}
+use Rattle.db_records.specs.declared.table.TableId.TheVariants as table_ids
+use Rattle.table_changes.specs.Changed.{rows_of}
+use Rattle.depot_model.specs.Deeds.{Deed}
+use Rattle.depot_model.specs.Fixes.{closing}
+use Rattle.depot_model.specs.Rules.{IsSound}
+use Rattle.depot_rows.specs.Standing.{HasRows}
+use Rattle.submit_core.specs.Telling.{Tells}
+use Rattle.submit_core.proofs.fixes.add_closings.Given as goal
+
+abbrev pub invariant-loop-form : goal.invariant-loop-form
+invariant-loop-form l =
+    (d : List Deed) → IsSound d → HasRows (rows_of l.tables) d table_ids.Domain
+    → Tells l.fn.deeds l.deeds (flat_map (closing d l.change l.number) (take l.form-index l.forms))

@@ -1,0 +1,23 @@
+use Rattle.std.proofs.Common.{List, sym, ap, subst, ◌∙◌, map}
+use Rattle.depot_model.specs.declared.request.Content.{Content}
+use Rattle.depot_rows.specs.Deed.{opening_of}
+use Rattle.depot_rows.specs.declared.deed.Opening.{Opening}
+use Rattle.submit_core.specs.Blocks.{AreBlocks}
+use Rattle.submit_core.specs.Premises.{AreOpened}
+use Rattle.submit_core.proofs.Ending.{are_opened}
+use Rattle.submit_core.proofs.submitting.submit_asked.Goals as goal
+
+pub returns : goal.returns
+returns c = λ d has asker asked.
+    let request = c.args.request.now in
+    let change = c.args.change in
+    let openings_are = c.in_ok-openings.ensures d request.caller has.sound asker has.workings in
+    let opened = are_opened d request.caller change c.in_ok-openings.openings openings_are in
+    let blocks = subst (λ (l : List Content). AreBlocks l c.in_ok-blocks.blocks) c.as_slice.ensures c.in_ok-blocks.ensures in
+    c.in_ok-step.ensures d
+    (record { sound = has.sound; asked = asker; given = blocks; resolves = has.resolves; workings = has.workings; revisions = has.revisions })
+    has.forms
+    (subst (λ (os : List Opening). AreOpened d request.caller.client os) (sym c.as_slice-2.ensures) opened)
+    (ap (λ (os : List Opening). map opening_of os) c.as_slice-2.ensures ∙ openings_are)
+    (c.in_ok-number.ensures d has.counters)
+    asked

@@ -1,0 +1,12 @@
+pub mod Owed
+pub mod Contents
+pub mod Blocks
+pub mod Content
+pub mod Openings
+pub mod Premises
+pub mod Refusals
+pub mod Entries
+pub mod Telling
+pub mod Fixes
+pub mod Landing
+pub mod Submitting

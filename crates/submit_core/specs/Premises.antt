@@ -1,0 +1,32 @@
+-- What is read for the files of a submit. This project's own choice.
+use Rattle.std.specs.Prelude.{◌≡◌, ℕ, List, [], ◌∷◌, Some}
+use Rattle.db_records.specs.declared.table.TableId.TheVariants as tables
+use Rattle.table_changes.specs.Changed.{AllRows}
+use Rattle.depot_model.specs.declared.request.Request.{Request}
+use Rattle.depot_model.specs.Deeds.{Deed}
+use Rattle.depot_model.specs.Opened.{opened}
+use Rattle.depot_model.specs.Rules.{IsSound}
+use Rattle.depot_rows.specs.Deed.{opening_of}
+use Rattle.depot_rows.specs.Standing.{HasRows}
+use Rattle.depot_rows.specs.declared.deed.Opening.{Opening}
+use Rattle.named_files.specs.Asked.{IsAsker}
+use Rattle.named_files.specs.declared.asker.Asker.{Asker}
+use Rattle.submit_core.specs.Blocks.{AreBlocks}
+use Rattle.submit_core.specs.declared.blocks.Blocks.{Blocks}
+
+-- the asker and the blocks are those of the request, and the rows are the depot's
+pub record Reads (all : AllRows) (d : List Deed) (request : Request) (asker : Asker) (blocks : Blocks) : Type 0 where
+  pub sound : IsSound d
+  pub asked : IsAsker d request.caller asker
+  pub given : AreBlocks request.contents blocks
+  pub resolves : HasRows all d tables.Resolve
+  pub workings : HasRows all d tables.Working
+  pub revisions : HasRows all d tables.Rev
+
+-- the client has the file opened so
+abbrev pub IsOpened : List Deed → List ℕ → Opening → Type 0
+IsOpened d client o = opened d client o.path ≡ Some (opening_of o)
+
+abbrev pub AreOpened : List Deed → List ℕ → List Opening → Type 0
+AreOpened d client [] = Unit {0}
+AreOpened d client (o ∷ os) = IsOpened d client o × AreOpened d client os

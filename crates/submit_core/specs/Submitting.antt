@@ -1,0 +1,40 @@
+-- What a submit reads, and its refusals in their order (Command-Line Reference, "p4 submit"). The order is this project's own choice.
+use Rattle.std.specs.Prelude.{◌≡◌, ◌⊎◌, ℕ, ◌==◌, IsFalse, Some, List, [], ◌∷◌, ◌++◌, length, nat_lt, flat_map, Option}
+use Rattle.db_records.specs.declared.table.TableId.TheVariants as tables
+use Rattle.table_changes.specs.Changed.{AllRows}
+use Rattle.depot_model.specs.declared.request.Request.{Request}
+use Rattle.depot_model.specs.declared.refusal.Refusal.{Refusal}
+use Rattle.depot_model.specs.declared.refusal.Refusal.TheVariants.{EmptyChange, OverLimit}
+use Rattle.depot_model.specs.declared.refusal.Limit.TheVariants.{Text, Change, Files}
+use Rattle.depot_model.specs.Deeds.{Deed, Opening, Pending}
+use Rattle.depot_model.specs.Numbers.{pending}
+use Rattle.depot_model.specs.Rules.{IsName, IsSound}
+use Rattle.depot_model.specs.Shelves.{is_shelved}
+use Rattle.depot_model.specs.Step.{refuse_if}
+use Rattle.depot_model.specs.Steps.Submitting.{file_refusals}
+use Rattle.depot_rows.specs.Standing.{HasRows}
+
+-- the rows that are read for a change, the rights aside
+pub record HasSubmitted (all : AllRows) (d : List Deed) : Type 0 where
+  pub sound : IsSound d
+  pub counters : HasRows all d tables.Counter
+  pub forms : HasRows all d tables.Domain
+  pub resolves : HasRows all d tables.Resolve
+  pub workings : HasRows all d tables.Working
+  pub revisions : HasRows all d tables.Rev
+
+-- what is known before the refusals of the files: a change that is named is pending, of the client, and has no shelved files
+pub record IsAsked (d : List Deed) (request : Request) (n : ℕ) : Type 0 where
+  pub user : IsName request.caller.user
+  pub change : (n ≡ 0) ⊎ ((p : Pending) × ((pending d n ≡ Some p) × (p.client ≡ request.caller.client)))
+  pub unshelved : (n ≡ 0) ⊎ IsFalse (is_shelved d n)
+
+abbrev pub front_refusals : ℕ → List ℕ → ℕ → List (Option Refusal)
+front_refusals n text files = refuse_if (files == 0) (EmptyChange n) ∷ refuse_if (nat_lt 65536 (length text)) (OverLimit Text) ∷ []
+
+abbrev pub last_refusals : ℕ → ℕ → List (Option Refusal)
+last_refusals number files = refuse_if (nat_lt 2147483647 number) (OverLimit Change) ∷ refuse_if (nat_lt 10000 files) (OverLimit Files) ∷ []
+
+abbrev pub submit_refusals : List Deed → Request → ℕ → ℕ → List ℕ → List Opening → List (Option Refusal)
+submit_refusals d request n number text openings =
+    front_refusals n text (length openings) ++ (flat_map (file_refusals d request) openings ++ last_refusals number (length openings))

@@ -1,0 +1,23 @@
+//! Submitting a change (Command-Line Reference, "p4 submit").
+//!
+//! The files of a change land together, or none does. Each look-up is of a row of a file that is submitted; the client's opened files are found by a
+//! walk over the opened files of all clients, and the jobs that the change fixes by one over all fixes.
+#![tactic(auto)]
+
+mod blocks;
+mod content;
+mod contents;
+mod credits;
+mod entries;
+mod fixes;
+mod landing;
+mod numbers;
+mod openings;
+mod refusals;
+mod resolves;
+mod submitting;
+
+pub use contents::rows_tell_contents;
+pub use credits::credits_of;
+pub use resolves::{owes_resolve, rows_tell_resolves};
+pub use submitting::{submit_change, submit_default};
