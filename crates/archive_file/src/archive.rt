@@ -2,7 +2,7 @@
 
 ghost use Rattle.std.specs.Prelude.{◌≡◌, ◌+◌, ◌<◌, ◌≤◌, ◌^◌, List, ℕ, length, take, drop, max, IfOk, OnOk};
 ghost use Rattle.outside_api.specs.Count.{HasCause, counted};
-ghost use Rattle.outside_api.specs.Disk.{Files, LeavesOnly, NoMore, Same};
+ghost use Rattle.outside_api.specs.Disk.{Files, LeavesOnly, NoMore, Same, StillTells};
 ghost use Rattle.db_records.specs.declared.change.Spot.{Spot};
 ghost use Rattle.archive_file.specs.Archive.{disk_of, used_of, end_of, Has, AllHave, HasMemoryOr};
 
@@ -64,6 +64,7 @@ impl<D: Disk> Archive<D> {
         ensures small { IfOk result (λ spot. end_of spot < 2 ^ 63) }
         ensures kept { (spot : Spot) (bytes : List ℕ) → end_of spot ≤ at → AllHave (D.may_leave (disk_of self.old)) spot bytes → AllHave (D.may_leave (disk_of self.new)) spot bytes }
         ensures any_moment { (spot : Spot) (bytes : List ℕ) → end_of spot ≤ at → AllHave (D.may_leave (disk_of self.old)) spot bytes → LeavesOnly D.moment D.left_since (disk_of self.old) (disk_of self.new) (λ c. Has (c 0) spot bytes) }
+        ensures told { StillTells (D.seen (disk_of self.old)) (D.seen (disk_of self.new)) }
         ensures used { used_of self.new ≡ used_of self.old }
         ensures asked { OnOk result (D.calls (disk_of self.new) ≡ counted 2 (D.calls (disk_of self.old))) }
         ensures at_most { D.calls (disk_of self.new) ≤ counted 2 (D.calls (disk_of self.old)) }

@@ -1,13 +1,9 @@
 -- The contents of files that are opened, and the pairs that are kept.
-use Rattle.std.proofs.Common.{◌≡◌, ℕ, List, take, refl, sym, ap, ◌∙◌, inl, inr}
+use Rattle.std.proofs.Common.{◌≡◌, ℕ, List, refl, sym, ap, ◌∙◌}
 use Rattle.outside_api.specs.Disk.{Files}
 use Rattle.db_records.specs.declared.table.TableId.{TableId}
 use Rattle.db_records.specs.declared.table.TableId.TheVariants.{Rev}
 use Rattle.depot_model.specs.Deeds.{Deed}
-use Rattle.depot_model.specs.Commands.{step}
-use Rattle.depot_model.specs.Kept.{IsKept}
-use Rattle.depot_model.specs.Places.{Placed, deeds_of, taken}
-use Rattle.depot_model.specs.Step.{after}
 use Rattle.table_changes.specs.Changed.{AllRows, changed_by, no_rows}
 use Rattle.recovery.specs.Holding.{Hold, joined}
 use Rattle.recovery.specs.Standing.{StandFor}
@@ -33,27 +29,14 @@ contents_opened journal archive image rows d stand hold same =
     contents_alike stand.rows rows d d archive image same (rows_once journal stand.rows rows own hold Rev) (λ path n. refl) (record { within = stand.within; contents = stand.contents })
 
 -- an image that stands with all of these stands with this one
-pub pair_stands : (images : Files → Type 0) (j a : Files) → images a → (d : List Deed) → StandsWith images j d → StandFor d j a
-pair_stands images j a here d stands = record {
+pub pair_stands : (images : Files → Type 0) (used : ℕ) (j a : Files) → images a → (d : List Deed) → StandsWith images used j d → StandFor d j a
+pair_stands images used j a here d stands = record {
   was = stands.was;
   committed = stands.committed;
   rows = stands.rows;
   has = stands.has;
   stand = stands.stand;
   generation = stands.generation;
-  within = (stands.contents a here).within;
-  contents = (stands.contents a here).contents;
+  within = (stands.kept.contents a here).within;
+  contents = (stands.kept.contents a here).contents;
 }
-
--- what is kept by one reading is kept by another that follows from it
-pub kept_leads : (P Q : List Deed → Type 0) → ((d : List Deed) → P d → Q d) → (d : List Deed) (places : List Placed) (k : ℕ) → IsKept P d places k → IsKept Q d places k
-kept_leads P Q leads d places k (inl stands) = inl (leads (taken step d (take k places)) stands)
-kept_leads P Q leads d places k (inr f) = inr (record {
-  before = f.before;
-  faulty = f.faulty;
-  later = f.later;
-  parts = f.parts;
-  fault = f.fault;
-  quiet = f.quiet;
-  stands = leads (after (taken step d (take k places)) (deeds_of step (taken step d f.before) f.faulty.request)) f.stands;
-})

@@ -89,7 +89,7 @@ module _ {D S K : Type 0} (seen may_leave : D → Files → Type 0) (moment : D 
   leads run are e = e ∙ (ap (λ (ps : List (PartyEnd K)). ends_cause ended.order ps) are ∙ ap (one_cause (has_fault_place ended.order)) run.end.end)
 
   place_rose : (run : Ran) → has_fault_place ended.order ≡ true → Rose
-  place_rose run e = inr (inr (inl (inl (run.fault_places e))))
+  place_rose run e = inr (inr (inl (run.fault_places e)))
 
   sink_rose : (run : Ran) → ended.parties ≡ run.party ∷ [] → run.end.failed ≡ true → Rose
   sink_rose run are e = inr (inr (inr (inr (rw are (0, run.party, omega arith, refl, run.end.cause e)))))

@@ -3,7 +3,7 @@ use Rattle.std.specs.Prelude.{◌⊎◌, ℕ, List}
 use Rattle.outside_api.specs.Count.{HasRisen}
 use Rattle.outside_api.specs.Disk.{Files}
 use Rattle.depot_model.specs.Deeds.{Deed}
-use Rattle.depot_model.specs.Kept.{IsKept}
+use Rattle.depot_runs.specs.Kept.{IsKept}
 use Rattle.depot_model.specs.Places.{Placed}
 use Rattle.recovery.specs.Looking.{OnlyReads}
 use Rattle.recovery.specs.Standing.{StandFor}

@@ -3,7 +3,7 @@ use Rattle.std.specs.Prelude.{◌≡◌, ◌≤◌, ℕ, ◌+◌, Bool, true, fa
 use Rattle.outside_api.specs.Count.{HasRisen}
 use Rattle.depot_model.specs.Deeds.{Deed}
 use Rattle.depot_model.specs.Places.{Placed}
-use Rattle.depot_model.specs.Run.{placed}
+use Rattle.depot_runs.specs.Run.{placed}
 use Rattle.depot_model.specs.declared.order.Place.{Place}
 use Rattle.depot_model.specs.declared.request.Session.{Session}
 use Rattle.depot_model.specs.Order.{IsOrder}

@@ -4,7 +4,7 @@ use Rattle.outside_api.specs.Count.{HasRisen}
 use Rattle.outside_api.specs.Disk.{Files, NoMore}
 use Rattle.depot_model.specs.Deeds.{Deed}
 use Rattle.depot_model.specs.Places.{Placed}
-use Rattle.depot_model.specs.Run.{placed}
+use Rattle.depot_runs.specs.Run.{placed}
 use Rattle.recovery.specs.Opening.{LooksOnly}
 use Rattle.session_loop.specs.Asking.{asking_of}
 use Rattle.p4_server.specs.declared.ended.Ended.{Ended}
@@ -68,8 +68,8 @@ module _ {D S K : Type 0} (seen may_leave : D → Files → Type 0) (moment : D 
     pub opened : D
     pub is_opened : IsOpened opened
     pub run : (d : List Deed) → IsStart seen journal archive d → IsRunKept opened party source d
-    -- a commit fails only where the journal's disk has failed
-    pub fault_places : has_fault_place ended.order ≡ true → HasRisen (disk_faults journal) (disk_faults ended.journal)
+    -- a commit fails, and a content can't be read or stored, only where a disk has failed
+    pub fault_places : has_fault_place ended.order ≡ true → DiskRose disk_faults journal ended.journal archive ended.archive
     pub told : ((ended.parties ≡ party ∷ []) × (ended.sources ≡ source ∷ []) × IsTold given sink_faults old_out new_out ended) ⊎ (ended.cause ≡ causes.Memory)
 
   pub record Schedules : Type 0 where

@@ -1,12 +1,12 @@
 //! The run of one party alone.
 
 ghost use Rattle.std.specs.Prelude.{◌≡◌, ◌≤◌, ◌∷◌, [], ℕ, List, Option, Some, Err, length, map, slice_get, true, false, IfOk};
-ghost use Rattle.outside_api.specs.Count.{HasRisen, counted};
+ghost use Rattle.outside_api.specs.Count.{HasRisen};
 ghost use Rattle.depot_model.specs.Deeds.{Deed};
-ghost use Rattle.depot_model.specs.Run.{placed};
+ghost use Rattle.depot_runs.specs.Run.{placed};
 ghost use Rattle.depot_model.specs.declared.request.Session.{Session};
 ghost use Rattle.session_loop.specs.Asking.{AreWellFormed, commands_of};
-ghost use Rattle.session_loop.specs.Served.{IsServed, fault_count};
+ghost use Rattle.session_loop.specs.Served.{AreCaused, IsServed};
 ghost use Rattle.p4_server.specs.declared.party.NotRun.{NotRun};
 ghost use Rattle.p4_server.specs.Headline.{IsPartyEnd, IsRunFrom};
 
@@ -59,7 +59,7 @@ fn run_read<T: Taker, K: Sink, C: Clock, G: Gate>(
     ensures within { result.commands ≤ length (commands_of session) }
     ensures counts { K.faults sink.old ≤ K.faults sink.new }
     ensures cause { result.failed ≡ true → HasRisen (K.faults sink.old) (K.faults sink.new) }
-    ensures faults { counted (fault_count order.new.items) (T.faults taker.old) ≤ T.faults taker.new }
+    ensures faults { AreCaused (T.faults taker.old) (T.faults taker.new) (T.content_faults taker.old) (T.content_faults taker.new) [] order.new.items }
 {
     match session {
         Some(session) => run_session(alloc, 1, session, clock, gate, sink, taker, order),
@@ -84,7 +84,7 @@ pub fn run_party<T: Taker, H: Doors, C: Clock, G: Gate>(
     ensures end { IfOk result (λ run. IsPartyEnd H.In.left H.In.faults H.Out.faults (H.input doors.old name.now) 1 run.source run.party) }
     ensures run { (since : ℕ) (start : List Deed) → T.has_run taker.old since start [] → IfOk result (λ run.
         IsRunFrom H.In.left H.In.faults H.Out.given H.Out.faults (C.may_give clock.now) (T.has_run taker.new since) start (H.input doors.old) (H.output doors.old) name.now run.order run.party run.source) }
-    ensures faults { IfOk result (λ run. counted (fault_count run.order) (T.faults taker.old) ≤ T.faults taker.new) }
+    ensures faults { IfOk result (λ run. AreCaused (T.faults taker.old) (T.faults taker.new) (T.content_faults taker.old) (T.content_faults taker.new) [] run.order) }
     ensures unrun { (why : NotRun) → result ≡ Err why → taker.new ≡ taker.old }
     ensures doors { result ≡ Err NotRun.Doors → HasRisen (H.faults doors.old) (H.faults doors.new) }
 {

@@ -17,7 +17,7 @@ use Rattle.recovery.specs.Holding.{spots_end}
 use Rattle.recovery.specs.Standing.{HasContent, HasContents}
 use Rattle.serial_depot.specs.Holding.{SameContents, HasItsContents}
 
-abbrev content_of : Option Revision → Option (List ℕ)
+abbrev pub content_of : Option Revision → Option (List ℕ)
 content_of found = option_and_then (λ (r : Revision). r.entry.content) found
 
 -- a revision's content is that at its place
@@ -25,7 +25,7 @@ content_here : (found : Option Revision) (r : Revision) (bytes : List ℕ) → f
 content_here found r bytes is content = ap content_of is ∙ content
 
 -- and where a content is, there is its revision
-revision_there : (found : Option Revision) (bytes : List ℕ) → content_of found ≡ Some bytes → (r : Revision) × (found ≡ Some r) × (r.entry.content ≡ Some bytes)
+pub revision_there : (found : Option Revision) (bytes : List ℕ) → content_of found ≡ Some bytes → (r : Revision) × (found ≡ Some r) × (r.entry.content ≡ Some bytes)
 revision_there None bytes is = absurd cc
 revision_there (Some r) bytes is = (r, refl, is)
 

@@ -1,27 +1,40 @@
 -- Which depots an image stands for after places.
-use Rattle.std.proofs.Common.{◌≡◌, ◌⊎◌, ℕ, ◌+◌, true, List, length, refl, sym, ap, subst, ◌∙◌, inl, inr}
+use Rattle.std.proofs.Common.{◌≡◌, ◌⊎◌, ℕ, ◌+◌, true, List, length, take, refl, sym, ap, subst, ◌∙◌, inl, inr}
 use Rattle.outside_api.specs.Disk.{Files}
 use Rattle.disk_journal.specs.Images.{Committed, HasCommitted, with_group}
 use Rattle.disk_journal.specs.Stands.{Doubtful, nothing, group, opening, HasWithOrWithout}
 use Rattle.table_changes.specs.Changed.{AllRows, changed_by}
-use Rattle.depot_model.specs.Commands.{step}
+use Rattle.depot_runs.specs.Today.{step}
 use Rattle.depot_model.specs.Deeds.{Deed}
-use Rattle.depot_model.specs.Kept.{KeptInDoubt}
-use Rattle.depot_model.specs.Places.{Placed, taken}
+use Rattle.depot_runs.specs.Kept.{IsKept, KeptInDoubt}
+use Rattle.depot_model.specs.Places.{Placed, deeds_of, taken}
 use Rattle.depot_model.specs.Step.{Step, after}
 use Rattle.depot_rows.specs.Standing.{Stand}
 use Rattle.recovery.specs.Holding.{HasAllRows}
 use Rattle.session_loop.specs.Taking.{placed_by}
-use Rattle.serial_depot.specs.Holding.{generation_in, SameContents, AllHaveContents, StandsWith}
+use Rattle.serial_depot.specs.Holding.{generation_in, SameContents, KeepContents, StandsWith}
 use Rattle.serial_depot.specs.Running.{IsOfFault, IsDoubtOf}
 use Rattle.serial_depot.proofs.Contents.{contents_alike}
 use Rattle.serial_depot.proofs.Groups.{group_added}
 use Rattle.serial_depot.proofs.Laws.{steps_alike, contents_after_alike}
 use Rattle.serial_depot.proofs.Places.{same_stand}
 
-module _ (images : Files → Type 0) (was : Committed) (rows : AllRows) (start : List Deed) (places : List Placed) (has : HasAllRows was rows) (stand : Stand rows (taken step start places)) (generation : generation_in (taken step start places) ≡ was.generation) where
+-- what is kept by one reading is kept by another that follows from it
+pub kept_leads : (P Q : List Deed → Type 0) → ((d : List Deed) → P d → Q d) → (d : List Deed) (places : List Placed) (k : ℕ) → IsKept P d places k → IsKept Q d places k
+kept_leads P Q leads d places k (inl stands) = inl (leads (taken step d (take k places)) stands)
+kept_leads P Q leads d places k (inr f) = inr (record {
+  before = f.before;
+  faulty = f.faulty;
+  later = f.later;
+  parts = f.parts;
+  fault = f.fault;
+  quiet = f.quiet;
+  stands = leads (after (taken step d (take k places)) (deeds_of step (taken step d f.before) f.faulty.request)) f.stands;
+})
+
+module _ (images : Files → Type 0) (used : ℕ) (was : Committed) (rows : AllRows) (start : List Deed) (places : List Placed) (has : HasAllRows was rows) (stand : Stand rows (taken step start places)) (generation : generation_in (taken step start places) ≡ was.generation) where
   -- With what one fault place would have done: the depot answers its request now as it did then.
-  pub kept_in_doubt : (text : List ℕ) → IsOfFault images rows was start places text → (image : Files) → HasCommitted (with_group was text) image → KeptInDoubt (StandsWith images image) start places
+  pub kept_in_doubt : (text : List ℕ) → IsOfFault images used rows was start places text → (image : Files) → HasCommitted (with_group was text) image → KeptInDoubt (StandsWith images used image) start places
   kept_in_doubt text f image committed =
       let earlier = taken step start f.before in
       let now = taken step start places in
@@ -46,14 +59,18 @@ module _ (images : Files → Type 0) (was : Committed) (rows : AllRows) (start :
           has = subst Has (ap (with_group was) (sym f.text_is)) (group_added was rows f.changes has f.is_group f.fit);
           stand = subst After same (f.are_changes.stand now stand);
           generation = subst Tells same (f.are_changes.generation now stand ∙ generation);
-          contents = λ archive here. contents_alike (changed_by rows f.changes) (changed_by rows f.changes) (after earlier deeds) (after now deeds) archive archive refl refl same_contents (f.contents archive here);
+          kept = record {
+            ends = f.kept.ends;
+            contents = λ archive here.
+                contents_alike (changed_by rows f.changes) (changed_by rows f.changes) (after earlier deeds) (after now deeds) archive archive refl refl same_contents (f.kept.contents archive here);
+          };
         };
       }
 
   -- the run, or that
-  pub kept_now : AllHaveContents images rows (taken step start places) → (doubt : Doubtful) → IsDoubtOf images rows was start places doubt → (image : Files) → HasWithOrWithout was doubt image
-      → StandsWith images image (taken step start places) ⊎ KeptInDoubt (StandsWith images image) start places
-  kept_now contents nothing none image committed = inl (record { was = was; committed = committed; rows = rows; has = has; stand = stand; generation = generation; contents = contents })
-  kept_now contents (group text) f image (inl committed) = inl (record { was = was; committed = committed; rows = rows; has = has; stand = stand; generation = generation; contents = contents })
-  kept_now contents (group text) f image (inr committed) = inr (kept_in_doubt text f image committed)
-  kept_now contents (opening checkpoint) never image either = absurd never
+  pub kept_now : KeepContents images used rows (taken step start places) → (doubt : Doubtful) → IsDoubtOf images used rows was start places doubt → (image : Files) → HasWithOrWithout was doubt image
+      → StandsWith images used image (taken step start places) ⊎ KeptInDoubt (StandsWith images used image) start places
+  kept_now kept nothing none image committed = inl (record { was = was; committed = committed; rows = rows; has = has; stand = stand; generation = generation; kept = kept })
+  kept_now kept (group text) f image (inl committed) = inl (record { was = was; committed = committed; rows = rows; has = has; stand = stand; generation = generation; kept = kept })
+  kept_now kept (group text) f image (inr committed) = inr (kept_in_doubt text f image committed)
+  kept_now kept (opening checkpoint) never image either = absurd never

@@ -1,23 +1,23 @@
 -- What the step of each request does to a sound depot, as the driver asks for it: the laws of all requests.
-use Rattle.std.proofs.Common.{◌≡◌, ◌≢◌, ℕ, Bool, true, false, List, [], Result, Ok, Err, refl, sym, subst}
-use Rattle.std.specs.Prelude.{All, IfOk, IsTrue, if◌then◌else◌}
+use Rattle.std.proofs.Common.{◌≡◌, ◌≢◌, Bool, true, false, List, [], Result, Ok, Err, refl, sym, subst}
+use Rattle.std.specs.Prelude.{All, IfOk, if◌then◌else◌}
 use Rattle.db_records.specs.declared.change.Change.{Change}
-use Rattle.db_records.specs.declared.key.Key.TheVariants as keys
 use Rattle.journal_groups.specs.Groups.{AreRecords}
+use Rattle.command_core.specs.Outcomes.{IsFormed, IsFormedBy}
 use Rattle.command_words.specs.WellFormed.{IsWellFormed}
 use Rattle.table_changes.specs.Changed.{AllRows}
 use Rattle.depot_model.specs.About.{about}
-use Rattle.depot_model.specs.Built.{is_built}
-use Rattle.depot_model.specs.Commands.{step, built_step, whole_step}
+use Rattle.depot_runs.specs.Built.{is_built}
+use Rattle.depot_model.specs.Commands.{built_step, whole_step}
+use Rattle.depot_runs.specs.Today.{step}
 use Rattle.depot_model.specs.Common.{word_refusal}
 use Rattle.depot_model.specs.Deeds.{Deed}
-use Rattle.depot_model.specs.Records.{record_of, SameRows}
+use Rattle.depot_model.specs.Records.{SameRows}
 use Rattle.depot_model.specs.Rules.{IsSound}
 use Rattle.depot_model.specs.Step.{Step, after, refuses}
-use Rattle.depot_model.specs.Tables.{own_tables, writes}
 use Rattle.depot_model.specs.WellFormed.{is_command}
 use Rattle.depot_model.specs.declared.command.Command.{Command}
-use Rattle.depot_model.specs.declared.command.Command.TheVariants.{Checkpoint, SubmitChange, SubmitDefault}
+use Rattle.depot_model.specs.declared.command.Command.TheVariants.{Checkpoint}
 use Rattle.depot_model.specs.declared.refusal.Refusal.TheVariants.{Unbuilt}
 use Rattle.depot_model.specs.declared.request.Request.{Request}
 use Rattle.depot_model.specs.declared.request.WordFault.{WordFault}
@@ -28,8 +28,6 @@ use Rattle.sound_requests.proofs.All.{asked_sound}
 use Rattle.depots_alike.proofs.Staying as contents
 use Rattle.depots_alike.proofs.Twins.{Twins}
 use Rattle.depots_alike.proofs.Whole.{step_same}
-use Rattle.step_tables.proofs.Rows.{rows_stay, contents_stay}
-use Rattle.step_tables.proofs.Whole.{step_stays}
 use Rattle.step_limits.proofs.Whole.{request_keeps_generation}
 use Rattle.step_limits.specs.Limits.{CountsNoGeneration}
 use Rattle.row_texts.proofs.Changes.{changes_have_texts}
@@ -46,6 +44,14 @@ asked_of request proper = record { formed = go request.command proper.0; short =
     go (Ok command) h = h.form
     go (Err fault) h = tt
 
+-- its command keeps what its words promise
+pub formed_of : (request : Request) → IsProper request → IsFormedBy request
+formed_of request proper = go request.command proper.0
+  where
+    go : (asked : Result Command WordFault) → IfOk asked IsWellFormed → IfOk asked IsFormed
+    go (Ok command) h = (h.form, h.heads)
+    go (Err fault) h = tt
+
 pub sound_after : (request : Request) → IsProper request → is_typed request ≡ true → (d : List Deed) → IsSound d → IsSound (after d (step d request).deeds)
 sound_after request proper typed d sound = asked_sound is_built d request sound (asked_of request proper) typed
 
@@ -59,7 +65,7 @@ pub contents_after_alike : (d e : List Deed) (request : Request) → IsSound d �
 contents_after_alike d e request left right same_rows same_contents =
     contents.contents_stay d e (step d request).deeds (record { left = left; right = right; rows = same_rows; contents = same_contents })
 
--- ---- no command that is built opens a generation, or lands a change
+-- ---- no command that is built opens a generation
 
 -- the step of words that are no command, and of a command that isn't built, does nothing
 abbrev step_for : List Deed → Request → Result Command WordFault → Step
@@ -91,21 +97,6 @@ generation_after request proper d =
     let formed : is_command command ≡ true = (subst (λ (asked : Result Command WordFault). IfOk asked IsWellFormed) e proper.0).form in
     let Counts : Result Command WordFault → Type 0 = λ asked. IfOk asked CountsNoGeneration in
     request_keeps_generation is_built d request (subst Counts (sym e) (formed, no_checkpoint command built)))
-
-lands_nothing : (command : Command) → is_built command ≡ true → writes command 10 ≡ false
-lands_nothing (SubmitChange n) built = absurd cc
-lands_nothing (SubmitDefault text) built = absurd cc
-lands_nothing _ built = refl
-
-pub revisions_after : (d : List Deed) (request : Request) (path : List ℕ) (n : ℕ) → record_of (after d (step d request).deeds) (keys.Rev path n) ≡ record_of d (keys.Rev path n)
-revisions_after d request path n =
-    built_or_nothing d request (λ deeds. record_of (after d deeds) (keys.Rev path n) ≡ record_of d (keys.Rev path n)) refl (λ command e built.
-    rows_stay (own_tables command).written (keys.Rev path n) (lands_nothing command built) d (step d request).deeds (step_stays is_built d request command e).each)
-
-pub contents_after : (d : List Deed) (request : Request) → SameContents d (after d (step d request).deeds)
-contents_after d request =
-    built_or_nothing d request (λ deeds. SameContents d (after d deeds)) (λ path n. refl) (λ command e built path n.
-    sym (contents_stay (own_tables command).written (lands_nothing command built) d (step d request).deeds (step_stays is_built d request command e).each path n))
 
 -- ---- changes have texts
 

@@ -2,9 +2,9 @@
 use Rattle.std.proofs.Common.{◌≡◌, ◌≢◌, ◌⊎◌, ℕ, ◌≤◌, ◌+◌, Bool, true, false, List, [], ◌∷◌, ◌++◌, length, take, refl, sym, ap, subst, ◌∙◌, inl, inr, arith}
 use Rattle.std.proofs.lemmas.List.{take-append-le, take_all, length-append}
 use Rattle.table_changes.specs.Changed.{AllRows}
-use Rattle.depot_model.specs.Commands.{step}
+use Rattle.depot_runs.specs.Today.{step}
 use Rattle.depot_model.specs.Deeds.{Deed}
-use Rattle.depot_model.specs.Kept.{IsChange, NoChange, IsKept, KeptInDoubt}
+use Rattle.depot_runs.specs.Kept.{IsChange, NoChange, IsKept, KeptInDoubt}
 use Rattle.depot_model.specs.Places.{Placed, deeds_of, done_at, taken}
 use Rattle.depot_model.specs.Records.{RowsDiffer, SameRows}
 use Rattle.depot_model.specs.Step.{after}

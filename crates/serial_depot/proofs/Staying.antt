@@ -1,5 +1,5 @@
 -- Deeds after which no row differs leave the contents of revisions as they are.
-use Rattle.std.proofs.Common.{◌≡◌, ℕ, suc, ◌<◌, ◌≤◌, ◌+◌, Bool, true, false, ◌&&◌, List, [], ◌∷◌, ◌++◌, length, map, filter, Option, Some, None, refl, sym, ap, subst, ◌∙◌, arith, append_assoc, append-nil}
+use Rattle.std.proofs.Common.{◌≡◌, ℕ, zero, suc, ◌<◌, ◌≤◌, ◌+◌, Bool, true, false, ◌&&◌, List, [], ◌∷◌, ◌++◌, length, map, filter, Option, Some, None, refl, sym, ap, subst, ◌∙◌, arith, append_assoc, append-nil}
 use Rattle.std.specs.Prelude.{IsTrue, slice_get, flat_map, option_map, option_and_then}
 use Rattle.std.specs.List.{list_all}
 use Rattle.depot_path.specs.Bytes.{same}
@@ -7,12 +7,17 @@ use Rattle.depot_path.specs.Path.{printed, is_path}
 use Rattle.db_records.specs.declared.key.Key.TheVariants as keys
 use Rattle.db_records.specs.declared.record.Record.{Record}
 use Rattle.depot_model.specs.Deeds.{Deed, Land, Landing, Entry, Credit}
-use Rattle.depot_model.specs.Records.{record_of, rev_record, SameRows}
+use Rattle.db_records.specs.declared.record.Record.TheVariants.{Rev as RevRow}
+use Rattle.db_records.specs.declared.rows.RevRecord.{RevRecord}
+use Rattle.db_records.specs.declared.table.TableId.TheVariants.{Rev}
+use Rattle.table_changes.specs.Changed.{AllRows}
+use Rattle.depot_model.specs.Records.{record_of, rev_record, unplaced, SameRows}
 use Rattle.depot_model.specs.Revisions.{Revision, revision, revisions, revision_in, entries_at}
 use Rattle.depot_model.specs.Rules.{IsSound, has_paths, entry_paths, path_or_none}
 use Rattle.depot_model.specs.Step.{after}
 use Rattle.depot_rows.proofs.Keys.{same-is, left-true, right-true}
 use Rattle.depot_rows.proofs.Paths.{at_path-here}
+use Rattle.depot_rows.specs.Standing.{HasRows, row_in}
 use Rattle.serial_depot.specs.Holding.{SameContents}
 
 -- ---- revisions come behind those that are there
@@ -99,3 +104,33 @@ contents_stay d deeds sound sound_after alike path n = ap (λ (l : List Revision
     same_revisions : (b : Bool) → is_path path ≡ b → revisions (after d deeds) path ≡ revisions d path
     same_revisions true is = let all = all_deeds path d deeds in of_path d (after d deeds) path is alike all.more all.are
     same_revisions false is = no_revisions path is (after d deeds) sound_after.paths ∙ sym (no_revisions path is d sound.paths)
+
+-- ---- a revision has its row
+
+-- a record that is a revision's apart from its place is one
+of_revision : (x : Record) (row : RevRecord) → unplaced x ≡ RevRow row → (r : RevRecord) × (x ≡ RevRow r)
+of_revision (RevRow r) row is = (r, refl)
+of_revision _ row is = absurd cc
+
+some_is : {A : Type 0} {x y : A} → Some x ≡ Some y → x ≡ y
+some_is e = cc
+
+-- the path of a revision is one
+path_there : (d : List Deed) → IsSound d → (path : List ℕ) (n : ℕ) (r : Revision) → revision d path n ≡ Some r → is_path path ≡ true
+path_there d sound path zero r there = absurd cc
+path_there d sound path (suc n) r there = go (is_path path) refl
+  where
+    go : (b : Bool) → is_path path ≡ b → is_path path ≡ true
+    go true is = is
+    go false is = absurd (let both : None ≡ Some r = sym (ap (λ (l : List Revision). slice_get l n) (no_revisions path is d sound.paths)) ∙ there in cc)
+
+pub row_there : (d : List Deed) → IsSound d → (rows : AllRows) → HasRows rows d Rev → (path : List ℕ) (n : ℕ) (r : Revision) → revision d path n ≡ Some r
+    → (row : RevRecord) × (row_in rows (keys.Rev (printed path) n) ≡ Some (RevRow row))
+row_there d sound rows has path n r there =
+    go (row_in rows (keys.Rev (printed path) n)) refl
+    (has (keys.Rev (printed path) n) refl ∙ (row_here d path n (path_there d sound path n r there) ∙ ap (option_map (rev_record n)) there))
+  where
+    go : (found : Option Record) → row_in rows (keys.Rev (printed path) n) ≡ found → option_map unplaced found ≡ Some (rev_record n r)
+        → (row : RevRecord) × (row_in rows (keys.Rev (printed path) n) ≡ Some (RevRow row))
+    go None is e = absurd cc
+    go (Some x) is e = let one = of_revision x _ (some_is e) in (one.0, is ∙ ap (λ (y : Record). Some y) one.1)

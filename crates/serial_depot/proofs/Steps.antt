@@ -11,9 +11,9 @@ use Rattle.disk_journal.specs.declared.journal.Journal.{Journal}
 use Rattle.journal_runs.specs.Runs.{IsAfterFault}
 use Rattle.table_changes.specs.Changed.{AllRows, AllFitIn, changed_by, rows_of}
 use Rattle.table_store.specs.declared.tables.Tables.{Tables}
-use Rattle.depot_model.specs.Commands.{step}
+use Rattle.depot_runs.specs.Today.{step}
 use Rattle.depot_model.specs.Deeds.{Deed}
-use Rattle.depot_model.specs.Kept.{IsChange}
+use Rattle.depot_runs.specs.Kept.{IsChange}
 use Rattle.depot_model.specs.Places.{Placed, done_at, taken}
 use Rattle.depot_model.specs.Records.{SameRows}
 use Rattle.depot_model.specs.Step.{after}
@@ -23,7 +23,7 @@ use Rattle.depot_rows.specs.Standing.{Stand}
 use Rattle.recovery.specs.Holding.{HasAllRows}
 use Rattle.session_loop.specs.Taking.{placed_by}
 use Rattle.serial_depot.specs.Committing.{AreChangesOf}
-use Rattle.serial_depot.specs.Holding.{generation_in, SameContents, AllHaveContents, StandsWith, IsKeptSometime}
+use Rattle.serial_depot.specs.Holding.{generation_in, SameContents, KeepContents, StandsWith, IsKeptSometime}
 use Rattle.serial_depot.specs.Running.{IsOfFault, IsDoubtOf, HasRun}
 use Rattle.serial_depot.specs.declared.depot.SerialDepot.{SerialDepot}
 use Rattle.serial_depot.proofs.Contents.{contents_alike}
@@ -36,20 +36,20 @@ true_is_not_false : true ≡ false → ⊥
 true_is_not_false e = cc
 
 -- kept for some of the first places, with one place more
-sometime_more : (images : Files → Type 0) (start : List Deed) (places : List Placed) (p : Placed) (image : Files) → IsKeptSometime images start places image → IsKeptSometime images start (places ++ p ∷ []) image
-sometime_more images start places p image (k, le, kept) = (k, omega (arith, length_push places p), kept_more (StandsWith images image) start places p k le kept)
+sometime_more : (images : Files → Type 0) (used : ℕ) (start : List Deed) (places : List Placed) (p : Placed) (image : Files) → IsKeptSometime images used start places image → IsKeptSometime images used start (places ++ p ∷ []) image
+sometime_more images used start places p image (k, le, kept) = (k, omega (arith, length_push places p), kept_more (StandsWith images used image) start places p k le kept)
 
 -- the depot after a fault place, which does nothing, and the places after it
-behind_fault : (images : Files → Type 0) (rows : AllRows) (was : Committed) (start : List Deed) (places : List Placed) (text : List ℕ) → (f : IsOfFault images rows was start places text) → taken step start places ≡ taken step (taken step start f.before) f.later
-behind_fault images rows was start places text f = ap (taken step start) f.parts ∙ taken-append start f.before (placed_by f.request true ∷ f.later)
+behind_fault : (images : Files → Type 0) (used : ℕ) (rows : AllRows) (was : Committed) (start : List Deed) (places : List Placed) (text : List ℕ) → (f : IsOfFault images used rows was start places text) → taken step start places ≡ taken step (taken step start f.before) f.later
+behind_fault images used rows was start places text f = ap (taken step start) f.parts ∙ taken-append start f.before (placed_by f.request true ∷ f.later)
 
 -- one more place, after which the depot is another with the same rows and contents, leaves in doubt what was
-doubt_more : (images : Files → Type 0) (rows : AllRows) (was : Committed) (start : List Deed) (places : List Placed) (p : Placed) (doubt : Doubtful) → (IsChange (taken step start places) p → ⊥)
+doubt_more : (images : Files → Type 0) (used : ℕ) (rows : AllRows) (was : Committed) (start : List Deed) (places : List Placed) (p : Placed) (doubt : Doubtful) → (IsChange (taken step start places) p → ⊥)
     → SameContents (taken step start places) (taken step start (places ++ p ∷ []))
-    → IsDoubtOf images rows was start places doubt → IsDoubtOf images rows was start (places ++ p ∷ []) doubt
-doubt_more images rows was start places p nothing idle same_contents h = tt
-doubt_more images rows was start places p (opening checkpoint) idle same_contents h = h
-doubt_more images rows was start places p (group text) idle same_contents f =
+    → IsDoubtOf images used rows was start places doubt → IsDoubtOf images used rows was start (places ++ p ∷ []) doubt
+doubt_more images used rows was start places p nothing idle same_contents h = tt
+doubt_more images used rows was start places p (opening checkpoint) idle same_contents h = h
+doubt_more images used rows was start places p (group text) idle same_contents f =
     let Idle : List Deed → Type 0 = λ d. IsChange d p → ⊥ in
     record {
       changes = f.changes;
@@ -60,14 +60,14 @@ doubt_more images rows was start places p (group text) idle same_contents f =
       request = f.request;
       later = f.later ++ p ∷ [];
       parts = ap (λ (ps : List Placed). ps ++ p ∷ []) f.parts ∙ append_assoc f.before (placed_by f.request true ∷ f.later) (p ∷ []);
-      quiet = quiet_more (taken step start f.before) f.later p f.quiet (subst Idle (behind_fault images rows was start places text f) idle);
+      quiet = quiet_more (taken step start f.before) f.later p f.quiet (subst Idle (behind_fault images used rows was start places text f) idle);
       stand = f.stand;
       same_contents = λ path n. f.same_contents path n ∙ same_contents path n;
       are_changes = f.are_changes;
-      contents = f.contents;
+      kept = f.kept;
     }
 
-module _ {D : Type 0} (may_leave : D → Files → Type 0) (moment : D → ℕ) (left_since : D → ℕ → Files → Type 0) (depot : SerialDepot D) (since : ℕ) (start : List Deed) (places : List Placed) (request : Request) (h : HasRun may_leave moment left_since depot since start places) where
+module _ {D : Type 0} (seen may_leave : D → Files → Type 0) (moment : D → ℕ) (left_since : D → ℕ → Files → Type 0) (depot : SerialDepot D) (since : ℕ) (start : List Deed) (places : List Placed) (request : Request) (h : HasRun seen may_leave moment left_since depot since start places) where
   abbrev current : List Deed
   current = taken step start places
 
@@ -79,6 +79,9 @@ module _ {D : Type 0} (may_leave : D → Files → Type 0) (moment : D → ℕ) 
 
   abbrev images : Files → Type 0
   images = may_leave (archives.disk_of depot.archive)
+
+  abbrev used : ℕ
+  used = archives.used_of depot.archive
 
   abbrev done : List Placed
   done = places ++ placed_by request false ∷ []
@@ -96,14 +99,33 @@ module _ {D : Type 0} (may_leave : D → Files → Type 0) (moment : D → ℕ) 
   contents_failed : SameContents current (taken step start failed)
   contents_failed path n = ap (λ (d : List Deed). content_at d path n) (sym failed_is)
 
+  -- a disk failed before the commit
+  pub has_run_faulted : HasRun seen may_leave moment left_since depot since start failed
+  has_run_faulted =
+      let On : List Deed → Type 0 = Stand rows in
+      let With : List Deed → Type 0 = KeepContents images used rows in
+      record {
+        was = h.was;
+        doubt = h.doubt;
+        stands = h.stands;
+        has = h.has;
+        stand = subst On (sym failed_is) h.stand;
+        generation = ap generation_in failed_is ∙ h.generation;
+        tells = h.tells;
+        kept = subst With (sym failed_is) h.kept;
+        in_doubt = doubt_more images used rows h.was start places (placed_by request true) h.doubt (λ change. absurd (true_is_not_false change.0)) contents_failed h.in_doubt;
+        later = h.later;
+        any_moment = λ image left. sometime_more images used start places (placed_by request true) image (h.any_moment image left);
+      }
+
   -- the command changed no row
-  pub has_run_idle : AreChangesOf rows request [] → HasRun may_leave moment left_since depot since start done
+  pub has_run_idle : AreChangesOf rows request [] → HasRun seen may_leave moment left_since depot since start done
   has_run_idle made =
       let stand : Stand rows (after current deeds) = made.stand current h.stand in
       let same_rows : SameRows current (after current deeds) = same_stand rows current (after current deeds) h.stand stand in
       let same_contents : SameContents current (after current deeds) = contents_stay current deeds h.stand.sound stand.sound same_rows in
       let On : List Deed → Type 0 = Stand rows in
-      let With : List Deed → Type 0 = AllHaveContents images rows in
+      let With : List Deed → Type 0 = KeepContents images used rows in
       let Contents : List Deed → Type 0 = SameContents current in
       record {
         was = h.was;
@@ -112,14 +134,18 @@ module _ {D : Type 0} (may_leave : D → Files → Type 0) (moment : D → ℕ) 
         has = h.has;
         stand = subst On (sym done_is) stand;
         generation = ap generation_in done_is ∙ (made.generation current h.stand ∙ h.generation);
-        contents = subst With (sym done_is) (λ archive here. contents_alike rows rows current (after current deeds) archive archive refl refl same_contents (h.contents archive here));
-        in_doubt = doubt_more images rows h.was start places (placed_by request false) h.doubt (λ change. no_difference current (after current deeds) same_rows change.1) (subst Contents (sym done_is) same_contents) h.in_doubt;
+        tells = h.tells;
+        kept = subst With (sym done_is) (record {
+          ends = h.kept.ends;
+          contents = λ archive here. contents_alike rows rows current (after current deeds) archive archive refl refl same_contents (h.kept.contents archive here);
+        });
+        in_doubt = doubt_more images used rows h.was start places (placed_by request false) h.doubt (λ change. no_difference current (after current deeds) same_rows change.1) (subst Contents (sym done_is) same_contents) h.in_doubt;
         later = h.later;
-        any_moment = λ image left. sometime_more images start places (placed_by request false) image (h.any_moment image left);
+        any_moment = λ image left. sometime_more images used start places (placed_by request false) image (h.any_moment image left);
       }
 
   module _ (tables' : Tables) (journal' : Journal D) (changes : List Change) (text : List ℕ) (text_is : text ≡ group_text (length h.was.groups + 1) changes) (is_group : IsGroup changes) (fit : AllFitIn rows changes) (made : AreChangesOf rows request changes)
-      (with_contents : AllHaveContents images (changed_by rows changes) (after current deeds)) (leaves : LeavesOnly moment left_since depot.journal.disk journal'.disk (λ c. HasWithOrWithout h.was h.doubt c ⊎ HasWithOrWithout h.was (group text) c)) where
+      (with_contents : KeepContents images used (changed_by rows changes) (after current deeds)) (leaves : LeavesOnly moment left_since depot.journal.disk journal'.disk (λ c. HasWithOrWithout h.was h.doubt c ⊎ HasWithOrWithout h.was (group text) c)) where
     abbrev depot' : SerialDepot D
     depot' = record { tables = tables'; journal = journal'; archive = depot.archive }
 
@@ -130,14 +156,14 @@ module _ {D : Type 0} (may_leave : D → Files → Type 0) (moment : D → ℕ) 
         subst P (sym text_is) (group_added h.was rows changes h.has is_group fit)
 
     -- each image since is kept, where each that has the group is
-    moments : (p : Placed) → ((image : Files) → HasCommitted (with_group h.was text) image → IsKeptSometime images start (places ++ p ∷ []) image) → (image : Files) → left_since journal'.disk since image
-        → IsKeptSometime images start (places ++ p ∷ []) image
+    moments : (p : Placed) → ((image : Files) → HasCommitted (with_group h.was text) image → IsKeptSometime images used start (places ++ p ∷ []) image) → (image : Files) → left_since journal'.disk since image
+        → IsKeptSometime images used start (places ++ p ∷ []) image
     moments p with_group_kept image left =
-        let was_kept : (doubt : Doubtful) → IsDoubtOf images rows h.was start places doubt → HasWithOrWithout h.was doubt image → IsKeptSometime images start (places ++ p ∷ []) image
+        let was_kept : (doubt : Doubtful) → IsDoubtOf images used rows h.was start places doubt → HasWithOrWithout h.was doubt image → IsKeptSometime images used start (places ++ p ∷ []) image
         = λ doubt in_doubt has_it.
-        sometime_more images start places p image (length places, omega arith, kept_whole (StandsWith images image) start places (kept_now images h.was rows start places h.has h.stand h.generation h.contents doubt in_doubt image has_it)) in
+        sometime_more images used start places p image (length places, omega arith, kept_whole (StandsWith images used image) start places (kept_now images used h.was rows start places h.has h.stand h.generation h.kept doubt in_doubt image has_it)) in
         ⊎_elim
-        (λ was_left. sometime_more images start places p image (h.any_moment image was_left))
+        (λ was_left. sometime_more images used start places p image (h.any_moment image was_left))
         (λ fresh. ⊎_elim
         (was_kept h.doubt h.in_doubt)
         (λ either. ⊎_elim (was_kept nothing tt) (with_group_kept image) either)
@@ -145,16 +171,16 @@ module _ {D : Type 0} (may_leave : D → Files → Type 0) (moment : D → ℕ) 
         (leaves.before since image h.later left)
 
     -- the commit is done
-    pub has_run_done : Stands may_leave journal' (with_group h.was text) nothing → rows_of tables' ≡ changed_by rows changes → HasRun may_leave moment left_since depot' since start done
+    pub has_run_done : Stands may_leave journal' (with_group h.was text) nothing → rows_of tables' ≡ changed_by rows changes → HasRun seen may_leave moment left_since depot' since start done
     has_run_done stands rows_are =
         let On : List Deed → Type 0 = Stand (changed_by rows changes) in
         let now : Stand (changed_by rows changes) (taken step start done) = subst On (sym done_is) (made.stand current h.stand) in
         let generation : generation_in (taken step start done) ≡ h.was.generation = ap generation_in done_is ∙ (made.generation current h.stand ∙ h.generation) in
         let Has : AllRows → Type 0 = HasAllRows (with_group h.was text) in
         let OnRows : AllRows → Type 0 = λ r. Stand r (taken step start done) in
-        let With : List Deed → Type 0 = AllHaveContents images (changed_by rows changes) in
-        let WithRows : AllRows → Type 0 = λ r. AllHaveContents images r (taken step start done) in
-        let contents : AllHaveContents images (changed_by rows changes) (taken step start done) = subst With (sym done_is) with_contents in
+        let With : List Deed → Type 0 = KeepContents images used (changed_by rows changes) in
+        let WithRows : AllRows → Type 0 = λ r. KeepContents images used r (taken step start done) in
+        let kept : KeepContents images used (changed_by rows changes) (taken step start done) = subst With (sym done_is) with_contents in
         record {
           was = with_group h.was text;
           doubt = nothing;
@@ -162,18 +188,19 @@ module _ {D : Type 0} (may_leave : D → Files → Type 0) (moment : D → ℕ) 
           has = subst Has (sym rows_are) with_it;
           stand = subst OnRows (sym rows_are) now;
           generation = generation;
-          contents = subst WithRows (sym rows_are) contents;
+          tells = h.tells;
+          kept = subst WithRows (sym rows_are) kept;
           in_doubt = tt;
           later = omega (arith, h.later, leaves.later);
           any_moment = moments (placed_by request false) (λ image committed. (
             length done,
             omega arith,
-            kept_whole (StandsWith images image) start done (inl (record { was = with_group h.was text; committed = committed; rows = changed_by rows changes; has = with_it; stand = now; generation = generation; contents = contents })),
+            kept_whole (StandsWith images used image) start done (inl (record { was = with_group h.was text; committed = committed; rows = changed_by rows changes; has = with_it; stand = now; generation = generation; kept = kept })),
           ));
         }
 
     -- what the fault place would have done
-    of_this_fault : IsOfFault images rows h.was start failed text
+    of_this_fault : IsOfFault images used rows h.was start failed text
     of_this_fault = record {
       changes = changes;
       is_group = is_group;
@@ -187,25 +214,25 @@ module _ {D : Type 0} (may_leave : D → Files → Type 0) (moment : D → ℕ) 
       stand = h.stand;
       same_contents = contents_failed;
       are_changes = made;
-      contents = with_contents;
+      kept = with_contents;
     }
 
-    doubt_after : (now : Doubtful) → IsAfterFault h.doubt text now → IsDoubtOf images rows h.was start failed now
+    doubt_after : (now : Doubtful) → IsAfterFault h.doubt text now → IsDoubtOf images used rows h.was start failed now
     doubt_after now (inl same) =
-        let P : Doubtful → Type 0 = IsDoubtOf images rows h.was start failed in
-        subst P (sym same) (doubt_more images rows h.was start places (placed_by request true) h.doubt (λ change. absurd (true_is_not_false change.0)) contents_failed h.in_doubt)
-    doubt_after now (inr (inl none)) = let P : Doubtful → Type 0 = IsDoubtOf images rows h.was start failed in subst P (sym none) tt
-    doubt_after now (inr (inr this)) = let P : Doubtful → Type 0 = IsDoubtOf images rows h.was start failed in subst P (sym this) of_this_fault
+        let P : Doubtful → Type 0 = IsDoubtOf images used rows h.was start failed in
+        subst P (sym same) (doubt_more images used rows h.was start places (placed_by request true) h.doubt (λ change. absurd (true_is_not_false change.0)) contents_failed h.in_doubt)
+    doubt_after now (inr (inl none)) = let P : Doubtful → Type 0 = IsDoubtOf images used rows h.was start failed in subst P (sym none) tt
+    doubt_after now (inr (inr this)) = let P : Doubtful → Type 0 = IsDoubtOf images used rows h.was start failed in subst P (sym this) of_this_fault
 
     -- the commit failed
-    pub has_run_failed : (now : Doubtful) → IsAfterFault h.doubt text now → Stands may_leave journal' h.was now → rows_of tables' ≡ rows → HasRun may_leave moment left_since depot' since start failed
+    pub has_run_failed : (now : Doubtful) → IsAfterFault h.doubt text now → Stands may_leave journal' h.was now → rows_of tables' ≡ rows → HasRun seen may_leave moment left_since depot' since start failed
     has_run_failed now after_fault stands rows_are =
         let On : List Deed → Type 0 = Stand rows in
         let Has : AllRows → Type 0 = HasAllRows h.was in
         let OnRows : AllRows → Type 0 = λ r. Stand r (taken step start failed) in
-        let With : List Deed → Type 0 = AllHaveContents images rows in
-        let WithRows : AllRows → Type 0 = λ r. AllHaveContents images r (taken step start failed) in
-        let Doubt : AllRows → Type 0 = λ r. IsDoubtOf images r h.was start failed now in
+        let With : List Deed → Type 0 = KeepContents images used rows in
+        let WithRows : AllRows → Type 0 = λ r. KeepContents images used r (taken step start failed) in
+        let Doubt : AllRows → Type 0 = λ r. IsDoubtOf images used r h.was start failed now in
         let generation : generation_in (taken step start failed) ≡ h.was.generation = ap generation_in failed_is ∙ h.generation in
         record {
           was = h.was;
@@ -214,12 +241,13 @@ module _ {D : Type 0} (may_leave : D → Files → Type 0) (moment : D → ℕ) 
           has = subst Has (sym rows_are) h.has;
           stand = subst OnRows (sym rows_are) (subst On (sym failed_is) h.stand);
           generation = generation;
-          contents = subst WithRows (sym rows_are) (subst With (sym failed_is) h.contents);
+          tells = h.tells;
+          kept = subst WithRows (sym rows_are) (subst With (sym failed_is) h.kept);
           in_doubt = subst Doubt (sym rows_are) (doubt_after now after_fault);
           later = omega (arith, h.later, leaves.later);
           any_moment = moments (placed_by request true) (λ image committed. (
             length failed,
             omega arith,
-            kept_whole (StandsWith images image) start failed (inr (kept_in_doubt images h.was rows start failed h.has (subst On (sym failed_is) h.stand) generation text of_this_fault image committed)),
+            kept_whole (StandsWith images used image) start failed (inr (kept_in_doubt images used h.was rows start failed h.has (subst On (sym failed_is) h.stand) generation text of_this_fault image committed)),
           ));
         }

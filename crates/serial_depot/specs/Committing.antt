@@ -2,16 +2,14 @@
 use Rattle.std.specs.Prelude.{◌≡◌, ℕ, Bool, true, false, List, [], ◌∷◌, if◌then◌else◌}
 use Rattle.outside_api.specs.Disk.{Files}
 use Rattle.db_records.specs.declared.change.Change.{Change}
-use Rattle.journal_groups.specs.Groups.{AreRecords}
+use Rattle.journal_groups.specs.Groups.{AreRecords, IsGroup, group_text}
 use Rattle.disk_journal.specs.Images.{Committed, with_group}
 use Rattle.disk_journal.specs.Stands.{Doubtful, nothing, Stands}
 use Rattle.disk_journal.specs.declared.journal.Journal.{Journal}
 use Rattle.journal_runs.specs.Runs.{IsAfterFault}
-use Rattle.table_changes.specs.Changed.{AllRows, changed_by}
-use Rattle.depot_model.specs.Commands.{step}
+use Rattle.table_changes.specs.Changed.{AllRows, AllFitIn, changed_by}
+use Rattle.depot_runs.specs.Today.{step}
 use Rattle.depot_model.specs.Deeds.{Deed}
-use Rattle.depot_model.specs.Printed.{printed}
-use Rattle.depot_model.specs.Rows.{disk_row}
 use Rattle.depot_model.specs.Step.{after}
 use Rattle.depot_model.specs.declared.order.Answer.{Answer}
 use Rattle.depot_model.specs.declared.order.Place.{Place}
@@ -31,7 +29,14 @@ abbrev pub StandsBy : {D : Type 0} → (D → Files → Type 0) → Journal D �
 StandsBy may_leave journal was doubt text false = Stands may_leave journal (with_group was text) nothing
 StandsBy may_leave journal was doubt text true = (now : Doubtful) × IsAfterFault doubt text now × Stands may_leave journal was now
 
+-- The text is that of the group of these changes, which fit the rows, and the other rows are those after them.
+pub record IsGroupOf (rows now : AllRows) (number : ℕ) (text : List ℕ) (changes : List Change) : Type 0 where
+  pub rows_are : now ≡ changed_by rows changes
+  pub text_is : text ≡ group_text number changes
+  pub is_group : IsGroup changes
+  pub fit : AllFitIn rows changes
+
 -- the answer to a place: the reply, or that of a fault
-pub record IsToldAt (place : Place) (reply : List ℕ) (answer : Answer) : Type 0 where
+pub record IsToldAt (place : Place) (reply of_fault : List ℕ) (answer : Answer) : Type 0 where
   pub place_is : answer.place ≡ record place { fault = answer.place.fault }
-  pub reply_is : answer.reply ≡ (if answer.place.fault then printed (disk_row ∷ []) place.number else reply)
+  pub reply_is : answer.reply ≡ (if answer.place.fault then of_fault else reply)

@@ -6,7 +6,7 @@ use Rattle.db_records.specs.declared.table.TableId.TheVariants.{Rev}
 use Rattle.disk_journal.specs.Images.{Committed, HasCommitted}
 use Rattle.table_changes.specs.Changed.{AllRows}
 use Rattle.depot_model.specs.Deeds.{Deed}
-use Rattle.depot_model.specs.Kept.{IsKept}
+use Rattle.depot_runs.specs.Kept.{IsKept}
 use Rattle.depot_model.specs.Places.{Placed}
 use Rattle.depot_model.specs.Records.{record_of}
 use Rattle.depot_model.specs.Rules.{value_of}
@@ -32,16 +32,21 @@ pub record HasItsContents (rows : AllRows) (d : List Deed) (archive : Files) : T
 abbrev pub AllHaveContents : (Files → Type 0) → AllRows → List Deed → Type 0
 AllHaveContents archives rows d = (archive : Files) → archives archive → HasItsContents rows d archive
 
--- An image of the journal's disk stands for the depot with each of these images of the archive's disk.
-pub record StandsWith (archives : Files → Type 0) (journal : Files) (d : List Deed) : Type 0 where
+-- No spot of these rows ends behind a place of the archive, and each of these images has the contents of the depot.
+pub record KeepContents (archives : Files → Type 0) (used : ℕ) (rows : AllRows) (d : List Deed) : Type 0 where
+  pub ends : spots_end (rows Rev) ≤ used
+  pub contents : AllHaveContents archives rows d
+
+-- An image of the journal's disk stands for the depot with each of these images of the archive's disk, which is used up to a place.
+pub record StandsWith (archives : Files → Type 0) (used : ℕ) (journal : Files) (d : List Deed) : Type 0 where
   pub was : Committed
   pub committed : HasCommitted was journal
   pub rows : AllRows
   pub has : HasAllRows was rows
   pub stand : Stand rows d
   pub generation : generation_in d ≡ was.generation
-  pub contents : AllHaveContents archives rows d
+  pub kept : KeepContents archives used rows d
 
 -- an image of some moment: with these images of the archive's disk it is kept for some of the first places
-abbrev pub IsKeptSometime : (Files → Type 0) → List Deed → List Placed → Files → Type 0
-IsKeptSometime archives start places journal = (k : ℕ) × (k ≤ length places) × IsKept (StandsWith archives journal) start places k
+abbrev pub IsKeptSometime : (Files → Type 0) → ℕ → List Deed → List Placed → Files → Type 0
+IsKeptSometime archives used start places journal = (k : ℕ) × (k ≤ length places) × IsKept (StandsWith archives used journal) start places k

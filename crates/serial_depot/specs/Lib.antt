@@ -1,3 +1,4 @@
 pub mod Committing
 pub mod Holding
 pub mod Running
+pub mod Storing

@@ -7,9 +7,9 @@ use Rattle.journal_groups.specs.Groups.{group_text, IsGroup}
 use Rattle.disk_journal.specs.Images.{Committed}
 use Rattle.disk_journal.specs.Stands.{Doubtful, nothing, group, opening, Stands}
 use Rattle.table_changes.specs.Changed.{AllRows, AllFitIn, changed_by, rows_of}
-use Rattle.depot_model.specs.Commands.{step}
+use Rattle.depot_runs.specs.Today.{step}
 use Rattle.depot_model.specs.Deeds.{Deed}
-use Rattle.depot_model.specs.Kept.{NoChange}
+use Rattle.depot_runs.specs.Kept.{NoChange}
 use Rattle.depot_model.specs.Places.{Placed, taken}
 use Rattle.depot_model.specs.Step.{after}
 use Rattle.depot_model.specs.declared.request.Request.{Request}
@@ -17,12 +17,13 @@ use Rattle.depot_rows.specs.Standing.{Stand}
 use Rattle.recovery.specs.Holding.{HasAllRows}
 use Rattle.session_loop.specs.Taking.{placed_by}
 use Rattle.serial_depot.specs.Committing.{AreChangesOf}
-use Rattle.serial_depot.specs.Holding.{generation_in, SameContents, AllHaveContents, IsKeptSometime}
+use Rattle.serial_depot.specs.Holding.{generation_in, SameContents, KeepContents, IsKeptSometime}
+use Rattle.serial_depot.specs.Storing.{AllReach}
 use Rattle.serial_depot.specs.declared.depot.SerialDepot.{SerialDepot}
 
 -- The group is that of the changes of a fault place. No place after it is a change, so that the depot has the same rows and contents as before it.
--- These images of the archive's disk have the contents with the group too.
-pub record IsOfFault (images : Files → Type 0) (rows : AllRows) (was : Committed) (start : List Deed) (places : List Placed) (text : List ℕ) : Type 0 where
+-- These images of the archive's disk, which is used up to a place, have the contents with the group too.
+pub record IsOfFault (images : Files → Type 0) (used : ℕ) (rows : AllRows) (was : Committed) (start : List Deed) (places : List Placed) (text : List ℕ) : Type 0 where
   pub changes : List Change
   pub is_group : IsGroup changes
   pub text_is : text ≡ group_text (length was.groups + 1) changes
@@ -35,31 +36,35 @@ pub record IsOfFault (images : Files → Type 0) (rows : AllRows) (was : Committ
   pub stand : Stand rows (taken step start before)
   pub same_contents : SameContents (taken step start before) (taken step start places)
   pub are_changes : AreChangesOf rows request changes
-  pub contents : AllHaveContents images (changed_by rows changes) (after (taken step start before) (step (taken step start before) request).deeds)
+  pub kept : KeepContents images used (changed_by rows changes) (after (taken step start before) (step (taken step start before) request).deeds)
 
 -- what is in doubt after places
-abbrev pub IsDoubtOf : (Files → Type 0) → AllRows → Committed → List Deed → List Placed → Doubtful → Type 0
-IsDoubtOf images rows was start places nothing = Unit {0}
-IsDoubtOf images rows was start places (group text) = IsOfFault images rows was start places text
-IsDoubtOf images rows was start places (opening checkpoint) = ⊥
+abbrev pub IsDoubtOf : (Files → Type 0) → ℕ → AllRows → Committed → List Deed → List Placed → Doubtful → Type 0
+IsDoubtOf images used rows was start places nothing = Unit {0}
+IsDoubtOf images used rows was start places (group text) = IsOfFault images used rows was start places text
+IsDoubtOf images used rows was start places (opening checkpoint) = ⊥
 
 -- Since that moment the depot took the commands of these places, from the depot `start` on: its tables have the rows of the run, the journal has
--- them too and at most one group in doubt, each image of the archive's disk has the contents, and each image of the journal's disk since is kept
--- for some of the places.
-pub record HasRun {D : Type 0} (may_leave : D → Files → Type 0) (moment : D → ℕ) (left_since : D → ℕ → Files → Type 0) (depot : SerialDepot D) (since : ℕ) (start : List Deed) (places : List Placed) : Type 0 where
+-- them too and at most one group in doubt, the archive's disk tells what it reads, each image of it has the contents, below the end of what is used,
+-- and each image of the journal's disk since is kept for some of the places.
+pub record HasRun {D : Type 0} (seen may_leave : D → Files → Type 0) (moment : D → ℕ) (left_since : D → ℕ → Files → Type 0) (depot : SerialDepot D) (since : ℕ) (start : List Deed) (places : List Placed) : Type 0 where
   pub was : Committed
   pub doubt : Doubtful
   pub stands : Stands may_leave depot.journal was doubt
   pub has : HasAllRows was (rows_of depot.tables)
   pub stand : Stand (rows_of depot.tables) (taken step start places)
   pub generation : generation_in (taken step start places) ≡ was.generation
-  pub contents : AllHaveContents (may_leave (archives.disk_of depot.archive)) (rows_of depot.tables) (taken step start places)
-  pub in_doubt : IsDoubtOf (may_leave (archives.disk_of depot.archive)) (rows_of depot.tables) was start places doubt
+  pub tells : (files : Files) × seen (archives.disk_of depot.archive) files
+  pub kept : KeepContents (may_leave (archives.disk_of depot.archive)) (archives.used_of depot.archive) (rows_of depot.tables) (taken step start places)
+  pub in_doubt : IsDoubtOf (may_leave (archives.disk_of depot.archive)) (archives.used_of depot.archive) (rows_of depot.tables) was start places doubt
   pub later : since ≤ moment depot.journal.disk
-  pub any_moment : (image : Files) → left_since depot.journal.disk since image → IsKeptSometime (may_leave (archives.disk_of depot.archive)) start places image
+  pub any_moment : (image : Files) → left_since depot.journal.disk since image
+      → IsKeptSometime (may_leave (archives.disk_of depot.archive)) (archives.used_of depot.archive) start places image
 
--- the journal is one that can commit
-pub record CanCommit {D : Type 0} (may_leave : D → Files → Type 0) (depot : SerialDepot D) : Type 0 where
+-- The journal is one that can commit, and the archive one that can store behind what is used of it, of which the tables know.
+pub record CanTake {D : Type 0} (may_leave : D → Files → Type 0) (depot : SerialDepot D) : Type 0 where
   pub was : Committed
   pub doubt : Doubtful
   pub stands : Stands may_leave depot.journal was doubt
+  pub end : depot.tables.archive_end ≡ archives.used_of depot.archive
+  pub room : AllReach (may_leave (archives.disk_of depot.archive)) (archives.used_of depot.archive)

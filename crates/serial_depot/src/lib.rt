@@ -1,13 +1,14 @@
 //! A depot in files that one thread asks.
 //!
-//! It keeps the rows of the tables in memory, and commits what a command changes to the journal before
-//! it answers.
+//! It keeps the rows of the tables in memory, reads the contents that a reply has from the archive, and
+//! before it answers stores the contents of a command there and commits what it changes to the journal.
 #![tactic(auto)]
 
 mod commit;
 mod counting;
 mod depot;
 mod placing;
+mod storing;
 mod taking;
 
 pub use depot::{Closed, SerialDepot};

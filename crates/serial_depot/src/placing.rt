@@ -1,55 +1,107 @@
 //! Giving a command its place.
 
-ghost use Rattle.std.specs.Prelude.{◌≡◌, ◌≤◌, ℕ, List, [], true, false, IfOk, OnErr};
+ghost use Rattle.std.specs.Prelude.{◌≡◌, ◌⊎◌, ◌≤◌, ℕ, List, [], ◌∷◌, ◌++◌, true, false, IfOk, OnErr};
 ghost use Rattle.archive_file.specs.Archive.{disk_of as archive_disk_of};
 ghost use Rattle.outside_api.specs.Count.{HasRisen};
+ghost use Rattle.db_records.specs.declared.change.Change.{Change as AnyChange};
 ghost use Rattle.table_changes.specs.Changed.{AllFitIn, changed_by, rows_of};
-ghost use Rattle.depot_model.specs.Commands.{step};
+ghost use Rattle.depot_runs.specs.Today.{step};
 ghost use Rattle.depot_model.specs.Deeds.{Deed};
 ghost use Rattle.depot_model.specs.Places.{Placed, taken};
 ghost use Rattle.depot_model.specs.Step.{after};
 ghost use Rattle.depot_model.specs.declared.request.Request.{Request};
-ghost use Rattle.disk_journal.specs.Stands.{disk_of};
-ghost use Rattle.session_loop.specs.Taking.{with_place};
-ghost use Rattle.serial_depot.specs.Committing.{AreChangesOf, IsToldAt};
-ghost use Rattle.serial_depot.specs.Holding.{AllHaveContents};
-ghost use Rattle.serial_depot.specs.Running.{CanCommit, HasRun};
+ghost use Rattle.disk_journal.specs.Stands.{IsPrepared, disk_of, group_of, next_number};
+ghost use Rattle.journal_groups.specs.Groups.{IsGroup, group_text};
+ghost use Rattle.session_loop.specs.Taking.{placed_by, with_place};
+ghost use Rattle.stored_contents.specs.Placed.{StandAfter};
+ghost use Rattle.serial_depot.specs.Committing.{AreChangesOf, IsGroupOf, IsToldAt};
+ghost use Rattle.serial_depot.specs.Running.{CanTake, HasRun};
 
-use crate::commit::{commit, fault_reply, measure};
+use crate::commit::{commit, measure};
 use crate::depot::SerialDepot;
-use db_records::Change;
+use crate::storing::store_all;
+use db_records::{Change, Spot};
 use depot_model::{Answer, Place};
 use depot_path::Text;
-use outside_api::Disk;
+use disk_journal::Prepared;
+use outside_api::{Disk, DiskFault};
 use std::alloc::{AllocError, Global};
 use table_changes::change_tables;
+use table_store::Tables;
+
+/// The answer at a fault place.
+pub(crate) fn fault_answer(place: Place, reply: Text) -> Answer
+    ensures { result ≡ record { place = record place { fault = true }; reply = reply } }
+{
+    Answer {
+        place: Place {
+            fault: true,
+            ..place
+        },
+        reply,
+    }
+}
 
 impl<D: Disk> SerialDepot<D> {
-    /// Makes the changes of a command, and answers with its reply, or with that of a fault where the
-    /// commit failed; then the tables stay. All memory is had before the first call of the disk. Without
-    /// changes no call of the disk is made.
+    /// Settles what is in doubt, stores contents behind what is used of the archive, commits a group, and
+    /// puts the tables after it in the place of those before. Answers whether a disk has failed; then the
+    /// rows stay. What was stored counts as used also where the commit failed, since the group may be in
+    /// doubt; where a content couldn't be stored, no group is in doubt, and what was stored stays unused.
+    fn land(&mut self, changed: Tables, prepared: Prepared, stores: &[Text]) -> bool
+        requires can { CanTake D.may_leave self.old }
+        requires prepared { IsPrepared (next_number self.old.journal) prepared }
+        ensures can { CanTake D.may_leave self.new }
+        ensures ran { (since : ℕ) (start : List Deed) (places : List Placed) (request : Request) (changes : List AnyChange) →
+            HasRun D.seen D.may_leave D.moment D.left_since self.old since start places →
+            IsGroupOf (rows_of self.old.tables) (rows_of changed) (next_number self.old.journal) (group_of prepared) changes →
+            AreChangesOf (rows_of self.old.tables) request changes →
+            StandAfter (rows_of self.old.tables) self.old.tables.archive_end (taken step start places) (after (taken step start places) (step (taken step start places) request).deeds) stores.now changes →
+            HasRun D.seen D.may_leave D.moment D.left_since self.new since start (places ++ placed_by request result ∷ []) }
+        ensures never_falls { D.faults (disk_of self.old.journal) ≤ D.faults (disk_of self.new.journal) }
+        ensures never_falls_contents { D.faults (archive_disk_of self.old.archive) ≤ D.faults (archive_disk_of self.new.archive) }
+        ensures cause { result ≡ true → HasRisen (D.faults (disk_of self.old.journal)) (D.faults (disk_of self.new.journal)) ⊎ HasRisen (D.faults (archive_disk_of self.old.archive)) (D.faults (archive_disk_of self.new.archive)) }
+    {
+        match self.journal.settle() {
+            Ok(()) => {}
+            Err(DiskFault) => return true,
+        }
+        let end = match store_all(&mut self.archive, self.tables.archive_end(), stores) {
+            Ok(end) => end,
+            Err(DiskFault) => return true,
+        };
+        let failed = commit(&mut self.tables, &mut self.journal, changed, prepared);
+        self.archive.keep(Spot { at: end, length: 0 });
+        self.tables.set_archive_end(end);
+        failed
+    }
+
+    /// Makes the changes of a command and stores its contents, and answers with its reply, or with that of
+    /// a fault where a disk failed; then the rows stay. All memory is had before the first call of a disk.
+    /// Without changes no call of a disk is made.
     pub(crate) fn place(
         &mut self,
         alloc: Global,
         place: Place,
         reply: Text,
+        of_fault: Text,
         changes: &[Change],
+        stores: &[Text],
     ) -> Result<Answer, AllocError>
-        requires can { CanCommit D.may_leave self.old }
+        requires can { CanTake D.may_leave self.old }
         requires no_fault { place.fault ≡ false }
         requires fit { AllFitIn (rows_of self.old.tables) changes.now }
-        ensures can { CanCommit D.may_leave self.new }
+        ensures can { CanTake D.may_leave self.new }
         ensures nothing { OnErr result (self.new ≡ self.old) }
-        ensures told { IfOk result (IsToldAt place reply) }
+        ensures told { IfOk result (IsToldAt place reply of_fault) }
         ensures ran { (since : ℕ) (start : List Deed) (places : List Placed) (request : Request) →
-            HasRun D.may_leave D.moment D.left_since self.old since start places →
+            HasRun D.seen D.may_leave D.moment D.left_since self.old since start places →
             AreChangesOf (rows_of self.old.tables) request changes.now →
-            AllHaveContents (D.may_leave (archive_disk_of self.old.archive)) (changed_by (rows_of self.old.tables) changes.now) (after (taken step start places) (step (taken step start places) request).deeds) →
-            IfOk result (λ answer. HasRun D.may_leave D.moment D.left_since self.new since start (with_place places request answer)) }
+            StandAfter (rows_of self.old.tables) self.old.tables.archive_end (taken step start places) (after (taken step start places) (step (taken step start places) request).deeds) stores.now changes.now →
+            IfOk result (λ answer. HasRun D.seen D.may_leave D.moment D.left_since self.new since start (with_place places request answer)) }
         ensures no_call { changes.now ≡ [] → self.new ≡ self.old }
-        ensures archive { self.new.archive ≡ self.old.archive }
         ensures never_falls { D.faults (disk_of self.old.journal) ≤ D.faults (disk_of self.new.journal) }
-        ensures cause { IfOk result (λ answer. answer.place.fault ≡ true → HasRisen (D.faults (disk_of self.old.journal)) (D.faults (disk_of self.new.journal))) }
+        ensures never_falls_contents { D.faults (archive_disk_of self.old.archive) ≤ D.faults (archive_disk_of self.new.archive) }
+        ensures cause { IfOk result (λ answer. answer.place.fault ≡ true → HasRisen (D.faults (disk_of self.old.journal)) (D.faults (disk_of self.new.journal)) ⊎ HasRisen (D.faults (archive_disk_of self.old.archive)) (D.faults (archive_disk_of self.new.archive))) }
     {
         if changes.is_empty() {
             return Ok(Answer { place, reply });
@@ -57,16 +109,8 @@ impl<D: Disk> SerialDepot<D> {
         measure(alloc, changes)?;
         let changed = change_tables(alloc, &self.tables, changes)?;
         let prepared = self.journal.prepare(alloc, changes)?;
-        let of_fault = fault_reply(alloc, place.number)?;
-        if commit(&mut self.tables, &mut self.journal, changed, prepared) {
-            let place = Place {
-                fault: true,
-                ..place
-            };
-            return Ok(Answer {
-                place,
-                reply: of_fault,
-            });
+        if self.land(changed, prepared, stores) {
+            return Ok(fault_answer(place, of_fault));
         }
         Ok(Answer { place, reply })
     }

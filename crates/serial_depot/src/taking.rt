@@ -1,30 +1,42 @@
 //! Taking commands one after another.
 
-ghost use Rattle.std.specs.Prelude.{◌≡◌, ◌≤◌, ℕ, List, [], All, IsTrue, true, false, IfOk, OnErr};
+ghost use Rattle.std.specs.Prelude.{◌≡◌, ◌⊎◌, ◌≤◌, ℕ, List, [], All, IsTrue, true, false, IfOk, OnErr};
+ghost use Rattle.archive_file.specs.Archive.{disk_of as archive_disk_of, end_of, used_of};
 ghost use Rattle.outside_api.specs.Count.{HasRisen};
 ghost use Rattle.depot_model.specs.Deeds.{Deed};
-ghost use Rattle.depot_model.specs.Commands.{step};
-ghost use Rattle.depot_model.specs.Places.{Placed};
+ghost use Rattle.depot_model.specs.Printed.{printed};
+ghost use Rattle.depot_model.specs.Rows.{disk_row};
+ghost use Rattle.depot_runs.specs.Today.{step};
+ghost use Rattle.depot_model.specs.Places.{Placed, taken};
 ghost use Rattle.depot_model.specs.Records.{SameRows};
 ghost use Rattle.depot_model.specs.Step.{after};
+ghost use Rattle.depot_model.specs.declared.request.Request.{Request as AnyRequest};
 ghost use Rattle.depot_rows.specs.Standing.{Stand};
-ghost use Rattle.table_changes.specs.Changed.{rows_of};
+ghost use Rattle.command_core.specs.Outcomes.{IsOutcome};
+ghost use Rattle.reply_rows.specs.Made.{contents_of};
+ghost use Rattle.table_changes.specs.Changed.{AllFitIn, rows_of};
 ghost use Rattle.disk_journal.specs.Stands.{disk_of};
 ghost use Rattle.row_texts.specs.Texts.{is_counted};
 ghost use Rattle.session_loop.specs.Taking.{Answers, IsProper, place_by, with_place};
-ghost use Rattle.serial_depot.specs.Running.{CanCommit, HasRun};
+ghost use Rattle.serial_depot.specs.Committing.{AreChangesOf, IsToldAt};
+ghost use Rattle.serial_depot.specs.Running.{CanTake, HasRun};
 
+use crate::commit::fault_reply;
 use crate::counting::{are_counted, know_records};
 use crate::depot::SerialDepot;
-use command_core::{Outcome, evaluate};
+use crate::placing::fault_answer;
+use crate::storing::{are_within, read_all};
+use archive_file::ContentFault;
+use command_core::{Outcome, evaluate, filled};
 use depot_model::{Answer, Place, Request};
+use depot_path::Text;
 use outside_api::{Disk, Gate};
 use session_loop::Taker;
 use sound_requests::requests_are_typed;
 use std::alloc::{AllocError, Global};
 use wire_text::print_reply;
 
-/// The place of a request, where its commit doesn't fail.
+/// The place of a request, where no disk fails.
 fn place_of(request: &Request) -> Place
     ensures { result ≡ place_by request.now false }
 {
@@ -37,57 +49,115 @@ fn place_of(request: &Request) -> Place
 }
 
 /// Whether an outcome can be committed and answered: a text may say the numbers of each row that is
-/// changed, and the reply needs no content of the archive.
-fn is_ready(outcome: &Outcome) -> bool
-    ensures { result ≡ true → All (λ change. IsTrue (is_counted change.row)) outcome.now.changes × (outcome.now.reads ≡ []) }
+/// changed, and the contents that the reply needs lie within what is used of the archive, as those of
+/// the tables' rows do.
+fn is_ready(outcome: &Outcome, used: u64) -> bool
+    ensures { result ≡ true → All (λ change. IsTrue (is_counted change.row)) outcome.now.changes × All (λ spot. end_of spot ≤ used) outcome.now.reads }
 {
-    outcome.reads.is_empty() && are_counted(outcome.changes.as_slice())
+    are_within(outcome.reads.as_slice(), used) && are_counted(outcome.changes.as_slice())
 }
 
 impl<D: Disk> SerialDepot<D> {
+    /// Reads the contents that the reply of an outcome has, and gives the command its place.
+    fn finish(
+        &mut self,
+        alloc: Global,
+        place: Place,
+        outcome: Outcome,
+        of_fault: Text,
+    ) -> Result<Answer, AllocError>
+        requires can { CanTake D.may_leave self.old }
+        requires no_fault { place.fault ≡ false }
+        requires fit { AllFitIn (rows_of self.old.tables) outcome.changes }
+        requires within { All (λ spot. end_of spot ≤ used_of self.old.archive) outcome.reads }
+        ensures can { CanTake D.may_leave self.new }
+        ensures nothing { (since : ℕ) (start : List Deed) (places : List Placed) → HasRun D.seen D.may_leave D.moment D.left_since self.old since start places →
+            OnErr result (HasRun D.seen D.may_leave D.moment D.left_since self.new since start places) }
+        ensures ran { (since : ℕ) (start : List Deed) (places : List Placed) (request : AnyRequest) → HasRun D.seen D.may_leave D.moment D.left_since self.old since start places →
+            AreChangesOf (rows_of self.old.tables) request outcome.changes →
+            IsOutcome (rows_of self.old.tables) self.old.tables.archive_end (taken step start places) request outcome →
+            IfOk result (λ answer. HasRun D.seen D.may_leave D.moment D.left_since self.new since start (with_place places request answer)) }
+        ensures told { (since : ℕ) (start : List Deed) (places : List Placed) (request : AnyRequest) → HasRun D.seen D.may_leave D.moment D.left_since self.old since start places →
+            IsOutcome (rows_of self.old.tables) self.old.tables.archive_end (taken step start places) request outcome →
+            IfOk result (IsToldAt place (printed (step (taken step start places) request).rows place.number) of_fault) }
+        ensures no_write { outcome.changes ≡ [] → (self.new.journal ≡ self.old.journal) × (self.new.tables ≡ self.old.tables) }
+        ensures no_call { outcome.changes ≡ [] → outcome.reads ≡ [] → self.new ≡ self.old }
+        ensures never_falls { D.faults (disk_of self.old.journal) ≤ D.faults (disk_of self.new.journal) }
+        ensures never_falls_contents { D.faults (archive_disk_of self.old.archive) ≤ D.faults (archive_disk_of self.new.archive) }
+        ensures cause { IfOk result (λ answer. answer.place.fault ≡ true → HasRisen (D.faults (disk_of self.old.journal)) (D.faults (disk_of self.new.journal)) ⊎ HasRisen (D.faults (archive_disk_of self.old.archive)) (D.faults (archive_disk_of self.new.archive))) }
+    {
+        let Outcome {
+            reply,
+            changes,
+            stores,
+            reads,
+        } = outcome;
+        let contents = match read_all(alloc, &mut self.archive, reads.as_slice()) {
+            Ok(contents) => contents,
+            Err(ContentFault::DiskFault) => return Ok(fault_answer(place, of_fault)),
+            Err(ContentFault::Memory) => return Err(AllocError),
+        };
+        let whole = filled(reply, contents);
+        let text = print_reply(alloc, &whole, place.number)?;
+        let answer = self.place(
+            alloc,
+            place,
+            text,
+            of_fault,
+            changes.as_slice(),
+            stores.as_slice(),
+        )?;
+        Ok(answer)
+    }
+
     /// Takes the command of a request. A command that would change a row with a number that no text
-    /// says, or whose reply needs contents of the archive, is answered as want of memory, before any
-    /// call of a disk.
+    /// says is answered as want of memory, before any call of a disk.
     fn take_request<G: Gate>(
         &mut self,
         alloc: Global,
         gate: &G,
         request: &Request,
     ) -> Result<Answer, AllocError>
-        requires { CanCommit D.may_leave self.old }
-        ensures can { CanCommit D.may_leave self.new }
-        ensures ran { (since : ℕ) (start : List Deed) (places : List Placed) → HasRun D.may_leave D.moment D.left_since self.old since start places → IsProper request.now →
-            IfOk result (λ answer. HasRun D.may_leave D.moment D.left_since self.new since start (with_place places request.now answer)) }
-        ensures answers { (since : ℕ) (start : List Deed) (places : List Placed) → HasRun D.may_leave D.moment D.left_since self.old since start places → IsProper request.now →
+        requires { CanTake D.may_leave self.old }
+        ensures can { CanTake D.may_leave self.new }
+        ensures ran { (since : ℕ) (start : List Deed) (places : List Placed) → HasRun D.seen D.may_leave D.moment D.left_since self.old since start places → IsProper request.now →
+            IfOk result (λ answer. HasRun D.seen D.may_leave D.moment D.left_since self.new since start (with_place places request.now answer)) }
+        ensures answers { (since : ℕ) (start : List Deed) (places : List Placed) → HasRun D.seen D.may_leave D.moment D.left_since self.old since start places → IsProper request.now →
             IfOk result (Answers start places request.now) }
-        ensures nothing { OnErr result (self.new ≡ self.old) }
-        // A command after which no row differs makes no call of a disk.
-        ensures no_call { (d : List Deed) → Stand (rows_of self.old.tables) d → SameRows d (after d (step d request.now).deeds) → self.new ≡ self.old }
-        ensures archive { self.new.archive ≡ self.old.archive }
+        ensures nothing { (since : ℕ) (start : List Deed) (places : List Placed) → HasRun D.seen D.may_leave D.moment D.left_since self.old since start places →
+            OnErr result (HasRun D.seen D.may_leave D.moment D.left_since self.new since start places) }
+        // A command after which no row differs makes no call of the journal's disk, and none of the archive's where it prints no content.
+        ensures no_write { (d : List Deed) → Stand (rows_of self.old.tables) d → IsProper request.now → SameRows d (after d (step d request.now).deeds) →
+            (self.new.journal ≡ self.old.journal) × (self.new.tables ≡ self.old.tables) }
+        ensures no_call { (d : List Deed) → Stand (rows_of self.old.tables) d → IsProper request.now → SameRows d (after d (step d request.now).deeds) →
+            contents_of (step d request.now).rows ≡ [] → self.new ≡ self.old }
         ensures never_falls { D.faults (disk_of self.old.journal) ≤ D.faults (disk_of self.new.journal) }
-        ensures cause { IfOk result (λ answer. answer.place.fault ≡ true → HasRisen (D.faults (disk_of self.old.journal)) (D.faults (disk_of self.new.journal))) }
+        ensures never_falls_contents { D.faults (archive_disk_of self.old.archive) ≤ D.faults (archive_disk_of self.new.archive) }
+        ensures cause { IfOk result (λ answer. answer.place.fault ≡ true → HasRisen (D.faults (disk_of self.old.journal)) (D.faults (disk_of self.new.journal)) ⊎ HasRisen (D.faults (archive_disk_of self.old.archive)) (D.faults (archive_disk_of self.new.archive))) }
     {
         requests_are_typed(request);
         let outcome = evaluate(alloc, &self.tables, request)?;
-        if !is_ready(&outcome) {
+        if !is_ready(&outcome, self.archive.used()) {
             drop(outcome);
             return Err(AllocError);
         }
-        gate.pass(request.party, request.number);
-        let text = print_reply(alloc, &outcome.reply, request.number)?;
         know_records(outcome.changes.as_slice());
-        let answer = self.place(alloc, place_of(request), text, outcome.changes.as_slice())?;
+        let of_fault = fault_reply(alloc, request.number)?;
+        gate.pass(request.party, request.number);
+        let answer = self.finish(alloc, place_of(request), outcome, of_fault)?;
         gate.answered(request.party, request.number);
         Ok(answer)
     }
 }
 
 impl<D: Disk> Taker for SerialDepot<D> {
-    ghost can_take = { λ depot. CanCommit D.may_leave depot };
+    ghost can_take = { λ depot. CanTake D.may_leave depot };
 
-    ghost has_run = { λ depot since start places. HasRun D.may_leave D.moment D.left_since depot since start places };
+    ghost has_run = { λ depot since start places. HasRun D.seen D.may_leave D.moment D.left_since depot since start places };
 
     ghost faults = { λ depot. D.faults (disk_of depot.journal) };
+
+    ghost content_faults = { λ depot. D.faults (archive_disk_of depot.archive) };
 
     fn take<G: Gate>(
         &mut self,

@@ -1,4 +1,4 @@
 pub mod Asked
-mod Faults
+pub mod Faults
 pub mod Orders
 pub mod Turns

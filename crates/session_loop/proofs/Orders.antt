@@ -8,7 +8,7 @@ use Rattle.depot_model.specs.declared.request.Session.{Session}
 use Rattle.depot_model.specs.Printed.{printed}
 use Rattle.depot_model.specs.Rows.{memory_row}
 use Rattle.depot_model.specs.Step.{after}
-use Rattle.depot_model.specs.Run.{deeds_at, rows_at, run, is_place_of, reply_to, output_of, outputs}
+use Rattle.depot_runs.specs.Run.{deeds_at, rows_at, run, is_place_of, reply_to, output_of, outputs}
 
 -- no place of the order is that of this command
 abbrev pub IsUnplaced : ℕ → ℕ → List Place → Type 0

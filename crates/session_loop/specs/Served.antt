@@ -10,9 +10,9 @@ use Rattle.depot_model.specs.declared.request.Session.{Session}
 use Rattle.depot_model.specs.Order.{Rises}
 use Rattle.depot_model.specs.Printed.{printed}
 use Rattle.depot_model.specs.Rows.{memory_row}
-use Rattle.depot_model.specs.Commands.{step}
+use Rattle.depot_runs.specs.Today.{step}
 use Rattle.depot_model.specs.Places.{Placed, taken, told_at}
-use Rattle.depot_model.specs.Run.{request_of, outputs, output_of}
+use Rattle.depot_runs.specs.Run.{request_of, outputs, output_of}
 use Rattle.wire_text.specs.Giving.{GivesAll, IsProperFront}
 use Rattle.session_loop.specs.Taking.{placed_by}
 
@@ -20,9 +20,10 @@ use Rattle.session_loop.specs.Taking.{placed_by}
 abbrev pub fault_count : List Place → ℕ
 fault_count order = count_by (λ place. place.fault) order
 
--- the fault places that came are at most as many as the count rose
-abbrev pub AreCaused : ℕ → ℕ → List Place → List Place → Type 0
-AreCaused before now old_order new_order = (n : ℕ) × (fault_count new_order ≡ fault_count old_order + n) × (counted n before ≤ now)
+-- the fault places that came are at most as many as the two counts rose together
+abbrev pub AreCaused : ℕ → ℕ → ℕ → ℕ → List Place → List Place → Type 0
+AreCaused before now contents_before contents_now old_order new_order =
+    (n : ℕ) × (m : ℕ) × (fault_count new_order ≡ fault_count old_order + (n + m)) × (counted n before ≤ now) × (counted m contents_before ≤ contents_now)
 
 -- The command has the last place. There it did, and was answered, what the model says: at a fault place nothing, and the row of a fault.
 pub record IsTaken (may_give : ℕ → Type 0) (has_run : List Deed → List Placed → Type 0) (party number : ℕ) (caller : Caller) (asked : Asked) (start : List Deed) (places : List Placed) (old_order new_order : List Place) (text : List ℕ) : Type 0 where

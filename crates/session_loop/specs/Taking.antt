@@ -2,7 +2,7 @@
 -- own choice.
 use Rattle.std.specs.Prelude.{◌≡◌, ℕ, Bool, List, [], ◌∷◌, ◌++◌, Some}
 use Rattle.depot_model.specs.Deeds.{Deed}
-use Rattle.depot_model.specs.Commands.{step}
+use Rattle.depot_runs.specs.Today.{step}
 use Rattle.depot_model.specs.Places.{Placed, told_at, taken}
 use Rattle.depot_model.specs.Printed.{printed}
 use Rattle.depot_model.specs.declared.order.Answer.{Answer}

@@ -1,13 +1,13 @@
 //! Taking the commands of a session, one after another.
 
 ghost use Rattle.std.specs.Prelude.{◌≡◌, ◌≤◌, ◌<◌, ◌^◌, ◌-◌, ℕ, List, Option, Some, [], length, map, slice_get, true, false, vec_len, vec_capacity, IfOk, OnOk, OnErr};
-ghost use Rattle.outside_api.specs.Count.{HasCause, HasRisen, counted};
+ghost use Rattle.outside_api.specs.Count.{HasCause, HasRisen};
 ghost use Rattle.depot_model.specs.Deeds.{Deed};
 ghost use Rattle.depot_model.specs.Places.{Placed};
 ghost use Rattle.depot_model.specs.declared.request.Session.{Session};
-ghost use Rattle.depot_model.specs.Run.{placed, request_of};
+ghost use Rattle.depot_runs.specs.Run.{placed, request_of};
 ghost use Rattle.session_loop.specs.Asking.{AreProper, AreWellFormed};
-ghost use Rattle.session_loop.specs.Served.{AreCaused, IsTaken, IsAnswered, IsServed, fault_count};
+ghost use Rattle.session_loop.specs.Served.{AreCaused, IsTaken, IsAnswered, IsServed};
 
 use crate::taker::Taker;
 use depot_model::{Answer, Asked, Caller, Place, Request, Session};
@@ -85,9 +85,9 @@ fn take_command<T: Taker, C: Clock, G: Gate>(
     ensures can { T.can_take taker.new }
     ensures ok { (since : ℕ) (start : List Deed) (places : List Placed) → T.has_run taker.old since start places → AreProper asked.command asked.contents →
         IfOk result (IsTaken (C.may_give clock.now) (T.has_run taker.new since) party number caller.now asked start places order.old.items order.new.items) }
-    ensures same_taker { OnErr result (taker.new ≡ taker.old) }
+    ensures nothing { (since : ℕ) (start : List Deed) (places : List Placed) → T.has_run taker.old since start places → OnErr result (T.has_run taker.new since start places) }
     ensures same_order { OnErr result (order.new.items ≡ order.old.items) }
-    ensures cause { AreCaused (T.faults taker.old) (T.faults taker.new) order.old.items order.new.items }
+    ensures cause { AreCaused (T.faults taker.old) (T.faults taker.new) (T.content_faults taker.old) (T.content_faults taker.new) order.old.items order.new.items }
 {
     let place = Place {
         party,
@@ -118,7 +118,7 @@ fn answer<T: Taker, K: Sink, C: Clock, G: Gate>(
     ensures can { T.can_take taker.new }
     ensures answered { (since : ℕ) (start : List Deed) (places : List Placed) → T.has_run taker.old since start places → AreProper asked.command asked.contents →
         IsAnswered (C.may_give clock.now) (T.has_run taker.new since) party number caller.now asked start places order.old.items order.new.items (K.given sink.old) (K.given sink.new) result }
-    ensures places { AreCaused (T.faults taker.old) (T.faults taker.new) order.old.items order.new.items }
+    ensures places { AreCaused (T.faults taker.old) (T.faults taker.new) (T.content_faults taker.old) (T.content_faults taker.new) order.old.items order.new.items }
     ensures cause { HasCause (K.faults sink.old) (K.faults sink.new) result }
 {
     match take_command(
@@ -158,8 +158,8 @@ pub fn run_session<T: Taker, K: Sink, C: Clock, G: Gate>(
     ensures counts { K.faults sink.old ≤ K.faults sink.new }
     ensures cause { result.failed ≡ true → HasRisen (K.faults sink.old) (K.faults sink.new) }
 
-    // There are at most as many fault places as the taker's count rose.
-    ensures faults { counted (fault_count order.new.items) (T.faults taker.old) ≤ T.faults taker.new }
+    // There are at most as many fault places as the taker's two counts rose.
+    ensures faults { AreCaused (T.faults taker.old) (T.faults taker.new) (T.content_faults taker.old) (T.content_faults taker.new) [] order.new.items }
 {
     let Session { caller, commands } = session;
     let mut count = 0;

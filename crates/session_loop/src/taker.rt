@@ -1,6 +1,6 @@
 //! Who takes commands.
 
-ghost use Rattle.std.specs.Prelude.{◌≡◌, ◌≤◌, ℕ, List, true, IfOk, OnErr};
+ghost use Rattle.std.specs.Prelude.{◌≡◌, ◌⊎◌, ◌≤◌, ℕ, List, true, IfOk, OnErr};
 ghost use Rattle.outside_api.specs.Count.{HasRisen};
 ghost use Rattle.depot_model.specs.Deeds.{Deed};
 ghost use Rattle.depot_model.specs.Places.{Placed};
@@ -19,12 +19,15 @@ pub trait Taker {
     /// this depot on.
     ghost has_run: { Self → ℕ → List Deed → List Placed → Type 0 };
 
-    /// How often what it stands on has failed.
+    /// How often that failed to which it commits.
     ghost faults: { Self → ℕ };
 
-    /// Takes a command and gives its place and its reply. At a fault place the commit failed, and the
-    /// command did nothing. The one error is want of memory, and then nothing is done. The command may
-    /// be held back at the gate.
+    /// How often that failed which has the contents.
+    ghost content_faults: { Self → ℕ };
+
+    /// Takes a command and gives its place and its reply. At a fault place the commit failed, or a content
+    /// couldn't be read or stored, and the command did nothing. The one error is want of memory, and then
+    /// nothing is done. The command may be held back at the gate.
     fn take<G: Gate>(
         &mut self,
         alloc: Global,
@@ -35,7 +38,8 @@ pub trait Taker {
         ensures can { can_take self.new }
         ensures ran { (since : ℕ) (start : List Deed) (places : List Placed) → has_run self.old since start places → IsProper request → IfOk result (λ answer. has_run self.new since start (with_place places request answer)) }
         ensures answers { (since : ℕ) (start : List Deed) (places : List Placed) → has_run self.old since start places → IsProper request → IfOk result (Answers start places request) }
-        ensures nothing { OnErr result (self.new ≡ self.old) }
+        ensures nothing { (since : ℕ) (start : List Deed) (places : List Placed) → has_run self.old since start places → OnErr result (has_run self.new since start places) }
         ensures never_falls { faults self.old ≤ faults self.new }
-        ensures cause { IfOk result (λ answer. answer.place.fault ≡ true → HasRisen (faults self.old) (faults self.new)) };
+        ensures never_falls_contents { content_faults self.old ≤ content_faults self.new }
+        ensures cause { IfOk result (λ answer. answer.place.fault ≡ true → HasRisen (faults self.old) (faults self.new) ⊎ HasRisen (content_faults self.old) (content_faults self.new)) };
 }

@@ -33,3 +33,6 @@ returns-clause-run g c = λ since start ran.
           });
       ran = rw c.from_vec.ensures (run.ran since start formed ran);
     }
+
+pub returns-clause-faults : goal.returns-clause-faults
+returns-clause-faults g c = rw c.from_vec.ensures c.run_read-run.ensures.faults

@@ -4,8 +4,13 @@ use Rattle.disk_journal.specs.Stands.{disk_of}
 use Rattle.serial_depot.specs.declared.depot.SerialDepot.{SerialDepot}
 use Rattle.p4_server.proofs.Openings.{unopened_of}
 use Rattle.p4_server.proofs.Promises.{schedules_run, schedules_shut, schedules_unopened}
-use Rattle.p4_server.proofs.Scheduled.{begins, is_opened, are_kept, run_of, why_unrun}
+use Rattle.p4_server.proofs.Scheduled.{begins, can_take, is_opened, are_kept, run_of, why_unrun}
 use Rattle.p4_server.proofs.schedule.schedule.Goals as goal
+
+pub run_party-run-requires : goal.run_party-run-requires
+run_party-run-requires g c =
+    let opens = c.in-Ok.ensures in
+    can_take g.D.Disk.seen g.D.Disk.may_leave g.D.Disk.moment g.D.Disk.left_since c.args.archive c.in-Ok.opened c.new-depot.result c.new-depot.ensures opens.«open» opens.archive_synced opens.within
 
 pub returns-in-Err-clause-schedules : goal.returns-in-Err-clause-schedules
 returns-in-Err-clause-schedules g c =
@@ -22,11 +27,11 @@ returns-in-Ok-run-clause-schedules g c =
     let party = c.in-Ok-run.run' in
     let opened = disk_of c.in-Ok.opened.journal in
     schedules_run _ _ _ _ _ _ _ _ _ _ _ _ _ _ _ _ _ _ c.args.name.now _ (run_of _ _ _ _ _ _ _ _ _ _ _ _ _ _ _ _ _ _ c.args.name.now _
-    c.run_party-run.new.taker opened (g.D.Disk.faults (disk_of c.new-depot.result.journal)) party.order party.party party.source
+    c.run_party-run.new.taker opened (g.D.Disk.faults (disk_of c.new-depot.result.journal)) (g.D.Disk.faults (archives.disk_of c.new-depot.result.archive)) party.order party.party party.source
     (end.journal ∙ c.close-journal.ensures.journal) (end.archive ∙ c.close-journal.ensures.archive) (is_opened _ _ _ _ _ _ _ _ _ _ _ _ _ _ _ _ _ _ c.args.name.now _ c.in-Ok.opened opens.exactly opens.journal_looks opens.journal_synced) end.order run.end
     (λ d start. run.run (g.D.Disk.moment opened) d (begins g.D.Disk.seen g.D.Disk.may_leave g.D.Disk.moment g.D.Disk.left_since c.args.journal c.args.archive c.in-Ok.opened c.new-depot.result c.new-depot.ensures opens.«open» opens.journal_synced opens.archive_synced g.met.D.Disk.reads_an_image g.met.D.Disk.only_now g.met.D.Disk.reads_one opens.held
     (λ j a d j_reads a_reads stand. (opens.stands j a d j_reads a_reads stand).1) d start))
-    (rw c.new-depot.ensures opens.cause.journal_never_falls) run.faults end.told)
+    (rw c.new-depot.ensures opens.cause.journal_never_falls) (rw c.new-depot.ensures opens.cause.archive_never_falls) run.faults end.told)
 
 pub returns-in-Err-run-clause-schedules : goal.returns-in-Err-run-clause-schedules
 returns-in-Err-run-clause-schedules g c =

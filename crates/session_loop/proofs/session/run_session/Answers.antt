@@ -39,7 +39,7 @@ loop-asked-init g c = record {
   left = search rules;
   count = refl;
   counts = omega arith;
-  faults = rw c.requires.no_places (caused_none _);
+  faults = rw c.requires.no_places (caused_none _ _);
 }
 
 pub returns-in-Err-clause-served : goal.returns-in-Err-clause-served
@@ -82,7 +82,7 @@ loop-asked-preserved g c =
           omega arith;
       count = let longer = length_push at.yielded asked in let was = at.invariant.count in omega (arith, longer, was);
       counts = omega (arith, c.in-Ok.ensures.cause.never_falls);
-      faults = caused_more (g.T.Taker.faults c.args.taker.now) (g.T.Taker.faults at.taker) (g.T.Taker.faults c.answer.new.taker) at.order.items c.answer.new.order.items at.invariant.faults c.answer.ensures.places;
+      faults = caused_more (g.T.Taker.faults c.args.taker.now) (g.T.Taker.faults at.taker) (g.T.Taker.faults c.answer.new.taker) (g.T.Taker.content_faults c.args.taker.now) (g.T.Taker.content_faults at.taker) (g.T.Taker.content_faults c.answer.new.taker) [] at.order.items c.answer.new.order.items at.invariant.faults c.answer.ensures.places;
     }
 
 pub returns-clause-served : goal.returns-clause-served
@@ -96,4 +96,4 @@ returns-clause-ran g c = λ sessions since start has formed ran. (c.loop-asked.i
 pub returns-in-Err-clause-faults : goal.returns-in-Err-clause-faults
 returns-in-Err-clause-faults g c =
     let at = c.loop-asked in
-    caused_more (g.T.Taker.faults c.args.taker.now) (g.T.Taker.faults at.taker) (g.T.Taker.faults c.answer.new.taker) at.order.items c.answer.new.order.items at.invariant.faults c.answer.ensures.places
+    caused_more (g.T.Taker.faults c.args.taker.now) (g.T.Taker.faults at.taker) (g.T.Taker.faults c.answer.new.taker) (g.T.Taker.content_faults c.args.taker.now) (g.T.Taker.content_faults at.taker) (g.T.Taker.content_faults c.answer.new.taker) [] at.order.items c.answer.new.order.items at.invariant.faults c.answer.ensures.places

@@ -1,11 +1,10 @@
 use Rattle.std.proofs.Common.{◌≡◌, ◌≤◌, ◌-◌, ◌++◌, ℕ, List, [], length, Option, Some}
 use Rattle.std.specs.Prelude.{slice_get}
 use Rattle.std.specs.Vec.Iter.{into_iter_items, into_iter_len}
-use Rattle.outside_api.specs.Count.{counted}
 use Rattle.depot_model.specs.Deeds.{Deed}
 use Rattle.depot_model.specs.declared.request.Session.{Session}
 use Rattle.session_loop.specs.Asking.{AreWellFormed}
-use Rattle.session_loop.specs.Served.{fault_count}
+use Rattle.session_loop.specs.Served.{AreCaused}
 use Rattle.session_loop.proofs.Turns.{HasServed}
 use Rattle.session_loop.proofs.session.run_session.Given as goal
 
@@ -19,5 +18,5 @@ invariant-loop-asked g l =
       left : into_iter_len l.asked-iterator ≡ length (into_iter_items l.asked-iterator);
       count : l.count ≡ length l.yielded;
       counts : g.K.Sink.faults l.fn.sink ≤ g.K.Sink.faults l.sink;
-      faults : counted (fault_count l.order.items) (g.T.Taker.faults l.fn.taker) ≤ g.T.Taker.faults l.taker;
+      faults : AreCaused (g.T.Taker.faults l.fn.taker) (g.T.Taker.faults l.taker) (g.T.Taker.content_faults l.fn.taker) (g.T.Taker.content_faults l.taker) [] l.order.items;
     }

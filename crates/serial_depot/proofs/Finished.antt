@@ -1,0 +1,160 @@
+-- A command whose contents were read, and one whose contents were stored and whose group was committed.
+use Rattle.std.proofs.Common.{◌≡◌, ◌⊎◌, ℕ, ◌≤◌, ◌+◌, Bool, true, false, List, [], ◌∷◌, ◌++◌, length, refl, sym, ap, subst, ◌∙◌, arith}
+use Rattle.archive_file.specs.Archive as archives
+use Rattle.archive_file.specs.declared.archive.Archive.{Archive}
+use Rattle.outside_api.specs.Disk.{Files, LeavesOnly, NoMore, Same, StillTells}
+use Rattle.command_core.specs.Outcomes.{IsOutcome}
+use Rattle.command_core.specs.declared.outcome.Outcome.{Outcome}
+use Rattle.db_records.specs.declared.change.Change.{Change}
+use Rattle.disk_journal.specs.Images.{Committed, with_group}
+use Rattle.disk_journal.specs.Stands.{Doubtful, group, HasWithOrWithout, Stands, next_number, nothing}
+use Rattle.disk_journal.specs.declared.journal.Journal.{Journal}
+use Rattle.table_changes.specs.Changed.{AllRows, changed_by, rows_of}
+use Rattle.table_store.specs.declared.tables.Tables.{Tables}
+use Rattle.journal_groups.specs.Groups.{group_text}
+use Rattle.depot_runs.specs.Today.{step}
+use Rattle.depot_model.specs.Deeds.{Deed}
+use Rattle.depot_model.specs.Places.{Placed, taken}
+use Rattle.depot_model.specs.Step.{after}
+use Rattle.depot_model.specs.declared.request.Request.{Request}
+use Rattle.db_records.specs.declared.change.Spot.{Spot}
+use Rattle.depot_model.specs.declared.reply.Row.{Row}
+use Rattle.reply_rows.specs.Made.{StandAt, contents_of}
+use Rattle.session_loop.specs.Taking.{placed_by}
+use Rattle.stored_contents.specs.Placed.{StandAfter}
+use Rattle.serial_depot.specs.Committing.{AreChangesOf, IsGroupOf, StandsBy}
+use Rattle.serial_depot.specs.Holding.{KeepContents}
+use Rattle.serial_depot.specs.Running.{CanTake, HasRun}
+use Rattle.serial_depot.specs.Storing.{AllReach, AllStored, AreAt, KeepsBelow, stores_end}
+use Rattle.serial_depot.specs.declared.depot.SerialDepot.{SerialDepot}
+use Rattle.serial_depot.proofs.Moved.{has_run_moved, has_run_settled, has_run_unsettled}
+use Rattle.serial_depot.proofs.Steps.{has_run_done, has_run_failed, has_run_faulted}
+use Rattle.serial_depot.proofs.Stored.{contents_at, contents_follow, contents_kept, grows, keeps_more, keeps_reach}
+
+-- the journal stands, whether the commit failed or not
+pub standing : {D : Type 0} (may_leave : D → Files → Type 0) (journal : Journal D) (was : Committed) (doubt : Doubtful) (text : List ℕ) (failed : Bool) → StandsBy may_leave journal was doubt text failed
+    → (now : Committed) × ((left : Doubtful) × Stands may_leave journal now left)
+standing may_leave journal was doubt text false stands = (with_group was text, (nothing, stands))
+standing may_leave journal was doubt text true stands = (was, (stands.0, stands.2))
+
+module _ {D : Type 0} (seen may_leave : D → Files → Type 0) (moment : D → ℕ) (left_since : D → ℕ → Files → Type 0) (depot : SerialDepot D) where
+  -- ---- the archive was read
+
+  module _ (archive : Archive D) (same_used : archives.used_of archive ≡ archives.used_of depot.archive)
+      (same : Same (seen (archives.disk_of depot.archive)) (seen (archives.disk_of archive))) (more : NoMore (may_leave (archives.disk_of depot.archive)) (may_leave (archives.disk_of archive))) where
+    abbrev pub read : SerialDepot D
+    read = record { tables = depot.tables; journal = depot.journal; archive = archive }
+
+    pub read_can : CanTake may_leave depot → CanTake may_leave read
+    read_can can = record {
+      was = can.was;
+      doubt = can.doubt;
+      stands = can.stands;
+      end = can.end ∙ sym same_used;
+      room = λ image left. let le = can.room image (more image left) in omega (arith, le, same_used);
+    }
+
+    pub read_run : (since : ℕ) (start : List Deed) (places : List Placed) → HasRun seen may_leave moment left_since depot since start places → HasRun seen may_leave moment left_since read since start places
+    read_run since start places h =
+        has_run_moved seen may_leave moment left_since depot since start places h archive (omega (arith, same_used)) (h.tells.0, same.kept h.tells.0 h.tells.1)
+        (keeps_more (may_leave (archives.disk_of depot.archive)) (may_leave (archives.disk_of archive)) (archives.used_of depot.archive) more)
+
+    pub read_faulted : (since : ℕ) (start : List Deed) (places : List Placed) (request : Request) → HasRun seen may_leave moment left_since depot since start places
+        → HasRun seen may_leave moment left_since read since start (places ++ placed_by request true ∷ [])
+    read_faulted since start places request h = has_run_faulted seen may_leave moment left_since read since start places request (read_run since start places h)
+
+  -- what was read are the contents that the reply waits for
+  pub contents_are : ((disk : D) (files : Files) → seen disk files → may_leave disk files) → (since : ℕ) (start : List Deed) (places : List Placed) (request : Request) (from : ℕ) (outcome : Outcome)
+      → HasRun seen may_leave moment left_since depot since start places → IsOutcome (rows_of depot.tables) from (taken step start places) request outcome
+      → (texts : List (List ℕ)) → ((files : Files) (contents : List (List ℕ)) → seen (archives.disk_of depot.archive) files → AreAt (files 0) outcome.reads contents → texts ≡ contents)
+      → texts ≡ contents_of (step (taken step start places) request).rows
+  contents_are images since start places request from outcome h is texts read =
+      read h.tells.0 (contents_of (step (taken step start places) request).rows) h.tells.1
+      (contents_at (may_leave (archives.disk_of depot.archive)) (archives.used_of depot.archive) (rows_of depot.tables) (taken step start places) h.kept h.tells.0
+      (images (archives.disk_of depot.archive) h.tells.0 h.tells.1) (contents_of (step (taken step start places) request).rows) outcome.reads is.reads)
+
+  -- what is in doubt couldn't be settled
+  pub unsettled_run : (since : ℕ) (start : List Deed) (places : List Placed) (request : Request) (h : HasRun seen may_leave moment left_since depot since start places) (journal : Journal D)
+      → Stands may_leave journal h.was h.doubt → LeavesOnly moment left_since depot.journal.disk journal.disk (HasWithOrWithout h.was h.doubt)
+      → HasRun seen may_leave moment left_since (record { tables = depot.tables; journal = journal; archive = depot.archive }) since start (places ++ placed_by request true ∷ [])
+  unsettled_run since start places request h journal stands leaves =
+      has_run_faulted seen may_leave moment left_since (record { tables = depot.tables; journal = journal; archive = depot.archive }) since start places request
+      (has_run_unsettled seen may_leave moment left_since depot since start places h journal stands leaves)
+
+  -- ---- contents were stored, and a group committed
+
+  module _ (can : CanTake may_leave depot) (archive : Archive D) (keeps : KeepsBelow (may_leave (archives.disk_of depot.archive)) (may_leave (archives.disk_of archive)) depot.tables.archive_end)
+      (tells : StillTells (seen (archives.disk_of depot.archive)) (seen (archives.disk_of archive))) where
+    keeps_used : KeepsBelow (may_leave (archives.disk_of depot.archive)) (may_leave (archives.disk_of archive)) (archives.used_of depot.archive)
+    keeps_used = subst (KeepsBelow (may_leave (archives.disk_of depot.archive)) (may_leave (archives.disk_of archive))) can.end keeps
+
+    pub stored_run : archives.used_of depot.archive ≤ archives.used_of archive → (journal : Journal D) (since : ℕ) (start : List Deed) (places : List Placed)
+        → HasRun seen may_leave moment left_since (record { tables = depot.tables; journal = journal; archive = depot.archive }) since start places
+        → HasRun seen may_leave moment left_since (record { tables = depot.tables; journal = journal; archive = archive }) since start places
+    stored_run le journal since start places h =
+        has_run_moved seen may_leave moment left_since (record { tables = depot.tables; journal = journal; archive = depot.archive }) since start places h archive le (tells h.tells.0 h.tells.1) keeps_used
+
+    -- a content couldn't be stored
+    pub unstored_run : archives.used_of archive ≡ archives.used_of depot.archive → (journal : Journal D) (since : ℕ) (start : List Deed) (places : List Placed) (request : Request)
+        → HasRun seen may_leave moment left_since (record { tables = depot.tables; journal = journal; archive = depot.archive }) since start places
+        → HasRun seen may_leave moment left_since (record { tables = depot.tables; journal = journal; archive = archive }) since start (places ++ placed_by request true ∷ [])
+    unstored_run same journal since start places request h =
+        has_run_faulted seen may_leave moment left_since (record { tables = depot.tables; journal = journal; archive = archive }) since start places request
+        (stored_run (omega (arith, same)) journal since start places h)
+
+    pub unstored_can : archives.used_of archive ≡ archives.used_of depot.archive → (journal : Journal D) → Stands may_leave journal can.was nothing
+        → CanTake may_leave (record { tables = depot.tables; journal = journal; archive = archive })
+    unstored_can same journal stands = record {
+      was = can.was;
+      doubt = nothing;
+      stands = stands;
+      end = can.end ∙ sym same;
+      room = λ image left.
+          let le = keeps_reach (may_leave (archives.disk_of depot.archive)) (may_leave (archives.disk_of archive)) (archives.used_of depot.archive) (archives.used_of depot.archive) (omega arith) keeps_used can.room image left in
+          omega (arith, same, le);
+    }
+
+    -- all were stored, and count as used
+    module _ (since : ℕ) (start : List Deed) (places : List Placed) (request : Request) (h : HasRun seen may_leave moment left_since depot since start places) (stores : List (List ℕ)) (changes : List Change)
+        (used_is : archives.used_of archive ≡ stores_end stores depot.tables.archive_end) (stored : AllStored (may_leave (archives.disk_of archive)) stores depot.tables.archive_end)
+        (reach : AllReach (may_leave (archives.disk_of archive)) (archives.used_of archive))
+        (placed : StandAfter (rows_of depot.tables) depot.tables.archive_end (taken step start places) (after (taken step start places) (step (taken step start places) request).deeds) stores changes) where
+      pub used_more : archives.used_of depot.archive ≤ archives.used_of archive
+      used_more = let more = grows stores depot.tables.archive_end in let end = can.end in omega (arith, used_is, more, end)
+
+      pub with_contents : KeepContents (may_leave (archives.disk_of archive)) (archives.used_of archive) (changed_by (rows_of depot.tables) changes)
+          (after (taken step start places) (step (taken step start places) request).deeds)
+      with_contents =
+          contents_follow (may_leave (archives.disk_of archive)) (archives.used_of depot.archive) (archives.used_of archive) depot.tables.archive_end (rows_of depot.tables) (taken step start places)
+          (after (taken step start places) (step (taken step start places) request).deeds) stores changes placed used_more
+          (contents_kept (may_leave (archives.disk_of depot.archive)) (may_leave (archives.disk_of archive)) (archives.used_of depot.archive) (archives.used_of depot.archive) (rows_of depot.tables)
+          (taken step start places) (omega arith) keeps_used h.stand h.kept) stored (omega (arith, used_is)) reach
+
+  -- the group has the number that comes next
+  of_number : (since : ℕ) (start : List Deed) (places : List Placed) (m : HasRun seen may_leave moment left_since depot since start places) (text : List ℕ) (changes : List Change)
+      → text ≡ group_text (next_number depot.journal) changes → text ≡ group_text (length m.was.groups + 1) changes
+  of_number since start places m text changes is =
+      let count = m.stands.count in
+      let number : next_number depot.journal ≡ length m.was.groups + 1 = omega (arith, count) in
+      is ∙ ap (λ (n : ℕ). group_text n changes) number
+
+  -- a group was committed, or its commit failed
+  pub committed : (since : ℕ) (start : List Deed) (places : List Placed) (request : Request) (m : HasRun seen may_leave moment left_since depot since start places) (now : AllRows) (text : List ℕ) (changes : List Change)
+      → IsGroupOf (rows_of depot.tables) now (next_number depot.journal) text changes → AreChangesOf (rows_of depot.tables) request changes
+      → KeepContents (may_leave (archives.disk_of depot.archive)) (archives.used_of depot.archive) (changed_by (rows_of depot.tables) changes) (after (taken step start places) (step (taken step start places) request).deeds)
+      → (tables : Tables) (journal : Journal D)
+      → LeavesOnly moment left_since depot.journal.disk journal.disk (λ c. HasWithOrWithout m.was m.doubt c ⊎ HasWithOrWithout m.was (group text) c)
+      → (failed : Bool) → StandsBy may_leave journal m.was m.doubt text failed → (failed ≡ false → rows_of tables ≡ now) → (failed ≡ true → rows_of tables ≡ rows_of depot.tables)
+      → HasRun seen may_leave moment left_since (record { tables = tables; journal = journal; archive = depot.archive }) since start (places ++ placed_by request failed ∷ [])
+  committed since start places request m now text changes is made contents tables journal leaves false stands done kept =
+      has_run_done seen may_leave moment left_since depot since start places request m tables journal changes text (of_number since start places m text changes is.text_is) is.is_group is.fit made contents leaves stands (done refl ∙ is.rows_are)
+  committed since start places request m now text changes is made contents tables journal leaves true stands done kept =
+      has_run_failed seen may_leave moment left_since depot since start places request m tables journal changes text (of_number since start places m text changes is.text_is) is.is_group is.fit made contents leaves stands.0 stands.1 stands.2 (kept refl)
+
+-- where no row has a content nothing is read
+pub none_read : (rows : AllRows) (d : List Deed) (reads : List Spot) (told : List Row) → StandAt rows d (contents_of told) reads → contents_of told ≡ [] → reads ≡ []
+none_read rows d reads told at none = go reads (subst (λ (contents : List (List ℕ)). StandAt rows d contents reads) none at)
+  where
+    go : (reads : List Spot) → StandAt rows d [] reads → reads ≡ []
+    go [] at = refl
+    go (spot ∷ reads) at = absurd at

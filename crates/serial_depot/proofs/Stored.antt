@@ -1,0 +1,265 @@
+-- Contents that are stored, and those that stay.
+use Rattle.std.proofs.Common.{◌≡◌, ◌⊎◌, ℕ, zero, suc, ◌≤◌, ◌<◌, ◌+◌, max, get_or, Bool, true, false, cond, eqb, List, [], ◌∷◌, ◌++◌, length, take, drop, Option, Some, None, Result, Ok, Err, inl, inr, refl, sym, ap, subst, ◌∙◌, arith}
+use Rattle.std.specs.Prelude.{OnErr, option_and_then}
+use Rattle.std.specs.List.{AllByRecursion, filter}
+use Rattle.std.proofs.lemmas.List.{take_more}
+use Rattle.outside_api.specs.Disk.{Files, NoMore}
+use Rattle.depot_path.specs.Path.{printed}
+use Rattle.archive_file.specs.Archive.{AllHave, Has, end_of}
+use Rattle.db_records.specs.Record.{table_of}
+use Rattle.db_records.specs.Table.{table_number}
+use Rattle.db_records.specs.declared.change.Change.{Change}
+use Rattle.db_records.specs.declared.change.Op.{Op}
+use Rattle.db_records.specs.declared.change.Op.TheVariants.{Put, Replace, Remove}
+use Rattle.db_records.specs.declared.change.Spot.{Spot}
+use Rattle.db_records.specs.declared.key.Key.{Key}
+use Rattle.db_records.specs.declared.key.Key.TheVariants as keys
+use Rattle.db_records.specs.declared.record.Record.{Record}
+use Rattle.db_records.specs.declared.record.Record.TheVariants.{Rev as RevRow}
+use Rattle.db_records.specs.declared.rows.RevRecord.{RevRecord}
+use Rattle.db_records.specs.declared.table.TableId.TheVariants.{Rev}
+use Rattle.table_store.specs.Rows.{changed_once, is_above, is_at, is_below, left_by, row_at}
+use Rattle.db_records.specs.Record.{key_of}
+use Rattle.table_changes.specs.Changed.{AllRows, changed_by, changed_in}
+use Rattle.depot_model.specs.Deeds.{Deed}
+use Rattle.depot_model.specs.Revisions.{Revision, revision}
+use Rattle.depot_rows.specs.Standing.{Stand}
+use Rattle.recovery.specs.Holding.{spot_end, spots_end}
+use Rattle.recovery.specs.Standing.{HasContent}
+use Rattle.reply_rows.specs.Made.{IsSpotOf, StandAt}
+use Rattle.step_stores.specs.Stored.{StandsAmong}
+use Rattle.stored_contents.specs.Placed.{HasPlace, IsPlacedAt, StandAfter, no_spot, spot_of}
+use Rattle.serial_depot.specs.Holding.{KeepContents}
+use Rattle.serial_depot.proofs.Contents.{revision_there}
+use Rattle.serial_depot.proofs.Staying.{row_there}
+use Rattle.serial_depot.specs.Storing.{AllReach, AllStored, AreAt, KeepsBelow, stores_end}
+
+-- what holds anyway holds on an error
+pub on_err : {T E : Type 0} (result : Result T E) (P : Type 0) → P → OnErr result P
+on_err (Ok x) P p = tt
+on_err (Err e) P p = p
+
+-- ---- images that keep contents
+
+pub keeps_more : (old new : Files → Type 0) (place : ℕ) → NoMore old new → KeepsBelow old new place
+keeps_more old new place more spot bytes le all image left = all image (more image left)
+
+pub keeps_same : (old : Files → Type 0) (place : ℕ) → KeepsBelow old old place
+keeps_same old place spot bytes le all = all
+
+-- how far a spot reaches, as an empty content there
+reach_of : (images : Files → Type 0) (place : ℕ) → AllReach images place → AllHave images (record { at = place; length = 0 }) []
+reach_of images place reach image left = record { within = let far = reach image left in omega (arith, far); is = refl }
+
+pub keeps_reach : (old new : Files → Type 0) (used place : ℕ) → used ≤ place → KeepsBelow old new place → AllReach old used → AllReach new used
+keeps_reach old new used place le keeps reach image left =
+    let there = keeps (record { at = used; length = 0 }) [] (omega (arith, le)) (reach_of old used reach) image left in
+    let within = there.within in
+    omega (arith, within)
+
+-- ---- where spots end
+
+pub row_end : (rows : List Record) (key : Key) (row : Record) → row_at key rows ≡ Some row → spot_end row ≤ spots_end rows
+row_end [] key row e = absurd cc
+row_end (x ∷ rows) key row e = go (is_at key x) e (row_end rows key row)
+  where
+    go : (b : Bool) → cond b (Some x) (row_at key rows) ≡ Some row → (row_at key rows ≡ Some row → spot_end row ≤ spots_end rows) → spot_end row ≤ max (spot_end x) (spots_end rows)
+    go true e rest = let one : x ≡ row = cc in let same : spot_end x ≡ spot_end row = ap spot_end one in omega (arith, same)
+    go false e rest = let le = rest e in omega (arith, le)
+
+ends_append : (xs ys : List Record) (place : ℕ) → spots_end xs ≤ place → spots_end ys ≤ place → spots_end (xs ++ ys) ≤ place
+ends_append [] ys place first second = second
+ends_append (x ∷ xs) ys place first second = let rest = ends_append xs ys place (omega (arith, first)) second in omega (arith, first, rest)
+
+ends_filter : (test : Record → Bool) (xs : List Record) (place : ℕ) → spots_end xs ≤ place → spots_end (filter test xs) ≤ place
+ends_filter test [] place le = le
+ends_filter test (x ∷ xs) place le = go (test x) (ends_filter test xs place (omega (arith, le)))
+  where
+    go : (b : Bool) → spots_end (filter test xs) ≤ place → spots_end (cond b (x ∷ filter test xs) (filter test xs)) ≤ place
+    go true rest = omega (arith, le, rest)
+    go false rest = rest
+
+ends_once : (rows : List Record) (change : Change) (place : ℕ) → spots_end rows ≤ place → spots_end (left_by change.op change.row) ≤ place → spots_end (changed_once rows change) ≤ place
+ends_once rows change place le put =
+    ends_append (filter (is_below (key_of change.row)) rows) (left_by change.op change.row ++ filter (is_above (key_of change.row)) rows) place
+    (ends_filter (is_below (key_of change.row)) rows place le)
+    (ends_append (left_by change.op change.row) (filter (is_above (key_of change.row)) rows) place put (ends_filter (is_above (key_of change.row)) rows place le))
+
+ends_changed : (rows : AllRows) (changes : List Change) (place : ℕ) → spots_end (rows Rev) ≤ place → AllByRecursion (λ change. spots_end (left_by change.op change.row) ≤ place) changes
+    → spots_end (changed_by rows changes Rev) ≤ place
+ends_changed rows [] place le all = le
+ends_changed rows (change ∷ changes) place le all =
+    ends_changed (changed_in rows change) changes place (go (eqb (table_number Rev) (table_number (table_of change.row)))) all.1
+  where
+    go : (b : Bool) → spots_end (cond b (changed_once (rows Rev) change) (rows Rev)) ≤ place
+    go true = ends_once (rows Rev) change place le all.0
+    go false = le
+
+pub grows : (stores : List (List ℕ)) (from : ℕ) → from ≤ stores_end stores from
+grows [] from = omega arith
+grows (store ∷ stores) from = let rest = grows stores (from + length store) in omega (arith, rest)
+
+among_end : (stores : List (List ℕ)) (from : ℕ) (spot : Spot) (bytes : List ℕ) → StandsAmong stores from spot bytes → end_of spot ≤ stores_end stores from
+among_end [] from spot bytes there = absurd there
+among_end (store ∷ stores) from spot bytes (inl here) = let end : end_of spot ≡ from + length store = ap end_of here.0 in let rest = grows stores (from + length store) in omega (arith, end, rest)
+among_end (store ∷ stores) from spot bytes (inr later) = among_end stores (from + length store) spot bytes later
+
+module _ (rows : AllRows) (d : List Deed) (stores : List (List ℕ)) (from place : ℕ) (old : spots_end (rows Rev) ≤ place) (new : stores_end stores from ≤ place) where
+  placed_end : (spot : Spot) (bytes : List ℕ) → IsPlacedAt rows d stores from spot bytes → end_of spot ≤ place
+  placed_end spot bytes (inl s) =
+      let end : end_of spot ≡ s.row.at + s.row.length = ap end_of s.at in
+      let le : s.row.at + s.row.length ≤ spots_end (rows Rev) = row_end (rows Rev) (keys.Rev (printed s.path) s.rev) (RevRow s.row) s.there in
+      omega (arith, end, le, old)
+  placed_end spot bytes (inr among) = let le = among_end stores from spot bytes among in omega (arith, le, new)
+
+  row_placed : (row : RevRecord) → (spot_of row ≡ no_spot) ⊎ ((bytes : List ℕ) × IsPlacedAt rows d stores from (spot_of row) bytes) → spots_end (RevRow row ∷ []) ≤ place
+  row_placed row (inl none) = let end : row.at + row.length ≡ 0 + 0 = ap end_of none in omega (arith, end)
+  row_placed row (inr (bytes, at)) = let le : row.at + row.length ≤ place = placed_end (spot_of row) bytes at in omega (arith, le)
+
+  put_end : (op : Op) (row : Record) → HasPlace rows d stores from op row → spots_end (left_by op row) ≤ place
+  put_end Remove row has = omega arith
+  put_end Put (RevRow row) has = row_placed row has
+  put_end Replace (RevRow row) has = row_placed row has
+  put_end Put _ has = omega arith
+  put_end Replace _ has = omega arith
+
+  puts_end : (changes : List Change) → AllByRecursion (λ change. HasPlace rows d stores from change.op change.row) changes → AllByRecursion (λ change. spots_end (left_by change.op change.row) ≤ place) changes
+  puts_end [] all = tt
+  puts_end (change ∷ changes) all = (put_end change.op change.row all.0, puts_end changes all.1)
+
+  pub ends_after : (changes : List Change) → AllByRecursion (λ change. HasPlace rows d stores from change.op change.row) changes → spots_end (changed_by rows changes Rev) ≤ place
+  ends_after changes all = ends_changed rows changes place old (puts_end changes all)
+
+-- ---- one content more is stored
+
+pub end_push : (stores : List (List ℕ)) (from : ℕ) (store : List ℕ) → stores_end (stores ++ store ∷ []) from ≡ stores_end stores from + length store
+end_push [] from store = refl
+end_push (first ∷ stores) from store = end_push stores (from + length first) store
+
+pub stored_push : (images : Files → Type 0) (stores : List (List ℕ)) (from : ℕ) (store : List ℕ) → AllStored images stores from
+    → AllHave images (record { at = stores_end stores from; length = length store }) store → AllStored images (stores ++ store ∷ []) from
+stored_push images [] from store all here = (here, tt)
+stored_push images (first ∷ stores) from store all here = (all.0, stored_push images stores (from + length first) store all.1 here)
+
+pub stored_kept : (old new : Files → Type 0) (place : ℕ) (stores : List (List ℕ)) (from : ℕ) → KeepsBelow old new place → stores_end stores from ≤ place → AllStored old stores from → AllStored new stores from
+stored_kept old new place [] from keeps le all = tt
+stored_kept old new place (store ∷ stores) from keeps le all =
+    let rest = grows stores (from + length store) in
+    (keeps (record { at = from; length = length store }) store (omega (arith, rest, le)) all.0, stored_kept old new place stores (from + length store) keeps le all.1)
+
+module _ (contents : List (List ℕ)) (i at : ℕ) (x : List ℕ) (lt : i < length contents) (is : x ≡ get_or contents i x) where
+  pub taken_more : take (i + 1) contents ≡ take i contents ++ x ∷ []
+  taken_more = take_more contents i x lt ∙ ap (λ (y : List ℕ). take i contents ++ y ∷ []) (sym is)
+
+  pub end_more : stores_end (take (i + 1) contents) at ≡ stores_end (take i contents) at + length x
+  end_more = ap (λ (l : List (List ℕ)). stores_end l at) taken_more ∙ end_push (take i contents) at x
+
+  pub stored_more : (old new : Files → Type 0) (end : ℕ) → end ≡ stores_end (take i contents) at → KeepsBelow old new end → AllStored old (take i contents) at
+      → AllHave new (record { at = end; length = length x }) x → AllStored new (take (i + 1) contents) at
+  stored_more old new end end_is keeps all here =
+      let P : List (List ℕ) → Type 0 = λ l. AllStored new l at in
+      let Q : ℕ → Type 0 = λ n. AllHave new (record { at = n; length = length x }) x in
+      subst P (sym taken_more) (stored_push new (take i contents) at x (stored_kept old new end (take i contents) at keeps (omega (arith, end_is)) all) (subst Q end_is here))
+
+-- ---- contents at their spots
+
+pub at_length : (file : List ℕ) (spots : List Spot) (contents : List (List ℕ)) → AreAt file spots contents → length contents ≡ length spots
+at_length file [] [] at = refl
+at_length file [] (content ∷ contents) at = absurd at
+at_length file (spot ∷ spots) [] at = absurd at
+at_length file (spot ∷ spots) (content ∷ contents) at = ap suc (at_length file spots contents at.1)
+
+-- the content of one place
+pub record AtIndex (file : List ℕ) (spot : Spot) (contents : List (List ℕ)) (i : ℕ) : Type 0 where
+  pub content : List ℕ
+  pub has : Has file spot content
+  pub more : take (i + 1) contents ≡ take i contents ++ content ∷ []
+
+pub at_index : (file : List ℕ) (spots : List Spot) (contents : List (List ℕ)) (i : ℕ) (d : Spot) → AreAt file spots contents → i < length spots → AtIndex file (get_or spots i d) contents i
+at_index file [] contents i d at lt = absurd (omega (arith, lt))
+at_index file (first ∷ spots) [] i d at lt = absurd at
+at_index file (first ∷ spots) (content ∷ contents) zero d at lt =
+    let on : zero + 1 ≡ suc zero = omega arith in
+    record { content = content; has = at.0; more = ap (λ (n : ℕ). take n (content ∷ contents)) on }
+at_index file (first ∷ spots) (content ∷ contents) (suc i) d at lt =
+    let rest = at_index file spots contents i d at.1 (omega (arith, lt)) in
+    let on : suc i + 1 ≡ suc (i + 1) = omega arith in
+    record { content = rest.content; has = rest.has; more = ap (λ (n : ℕ). take n (content ∷ contents)) on ∙ ap (λ (l : List (List ℕ)). content ∷ l) rest.more }
+
+-- ---- contents
+
+one_row : (a b : RevRecord) → Some (RevRow a) ≡ Some (RevRow b) → a ≡ b
+one_row a b e = cc
+
+-- the contents of a depot stay, where images keep what ends below what is used
+pub contents_kept : (old new : Files → Type 0) (used used' : ℕ) (rows : AllRows) (d : List Deed) → used ≤ used' → KeepsBelow old new used → Stand rows d
+    → KeepContents old used rows d → KeepContents new used' rows d
+contents_kept old new used used' rows d le keeps stand kept = record {
+  ends = let ends = kept.ends in omega (arith, ends, le);
+  contents = λ image left. record {
+    within =
+        let ends = kept.ends in
+        let there = keeps (record { at = spots_end (rows Rev); length = 0 }) [] (omega (arith, ends)) (reach_of old (spots_end (rows Rev)) (λ c h. (kept.contents c h).within)) image left in
+        let within = there.within in
+        omega (arith, within);
+    contents = λ path n r bytes there content.
+        let row = row_there d stand.sound rows (stand.each Rev) path n r there in
+        let le : row.0.at + row.0.length ≤ spots_end (rows Rev) = row_end (rows Rev) (keys.Rev (printed path) n) (RevRow row.0) row.1 in
+        let ends = kept.ends in (
+          row.0,
+          row.1,
+          keeps (record { at = row.0.at; length = row.0.length }) bytes (omega (arith, le, ends))
+              (λ c h.
+              let found = (kept.contents c h).contents path n r bytes there content in
+              subst (λ (x : RevRecord). HasContent (c 0) x bytes) (one_row found.0 row.0 (sym found.1 ∙ row.1)) found.2) image left,
+        );
+  };
+}
+
+-- what is stored is there
+stored_at : (images : Files → Type 0) (image : Files) → images image → (stores : List (List ℕ)) (from : ℕ) (spot : Spot) (bytes : List ℕ) → AllStored images stores from
+    → StandsAmong stores from spot bytes → Has (image 0) spot bytes
+stored_at images image left [] from spot bytes all there = absurd there
+stored_at images image left (store ∷ stores) from spot bytes all (inl h) =
+    subst (λ (x : List ℕ). Has (image 0) spot x) h.1 (subst (λ (s : Spot). Has (image 0) s store) (sym h.0) (all.0 image left))
+stored_at images image left (store ∷ stores) from spot bytes all (inr h) = stored_at images image left stores (from + length store) spot bytes all.1 h
+
+-- the contents after a command
+pub contents_follow : (images : Files → Type 0) (used used' from : ℕ) (rows : AllRows) (d e : List Deed) (stores : List (List ℕ)) (changes : List Change) → StandAfter rows from d e stores changes
+    → used ≤ used' → KeepContents images used rows d → AllStored images stores from → stores_end stores from ≤ used' → AllReach images used' → KeepContents images used' (changed_by rows changes) e
+contents_follow images used used' from rows d e stores changes placed le kept stored end reach = record {
+  ends = ends;
+  contents = λ image left. record {
+    within = let far = reach image left in omega (arith, ends, far);
+    contents = λ path n r bytes there content.
+        let put = placed.contents path n bytes (ap (option_and_then (λ (x : Revision). x.entry.content)) there ∙ content) in
+        (put.0, put.1, at_spot image left (spot_of put.0) bytes put.2);
+  };
+}
+  where
+    ends : spots_end (changed_by rows changes Rev) ≤ used'
+    ends = let before = kept.ends in ends_after rows d stores from used' (omega (arith, before, le)) end changes placed.places
+
+    at_spot : (image : Files) → images image → (spot : Spot) (bytes : List ℕ) → IsPlacedAt rows d stores from spot bytes → Has (image 0) spot bytes
+    at_spot image left spot bytes (inl s) =
+        let r = revision_there (revision d s.path s.rev) bytes s.content_is in
+        let found = (kept.contents image left).contents s.path s.rev r.0 bytes r.1 r.2 in
+        let here : HasContent (image 0) s.row bytes = subst (λ (x : RevRecord). HasContent (image 0) x bytes) (one_row found.0 s.row (sym found.1 ∙ s.there)) found.2 in
+        subst (λ (x : Spot). Has (image 0) x bytes) (sym s.at) here
+    at_spot image left spot bytes (inr among) = stored_at images image left stores from spot bytes stored among
+
+-- the contents that a reply waits for are at their spots
+pub contents_at : (images : Files → Type 0) (used : ℕ) (rows : AllRows) (d : List Deed) → KeepContents images used rows d → (image : Files) → images image
+    → (contents : List (List ℕ)) (spots : List Spot) → StandAt rows d contents spots → AreAt (image 0) spots contents
+contents_at images used rows d kept image left [] [] at = tt
+contents_at images used rows d kept image left [] (spot ∷ spots) at = absurd at
+contents_at images used rows d kept image left (content ∷ contents) [] at = absurd at
+contents_at images used rows d kept image left (content ∷ contents) (spot ∷ spots) at =
+    (here at.0, contents_at images used rows d kept image left contents spots at.1)
+  where
+    here : IsSpotOf rows d content spot → Has (image 0) spot content
+    here s =
+        let r = revision_there (revision d s.path s.rev) content s.content_is in
+        let found = (kept.contents image left).contents s.path s.rev r.0 content r.1 r.2 in
+        let row : HasContent (image 0) s.row content = subst (λ (x : RevRecord). HasContent (image 0) x content) (one_row found.0 s.row (sym found.1 ∙ s.there)) found.2 in
+        subst (λ (x : Spot). Has (image 0) x content) (sym s.at) row
