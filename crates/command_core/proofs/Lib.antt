@@ -1,3 +1,5 @@
+pub mod Storing
 pub mod Granted
 pub mod Locking
 pub mod Refusals
+mod Waiting

@@ -8,8 +8,9 @@ use Rattle.table_changes.specs.Changed.{AllRows}
 use Rattle.depot_model.specs.declared.command.Command.{Command}
 use Rattle.depot_model.specs.declared.request.Request.{Request}
 use Rattle.depot_model.specs.declared.request.WordFault.{WordFault}
-use Rattle.depot_model.specs.Built.{is_built}
-use Rattle.depot_model.specs.Commands.{built_step, step}
+use Rattle.depot_runs.specs.Built.{is_built}
+use Rattle.depot_model.specs.Commands.{built_step}
+use Rattle.depot_runs.specs.Today.{step}
 use Rattle.depot_model.specs.Common.{word_refusal}
 use Rattle.depot_model.specs.Deeds as model
 use Rattle.depot_model.specs.Step.{Step as ModelStep, refuses}

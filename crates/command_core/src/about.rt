@@ -2,15 +2,15 @@
 
 ghost use Rattle.std.specs.Prelude.{◌≡◌};
 ghost use Rattle.depot_model.specs.About.{about};
-ghost use Rattle.depot_model.specs.Built.{is_built as built};
+ghost use Rattle.depot_runs.specs.Built.{is_built as built, is_change as is_change_in, is_history as is_history_in, is_opening as is_opening_in, is_spec as is_spec_in, is_submit as is_submit_in, is_syncing as is_syncing_in};
 
 use depot_model::{Command, FileArgument, PatternArgument};
 use protect_table::Level;
 use std::slice;
 
-/// Whether a command is built.
-pub(crate) fn is_built(command: &Command) -> bool
-    ensures { result ≡ built command.now }
+/// Whether a command of counters or forms is built.
+pub(crate) fn is_spec(command: &Command) -> bool
+    ensures { result ≡ is_spec_in command.now }
 {
     matches!(
         command,
@@ -27,12 +27,87 @@ pub(crate) fn is_built(command: &Command) -> bool
             | Command::GroupSave
             | Command::ProtectShow
             | Command::ProtectSave
-            | Command::Have { .. }
+    )
+}
+
+/// Whether a command of opened files is built.
+pub(crate) fn is_opening(command: &Command) -> bool
+    ensures { result ≡ is_opening_in command.now }
+{
+    matches!(
+        command,
+        Command::Add { .. }
+            | Command::Edit { .. }
+            | Command::Delete { .. }
+            | Command::Revert { .. }
             | Command::Reopen { .. }
             | Command::Lock { .. }
             | Command::Unlock { .. }
             | Command::Opened { .. }
     )
+}
+
+/// Whether a command of changes is built.
+pub(crate) fn is_change(command: &Command) -> bool
+    ensures { result ≡ is_change_in command.now }
+{
+    matches!(
+        command,
+        Command::ChangeShow { .. }
+            | Command::ChangeSave
+            | Command::ChangeDelete { .. }
+            | Command::Changes { .. }
+            | Command::Describe { .. }
+    )
+}
+
+/// Whether a command of have lists, labels and integration is built.
+pub(crate) fn is_syncing(command: &Command) -> bool
+    ensures { result ≡ is_syncing_in command.now }
+{
+    matches!(
+        command,
+        Command::Where { .. }
+            | Command::Sync { .. }
+            | Command::Have { .. }
+            | Command::Tag { .. }
+            | Command::LabelSync { .. }
+    )
+}
+
+/// Whether a command that shows submitted files is built.
+pub(crate) fn is_history(command: &Command) -> bool
+    ensures { result ≡ is_history_in command.now }
+{
+    matches!(
+        command,
+        Command::Files { .. }
+            | Command::FileLog { .. }
+            | Command::Print { .. }
+            | Command::Dirs { .. }
+            | Command::FileStat { .. }
+            | Command::Integrated { .. }
+    )
+}
+
+/// Whether a command submits.
+pub(crate) fn is_submit(command: &Command) -> bool
+    ensures { result ≡ is_submit_in command.now }
+{
+    matches!(
+        command,
+        Command::SubmitChange { .. } | Command::SubmitDefault { .. }
+    )
+}
+
+/// Whether a command is built.
+pub(crate) fn is_built(command: &Command) -> bool
+    ensures { result ≡ built command.now }
+{
+    is_spec(command)
+        || (is_opening(command)
+            || (is_change(command)
+                || (is_syncing(command) || (is_history(command) || is_submit(command)))))
 }
 
 /// The right that a command needs somewhere.

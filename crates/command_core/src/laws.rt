@@ -2,7 +2,7 @@
 
 ghost use Rattle.std.specs.Prelude.{◌≡◌, List, IsTrue};
 ghost use Rattle.depot_model.specs.declared.request.Request.{Request};
-ghost use Rattle.depot_model.specs.Commands.{step};
+ghost use Rattle.depot_runs.specs.Today.{step};
 ghost use Rattle.depot_model.specs.Deeds.{Deed};
 ghost use Rattle.depot_model.specs.Records.{SameRows};
 ghost use Rattle.depot_model.specs.Rules.{IsSound};

@@ -2,12 +2,22 @@
 #![tactic(auto)]
 
 mod about;
+mod change_commands;
 mod evaluation;
+mod filling;
+mod history_commands;
+mod input;
 mod laws;
+mod opening_commands;
 mod outcome;
 mod refusing;
 mod rights;
+mod spec_commands;
+mod submit_commands;
+mod syncing_commands;
+mod unbuilt;
 
 pub use evaluation::evaluate;
+pub use filling::filled;
 pub use laws::{depots_with_the_same_rows_and_contents_answer_alike, steps_keep_depots_sound};
 pub use outcome::Outcome;

@@ -1,6 +1,6 @@
 //! The refusals that are common to all commands, in their order.
 
-ghost use Rattle.std.specs.Prelude.{◌≡◌, ◌||◌, ◌&&◌, not, List, flat_map, IfOk, option_map};
+ghost use Rattle.std.specs.Prelude.{◌≡◌, ◌||◌, ◌&&◌, ◌++◌, ◌∷◌, [], not, List, flat_map, IfOk, option_map};
 ghost use Rattle.std.specs.List.{list_any};
 ghost use Rattle.std.specs.Option.{option_copied, option_to_list};
 ghost use Rattle.db_records.specs.declared.table.TableId.TheVariants as table_ids;
@@ -9,10 +9,13 @@ ghost use Rattle.depot_model.specs.declared.command.FileArgument.{FileArgument a
 ghost use Rattle.depot_model.specs.About.{about};
 ghost use Rattle.depot_model.specs.Arguments.{in_client_syntax as in_syntax};
 ghost use Rattle.depot_model.specs.Asking.{is_client as client_saved, is_label as label_saved};
-ghost use Rattle.depot_model.specs.Common.{asks_client as client_asked, asks_have as have_asked, common_refusals, first_unknown as first_unknown_in, unknown_name as unknown_in, word_refusal};
+ghost use Rattle.depot_model.specs.Common.{asks_client as client_asked, asks_have as have_asked, common_refusals, first_unknown as first_unknown_in, last_refusals, unknown_name as unknown_in, word_refusal};
 ghost use Rattle.depot_model.specs.Deeds.{Deed};
+ghost use Rattle.depot_model.specs.Fixes.{is_fixing as is_fixing_in};
 ghost use Rattle.depot_model.specs.Refusals.{refusal_row};
 ghost use Rattle.depot_model.specs.Rules.{IsSound};
+ghost use Rattle.depot_model.specs.Shelves.{is_shelved as is_shelved_in};
+ghost use Rattle.depot_model.specs.Step.{refuse_if};
 ghost use Rattle.depot_model.specs.declared.refusal.Refusal.TheVariants as refusals;
 ghost use Rattle.depot_rows.specs.Standing.{HasRows};
 ghost use Rattle.command_core.specs.Refusing.{first_of};
@@ -21,9 +24,10 @@ use crate::about::{files_of, need_of, needs_client, patterns_of};
 use crate::rights::may_anywhere;
 use depot_model::{Caller, Command, FileArgument, PatternArgument, Row, WordFault};
 use depot_path::{Name, RevSpec, Wanted};
+use held_changes::{is_fixing, is_shelved};
 use reply_rows::{
-    bad_path_row, bad_revision_row, denied_anywhere_row, no_client_row, no_such_label_row,
-    unknown_command_row, usage_row,
+    bad_path_row, bad_revision_row, denied_anywhere_row, fixed_row, no_client_row,
+    no_such_label_row, shelved_row, unknown_command_row, usage_row,
 };
 use row_reads::{in_client_syntax, is_client, is_label};
 use std::alloc::{AllocError, Global};
@@ -143,7 +147,7 @@ fn lacks_client(
 
 /// The row of the first of the refusals that are common to all commands, and that holds: the caller has the right nowhere, the client isn't
 /// saved, or a name behind `@` is unknown.
-pub(crate) fn common_refusal(
+fn common_refusal(
     alloc: Global,
     tables: &Tables,
     caller: &Caller,
@@ -170,5 +174,88 @@ pub(crate) fn common_refusal(
             Ok(Some(row))
         }
         None => Ok(None),
+    }
+}
+
+/// The refusal of a change that has shelved files.
+fn shelved_refusal(alloc: Global, tables: &Tables, change: u32) -> Result<Option<Row>, AllocError>
+    ensures { IfOk result (λ row. (d : List Deed) → IsSound d → HasRows (rows_of tables.now) d table_ids.Domain →
+        row ≡ option_map refusal_row (refuse_if (is_shelved_in d change) (refusals.Shelved change))) }
+{
+    let shelved = is_shelved(alloc, tables, change)?;
+    if !shelved {
+        return Ok(None);
+    }
+    let row = shelved_row(alloc, change)?;
+    Ok(Some(row))
+}
+
+/// The refusal of a change that fixes jobs.
+fn fixed_refusal(alloc: Global, tables: &Tables, change: u32) -> Result<Option<Row>, AllocError>
+    ensures { IfOk result (λ row. (d : List Deed) → IsSound d → HasRows (rows_of tables.now) d table_ids.Domain →
+        row ≡ option_map refusal_row (refuse_if (is_fixing_in d change) (refusals.Fixed change))) }
+{
+    let fixing = is_fixing(alloc, tables, change)?;
+    if !fixing {
+        return Ok(None);
+    }
+    let row = fixed_row(alloc, change)?;
+    Ok(Some(row))
+}
+
+/// The refusal of a change that can't be deleted, since it has shelved files or fixes jobs.
+fn held_refusal(alloc: Global, tables: &Tables, change: u32) -> Result<Option<Row>, AllocError>
+    ensures { IfOk result (λ row. (d : List Deed) → IsSound d → HasRows (rows_of tables.now) d table_ids.Domain →
+        row ≡ option_map refusal_row (first_of (refuse_if (is_shelved_in d change) (refusals.Shelved change) ∷ refuse_if (is_fixing_in d change) (refusals.Fixed change) ∷ []))) }
+{
+    let shelved = shelved_refusal(alloc, tables, change)?;
+    match shelved {
+        Some(row) => Ok(Some(row)),
+        None => {
+            let fixed = fixed_refusal(alloc, tables, change)?;
+            Ok(fixed)
+        }
+    }
+}
+
+/// The row of the last of the refusals: a change with shelved files is neither submitted nor deleted, one that fixes jobs isn't deleted.
+fn last_refusal(
+    alloc: Global,
+    tables: &Tables,
+    command: &Command,
+) -> Result<Option<Row>, AllocError>
+    ensures { IfOk result (λ row. (d : List Deed) → IsSound d → HasRows (rows_of tables.now) d table_ids.Domain →
+        row ≡ option_map refusal_row (first_of (last_refusals d command.now))) }
+{
+    match command {
+        Command::SubmitChange { change } => {
+            let shelved = shelved_refusal(alloc, tables, *change)?;
+            Ok(shelved)
+        }
+        Command::ChangeDelete { change } => {
+            let held = held_refusal(alloc, tables, *change)?;
+            Ok(held)
+        }
+        _ => Ok(None),
+    }
+}
+
+/// The row of the first refusal that holds before a command's own step: one that is common to all commands, or one of the last.
+pub(crate) fn first_refusal(
+    alloc: Global,
+    tables: &Tables,
+    caller: &Caller,
+    command: &Command,
+) -> Result<Option<Row>, AllocError>
+    ensures { IfOk result (λ row. (d : List Deed) → IsSound d → HasRows (rows_of tables.now) d table_ids.Group → HasRows (rows_of tables.now) d table_ids.Protect →
+        HasRows (rows_of tables.now) d table_ids.Domain → row ≡ option_map refusal_row (first_of (common_refusals d caller.now (about command.now) ++ last_refusals d command.now))) }
+{
+    let common = common_refusal(alloc, tables, caller, command)?;
+    match common {
+        Some(row) => Ok(Some(row)),
+        None => {
+            let last = last_refusal(alloc, tables, command)?;
+            Ok(last)
+        }
     }
 }

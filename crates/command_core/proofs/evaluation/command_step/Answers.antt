@@ -1,32 +1,37 @@
-use Rattle.std.proofs.Common.{◌≡◌, true, refl, sym, subst, ◌∙◌}
+use Rattle.std.proofs.Common.{◌≡◌, ◌++◌, true, refl, sym, subst, ◌∙◌}
 use Rattle.db_records.specs.declared.table.TableId.TheVariants as tables
 use Rattle.table_changes.specs.Changed.{rows_of}
 use Rattle.depot_model.specs.About.{about}
-use Rattle.depot_model.specs.Built.{is_built}
+use Rattle.depot_runs.specs.Built.{is_built}
 use Rattle.depot_model.specs.Commands.{own_step}
-use Rattle.depot_model.specs.Common.{common_refusals}
+use Rattle.depot_model.specs.Common.{common_refusals, last_refusals}
 use Rattle.depot_model.specs.Step.{Step as ModelStep}
-use Rattle.reply_rows.specs.Made.{IsMade}
+use Rattle.step_stores.specs.Stored.{IsStoring}
 use Rattle.command_core.proofs.Granted.{built_is, refusing, granting}
+use Rattle.command_core.proofs.Refusals.{none_later}
 use Rattle.command_core.proofs.evaluation.command_step.Goals as goal
 
 pub returns-in_ok-refused-in-Some : goal.returns-in_ok-refused-in-Some
-returns-in_ok-refused-in-Some c = λ d sound has.
+returns-in_ok-refused-in-Some c = λ d sound asks has.
     let request = c.args.request.now in
     let command = c.args.command.now in
     let all = rows_of c.args.tables.now in
+    let from = c.args.tables.now.archive_end in
     let built : is_built command ≡ true = sym c.is_built.ensures ∙ c.if-not-is_built.false in
-    let P : ModelStep → Type 0 = λ s. IsMade all d d s c.in_ok-refused-in-Some.refused in
-    subst P (sym (built_is d request command built)) (refusing all d (common_refusals d request.caller (about command)) (own_step d request command) c.in-Some.row
+    let P : ModelStep → Type 0 = λ s. IsStoring all from d s c.in_ok-refused-in-Some.refused in
+    subst P (sym (built_is d request command built)) (refusing all from d (common_refusals d request.caller (about command) ++ last_refusals d command) (own_step d request command) c.in-Some.row
     c.in_ok-refused-in-Some.refused (sym c.in-Some.is ∙ c.in_ok-refusal.ensures d sound (has tables.Group refl) (has tables.Protect refl) (has tables.Domain refl)) c.in_ok-refused-in-Some.ensures)
 
 pub returns-in_ok-step-in-None : goal.returns-in_ok-step-in-None
-returns-in_ok-step-in-None c = λ d sound has.
+returns-in_ok-step-in-None c = λ d sound asks has.
     let request = c.args.request.now in
     let command = c.args.command.now in
     let all = rows_of c.args.tables.now in
+    let from = c.args.tables.now.archive_end in
     let built : is_built command ≡ true = sym c.is_built.ensures ∙ c.if-not-is_built.false in
-    let P : ModelStep → Type 0 = λ s. IsMade all d d s c.in_ok-step-in-None.step in
-    subst P (sym (built_is d request command built)) (granting all d (common_refusals d request.caller (about command)) (own_step d request command)
+    let none = none_later (common_refusals d request.caller (about command)) (last_refusals d command)
+    (sym c.in-None.is ∙ c.in_ok-refusal.ensures d sound (has tables.Group refl) (has tables.Protect refl) (has tables.Domain refl)) in
+    let P : ModelStep → Type 0 = λ s. IsStoring all from d s c.in_ok-step-in-None.step in
+    subst P (sym (built_is d request command built)) (granting all from d (common_refusals d request.caller (about command) ++ last_refusals d command) (own_step d request command)
     c.in_ok-step-in-None.step (sym c.in-None.is ∙ c.in_ok-refusal.ensures d sound (has tables.Group refl) (has tables.Protect refl) (has tables.Domain refl))
-    (c.in_ok-step-in-None.ensures d sound built has))
+    (c.in_ok-step-in-None.ensures d sound built none asks has))

@@ -1,18 +1,22 @@
 use Rattle.std.proofs.Common.{◌∙◌, sym, subst, List, ℕ}
 use Rattle.db_records.specs.declared.change.Spot.{Spot}
 use Rattle.table_changes.specs.Changed.{rows_of}
-use Rattle.depot_model.specs.Commands.{step}
+use Rattle.depot_runs.specs.Today.{step}
 use Rattle.reply_rows.specs.Made.{StandAt, contents_of}
+use Rattle.command_core.proofs.Storing.{stores_none}
 use Rattle.command_core.proofs.evaluation.evaluate.Goals as goal
 
 pub returns-clause-outcome : goal.returns-clause-outcome
-returns-clause-outcome c = λ d sound has.
-    let is = c.in_ok-step.ensures d sound has in
+returns-clause-outcome c = λ d sound asks has.
+    let is = c.in_ok-step.ensures d sound asks has in
     let told = c.in_ok-outcome.ensures.told in
-    let P : List Spot → Type 0 = λ spots. StandAt (rows_of c.args.tables.now) d (contents_of (step d c.args.request.now).rows) spots in
+    let model = step d c.args.request.now in
+    let P : List Spot → Type 0 = λ spots. StandAt (rows_of c.args.tables.now) d (contents_of model.rows) spots in
     record {
       reply = told.0 ∙ is.is_made.rows;
-      changes = c.in_ok-outcome.ensures.changes d (step d c.args.request.now) sound.landed_or_pending is;
-      stores = told.1 ∙ is.is_made.stores;
+      changes = c.in_ok-outcome.ensures.changes d model sound.landed_or_pending is;
+      contents = c.in_ok-outcome.ensures.contents d model sound is;
+      nothing_stored = λ nothing.
+          told.1 ∙ stores_none (rows_of c.args.tables.now) c.args.tables.now.archive_end d c.in_ok-step.step.stores c.in_ok-step.step.deeds model.deeds is.is_made.stores nothing;
       reads = subst P (sym told.2) is.is_made.reads;
     }

@@ -1,4 +1,4 @@
-use Rattle.depot_model.specs.Built.{is_built}
+use Rattle.depot_runs.specs.Built.{is_built}
 use Rattle.depots_alike.proofs.Staying.{contents_stay}
 use Rattle.depots_alike.proofs.Whole.{step_same, rows_stay}
 use Rattle.command_core.proofs.laws.depots_with_the_same_rows_and_contents_answer_alike.Goals as goal

@@ -1,4 +1,4 @@
-use Rattle.depot_model.specs.Built.{is_built}
+use Rattle.depot_runs.specs.Built.{is_built}
 use Rattle.sound_requests.proofs.All.{asked_sound}
 use Rattle.command_core.proofs.laws.steps_keep_depots_sound.Goals as goal
 

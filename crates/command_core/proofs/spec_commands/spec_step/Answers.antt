@@ -12,117 +12,82 @@ use Rattle.depot_model.specs.Steps.Labels.{label_save}
 use Rattle.depot_model.specs.Steps.Protections.{protect_save}
 use Rattle.reply_rows.specs.Made.{IsMade}
 use Rattle.command_core.specs.Outcomes.{HasTouched}
-use Rattle.command_core.proofs.evaluation.own_step.Goals as goal
+use Rattle.command_core.proofs.spec_commands.spec_step.Goals as goal
 
 pub returns-in_ok-shown-in-CounterShow : goal.returns-in_ok-shown-in-CounterShow
-returns-in_ok-shown-in-CounterShow c = λ d sound built has.
+returns-in_ok-shown-in-CounterShow c = λ d sound family formed has.
     let shown = c.in_ok-shown-in-CounterShow in
     let P : Command → Type 0 = λ k. HasTouched (rows_of c.args.tables.now) d k → IsMade (rows_of c.args.tables.now) d d (own_step d c.args.request.now k) shown.shown in
     subst P (sym c.in-CounterShow.is) (λ has. shown.ensures d (has tables.Counter refl)) has
 
 pub returns-in_ok-set-in-CounterSet : goal.returns-in_ok-set-in-CounterSet
-returns-in_ok-set-in-CounterSet c = λ d sound built has.
+returns-in_ok-set-in-CounterSet c = λ d sound family formed has.
     let set = c.in_ok-set-in-CounterSet in
     let P : Command → Type 0 = λ k. IsMade (rows_of c.args.tables.now) d d (own_step d c.args.request.now k) set.set in
     subst P (sym c.in-CounterSet.is) (set.ensures (rows_of c.args.tables.now) d)
 
 pub returns-in_ok-deleted-in-CounterDelete : goal.returns-in_ok-deleted-in-CounterDelete
-returns-in_ok-deleted-in-CounterDelete c = λ d sound built has.
+returns-in_ok-deleted-in-CounterDelete c = λ d sound family formed has.
     let deleted = c.in_ok-deleted-in-CounterDelete in
     let P : Command → Type 0 = λ k. IsMade (rows_of c.args.tables.now) d d (own_step d c.args.request.now k) deleted.deleted in
     subst P (sym c.in-CounterDelete.is) (deleted.ensures (rows_of c.args.tables.now) d)
 
 pub returns-in_ok-listed-in-Counters : goal.returns-in_ok-listed-in-Counters
-returns-in_ok-listed-in-Counters c = λ d sound built has.
+returns-in_ok-listed-in-Counters c = λ d sound family formed has.
     let listed = c.in_ok-listed-in-Counters in
     let P : Command → Type 0 = λ k. HasTouched (rows_of c.args.tables.now) d k → IsMade (rows_of c.args.tables.now) d d (own_step d c.args.request.now k) listed.listed in
     subst P (sym c.in-Counters.is) (λ has. listed.ensures d (has tables.Counter refl)) has
 
 pub returns-in_ok-shown-in-ClientShow : goal.returns-in_ok-shown-in-ClientShow
-returns-in_ok-shown-in-ClientShow c = λ d sound built has.
+returns-in_ok-shown-in-ClientShow c = λ d sound family formed has.
     let shown = c.in_ok-shown-in-ClientShow in
     let P : Command → Type 0 = λ k. HasTouched (rows_of c.args.tables.now) d k → IsMade (rows_of c.args.tables.now) d d (own_step d c.args.request.now k) shown.shown in
     subst P (sym c.in-ClientShow.is) (λ has. subst (λ name. IsMade (rows_of c.args.tables.now) d d (client_show d name) shown.shown) c.client_of.ensures (shown.ensures d sound (has tables.Domain refl))) has
 
 pub returns-in_ok-saved-in-ClientSave : goal.returns-in_ok-saved-in-ClientSave
-returns-in_ok-saved-in-ClientSave c = λ d sound built has.
+returns-in_ok-saved-in-ClientSave c = λ d sound family formed has.
     let saved = c.in_ok-saved-in-ClientSave in
     let P : Command → Type 0 = λ k. IsMade (rows_of c.args.tables.now) d d (own_step d c.args.request.now k) saved.saved in
     subst P (sym c.in-ClientSave.is) (subst (λ input. IsMade (rows_of c.args.tables.now) d d (client_save input) saved.saved) c.input_of.ensures (saved.ensures (rows_of c.args.tables.now) d))
 
 pub returns-in_ok-shown-in-LabelShow : goal.returns-in_ok-shown-in-LabelShow
-returns-in_ok-shown-in-LabelShow c = λ d sound built has.
+returns-in_ok-shown-in-LabelShow c = λ d sound family formed has.
     let shown = c.in_ok-shown-in-LabelShow in
     let P : Command → Type 0 = λ k. HasTouched (rows_of c.args.tables.now) d k → IsMade (rows_of c.args.tables.now) d d (own_step d c.args.request.now k) shown.shown in
     subst P (sym c.in-LabelShow.is) (λ has. shown.ensures d sound (has tables.Domain refl)) has
 
 pub returns-in_ok-saved-in-LabelSave : goal.returns-in_ok-saved-in-LabelSave
-returns-in_ok-saved-in-LabelSave c = λ d sound built has.
+returns-in_ok-saved-in-LabelSave c = λ d sound family formed has.
     let saved = c.in_ok-saved-in-LabelSave in
     let P : Command → Type 0 = λ k. HasTouched (rows_of c.args.tables.now) d k → IsMade (rows_of c.args.tables.now) d d (own_step d c.args.request.now k) saved.saved in
     subst P (sym c.in-LabelSave.is) (λ has. subst (λ input. IsMade (rows_of c.args.tables.now) d d (label_save d input) saved.saved) c.input_of-in-LabelSave.ensures (saved.ensures d sound (has tables.Domain refl))) has
 
 pub returns-in_ok-listed-in-Labels : goal.returns-in_ok-listed-in-Labels
-returns-in_ok-listed-in-Labels c = λ d sound built has.
+returns-in_ok-listed-in-Labels c = λ d sound family formed has.
     let listed = c.in_ok-listed-in-Labels in
     let P : Command → Type 0 = λ k. HasTouched (rows_of c.args.tables.now) d k → IsMade (rows_of c.args.tables.now) d d (own_step d c.args.request.now k) listed.listed in
     subst P (sym c.in-Labels.is) (λ has. listed.ensures d sound (has tables.Domain refl)) has
 
 pub returns-in_ok-shown-in-GroupShow : goal.returns-in_ok-shown-in-GroupShow
-returns-in_ok-shown-in-GroupShow c = λ d sound built has.
+returns-in_ok-shown-in-GroupShow c = λ d sound family formed has.
     let shown = c.in_ok-shown-in-GroupShow in
     let P : Command → Type 0 = λ k. HasTouched (rows_of c.args.tables.now) d k → IsMade (rows_of c.args.tables.now) d d (own_step d c.args.request.now k) shown.shown in
     subst P (sym c.in-GroupShow.is) (λ has. shown.ensures d (has tables.Group refl)) has
 
 pub returns-in_ok-saved-in-GroupSave : goal.returns-in_ok-saved-in-GroupSave
-returns-in_ok-saved-in-GroupSave c = λ d sound built has.
+returns-in_ok-saved-in-GroupSave c = λ d sound family formed has.
     let saved = c.in_ok-saved-in-GroupSave in
     let P : Command → Type 0 = λ k. IsMade (rows_of c.args.tables.now) d d (own_step d c.args.request.now k) saved.saved in
     subst P (sym c.in-GroupSave.is) (subst (λ input. IsMade (rows_of c.args.tables.now) d d (group_save input) saved.saved) c.input_of-in-GroupSave.ensures (saved.ensures (rows_of c.args.tables.now) d))
 
 pub returns-in_ok-shown-in-ProtectShow : goal.returns-in_ok-shown-in-ProtectShow
-returns-in_ok-shown-in-ProtectShow c = λ d sound built has.
+returns-in_ok-shown-in-ProtectShow c = λ d sound family formed has.
     let shown = c.in_ok-shown-in-ProtectShow in
     let P : Command → Type 0 = λ k. HasTouched (rows_of c.args.tables.now) d k → IsMade (rows_of c.args.tables.now) d d (own_step d c.args.request.now k) shown.shown in
     subst P (sym c.in-ProtectShow.is) (λ has. shown.ensures d sound (has tables.Protect refl)) has
 
 pub returns-in_ok-saved-in-ProtectSave : goal.returns-in_ok-saved-in-ProtectSave
-returns-in_ok-saved-in-ProtectSave c = λ d sound built has.
+returns-in_ok-saved-in-ProtectSave c = λ d sound family formed has.
     let saved = c.in_ok-saved-in-ProtectSave in
     let P : Command → Type 0 = λ k. IsMade (rows_of c.args.tables.now) d d (own_step d c.args.request.now k) saved.saved in
     subst P (sym c.in-ProtectSave.is) (subst (λ input. IsMade (rows_of c.args.tables.now) d d (protect_save input) saved.saved) c.input_of-in-ProtectSave.ensures (saved.ensures (rows_of c.args.tables.now) d))
-
-pub returns-in_ok-listed-in-Have : goal.returns-in_ok-listed-in-Have
-returns-in_ok-listed-in-Have c = λ d sound built has.
-    let listed = c.in_ok-listed-in-Have in
-    let P : Command → Type 0 = λ k. HasTouched (rows_of c.args.tables.now) d k → IsMade (rows_of c.args.tables.now) d d (own_step d c.args.request.now k) listed.listed in
-    subst P (sym c.in-Have.is) (λ has. subst (λ files. IsMade (rows_of c.args.tables.now) d d (have_step d c.args.request.now.caller files) listed.listed) c.as_slice-in-Have.ensures
-    (listed.ensures d sound (has tables.Group refl) (has tables.Protect refl) (has tables.Domain refl) (has tables.Have refl))) has
-
-pub returns-in_ok-reopened-in-Reopen : goal.returns-in_ok-reopened-in-Reopen
-returns-in_ok-reopened-in-Reopen c = λ d sound built has.
-    let reopened = c.in_ok-reopened-in-Reopen in
-    let P : Command → Type 0 = λ k. HasTouched (rows_of c.args.tables.now) d k → IsMade (rows_of c.args.tables.now) d d (own_step d c.args.request.now k) reopened.reopened in
-    subst P (sym c.in-Reopen.is) (λ has. subst (λ files. IsMade (rows_of c.args.tables.now) d d (reopen d c.args.request.now.caller c.in-Reopen.change c.in-Reopen.file_type files) reopened.reopened) c.as_slice.ensures
-    (reopened.ensures d sound (has tables.Group refl) (has tables.Protect refl) (has tables.Domain refl) (has tables.Change refl) (has tables.Working refl))) has
-
-pub returns-in_ok-locked-in-Lock : goal.returns-in_ok-locked-in-Lock
-returns-in_ok-locked-in-Lock c = λ d sound built has.
-    let locked = c.in_ok-locked-in-Lock in
-    let P : Command → Type 0 = λ k. HasTouched (rows_of c.args.tables.now) d k → IsMade (rows_of c.args.tables.now) d d (own_step d c.args.request.now k) locked.locked in
-    subst P (sym c.in-Lock.is) (λ has. subst (λ files. IsMade (rows_of c.args.tables.now) d d (lock d c.args.request.now.caller c.in-Lock.change files) locked.locked) c.as_slice-in-Lock.ensures
-    (locked.ensures d sound (has tables.Group refl) (has tables.Protect refl) (has tables.Domain refl) (has tables.Working refl))) has
-
-pub returns-in_ok-unlocked-in-Unlock : goal.returns-in_ok-unlocked-in-Unlock
-returns-in_ok-unlocked-in-Unlock c = λ d sound built has.
-    let unlocked = c.in_ok-unlocked-in-Unlock in
-    let P : Command → Type 0 = λ k. HasTouched (rows_of c.args.tables.now) d k → IsMade (rows_of c.args.tables.now) d d (own_step d c.args.request.now k) unlocked.unlocked in
-    subst P (sym c.in-Unlock.is) (λ has. subst (λ files. IsMade (rows_of c.args.tables.now) d d (unlock d c.args.request.now.caller c.in-Unlock.change files) unlocked.unlocked) c.as_slice-in-Unlock.ensures
-    (unlocked.ensures d sound (has tables.Group refl) (has tables.Protect refl) (has tables.Domain refl) (has tables.Working refl))) has
-
-pub returns-in_ok-listed-in-Opened : goal.returns-in_ok-listed-in-Opened
-returns-in_ok-listed-in-Opened c = λ d sound built has.
-    let listed = c.in_ok-listed-in-Opened in
-    let P : Command → Type 0 = λ k. HasTouched (rows_of c.args.tables.now) d k → IsMade (rows_of c.args.tables.now) d d (own_step d c.args.request.now k) listed.listed in
-    subst P (sym c.in-Opened.is) (λ has. subst (λ files. IsMade (rows_of c.args.tables.now) d d (opened_step d c.args.request.now.caller c.in-Opened.all files) listed.listed) c.as_slice-in-Opened.ensures
-    (listed.ensures d sound (has tables.Group refl) (has tables.Protect refl) (has tables.Domain refl) (has tables.Working refl))) has

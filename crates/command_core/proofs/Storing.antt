@@ -1,0 +1,58 @@
+-- What a step stores: a command that is no submit lands nothing, so that it stores nothing.
+use Rattle.std.proofs.Common.{◌≡◌, ℕ, Bool, true, false, List, [], ◌∷◌, refl}
+use Rattle.std.specs.Prelude.{◌&&◌}
+use Rattle.std.specs.List.{list_all}
+use Rattle.table_changes.specs.Changed.{AllRows}
+use Rattle.depot_model.specs.Commands.{own_step}
+use Rattle.depot_model.specs.Deeds as model
+use Rattle.depot_model.specs.Refusals.{refusal_row}
+use Rattle.depot_model.specs.Step.{refuses}
+use Rattle.depot_model.specs.Tables.{is_in, own_tables, writes}
+use Rattle.depot_model.specs.declared.command.Command.{Command}
+use Rattle.depot_model.specs.declared.command.Command.TheVariants.{SubmitChange, SubmitDefault}
+use Rattle.depot_model.specs.declared.refusal.Refusal.{Refusal}
+use Rattle.depot_model.specs.declared.request.Request.{Request}
+use Rattle.depot_runs.specs.Built.{is_submit}
+use Rattle.depot_rows.specs.declared.deed.Deed.{Deed}
+use Rattle.depot_rows.specs.declared.deed.Deed.TheVariants as deeds
+use Rattle.depot_rows.proofs.Keys.{left-true, right-true}
+use Rattle.reply_rows.specs.Made.{told}
+use Rattle.reply_rows.proofs.Bare.{refuses_made}
+use Rattle.step_stores.specs.Stored.{AreStored, IsStoring, NothingLands}
+use Rattle.step_stores.proofs.Storing.{made_stores}
+use Rattle.step_tables.specs.DeedTables.{stays_in}
+use Rattle.step_tables.proofs.Whole.{own_stays}
+
+-- a refusal stores nothing
+pub refuses_storing : (all : AllRows) (from : ℕ) (d : List model.Deed) (why : Refusal) → IsStoring all from d (refuses why) (told (refusal_row why ∷ []))
+refuses_storing all from d why = made_stores all from d (refuses why) (told (refusal_row why ∷ [])) (refuses_made all d d why) tt
+
+-- deeds that stay in tables without that of revisions land nothing
+module _ (tables : List ℕ) (without : is_in tables 10 ≡ false) where
+  lands_out : (l : model.Landing) → stays_in tables (model.Land l) ≡ true → ⊥
+  lands_out l e =
+      let fourth = right-true (is_in tables 9) (is_in tables 10 && true)
+      (right-true (is_in tables 6) (is_in tables 9 && (is_in tables 10 && true)) (right-true (is_in tables 0) (is_in tables 6 && (is_in tables 9 && (is_in tables 10 && true))) e)) in
+      let last = left-true (is_in tables 10) true fourth in
+      absurd cc
+
+  none_land : (deeds : List model.Deed) → list_all (stays_in tables) deeds ≡ true → NothingLands deeds
+  none_land [] e = tt
+  none_land (model.Land l ∷ deeds) e = absurd (lands_out l (left-true (stays_in tables (model.Land l)) (list_all (stays_in tables) deeds) e))
+  none_land (deed ∷ deeds) e = none_land deeds (right-true (stays_in tables deed) (list_all (stays_in tables) deeds) e)
+
+lands_nothing : (command : Command) → is_submit command ≡ false → writes command 10 ≡ false
+lands_nothing (SubmitChange n) e = absurd cc
+lands_nothing (SubmitDefault text) e = absurd cc
+lands_nothing _ e = refl
+
+pub own_lands_nothing : (d : List model.Deed) (request : Request) (command : Command) → is_submit command ≡ false → NothingLands (own_step d request command).deeds
+own_lands_nothing d request command e = none_land (own_tables command).written (lands_nothing command e) (own_step d request command).deeds (own_stays d request command).each
+
+-- where nothing lands nothing is stored
+pub stores_none : (all : AllRows) (from : ℕ) (d : List model.Deed) (stores : List (List ℕ)) (dones : List Deed) (told : List model.Deed)
+    → AreStored all from d stores dones told → NothingLands told → stores ≡ []
+stores_none all from d stores (deeds.Land l ∷ dones) (model.Land m ∷ told) stored nothing = absurd nothing
+stores_none all from d stores (deeds.Land l ∷ dones) [] stored nothing = stored.0
+stores_none all from d stores (deeds.Land l ∷ dones) (deed ∷ told) stored nothing = stored.0
+stores_none all from d stores dones told stored nothing = stored.0

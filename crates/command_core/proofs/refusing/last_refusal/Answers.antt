@@ -1,0 +1,22 @@
+use Rattle.std.proofs.Common.{refl, sym, ap, ◌∙◌, subst}
+use Rattle.std.specs.Prelude.{option_map}
+use Rattle.depot_model.specs.declared.command.Command.{Command}
+use Rattle.depot_model.specs.declared.refusal.Refusal.TheVariants.{Shelved}
+use Rattle.depot_model.specs.Common.{last_refusals}
+use Rattle.depot_model.specs.Refusals.{refusal_row}
+use Rattle.depot_model.specs.Shelves.{is_shelved}
+use Rattle.depot_model.specs.Step.{refuse_if}
+use Rattle.command_core.proofs.Refusals.{one_refusal}
+use Rattle.command_core.specs.Refusing.{first_of}
+use Rattle.command_core.proofs.refusing.last_refusal.Goals as goal
+
+pub returns-in_ok-shelved-in-SubmitChange : goal.returns-in_ok-shelved-in-SubmitChange
+returns-in_ok-shelved-in-SubmitChange c = λ d sound domain.
+    let change = c.in-SubmitChange.change in
+    c.in_ok-shelved-in-SubmitChange.ensures d sound domain ∙ one_refusal (refuse_if (is_shelved d change) (Shelved change))
+    ∙ ap (λ (k : Command). option_map refusal_row (first_of (last_refusals d k))) (sym c.in-SubmitChange.is)
+
+pub returns-in_ok-held-in-ChangeDelete : goal.returns-in_ok-held-in-ChangeDelete
+returns-in_ok-held-in-ChangeDelete c = λ d sound domain.
+    c.in_ok-held-in-ChangeDelete.ensures d sound domain
+    ∙ ap (λ (k : Command). option_map refusal_row (first_of (last_refusals d k))) (sym c.in-ChangeDelete.is)

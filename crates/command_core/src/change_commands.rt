@@ -1,0 +1,68 @@
+//! Changes.
+
+ghost use Rattle.std.specs.Prelude.{List, IfOk, IsTrue};
+ghost use Rattle.table_changes.specs.Changed.{rows_of};
+ghost use Rattle.depot_model.specs.Commands.{own_step};
+ghost use Rattle.depot_model.specs.Deeds.{Deed};
+ghost use Rattle.depot_model.specs.Rules.{IsSound};
+ghost use Rattle.depot_runs.specs.Built.{is_change};
+ghost use Rattle.reply_rows.specs.Made.{IsMade};
+ghost use Rattle.command_core.specs.Outcomes.{HasTouched, IsFormed};
+
+use crate::input::input_of;
+use crate::unbuilt::unbuilt;
+use change_lists::{change_delete, change_save, change_show, changes, describe};
+use depot_model::{Command, Request};
+use reply_rows::Step;
+use std::alloc::{AllocError, Global};
+use table_store::Tables;
+
+/// What a command of changes does where no refusal holds that is common to all.
+pub(crate) fn change_step(
+    alloc: Global,
+    tables: &Tables,
+    request: &Request,
+    command: &Command,
+) -> Result<Step, AllocError>
+    ensures { IfOk result (λ step. (d : List Deed) → IsSound d → IsTrue (is_change command.now) → IsFormed command.now → HasTouched (rows_of tables.now) d command.now →
+        IsMade (rows_of tables.now) d d (own_step d request.now command.now) step) }
+{
+    match command {
+        Command::ChangeShow { change } => {
+            let shown = change_show(alloc, tables, &request.caller, *change)?;
+            Ok(shown)
+        }
+        Command::ChangeSave => {
+            let saved = change_save(alloc, tables, request, input_of(request))?;
+            Ok(saved)
+        }
+        Command::ChangeDelete { change } => {
+            let deleted = change_delete(alloc, tables, &request.caller, *change)?;
+            Ok(deleted)
+        }
+        Command::Changes {
+            most,
+            status,
+            user,
+            client,
+            files,
+        } => {
+            let listed = changes(
+                alloc,
+                tables,
+                &request.caller,
+                *most,
+                status,
+                user,
+                client,
+                files.as_slice(),
+            )?;
+            Ok(listed)
+        }
+        Command::Describe { change } => {
+            let described = describe(alloc, tables, &request.caller, *change)?;
+            Ok(described)
+        }
+        _ => unbuilt(alloc, command),
+    }
+}

@@ -1,0 +1,62 @@
+//! Submitted files.
+
+ghost use Rattle.std.specs.Prelude.{List, IfOk, IsTrue};
+ghost use Rattle.table_changes.specs.Changed.{rows_of};
+ghost use Rattle.depot_model.specs.Commands.{own_step};
+ghost use Rattle.depot_model.specs.Deeds.{Deed};
+ghost use Rattle.depot_model.specs.Rules.{IsSound};
+ghost use Rattle.depot_runs.specs.Built.{is_history};
+ghost use Rattle.reply_rows.specs.Made.{IsMade};
+ghost use Rattle.command_core.specs.Outcomes.{HasTouched, IsFormed};
+
+use crate::unbuilt::unbuilt;
+use depot_model::{Command, Request};
+use history_query::{dirs, file_stat, filelog, integrated, print};
+use reply_rows::Step;
+use std::alloc::{AllocError, Global};
+use table_store::Tables;
+
+/// What a command that shows submitted files does where no refusal holds that is common to all.
+pub(crate) fn history_step(
+    alloc: Global,
+    tables: &Tables,
+    request: &Request,
+    command: &Command,
+) -> Result<Step, AllocError>
+    ensures { IfOk result (λ step. (d : List Deed) → IsSound d → IsTrue (is_history command.now) → IsFormed command.now → HasTouched (rows_of tables.now) d command.now →
+        IsMade (rows_of tables.now) d d (own_step d request.now command.now) step) }
+{
+    match command {
+        Command::Files { live, files } => {
+            let listed = history_query::files(
+                alloc,
+                tables,
+                &request.caller,
+                *live,
+                files.as_slice(),
+            )?;
+            Ok(listed)
+        }
+        Command::FileLog { files } => {
+            let logged = filelog(alloc, tables, &request.caller, files.as_slice())?;
+            Ok(logged)
+        }
+        Command::Print { files } => {
+            let printed = print(alloc, tables, &request.caller, files.as_slice())?;
+            Ok(printed)
+        }
+        Command::Dirs { patterns } => {
+            let listed = dirs(alloc, tables, &request.caller, patterns.as_slice())?;
+            Ok(listed)
+        }
+        Command::FileStat { files } => {
+            let stated = file_stat(alloc, tables, &request.caller, files.as_slice())?;
+            Ok(stated)
+        }
+        Command::Integrated { files } => {
+            let listed = integrated(alloc, tables, &request.caller, files.as_slice())?;
+            Ok(listed)
+        }
+        _ => unbuilt(alloc, command),
+    }
+}

@@ -1,0 +1,97 @@
+//! Opened files.
+
+ghost use Rattle.std.specs.Prelude.{List, IfOk, IsTrue};
+ghost use Rattle.table_changes.specs.Changed.{rows_of};
+ghost use Rattle.depot_model.specs.Commands.{own_step};
+ghost use Rattle.depot_model.specs.Deeds.{Deed};
+ghost use Rattle.depot_model.specs.Rules.{IsSound};
+ghost use Rattle.depot_runs.specs.Built.{is_opening};
+ghost use Rattle.reply_rows.specs.Made.{IsMade};
+ghost use Rattle.command_core.specs.Outcomes.{HasTouched, IsFormed};
+
+use crate::unbuilt::unbuilt;
+use depot_model::{Command, Request};
+use opened_files::{add, delete, edit, lock, opened, reopen, revert, unlock};
+use reply_rows::Step;
+use std::alloc::{AllocError, Global};
+use table_store::Tables;
+
+/// What a command of opened files does where no refusal holds that is common to all.
+pub(crate) fn opening_step(
+    alloc: Global,
+    tables: &Tables,
+    request: &Request,
+    command: &Command,
+) -> Result<Step, AllocError>
+    ensures { IfOk result (λ step. (d : List Deed) → IsSound d → IsTrue (is_opening command.now) → IsFormed command.now → HasTouched (rows_of tables.now) d command.now →
+        IsMade (rows_of tables.now) d d (own_step d request.now command.now) step) }
+{
+    match command {
+        Command::Add {
+            change,
+            file_type,
+            paths,
+        } => {
+            let added = add(
+                alloc,
+                tables,
+                &request.caller,
+                *change,
+                file_type,
+                paths.as_slice(),
+            )?;
+            Ok(added)
+        }
+        Command::Edit {
+            change,
+            file_type,
+            files,
+        } => {
+            let edited = edit(
+                alloc,
+                tables,
+                &request.caller,
+                *change,
+                file_type,
+                files.as_slice(),
+            )?;
+            Ok(edited)
+        }
+        Command::Delete { change, files } => {
+            let deleted = delete(alloc, tables, &request.caller, *change, files.as_slice())?;
+            Ok(deleted)
+        }
+        Command::Revert { change, files } => {
+            let reverted = revert(alloc, tables, &request.caller, *change, files.as_slice())?;
+            Ok(reverted)
+        }
+        Command::Reopen {
+            change,
+            file_type,
+            files,
+        } => {
+            let reopened = reopen(
+                alloc,
+                tables,
+                &request.caller,
+                *change,
+                file_type,
+                files.as_slice(),
+            )?;
+            Ok(reopened)
+        }
+        Command::Lock { change, files } => {
+            let locked = lock(alloc, tables, &request.caller, *change, files.as_slice())?;
+            Ok(locked)
+        }
+        Command::Unlock { change, files } => {
+            let unlocked = unlock(alloc, tables, &request.caller, *change, files.as_slice())?;
+            Ok(unlocked)
+        }
+        Command::Opened { all, files } => {
+            let listed = opened(alloc, tables, &request.caller, *all, files.as_slice())?;
+            Ok(listed)
+        }
+        _ => unbuilt(alloc, command),
+    }
+}

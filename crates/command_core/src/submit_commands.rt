@@ -1,0 +1,42 @@
+//! Submits.
+
+ghost use Rattle.std.specs.Prelude.{◌≡◌, List, None, IfOk, IsTrue};
+ghost use Rattle.table_changes.specs.Changed.{rows_of};
+ghost use Rattle.depot_model.specs.Commands.{own_step};
+ghost use Rattle.depot_model.specs.Common.{last_refusals};
+ghost use Rattle.depot_model.specs.Deeds.{Deed};
+ghost use Rattle.depot_model.specs.Rules.{IsSound};
+ghost use Rattle.depot_runs.specs.Built.{is_submit};
+ghost use Rattle.step_stores.specs.Stored.{IsStoring};
+ghost use Rattle.command_core.specs.Outcomes.{HasTouched};
+ghost use Rattle.command_core.specs.Refusing.{first_of};
+
+use crate::unbuilt::unbuilt;
+use depot_model::{Command, Request};
+use reply_rows::Step;
+use std::alloc::{AllocError, Global};
+use submit_core::{submit_change, submit_default};
+use table_store::Tables;
+
+/// What a submit does where no refusal holds before it: it stores the contents of its files behind those of the archive.
+pub(crate) fn submit_step(
+    alloc: Global,
+    tables: &Tables,
+    request: &Request,
+    command: &Command,
+) -> Result<Step, AllocError>
+    ensures { IfOk result (λ step. (d : List Deed) → IsSound d → IsTrue (is_submit command.now) → first_of (last_refusals d command.now) ≡ None →
+        HasTouched (rows_of tables.now) d command.now → IsStoring (rows_of tables.now) tables.now.archive_end d (own_step d request.now command.now) step) }
+{
+    match command {
+        Command::SubmitDefault { text } => {
+            let submitted = submit_default(alloc, tables, request, text)?;
+            Ok(submitted)
+        }
+        Command::SubmitChange { change } => {
+            let submitted = submit_change(alloc, tables, request, *change)?;
+            Ok(submitted)
+        }
+        _ => unbuilt(alloc, command),
+    }
+}

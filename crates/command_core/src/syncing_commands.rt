@@ -1,0 +1,86 @@
+//! Have lists, labels and integration.
+
+ghost use Rattle.std.specs.Prelude.{List, IfOk, IsTrue};
+ghost use Rattle.table_changes.specs.Changed.{rows_of};
+ghost use Rattle.depot_model.specs.Commands.{own_step};
+ghost use Rattle.depot_model.specs.Deeds.{Deed};
+ghost use Rattle.depot_model.specs.Rules.{IsSound};
+ghost use Rattle.depot_runs.specs.Built.{is_syncing};
+ghost use Rattle.reply_rows.specs.Made.{IsMade};
+ghost use Rattle.command_core.specs.Outcomes.{HasTouched, IsFormed};
+
+use crate::unbuilt::unbuilt;
+use depot_model::{Command, Request};
+use have_sync::{have, sync, where_is};
+use label_ops::{labelsync, tag};
+use reply_rows::Step;
+use std::alloc::{AllocError, Global};
+use table_store::Tables;
+
+/// What a command of have lists, labels and integration does where no refusal holds that is common to all.
+pub(crate) fn syncing_step(
+    alloc: Global,
+    tables: &Tables,
+    request: &Request,
+    command: &Command,
+) -> Result<Step, AllocError>
+    ensures { IfOk result (λ step. (d : List Deed) → IsSound d → IsTrue (is_syncing command.now) → IsFormed command.now → HasTouched (rows_of tables.now) d command.now →
+        IsMade (rows_of tables.now) d d (own_step d request.now command.now) step) }
+{
+    match command {
+        Command::Where { paths } => {
+            let placed = where_is(alloc, tables, &request.caller, paths.as_slice())?;
+            Ok(placed)
+        }
+        Command::Sync {
+            again,
+            shows,
+            files,
+        } => {
+            let synced = sync(
+                alloc,
+                tables,
+                &request.caller,
+                *again,
+                *shows,
+                files.as_slice(),
+            )?;
+            Ok(synced)
+        }
+        Command::Have { files } => {
+            let listed = have(alloc, tables, &request.caller, files.as_slice())?;
+            Ok(listed)
+        }
+        Command::Tag {
+            label,
+            removes,
+            files,
+        } => {
+            let tagged = tag(
+                alloc,
+                tables,
+                &request.caller,
+                label,
+                *removes,
+                files.as_slice(),
+            )?;
+            Ok(tagged)
+        }
+        Command::LabelSync {
+            label,
+            labelling,
+            files,
+        } => {
+            let synced = labelsync(
+                alloc,
+                tables,
+                &request.caller,
+                label,
+                *labelling,
+                files.as_slice(),
+            )?;
+            Ok(synced)
+        }
+        _ => unbuilt(alloc, command),
+    }
+}
