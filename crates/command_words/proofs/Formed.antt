@@ -72,6 +72,10 @@ pub after_heads : (Q : Command → Type 0) (command : List ℕ) (words : List (L
     ((files : List FileArgument) → list_all asks_head files ≡ true → Gives Q (f files)) → Gives Q (arguments.some_files command NoRevision words >>= f)
 after_heads Q command words f k = after_it _ Q _ f (found.heads command words) k
 
+pub after_all_heads : (Q : Command → Type 0) (command : List ℕ) (words : List (List ℕ)) (f : List FileArgument → Result Command WordFault) →
+    ((files : List FileArgument) → list_all asks_head files ≡ true → Gives Q (f files)) → Gives Q (arguments.files command NoRevision words >>= f)
+after_all_heads Q command words f k = after_it _ Q _ f (found.all_heads command words) k
+
 pub after_head_ends : (Q : Command → Type 0) (command : List ℕ) (words : List (List ℕ)) (f : Ends → Result Command WordFault) →
     ((given : Ends) → answer_one_another given.from given.to ≡ true → asks_head given.from ≡ true → Gives Q (f given))
     → Gives Q (arguments.both_ends command NoRevision words >>= f)
@@ -81,4 +85,4 @@ pub after_ends : (Q : Command → Type 0) (command : List ℕ) (takes : Takes) (
     ((given : Ends) → answer_one_another given.from given.to ≡ true → Gives Q (f given)) → Gives Q (arguments.both_ends command takes words >>= f)
 after_ends Q command takes words f k = after_it _ Q _ f (found.ends command takes words) k
 
-pub ruleset steps = (after_number, after_change, after_name, after_type, after_wanted_number, after_wanted_name, after_one_name, after_name_or_none, after_number_or_none, after_paths, after_heads, after_head_ends, after_ends, after_any, formed, both, refl)
+pub ruleset steps = (after_number, after_change, after_name, after_type, after_wanted_number, after_wanted_name, after_one_name, after_name_or_none, after_number_or_none, after_paths, after_heads, after_all_heads, after_head_ends, after_ends, after_any, formed, both, refl)

@@ -122,8 +122,11 @@ head_asked command text =
     after_it AsksHead _ (spec.fit command NoRevision text given) _ (fits_head command text given)
     (λ fitting h. gives _ (spec.file_argument text fitting) h))
 
+pub all_heads : (command : List ℕ) (words : List (List ℕ)) → Passes (list_all formed.asks_head) (spec.files command NoRevision words)
+all_heads command words = each formed.asks_head (spec.file command NoRevision) words (head_asked command)
+
 pub heads : (command : List ℕ) (words : List (List ℕ)) → Passes (list_all formed.asks_head) (spec.some_files command NoRevision words)
-heads command words = after_any _ (spec.some_words command words) _ (λ given. each formed.asks_head (spec.file command NoRevision) given (head_asked command))
+heads command words = after_any _ (spec.some_words command words) _ (all_heads command)
 
 -- ---- a source and a target
 

@@ -8,7 +8,7 @@ use Rattle.depot_path.specs.Path.{is_path}
 use Rattle.depot_path.specs.declared.revision.Wanted.TheVariants.{Head}
 use Rattle.view_map.specs.Specifiers.{same_specifiers}
 use Rattle.depot_model.specs.declared.command.Command.{Command}
-use Rattle.depot_model.specs.declared.command.Command.TheVariants.{CounterSet, CounterDelete, Add, Edit, Delete, Reopen, Move, Integrate, Integrated, Where}
+use Rattle.depot_model.specs.declared.command.Command.TheVariants.{CounterSet, CounterDelete, Add, Edit, Delete, Reopen, Move, Integrate, Resolve, Integrated, Where}
 use Rattle.depot_model.specs.declared.command.FileArgument.{FileArgument}
 use Rattle.depot_model.specs.declared.command.PatternArgument.{PatternArgument}
 use Rattle.depot_model.specs.Types.{is_printed_type}
@@ -45,5 +45,6 @@ abbrev pub asks_rightly : Command → Bool
 asks_rightly (Edit change type files) = list_all asks_head files
 asks_rightly (Delete change files) = list_all asks_head files
 asks_rightly (Move change from to) = asks_head from
+asks_rightly (Resolve taking files) = list_all asks_head files
 asks_rightly (Integrated files) = list_all asks_head files
 asks_rightly _ = true

@@ -23,6 +23,7 @@ mod text;
 mod utf8;
 
 pub use digits::{are_digits, is_digits, number_up_to, value_up_to};
+pub use escape::print_bytes;
 pub use fault::PathFault;
 pub use file_spec::FileSpec;
 pub use name::{Name, NameFault, is_name};

@@ -1,9 +1,9 @@
 //! The directories that an argument names.
 
-ghost use Rattle.std.specs.Prelude.{◌≡◌, ◌++◌, ◌<◌, ◌==◌, ◌&&◌, [], List, IfOk, OnOk, Some, flat_map, if◌then◌else◌, length, map, slice_index, take};
+ghost use Rattle.std.specs.Prelude.{◌≡◌, ◌<◌, ◌==◌, ◌&&◌, [], List, IfOk, OnOk, Some, flat_map, if◌then◌else◌, length, map, slice_index, take};
 ghost use Rattle.std.specs.Option.{option_to_list};
 ghost use Rattle.db_records.specs.declared.table.TableId.TheVariants as table_ids;
-ghost use Rattle.depot_path.specs.Path.{escaped, printed};
+ghost use Rattle.depot_path.specs.Path.{printed};
 ghost use Rattle.table_changes.specs.Changed.{rows_of};
 ghost use Rattle.depot_path.specs.declared.revision.Wanted.TheVariants.{Head};
 ghost use Rattle.depot_model.specs.declared.request.Caller.{Caller as Asking};
@@ -20,37 +20,13 @@ ghost use Rattle.history_query.specs.Directories.{all_directories, all_fitting, 
 
 use crate::texts::TextSet;
 use depot_model::Caller;
-use depot_path::{DepotPath, Pattern, Sequence, Text, Wanted};
+use depot_path::{DepotPath, Pattern, Sequence, Text, Wanted, print_bytes};
 use named_files::{Asker, Listing, begun_candidates};
 use protect_table::Level;
 use revision_reads::{is_live_head, shown_by};
 use row_reads::in_client_syntax;
 use std::alloc::{AllocError, Global};
 use table_store::Tables;
-
-/// Adds a byte as it is printed in a path.
-fn push_escaped(text: &mut Text, byte: u8) -> Result<(), AllocError>
-    ensures { OnOk result (text.new ≡ text.old ++ escaped byte) }
-{
-    match byte {
-        b'@' => text.append(b"%40"),
-        b'#' => text.append(b"%23"),
-        b'*' => text.append(b"%2A"),
-        b'%' => text.append(b"%25"),
-        _ => text.append(&[byte]),
-    }
-}
-
-/// A directory as it is printed.
-fn print_directory(alloc: Global, directory: &[u8]) -> Result<Text, AllocError>
-    ensures { IfOk result (λ text. text ≡ printed directory.now) }
-{
-    let mut text = Text::new(alloc);
-    for byte in directory {
-        push_escaped(&mut text, *byte)?;
-    }
-    Ok(text)
-}
 
 /// Adds a directory, if it fits the pattern.
 fn add_fitting(
@@ -65,7 +41,7 @@ fn add_fitting(
     if found.is_none() {
         return Ok(());
     }
-    let text = print_directory(alloc, directory)?;
+    let text = print_bytes(alloc, directory)?;
     set.insert(text)?;
     Ok(())
 }

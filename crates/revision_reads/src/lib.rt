@@ -23,4 +23,4 @@ pub use holders::holder_of;
 pub use range::in_range;
 pub use revisions::{head_of, is_live_at, is_live_head, revision_of};
 pub use shown::{shown_by, shown_of};
-pub use targets::{file_at, first_live, printed_text, shown_in_view, target_at, target_text};
+pub use targets::{file_at, first_live, shown_in_view, target_at, target_text};

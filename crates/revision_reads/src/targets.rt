@@ -1,10 +1,9 @@
 //! Files of client paths, and the targets of sources, where the texts of one argument's specifiers are put into another.
 
-ghost use Rattle.std.specs.Prelude.{◌≡◌, ◌++◌, [], List, IfOk, OnOk, Some, find, if◌then◌else◌, unwrap_or};
+ghost use Rattle.std.specs.Prelude.{◌≡◌, [], List, IfOk, Some, find, if◌then◌else◌, unwrap_or};
 ghost use Rattle.std.specs.Option.{option_copied};
 ghost use Rattle.db_records.specs.declared.table.TableId.TheVariants as table_ids;
 ghost use Rattle.depot_path.specs.Fit.{texts as texts_in};
-ghost use Rattle.depot_path.specs.Path.{escaped, printed};
 ghost use Rattle.table_changes.specs.Changed.{rows_of};
 ghost use Rattle.view_map.specs.Mapping.{files_at};
 ghost use Rattle.depot_model.specs.Arguments.{in_client_syntax as in_syntax_of};
@@ -208,31 +207,4 @@ pub fn target_at(
         }
         None => Ok(None),
     }
-}
-
-/// Adds a byte as it is printed.
-fn push_printed(text: &mut Vec<u8>, byte: u8) -> Result<(), AllocError>
-    ensures { OnOk result (text.new.items ≡ text.old.items ++ escaped byte) }
-{
-    match byte {
-        b'@' => text.extend_from_slice(b"%40"),
-        b'#' => text.extend_from_slice(b"%23"),
-        b'*' => text.extend_from_slice(b"%2A"),
-        b'%' => text.extend_from_slice(b"%25"),
-        _ => {
-            text.push(byte)?;
-            Ok(())
-        }
-    }
-}
-
-/// A target's text as it is printed, with escapes, where it is no path too.
-pub fn printed_text(alloc: Global, text: &Text) -> Result<Text, AllocError>
-    ensures { IfOk result (λ told. told ≡ printed text.now) }
-{
-    let mut told = Vec::new(alloc);
-    for byte in text.as_bytes() {
-        push_printed(&mut told, *byte)?;
-    }
-    Ok(Text::from_vec(told))
 }
