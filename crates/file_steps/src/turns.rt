@@ -18,13 +18,13 @@ pub trait TurnAct {
     /// Whether it has come from a depot, of which these are the rows that it reads, to another one.
     ghost stands: { Self → AllRows → List Deed → List Deed → Type 0 };
 
-    /// What is done with a file over a depot.
-    ghost acts: { Self → List Deed → List ℕ → ModelStep };
+    /// What is done with a file, by the depot before all of them and the one that those before it left.
+    ghost acts: { Self → List Deed → List Deed → List ℕ → ModelStep };
 
     /// What is done with the next file.
     fn act(&mut self, alloc: Global, tables: &Tables, path: &DepotPath) -> Result<Step, AllocError>
-        ensures step { IfOk result (λ step. (d e : List Deed) → stands self.old (rows_of tables.now) d e → IsMade (rows_of tables.now) d e (acts self.old e path.now) step) }
-        ensures comes { IfOk result (λ _. (d e : List Deed) → stands self.old (rows_of tables.now) d e → stands self.new (rows_of tables.now) d (after e (acts self.old e path.now).deeds)) }
+        ensures step { IfOk result (λ step. (d e : List Deed) → stands self.old (rows_of tables.now) d e → IsMade (rows_of tables.now) d e (acts self.old d e path.now) step) }
+        ensures comes { IfOk result (λ _. (d e : List Deed) → stands self.old (rows_of tables.now) d e → stands self.new (rows_of tables.now) d (after e (acts self.old d e path.now).deeds)) }
         ensures same { IfOk result (λ _. acts self.new ≡ acts self.old) };
 }
 
@@ -37,7 +37,7 @@ fn add_turn<A: TurnAct>(
     path: &DepotPath,
 ) -> Result<(), AllocError>
     ensures step { OnOk result ((d e : List Deed) (model : ModelStep) → Goes (A.stands act.old (rows_of tables.now) d) (rows_of tables.now) d e model step.old →
-        Goes (A.stands act.new (rows_of tables.now) d) (rows_of tables.now) d e (both model (A.acts act.old (after e model.deeds) path.now)) step.new) }
+        Goes (A.stands act.new (rows_of tables.now) d) (rows_of tables.now) d e (both model (A.acts act.old d (after e model.deeds) path.now)) step.new) }
     ensures same { OnOk result (A.acts act.new ≡ A.acts act.old) }
 {
     let more = act.act(alloc, tables, path)?;
@@ -52,7 +52,7 @@ pub fn in_turn<A: TurnAct>(
     act: &mut A,
     paths: &[DepotPath],
 ) -> Result<Step, AllocError>
-    ensures { IfOk result (λ step. (d e : List Deed) → A.stands act.old (rows_of tables.now) d e → IsMade (rows_of tables.now) d e (in_turn_in (A.acts act.old) e paths.now) step) }
+    ensures { IfOk result (λ step. (d e : List Deed) → A.stands act.old (rows_of tables.now) d e → IsMade (rows_of tables.now) d e (in_turn_in (A.acts act.old d) e paths.now) step) }
 {
     let mut step = Step::new(alloc);
     let mut rest = paths;

@@ -26,11 +26,11 @@ loop-rest-preserved g c =
       goes = λ d e stands.
           let now = at.invariant.goes d e stands in
           let there = after e now.0.deeds in (
-            both now.0 (acts there path),
-            subst (λ (f : List Deed → List ℕ → ModelStep). Goes (g.A.TurnAct.stands c.add_turn.new.act (rows_of c.args.tables.now) d) (rows_of c.args.tables.now) d e (both now.0 (f there path)) c.add_turn.new.step)
+            both now.0 (acts d there path),
+            subst (λ (f : List Deed → List Deed → List ℕ → ModelStep). Goes (g.A.TurnAct.stands c.add_turn.new.act (rows_of c.args.tables.now) d) (rows_of c.args.tables.now) d e (both now.0 (f d there path)) c.add_turn.new.step)
                 at.invariant.same (c.in_ok-add_turn.ensures.step d e now.0 now.1),
-            turn_next acts e now.0 path (take (length rest - 1) (drop 1 rest))
-                ∙ ap (λ (x : List (List ℕ)). both now.0 (in_turn acts there x)) (parted rest path c.in-len1-up.len_at_least c.path-item.is) ∙ now.2,
+            turn_next (acts d) e now.0 path (take (length rest - 1) (drop 1 rest))
+                ∙ ap (λ (x : List (List ℕ)). both now.0 (in_turn (acts d) there x)) (parted rest path c.in-len1-up.len_at_least c.path-item.is) ∙ now.2,
           );
       same = c.in_ok-add_turn.ensures.same ∙ at.invariant.same;
     }

@@ -10,7 +10,7 @@ invariant-loop-rest g l =
     record {
       goes : (d e : List Deed) → g.A.TurnAct.stands l.fn.act (rows_of l.tables) d e
           → (m : ModelStep) × Goes (g.A.TurnAct.stands l.act (rows_of l.tables) d) (rows_of l.tables) d e m l.step
-          × (both m (in_turn (g.A.TurnAct.acts l.fn.act) (after e m.deeds) l.rest) ≡ in_turn (g.A.TurnAct.acts l.fn.act) e l.paths);
+          × (both m (in_turn (g.A.TurnAct.acts l.fn.act d) (after e m.deeds) l.rest) ≡ in_turn (g.A.TurnAct.acts l.fn.act d) e l.paths);
       same : g.A.TurnAct.acts l.act ≡ g.A.TurnAct.acts l.fn.act;
     }
 
