@@ -1,10 +1,11 @@
 pub mod Rising
 pub mod Walking
+pub mod Apart
+pub mod Joining
 pub mod Fronts
 pub mod RowsListed
 pub mod Told
 pub mod Sifting
-pub mod Starts
 pub mod Naming
 pub mod Selection
 pub mod OpenedFiles

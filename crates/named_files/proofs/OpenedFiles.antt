@@ -14,10 +14,9 @@ use Rattle.std.proofs.lemmas.List.Folds.{list_any-append}
 use Rattle.std.proofs.lemmas.Map.Text.{is_eq-slice_cmp}
 use Rattle.depot_path.specs.Bytes.{begins_with, same}
 use Rattle.depot_path.specs.Order.{path_cmp}
-use Rattle.depot_path.specs.Path.{path_of, printed, is_path}
+use Rattle.depot_path.specs.Path.{printed, is_path}
 use Rattle.depot_path.proofs.Paths.{prints_path}
-use Rattle.db_records.specs.Key.{key_cmp, key_table}
-use Rattle.db_records.specs.Record.{key_of, table_of}
+use Rattle.db_records.specs.Key.{key_table}
 use Rattle.db_records.specs.declared.key.Key.{Key}
 use Rattle.db_records.specs.declared.key.Key.TheVariants as keys
 use Rattle.db_records.specs.declared.record.Record.{Record}
@@ -25,7 +24,7 @@ use Rattle.db_records.specs.declared.record.Record.TheVariants as records
 use Rattle.db_records.specs.declared.rows.WorkingRecord.{WorkingRecord}
 use Rattle.db_records.specs.declared.table.TableId.{TableId}
 use Rattle.db_records.specs.declared.table.TableId.TheVariants as tables
-use Rattle.table_store.specs.Rows.{AllAbove, AllOfTable, IsRising, TableRows, row_at}
+use Rattle.table_store.specs.Rows.{AllAbove, AllOfTable, IsRising, TableRows}
 use Rattle.row_ranges.specs.Ranges.{has_row}
 use Rattle.row_ranges.specs.declared.range.KeyRange.TheVariants.{OpenedFiles}
 use Rattle.depot_model.specs.Arguments.{open_paths, paths_of}
@@ -38,12 +37,13 @@ use Rattle.depot_model.specs.Latest.{keys_of}
 use Rattle.depot_rows.proofs.Keys.{same-is, same-self}
 use Rattle.depot_rows.specs.Standing.{unplaced_at}
 use Rattle.row_reads.proofs.GroupsListed.{kept_of, kept_rise}
-use Rattle.file_openings.specs.Openings.{openings}
 use Rattle.file_openings.proofs.NamesRise.{Below, Rise}
 use Rattle.file_openings.proofs.Told.{openings_told}
-use Rattle.named_files.specs.Anywhere.{is_last, new_text, next_last, opened_anywhere, paths_after, texts_after}
+use Rattle.named_files.specs.Anywhere.{is_last, opened_anywhere, paths_after, paths_in_turn, texts_after}
+use Rattle.named_files.specs.Beginnings.{AreApart, has_one}
 use Rattle.named_files.specs.Listed.{has_beginning, is_in_front, path_in_text}
 use Rattle.named_files.specs.declared.listing.Listing.TheVariants.{OpenedBy}
+use Rattle.named_files.proofs.Joining.{joined}
 use Rattle.named_files.proofs.Rising as paths
 use Rattle.named_files.proofs.Rising.{filter_rises, in_filter, one_list, told_rise}
 use Rattle.named_files.proofs.RowsListed.{Single, in_text, single_text}
@@ -289,7 +289,10 @@ module _ (d : List Deed) (p : List ℕ) where
       in_filter p (λ path. nat_lt 0 (length (openers d path))) (paths_of open_paths d)
       ∙ absorbed (list_any (same p) (paths_of open_paths d)) (nat_lt 0 (length (openers d p))) (some_opener (keys_of (opener_of p) d))
 
-pub anywhere_told : (client beginning : List ℕ) (version : TableRows) (rows : List Record) → version.rows ≡ rows → version.table ≡ tables.Working
+anywhere_rises : (d : List Deed) → IsSound d → paths.Rise (opened_anywhere d)
+anywhere_rises d sound = filter_rises (λ path. nat_lt 0 (length (openers d path))) (paths_of open_paths d) (told_rise open_paths open_are_paths d sound.paths)
+
+anywhere_told : (client beginning : List ℕ) (version : TableRows) (rows : List Record) → version.rows ≡ rows → version.table ≡ tables.Working
     → AllOfTable version.table version.rows → IsRising version.rows → (d : List Deed) → IsSound d
     → ((key : Key) → key_table key ≡ tables.Working → unplaced_at rows key ≡ record_of d key)
     → paths_after None (filter (is_in_front (OpenedBy client) beginning) rows) ≡ filter (has_beginning beginning) (opened_anywhere d)
@@ -302,10 +305,18 @@ anywhere_told client beginning version rows are is of up d sound has =
     let kept = filter test rows in
     one_list (paths_after None kept) (filter (has_beginning beginning) (opened_anywhere d))
     (flat_rise (texts_after None kept) (rises None kept tt (kept_rise test rows rising) (kept_of test tables.Working rows ours)).1)
-    (filter_rises (has_beginning beginning) (opened_anywhere d)
-    (filter_rises (λ path. nat_lt 0 (length (openers d path))) (paths_of open_paths d) (told_rise open_paths open_are_paths d sound.paths)))
+    (filter_rises (has_beginning beginning) (opened_anywhere d) (anywhere_rises d sound))
     (λ p path.
     in_paths p path (texts_after None kept) ∙ in_texts (printed p) None kept ∙ in_front client beginning (printed p) rows
     ∙ (λ i. (some_row (printed p) rows ours ∙ ap (λ (rs : List Record). nat_lt 0 (length rs)) (openings_told version rows are is of up d p (prints_path p path) has)
     ∙ ap (λ (n : ℕ). nat_lt 0 n) (as_many d p (keys_of (opener_of p) d)) ∙ sym (in_anywhere d p)) i && begins_with (printed p) beginning)
     ∙ sym (in_filter p (has_beginning beginning) (opened_anywhere d)))
+
+-- those of each of some texts that are apart, in turn
+pub all_told : (client : List ℕ) (version : TableRows) (rows : List Record) → version.rows ≡ rows → version.table ≡ tables.Working
+    → AllOfTable version.table version.rows → IsRising version.rows → (d : List Deed) → IsSound d
+    → ((key : Key) → key_table key ≡ tables.Working → unplaced_at rows key ≡ record_of d key) → (beginnings : List (List ℕ)) → AreApart beginnings
+    → paths_in_turn (OpenedBy client) rows beginnings ≡ filter (has_one beginnings) (opened_anywhere d)
+all_told client version rows are is of up d sound has beginnings apart =
+    (λ i. flat_map (λ beginning. anywhere_told client beginning version rows are is of up d sound has i) beginnings)
+    ∙ joined (opened_anywhere d) (anywhere_rises d sound) beginnings apart

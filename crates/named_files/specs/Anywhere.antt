@@ -7,7 +7,8 @@ use Rattle.db_records.specs.declared.record.Record.TheVariants.{Working}
 use Rattle.depot_model.specs.Arguments.{open_paths, paths_of}
 use Rattle.depot_model.specs.Deeds.{Deed}
 use Rattle.depot_model.specs.Steps.Opening.{openers}
-use Rattle.named_files.specs.Listed.{path_in_text}
+use Rattle.named_files.specs.Listed.{is_in_front, path_in_text}
+use Rattle.named_files.specs.declared.listing.Listing.{Listing}
 
 abbrev pub opened_anywhere : List Deed → List (List ℕ)
 opened_anywhere d = filter (λ path. nat_lt 0 (length (openers d path))) (paths_of open_paths d)
@@ -34,3 +35,11 @@ texts_after last (row ∷ rows) = new_text last row ++ texts_after (next_last la
 -- their paths
 abbrev pub paths_after : Option (List ℕ) → List Record → List (List ℕ)
 paths_after last rows = flat_map path_in_text (texts_after last rows)
+
+-- the paths of the rows in front whose paths begin with a text, each once
+abbrev pub paths_in_front : Listing → List Record → List ℕ → List (List ℕ)
+paths_in_front listing rows beginning = paths_after None (filter (is_in_front listing beginning) rows)
+
+-- those of each beginning, in turn
+abbrev pub paths_in_turn : Listing → List Record → List (List ℕ) → List (List ℕ)
+paths_in_turn listing rows beginnings = flat_map (λ beginning. paths_in_front listing rows beginning) beginnings

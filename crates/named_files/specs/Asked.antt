@@ -49,8 +49,3 @@ is_begun asker pattern path =
     if in_client_syntax asker.client pattern
     then begins_at (printed (literal pattern)) (path_in asker.view path)
     else begins_with (printed path) (printed (literal pattern))
-
--- a text may begin so
-abbrev pub may_begin : Option (List ℕ) → List ℕ → Bool
-may_begin None text = false
-may_begin (Some beginning) text = begins_with text beginning

@@ -1,4 +1,5 @@
 pub mod Anywhere
 pub mod Asked
+pub mod Beginnings
 pub mod Listed
 pub mod Sets

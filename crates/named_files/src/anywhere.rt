@@ -1,17 +1,18 @@
 //! The files that any client has opened, as arguments name them.
 
-ghost use Rattle.std.specs.Prelude.{◌≡◌, ◌++◌, ℕ, List, IfOk, OnOk, None, filter, flat_map};
+ghost use Rattle.std.specs.Prelude.{◌≡◌, ◌++◌, ℕ, List, IfOk, OnOk, filter, flat_map};
 ghost use Rattle.std.specs.Option.{option_copied};
 ghost use Rattle.db_records.specs.declared.table.TableId.TheVariants as table_ids;
 ghost use Rattle.table_changes.specs.Changed.{rows_of};
 ghost use Rattle.depot_model.specs.Deeds.{Deed};
 ghost use Rattle.depot_model.specs.Rules.{IsSound};
 ghost use Rattle.depot_rows.specs.Standing.{HasRows};
-ghost use Rattle.named_files.specs.Anywhere.{is_last as last_test, new_text, next_last, opened_anywhere, paths_after};
-ghost use Rattle.named_files.specs.Listed.{has_beginning, is_in_front, listing_table, path_in_text};
+ghost use Rattle.named_files.specs.Anywhere.{is_last as last_test, new_text, next_last, opened_anywhere, paths_in_front, paths_in_turn};
+ghost use Rattle.named_files.specs.Beginnings.{AreApart, has_one};
+ghost use Rattle.named_files.specs.Listed.{listing_table, path_in_text};
 
 use crate::asker::Asker;
-use crate::beginning::beginning_of;
+use crate::beginning::beginnings_of;
 use crate::front::rows_in;
 use crate::listing::{Listing, read_path};
 use db_records::{Record, TableId};
@@ -68,45 +69,63 @@ fn add_new<'a>(
     Ok(Some(&row.path))
 }
 
-/// The files of the rows whose printed paths begin with a text, each once.
+/// Adds the files of the rows whose printed paths begin with a text, each once.
+fn add_opened_below(
+    alloc: Global,
+    paths: &mut Sequence<DepotPath>,
+    tables: &Tables,
+    listing: &Listing,
+    beginning: &Text,
+) -> Result<(), AllocError>
+    ensures { OnOk result (paths.new ≡ paths.old ++ paths_in_front listing.now (rows_of tables.now (listing_table listing.now)) beginning.now) }
+{
+    let mut last = None;
+    for row in rows_in(alloc, tables, listing, beginning)? {
+        last = add_new(alloc, paths, last, row)?;
+    }
+    Ok(())
+}
+
+/// The files of the rows whose printed paths begin with one of some texts, those of each text in turn.
 fn opened_below(
     alloc: Global,
     tables: &Tables,
     listing: &Listing,
-    beginning: &Text,
+    beginnings: &[Text],
 ) -> Result<Sequence<DepotPath>, AllocError>
-    ensures { IfOk result (λ paths. paths ≡ paths_after None (filter (is_in_front listing.now beginning.now) (rows_of tables.now (listing_table listing.now)))) }
+    ensures { IfOk result (λ paths. paths ≡ paths_in_turn listing.now (rows_of tables.now (listing_table listing.now)) beginnings.now) }
 {
     let mut paths = Sequence::new(alloc);
-    let mut last = None;
-    for row in rows_in(alloc, tables, listing, beginning)? {
-        last = add_new(alloc, &mut paths, last, row)?;
+    let mut rest = beginnings;
+    while let [beginning, after @ ..] = rest {
+        add_opened_below(alloc, &mut paths, tables, listing, beginning)?;
+        rest = after;
     }
     Ok(paths)
 }
 
-/// The rows of a sound depot tell the files that any client has opened, in the order of their paths.
+/// Where the texts are apart, the rows of a sound depot tell so the files that any client has opened, in the order of their paths.
 fn rows_tell_files(tables: &Tables)
-    ensures { (d : List Deed) (client beginning : List ℕ) → IsSound d → HasRows (rows_of tables.now) d table_ids.Working →
-        paths_after None (filter (is_in_front (Listing.OpenedBy client) beginning) (rows_of tables.now table_ids.Working)) ≡ filter (has_beginning beginning) (opened_anywhere d) }
+    ensures { (d : List Deed) (client : List ℕ) (beginnings : List (List ℕ)) → IsSound d → HasRows (rows_of tables.now) d table_ids.Working → AreApart beginnings →
+        paths_in_turn (Listing.OpenedBy client) (rows_of tables.now table_ids.Working) beginnings ≡ filter (has_one beginnings) (opened_anywhere d) }
 {
     let version = tables.version(TableId::Working);
     let _table = version.table();
 }
 
-/// Those among the files, in the order of their paths, whose printed paths begin with a text.
+/// Those among the files, in the order of their paths, whose printed paths begin with one of some texts that are apart.
 fn anywhere_below(
     alloc: Global,
     tables: &Tables,
     client: &Name,
-    beginning: &Text,
+    beginnings: &[Text],
 ) -> Result<Sequence<DepotPath>, AllocError>
-    ensures { IfOk result (λ paths. (d : List Deed) → IsSound d → HasRows (rows_of tables.now) d table_ids.Working → paths ≡ filter (has_beginning beginning.now) (opened_anywhere d)) }
+    ensures { IfOk result (λ paths. (d : List Deed) → IsSound d → HasRows (rows_of tables.now) d table_ids.Working → AreApart beginnings.now → paths ≡ filter (has_one beginnings.now) (opened_anywhere d)) }
 {
     rows_tell_files(tables);
     // the openings of all clients stand among those of each
     let listing = Listing::opened_by(client)?;
-    let paths = opened_below(alloc, tables, &listing, beginning)?;
+    let paths = opened_below(alloc, tables, &listing, beginnings)?;
     Ok(paths)
 }
 
@@ -133,17 +152,9 @@ impl<'a> FileSet for OpenedAnywhere<'a> {
         tables: &Tables,
         argument: &FileArgument,
     ) -> Result<Sequence<DepotPath>, AllocError> {
-        let found = beginning_of(alloc, self.asker, &argument.spec.pattern)?;
-        match found {
-            Some(beginning) => {
-                let paths = anywhere_below(alloc, tables, &self.caller.client, &beginning)?;
-                Ok(paths)
-            }
-            None => {
-                let paths = Sequence::new(alloc);
-                Ok(paths)
-            }
-        }
+        let beginnings = beginnings_of(alloc, self.asker, &argument.spec.pattern)?;
+        let paths = anywhere_below(alloc, tables, &self.caller.client, beginnings.as_slice())?;
+        Ok(paths)
     }
 
     fn is_named(

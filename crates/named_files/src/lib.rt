@@ -1,8 +1,9 @@
 //! The files that an argument names, from the rows of the tables.
 //!
 //! A [`Listing`] is a list of files as a table has it, as those that a client has. An [`Asker`] says which of them an argument names, and
-//! [`candidates`] walks over the rows from the text alone with which every file begins that the argument may name. [`ListedFiles`],
-//! [`ShownFiles`], [`HeadFiles`], [`ChosenFiles`], [`SelectedFiles`] and [`OpenedAnywhere`] are the sets of files over which commands go.
+//! [`candidates`] walks over the rows alone whose paths begin with one of the texts with which the files begin that the argument may name.
+//! [`ListedFiles`], [`ShownFiles`], [`HeadFiles`], [`ChosenFiles`], [`SelectedFiles`] and [`OpenedAnywhere`] are the sets of files over which
+//! commands go.
 #![tactic(auto)]
 
 mod anywhere;

@@ -1,4 +1,4 @@
-use Rattle.std.proofs.Common.{◌≡◌, ℕ, true, List, [], ◌∷◌, refl, ap, ◌∙◌}
+use Rattle.std.proofs.Common.{◌≡◌, ℕ, true, List, [], ◌∷◌, ◌++◌, refl, ap, ◌∙◌}
 use Rattle.std.specs.Prelude.{filter, if◌then◌else◌}
 use Rattle.depot_path.specs.Bytes.{begins_with}
 use Rattle.depot_path.specs.Path.{printed}
@@ -19,4 +19,5 @@ pub returns : goal.returns
 returns c = λ d sound has.
     let listing = c.args.listing.now in
     let files = listed listing (rows_of c.args.tables.now (listing_table listing)) in
-    c.in_ok-paths.ensures ∙ ap (λ (b : List ℕ). filter (has_beginning b) files) c.new-beginning.ensures ∙ all_kept files ∙ c.rows_list_files.ensures d sound has
+    c.in_ok-add_files_below.ensures ∙ ap (λ (l : List (List ℕ)). l ++ filter (has_beginning c.new-beginning.result) files) c.new-paths.ensures
+    ∙ ap (λ (b : List ℕ). filter (has_beginning b) files) c.new-beginning.ensures ∙ all_kept files ∙ c.rows_list_files.ensures d sound has
