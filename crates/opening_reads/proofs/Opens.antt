@@ -8,6 +8,7 @@ use Rattle.depot_path.proofs.Paths.{prints_path}
 use Rattle.depot_model.specs.Deeds as model
 use Rattle.depot_model.specs.Deeds.{Deed, Open, Opening, Source, Action}
 use Rattle.depot_model.specs.Opened.{opened}
+use Rattle.db_records.specs.declared.record.Record.{Record}
 use Rattle.db_records.specs.declared.record.Record.TheVariants as records
 use Rattle.db_records.specs.declared.rows.WorkingRecord.{WorkingRecord}
 use Rattle.depot_model.specs.Records.{working_record, printed_or_empty, is_holder}
@@ -92,3 +93,16 @@ row_opens d client path o row change type sound e is =
     let P : WorkingRecord → Type 0 = λ r. opening_of (opening_in_row client path r change type) ≡ moved change type o in
     subst P (sym own)
     (opening_is client path o lock change type (opened-is d client path o e) (opening_paths_are [] d client path o sound.paths e))
+
+-- and where it is there, that opening
+pub row_told : (d : List Deed) (client path : List ℕ) (row : WorkingRecord) → IsSound d → Some (records.Working row) ≡ option_map (working_record d) (opened d client path)
+    → Some (opening_of (opening_in_row client path row None None)) ≡ opened d client path
+row_told d client path row sound is = go (opened d client path) refl is
+  where
+    one_row : (r s : Record) → Some r ≡ Some s → r ≡ s
+    one_row r s e = cc
+
+    go : (found : Option Opening) → opened d client path ≡ found → Some (records.Working row) ≡ option_map (working_record d) found
+        → Some (opening_of (opening_in_row client path row None None)) ≡ found
+    go None e k = absurd cc
+    go (Some o) e k = ap (λ (x : Opening). Some x) (row_opens d client path o row None None sound e (one_row (records.Working row) (working_record d o) k))

@@ -1,3 +1,4 @@
 pub mod InChange
+pub mod OwnOpenings
 pub mod Read
 pub mod Owed

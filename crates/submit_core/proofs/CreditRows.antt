@@ -25,11 +25,6 @@ use Rattle.sound_landing.proofs.OpenFiles.{in_filter_map, owed_is, opened_path}
 use Rattle.opening_reads.specs.Read.{path_in_text}
 use Rattle.submit_core.specs.Owed.{how_in, credit_by, credit_of_row}
 
--- one credit more, where there is one
-pub one_more : {A : Type 0} (xs : List A) (o : Option A) (ys : List A) → (xs ++ cons_option o []) ++ ys ≡ xs ++ cons_option o ys
-one_more xs None ys = ap (λ (l : List _). l ++ ys) (append-nil xs)
-one_more xs (Some x) ys = append_assoc xs (x ∷ []) ys
-
 path_there : (p : List ℕ) → is_path p ≡ true → path_in_text (printed p) ≡ Some p
 path_there p good = go (path_of (printed p)) (prints_path p good)
   where

@@ -1,9 +1,8 @@
-pub mod OwedRows
 pub mod CreditRows
 pub mod ContentRows
 pub mod Finding
 pub mod Blocking
-pub mod OpeningRows
+pub mod Keeping
 pub mod Refusing
 pub mod Filing
 pub mod Ending

@@ -2,7 +2,6 @@ pub mod Owed
 pub mod Contents
 pub mod Blocks
 pub mod Content
-pub mod Openings
 pub mod Premises
 pub mod Refusals
 pub mod Entries

@@ -1,5 +1,5 @@
--- Resolves as rows have them (Helix Core database schema reference, "db.resolve").
-use Rattle.std.specs.Prelude.{ℕ, Bool, false, ◌==◌, List, codes, length, if◌then◌else◌, Option, Some, None}
+-- Paid resolves as rows have them (Helix Core database schema reference, "db.resolve").
+use Rattle.std.specs.Prelude.{ℕ, List, codes, if◌then◌else◌, Option, Some, None}
 use Rattle.depot_path.specs.Bytes.{same}
 use Rattle.db_records.specs.declared.record.Record.{Record}
 use Rattle.db_records.specs.declared.record.Record.TheVariants.{Resolve}
@@ -8,11 +8,6 @@ use Rattle.opening_reads.specs.Read.{path_in_text}
 use Rattle.depot_rows.specs.declared.deed.Credit.{Credit}
 use Rattle.depot_rows.specs.declared.deed.How.{How}
 use Rattle.depot_rows.specs.declared.deed.How.TheVariants.{CopyFrom, BranchFrom, DeleteFrom, Ignored, MovedFrom}
-
--- a row of a resolve that is owed
-abbrev pub is_unpaid_row : Record → Bool
-is_unpaid_row (Resolve r) = length r.how == 0
-is_unpaid_row _ = false
 
 -- how a resolve was paid, where a word says it
 abbrev pub how_in : List ℕ → Option How

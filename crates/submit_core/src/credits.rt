@@ -14,11 +14,10 @@ ghost use Rattle.row_ranges.specs.Ranges.{has_row, range_table};
 ghost use Rattle.submit_core.specs.Owed.{credit_in, credit_of_row, how_in};
 ghost use Rattle.table_changes.specs.Changed.{rows_of};
 
-use crate::resolves::{file_resolves, rows_tell_resolves};
 use db_records::{Record, ResolveRecord};
 use depot_path::{DepotPath, Name, Sequence};
 use depot_rows::{Credit, How};
-use opening_reads::path_in;
+use opening_reads::{file_resolves, path_in, rows_tell_resolves};
 use row_ranges::{KeyRange, rows_in};
 use std::alloc::{AllocError, Global};
 use table_store::Tables;

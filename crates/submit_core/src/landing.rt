@@ -18,7 +18,8 @@ use crate::fixes::close_jobs;
 use deed_list::Deeds;
 use depot_model::{Request, Row};
 use depot_path::{DepotPath, Name, Sequence, Text};
-use depot_rows::{Action, Entry, Held, Landing};
+use depot_rows::{Action, Entry, Landing};
+use opening_reads::held;
 use reply_rows::RowBuilder;
 use std::alloc::{AllocError, Global};
 use table_store::Tables;
@@ -80,15 +81,6 @@ pub(crate) fn landed_rows(
     let row = number_row(alloc, number)?;
     rows.push(row)?;
     Ok(rows)
-}
-
-/// A file of a client.
-fn held(client: &Name, path: &DepotPath) -> Result<Held, AllocError>
-    ensures { IfOk result (λ held. held ≡ record { client = client.now; path = path.now }) }
-{
-    let client = client.clone()?;
-    let path = path.clone()?;
-    Ok(Held { client, path })
 }
 
 /// The revision that the client then has of a file, 0 for none.

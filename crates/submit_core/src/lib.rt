@@ -14,10 +14,8 @@ mod landing;
 mod numbers;
 mod openings;
 mod refusals;
-mod resolves;
 mod submitting;
 
 pub use contents::rows_tell_contents;
 pub use credits::credits_of;
-pub use resolves::{owes_resolve, rows_tell_resolves};
 pub use submitting::{submit_change, submit_default};

@@ -24,12 +24,11 @@ ghost use Rattle.table_changes.specs.Changed.{rows_of};
 
 use crate::blocks::Blocks;
 use crate::content::{content_of, is_live_action};
-use crate::openings::own_opening;
-use crate::resolves::owes_resolve;
 use depot_model::Row;
 use depot_path::{DepotPath, Name};
 use depot_rows::Opening;
 use named_files::Asker;
+use opening_reads::{opening_by, owes_resolve};
 use protect_table::Level;
 use reply_rows::{
     denied_row, in_move_row, locked_row, must_resolve_row, no_content_row, stale_row,
@@ -149,7 +148,7 @@ fn has_partner(
     ensures { IfOk result (λ has. (d : List Deed) → IsSound d → HasRows (rows_of tables.now) d table_ids.Working →
         has ≡ in_same_change opening.now.change opening.now.path (opened d opening.now.client other.now)) }
 {
-    let found = own_opening(alloc, tables, &opening.client, other)?;
+    let found = opening_by(alloc, tables, &opening.client, other)?;
     let has = is_partner(opening.change, &opening.path, &found);
     drop(found);
     Ok(has)

@@ -1,8 +1,6 @@
-use Rattle.std.proofs.Common.{◌≡◌, ◌++◌, ℕ, List, refl, ap, sym, ◌∙◌, append-nil}
+use Rattle.std.proofs.Common.{◌∙◌}
 use Rattle.std.specs.Prelude.{flat_map, map}
-use Rattle.depot_model.specs.Deeds.{Opening}
 use Rattle.depot_rows.specs.Deed.{opening_of}
-use Rattle.depot_rows.specs.declared.deed.Opening.{Opening as DeedOpening}
 use Rattle.opening_reads.proofs.InChange.{all_in_change, in_change}
 use Rattle.opening_reads.proofs.Onwards.{given_all, given_on}
 use Rattle.opening_reads.proofs.in_change.openings_at.Goals as goal

@@ -4,7 +4,7 @@ use Rattle.spec_form.specs.Form.{FormValue}
 use Rattle.depot_model.specs.Deeds.{FixForm}
 use Rattle.depot_model.specs.Latest.{spec}
 use Rattle.submit_core.specs.Fixes.{is_fix_of}
-use Rattle.submit_core.proofs.OpeningRows.{one_more}
+use Rattle.submit_core.proofs.Keeping.{one_more}
 use Rattle.submit_core.proofs.Steps.{back}
 use Rattle.submit_core.proofs.fixes.fixes_named.Goals as goal
 
