@@ -6,3 +6,5 @@ pub mod Opens
 pub mod Ends
 pub mod Reverts
 pub mod Adds
+pub mod Later
+pub mod Moves

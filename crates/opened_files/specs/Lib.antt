@@ -1,5 +1,6 @@
 pub mod Adds
 pub mod Locks
+pub mod Moves
 pub mod Opens
 pub mod Partners
 pub mod Reopened

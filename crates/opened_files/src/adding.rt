@@ -1,13 +1,12 @@
 //! `add` (Command-Line Reference, "p4 add").
 
-ghost use Rattle.std.specs.Prelude.{◌≡◌, [], List, IfOk, None, Some, codes, is_some, option_map, true, unwrap_or};
+ghost use Rattle.std.specs.Prelude.{◌≡◌, [], List, IfOk, None, Some, codes, option_map, true, unwrap_or};
 ghost use Rattle.std.specs.List.{list_all};
 ghost use Rattle.std.specs.Option.{option_to_list};
 ghost use Rattle.db_records.specs.declared.table.TableId.TheVariants as table_ids;
 ghost use Rattle.table_changes.specs.Changed.{rows_of};
 ghost use Rattle.depot_model.specs.Arguments as arguments_of;
 ghost use Rattle.depot_model.specs.Deeds.{Deed};
-ghost use Rattle.depot_model.specs.Opened.{opened};
 ghost use Rattle.depot_model.specs.Refusals.{refusal_row};
 ghost use Rattle.depot_model.specs.Revisions.{is_live_head as live_head};
 ghost use Rattle.depot_model.specs.Rules.{IsSound};
@@ -28,9 +27,9 @@ use command_parts::named_change_refusal;
 use depot_model::{Caller, FileArgument, Row};
 use depot_path::{ClientPath, DepotPath, Name, Sequence, Text, Wanted};
 use depot_rows::{Action, Opening};
-use file_openings::opening_of;
 use file_steps::{FileAct, FileFinder, over_found, within_files};
 use named_files::{Asker, spelled_path};
+use opening_reads::is_opened_by;
 use protect_table::Level;
 use reply_rows::{Step, already_open_row, exists_row, not_in_view_row};
 use revision_reads::{file_at, head_of, is_live_head, shown_in_view};
@@ -131,19 +130,6 @@ impl<'a> FileFinder for FilesToAdd<'a> {
     }
 }
 
-/// Whether a client has a file opened.
-fn is_opened(
-    alloc: Global,
-    tables: &Tables,
-    client: &Name,
-    path: &DepotPath,
-) -> Result<bool, AllocError>
-    ensures { IfOk result (λ opened_now. (d : List Deed) → HasRows (rows_of tables.now) d table_ids.Working → opened_now ≡ is_some (opened d client.now path.now)) }
-{
-    let row = opening_of(alloc, tables, client, path)?;
-    Ok(row.is_some())
-}
-
 /// The row that refuses a file that can't be made anew, since this client has it opened, or it is there, or another client has it opened alone, from
 /// the tables of opened files and revisions alone. The one error is want of memory.
 pub(crate) fn new_refusal(
@@ -236,7 +222,7 @@ impl<'a> Adding<'a> {
             IsMade (rows_of tables.now) d e (adds_shown d self.now.caller.now self.now.change self.now.file_type.now path.now (Some place.now)) step) }
     {
         let client = &self.caller.client;
-        let open = is_opened(alloc, tables, client, path)?;
+        let open = is_opened_by(alloc, tables, client, path)?;
         let refusal = new_refusal(alloc, tables, path, client, self.file_type, open)?;
         match refusal {
             Some(row) => {

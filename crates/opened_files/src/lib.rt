@@ -1,12 +1,13 @@
 //! What the commands do that work on opened files, as deeds and rows of replies.
 #![tactic(auto)]
 
+mod action_rows;
 mod adding;
 mod copies;
 mod editing;
 mod had;
-mod held;
 mod locking;
+mod moving;
 mod opening_rows;
 mod partners;
 mod refusing;
@@ -19,6 +20,7 @@ pub use adding::add;
 pub use editing::{delete, edit};
 pub use had::had_type;
 pub use locking::lock;
+pub use moving::move_files;
 pub use opening_rows::{action_word, opening_row};
 pub use partners::partner_of;
 pub use refusing::{exclusive_refusal, right_refusal, unseen_row};

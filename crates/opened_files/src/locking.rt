@@ -12,11 +12,12 @@ ghost use Rattle.depot_rows.specs.Standing.{HasRows};
 ghost use Rattle.reply_rows.specs.Made.{IsMade};
 ghost use Rattle.opened_files.specs.Locks.{NoOther, Reads, hold_step, locking as locking_by, other_of as other_in};
 
-use crate::held::{action_row, held};
+use crate::action_rows::action_row;
 use depot_model::{Caller, FileArgument};
 use depot_path::{DepotPath, Name};
 use file_steps::{FileAct, over, within_files};
 use named_files::{Asker, SelectedFiles};
+use opening_reads::held;
 use protect_table::Level;
 use reply_rows::{Step, denied_row, locked_row};
 use revision_reads::holder_of;

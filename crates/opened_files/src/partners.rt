@@ -36,7 +36,7 @@ fn named_end(
 }
 
 /// Whether an end is that file.
-fn is_end(end: &Option<DepotPath>, path: &DepotPath) -> bool
+pub(crate) fn is_end(end: &Option<DepotPath>, path: &DepotPath) -> bool
     ensures { result ≡ option_map_or (same path.now) end.now false }
 {
     match end {

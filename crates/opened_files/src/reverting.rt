@@ -14,13 +14,13 @@ ghost use Rattle.reply_rows.specs.Made.{IsMade};
 ghost use Rattle.opened_files.specs.Reverts.{AreAlike, IsReverted, Reads, shut_row as row_of_shut};
 
 use crate::copies::own_path;
-use crate::held::held;
 use crate::partners::partner_of;
 use crate::refusing::right_refusal;
 use depot_model::{Caller, FileArgument, Row};
 use depot_path::DepotPath;
 use file_steps::{PathSet, named_by, not_open, within_files};
 use named_files::{Asker, SelectedFiles};
+use opening_reads::held;
 use protect_table::Level;
 use reply_rows::{RowBuilder, Step};
 use row_reads::have_of;
