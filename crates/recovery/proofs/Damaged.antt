@@ -13,7 +13,7 @@ use Rattle.recovery.specs.Contents.{IsSpotDamage}
 use Rattle.recovery.specs.Damage.{IsJournalDiskDamage, of_rules, IsDamage}
 use Rattle.recovery.specs.Faults.{IsOfArchive, IsOfFile, IfDamaged, SaysNothing, Tells}
 use Rattle.recovery.specs.Holding.{Hold, HasAllRows}
-use Rattle.recovery.specs.Rules.{KeepTheirRules, TellsEnd}
+use Rattle.recovery.specs.Rules.{SuitFiles, TellsEnd}
 
 open_bytes : (n : ℕ) (tail : List ℕ) → IsTail tail → generation_of (replicate n 101 ++ tail) ≡ n
 open_bytes zero [] shut = refl
@@ -21,18 +21,22 @@ open_bytes zero (byte ∷ rest) shut = let other : byte ≢ 101 = shut.0 in grin
 open_bytes (suc n) tail shut = ap suc (open_bytes n tail shut)
 
 -- files at rest hold the rows of what is committed
-committed_found : (was : Committed) (files : Files) → AreGroups was.groups → IsAtRest was files → HasCommitted was files
+pub committed_found : (was : Committed) (files : Files) → AreGroups was.groups → IsAtRest was files → HasCommitted was files
 committed_found was files are_groups rest = record { rest = rest; root = ap generation_of rest.root.is ∙ open_bytes was.generation rest.root.tail rest.root.shut; are_groups = are_groups }
 
-pub hold_found : (was : Committed) (rows : AllRows) (files : Files) → HasAllRows was rows → AreGroups was.groups → IsAtRest was files → Hold files rows
+abbrev pub hold_found : (was : Committed) (rows : AllRows) (files : Files) → HasAllRows was rows → AreGroups was.groups → IsAtRest was files → Hold files rows
 hold_found was rows files has are_groups rest = record { was = was; committed = committed_found was files are_groups rest; has = has }
 
-pub archive_damage : (X : Type 0) (files contents : Files) (rows : AllRows) (fault : OpenFault) → Hold files rows → KeepTheirRules rows → IsOfArchive fault → IfDamaged {X = X} (Err fault) (IsSpotDamage (contents 0) (rows tables.Rev)) → Tells (IsDamage files contents) fault
-archive_damage X files contents rows Unmade hold rules of damaged = tt
-archive_damage X files contents rows (Damaged Journal file place) hold rules of damaged = absurd of
-archive_damage X files contents rows (Damaged Archive file place) hold rules of damaged = (of, record { rows = rows; hold = hold; rules = rules; spot = damaged })
-archive_damage X files contents rows DiskFault hold rules of damaged = tt
-archive_damage X files contents rows Memory hold rules of damaged = tt
+-- the generation that files hold is one
+pub one_generation : (files : Files) (rows others : AllRows) (a : Hold files rows) (b : Hold files others) → a.was.generation ≡ b.was.generation
+one_generation files rows others a b = sym a.committed.root ∙ b.committed.root
+
+pub archive_damage : (X : Type 0) (files contents : Files) (rows : AllRows) (fault : OpenFault) → (hold : Hold files rows) → SuitFiles hold.was.generation rows → IsOfArchive fault → IfDamaged {X = X} (Err fault) (IsSpotDamage (contents 0) (rows tables.Rev)) → Tells (IsDamage files contents) fault
+archive_damage X files contents rows Unmade hold suit of damaged = tt
+archive_damage X files contents rows (Damaged Journal file place) hold suit of damaged = absurd of
+archive_damage X files contents rows (Damaged Archive file place) hold suit of damaged = (of, record { rows = rows; hold = hold; suit = suit; spot = damaged })
+archive_damage X files contents rows DiskFault hold suit of damaged = tt
+archive_damage X files contents rows Memory hold suit of damaged = tt
 
 -- damage of a file of the journal's disk
 pub journal_damage : (X : Type 0) (files contents : Files) (file : ℕ) (P : ℕ → Type 0) (fault : OpenFault) → IsOfFile file fault → IfDamaged {X = X} (Err fault) P → ((place : ℕ) → P place → IsJournalDiskDamage files file place) → Tells (IsDamage files contents) fault
@@ -42,9 +46,9 @@ journal_damage X files contents file P (Damaged Archive found place) of damaged 
 journal_damage X files contents file P DiskFault of damaged leads = tt
 journal_damage X files contents file P Memory of damaged leads = tt
 
--- rows that break a rule
+-- rows that don't suit the files
 pub rules_damage : (files contents : Files) (was : Committed) (rows : AllRows) (generation end : ℕ) (fault : OpenFault) → HasAllRows was rows → AreGroups was.groups → IsAtRest was files → generation ≡ was.generation → end ≡ length (blocks was.groups)
-    → (KeepTheirRules rows → SaysNothing fault) → TellsEnd generation end fault → Tells (IsDamage files contents) fault
+    → (SuitFiles generation rows → SaysNothing fault) → TellsEnd generation end fault → Tells (IsDamage files contents) fault
 rules_damage files contents was rows generation end Unmade has are rest same long only told = tt
 rules_damage files contents was rows generation end (Damaged Journal file place) has are rest same long only told =
     of_rules (record {
@@ -52,7 +56,7 @@ rules_damage files contents was rows generation end (Damaged Journal file place)
       rows = rows;
       committed = committed_found was files are rest;
       has = has;
-      broken = only;
+      broken = λ suit. only (subst (λ (n : ℕ). SuitFiles n rows) (sym same) suit);
       file_is = told.0 ∙ ap (λ (n : ℕ). 1 + 2 * n) same;
       place_is = told.1 ∙ long;
     })

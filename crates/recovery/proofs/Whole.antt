@@ -22,7 +22,7 @@ use Rattle.depot_model.specs.Deeds.{Deed, Action, Add, Edit, Delete, Branch, Int
 use Rattle.depot_model.specs.Revisions.{Revision, revision, is_live_action}
 use Rattle.depot_model.specs.Records.{at_path, record_of, rev_record, unplaced, digest}
 use Rattle.depot_model.specs.Rows.{action_word}
-use Rattle.depot_model.specs.Rules.{KeepRules, Rows}
+use Rattle.depot_model.specs.Rules.{KeepRules, Rows, value_of}
 use Rattle.depot_rows.proofs.Keys.{same-is}
 use Rattle.depot_rows.specs.Standing.{unplaced_at}
 use Rattle.db_records.specs.Key.{key_table}
@@ -146,5 +146,5 @@ module _ (d : List Deed) (files contents : Files) (stands : StandFor d files con
   hold_of = record {
     hold_within = record { hold = record { was = stands.was; committed = stands.committed; has = stands.has }; within = stands.within };
     whole = each_found (contents 0) [] (stands.rows tables.Rev) rows_rise row_whole;
-    rules = kept;
+    suit = record { rules = kept; tells = ap value_of (stands.stand.each tables.Counter (keys.Counter (codes "journal")) refl) ∙ stands.generation };
   }

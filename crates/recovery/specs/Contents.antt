@@ -11,7 +11,7 @@ use Rattle.db_records.specs.declared.table.TableId.TheVariants as tables
 use Rattle.depot_model.specs.Records.{digest}
 use Rattle.table_changes.specs.Changed.{AllRows}
 use Rattle.recovery.specs.Holding.{HoldWithin, spots_end}
-use Rattle.recovery.specs.Rules.{KeepTheirRules}
+use Rattle.recovery.specs.Rules.{SuitFiles}
 
 -- the bytes at the spot of a row
 abbrev pub bytes_at : List ℕ → RevRecord → List ℕ
@@ -31,11 +31,11 @@ IsWhole file _ = Unit {0}
 abbrev pub AreWhole : List ℕ → List Record → Type 0
 AreWhole file rows = AllByRecursion (IsWhole file) rows
 
--- The files have these rows, which keep their rules, no spot ends behind the archive, and each live revision has its content there.
+-- The files have these rows, which keep their rules and tell the generation, no spot ends behind the archive, and each live revision has its content there.
 pub record HoldWhole (journal archive : Files) (rows : AllRows) : Type 0 where
   pub hold_within : HoldWithin journal archive rows
   pub whole : AreWhole (archive 0) (rows tables.Rev)
-  pub rules : KeepTheirRules rows
+  pub suit : SuitFiles hold_within.hold.was.generation rows
 
 -- the spot of a row ends behind the file, or that of a live revision has another digest
 abbrev pub IsBadSpot : List ℕ → RevRecord → Type 0

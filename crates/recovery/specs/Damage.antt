@@ -13,7 +13,7 @@ use Rattle.recovery.specs.Contents.{IsSpotDamage}
 use Rattle.recovery.specs.Holding.{ArePuts, HasAllRows, Hold, joined}
 use Rattle.recovery.specs.Pieces.{AreAllGood, IsBadRecord, IsTextDamage}
 use Rattle.recovery.specs.Reading.{IsCheckpoint}
-use Rattle.recovery.specs.Rules.{KeepTheirRules}
+use Rattle.recovery.specs.Rules.{SuitFiles}
 use Rattle.recovery.specs.declared.fault.DepotDisk.{DepotDisk}
 use Rattle.recovery.specs.declared.fault.DepotDisk.TheVariants.{Journal, Archive}
 
@@ -47,13 +47,13 @@ pub record IsJournalDamage (rows : AllRows) (file : List ℕ) (place : ℕ) : Ty
   pub parts : file ≡ groups_text 1 groups ++ behind
   pub next : IsTextDamage (AllFitIn (changed_by rows (joined groups))) (1 + length groups) (length (groups_text 1 groups)) behind place
 
--- The rows that the files hold break a rule, and the place is the end of the journal's committed text.
+-- The rows that the files hold don't suit them: they break a rule, or tell another generation. The place is the end of the journal's committed text.
 pub record IsRulesDamage (journal : Files) (file place : ℕ) : Type 0 where
   pub was : Committed
   pub rows : AllRows
   pub committed : HasCommitted was journal
   pub has : HasAllRows was rows
-  pub broken : KeepTheirRules rows → ⊥
+  pub broken : SuitFiles was.generation rows → ⊥
   pub file_is : file ≡ 1 + 2 * was.generation
   pub place_is : place ≡ length (blocks was.groups)
 
@@ -65,11 +65,11 @@ pub data IsJournalDiskDamage (journal : Files) (file place : ℕ) : Type 0 where
       → IsJournalDamage (changed_by no_rows puts) (journal (1 + 2 * generation)) place → IsJournalDiskDamage journal file place
   of_rules : IsRulesDamage journal file place → IsJournalDiskDamage journal file place
 
--- the place of the first bad spot of the rows that the files hold, by path and then by revision; the rows keep their rules
+-- the place of the first bad spot of the rows that the files hold, by path and then by revision; the rows suit the files
 pub record IsArchiveDamage (journal archive : Files) (place : ℕ) : Type 0 where
   pub rows : AllRows
   pub hold : Hold journal rows
-  pub rules : KeepTheirRules rows
+  pub suit : SuitFiles hold.was.generation rows
   pub spot : IsSpotDamage (archive 0) (rows tables.Rev) place
 
 -- the files are damaged at a place of a file of this disk

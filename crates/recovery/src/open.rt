@@ -6,7 +6,7 @@ ghost use Rattle.outside_api.specs.Disk.{Files, LeavesOnly, NoMore, Same};
 ghost use Rattle.db_records.specs.declared.table.TableId.{TableId};
 ghost use Rattle.db_records.specs.declared.table.TableId.TheVariants.{Rev};
 ghost use Rattle.disk_journal.specs.Images.{Committed};
-ghost use Rattle.disk_journal.specs.Stands.{disk_of};
+ghost use Rattle.disk_journal.specs.Stands.{disk_of, generation_of_journal};
 ghost use Rattle.archive_file.specs.Archive.{disk_of as archive_of};
 ghost use Rattle.table_changes.specs.Changed.{AllRows, rows_of};
 ghost use Rattle.depot_model.specs.Deeds.{Deed};
@@ -18,7 +18,7 @@ ghost use Rattle.recovery.specs.Holding.{Hold, spots_end};
 ghost use Rattle.recovery.specs.Standing.{StandFor};
 ghost use Rattle.recovery.specs.Looking.{OnlyReads, AreCauses};
 ghost use Rattle.recovery.specs.Reading.{HasFound};
-ghost use Rattle.recovery.specs.Rules.{KeepTheirRules};
+ghost use Rattle.recovery.specs.Rules.{SuitFiles};
 ghost use Rattle.recovery.specs.Opening.{IsOpen, HasSynced, LooksOnly, journal_disk, archive_disk, IsUnmade, IsDiskFault, OpensOrSaysNothing, UnmadeOrSaysNothing};
 ghost use Rattle.recovery.specs.declared.fault.OpenFault.TheVariants.{DiskFault, Unmade};
 
@@ -51,13 +51,13 @@ pub struct NotOpened<D: Disk> {
     pub archive: D,
 }
 
-/// Syncs both disks, reads the rows of the one, whose rules they keep, and then their contents in the other.
+/// Syncs both disks, reads the rows of the one, which suit the files, and then their contents in the other.
 fn read_depot<D: Disk>(alloc: Global, journal: &mut D, archive: &mut D) -> Result<Found, OpenFault>
     ensures found { IfOk result (HasFound (D.seen journal.old)) }
     ensures end { IfOk result (λ found. found.tables.archive_end ≡ spots_end (rows_of found.tables Rev)) }
     ensures within { (contents : Files) → D.seen archive.old contents → IfOk result (λ found. found.tables.archive_end ≤ length (contents 0)) }
     ensures contents { (contents : Files) → D.seen archive.old contents → IfOk result (λ found. AreWhole (contents 0) (rows_of found.tables Rev)) }
-    ensures rules { IfOk result (λ found. KeepTheirRules (rows_of found.tables)) }
+    ensures suit { IfOk result (λ found. SuitFiles found.generation (rows_of found.tables)) }
     ensures synced { IfOk result (λ found. HasSynced D.seen D.may_leave journal.old journal.new × HasSynced D.seen D.may_leave archive.old archive.new) }
     ensures only { (files contents : Files) (rows : AllRows) → D.seen journal.old files → D.seen archive.old contents → HoldWhole files contents rows → IsReadOrSaysNothing result (λ found. (table : TableId) → rows_of found.tables table ≡ rows table) }
     ensures damaged { (files contents : Files) → D.seen journal.old files → D.seen archive.old contents → IfErr result (Tells (IsDamage files contents)) }
@@ -78,8 +78,8 @@ fn read_depot<D: Disk>(alloc: Global, journal: &mut D, archive: &mut D) -> Resul
 /// Opens the files of a depot: syncs both disks, and reads the root, the checkpoint of its generation and
 /// the journal.
 ///
-/// It is checked that the changes fit the rows before them, that the rows keep their rules, that no spot
-/// ends behind the archive, and that each content has its digest.
+/// It is checked that the changes fit the rows before them, that the rows keep their rules, that the counter
+/// `journal` tells the generation, that no spot ends behind the archive, and that each content has its digest.
 pub fn open_files<D: Disk>(alloc: Global, journal: D, archive: D) -> Result<Opened<D>, NotOpened<D>>
     // What is committed has the rows of the tables.
     ensures open { IfOk result (λ opened. (was : Committed) × IsOpen D.may_leave was opened) }
@@ -88,9 +88,9 @@ pub fn open_files<D: Disk>(alloc: Global, journal: D, archive: D) -> Result<Open
     ensures within { (contents : Files) → D.seen archive contents → IfOk result (λ opened. opened.tables.archive_end ≤ length (contents 0)) }
     // The archive has the content of each live revision.
     ensures contents { (contents : Files) → D.seen archive contents → IfOk result (λ opened. AreWhole (contents 0) (rows_of opened.tables Rev)) }
-    // The rows keep their rules.
-    ensures rules { IfOk result (λ opened. KeepTheirRules (rows_of opened.tables)) }
-    // Files that hold rows that keep their rules, and their contents, are opened, and so those are that stand for a depot: the rows then stand for it.
+    // The rows keep their rules, and tell the generation of the files.
+    ensures suit { IfOk result (λ opened. SuitFiles (generation_of_journal opened.journal) (rows_of opened.tables)) }
+    // Files that hold rows that keep their rules and tell the generation, and their contents, are opened, and so those are that stand for a depot: the rows then stand for it.
     ensures opens { (files contents : Files) (rows : AllRows) → D.seen journal files → D.seen archive contents → HoldWhole files contents rows → OpensOrSaysNothing result }
     ensures stands { (files contents : Files) (d : List Deed) → D.seen journal files → D.seen archive contents → StandFor d files contents →
         OpensOrSaysNothing result × IfOk result (λ opened. Stand (rows_of opened.tables) d) }

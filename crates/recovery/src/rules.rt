@@ -1,6 +1,6 @@
-//! The rules that rows keep.
+//! The rules that rows keep, and the generation that they tell.
 
-ghost use Rattle.std.specs.Prelude.{◌≡◌, ◌≢◌, ◌≤◌, length, IfOk, OnOk, Err};
+ghost use Rattle.std.specs.Prelude.{◌≡◌, ◌≢◌, ◌≤◌, length, IfOk, IsTrue, OnOk, Err};
 ghost use Rattle.std.specs.Result.{IfErr};
 ghost use Rattle.outside_api.specs.Disk.{Files};
 ghost use Rattle.db_records.specs.declared.table.TableId.{TableId};
@@ -10,24 +10,34 @@ ghost use Rattle.recovery.specs.Faults.{IsReadOrSaysNothing, IsUnmadeOrSaysNothi
 ghost use Rattle.recovery.specs.Holding.{Hold};
 ghost use Rattle.recovery.specs.Looking.{OnlyReads, IsCause};
 ghost use Rattle.recovery.specs.Reading.{HasFound};
-ghost use Rattle.recovery.specs.Rules.{KeepTheirRules, TellsEnd};
+ghost use Rattle.recovery.specs.Rules.{SuitFiles, TellsEnd};
 ghost use Rattle.recovery.specs.declared.fault.OpenFault.TheVariants.{DiskFault, Unmade};
 
 use crate::depot::{Found, read_rows};
 use crate::fault::{DepotDisk, OpenFault};
 use outside_api::Disk;
-use row_rules::keep_rules;
-use std::alloc::Global;
+use row_rules::{generation_of, keep_rules};
+use std::alloc::{AllocError, Global};
 
-/// Checks that the rows that were read keep their rules. Where they don't, the journal is damaged at the
-/// end of its committed text.
+/// Whether the rows that were read keep their rules, and tell the generation of the files.
+fn suit_files(alloc: Global, found: &Found) -> Result<bool, AllocError>
+    ensures suit { IfOk result (λ suit. IsTrue suit → SuitFiles found.now.generation (rows_of found.now.tables)) }
+    ensures only { SuitFiles found.now.generation (rows_of found.now.tables) → IfOk result IsTrue }
+{
+    let told = generation_of(alloc, &found.tables)?;
+    let keep = keep_rules(alloc, &found.tables)?;
+    Ok(keep && told == found.generation as u64)
+}
+
+/// Checks that the rows that were read keep their rules, and tell the generation of the files. Where they
+/// don't, the journal is damaged at the end of its committed text.
 fn check_rules(alloc: Global, found: &Found) -> Result<(), OpenFault>
     requires last { found.now.generation ≤ 4095 }
-    ensures keep { OnOk result (KeepTheirRules (rows_of found.now.tables)) }
-    ensures only { KeepTheirRules (rows_of found.now.tables) → IfErr result SaysNothing }
+    ensures suit { OnOk result (SuitFiles found.now.generation (rows_of found.now.tables)) }
+    ensures only { SuitFiles found.now.generation (rows_of found.now.tables) → IfErr result SaysNothing }
     ensures told { IfErr result (TellsEnd found.now.generation found.now.end.length) }
 {
-    if keep_rules(alloc, &found.tables)? {
+    if suit_files(alloc, found)? {
         return Ok(());
     }
     Err(OpenFault::Damaged {
@@ -37,11 +47,11 @@ fn check_rules(alloc: Global, found: &Found) -> Result<(), OpenFault>
     })
 }
 
-/// Reads the rows of the files, and checks that they keep their rules.
+/// Reads the rows of the files, and checks that they keep their rules and tell the generation.
 pub(crate) fn read_kept_rows<D: Disk>(alloc: Global, disk: &mut D) -> Result<Found, OpenFault>
     ensures found { IfOk result (λ found. HasFound (D.seen disk.old) found) }
-    ensures rules { IfOk result (λ found. KeepTheirRules (rows_of found.tables)) }
-    ensures only { (files : Files) (rows : AllRows) → D.seen disk.old files → Hold files rows → KeepTheirRules rows →
+    ensures suit { IfOk result (λ found. SuitFiles found.generation (rows_of found.tables)) }
+    ensures only { (files : Files) (rows : AllRows) → D.seen disk.old files → (hold : Hold files rows) → SuitFiles hold.was.generation rows →
         IsReadOrSaysNothing result (λ found. (table : TableId) → rows_of found.tables table ≡ rows table) }
     ensures damaged { (files contents : Files) → D.seen disk.old files → IfErr result (Tells (IsDamage files contents)) }
     ensures unmade { (files : Files) → D.seen disk.old files → result ≡ Err Unmade → length (files 0) ≡ 0 }

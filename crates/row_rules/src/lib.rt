@@ -19,4 +19,4 @@ mod simple;
 mod texts;
 
 pub use laws::rows_of_depots_keep_rules;
-pub use rules::keep_rules;
+pub use rules::{generation_of, keep_rules};

@@ -1,12 +1,13 @@
 //! The rules of the rows of all tables.
 
-ghost use Rattle.std.specs.Prelude.{◌≡◌, ◌≤◌, ◌&&◌, ◌↔◌, IfOk, IsTrue};
+ghost use Rattle.std.specs.Prelude.{◌≡◌, ◌≤◌, ◌&&◌, ◌↔◌, IfOk, IsTrue, codes};
+ghost use Rattle.db_records.specs.declared.key.Key.TheVariants as keys;
 ghost use Rattle.std.specs.List.{list_all};
 ghost use Rattle.db_records.specs.Table.{all_tables};
 ghost use Rattle.db_records.specs.declared.table.TableId.{TableId as Id};
 ghost use Rattle.table_store.specs.Rows.{AllOfTable, IsRising};
 ghost use Rattle.table_store.specs.Tables.{version_of};
-ghost use Rattle.depot_model.specs.Rules.{KeepRules, top_in};
+ghost use Rattle.depot_model.specs.Rules.{KeepRules, top_in, value_of as value_in};
 ghost use Rattle.row_rules.specs.Kept.{KeepRowRules};
 ghost use Rattle.row_rules.specs.Stored.{stored};
 ghost use Rattle.row_rules.specs.Tests.{keeps as keeps_test};
@@ -89,6 +90,13 @@ fn both(first: bool, second: bool) -> bool
     first && second
 }
 
+/// The generation that the rows tell: the value of the counter `journal`, 0 where there is none.
+pub fn generation_of(alloc: Global, tables: &Tables) -> Result<u64, AllocError>
+    ensures { IfOk result (λ generation. generation ≡ value_in (stored tables.now (keys.Counter (codes "journal")))) }
+{
+    value_of(alloc, tables, b"journal")
+}
+
 /// Whether the rows of the tables keep the rules, but for how many fixes a change has.
 fn rows_keep_rules(alloc: Global, tables: &Tables) -> Result<bool, AllocError>
     ensures { IfOk result (λ keep. IsTrue keep ↔ KeepRowRules (stored tables.now)) }
@@ -97,7 +105,7 @@ fn rows_keep_rules(alloc: Global, tables: &Tables) -> Result<bool, AllocError>
     if top > 2_147_483_647 {
         return Ok(false);
     }
-    let generation = value_of(alloc, tables, b"journal")?;
+    let generation = generation_of(alloc, tables)?;
     if generation > 4095 {
         return Ok(false);
     }

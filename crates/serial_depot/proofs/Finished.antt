@@ -1,17 +1,16 @@
--- A command whose contents were read, and one whose contents were stored and whose group was committed.
-use Rattle.std.proofs.Common.{◌≡◌, ◌⊎◌, ℕ, ◌≤◌, ◌+◌, Bool, true, false, List, [], ◌∷◌, ◌++◌, length, refl, sym, ap, subst, ◌∙◌, arith}
+-- A command whose contents were read, and one whose contents were stored and whose group or generation was written.
+use Rattle.std.proofs.Common.{◌≡◌, ◌≢◌, ◌⊎◌, ℕ, ◌≤◌, ◌+◌, Bool, true, false, List, [], ◌∷◌, ◌++◌, length, refl, sym, ap, subst, ◌∙◌, arith}
 use Rattle.archive_file.specs.Archive as archives
 use Rattle.archive_file.specs.declared.archive.Archive.{Archive}
 use Rattle.outside_api.specs.Disk.{Files, LeavesOnly, NoMore, Same, StillTells}
 use Rattle.command_core.specs.Outcomes.{IsOutcome}
 use Rattle.command_core.specs.declared.outcome.Outcome.{Outcome}
 use Rattle.db_records.specs.declared.change.Change.{Change}
-use Rattle.disk_journal.specs.Images.{Committed, with_group}
-use Rattle.disk_journal.specs.Stands.{Doubtful, group, HasWithOrWithout, Stands, next_number, nothing}
+use Rattle.disk_journal.specs.Images.{Committed}
+use Rattle.disk_journal.specs.Stands.{Doubtful, HasWithOrWithout, Stands, generation_of_journal, next_number, nothing}
 use Rattle.disk_journal.specs.declared.journal.Journal.{Journal}
 use Rattle.table_changes.specs.Changed.{AllRows, changed_by, rows_of}
 use Rattle.table_store.specs.declared.tables.Tables.{Tables}
-use Rattle.journal_groups.specs.Groups.{group_text}
 use Rattle.depot_runs.specs.Today.{step}
 use Rattle.depot_model.specs.Deeds.{Deed}
 use Rattle.depot_model.specs.Places.{Placed, taken}
@@ -22,8 +21,10 @@ use Rattle.depot_model.specs.declared.reply.Row.{Row}
 use Rattle.reply_rows.specs.Made.{StandAt, contents_of}
 use Rattle.session_loop.specs.Taking.{placed_by}
 use Rattle.stored_contents.specs.Placed.{StandAfter}
-use Rattle.serial_depot.specs.Committing.{AreChangesOf, IsGroupOf, StandsBy}
+use Rattle.serial_depot.specs.Committing.{AreChangesOf}
+use Rattle.recovery.specs.Holding.{HasAllRows}
 use Rattle.serial_depot.specs.Holding.{KeepContents}
+use Rattle.serial_depot.specs.Writing.{IsWritingOf, StandsBy, with_doubtful}
 use Rattle.serial_depot.specs.Running.{CanTake, HasRun}
 use Rattle.serial_depot.specs.Storing.{AllReach, AllStored, AreAt, KeepsBelow, stores_end}
 use Rattle.serial_depot.specs.declared.depot.SerialDepot.{SerialDepot}
@@ -31,11 +32,11 @@ use Rattle.serial_depot.proofs.Moved.{has_run_moved, has_run_settled, has_run_un
 use Rattle.serial_depot.proofs.Steps.{has_run_done, has_run_failed, has_run_faulted}
 use Rattle.serial_depot.proofs.Stored.{contents_at, contents_follow, contents_kept, grows, keeps_more, keeps_reach}
 
--- the journal stands, whether the commit failed or not
-pub standing : {D : Type 0} (may_leave : D → Files → Type 0) (journal : Journal D) (was : Committed) (doubt : Doubtful) (text : List ℕ) (failed : Bool) → StandsBy may_leave journal was doubt text failed
+-- the journal stands, whether the writing failed or not
+pub standing : {D : Type 0} (may_leave : D → Files → Type 0) (journal : Journal D) (was : Committed) (doubt written : Doubtful) (failed : Bool) → StandsBy may_leave journal was doubt written failed
     → (now : Committed) × ((left : Doubtful) × Stands may_leave journal now left)
-standing may_leave journal was doubt text false stands = (with_group was text, (nothing, stands))
-standing may_leave journal was doubt text true stands = (was, (stands.0, stands.2))
+standing may_leave journal was doubt written false stands = (with_doubtful was written, (nothing, stands))
+standing may_leave journal was doubt written true stands = (was, (stands.0, stands.2))
 
 module _ {D : Type 0} (seen may_leave : D → Files → Type 0) (moment : D → ℕ) (left_since : D → ℕ → Files → Type 0) (depot : SerialDepot D) where
   -- ---- the archive was read
@@ -81,7 +82,7 @@ module _ {D : Type 0} (seen may_leave : D → Files → Type 0) (moment : D → 
       has_run_faulted seen may_leave moment left_since (record { tables = depot.tables; journal = journal; archive = depot.archive }) since start places request
       (has_run_unsettled seen may_leave moment left_since depot since start places h journal stands leaves)
 
-  -- ---- contents were stored, and a group committed
+  -- ---- contents were stored, and a place written
 
   module _ (can : CanTake may_leave depot) (archive : Archive D) (keeps : KeepsBelow (may_leave (archives.disk_of depot.archive)) (may_leave (archives.disk_of archive)) depot.tables.archive_end)
       (tells : StillTells (seen (archives.disk_of depot.archive)) (seen (archives.disk_of archive))) where
@@ -130,26 +131,26 @@ module _ {D : Type 0} (seen may_leave : D → Files → Type 0) (moment : D → 
           (contents_kept (may_leave (archives.disk_of depot.archive)) (may_leave (archives.disk_of archive)) (archives.used_of depot.archive) (archives.used_of depot.archive) (rows_of depot.tables)
           (taken step start places) (omega arith) keeps_used h.stand h.kept) stored (omega (arith, used_is)) reach
 
-  -- the group has the number that comes next
-  of_number : (since : ℕ) (start : List Deed) (places : List Placed) (m : HasRun seen may_leave moment left_since depot since start places) (text : List ℕ) (changes : List Change)
-      → text ≡ group_text (next_number depot.journal) changes → text ≡ group_text (length m.was.groups + 1) changes
-  of_number since start places m text changes is =
-      let count = m.stands.count in
-      let number : next_number depot.journal ≡ length m.was.groups + 1 = omega (arith, count) in
-      is ∙ ap (λ (n : ℕ). group_text n changes) number
-
-  -- a group was committed, or its commit failed
-  pub committed : (since : ℕ) (start : List Deed) (places : List Placed) (request : Request) (m : HasRun seen may_leave moment left_since depot since start places) (now : AllRows) (text : List ℕ) (changes : List Change)
-      → IsGroupOf (rows_of depot.tables) now (next_number depot.journal) text changes → AreChangesOf (rows_of depot.tables) request changes
+  -- a place was written, or its writing failed
+  pub committed : (since : ℕ) (start : List Deed) (places : List Placed) (request : Request) (m : HasRun seen may_leave moment left_since depot since start places) (now : AllRows) (opens : Bool) (written : Doubtful) (changes : List Change) → changes ≢ []
+      → IsWritingOf (rows_of depot.tables) now (next_number depot.journal) (generation_of_journal depot.journal) opens written changes → AreChangesOf (rows_of depot.tables) request opens changes
       → KeepContents (may_leave (archives.disk_of depot.archive)) (archives.used_of depot.archive) (changed_by (rows_of depot.tables) changes) (after (taken step start places) (step (taken step start places) request).deeds)
       → (tables : Tables) (journal : Journal D)
-      → LeavesOnly moment left_since depot.journal.disk journal.disk (λ c. HasWithOrWithout m.was m.doubt c ⊎ HasWithOrWithout m.was (group text) c)
-      → (failed : Bool) → StandsBy may_leave journal m.was m.doubt text failed → (failed ≡ false → rows_of tables ≡ now) → (failed ≡ true → rows_of tables ≡ rows_of depot.tables)
+      → LeavesOnly moment left_since depot.journal.disk journal.disk (λ c. HasWithOrWithout m.was m.doubt c ⊎ HasWithOrWithout m.was written c)
+      → (failed : Bool) → StandsBy may_leave journal m.was m.doubt written failed → (failed ≡ false → rows_of tables ≡ now) → (failed ≡ true → rows_of tables ≡ rows_of depot.tables)
       → HasRun seen may_leave moment left_since (record { tables = tables; journal = journal; archive = depot.archive }) since start (places ++ placed_by request failed ∷ [])
-  committed since start places request m now text changes is made contents tables journal leaves false stands done kept =
-      has_run_done seen may_leave moment left_since depot since start places request m tables journal changes text (of_number since start places m text changes is.text_is) is.is_group is.fit made contents leaves stands (done refl ∙ is.rows_are)
-  committed since start places request m now text changes is made contents tables journal leaves true stands done kept =
-      has_run_failed seen may_leave moment left_since depot since start places request m tables journal changes text (of_number since start places m text changes is.text_is) is.is_group is.fit made contents leaves stands.0 stands.1 stands.2 (kept refl)
+  committed since start places request m now opens written changes some is made contents tables journal leaves failed stands done kept =
+      let count = m.stands.count in
+      let number : next_number depot.journal ≡ length m.was.groups + 1 = omega (arith, count) in
+      let with_it = is.has m.was number m.stands.generation m.has in
+      ended with_it failed stands done kept
+    where
+      ended : HasAllRows (with_doubtful m.was written) (changed_by (rows_of depot.tables) changes) → (failed : Bool) → StandsBy may_leave journal m.was m.doubt written failed → (failed ≡ false → rows_of tables ≡ now) → (failed ≡ true → rows_of tables ≡ rows_of depot.tables)
+          → HasRun seen may_leave moment left_since (record { tables = tables; journal = journal; archive = depot.archive }) since start (places ++ placed_by request failed ∷ [])
+      ended with_it false stands done kept =
+          has_run_done seen may_leave moment left_since depot since start places request m tables journal changes opens written some with_it (is.opened m.was) made contents leaves stands (done refl ∙ is.rows_are)
+      ended with_it true stands done kept =
+          has_run_failed seen may_leave moment left_since depot since start places request m tables journal changes opens written some with_it (is.opened m.was) made contents leaves stands.0 stands.1 stands.2 (kept refl)
 
 -- where no row has a content nothing is read
 pub none_read : (rows : AllRows) (d : List Deed) (reads : List Spot) (told : List Row) → StandAt rows d (contents_of told) reads → contents_of told ≡ [] → reads ≡ []

@@ -1,9 +1,9 @@
 -- Which depots an image stands for after places.
 use Rattle.std.proofs.Common.{◌≡◌, ◌⊎◌, ℕ, ◌+◌, true, List, length, take, refl, sym, ap, subst, ◌∙◌, inl, inr}
 use Rattle.outside_api.specs.Disk.{Files}
-use Rattle.disk_journal.specs.Images.{Committed, HasCommitted, with_group}
+use Rattle.disk_journal.specs.Images.{Committed, HasCommitted, with_generation, with_group}
 use Rattle.disk_journal.specs.Stands.{Doubtful, nothing, group, opening, HasWithOrWithout}
-use Rattle.table_changes.specs.Changed.{AllRows, changed_by}
+use Rattle.table_changes.specs.Changed.{AllRows}
 use Rattle.depot_runs.specs.Today.{step}
 use Rattle.depot_model.specs.Deeds.{Deed}
 use Rattle.depot_runs.specs.Kept.{IsKept, KeptInDoubt}
@@ -15,7 +15,6 @@ use Rattle.session_loop.specs.Taking.{placed_by}
 use Rattle.serial_depot.specs.Holding.{generation_in, SameContents, KeepContents, StandsWith}
 use Rattle.serial_depot.specs.Running.{IsOfFault, IsDoubtOf}
 use Rattle.serial_depot.proofs.Contents.{contents_alike}
-use Rattle.serial_depot.proofs.Groups.{group_added}
 use Rattle.serial_depot.proofs.Laws.{steps_alike, contents_after_alike}
 use Rattle.serial_depot.proofs.Places.{same_stand}
 
@@ -34,17 +33,16 @@ kept_leads P Q leads d places k (inr f) = inr (record {
 
 module _ (images : Files → Type 0) (used : ℕ) (was : Committed) (rows : AllRows) (start : List Deed) (places : List Placed) (has : HasAllRows was rows) (stand : Stand rows (taken step start places)) (generation : generation_in (taken step start places) ≡ was.generation) where
   -- With what one fault place would have done: the depot answers its request now as it did then.
-  pub kept_in_doubt : (text : List ℕ) → IsOfFault images used rows was start places text → (image : Files) → HasCommitted (with_group was text) image → KeptInDoubt (StandsWith images used image) start places
-  kept_in_doubt text f image committed =
+  pub kept_in_doubt : (left : Committed) → IsOfFault images used rows was left start places → (image : Files) → HasCommitted left image → KeptInDoubt (StandsWith images used image) start places
+  kept_in_doubt left f image committed =
       let earlier = taken step start f.before in
       let now = taken step start places in
       let deeds = (step earlier f.request).deeds in
       let same : step now f.request ≡ step earlier f.request = sym (steps_alike earlier now f.request f.stand.sound stand.sound (same_stand rows earlier now f.stand stand) f.same_contents) in
-      let After : Step → Type 0 = λ s. Stand (changed_by rows f.changes) (after now s.deeds) in
-      let Tells : Step → Type 0 = λ s. generation_in (after now s.deeds) ≡ was.generation in
+      let After : Step → Type 0 = λ s. Stand f.after_it (after now s.deeds) in
+      let Tells : Step → Type 0 = λ s. generation_in (after now s.deeds) ≡ left.generation in
       let same_contents : SameContents (after earlier deeds) (after now deeds) =
       contents_after_alike earlier now f.request f.stand.sound stand.sound (same_stand rows earlier now f.stand stand) f.same_contents in
-      let Has : Committed → Type 0 = λ w. HasAllRows w (changed_by rows f.changes) in
       record {
         before = f.before;
         faulty = placed_by f.request true;
@@ -53,16 +51,15 @@ module _ (images : Files → Type 0) (used : ℕ) (was : Committed) (rows : AllR
         fault = refl;
         quiet = f.quiet;
         stands = record {
-          was = with_group was text;
+          was = left;
           committed = committed;
-          rows = changed_by rows f.changes;
-          has = subst Has (ap (with_group was) (sym f.text_is)) (group_added was rows f.changes has f.is_group f.fit);
-          stand = subst After same (f.are_changes.stand now stand);
-          generation = subst Tells same (f.are_changes.generation now stand ∙ generation);
+          rows = f.after_it;
+          has = f.has;
+          stand = subst After same (f.stand_after now stand);
+          generation = subst Tells same (f.generation now stand generation);
           kept = record {
             ends = f.kept.ends;
-            contents = λ archive here.
-                contents_alike (changed_by rows f.changes) (changed_by rows f.changes) (after earlier deeds) (after now deeds) archive archive refl refl same_contents (f.kept.contents archive here);
+            contents = λ archive here. contents_alike f.after_it f.after_it (after earlier deeds) (after now deeds) archive archive refl refl same_contents (f.kept.contents archive here);
           };
         };
       }
@@ -72,5 +69,6 @@ module _ (images : Files → Type 0) (used : ℕ) (was : Committed) (rows : AllR
       → StandsWith images used image (taken step start places) ⊎ KeptInDoubt (StandsWith images used image) start places
   kept_now kept nothing none image committed = inl (record { was = was; committed = committed; rows = rows; has = has; stand = stand; generation = generation; kept = kept })
   kept_now kept (group text) f image (inl committed) = inl (record { was = was; committed = committed; rows = rows; has = has; stand = stand; generation = generation; kept = kept })
-  kept_now kept (group text) f image (inr committed) = inr (kept_in_doubt text f image committed)
-  kept_now kept (opening checkpoint) never image either = absurd never
+  kept_now kept (group text) f image (inr committed) = inr (kept_in_doubt (with_group was text) f image committed)
+  kept_now kept (opening checkpoint) f image (inl committed) = inl (record { was = was; committed = committed; rows = rows; has = has; stand = stand; generation = generation; kept = kept })
+  kept_now kept (opening checkpoint) f image (inr committed) = inr (kept_in_doubt (with_generation was checkpoint) f image committed)

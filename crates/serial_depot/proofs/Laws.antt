@@ -1,24 +1,26 @@
 -- What the step of each request does to a sound depot, as the driver asks for it: the laws of all requests.
-use Rattle.std.proofs.Common.{◌≡◌, ◌≢◌, Bool, true, false, List, [], Result, Ok, Err, refl, sym, subst}
-use Rattle.std.specs.Prelude.{All, IfOk, if◌then◌else◌}
+use Rattle.std.proofs.Common.{◌≡◌, ◌≢◌, ◌⊎◌, ℕ, ◌+◌, Bool, true, false, List, [], ◌∷◌, Option, Some, None, Result, Ok, Err, inl, inr, ⊎_elim, refl, sym, ap, subst, ◌∙◌}
+use Rattle.std.specs.Prelude.{All, IfOk, codes, nat_le, option_map, unwrap_or}
 use Rattle.db_records.specs.declared.change.Change.{Change}
 use Rattle.journal_groups.specs.Groups.{AreRecords}
 use Rattle.command_core.specs.Outcomes.{IsFormed, IsFormedBy}
 use Rattle.command_words.specs.WellFormed.{IsWellFormed}
 use Rattle.table_changes.specs.Changed.{AllRows}
-use Rattle.depot_model.specs.About.{about}
 use Rattle.depot_runs.specs.Built.{is_built}
-use Rattle.depot_model.specs.Commands.{built_step, whole_step}
 use Rattle.depot_runs.specs.Today.{step}
-use Rattle.depot_model.specs.Common.{word_refusal}
-use Rattle.depot_model.specs.Deeds.{Deed}
+use Rattle.db_records.specs.declared.record.Record.TheVariants.{Counter as CounterRow}
+use Rattle.depot_model.specs.Deeds.{Count, Deed}
+use Rattle.depot_model.specs.Latest.{count_of}
+use Rattle.depot_model.specs.Rows.{row, number_field}
 use Rattle.depot_model.specs.Records.{SameRows}
-use Rattle.depot_model.specs.Rules.{IsSound}
-use Rattle.depot_model.specs.Step.{Step, after, refuses}
+use Rattle.depot_model.specs.Rules.{IsSound, value_of}
+use Rattle.depot_model.specs.Step.{after, does, refuse_if, unless}
+use Rattle.depot_model.specs.Steps.Checkpoint.{checkpoint, generation}
 use Rattle.depot_model.specs.WellFormed.{is_command}
 use Rattle.depot_model.specs.declared.command.Command.{Command}
 use Rattle.depot_model.specs.declared.command.Command.TheVariants.{Checkpoint}
-use Rattle.depot_model.specs.declared.refusal.Refusal.TheVariants.{Unbuilt}
+use Rattle.depot_model.specs.declared.refusal.Limit.TheVariants.{Generation}
+use Rattle.depot_model.specs.declared.refusal.Refusal.TheVariants.{OverLimit}
 use Rattle.depot_model.specs.declared.request.Request.{Request}
 use Rattle.depot_model.specs.declared.request.WordFault.{WordFault}
 use Rattle.depot_rows.specs.Standing.{Stand}
@@ -28,12 +30,14 @@ use Rattle.sound_requests.proofs.All.{asked_sound}
 use Rattle.depots_alike.proofs.Staying as contents
 use Rattle.depots_alike.proofs.Twins.{Twins}
 use Rattle.depots_alike.proofs.Whole.{step_same}
-use Rattle.step_limits.proofs.Whole.{request_keeps_generation}
+use Rattle.step_limits.proofs.Whole.{request_keeps_generation, step_from}
 use Rattle.step_limits.specs.Limits.{CountsNoGeneration}
 use Rattle.row_texts.proofs.Changes.{changes_have_texts}
 use Rattle.row_texts.specs.Texts.{IsOf64Bits, is_counted}
 use Rattle.session_loop.specs.Taking.{IsProper}
 use Rattle.serial_depot.specs.Holding.{generation_in, SameContents}
+use Rattle.serial_depot.specs.Writing.{next_if}
+use Rattle.serial_depot.specs.Opening.{is_checkpoint, opens, opens_generation}
 
 -- ---- a sound depot stays sound
 
@@ -65,38 +69,64 @@ pub contents_after_alike : (d e : List Deed) (request : Request) → IsSound d �
 contents_after_alike d e request left right same_rows same_contents =
     contents.contents_stay d e (step d request).deeds (record { left = left; right = right; rows = same_rows; contents = same_contents })
 
--- ---- no command that is built opens a generation
+-- ---- a checkpoint that is not refused opens the next generation, and no other command opens one
 
--- the step of words that are no command, and of a command that isn't built, does nothing
-abbrev step_for : List Deed → Request → Result Command WordFault → Step
-step_for d request asked = elim asked [ Err fault ↦ refuses (word_refusal fault) | Ok command ↦ built_step is_built d request command ]
+abbrev no_deed_or_next : List Deed → List Deed → Type 0
+no_deed_or_next d deeds = (deeds ≡ []) ⊎ (generation_in (after d deeds) ≡ generation_in d + 1)
 
-module _ (d : List Deed) (request : Request) (P : List Deed → Type 0) (nothing : P []) where
-  where_built : (command : Command) (built : Bool) → is_built command ≡ built → (built ≡ true → P (step_for d request (Ok command)).deeds) → P (step_for d request (Ok command)).deeds
-  where_built command true e here = here refl
-  where_built command false e here =
-      let Q : Bool → Type 0 = λ b. P (if b then whole_step d request command else refuses (Unbuilt (about command).word)).deeds in
-      subst Q (sym e) nothing
+-- the counter of the generation, as a row and as deeds count it
+told_is_counted : (d : List Deed) → generation_in d ≡ generation d
+told_is_counted d = go (count_of d (codes "journal"))
+  where
+    go : (said : Option ℕ) → value_of (option_map (λ value. CounterRow (record { name = codes "journal"; value = value })) said) ≡ unwrap_or said 0
+    go None = refl
+    go (Some n) = refl
 
-  built_or_nothing : ((command : Command) → request.command ≡ Ok command → is_built command ≡ true → P (step d request).deeds) → P (step d request).deeds
-  built_or_nothing here = go request.command refl
-    where
-      go : (asked : Result Command WordFault) → request.command ≡ asked → P (step d request).deeds
-      go (Err fault) e = subst (λ (asked : Result Command WordFault). P (step_for d request asked).deeds) (sym e) nothing
-      go (Ok command) e =
-          let Q : Result Command WordFault → Type 0 = λ asked. P (step_for d request asked).deeds in
-          subst Q (sym e) (where_built command (is_built command) refl (λ built. subst Q e (here command e built)))
+checkpoint_opens : (d : List Deed) → no_deed_or_next d (checkpoint d).deeds
+checkpoint_opens d = go (nat_le 4095 (generation d))
+  where
+    go : (last : Bool) → no_deed_or_next d (unless (refuse_if last (OverLimit Generation) ∷ [])
+        (does (Count (codes "journal") (Some (generation d + 1)) ∷ []) (row (number_field (codes "journal") (generation d + 1) ∷ [])))).deeds
+    go true = inl refl
+    go false = inr (ap (λ (n : ℕ). n + 1) (sym (told_is_counted d)))
 
-no_checkpoint : (command : Command) → is_built command ≡ true → command ≢ Checkpoint
-no_checkpoint Checkpoint built = absurd cc
-no_checkpoint _ built = λ e. cc
+request_opens : (request : Request) (d : List Deed) → request.command ≡ Ok Checkpoint → no_deed_or_next d (step d request).deeds
+request_opens request d is = step_from (no_deed_or_next d) (inl refl) is_built d request Checkpoint is (checkpoint_opens d)
 
-pub generation_after : (request : Request) → IsProper request → (d : List Deed) → generation_in (after d (step d request).deeds) ≡ generation_in d
-generation_after request proper d =
-    built_or_nothing d request (λ deeds. generation_in (after d deeds) ≡ generation_in d) refl (λ command e built.
-    let formed : is_command command ≡ true = (subst (λ (asked : Result Command WordFault). IfOk asked IsWellFormed) e proper.0).form in
+other_stays : (request : Request) (command : Command) → IsProper request → request.command ≡ Ok command → command ≢ Checkpoint → (d : List Deed) → generation_in (after d (step d request).deeds) ≡ generation_in d
+other_stays request command proper is other d =
+    let formed : is_command command ≡ true = (subst (λ (asked : Result Command WordFault). IfOk asked IsWellFormed) is proper.0).form in
     let Counts : Result Command WordFault → Type 0 = λ asked. IfOk asked CountsNoGeneration in
-    request_keeps_generation is_built d request (subst Counts (sym e) (formed, no_checkpoint command built)))
+    request_keeps_generation is_built d request (subst Counts (sym is) (formed, other))
+
+fault_stays : (request : Request) (fault : WordFault) → request.command ≡ Err fault → (d : List Deed) → generation_in (after d (step d request).deeds) ≡ generation_in d
+fault_stays request fault is d =
+    let Counts : Result Command WordFault → Type 0 = λ asked. IfOk asked CountsNoGeneration in
+    request_keeps_generation is_built d request (subst Counts (sym is) tt)
+
+no_checkpoint : (command : Command) → is_checkpoint command ≡ false → command ≢ Checkpoint
+no_checkpoint Checkpoint other = absurd cc
+no_checkpoint _ other = λ e. cc
+
+only_checkpoint : (command : Command) → is_checkpoint command ≡ true → command ≡ Checkpoint
+only_checkpoint Checkpoint is = refl
+only_checkpoint _ is = absurd cc
+
+module _ (request : Request) (proper : IsProper request) (d : List Deed) (some : (step d request).deeds ≢ []) where
+  abbrev Opens : Bool → Type 0
+  Opens opened = generation_in (after d (step d request).deeds) ≡ next_if opened (generation_in d)
+
+  by_command : (command : Command) → request.command ≡ Ok command → (b : Bool) → is_checkpoint command ≡ b → Opens b
+  by_command command e true is = ⊎_elim (λ none. absurd (some none)) (λ next. next) (request_opens request d (e ∙ ap Ok (only_checkpoint command is)))
+  by_command command e false is = other_stays request command proper e (no_checkpoint command is) d
+
+  by_asked : (asked : Result Command WordFault) → request.command ≡ asked → Opens (opens asked)
+  by_asked (Err fault) e = fault_stays request fault e d
+  by_asked (Ok command) e = by_command command e (is_checkpoint command) refl
+
+-- after a request that does something
+pub generation_after : (request : Request) → IsProper request → (d : List Deed) → (step d request).deeds ≢ [] → generation_in (after d (step d request).deeds) ≡ next_if (opens_generation request) (generation_in d)
+generation_after request proper d some = by_asked request proper d some request.command refl
 
 -- ---- changes have texts
 

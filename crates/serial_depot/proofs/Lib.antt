@@ -10,3 +10,4 @@ mod Steps
 mod Moved
 mod Outcomes
 mod Finished
+mod Writings

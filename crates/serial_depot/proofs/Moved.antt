@@ -3,10 +3,10 @@ use Rattle.std.proofs.Common.{◌≡◌, ◌⊎◌, ℕ, ◌≤◌, List, length
 use Rattle.archive_file.specs.Archive as archives
 use Rattle.archive_file.specs.declared.archive.Archive.{Archive}
 use Rattle.outside_api.specs.Disk.{Files, LeavesOnly}
-use Rattle.disk_journal.specs.Images.{Committed}
+use Rattle.disk_journal.specs.Images.{Committed, with_generation, with_group}
 use Rattle.disk_journal.specs.Stands.{Doubtful, nothing, group, opening, HasWithOrWithout, Stands}
 use Rattle.disk_journal.specs.declared.journal.Journal.{Journal}
-use Rattle.table_changes.specs.Changed.{AllRows, changed_by, rows_of}
+use Rattle.table_changes.specs.Changed.{AllRows, rows_of}
 use Rattle.table_store.specs.declared.tables.Tables.{Tables}
 use Rattle.depot_runs.specs.Today.{step}
 use Rattle.depot_model.specs.Deeds.{Deed}
@@ -36,14 +36,8 @@ module _ (old new : Files → Type 0) (used used' : ℕ) (le : used ≤ used') (
     kept = contents_kept old new used used' s.rows d le keeps s.stand s.kept;
   }
 
-  doubt_moved : (rows : AllRows) (was : Committed) (start : List Deed) (places : List Placed) (doubt : Doubtful) → IsDoubtOf old used rows was start places doubt → IsDoubtOf new used' rows was start places doubt
-  doubt_moved rows was start places nothing none = tt
-  doubt_moved rows was start places (opening checkpoint) never = never
-  doubt_moved rows was start places (group text) f = record {
-    changes = f.changes;
-    is_group = f.is_group;
-    text_is = f.text_is;
-    fit = f.fit;
+  fault_moved : (rows : AllRows) (was now : Committed) (start : List Deed) (places : List Placed) → IsOfFault old used rows was now start places → IsOfFault new used' rows was now start places
+  fault_moved rows was now start places f = record {
     before = f.before;
     request = f.request;
     later = f.later;
@@ -51,9 +45,17 @@ module _ (old new : Files → Type 0) (used used' : ℕ) (le : used ≤ used') (
     quiet = f.quiet;
     stand = f.stand;
     same_contents = f.same_contents;
-    are_changes = f.are_changes;
-    kept = contents_kept old new used used' (changed_by rows f.changes) _ le keeps (f.are_changes.stand (taken step start f.before) f.stand) f.kept;
+    after_it = f.after_it;
+    has = f.has;
+    stand_after = f.stand_after;
+    generation = f.generation;
+    kept = contents_kept old new used used' f.after_it _ le keeps (f.stand_after (taken step start f.before) f.stand) f.kept;
   }
+
+  doubt_moved : (rows : AllRows) (was : Committed) (start : List Deed) (places : List Placed) (doubt : Doubtful) → IsDoubtOf old used rows was start places doubt → IsDoubtOf new used' rows was start places doubt
+  doubt_moved rows was start places nothing none = tt
+  doubt_moved rows was start places (group text) f = fault_moved rows was (with_group was text) start places f
+  doubt_moved rows was start places (opening checkpoint) f = fault_moved rows was (with_generation was checkpoint) start places f
 
   sometime_moved : (start : List Deed) (places : List Placed) (image : Files) → IsKeptSometime old used start places image → IsKeptSometime new used' start places image
   sometime_moved start places image (k, within, kept) = (k, within, kept_leads (StandsWith old used image) (StandsWith new used' image) (stands_moved image) start places k kept)

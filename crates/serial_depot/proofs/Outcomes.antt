@@ -1,5 +1,5 @@
 -- What the outcome of a request promises to who gives it its place.
-use Rattle.std.proofs.Common.{◌≡◌, ℕ, Bool, true, false, List, [], ◌∷◌, Result, Ok, Err, refl, ap, ◌∙◌}
+use Rattle.std.proofs.Common.{◌≡◌, ℕ, Bool, true, false, List, [], ◌∷◌, Result, Ok, Err, refl, sym, ap, ◌∙◌}
 use Rattle.std.specs.Prelude.{All, if◌then◌else◌}
 use Rattle.db_records.specs.declared.change.Change.{Change}
 use Rattle.command_core.specs.Outcomes.{HasNeeded}
@@ -8,6 +8,7 @@ use Rattle.depot_runs.specs.Today.{step}
 use Rattle.depot_model.specs.Deeds.{Deed}
 use Rattle.depot_model.specs.Places.{Placed, taken, told_at}
 use Rattle.depot_model.specs.Printed.{printed}
+use Rattle.depot_model.specs.Records.{record_of}
 use Rattle.depot_model.specs.Rows.{disk_row}
 use Rattle.depot_model.specs.Step.{after}
 use Rattle.depot_model.specs.declared.order.Answer.{Answer}
@@ -21,6 +22,8 @@ use Rattle.row_texts.specs.Texts.{IsOf64Bits, is_counted}
 use Rattle.sound_requests.specs.Asked.{is_typed}
 use Rattle.session_loop.specs.Taking.{Answers, IsProper, place_by, placed_by}
 use Rattle.serial_depot.specs.Committing.{AreChangesOf, IsToldAt}
+use Rattle.serial_depot.specs.Opening.{opens_generation}
+use Rattle.serial_depot.proofs.Differences.{no_changes}
 use Rattle.serial_depot.proofs.Laws.{sound_after, generation_after, are_records}
 
 -- the tables that it needs have the rows of the depot
@@ -34,12 +37,17 @@ has_needed rows d request stand = go request.command refl
 -- what differs after its step, whichever depot has the rows, are changes of it
 pub are_changes : (rows : AllRows) (d : List Deed) (request : Request) (changes : List Change) → Stand rows d → IsProper request → is_typed request ≡ true
     → ((e : List Deed) → Stand rows e → AreDifferences rows e (after e (step e request).deeds) changes) → All (λ (change : Change). IsOf64Bits change.row) changes
-    → All (λ (change : Change). is_counted change.row ≡ true) changes → AreChangesOf rows request changes
+    → All (λ (change : Change). is_counted change.row ≡ true) changes → AreChangesOf rows request (opens_generation request) changes
 are_changes rows d request changes stand proper typed differences small counted = record {
   records = are_records rows d request changes proper typed stand (differences d stand) small counted;
   stand = λ e here. record { sound = sound_after request proper typed e here.sound; each = λ table. (differences e here).left table (here.each table) };
-  generation = λ e here. generation_after request proper e;
+  generation = λ e here some. generation_after request proper e (λ none. some (nothing_changed e here none));
 }
+  where
+    -- no deed changes nothing
+    nothing_changed : (e : List Deed) → Stand rows e → (step e request).deeds ≡ [] → changes ≡ []
+    nothing_changed e here none =
+        no_changes rows e (after e (step e request).deeds) changes here (λ key. ap (λ (deeds : List Deed). record_of (after e deeds) key) (sym none)) (differences e here)
 
 -- ---- the answer
 

@@ -1,21 +1,22 @@
 -- A depot in files after one place more.
-use Rattle.std.proofs.Common.{◌≡◌, ◌⊎◌, ℕ, ◌≤◌, ◌+◌, Bool, true, false, List, [], ◌∷◌, ◌++◌, length, Some, refl, sym, ap, subst, ◌∙◌, inl, inr, ⊎_elim, arith, append_assoc}
+use Rattle.std.proofs.Common.{◌≡◌, ◌≢◌, ◌⊎◌, ℕ, ◌≤◌, ◌+◌, Bool, true, false, List, [], ◌∷◌, ◌++◌, length, Some, refl, sym, ap, subst, ◌∙◌, inl, inr, ⊎_elim, arith, append_assoc}
 use Rattle.std.proofs.lemmas.List.{length_push}
+use Rattle.std.specs.Prelude.{codes}
 use Rattle.archive_file.specs.Archive as archives
+use Rattle.db_records.specs.declared.key.Key.TheVariants as keys
 use Rattle.outside_api.specs.Disk.{Files, LeavesOnly}
 use Rattle.db_records.specs.declared.change.Change.{Change}
-use Rattle.journal_groups.specs.Groups.{group_text, IsGroup}
-use Rattle.disk_journal.specs.Images.{Committed, HasCommitted, with_group}
+use Rattle.disk_journal.specs.Images.{Committed, HasCommitted, with_generation, with_group}
 use Rattle.disk_journal.specs.Stands.{Doubtful, nothing, group, opening, HasWithOrWithout, Stands}
 use Rattle.disk_journal.specs.declared.journal.Journal.{Journal}
-use Rattle.journal_runs.specs.Runs.{IsAfterFault}
-use Rattle.table_changes.specs.Changed.{AllRows, AllFitIn, changed_by, rows_of}
+use Rattle.table_changes.specs.Changed.{AllRows, changed_by, rows_of}
 use Rattle.table_store.specs.declared.tables.Tables.{Tables}
 use Rattle.depot_runs.specs.Today.{step}
 use Rattle.depot_model.specs.Deeds.{Deed}
 use Rattle.depot_runs.specs.Kept.{IsChange}
 use Rattle.depot_model.specs.Places.{Placed, done_at, taken}
 use Rattle.depot_model.specs.Records.{SameRows}
+use Rattle.depot_model.specs.Rules.{value_of}
 use Rattle.depot_model.specs.Step.{after}
 use Rattle.depot_model.specs.Steps.Submitting.{content_at}
 use Rattle.depot_model.specs.declared.request.Request.{Request}
@@ -24,10 +25,10 @@ use Rattle.recovery.specs.Holding.{HasAllRows}
 use Rattle.session_loop.specs.Taking.{placed_by}
 use Rattle.serial_depot.specs.Committing.{AreChangesOf}
 use Rattle.serial_depot.specs.Holding.{generation_in, SameContents, KeepContents, StandsWith, IsKeptSometime}
+use Rattle.serial_depot.specs.Writing.{IsLeft, next_if, with_doubtful}
 use Rattle.serial_depot.specs.Running.{IsOfFault, IsDoubtOf, HasRun}
 use Rattle.serial_depot.specs.declared.depot.SerialDepot.{SerialDepot}
 use Rattle.serial_depot.proofs.Contents.{contents_alike}
-use Rattle.serial_depot.proofs.Groups.{group_added}
 use Rattle.serial_depot.proofs.Kept.{kept_in_doubt, kept_now}
 use Rattle.serial_depot.proofs.Places.{taken-push, taken-append, quiet_more, same_stand, no_difference, kept_more, kept_whole}
 use Rattle.serial_depot.proofs.Staying.{contents_stay}
@@ -40,32 +41,47 @@ sometime_more : (images : Files → Type 0) (used : ℕ) (start : List Deed) (pl
 sometime_more images used start places p image (k, le, kept) = (k, omega (arith, length_push places p), kept_more (StandsWith images used image) start places p k le kept)
 
 -- the depot after a fault place, which does nothing, and the places after it
-behind_fault : (images : Files → Type 0) (used : ℕ) (rows : AllRows) (was : Committed) (start : List Deed) (places : List Placed) (text : List ℕ) → (f : IsOfFault images used rows was start places text) → taken step start places ≡ taken step (taken step start f.before) f.later
-behind_fault images used rows was start places text f = ap (taken step start) f.parts ∙ taken-append start f.before (placed_by f.request true ∷ f.later)
+behind_fault : (images : Files → Type 0) (used : ℕ) (rows : AllRows) (was now : Committed) (start : List Deed) (places : List Placed) → (f : IsOfFault images used rows was now start places) → taken step start places ≡ taken step (taken step start f.before) f.later
+behind_fault images used rows was now start places f = ap (taken step start) f.parts ∙ taken-append start f.before (placed_by f.request true ∷ f.later)
 
--- one more place, after which the depot is another with the same rows and contents, leaves in doubt what was
-doubt_more : (images : Files → Type 0) (used : ℕ) (rows : AllRows) (was : Committed) (start : List Deed) (places : List Placed) (p : Placed) (doubt : Doubtful) → (IsChange (taken step start places) p → ⊥)
-    → SameContents (taken step start places) (taken step start (places ++ p ∷ []))
-    → IsDoubtOf images used rows was start places doubt → IsDoubtOf images used rows was start (places ++ p ∷ []) doubt
-doubt_more images used rows was start places p nothing idle same_contents h = tt
-doubt_more images used rows was start places p (opening checkpoint) idle same_contents h = h
-doubt_more images used rows was start places p (group text) idle same_contents f =
-    let Idle : List Deed → Type 0 = λ d. IsChange d p → ⊥ in
-    record {
-      changes = f.changes;
-      is_group = f.is_group;
-      text_is = f.text_is;
-      fit = f.fit;
-      before = f.before;
-      request = f.request;
-      later = f.later ++ p ∷ [];
-      parts = ap (λ (ps : List Placed). ps ++ p ∷ []) f.parts ∙ append_assoc f.before (placed_by f.request true ∷ f.later) (p ∷ []);
-      quiet = quiet_more (taken step start f.before) f.later p f.quiet (subst Idle (behind_fault images used rows was start places text f) idle);
-      stand = f.stand;
-      same_contents = λ path n. f.same_contents path n ∙ same_contents path n;
-      are_changes = f.are_changes;
-      kept = f.kept;
-    }
+module _ (images : Files → Type 0) (used : ℕ) (rows : AllRows) (was : Committed) (start : List Deed) (places : List Placed) (p : Placed) (idle : IsChange (taken step start places) p → ⊥)
+    (same_contents : SameContents (taken step start places) (taken step start (places ++ p ∷ []))) where
+  fault_more : (now : Committed) → IsOfFault images used rows was now start places → IsOfFault images used rows was now start (places ++ p ∷ [])
+  fault_more now f =
+      let Idle : List Deed → Type 0 = λ d. IsChange d p → ⊥ in
+      record {
+        before = f.before;
+        request = f.request;
+        later = f.later ++ p ∷ [];
+        parts = ap (λ (ps : List Placed). ps ++ p ∷ []) f.parts ∙ append_assoc f.before (placed_by f.request true ∷ f.later) (p ∷ []);
+        quiet = quiet_more (taken step start f.before) f.later p f.quiet (subst Idle (behind_fault images used rows was now start places f) idle);
+        stand = f.stand;
+        same_contents = λ path n. f.same_contents path n ∙ same_contents path n;
+        after_it = f.after_it;
+        has = f.has;
+        stand_after = f.stand_after;
+        generation = f.generation;
+        kept = f.kept;
+      }
+
+  -- one more place, after which the depot is another with the same rows and contents, leaves in doubt what was
+  doubt_more : (doubt : Doubtful) → IsDoubtOf images used rows was start places doubt → IsDoubtOf images used rows was start (places ++ p ∷ []) doubt
+  doubt_more nothing h = tt
+  doubt_more (group text) f = fault_more (with_group was text) f
+  doubt_more (opening checkpoint) f = fault_more (with_generation was checkpoint) f
+
+-- an image with or without what was written
+either_way : (was : Committed) (written : Doubtful) (image : Files) → HasWithOrWithout was written image → HasCommitted was image ⊎ HasCommitted (with_doubtful was written) image
+either_way was nothing image committed = inl committed
+either_way was (group text) image either = either
+either_way was (opening checkpoint) image either = either
+
+-- what was written is in doubt, where a fault place has written it
+doubt_of_it : (images : Files → Type 0) (used : ℕ) (rows : AllRows) (was : Committed) (start : List Deed) (places : List Placed) (written : Doubtful)
+    → IsOfFault images used rows was (with_doubtful was written) start places → IsDoubtOf images used rows was start places written
+doubt_of_it images used rows was start places nothing f = tt
+doubt_of_it images used rows was start places (group text) f = f
+doubt_of_it images used rows was start places (opening checkpoint) f = f
 
 module _ {D : Type 0} (seen may_leave : D → Files → Type 0) (moment : D → ℕ) (left_since : D → ℕ → Files → Type 0) (depot : SerialDepot D) (since : ℕ) (start : List Deed) (places : List Placed) (request : Request) (h : HasRun seen may_leave moment left_since depot since start places) where
   abbrev current : List Deed
@@ -113,14 +129,14 @@ module _ {D : Type 0} (seen may_leave : D → Files → Type 0) (moment : D → 
         generation = ap generation_in failed_is ∙ h.generation;
         tells = h.tells;
         kept = subst With (sym failed_is) h.kept;
-        in_doubt = doubt_more images used rows h.was start places (placed_by request true) h.doubt (λ change. absurd (true_is_not_false change.0)) contents_failed h.in_doubt;
+        in_doubt = doubt_more images used rows h.was start places (placed_by request true) (λ change. absurd (true_is_not_false change.0)) contents_failed h.doubt h.in_doubt;
         later = h.later;
         any_moment = λ image left. sometime_more images used start places (placed_by request true) image (h.any_moment image left);
       }
 
   -- the command changed no row
-  pub has_run_idle : AreChangesOf rows request [] → HasRun seen may_leave moment left_since depot since start done
-  has_run_idle made =
+  pub has_run_idle : (opens : Bool) → AreChangesOf rows request opens [] → HasRun seen may_leave moment left_since depot since start done
+  has_run_idle opens made =
       let stand : Stand rows (after current deeds) = made.stand current h.stand in
       let same_rows : SameRows current (after current deeds) = same_stand rows current (after current deeds) h.stand stand in
       let same_contents : SameContents current (after current deeds) = contents_stay current deeds h.stand.sound stand.sound same_rows in
@@ -133,32 +149,27 @@ module _ {D : Type 0} (seen may_leave : D → Files → Type 0) (moment : D → 
         stands = h.stands;
         has = h.has;
         stand = subst On (sym done_is) stand;
-        generation = ap generation_in done_is ∙ (made.generation current h.stand ∙ h.generation);
+        generation = ap generation_in done_is ∙ (sym (ap value_of (same_rows (keys.Counter (codes "journal")))) ∙ h.generation);
         tells = h.tells;
         kept = subst With (sym done_is) (record {
           ends = h.kept.ends;
           contents = λ archive here. contents_alike rows rows current (after current deeds) archive archive refl refl same_contents (h.kept.contents archive here);
         });
-        in_doubt = doubt_more images used rows h.was start places (placed_by request false) h.doubt (λ change. no_difference current (after current deeds) same_rows change.1) (subst Contents (sym done_is) same_contents) h.in_doubt;
+        in_doubt = doubt_more images used rows h.was start places (placed_by request false) (λ change. no_difference current (after current deeds) same_rows change.1) (subst Contents (sym done_is) same_contents) h.doubt h.in_doubt;
         later = h.later;
         any_moment = λ image left. sometime_more images used start places (placed_by request false) image (h.any_moment image left);
       }
 
-  module _ (tables' : Tables) (journal' : Journal D) (changes : List Change) (text : List ℕ) (text_is : text ≡ group_text (length h.was.groups + 1) changes) (is_group : IsGroup changes) (fit : AllFitIn rows changes) (made : AreChangesOf rows request changes)
-      (with_contents : KeepContents images used (changed_by rows changes) (after current deeds)) (leaves : LeavesOnly moment left_since depot.journal.disk journal'.disk (λ c. HasWithOrWithout h.was h.doubt c ⊎ HasWithOrWithout h.was (group text) c)) where
+  module _ (tables' : Tables) (journal' : Journal D) (changes : List Change) (opens : Bool) (written : Doubtful) (some : changes ≢ []) (with_it : HasAllRows (with_doubtful h.was written) (changed_by rows changes))
+      (opened : (with_doubtful h.was written).generation ≡ next_if opens h.was.generation) (made : AreChangesOf rows request opens changes)
+      (with_contents : KeepContents images used (changed_by rows changes) (after current deeds)) (leaves : LeavesOnly moment left_since depot.journal.disk journal'.disk (λ c. HasWithOrWithout h.was h.doubt c ⊎ HasWithOrWithout h.was written c)) where
     abbrev depot' : SerialDepot D
     depot' = record { tables = tables'; journal = journal'; archive = depot.archive }
 
-    -- the committed rows with the group
-    with_it : HasAllRows (with_group h.was text) (changed_by rows changes)
-    with_it =
-        let P : List ℕ → Type 0 = λ t. HasAllRows (with_group h.was t) (changed_by rows changes) in
-        subst P (sym text_is) (group_added h.was rows changes h.has is_group fit)
-
-    -- each image since is kept, where each that has the group is
-    moments : (p : Placed) → ((image : Files) → HasCommitted (with_group h.was text) image → IsKeptSometime images used start (places ++ p ∷ []) image) → (image : Files) → left_since journal'.disk since image
+    -- each image since is kept, where each that has what was written is
+    moments : (p : Placed) → ((image : Files) → HasCommitted (with_doubtful h.was written) image → IsKeptSometime images used start (places ++ p ∷ []) image) → (image : Files) → left_since journal'.disk since image
         → IsKeptSometime images used start (places ++ p ∷ []) image
-    moments p with_group_kept image left =
+    moments p with_it_kept image left =
         let was_kept : (doubt : Doubtful) → IsDoubtOf images used rows h.was start places doubt → HasWithOrWithout h.was doubt image → IsKeptSometime images used start (places ++ p ∷ []) image
         = λ doubt in_doubt has_it.
         sometime_more images used start places p image (length places, omega arith, kept_whole (StandsWith images used image) start places (kept_now images used h.was rows start places h.has h.stand h.generation h.kept doubt in_doubt image has_it)) in
@@ -166,23 +177,24 @@ module _ {D : Type 0} (seen may_leave : D → Files → Type 0) (moment : D → 
         (λ was_left. sometime_more images used start places p image (h.any_moment image was_left))
         (λ fresh. ⊎_elim
         (was_kept h.doubt h.in_doubt)
-        (λ either. ⊎_elim (was_kept nothing tt) (with_group_kept image) either)
+        (λ either. ⊎_elim (was_kept nothing tt) (with_it_kept image) (either_way h.was written image either))
         fresh)
         (leaves.before since image h.later left)
 
-    -- the commit is done
-    pub has_run_done : Stands may_leave journal' (with_group h.was text) nothing → rows_of tables' ≡ changed_by rows changes → HasRun seen may_leave moment left_since depot' since start done
+    -- it is done
+    pub has_run_done : Stands may_leave journal' (with_doubtful h.was written) nothing → rows_of tables' ≡ changed_by rows changes → HasRun seen may_leave moment left_since depot' since start done
     has_run_done stands rows_are =
         let On : List Deed → Type 0 = Stand (changed_by rows changes) in
         let now : Stand (changed_by rows changes) (taken step start done) = subst On (sym done_is) (made.stand current h.stand) in
-        let generation : generation_in (taken step start done) ≡ h.was.generation = ap generation_in done_is ∙ (made.generation current h.stand ∙ h.generation) in
-        let Has : AllRows → Type 0 = HasAllRows (with_group h.was text) in
+        let generation : generation_in (taken step start done) ≡ (with_doubtful h.was written).generation =
+        ap generation_in done_is ∙ (made.generation current h.stand some ∙ ap (next_if opens) h.generation ∙ sym opened) in
+        let Has : AllRows → Type 0 = HasAllRows (with_doubtful h.was written) in
         let OnRows : AllRows → Type 0 = λ r. Stand r (taken step start done) in
         let With : List Deed → Type 0 = KeepContents images used (changed_by rows changes) in
         let WithRows : AllRows → Type 0 = λ r. KeepContents images used r (taken step start done) in
         let kept : KeepContents images used (changed_by rows changes) (taken step start done) = subst With (sym done_is) with_contents in
         record {
-          was = with_group h.was text;
+          was = with_doubtful h.was written;
           doubt = nothing;
           stands = stands;
           has = subst Has (sym rows_are) with_it;
@@ -195,17 +207,13 @@ module _ {D : Type 0} (seen may_leave : D → Files → Type 0) (moment : D → 
           any_moment = moments (placed_by request false) (λ image committed. (
             length done,
             omega arith,
-            kept_whole (StandsWith images used image) start done (inl (record { was = with_group h.was text; committed = committed; rows = changed_by rows changes; has = with_it; stand = now; generation = generation; kept = kept })),
+            kept_whole (StandsWith images used image) start done (inl (record { was = with_doubtful h.was written; committed = committed; rows = changed_by rows changes; has = with_it; stand = now; generation = generation; kept = kept })),
           ));
         }
 
     -- what the fault place would have done
-    of_this_fault : IsOfFault images used rows h.was start failed text
+    of_this_fault : IsOfFault images used rows h.was (with_doubtful h.was written) start failed
     of_this_fault = record {
-      changes = changes;
-      is_group = is_group;
-      text_is = text_is;
-      fit = fit;
       before = places;
       request = request;
       later = [];
@@ -213,19 +221,24 @@ module _ {D : Type 0} (seen may_leave : D → Files → Type 0) (moment : D → 
       quiet = tt;
       stand = h.stand;
       same_contents = contents_failed;
-      are_changes = made;
+      after_it = changed_by rows changes;
+      has = with_it;
+      stand_after = made.stand;
+      generation = λ d stand is. made.generation d stand some ∙ ap (next_if opens) is ∙ sym opened;
       kept = with_contents;
     }
 
-    doubt_after : (now : Doubtful) → IsAfterFault h.doubt text now → IsDoubtOf images used rows h.was start failed now
+    doubt_after : (now : Doubtful) → IsLeft h.doubt written now → IsDoubtOf images used rows h.was start failed now
     doubt_after now (inl same) =
         let P : Doubtful → Type 0 = IsDoubtOf images used rows h.was start failed in
-        subst P (sym same) (doubt_more images used rows h.was start places (placed_by request true) h.doubt (λ change. absurd (true_is_not_false change.0)) contents_failed h.in_doubt)
+        subst P (sym same) (doubt_more images used rows h.was start places (placed_by request true) (λ change. absurd (true_is_not_false change.0)) contents_failed h.doubt h.in_doubt)
     doubt_after now (inr (inl none)) = let P : Doubtful → Type 0 = IsDoubtOf images used rows h.was start failed in subst P (sym none) tt
-    doubt_after now (inr (inr this)) = let P : Doubtful → Type 0 = IsDoubtOf images used rows h.was start failed in subst P (sym this) of_this_fault
+    doubt_after now (inr (inr this)) =
+        let P : Doubtful → Type 0 = IsDoubtOf images used rows h.was start failed in
+        subst P (sym this) (doubt_of_it images used rows h.was start failed written of_this_fault)
 
-    -- the commit failed
-    pub has_run_failed : (now : Doubtful) → IsAfterFault h.doubt text now → Stands may_leave journal' h.was now → rows_of tables' ≡ rows → HasRun seen may_leave moment left_since depot' since start failed
+    -- it failed
+    pub has_run_failed : (now : Doubtful) → IsLeft h.doubt written now → Stands may_leave journal' h.was now → rows_of tables' ≡ rows → HasRun seen may_leave moment left_since depot' since start failed
     has_run_failed now after_fault stands rows_are =
         let On : List Deed → Type 0 = Stand rows in
         let Has : AllRows → Type 0 = HasAllRows h.was in
@@ -248,6 +261,6 @@ module _ {D : Type 0} (seen may_leave : D → Files → Type 0) (moment : D → 
           any_moment = moments (placed_by request true) (λ image committed. (
             length failed,
             omega arith,
-            kept_whole (StandsWith images used image) start failed (inr (kept_in_doubt images used h.was rows start failed h.has (subst On (sym failed_is) h.stand) generation text of_this_fault image committed)),
+            kept_whole (StandsWith images used image) start failed (inr (kept_in_doubt images used h.was rows start failed h.has (subst On (sym failed_is) h.stand) generation (with_doubtful h.was written) of_this_fault image committed)),
           ));
         }

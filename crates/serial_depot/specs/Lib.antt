@@ -1,4 +1,6 @@
 pub mod Committing
 pub mod Holding
+pub mod Opening
 pub mod Running
 pub mod Storing
+pub mod Writing

@@ -1,12 +1,10 @@
 -- A depot in files that has taken commands.
-use Rattle.std.specs.Prelude.{◌≡◌, ℕ, ◌≤◌, ◌+◌, true, List, ◌∷◌, ◌++◌, length}
+use Rattle.std.specs.Prelude.{◌≡◌, ℕ, ◌≤◌, true, List, ◌∷◌, ◌++◌, length}
 use Rattle.outside_api.specs.Disk.{Files}
 use Rattle.archive_file.specs.Archive as archives
-use Rattle.db_records.specs.declared.change.Change.{Change}
-use Rattle.journal_groups.specs.Groups.{group_text, IsGroup}
-use Rattle.disk_journal.specs.Images.{Committed}
+use Rattle.disk_journal.specs.Images.{Committed, with_generation, with_group}
 use Rattle.disk_journal.specs.Stands.{Doubtful, nothing, group, opening, Stands}
-use Rattle.table_changes.specs.Changed.{AllRows, AllFitIn, changed_by, rows_of}
+use Rattle.table_changes.specs.Changed.{AllRows, rows_of}
 use Rattle.depot_runs.specs.Today.{step}
 use Rattle.depot_model.specs.Deeds.{Deed}
 use Rattle.depot_runs.specs.Kept.{NoChange}
@@ -16,18 +14,14 @@ use Rattle.depot_model.specs.declared.request.Request.{Request}
 use Rattle.depot_rows.specs.Standing.{Stand}
 use Rattle.recovery.specs.Holding.{HasAllRows}
 use Rattle.session_loop.specs.Taking.{placed_by}
-use Rattle.serial_depot.specs.Committing.{AreChangesOf}
 use Rattle.serial_depot.specs.Holding.{generation_in, SameContents, KeepContents, IsKeptSometime}
 use Rattle.serial_depot.specs.Storing.{AllReach}
 use Rattle.serial_depot.specs.declared.depot.SerialDepot.{SerialDepot}
 
--- The group is that of the changes of a fault place. No place after it is a change, so that the depot has the same rows and contents as before it.
--- These images of the archive's disk, which is used up to a place, have the contents with the group too.
-pub record IsOfFault (images : Files → Type 0) (used : ℕ) (rows : AllRows) (was : Committed) (start : List Deed) (places : List Placed) (text : List ℕ) : Type 0 where
-  pub changes : List Change
-  pub is_group : IsGroup changes
-  pub text_is : text ≡ group_text (length was.groups + 1) changes
-  pub fit : AllFitIn rows changes
+-- A fault place would have left this committed, with rows of its own: those of each depot with these rows after the step of its request. No place after
+-- it is a change, so that the depot has the same rows and contents as before it. These images of the archive's disk, which is used up to a place, have
+-- the contents with it too.
+pub record IsOfFault (images : Files → Type 0) (used : ℕ) (rows : AllRows) (was now : Committed) (start : List Deed) (places : List Placed) : Type 0 where
   pub before : List Placed
   pub request : Request
   pub later : List Placed
@@ -35,17 +29,20 @@ pub record IsOfFault (images : Files → Type 0) (used : ℕ) (rows : AllRows) (
   pub quiet : NoChange (taken step start before) later
   pub stand : Stand rows (taken step start before)
   pub same_contents : SameContents (taken step start before) (taken step start places)
-  pub are_changes : AreChangesOf rows request changes
-  pub kept : KeepContents images used (changed_by rows changes) (after (taken step start before) (step (taken step start before) request).deeds)
+  pub after_it : AllRows
+  pub has : HasAllRows now after_it
+  pub stand_after : (d : List Deed) → Stand rows d → Stand after_it (after d (step d request).deeds)
+  pub generation : (d : List Deed) → Stand rows d → generation_in d ≡ was.generation → generation_in (after d (step d request).deeds) ≡ now.generation
+  pub kept : KeepContents images used after_it (after (taken step start before) (step (taken step start before) request).deeds)
 
--- what is in doubt after places
+-- what is in doubt after places: nothing, or the group or the generation of a fault place
 abbrev pub IsDoubtOf : (Files → Type 0) → ℕ → AllRows → Committed → List Deed → List Placed → Doubtful → Type 0
 IsDoubtOf images used rows was start places nothing = Unit {0}
-IsDoubtOf images used rows was start places (group text) = IsOfFault images used rows was start places text
-IsDoubtOf images used rows was start places (opening checkpoint) = ⊥
+IsDoubtOf images used rows was start places (group text) = IsOfFault images used rows was (with_group was text) start places
+IsDoubtOf images used rows was start places (opening checkpoint) = IsOfFault images used rows was (with_generation was checkpoint) start places
 
 -- Since that moment the depot took the commands of these places, from the depot `start` on: its tables have the rows of the run, the journal has
--- them too and at most one group in doubt, the archive's disk tells what it reads, each image of it has the contents, below the end of what is used,
+-- them too and at most one group or generation in doubt, the archive's disk tells what it reads, each image of it has the contents, below the end of what is used,
 -- and each image of the journal's disk since is kept for some of the places.
 pub record HasRun {D : Type 0} (seen may_leave : D → Files → Type 0) (moment : D → ℕ) (left_since : D → ℕ → Files → Type 0) (depot : SerialDepot D) (since : ℕ) (start : List Deed) (places : List Placed) : Type 0 where
   pub was : Committed

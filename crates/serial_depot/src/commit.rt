@@ -5,19 +5,19 @@ ghost use Rattle.depot_model.specs.Printed.{printed};
 ghost use Rattle.depot_model.specs.Rows.{disk_row};
 ghost use Rattle.db_records.specs.declared.change.Change.{Change};
 ghost use Rattle.disk_journal.specs.Images.{Committed};
-ghost use Rattle.disk_journal.specs.Stands.{Doubtful, group, HasWithOrWithout, IsPrepared, Stands, disk_of, group_of, next_number};
+ghost use Rattle.disk_journal.specs.Stands.{Doubtful, HasWithOrWithout, Stands, disk_of};
 ghost use Rattle.journal_groups.specs.Groups.{body_of};
 ghost use Rattle.outside_api.specs.Count.{HasRisen};
 ghost use Rattle.outside_api.specs.Disk.{LeavesOnly};
-ghost use Rattle.serial_depot.specs.Committing.{StandsBy};
+ghost use Rattle.serial_depot.specs.Writing.{CanWrite, StandsBy, left_by};
 
+use crate::writing::{Writing, write};
 use db_records::Change;
 use depot_path::Text;
-use disk_journal::{Journal, Prepared};
+use disk_journal::Journal;
 use itoa::Buffer;
 use journal_groups::print_group;
-use journal_runs::commit_settled;
-use outside_api::{Disk, DiskFault};
+use outside_api::Disk;
 use std::alloc::{AllocError, Global};
 use table_store::Tables;
 
@@ -39,31 +39,29 @@ pub(crate) fn measure(alloc: Global, changes: &[Change]) -> Result<usize, AllocE
     Ok(text.len())
 }
 
-/// Settles what is in doubt, commits a group, and puts the tables after it in the place of those
-/// before. Answers whether the disk has failed; then the tables stay.
+/// Settles what is in doubt, writes, and puts the tables after it in the place of those before. Answers
+/// whether the disk has failed; then the tables stay.
 pub(crate) fn commit<D: Disk>(
     tables: &mut Tables,
     journal: &mut Journal<D>,
     changed: Tables,
-    prepared: Prepared,
+    writing: Writing,
 ) -> bool
     requires stands { (was : Committed) × ((doubt : Doubtful) × Stands D.may_leave journal.old was doubt) }
-    requires prepared { IsPrepared (next_number journal.old) prepared }
+    requires can { CanWrite journal.old writing }
     ensures landed { result ≡ false → tables.new ≡ changed }
     ensures failed { result ≡ true → tables.new ≡ tables.old }
     ensures stands { (was : Committed) (doubt : Doubtful) → Stands D.may_leave journal.old was doubt →
-        StandsBy D.may_leave journal.new was doubt (group_of prepared) result }
+        StandsBy D.may_leave journal.new was doubt (left_by writing) result }
     ensures any_moment { (was : Committed) (doubt : Doubtful) → Stands D.may_leave journal.old was doubt →
         LeavesOnly D.moment D.left_since (disk_of journal.old) (disk_of journal.new)
-        (λ c. HasWithOrWithout was doubt c ⊎ HasWithOrWithout was (group (group_of prepared)) c) }
+        (λ c. HasWithOrWithout was doubt c ⊎ HasWithOrWithout was (left_by writing) c) }
     ensures never_falls { D.faults (disk_of journal.old) ≤ D.faults (disk_of journal.new) }
     ensures cause { result ≡ true → HasRisen (D.faults (disk_of journal.old)) (D.faults (disk_of journal.new)) }
 {
-    match commit_settled(journal, prepared) {
-        Ok(_) => {
-            *tables = changed;
-            false
-        }
-        Err(DiskFault) => true,
+    if write(journal, writing) {
+        return true;
     }
+    *tables = changed;
+    false
 }

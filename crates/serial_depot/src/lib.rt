@@ -10,5 +10,6 @@ mod depot;
 mod placing;
 mod storing;
 mod taking;
+mod writing;
 
 pub use depot::{Closed, SerialDepot};

@@ -1,29 +1,29 @@
 //! Giving a command its place.
 
-ghost use Rattle.std.specs.Prelude.{◌≡◌, ◌⊎◌, ◌≤◌, ℕ, List, [], ◌∷◌, ◌++◌, true, false, IfOk, OnErr};
+ghost use Rattle.std.specs.Prelude.{◌≡◌, ◌≢◌, ◌⊎◌, ◌≤◌, ℕ, Bool, List, [], ◌∷◌, ◌++◌, true, false, IfOk, OnErr};
 ghost use Rattle.archive_file.specs.Archive.{disk_of as archive_disk_of};
 ghost use Rattle.outside_api.specs.Count.{HasRisen};
 ghost use Rattle.db_records.specs.declared.change.Change.{Change as AnyChange};
-ghost use Rattle.table_changes.specs.Changed.{AllFitIn, changed_by, rows_of};
+ghost use Rattle.table_changes.specs.Changed.{AllFitIn, rows_of};
 ghost use Rattle.depot_runs.specs.Today.{step};
 ghost use Rattle.depot_model.specs.Deeds.{Deed};
 ghost use Rattle.depot_model.specs.Places.{Placed, taken};
 ghost use Rattle.depot_model.specs.Step.{after};
 ghost use Rattle.depot_model.specs.declared.request.Request.{Request};
-ghost use Rattle.disk_journal.specs.Stands.{IsPrepared, disk_of, group_of, next_number};
-ghost use Rattle.journal_groups.specs.Groups.{IsGroup, group_text};
+ghost use Rattle.disk_journal.specs.Stands.{disk_of, generation_of_journal, next_number};
 ghost use Rattle.session_loop.specs.Taking.{placed_by, with_place};
 ghost use Rattle.stored_contents.specs.Placed.{StandAfter};
-ghost use Rattle.serial_depot.specs.Committing.{AreChangesOf, IsGroupOf, IsToldAt};
+ghost use Rattle.serial_depot.specs.Committing.{AreChangesOf, IsToldAt};
 ghost use Rattle.serial_depot.specs.Running.{CanTake, HasRun};
+ghost use Rattle.serial_depot.specs.Writing.{CanWrite, IsWritingOf, left_by};
 
 use crate::commit::{commit, measure};
 use crate::depot::SerialDepot;
 use crate::storing::store_all;
+use crate::writing::{Writing, prepare};
 use db_records::{Change, Spot};
 use depot_model::{Answer, Place};
 use depot_path::Text;
-use disk_journal::Prepared;
 use outside_api::{Disk, DiskFault};
 use std::alloc::{AllocError, Global};
 use table_changes::change_tables;
@@ -43,18 +43,19 @@ pub(crate) fn fault_answer(place: Place, reply: Text) -> Answer
 }
 
 impl<D: Disk> SerialDepot<D> {
-    /// Settles what is in doubt, stores contents behind what is used of the archive, commits a group, and
-    /// puts the tables after it in the place of those before. Answers whether a disk has failed; then the
-    /// rows stay. What was stored counts as used also where the commit failed, since the group may be in
-    /// doubt; where a content couldn't be stored, no group is in doubt, and what was stored stays unused.
-    fn land(&mut self, changed: Tables, prepared: Prepared, stores: &[Text]) -> bool
+    /// Settles what is in doubt, stores contents behind what is used of the archive, writes a group or a
+    /// generation, and puts the tables after it in the place of those before. Answers whether a disk has
+    /// failed; then the rows stay. What was stored counts as used also where the writing failed, since it
+    /// may be in doubt; where a content couldn't be stored, nothing is in doubt, and what was stored stays
+    /// unused.
+    fn land(&mut self, changed: Tables, writing: Writing, stores: &[Text]) -> bool
         requires can { CanTake D.may_leave self.old }
-        requires prepared { IsPrepared (next_number self.old.journal) prepared }
+        requires ready { CanWrite self.old.journal writing }
         ensures can { CanTake D.may_leave self.new }
-        ensures ran { (since : ℕ) (start : List Deed) (places : List Placed) (request : Request) (changes : List AnyChange) →
-            HasRun D.seen D.may_leave D.moment D.left_since self.old since start places →
-            IsGroupOf (rows_of self.old.tables) (rows_of changed) (next_number self.old.journal) (group_of prepared) changes →
-            AreChangesOf (rows_of self.old.tables) request changes →
+        ensures ran { (since : ℕ) (start : List Deed) (places : List Placed) (request : Request) (opens : Bool) (changes : List AnyChange) →
+            HasRun D.seen D.may_leave D.moment D.left_since self.old since start places → changes ≢ [] →
+            IsWritingOf (rows_of self.old.tables) (rows_of changed) (next_number self.old.journal) (generation_of_journal self.old.journal) opens (left_by writing) changes →
+            AreChangesOf (rows_of self.old.tables) request opens changes →
             StandAfter (rows_of self.old.tables) self.old.tables.archive_end (taken step start places) (after (taken step start places) (step (taken step start places) request).deeds) stores.now changes →
             HasRun D.seen D.may_leave D.moment D.left_since self.new since start (places ++ placed_by request result ∷ []) }
         ensures never_falls { D.faults (disk_of self.old.journal) ≤ D.faults (disk_of self.new.journal) }
@@ -69,15 +70,15 @@ impl<D: Disk> SerialDepot<D> {
             Ok(end) => end,
             Err(DiskFault) => return true,
         };
-        let failed = commit(&mut self.tables, &mut self.journal, changed, prepared);
+        let failed = commit(&mut self.tables, &mut self.journal, changed, writing);
         self.archive.keep(Spot { at: end, length: 0 });
         self.tables.set_archive_end(end);
         failed
     }
 
-    /// Makes the changes of a command and stores its contents, and answers with its reply, or with that of
-    /// a fault where a disk failed; then the rows stay. All memory is had before the first call of a disk.
-    /// Without changes no call of a disk is made.
+    /// Makes the changes of a command, which may open a generation, and stores its contents, and answers with
+    /// its reply, or with that of a fault where a disk failed; then the rows stay. All memory is had before the
+    /// first call of a disk. Without changes no call of a disk is made.
     pub(crate) fn place(
         &mut self,
         alloc: Global,
@@ -85,6 +86,7 @@ impl<D: Disk> SerialDepot<D> {
         reply: Text,
         of_fault: Text,
         changes: &[Change],
+        opens: bool,
         stores: &[Text],
     ) -> Result<Answer, AllocError>
         requires can { CanTake D.may_leave self.old }
@@ -95,7 +97,7 @@ impl<D: Disk> SerialDepot<D> {
         ensures told { IfOk result (IsToldAt place reply of_fault) }
         ensures ran { (since : ℕ) (start : List Deed) (places : List Placed) (request : Request) →
             HasRun D.seen D.may_leave D.moment D.left_since self.old since start places →
-            AreChangesOf (rows_of self.old.tables) request changes.now →
+            AreChangesOf (rows_of self.old.tables) request opens changes.now →
             StandAfter (rows_of self.old.tables) self.old.tables.archive_end (taken step start places) (after (taken step start places) (step (taken step start places) request).deeds) stores.now changes.now →
             IfOk result (λ answer. HasRun D.seen D.may_leave D.moment D.left_since self.new since start (with_place places request answer)) }
         ensures no_call { changes.now ≡ [] → self.new ≡ self.old }
@@ -108,8 +110,8 @@ impl<D: Disk> SerialDepot<D> {
         }
         measure(alloc, changes)?;
         let changed = change_tables(alloc, &self.tables, changes)?;
-        let prepared = self.journal.prepare(alloc, changes)?;
-        if self.land(changed, prepared, stores) {
+        let writing = prepare(alloc, &self.journal, &changed, changes, opens)?;
+        if self.land(changed, writing, stores) {
             return Ok(fault_answer(place, of_fault));
         }
         Ok(Answer { place, reply })

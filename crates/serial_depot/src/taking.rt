@@ -19,6 +19,7 @@ ghost use Rattle.disk_journal.specs.Stands.{disk_of};
 ghost use Rattle.row_texts.specs.Texts.{is_counted};
 ghost use Rattle.session_loop.specs.Taking.{Answers, IsProper, place_by, with_place};
 ghost use Rattle.serial_depot.specs.Committing.{AreChangesOf, IsToldAt};
+ghost use Rattle.serial_depot.specs.Opening.{opens_generation};
 ghost use Rattle.serial_depot.specs.Running.{CanTake, HasRun};
 
 use crate::commit::fault_reply;
@@ -28,7 +29,7 @@ use crate::placing::fault_answer;
 use crate::storing::{are_within, read_all};
 use archive_file::ContentFault;
 use command_core::{Outcome, evaluate, filled};
-use depot_model::{Answer, Place, Request};
+use depot_model::{Answer, Command, Place, Request};
 use depot_path::Text;
 use outside_api::{Disk, Gate};
 use session_loop::Taker;
@@ -48,6 +49,13 @@ fn place_of(request: &Request) -> Place
     }
 }
 
+/// Whether a request opens a generation, where it isn't refused.
+fn opens(request: &Request) -> bool
+    ensures { result ≡ opens_generation request.now }
+{
+    matches!(&request.command, Ok(Command::Checkpoint))
+}
+
 /// Whether an outcome can be committed and answered: a text may say the numbers of each row that is
 /// changed, and the contents that the reply needs lie within what is used of the archive, as those of
 /// the tables' rows do.
@@ -64,6 +72,7 @@ impl<D: Disk> SerialDepot<D> {
         alloc: Global,
         place: Place,
         outcome: Outcome,
+        opens: bool,
         of_fault: Text,
     ) -> Result<Answer, AllocError>
         requires can { CanTake D.may_leave self.old }
@@ -74,7 +83,7 @@ impl<D: Disk> SerialDepot<D> {
         ensures nothing { (since : ℕ) (start : List Deed) (places : List Placed) → HasRun D.seen D.may_leave D.moment D.left_since self.old since start places →
             OnErr result (HasRun D.seen D.may_leave D.moment D.left_since self.new since start places) }
         ensures ran { (since : ℕ) (start : List Deed) (places : List Placed) (request : AnyRequest) → HasRun D.seen D.may_leave D.moment D.left_since self.old since start places →
-            AreChangesOf (rows_of self.old.tables) request outcome.changes →
+            AreChangesOf (rows_of self.old.tables) request opens outcome.changes →
             IsOutcome (rows_of self.old.tables) self.old.tables.archive_end (taken step start places) request outcome →
             IfOk result (λ answer. HasRun D.seen D.may_leave D.moment D.left_since self.new since start (with_place places request answer)) }
         ensures told { (since : ℕ) (start : List Deed) (places : List Placed) (request : AnyRequest) → HasRun D.seen D.may_leave D.moment D.left_since self.old since start places →
@@ -105,6 +114,7 @@ impl<D: Disk> SerialDepot<D> {
             text,
             of_fault,
             changes.as_slice(),
+            opens,
             stores.as_slice(),
         )?;
         Ok(answer)
@@ -144,7 +154,7 @@ impl<D: Disk> SerialDepot<D> {
         know_records(outcome.changes.as_slice());
         let of_fault = fault_reply(alloc, request.number)?;
         gate.pass(request.party, request.number);
-        let answer = self.finish(alloc, place_of(request), outcome, of_fault)?;
+        let answer = self.finish(alloc, place_of(request), outcome, opens(request), of_fault)?;
         gate.answered(request.party, request.number);
         Ok(answer)
     }

@@ -49,7 +49,7 @@ fn value_of(row: Option<&Record>) -> u64
 }
 
 /// The value of a counter, 0 where it has none.
-fn counter_value(alloc: Global, tables: &Tables, name: &Name) -> Result<u64, AllocError>
+pub(crate) fn counter_value(alloc: Global, tables: &Tables, name: &Name) -> Result<u64, AllocError>
     ensures { IfOk result (λ value. value ≡ value_in (row_at (keys.Counter name.now) (rows_of tables.now table_ids.Counter))) }
 {
     let key = Key::Counter {

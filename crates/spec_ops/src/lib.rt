@@ -4,6 +4,7 @@
 //! error is want of memory.
 #![tactic(auto)]
 
+mod checkpoints;
 mod clients;
 mod counters;
 mod groups;
@@ -11,6 +12,7 @@ mod labels;
 mod protections;
 mod saving;
 
+pub use checkpoints::checkpoint;
 pub use clients::{client_save, client_show};
 pub use counters::{counter_delete, counter_list, counter_set, counter_show};
 pub use groups::{group_save, group_show};

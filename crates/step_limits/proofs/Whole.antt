@@ -38,7 +38,7 @@ module _ (Q : List Deed → Type 0) (nothing_done : Q []) where
   unless_from (Some why ∷ tests) step h = nothing_done
 
   -- what holds of no deed and of those of a command's own step holds of the step of its request
-  step_from : (built : Command → Bool) (d : List Deed) (request : Request) (command : Command) → request.command ≡ Ok command
+  pub step_from : (built : Command → Bool) (d : List Deed) (request : Request) (command : Command) → request.command ≡ Ok command
       → Q (own_step d request command).deeds → Q (step_of built d request).deeds
   step_from built d request command e own =
       subst (λ (r : Result Command WordFault). Q (elim r as (λ _. Step) [ Err fault ↦ refuses (word_refusal fault) | Ok c ↦ built_step built d request c ]).deeds)

@@ -1,11 +1,12 @@
-use Rattle.std.proofs.Common.{◌≡◌, List, sym, subst, ◌∙◌}
+use Rattle.std.proofs.Common.{◌≡◌, ℕ, List, sym, subst, ◌∙◌}
 use Rattle.db_records.specs.declared.record.Record.{Record}
 use Rattle.db_records.specs.declared.table.TableId.{TableId}
 use Rattle.disk_journal.specs.Stands.{CanBeAdopted}
-use Rattle.table_changes.specs.Changed.{AllRows}
+use Rattle.table_changes.specs.Changed.{AllRows, rows_of}
 use Rattle.depot_model.specs.Deeds.{Deed}
 use Rattle.depot_model.specs.Records.{record_of}
 use Rattle.depot_rows.specs.Standing.{Stand, unplaced_at}
+use Rattle.recovery.specs.Rules.{SuitFiles}
 use Rattle.recovery.proofs.Whole.{hold_of}
 use Rattle.recovery.proofs.open.open_files.Goals as goal
 
@@ -42,6 +43,13 @@ returns-in-Ok-clause-held g c = λ files read.
     let open_now = returns-in-Ok-clause-open g c in
     let image = g.met.D.Disk.reads_an_image c.read_depot.new.journal files (c.in-Ok.ensures.synced.0.same.kept files read) in
     record { was = open_now.0; committed = open_now.1.stands.holds files (subst (λ (disk : g.row.D.Denot). g.D.Disk.may_leave disk files) (sym c.adopt.ensures.disk) image); has = open_now.1.rows }
+
+pub returns-in-Ok-clause-suit : goal.returns-in-Ok-clause-suit
+unfolding returns-in-Ok-clause-open
+returns-in-Ok-clause-suit g c =
+    let found = c.in-Ok.ensures.found in
+    let open_now = returns-in-Ok-clause-open g c in
+    subst (λ (n : ℕ). SuitFiles n (rows_of c.in-Ok.found.tables)) (found.generation ∙ sym open_now.1.stands.generation) c.in-Ok.ensures.suit
 
 pub returns-in-Ok-clause-stands : goal.returns-in-Ok-clause-stands
 returns-in-Ok-clause-stands g c = λ files contents d read read_contents stands.

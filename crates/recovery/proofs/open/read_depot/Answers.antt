@@ -7,7 +7,7 @@ use Rattle.recovery.specs.Holding.{spots_end}
 use Rattle.recovery.specs.Contents.{AreWhole}
 use Rattle.recovery.specs.Damage.{IsDamage}
 use Rattle.recovery.specs.Faults.{Tells}
-use Rattle.recovery.specs.Rules.{KeepTheirRules}
+use Rattle.recovery.specs.Rules.{SuitFiles}
 use Rattle.recovery.specs.declared.depot.Found.{Found}
 use Rattle.recovery.proofs.Damaged.{hold_found, archive_damage}
 use Rattle.recovery.proofs.Looks.{passed_nothing}
@@ -18,11 +18,11 @@ use Rattle.recovery.proofs.open.read_depot.Goals as goal
 
 pub returns-in_err-found-clause-only : goal.returns-in_err-found-clause-only
 returns-in_err-found-clause-only g c = λ files contents rows read read_contents hold.
-    passed_nothing c.from_residual-in_err-found.result c.in_err-found.field-0.0 _ c.from_residual-in_err-found.ensures.1 (c.in_err-found.ensures.only files rows (c.in_ok-sync.ensures.same.kept files read) hold.hold_within.hold hold.rules)
+    passed_nothing c.from_residual-in_err-found.result c.in_err-found.field-0.0 _ c.from_residual-in_err-found.ensures.1 (c.in_err-found.ensures.only files rows (c.in_ok-sync.ensures.same.kept files read) hold.hold_within.hold hold.suit)
 
 pub returns-in_err-end-clause-only : goal.returns-in_err-end-clause-only
 returns-in_err-end-clause-only g c = λ files contents rows read read_contents hold.
-    let same = c.in_ok-found.ensures.only files rows (c.in_ok-sync.ensures.same.kept files read) hold.hold_within.hold hold.rules in
+    let same = c.in_ok-found.ensures.only files rows (c.in_ok-sync.ensures.same.kept files read) hold.hold_within.hold hold.suit in
     let found = rows_of c.in_ok-found.found.tables Rev in
     let within : spots_end found ≤ length (contents 0) = subst (λ n. n ≤ length (contents 0)) (sym (ap spots_end (same Rev))) hold.hold_within.within in
     let whole : AreWhole (contents 0) found = subst (AreWhole (contents 0)) (sym (same Rev)) hold.whole in
@@ -36,7 +36,7 @@ returns-in_err-end-clause-damaged g c = λ files contents read read_contents.
     let rows = rows_of c.in_ok-found.found.tables in
     let fault = c.in_err-end.field-0.0 in
     passed_on c.from_residual-in_err-end.result fault (Tells (IsDamage files contents)) c.from_residual-in_err-end.ensures.1 (
-    archive_damage ℕ files contents rows fault (hold_found found.was rows files found.has found.are_groups (found.at_rest files (c.in_ok-sync.ensures.same.kept files read))) c.in_ok-found.ensures.rules c.in_err-end.ensures.fault (c.in_err-end.ensures.damaged contents (c.in_ok-sync-2.ensures.same.kept contents read_contents)))
+    archive_damage ℕ files contents rows fault (hold_found found.was rows files found.has found.are_groups (found.at_rest files (c.in_ok-sync.ensures.same.kept files read))) (subst (λ (n : ℕ). SuitFiles n rows) found.generation c.in_ok-found.ensures.suit) c.in_err-end.ensures.fault (c.in_err-end.ensures.damaged contents (c.in_ok-sync-2.ensures.same.kept contents read_contents)))
 
 pub returns-in_err-end-clause-journal_looks : goal.returns-in_err-end-clause-journal_looks
 returns-in_err-end-clause-journal_looks g c =
@@ -84,16 +84,16 @@ returns-clause-synced g c = (
 
 pub returns-clause-only : goal.returns-clause-only
 returns-clause-only g c = λ files contents rows read read_contents hold table.
-    ap (λ (version : TableRows). version.rows) (c.set_archive_end.ensures.versions table) ∙ c.in_ok-found.ensures.only files rows (c.in_ok-sync.ensures.same.kept files read) hold.hold_within.hold hold.rules table
+    ap (λ (version : TableRows). version.rows) (c.set_archive_end.ensures.versions table) ∙ c.in_ok-found.ensures.only files rows (c.in_ok-sync.ensures.same.kept files read) hold.hold_within.hold hold.suit table
 
 pub returns-in_err-found-clause-damaged : goal.returns-in_err-found-clause-damaged
 returns-in_err-found-clause-damaged g c = λ files contents read read_contents.
     passed_on c.from_residual-in_err-found.result c.in_err-found.field-0.0 (Tells (IsDamage files contents)) c.from_residual-in_err-found.ensures.1 (c.in_err-found.ensures.damaged files contents (c.in_ok-sync.ensures.same.kept files read))
 
-pub returns-clause-rules : goal.returns-clause-rules
-returns-clause-rules g c =
+pub returns-clause-suit : goal.returns-clause-suit
+returns-clause-suit g c =
     let same : ◌≡◌ {A = AllRows} (rows_of c.set_archive_end.new.self) (rows_of c.in_ok-found.found.tables) = λ i table. (c.set_archive_end.ensures.versions table i).rows in
-    subst KeepTheirRules (sym same) c.in_ok-found.ensures.rules
+    subst (SuitFiles c.in_ok-found.found.generation) (sym same) c.in_ok-found.ensures.suit
 
 pub returns-in_err-found-clause-exactly : goal.returns-in_err-found-clause-exactly
 returns-in_err-found-clause-exactly g c = λ files read empty.

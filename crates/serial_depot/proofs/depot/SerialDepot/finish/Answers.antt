@@ -112,7 +112,7 @@ returns-clause-ran g c = λ since start places request h made is.
     let rows = rows_of c.args.self.now.tables in
     let current = taken step start places in
     let run = read_run g.D.Disk.seen g.D.Disk.may_leave g.D.Disk.moment g.D.Disk.left_since c.args.self.now c.read_all.new.archive c.read_all.ensures.used c.read_all.ensures.same c.read_all.ensures.crash since start places h in
-    let Made : List Change → Type 0 = AreChangesOf rows request in
+    let Made : List Change → Type 0 = AreChangesOf rows request c.args.opens in
     let Placed : List (List ℕ) → List Change → Type 0 = λ stores changes. StandAfter rows c.args.self.now.tables.archive_end current (after current (step current request).deeds) stores changes in
     c.in_ok-answer.ensures.ran since start places request run (subst Made (sym c.as_slice-2.ensures) made)
     (subst (λ stores. Placed stores c.as_slice-2.result.now) (sym c.as_slice-3.ensures) (subst (Placed c.args.outcome.stores) (sym c.as_slice-2.ensures) (is.contents (h.stand.each Rev))))

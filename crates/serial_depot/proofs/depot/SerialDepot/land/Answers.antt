@@ -1,10 +1,11 @@
 use Rattle.std.proofs.Common.{◌≡◌, ℕ, ◌+◌, max, List, refl, sym, ap, subst, ◌∙◌, inl, inr, arith}
 use Rattle.archive_file.specs.Archive as archives
 use Rattle.outside_api.specs.Disk.{StillTells}
-use Rattle.disk_journal.specs.Stands.{IsPrepared, group_of, nothing}
+use Rattle.disk_journal.specs.Stands.{generation_of_journal, next_number, nothing}
 use Rattle.table_changes.specs.Changed.{rows_of}
-use Rattle.serial_depot.specs.Committing.{IsGroupOf}
+use Rattle.serial_depot.specs.Writing.{IsWritingOf, left_by}
 use Rattle.serial_depot.specs.Storing.{AllReach, AllStored, KeepsBelow, stores_end}
+use Rattle.serial_depot.proofs.Writings.{can_write, same_generation}
 use Rattle.serial_depot.proofs.Finished.{committed, standing, stored_run, unsettled_run, unstored_can, unstored_run, used_more, with_contents}
 use Rattle.serial_depot.proofs.Moved.{has_run_settled}
 use Rattle.serial_depot.proofs.Stored.{grows}
@@ -26,8 +27,10 @@ store_all-requires-clause-room g c = λ image left.
 pub commit-failed-requires-clause-stands : goal.commit-failed-requires-clause-stands
 commit-failed-requires-clause-stands g c = let can = c.requires.can in (can.was, (nothing, c.in-Ok.ensures.ok can.was can.doubt can.stands))
 
-pub commit-failed-requires-clause-prepared : goal.commit-failed-requires-clause-prepared
-commit-failed-requires-clause-prepared g c = subst (λ n. IsPrepared n c.args.prepared) (sym c.settle.ensures.number) c.requires.prepared
+pub commit-failed-requires-clause-can : goal.commit-failed-requires-clause-can
+commit-failed-requires-clause-can g c =
+    let can = c.requires.can in
+    can_write c.args.self.now.journal c.settle.new.self c.args.writing c.settle.ensures.number (same_generation g.D.Disk.may_leave c.args.self.now.journal c.settle.new.self can.was can.doubt nothing can.stands (c.in-Ok.ensures.ok can.was can.doubt can.stands)) c.requires.ready
 
 pub keep-requires : goal.keep-requires
 keep-requires g c = let fits = c.in-Ok-store_all.ensures.fits in omega (arith, fits)
@@ -43,7 +46,7 @@ returns-in-Err-clause-can g c =
     record { was = can.was; doubt = can.doubt; stands = c.in-Err.ensures.err can.was can.doubt can.stands refl; end = can.end; room = can.room }
 
 pub returns-in-Err-clause-ran : goal.returns-in-Err-clause-ran
-returns-in-Err-clause-ran g c = λ since start places request changes h is made placed.
+returns-in-Err-clause-ran g c = λ since start places request opens changes h some is made placed.
     unsettled_run g.D.Disk.seen g.D.Disk.may_leave g.D.Disk.moment g.D.Disk.left_since c.args.self.now since start places request h c.settle.new.self
     (c.in-Err.ensures.err h.was h.doubt h.stands refl) (c.settle.ensures.any_moment h.was h.doubt h.stands)
 
@@ -58,7 +61,7 @@ returns-in-Err-store_all-clause-can g c =
     (c.in-Ok.ensures.ok can.was can.doubt can.stands)
 
 pub returns-in-Err-store_all-clause-ran : goal.returns-in-Err-store_all-clause-ran
-returns-in-Err-store_all-clause-ran g c = λ since start places request changes h is made placed.
+returns-in-Err-store_all-clause-ran g c = λ since start places request opens changes h some is made placed.
     let can = c.requires.can in
     let images = g.D.Disk.may_leave (archives.disk_of c.store_all.new.archive) in
     let keeps = subst (KeepsBelow (g.D.Disk.may_leave (archives.disk_of c.args.self.now.archive)) images) c.archive_end.ensures.end c.store_all.ensures.kept in
@@ -66,7 +69,7 @@ returns-in-Err-store_all-clause-ran g c = λ since start places request changes 
     since start places request (has_run_settled g.D.Disk.seen g.D.Disk.may_leave g.D.Disk.moment g.D.Disk.left_since c.args.self.now since start places h c.settle.new.self
     (c.in-Ok.ensures.ok h.was h.doubt h.stands) (c.settle.ensures.any_moment h.was h.doubt h.stands))
 
--- ---- the group was committed, or its commit failed
+-- ---- it was written, or that failed
 
 -- what is used of the archive ends where the contents do
 ends_there : (before kept used from end : ℕ) (stores : List (List ℕ)) → from ≡ before → kept ≡ before → used ≡ max kept (end + 0) → end ≡ stores_end stores from → used ≡ end
@@ -80,7 +83,7 @@ returns-clause-can g c =
     let end = c.in-Ok-store_all.end in
     let used_is = ends_there (archives.used_of c.args.self.now.archive) (archives.used_of c.store_all.new.archive) (archives.used_of c.keep.new.self) c.archive_end.result end c.args.stores.now
     (at ∙ can.end) c.store_all.ensures.used c.keep.ensures.used c.in-Ok-store_all.ensures.end in
-    let left = standing may_leave c.commit-failed.new.journal can.was nothing (group_of c.args.prepared) c.commit-failed.result (c.commit-failed.ensures.stands can.was nothing (c.in-Ok.ensures.ok can.was can.doubt can.stands)) in
+    let left = standing may_leave c.commit-failed.new.journal can.was nothing (left_by c.args.writing) c.commit-failed.result (c.commit-failed.ensures.stands can.was nothing (c.in-Ok.ensures.ok can.was can.doubt can.stands)) in
     record {
       was = left.0;
       doubt = left.1.0;
@@ -93,7 +96,7 @@ returns-clause-can g c =
     }
 
 pub returns-clause-ran : goal.returns-clause-ran
-returns-clause-ran g c = λ since start places request changes h is made placed.
+returns-clause-ran g c = λ since start places request opens changes h some is made placed.
     let can = c.requires.can in
     let seen = g.D.Disk.seen in
     let may_leave = g.D.Disk.may_leave in
@@ -120,10 +123,12 @@ returns-clause-ran g c = λ since start places request changes h is made placed.
     let more = used_more seen may_leave moment left_since depot can archive keeps tells since start places request h stores changes ends stored reach placed in
     let contents = with_contents seen may_leave moment left_since depot can archive keeps tells since start places request h stores changes ends stored reach placed in
     let m = stored_run seen may_leave moment left_since depot can archive keeps tells more c.settle.new.self since start places settled in
-    let Numbered : ℕ → Type 0 = λ number. IsGroupOf (rows_of depot.tables) (rows_of c.args.changed) number (group_of c.args.prepared) changes in
+    let generation = same_generation may_leave depot.journal c.settle.new.self h.was h.doubt nothing h.stands (c.in-Ok.ensures.ok h.was h.doubt h.stands) in
+    let Numbered : ℕ → Type 0 = λ number. IsWritingOf (rows_of depot.tables) (rows_of c.args.changed) number (generation_of_journal depot.journal) opens (left_by c.args.writing) changes in
+    let Dated : ℕ → Type 0 = λ n. IsWritingOf (rows_of depot.tables) (rows_of c.args.changed) (next_number c.settle.new.self) n opens (left_by c.args.writing) changes in
     let same_rows : rows_of c.set_archive_end.new.self ≡ rows_of c.commit-failed.new.tables = λ i table. (c.set_archive_end.ensures.versions table i).rows in
-    committed seen may_leave moment left_since (record { tables = depot.tables; journal = c.settle.new.self; archive = archive }) since start places request m (rows_of c.args.changed) (group_of c.args.prepared) changes
-    (subst Numbered (sym c.settle.ensures.number) is) made contents c.set_archive_end.new.self c.commit-failed.new.journal (c.commit-failed.ensures.any_moment m.was m.doubt m.stands) c.commit-failed.result
+    committed seen may_leave moment left_since (record { tables = depot.tables; journal = c.settle.new.self; archive = archive }) since start places request m (rows_of c.args.changed) opens (left_by c.args.writing) changes some
+    (subst Dated (sym generation) (subst Numbered (sym c.settle.ensures.number) is)) made contents c.set_archive_end.new.self c.commit-failed.new.journal (c.commit-failed.ensures.any_moment m.was m.doubt m.stands) c.commit-failed.result
     (c.commit-failed.ensures.stands m.was m.doubt m.stands) (λ e. same_rows ∙ ap rows_of (c.commit-failed.ensures.landed e)) (λ e. same_rows ∙ ap rows_of (c.commit-failed.ensures.failed e))
 
 -- ---- a fault only where a count rose

@@ -1,4 +1,4 @@
-use Rattle.std.proofs.Common.{◌≡◌, ℕ, ◌+◌, Bool, true, false, List, [], ◌∷◌, ◌++◌, length, refl, sym, ap, subst, ◌∙◌, arith}
+use Rattle.std.proofs.Common.{◌≡◌, ◌≢◌, ℕ, ◌+◌, ◌<◌, Bool, true, false, List, [], ◌∷◌, ◌++◌, length, refl, sym, ap, subst, ◌∙◌, arith}
 use Rattle.std.proofs.lemmas.Grind.{common_steps}
 use Rattle.db_records.specs.declared.change.Change.{Change}
 use Rattle.table_changes.specs.Changed.{rows_of}
@@ -13,27 +13,31 @@ none_left : (changes : List Change) → length changes ≡ 0 → changes ≡ []
 none_left [] none = refl
 none_left (change ∷ changes) none = absurd (omega arith)
 
+some_left : (changes : List Change) → 0 < length changes → changes ≢ []
+some_left [] some = absurd (omega arith)
+some_left (change ∷ changes) some = λ none. cc
+
 pub returns-then-is_empty-clause-ran : goal.returns-then-is_empty-clause-ran
 returns-then-is_empty-clause-ran g c =
     let empty : length c.args.changes.now ≡ 0 = grind (arith, common_steps) in
     λ since start places request h made placed.
-    let Made : List Change → Type 0 = λ changes. AreChangesOf (rows_of c.args.self.now.tables) request changes in
+    let Made : List Change → Type 0 = λ changes. AreChangesOf (rows_of c.args.self.now.tables) request c.args.opens changes in
     let P : Bool → Type 0 = λ fault. HasRun g.D.Disk.seen g.D.Disk.may_leave g.D.Disk.moment g.D.Disk.left_since c.args.self.now since start (places ++ placed_by request fault ∷ []) in
-    subst P (sym c.requires.no_fault) (has_run_idle g.D.Disk.seen g.D.Disk.may_leave g.D.Disk.moment g.D.Disk.left_since c.args.self.now since start places request h (subst Made (none_left c.args.changes.now empty) made))
+    subst P (sym c.requires.no_fault) (has_run_idle g.D.Disk.seen g.D.Disk.may_leave g.D.Disk.moment g.D.Disk.left_since c.args.self.now since start places request h c.args.opens (subst Made (none_left c.args.changes.now empty) made))
 
 pub returns-then-land-clause-ran : goal.returns-then-land-clause-ran
 returns-then-land-clause-ran g c = λ since start places request h made placed.
     let P : Answer → Type 0 = λ answer. HasRun g.D.Disk.seen g.D.Disk.may_leave g.D.Disk.moment g.D.Disk.left_since c.land.new.self since start (places ++ placed_by request answer.place.fault ∷ []) in
     subst P (sym c.fault_answer.ensures)
-    (c.if-land.ensures.ran since start places request c.args.changes.now h
-    (record { rows_are = c.in_ok-changed.ensures.rows; text_is = c.in_ok-prepared.ensures.group; is_group = (made.records, let few = c.in_ok-measure.ensures in omega (arith, few)); fit = c.requires.fit }) made placed)
+    (c.if-land.ensures.ran since start places request c.args.opens c.args.changes.now h (some_left c.args.changes.now (grind (arith, common_steps)))
+    (c.in_ok-writing.ensures.writes (rows_of c.args.self.now.tables) c.requires.fit c.in_ok-changed.ensures.rows (made.records, let few = c.in_ok-measure.ensures in omega (arith, few))) made placed)
 
 pub returns-clause-ran : goal.returns-clause-ran
 returns-clause-ran g c = λ since start places request h made placed.
     let P : Bool → Type 0 = λ fault. HasRun g.D.Disk.seen g.D.Disk.may_leave g.D.Disk.moment g.D.Disk.left_since c.land.new.self since start (places ++ placed_by request fault ∷ []) in
     subst P (sym c.requires.no_fault)
-    (c.if-land.ensures.ran since start places request c.args.changes.now h
-    (record { rows_are = c.in_ok-changed.ensures.rows; text_is = c.in_ok-prepared.ensures.group; is_group = (made.records, let few = c.in_ok-measure.ensures in omega (arith, few)); fit = c.requires.fit }) made placed)
+    (c.if-land.ensures.ran since start places request c.args.opens c.args.changes.now h (some_left c.args.changes.now (grind (arith, common_steps)))
+    (c.in_ok-writing.ensures.writes (rows_of c.args.self.now.tables) c.requires.fit c.in_ok-changed.ensures.rows (made.records, let few = c.in_ok-measure.ensures in omega (arith, few))) made placed)
 
 pub returns-then-land-clause-told : goal.returns-then-land-clause-told
 returns-then-land-clause-told g c = subst (IsToldAt c.args.place c.args.reply c.args.of_fault) (sym c.fault_answer.ensures) (record { place_is = refl; reply_is = refl })

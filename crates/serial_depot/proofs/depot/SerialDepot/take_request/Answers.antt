@@ -11,6 +11,7 @@ use Rattle.depot_model.specs.Step.{after}
 use Rattle.depot_rows.specs.Standing.{Stand}
 use Rattle.row_changes.specs.Differences.{AreDifferences}
 use Rattle.row_texts.specs.Texts.{IsOf64Bits}
+use Rattle.serial_depot.specs.Committing.{AreChangesOf}
 use Rattle.serial_depot.proofs.Differences.{no_changes}
 use Rattle.serial_depot.proofs.Finished.{none_read}
 use Rattle.serial_depot.proofs.Laws.{formed_of}
@@ -34,7 +35,7 @@ returns-clause-ran g c = λ since start places h proper.
     = λ d stand. (c.in_ok-outcome.ensures.outcome d stand.sound asks (has_needed rows d request stand)).changes in
     let Small : List Change → Type 0 = λ l. All (λ (change : Change). IsOf64Bits change.row) l in
     let made = are_changes rows current request outcome.changes h.stand proper c.requests_are_typed.ensures differences (subst Small c.as_slice.ensures c.know_records.ensures) ready.0 in
-    c.in_ok-answer.ensures.ran since start places request h made (c.in_ok-outcome.ensures.outcome current h.stand.sound asks (has_needed rows current request h.stand))
+    c.in_ok-answer.ensures.ran since start places request h (subst (λ opens. AreChangesOf rows request opens outcome.changes) (sym c.opens.ensures) made) (c.in_ok-outcome.ensures.outcome current h.stand.sound asks (has_needed rows current request h.stand))
 
 pub returns-clause-answers : goal.returns-clause-answers
 returns-clause-answers g c = λ since start places h proper.

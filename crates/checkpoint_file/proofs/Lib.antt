@@ -1,0 +1,5 @@
+pub mod Bodies
+pub mod OneAfterOther
+pub mod PutRows
+pub mod NextRows
+pub mod Texts

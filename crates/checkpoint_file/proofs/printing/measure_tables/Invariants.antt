@@ -1,0 +1,9 @@
+use Rattle.std.proofs.Common.{◌≡◌, length, take}
+use Rattle.db_records.specs.Table.{all_tables}
+use Rattle.journal_groups.specs.Groups.{body_of}
+use Rattle.table_changes.specs.Changed.{rows_of}
+use Rattle.checkpoint_file.specs.Checkpoint.{puts_in}
+use Rattle.checkpoint_file.proofs.printing.measure_tables.Given as goal
+
+abbrev pub invariant-loop-table : goal.invariant-loop-table
+invariant-loop-table l = l.size ≡ length (body_of (puts_in (rows_of l.tables) (take l.table-index all_tables)))

@@ -1,0 +1,47 @@
+-- What a place writes to the journal's disk.
+use Rattle.std.proofs.Common.{◌≡◌, ◌≢◌, ℕ, ◌+◌, ◌<◌, Bool, true, false, List, [], length, refl, sym, ap, subst, ◌∙◌}
+use Rattle.outside_api.specs.Disk.{Files}
+use Rattle.db_records.specs.declared.change.Change.{Change}
+use Rattle.checkpoint_file.specs.Checkpoint.{IsCheckpointOf, puts_of}
+use Rattle.checkpoint_file.proofs.NextRows.{next_rows}
+use Rattle.checkpoint_file.proofs.Texts.{next_records}
+use Rattle.disk_journal.specs.Images.{Committed, with_generation, with_group}
+use Rattle.disk_journal.specs.Stands.{Doubtful, IsPrepared, Stands, generation_of_journal, group, next_number, opening}
+use Rattle.disk_journal.specs.declared.journal.Journal.{Journal}
+use Rattle.journal_groups.specs.Groups.{AreRecords, IsGroup, group_text}
+use Rattle.recovery.specs.Holding.{HasAllRows}
+use Rattle.table_changes.specs.Changed.{AllFitIn, AllRows, changed_by}
+use Rattle.serial_depot.specs.Writing.{CanWrite, IsWritingOf}
+use Rattle.serial_depot.specs.declared.writing.Writing.{Writing}
+use Rattle.serial_depot.specs.declared.writing.Writing.TheVariants.{Group, Generation}
+use Rattle.serial_depot.proofs.Groups.{group_added}
+
+-- a journal that stands with the same committed has the same generation
+pub same_generation : {D : Type 0} (may_leave : D → Files → Type 0) (old new : Journal D) (was : Committed) (one other : Doubtful) → Stands may_leave old was one → Stands may_leave new was other
+    → generation_of_journal new ≡ generation_of_journal old
+same_generation may_leave old new was one other before now = now.generation ∙ sym before.generation
+
+pub can_write : {D : Type 0} (old new : Journal D) (writing : Writing) → next_number new ≡ next_number old → generation_of_journal new ≡ generation_of_journal old → CanWrite old writing → CanWrite new writing
+can_write old new (Group prepared) number generation can = subst (λ (n : ℕ). IsPrepared n prepared) (sym number) can
+can_write old new (Generation text) number generation can = subst (λ (n : ℕ). n < 4095) (sym generation) can
+
+module _ (rows now : AllRows) (number generation : ℕ) (changes : List Change) (rows_are : now ≡ changed_by rows changes) where
+  pub writes_group : (text : List ℕ) → text ≡ group_text number changes → IsGroup changes → AllFitIn rows changes → IsWritingOf rows now number generation false (group text) changes
+  writes_group text text_is is_group fit = record {
+    rows_are = rows_are;
+    has = λ was number_is generation_is has.
+        let Has : List ℕ → Type 0 = λ t. HasAllRows (with_group was t) (changed_by rows changes) in
+        subst Has (sym (text_is ∙ ap (λ (n : ℕ). group_text n changes) number_is)) (group_added was rows changes has is_group fit);
+    opened = λ was. refl;
+  }
+
+  pub writes_generation : (text : List ℕ) → AreRecords changes → (AreRecords (puts_of now) → IsCheckpointOf (generation + 1) now text) → IsWritingOf rows now number generation true (opening text) changes
+  writes_generation text records is = record {
+    rows_are = rows_are;
+    has = λ was number_is generation_is has.
+        let texts : AreRecords (puts_of now) = subst (λ (r : AllRows). AreRecords (puts_of r)) (sym rows_are) (next_records was rows changes has records) in
+        let Of : ℕ → Type 0 = λ n. IsCheckpointOf (n + 1) now text in
+        let Has : AllRows → Type 0 = HasAllRows (with_generation was text) in
+        subst Has rows_are (next_rows was now text (subst Of generation_is (is texts)));
+    opened = λ was. refl;
+  }

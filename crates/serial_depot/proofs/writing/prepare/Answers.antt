@@ -1,0 +1,21 @@
+use Rattle.std.proofs.Common.{◌≡◌, ◌+◌, ℕ, Bool, sym, subst}
+use Rattle.checkpoint_file.specs.Checkpoint.{IsCheckpointOf}
+use Rattle.disk_journal.specs.Stands.{generation_of_journal, next_number}
+use Rattle.table_changes.specs.Changed.{rows_of}
+use Rattle.serial_depot.specs.Writing.{IsWritingOf, left_by}
+use Rattle.serial_depot.specs.declared.writing.Writing.TheVariants.{Group, Generation}
+use Rattle.serial_depot.proofs.Writings.{writes_generation, writes_group}
+use Rattle.serial_depot.proofs.writing.prepare.Goals as goal
+
+pub returns-then-not-opens-clause-writes : goal.returns-then-not-opens-clause-writes
+returns-then-not-opens-clause-writes g c = λ rows fit rows_are is_group.
+    let P : Bool → Type 0 = λ opens. IsWritingOf rows (rows_of c.args.changed.now) (next_number c.args.journal.now) (generation_of_journal c.args.journal.now) opens (left_by (Group c.in_ok-prepared.prepared)) c.args.changes.now in
+    subst P (sym c.if-not-opens.true)
+    (writes_group rows (rows_of c.args.changed.now) (next_number c.args.journal.now) (generation_of_journal c.args.journal.now) c.args.changes.now rows_are _ c.in_ok-prepared.ensures.group is_group fit)
+
+pub returns-clause-writes : goal.returns-clause-writes
+returns-clause-writes g c = λ rows fit rows_are is_group.
+    let P : Bool → Type 0 = λ opens. IsWritingOf rows (rows_of c.args.changed.now) (next_number c.args.journal.now) (generation_of_journal c.args.journal.now) opens (left_by (Generation c.in_ok-text.text)) c.args.changes.now in
+    subst P (sym c.if-not-opens.false)
+    (writes_generation rows (rows_of c.args.changed.now) (next_number c.args.journal.now) (generation_of_journal c.args.journal.now) c.args.changes.now rows_are c.in_ok-text.text is_group.0
+    (λ texts. subst (λ (n : ℕ). IsCheckpointOf (n + 1) (rows_of c.args.changed.now) c.in_ok-text.text) c.generation-generation.ensures (c.in_ok-text.ensures.checkpoint texts)))
