@@ -2,7 +2,7 @@
 
 ghost use Rattle.std.specs.Prelude.{◌≡◌};
 ghost use Rattle.depot_model.specs.About.{about};
-ghost use Rattle.depot_runs.specs.Built.{is_built as built, is_change as is_change_in, is_history as is_history_in, is_opening as is_opening_in, is_spec as is_spec_in, is_submit as is_submit_in, is_syncing as is_syncing_in};
+ghost use Rattle.depot_runs.specs.Built.{is_built as built, is_change as is_change_in, is_history as is_history_in, is_opening as is_opening_in, is_server as is_server_in, is_spec as is_spec_in, is_submit as is_submit_in, is_syncing as is_syncing_in};
 
 use depot_model::{Command, FileArgument, PatternArgument};
 use protect_table::Level;
@@ -44,6 +44,7 @@ pub(crate) fn is_opening(command: &Command) -> bool
             | Command::Lock { .. }
             | Command::Unlock { .. }
             | Command::Opened { .. }
+            | Command::Move { .. }
     )
 }
 
@@ -72,6 +73,8 @@ pub(crate) fn is_syncing(command: &Command) -> bool
             | Command::Have { .. }
             | Command::Tag { .. }
             | Command::LabelSync { .. }
+            | Command::Integrate { .. }
+            | Command::Resolve { .. }
     )
 }
 
@@ -88,6 +91,13 @@ pub(crate) fn is_history(command: &Command) -> bool
             | Command::FileStat { .. }
             | Command::Integrated { .. }
     )
+}
+
+/// Whether a command of the server itself is built.
+pub(crate) fn is_server(command: &Command) -> bool
+    ensures { result ≡ is_server_in command.now }
+{
+    matches!(command, Command::Checkpoint | Command::Pull)
 }
 
 /// Whether a command submits.
@@ -107,7 +117,8 @@ pub(crate) fn is_built(command: &Command) -> bool
     is_spec(command)
         || (is_opening(command)
             || (is_change(command)
-                || (is_syncing(command) || (is_history(command) || is_submit(command)))))
+                || (is_syncing(command)
+                    || (is_history(command) || (is_server(command) || is_submit(command))))))
 }
 
 /// The right that a command needs somewhere.

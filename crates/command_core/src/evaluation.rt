@@ -21,12 +21,15 @@ ghost use Rattle.stored_contents.specs.Placed.{StandAfter};
 ghost use Rattle.command_core.specs.Refusing.{first_of};
 ghost use Rattle.command_core.specs.Outcomes.{HasNeeded, HasTouched, IsFormed, IsFormedBy, IsOutcome, IsStep};
 
-use crate::about::{is_built, is_change, is_history, is_opening, is_spec, is_submit, is_syncing};
+use crate::about::{
+    is_built, is_change, is_history, is_opening, is_server, is_spec, is_submit, is_syncing,
+};
 use crate::change_commands::change_step;
 use crate::history_commands::history_step;
 use crate::opening_commands::opening_step;
 use crate::outcome::Outcome;
 use crate::refusing::{first_refusal, word_row};
+use crate::server_commands::server_step;
 use crate::spec_commands::spec_step;
 use crate::submit_commands::submit_step;
 use crate::syncing_commands::syncing_step;
@@ -49,24 +52,22 @@ fn own_step(
         IsMade (rows_of tables.now) d d (own_step_of d request.now command.now) step) }
 {
     if is_spec(command) {
-        let form = spec_step(alloc, tables, request, command)?;
-        return Ok(form);
+        return spec_step(alloc, tables, request, command);
     }
     if is_opening(command) {
-        let opening = opening_step(alloc, tables, request, command)?;
-        return Ok(opening);
+        return opening_step(alloc, tables, request, command);
     }
     if is_change(command) {
-        let change = change_step(alloc, tables, request, command)?;
-        return Ok(change);
+        return change_step(alloc, tables, request, command);
     }
     if is_syncing(command) {
-        let syncing = syncing_step(alloc, tables, request, command)?;
-        return Ok(syncing);
+        return syncing_step(alloc, tables, request, command);
     }
     if is_history(command) {
-        let history = history_step(alloc, tables, request, command)?;
-        return Ok(history);
+        return history_step(alloc, tables, request, command);
+    }
+    if is_server(command) {
+        return server_step(alloc, tables, request, command);
     }
     unbuilt(alloc, command)
 }

@@ -12,6 +12,7 @@ mod opening_commands;
 mod outcome;
 mod refusing;
 mod rights;
+mod server_commands;
 mod spec_commands;
 mod submit_commands;
 mod syncing_commands;

@@ -11,7 +11,7 @@ ghost use Rattle.command_core.specs.Outcomes.{HasTouched, IsFormed};
 
 use crate::unbuilt::unbuilt;
 use depot_model::{Command, Request};
-use opened_files::{add, delete, edit, lock, opened, reopen, revert, unlock};
+use opened_files::{add, delete, edit, lock, move_files, opened, reopen, revert, unlock};
 use reply_rows::Step;
 use std::alloc::{AllocError, Global};
 use table_store::Tables;
@@ -91,6 +91,10 @@ pub(crate) fn opening_step(
         Command::Opened { all, files } => {
             let listed = opened(alloc, tables, &request.caller, *all, files.as_slice())?;
             Ok(listed)
+        }
+        Command::Move { change, from, to } => {
+            let moved = move_files(alloc, tables, &request.caller, *change, from, to)?;
+            Ok(moved)
         }
         _ => unbuilt(alloc, command),
     }

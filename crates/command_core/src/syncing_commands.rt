@@ -12,6 +12,7 @@ ghost use Rattle.command_core.specs.Outcomes.{HasTouched, IsFormed};
 use crate::unbuilt::unbuilt;
 use depot_model::{Command, Request};
 use have_sync::{have, sync, where_is};
+use integ_records::{integrate, resolve};
 use label_ops::{labelsync, tag};
 use reply_rows::Step;
 use std::alloc::{AllocError, Global};
@@ -80,6 +81,14 @@ pub(crate) fn syncing_step(
                 files.as_slice(),
             )?;
             Ok(synced)
+        }
+        Command::Integrate { change, from, to } => {
+            let opened = integrate(alloc, tables, &request.caller, *change, from, to)?;
+            Ok(opened)
+        }
+        Command::Resolve { taking, files } => {
+            let resolved = resolve(alloc, tables, &request.caller, *taking, files.as_slice())?;
+            Ok(resolved)
         }
         _ => unbuilt(alloc, command),
     }

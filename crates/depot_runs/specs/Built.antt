@@ -1,7 +1,7 @@
 -- The commands that are built. Each other one is refused as not built yet; this goes when all are.
 use Rattle.std.specs.Prelude.{Bool, true, false, ◌||◌}
 use Rattle.depot_model.specs.declared.command.Command.{Command}
-use Rattle.depot_model.specs.declared.command.Command.TheVariants.{CounterShow, CounterSet, CounterDelete, Counters, ClientShow, ClientSave, LabelShow, LabelSave, Labels, GroupShow, GroupSave, ProtectShow, ProtectSave, Add, Edit, Delete, Revert, Reopen, Lock, Unlock, Opened, ChangeShow, ChangeSave, ChangeDelete, Changes, Describe, Where, Sync, Have, Tag, LabelSync, Files, FileLog, Print, Dirs, FileStat, Integrated, SubmitChange, SubmitDefault}
+use Rattle.depot_model.specs.declared.command.Command.TheVariants.{CounterShow, CounterSet, CounterDelete, Counters, ClientShow, ClientSave, LabelShow, LabelSave, Labels, GroupShow, GroupSave, ProtectShow, ProtectSave, Add, Edit, Delete, Move, Revert, Reopen, Lock, Unlock, Opened, ChangeShow, ChangeSave, ChangeDelete, Changes, Describe, Where, Sync, Have, Tag, LabelSync, Files, FileLog, Print, Dirs, FileStat, Integrate, Resolve, Integrated, Checkpoint, Pull, SubmitChange, SubmitDefault}
 
 -- counters, clients, labels, groups and protections
 abbrev pub is_spec : Command → Bool
@@ -25,6 +25,7 @@ abbrev pub is_opening : Command → Bool
 is_opening (Add change file_type paths) = true
 is_opening (Edit change file_type files) = true
 is_opening (Delete change files) = true
+is_opening (Move change from to) = true
 is_opening (Revert change files) = true
 is_opening (Reopen change file_type files) = true
 is_opening (Lock change files) = true
@@ -48,6 +49,8 @@ is_syncing (Sync again shows files) = true
 is_syncing (Have files) = true
 is_syncing (Tag label removes files) = true
 is_syncing (LabelSync label labelling files) = true
+is_syncing (Integrate change from to) = true
+is_syncing (Resolve taking files) = true
 is_syncing _ = false
 
 -- submitted files
@@ -60,6 +63,12 @@ is_history (FileStat files) = true
 is_history (Integrated files) = true
 is_history _ = false
 
+-- the server itself
+abbrev pub is_server : Command → Bool
+is_server Checkpoint = true
+is_server Pull = true
+is_server _ = false
+
 -- submits
 abbrev pub is_submit : Command → Bool
 is_submit (SubmitChange change) = true
@@ -67,4 +76,4 @@ is_submit (SubmitDefault text) = true
 is_submit _ = false
 
 abbrev pub is_built : Command → Bool
-is_built command = is_spec command || (is_opening command || (is_change command || (is_syncing command || (is_history command || is_submit command))))
+is_built command = is_spec command || (is_opening command || (is_change command || (is_syncing command || (is_history command || (is_server command || is_submit command)))))

@@ -70,3 +70,9 @@ returns-in_ok-listed-in-Opened c = λ d sound family formed has.
     let P : Command → Type 0 = λ k. HasTouched (rows_of c.args.tables.now) d k → IsMade (rows_of c.args.tables.now) d d (own_step d c.args.request.now k) listed.listed in
     subst P (sym c.in-Opened.is) (λ has. subst (λ (xs : List FileArgument). IsMade (rows_of c.args.tables.now) d d (opened_step d c.args.request.now.caller c.in-Opened.all xs) listed.listed) c.as_slice-in-Opened.ensures
     (listed.ensures d sound (has tables.Group refl) (has tables.Protect refl) (has tables.Domain refl) (has tables.Working refl))) has
+
+pub returns-in_ok-moved-in-Move : goal.returns-in_ok-moved-in-Move
+returns-in_ok-moved-in-Move c = λ d sound family formed has.
+    let moved = c.in_ok-moved-in-Move in
+    let P : Command → Type 0 = λ k. IsFormed k → HasTouched (rows_of c.args.tables.now) d k → IsMade (rows_of c.args.tables.now) d d (own_step d c.args.request.now k) moved.moved in
+    subst P (sym c.in-Move.is) (λ formed has. moved.ensures d formed.1 sound (has tables.Group refl) (has tables.Protect refl) (has tables.Domain refl) (has tables.Change refl) (has tables.Working refl) (has tables.Rev refl)) formed has

@@ -7,9 +7,10 @@ use Rattle.depot_model.specs.declared.command.Command.{Command}
 use Rattle.depot_model.specs.declared.command.FileArgument.{FileArgument}
 use Rattle.depot_model.specs.Commands.{own_step}
 use Rattle.depot_model.specs.Steps.Placing.{have_step, where_is}
+use Rattle.depot_model.specs.Steps.Resolving.{resolve}
 use Rattle.depot_model.specs.Steps.Syncing.{sync}
 use Rattle.depot_model.specs.Steps.Tagging.{labelsync, tag}
-use Rattle.depot_model.specs.WellFormed.{spells_path}
+use Rattle.depot_model.specs.WellFormed.{asks_head, spells_path}
 use Rattle.reply_rows.specs.Made.{IsMade}
 use Rattle.command_core.specs.Outcomes.{IsFormed, HasTouched}
 use Rattle.command_core.proofs.syncing_commands.syncing_step.Goals as goal
@@ -48,3 +49,16 @@ returns-in_ok-synced-in-LabelSync c = λ d sound family formed has.
     let P : Command → Type 0 = λ k. HasTouched (rows_of c.args.tables.now) d k → IsMade (rows_of c.args.tables.now) d d (own_step d c.args.request.now k) synced.synced in
     subst P (sym c.in-LabelSync.is) (λ has. subst (λ (xs : List FileArgument). IsMade (rows_of c.args.tables.now) d d (labelsync d c.args.request.now.caller c.in-LabelSync.label c.in-LabelSync.labelling xs) synced.synced) c.as_slice-in-LabelSync.ensures
     (synced.ensures d sound (has tables.Group refl) (has tables.Protect refl) (has tables.Domain refl) (has tables.Have refl) (has tables.Label refl) (has tables.Change refl) (has tables.Rev refl))) has
+
+pub returns-in_ok-opened-in-Integrate : goal.returns-in_ok-opened-in-Integrate
+returns-in_ok-opened-in-Integrate c = λ d sound family formed has.
+    let opened = c.in_ok-opened-in-Integrate in
+    let P : Command → Type 0 = λ k. HasTouched (rows_of c.args.tables.now) d k → IsMade (rows_of c.args.tables.now) d d (own_step d c.args.request.now k) opened.opened in
+    subst P (sym c.in-Integrate.is) (λ has. opened.ensures d sound (has tables.Group refl) (has tables.Protect refl) (has tables.Domain refl) (has tables.Have refl) (has tables.Label refl) (has tables.Integed refl) (has tables.Working refl) (has tables.Change refl) (has tables.Rev refl)) has
+
+pub returns-in_ok-resolved-in-Resolve : goal.returns-in_ok-resolved-in-Resolve
+returns-in_ok-resolved-in-Resolve c = λ d sound family formed has.
+    let resolved = c.in_ok-resolved-in-Resolve in
+    let P : Command → Type 0 = λ k. IsFormed k → HasTouched (rows_of c.args.tables.now) d k → IsMade (rows_of c.args.tables.now) d d (own_step d c.args.request.now k) resolved.resolved in
+    subst P (sym c.in-Resolve.is) (λ formed has. subst (λ (xs : List FileArgument). IsTrue (list_all asks_head xs) → IsMade (rows_of c.args.tables.now) d d (resolve d c.args.request.now.caller c.in-Resolve.taking xs) resolved.resolved) c.as_slice-in-Resolve.ensures
+    (λ asks. resolved.ensures d asks sound (has tables.Group refl) (has tables.Protect refl) (has tables.Domain refl) (has tables.Resolve refl) (has tables.Working refl) (has tables.Rev refl)) formed.1) formed has
