@@ -1,0 +1,11 @@
+pub mod Ranges
+pub mod Needs
+pub mod Working
+pub mod Turning
+pub mod Counterparts
+pub mod Turned
+pub mod Telling
+pub mod Placing
+pub mod Ended
+pub mod Chosen
+pub mod Stopped

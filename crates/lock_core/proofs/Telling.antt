@@ -1,0 +1,125 @@
+-- The changes of an outcome tell which tables a commit changes.
+use Rattle.std.proofs.Common.{◌≡◌, ◌⊎◌, ℕ, Bool, true, false, cond, eqb, List, [], ◌∷◌, Option, Some, None, refl, sym, ap, subst, ◌∙◌, inl, inr}
+use Rattle.std.specs.Prelude.{option_map}
+use Rattle.std.specs.Ordering.{is_eq}
+use Rattle.std.specs.declared.cmp.Ordering.{Ordering}
+use Rattle.std.specs.declared.cmp.Ordering.TheVariants.{Less, Equal, Greater}
+use Rattle.db_records.specs.Key.{key_cmp, key_table}
+use Rattle.db_records.specs.Record.{key_of, table_of}
+use Rattle.db_records.specs.Table.{table_number}
+use Rattle.db_records.specs.declared.change.Change.{Change}
+use Rattle.db_records.specs.declared.key.Key.{Key}
+use Rattle.db_records.specs.declared.record.Record.{Record}
+use Rattle.db_records.specs.declared.record.Record.TheVariants as records
+use Rattle.db_records.specs.declared.table.TableId.{TableId}
+use Rattle.db_records.proofs.Order.{keys_equal}
+use Rattle.table_changes.specs.Changed.{AllRows, changed_in, changed_by}
+use Rattle.table_store.specs.Rows.{changed_once}
+use Rattle.depot_model.specs.Deeds.{Deed}
+use Rattle.depot_model.specs.Records.{record_of, unplaced, is_at}
+use Rattle.depot_model.specs.Tables.{is_in}
+use Rattle.depot_rows.specs.Standing.{Stand, row_in}
+use Rattle.row_changes.specs.Differences.{AreDifferences, LeadsTo, change_at, changed_key}
+use Rattle.lock_machine.specs.Runs.{AreChanged}
+use Rattle.lock_core.specs.Works.{is_changed}
+use Rattle.lock_machine.proofs.Places.{some_is, either_true, neither, true_or_false}
+use Rattle.lock_machine.proofs.Orderly.{same_lock, itself}
+
+turned : (a b : ℕ) → eqb a b ≡ false → eqb b a ≡ false
+turned a b apart = elim (true_or_false (eqb b a)) [
+  | inl e ↦ absurd (let is : a ≡ b = sym (same_lock b a e) in let both : true ≡ false = sym (ap (eqb a) (sym is) ∙ itself a) ∙ apart in cc)
+  | inr e ↦ e
+]
+
+-- the rows of a table stay of which there is no change
+pub stays_in : (rows : AllRows) (changes : List Change) (table : TableId) → is_changed changes (table_number table) ≡ false → changed_by rows changes table ≡ rows table
+stays_in rows [] table none = refl
+stays_in rows (change ∷ changes) table none =
+    let parts = neither (eqb (table_number (table_of change.row)) (table_number table)) (is_changed changes (table_number table)) none in
+    stays_in (changed_in rows change) changes table parts.1
+    ∙ ap (λ b. cond b (changed_once (rows table) change) (rows table)) (turned (table_number (table_of change.row)) (table_number table) parts.0)
+
+of_table : (row : Record) → key_table (key_of row) ≡ table_of row
+of_table (records.Counter r) = refl
+of_table (records.Group r) = refl
+of_table (records.Protect r) = refl
+of_table (records.Domain r) = refl
+of_table (records.Have r) = refl
+of_table (records.Label r) = refl
+of_table (records.Integed r) = refl
+of_table (records.Resolve r) = refl
+of_table (records.Working r) = refl
+of_table (records.Change r) = refl
+of_table (records.Rev r) = refl
+
+same_key : (a b : Key) → is_at a b ≡ true → a ≡ b
+same_key a b at = go (key_cmp a b) refl at
+  where
+    go : (o : Ordering) → key_cmp a b ≡ o → is_eq o ≡ true → a ≡ b
+    go Less is at = absurd cc
+    go Equal is at = (keys_equal a b).0 is
+    go Greater is at = absurd cc
+
+itself_at : (key : Key) → is_at key key ≡ true
+itself_at key = ap is_eq ((keys_equal key key).1 refl)
+
+-- no change is at a key of a table of which there is none
+none_at : (changes : List Change) (key : Key) → is_changed changes (table_number (key_table key)) ≡ false → change_at changes key ≡ None
+none_at [] key none = refl
+none_at (change ∷ changes) key none =
+    let parts = neither (eqb (table_number (table_of change.row)) (table_number (key_table key))) (is_changed changes (table_number (key_table key))) none in
+    go (is_at key (changed_key change)) refl parts.0 (none_at changes key parts.1)
+  where
+    go : (b : Bool) → is_at key (changed_key change) ≡ b → eqb (table_number (table_of change.row)) (table_number (key_table key)) ≡ false → change_at changes key ≡ None
+        → cond (is_at key (changed_key change)) (Some change) (change_at changes key) ≡ None
+    go true at apart rest =
+        let table : table_of change.row ≡ key_table key = sym (of_table change.row) ∙ ap key_table (sym (same_key key (changed_key change) at)) in
+        absurd (let both : true ≡ false = sym (ap (λ t. eqb (table_number t) (table_number (key_table key))) table ∙ itself (table_number (key_table key))) ∙ apart in cc)
+    go false at apart rest = ap (λ b. cond b (Some change) (change_at changes key)) at ∙ rest
+
+-- a change is at its own key
+one_at : (changes : List Change) (n : ℕ) → is_changed changes n ≡ true → (key : Key) × (change : Change) × (table_number (key_table key) ≡ n) × (change_at changes key ≡ Some change)
+one_at [] n has = absurd cc
+one_at (change ∷ changes) n has = by (eqb (table_number (table_of change.row)) n) refl (either_true (eqb (table_number (table_of change.row)) n) (is_changed changes n) has) (one_at changes n)
+  where
+    by : (b : Bool) → eqb (table_number (table_of change.row)) n ≡ b → (eqb (table_number (table_of change.row)) n ≡ true) ⊎ (is_changed changes n ≡ true)
+        → (is_changed changes n ≡ true → (key : Key) × (found : Change) × (table_number (key_table key) ≡ n) × (change_at changes key ≡ Some found))
+        → (key : Key) × (found : Change) × (table_number (key_table key) ≡ n) × (change_at (change ∷ changes) key ≡ Some found)
+    by b is (inl here) rest = (
+      changed_key change,
+      change,
+      ap table_number (of_table change.row) ∙ same_lock (table_number (table_of change.row)) n here,
+      ap (λ c. cond c (Some change) (change_at changes (changed_key change))) (itself_at (changed_key change)),
+    )
+    by b is (inr later) rest =
+        let more = rest later in
+        elim (true_or_false (is_at more.0 (changed_key change))) [
+          | inl at ↦ (more.0, change, more.2, ap (λ c. cond c (Some change) (change_at changes more.0)) at)
+          | inr apart ↦ (more.0, more.1, more.2, ap (λ c. cond c (Some change) (change_at changes more.0)) apart ∙ more.3)
+        ]
+
+lead_none : (row now : Option Record) → LeadsTo row now None → option_map unplaced row ≡ now
+lead_none None None leads = refl
+lead_none None (Some new) leads = absurd leads
+lead_none (Some old) None leads = absurd cc
+lead_none (Some old) (Some new) leads = ap (λ (r : Record). Some r) leads
+
+lead_some : (row now : Option Record) (change : Change) → LeadsTo row now (Some change) → option_map unplaced row ≡ now → ⊥
+lead_some None None change leads same = absurd cc
+lead_some None (Some new) change leads same = cc
+lead_some (Some old) None change leads same = cc
+lead_some (Some old) (Some new) change leads same = leads.0 (some_is same)
+
+-- the tables of the changes are those of which some row differs
+pub tells : (all : AllRows) (d e : List Deed) (changes : List Change) (changed : List ℕ) → Stand all d → AreDifferences all d e changes → ((n : ℕ) → is_in changed n ≡ is_changed changes n)
+    → AreChanged d e changed
+tells all d e changes changed stand differences numbers = record {
+  same = λ key is.
+      let none = none_at changes key (sym (numbers (table_number (key_table key))) ∙ is) in
+      let P : Option Change → Type 0 = LeadsTo (row_in all key) (record_of e key) in
+      sym (stand.each (key_table key) key refl) ∙ lead_none (row_in all key) (record_of e key) (subst P none (differences.each key (stand.each (key_table key))));
+  differ = λ n has.
+      let one = one_at changes n (sym (numbers n) ∙ has) in
+      let P : Option Change → Type 0 = LeadsTo (row_in all one.0) (record_of e one.0) in
+      (one.0, one.2, λ same. lead_some (row_in all one.0) (record_of e one.0) one.1 (subst P one.3 (differences.each one.0 (stand.each (key_table one.0)))) (stand.each (key_table one.0) one.0 refl ∙ same));
+}

@@ -1,0 +1,6 @@
+pub mod Sets
+pub mod Works
+pub mod Parties
+pub mod Core
+pub mod Finished
+pub mod Drawing

@@ -1,0 +1,77 @@
+//! The parties before their first turns.
+
+ghost use Rattle.std.specs.Prelude.{◌≡◌, IfOk, IsTrue, List, vec_len};
+ghost use Rattle.table_changes.specs.Changed.{rows_of};
+ghost use Rattle.depot_model.specs.Deeds.{Deed};
+ghost use Rattle.depot_rows.specs.Standing.{Stand};
+ghost use Rattle.sound_requests.specs.Asked.{is_typed};
+ghost use Rattle.lock_machine.specs.Machine.{Commit};
+ghost use Rattle.lock_machine.specs.Runs.{beginning, idle};
+ghost use Rattle.lock_core.specs.Core.{AllProperIn, Shows, all_items};
+ghost use Rattle.lock_core.specs.Parties.{AreTyped, IsFresh, IsShown};
+
+use crate::machine::LockCore;
+use crate::party::Party;
+use crate::sets::request_needs;
+use crate::work::Work;
+use depot_model::Request;
+use lock_machine::Stage;
+use sound_requests::requests_are_typed;
+use std::alloc::{AllocError, Global};
+use table_store::Tables;
+
+/// A command that isn't begun.
+fn fresh_work(alloc: Global, request: Request) -> Result<Work, AllocError>
+    ensures fresh { IfOk result IsFresh }
+    ensures request { IfOk result (λ work. work.request ≡ request) }
+    ensures typed { IfOk result (λ work. IsTrue (is_typed request)) }
+{
+    requests_are_typed(&request);
+    match request_needs(alloc, &request) {
+        Ok(needs) => Ok(Work {
+            request,
+            needs,
+            done: 0,
+            stage: Stage::Gathering,
+            second: false,
+            stale: false,
+            room: None,
+        }),
+        Err(error) => {
+            drop(request);
+            Err(error)
+        }
+    }
+}
+
+/// A party with these requests.
+fn idle_party(alloc: Global, requests: Vec<Request>) -> Result<Party, AllocError>
+    ensures shown { IfOk result (λ party. (order : List Commit) → IsShown order party (idle requests.items)) }
+    ensures typed { IfOk result (λ party. AreTyped requests.items) }
+{
+    let mut left = Vec::new(alloc);
+    for request in requests {
+        left.push(fresh_work(alloc, request)?)?;
+    }
+    left.reverse();
+    Ok(Party { left, work: None })
+}
+
+impl LockCore {
+    /// The parties that ask these requests, each in its order, over these tables; none has begun. The one error is want of memory.
+    pub fn new(
+        alloc: Global,
+        tables: Tables,
+        requests: Vec<Vec<Request>>,
+    ) -> Result<LockCore, AllocError>
+        ensures tables { IfOk result (λ core. core.tables ≡ tables) }
+        ensures shows { IfOk result (λ core. (start : List Deed) → Stand (rows_of tables) start → AllProperIn (all_items requests.items) →
+            Shows start core (beginning (all_items requests.items))) }
+    {
+        let mut parties = Vec::new(alloc);
+        for party in requests {
+            parties.push(idle_party(alloc, party)?)?;
+        }
+        Ok(LockCore { tables, parties })
+    }
+}

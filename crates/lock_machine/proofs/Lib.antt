@@ -1,0 +1,9 @@
+pub mod Places
+pub mod Orderly
+pub mod Progress
+pub mod Ends
+pub mod Rising
+pub mod Written
+pub mod Runs
+pub mod Serving
+pub mod Stopping
