@@ -1,0 +1,19 @@
+pub mod Bytes
+pub mod Lines
+pub mod Heads
+pub mod Parts
+pub mod Scripts
+pub mod OptionWords
+pub mod Given
+pub mod FileTexts
+pub mod FileCommands
+pub mod WordCommands
+pub mod Giving
+pub mod SpelledFiles
+pub mod SpelledForms
+pub mod Commands
+pub mod SaidWords
+pub mod SaidParts
+pub mod SaidHeads
+pub mod SaidScripts
+mod Examples
