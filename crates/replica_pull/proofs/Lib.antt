@@ -1,0 +1,9 @@
+pub mod Cutting
+pub mod Fitting
+pub mod Misfits
+pub mod Taking
+pub mod Generations
+pub mod Pieces
+pub mod Moves
+pub mod Kept
+pub mod Fronts

@@ -1,0 +1,17 @@
+use Rattle.std.proofs.Common.{inl, refl}
+use Rattle.replica_pull.proofs.replica.Replica.pull.Goals as goal
+
+pub returns-in_err-piece-clause-grows : goal.returns-in_err-piece-clause-grows
+returns-in_err-piece-clause-grows g c = λ before told. (before, (told, inl refl))
+
+pub returns-clause-moved : goal.returns-clause-moved
+returns-clause-moved g c = c.pull_into-moved.ensures.moved
+
+pub returns-clause-stopped : goal.returns-clause-stopped
+returns-clause-stopped g c = c.pull_into-moved.ensures.stopped
+
+pub returns-clause-cause : goal.returns-clause-cause
+returns-clause-cause g c = c.pull_into-moved.ensures.cause
+
+pub returns-clause-grows : goal.returns-clause-grows
+returns-clause-grows g c = c.pull_into-moved.ensures.grows

@@ -1,0 +1,15 @@
+//! A replica of a depot, which follows the journal of its master and has the files inside a filter alone.
+#![tactic(auto)]
+
+mod cut;
+mod fault;
+mod feed;
+mod laws;
+mod pull;
+mod replica;
+
+pub use cut::{cut_change, is_left};
+pub use fault::PullFault;
+pub use feed::{Taken, take_feed};
+pub use laws::{cut_changes_make_cut_rows, replicas_keep_cut_rows, replicas_take_whole_groups};
+pub use replica::Replica;
