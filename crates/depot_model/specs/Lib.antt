@@ -27,7 +27,6 @@ pub mod Order
 pub mod Records
 pub mod Filter
 pub mod Cut
-pub mod Machine
 pub mod Tables
 pub mod WellFormed
 pub mod Rules

@@ -5,7 +5,6 @@ use Rattle.std.specs.List.{list_any, range_with_len}
 use Rattle.depot_model.specs.declared.request.Request.{Request}
 use Rattle.depot_model.specs.declared.command.Command.{Command}
 use Rattle.depot_model.specs.declared.command.Command.TheVariants.{CounterShow, CounterSet, CounterDelete, Counters, ClientShow, ClientSave, LabelShow, LabelSave, GroupShow, GroupSave, ProtectShow, ProtectSave, Where, Add, Edit, Delete, Move, Revert, Reopen, Lock, Unlock, Opened, ChangeSave, ChangeShow, ChangeDelete, Changes, SubmitChange, SubmitDefault, Sync, Have, Tag, LabelSync, Labels, Integrate, Resolve, Integrated, Files, FileLog, Print, Describe, Dirs, FileStat, Shelve, ShelveDelete, Unshelve, DescribeShelved, JobShow, JobSave, Jobs, Fix, FixDelete, Fixes, Checkpoint, Pull}
-use Rattle.depot_model.specs.Machine.{Need}
 
 -- those that are read alone, but for the three that every command reads, and those that are written
 pub record Tables : Type 0 where
@@ -80,6 +79,11 @@ writes command n = is_in (own_tables command).written n
 
 abbrev pub touches : Command → ℕ → Bool
 touches command n = is_in (1 ∷ 2 ∷ 3 ∷ (own_tables command).read) n || writes command n
+
+-- how a command takes a table; the journal is number 12
+pub record Need : Type 0 where
+  pub lock : ℕ
+  pub writes : Bool
 
 -- the set of a request in rising order; one whose words are refused has none
 abbrev pub need_for : Command → ℕ → Need

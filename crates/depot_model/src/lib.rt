@@ -5,6 +5,7 @@
 //! stand the types of commands, requests and replies, filters, the reading of file types, and laws of the definitions.
 #![tactic(auto)]
 
+mod block;
 mod command;
 mod file_type;
 mod filter;
@@ -15,6 +16,7 @@ mod refusal;
 mod reply;
 mod request;
 
+pub use block::Block;
 pub use command::{Command, FileArgument, Labelling, PatternArgument, Taking};
 pub use file_type::{is_file_type, is_printed_type, printed_type};
 pub use filter::{Filter, FilterRule};

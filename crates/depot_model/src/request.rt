@@ -2,6 +2,7 @@
 
 ghost use Rattle.std.specs.Prelude.{◌≡◌, IfOk};
 
+use crate::block::Block;
 use crate::command::Command;
 use depot_path::{DepotPath, Name, PathFault, Sequence, Text};
 use std::alloc::AllocError;
@@ -36,7 +37,7 @@ pub struct Content {
     /// The file's path in the workspace.
     pub path: DepotPath,
     /// Its bytes.
-    pub bytes: Text,
+    pub bytes: Block,
 }
 
 /// Why the words of a command line are no command.

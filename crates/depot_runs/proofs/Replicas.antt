@@ -12,8 +12,7 @@ use Rattle.depot_model.specs.declared.command.Command.TheVariants.{ProtectSave, 
 use Rattle.depot_model.specs.Deeds.{Deed}
 use Rattle.depot_model.specs.Filter.{filter_of}
 use Rattle.depot_model.specs.Cut.{cut}
-use Rattle.depot_model.specs.Tables.{needs_of}
-use Rattle.depot_model.specs.Machine.{Need}
+use Rattle.depot_model.specs.Tables.{Need, needs_of}
 use Rattle.depot_runs.specs.Replica.{replica_reply_of}
 use Rattle.depot_model.specs.Shelves.{is_shelved}
 use Rattle.depot_model.specs.Places.{Placed}

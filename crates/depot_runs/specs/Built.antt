@@ -1,7 +1,7 @@
 -- The commands that are built. Each other one is refused as not built yet; this goes when all are.
 use Rattle.std.specs.Prelude.{Bool, true, false, ◌||◌}
 use Rattle.depot_model.specs.declared.command.Command.{Command}
-use Rattle.depot_model.specs.declared.command.Command.TheVariants.{CounterShow, CounterSet, CounterDelete, Counters, ClientShow, ClientSave, LabelShow, LabelSave, Labels, GroupShow, GroupSave, ProtectShow, ProtectSave, Add, Edit, Delete, Move, Revert, Reopen, Lock, Unlock, Opened, ChangeShow, ChangeSave, ChangeDelete, Changes, Describe, Where, Sync, Have, Tag, LabelSync, Files, FileLog, Print, Dirs, FileStat, Integrate, Resolve, Integrated, Checkpoint, Pull, SubmitChange, SubmitDefault}
+use Rattle.depot_model.specs.declared.command.Command.TheVariants.{CounterShow, CounterSet, CounterDelete, Counters, ClientShow, ClientSave, LabelShow, LabelSave, Labels, GroupShow, GroupSave, ProtectShow, ProtectSave, Add, Edit, Delete, Move, Revert, Reopen, Lock, Unlock, Opened, ChangeShow, ChangeSave, ChangeDelete, Changes, Describe, Where, Sync, Have, Tag, LabelSync, Files, FileLog, Print, Dirs, FileStat, Integrate, Resolve, Integrated, Checkpoint, Pull, JobShow, JobSave, Jobs, Fix, FixDelete, Fixes, SubmitChange, SubmitDefault}
 
 -- counters, clients, labels, groups and protections
 abbrev pub is_spec : Command → Bool
@@ -69,6 +69,16 @@ is_server Checkpoint = true
 is_server Pull = true
 is_server _ = false
 
+-- jobs and fixes
+abbrev pub is_job : Command → Bool
+is_job (JobShow name) = true
+is_job JobSave = true
+is_job Jobs = true
+is_job (Fix change jobs) = true
+is_job (FixDelete change jobs) = true
+is_job (Fixes change job) = true
+is_job _ = false
+
 -- submits
 abbrev pub is_submit : Command → Bool
 is_submit (SubmitChange change) = true
@@ -76,4 +86,4 @@ is_submit (SubmitDefault text) = true
 is_submit _ = false
 
 abbrev pub is_built : Command → Bool
-is_built command = is_spec command || (is_opening command || (is_change command || (is_syncing command || (is_history command || (is_server command || is_submit command)))))
+is_built command = is_spec command || (is_opening command || (is_change command || (is_syncing command || (is_history command || (is_server command || (is_job command || is_submit command))))))

@@ -40,7 +40,7 @@ fn know_bytes(text: &Text)
 fn know_content(content: &Content)
     ensures { IsTrue (is_of_bytes content.now) }
 {
-    know_bytes(&content.bytes);
+    know_bytes(content.bytes.text());
 }
 
 /// Contents are of bytes.

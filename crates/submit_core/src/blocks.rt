@@ -37,7 +37,7 @@ fn add_block<'a>(
         return Ok(());
     }
     let path = own_path(&content.path)?;
-    by_path.insert(path, &content.bytes)?;
+    by_path.insert(path, content.bytes.text())?;
     Ok(())
 }
 

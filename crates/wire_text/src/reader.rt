@@ -11,6 +11,7 @@ use crate::head::Head;
 use crate::intake::Intake;
 use crate::part::{PartRead, read_part};
 use crate::script::{HeadRead, read_head};
+use depot_model::Block;
 use depot_path::{ClientPath, Name, Text};
 use indexmap::IndexMap;
 use outside_api::Source;
@@ -35,7 +36,7 @@ fn read_item<S: Source>(
     client: &Name,
     number: u32,
     input: &mut Option<Text>,
-    contents: &mut IndexMap<ClientPath, Text>,
+    contents: &mut IndexMap<ClientPath, Block>,
 ) -> Result<ItemRead, AllocError>
     requires number { number ≤ intake.old.place }
     ensures item { IfOk result (ItemCase (S.left source.old) (S.left source.new) (S.faults source.old) (S.faults source.new) intake.old intake.new (point_at client.now intake.old.place number input.old) input.new contents.old.entries contents.new.entries) }
@@ -62,7 +63,7 @@ pub struct ScriptReader {
     client: Option<Name>,
     number: u32,
     input: Option<Text>,
-    contents: IndexMap<ClientPath, Text>,
+    contents: IndexMap<ClientPath, Block>,
     ghost numbered: { number ≤ intake.place },
 }
 
@@ -140,7 +141,7 @@ impl ScriptReader {
     }
 
     /// The last block of each file of the client workspace, in the order in which the files were first named since they were last cleared.
-    pub fn contents(&self) -> &IndexMap<ClientPath, Text>
+    pub fn contents(&self) -> &IndexMap<ClientPath, Block>
         ensures { result.now.entries ≡ contents_of self.now }
     {
         &self.contents
