@@ -11,6 +11,7 @@ use Rattle.depot_model.specs.Deeds.{Deed}
 use Rattle.depot_path.specs.Path.{printed}
 use Rattle.disk_journal.specs.Images.{Committed, HasCommitted, HasEither, with_generation}
 use Rattle.recovery.specs.Holding.{ArePuts, HasAllRows, spots_end}
+use Rattle.recovery.specs.Rules.{DeletesAreUnplaced}
 use Rattle.recovery.specs.Standing.{StandFor}
 use Rattle.recovery.proofs.PutsFit.{puts_fit}
 use Rattle.table_changes.specs.Changed.{AllFitIn, AllRows, changed_by, no_rows}
@@ -47,6 +48,7 @@ module _ (was : Committed) (rows : AllRows) (d : List Deed) (archive : Files) (o
     rows = rows;
     has = of_depot.has;
     stand = of_depot.stand;
+    deletes = of_depot.deletes;
     generation = of_depot.generation;
     within = of_depot.within;
     contents = of_depot.contents;
@@ -62,6 +64,7 @@ module _ (was : Committed) (rows : AllRows) (d : List Deed) (archive : Files) (o
           rows = next.after;
           has = next_rows was next.after text next.checkpoint;
           stand = next.stand;
+          deletes = subst DeletesAreUnplaced (sym same) of_depot.deletes;
           generation = refl;
           within = subst (λ (l : List Record). spots_end l ≤ length (archive 0)) (sym same) of_depot.within;
           contents = λ path n r bytes is content.

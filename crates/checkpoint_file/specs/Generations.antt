@@ -10,6 +10,7 @@ use Rattle.depot_model.specs.Rules.{value_of}
 use Rattle.depot_rows.specs.Standing.{Stand}
 use Rattle.disk_journal.specs.Images.{Committed, HasCommitted, with_generation}
 use Rattle.recovery.specs.Holding.{HasAllRows, spots_end}
+use Rattle.recovery.specs.Rules.{DeletesAreUnplaced}
 use Rattle.recovery.specs.Standing.{HasContents, StandFor}
 use Rattle.table_changes.specs.Changed.{AllRows}
 use Rattle.checkpoint_file.specs.Checkpoint.{IsCheckpointOf}
@@ -27,10 +28,11 @@ HoldsEither was rows text after image = Holds was rows image ⊎ Holds (with_gen
 abbrev pub of_generation : ℕ → List Deed → List Deed
 of_generation generation d = Count (codes "journal") (Some generation) ∷ d
 
--- What is committed has the rows of a depot, whose contents an image of the archive's disk has.
+-- What is committed has the rows of a depot, deleted revisions having no place, and an image of the archive's disk has its contents.
 pub record IsOfDepot (was : Committed) (rows : AllRows) (d : List Deed) (archive : Files) : Type 0 where
   pub has : HasAllRows was rows
   pub stand : Stand rows d
+  pub deletes : DeletesAreUnplaced (rows Rev)
   pub generation : value_of (record_of d (keys.Counter (codes "journal"))) ≡ was.generation
   pub within : spots_end (rows Rev) ≤ length (archive 0)
   pub contents : HasContents (archive 0) rows d

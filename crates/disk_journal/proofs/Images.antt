@@ -4,6 +4,7 @@ use Rattle.std.proofs.lemmas.Bool.{cases_eq}
 use Rattle.std.proofs.lemmas.Bool.Decides.{nat_tests}
 use Rattle.outside_api.specs.Disk.{Files, Holds, Torn, OnFile}
 use Rattle.disk_journal.specs.Text.{IsGroup, AreGroups, mark, blocks}
+use Rattle.disk_journal.specs.Marks.{HasClosedMark}
 use Rattle.disk_journal.specs.Images.{Committed, with_group, generation_of, Begins, IsTail, IsRoot, HasCommitted, HasEither, HasForm, IsAtRest, IsReady}
 use Rattle.disk_journal.proofs.Blocks.{blocks-push, are_groups-push}
 use Rattle.disk_journal.proofs.Forms.{torn_behind, written_behind, torn_byte, written_byte, mark_split}
@@ -136,3 +137,10 @@ module _ (was : Committed) (file : ℕ) (file_is : file ≡ 1 + 2 * was.generati
       behind = group ++ mark 109 ++ ready.behind;
       form = ready_marked group 109 d c ready on;
     }
+
+    -- the marks that the one and the other leave
+    pub opened_mark : (group : List ℕ) (d c : Files) → IsReady was group d → OnFile file (Holds at (101 ∷ [])) d c → HasClosedMark (with_group was group) c
+    opened_mark group d c ready on = record { behind = ready.behind; is = (ready_marked group 101 d c ready on).file ∙ joined was group ready.behind }
+
+    pub closed_mark : (group : List ℕ) (d c : Files) → IsReady was group d → OnFile file (Holds at (109 ∷ [])) d c → HasClosedMark was c
+    closed_mark group d c ready on = record { behind = group ++ mark 109 ++ ready.behind; is = (ready_marked group 109 d c ready on).file }

@@ -5,6 +5,7 @@ use Rattle.std.proofs.lemmas.Bool.{cases_eq}
 use Rattle.outside_api.specs.Disk.{Files, Holds, Torn, OnFile}
 use Rattle.disk_journal.specs.Text.{AreGroups, mark}
 use Rattle.disk_journal.specs.Images.{Committed, with_generation, Begins, HasEither, IsTail, IsRoot, IsRootWith, HasForm, HasNext, IsAtRest, IsOpening}
+use Rattle.disk_journal.specs.Marks.{HasClosedMark, HasClosedRoot}
 use Rattle.disk_journal.proofs.Forms.{torn_byte, written_byte}
 use Rattle.disk_journal.proofs.Images.{same_form, rest_holds}
 
@@ -131,3 +132,12 @@ module _ (was : Committed) (checkpoint : List ℕ) (at : ℕ) (at_is : at ≡ wa
     behind = is.behind;
     form = form_kept (Holds at (109 ∷ [])) on;
   }
+
+  -- the marks that the one and the other leave
+  pub opened_next : OnFile 0 (Holds at (101 ∷ [])) d c → HasClosedMark (with_generation was checkpoint) c
+  opened_next on =
+      let next = next_kept (Holds at (101 ∷ [])) on in
+      record { behind = next.next_journal.behind; is = (next_form was checkpoint c next).file }
+
+  pub closed_root : OnFile 0 (Holds at (109 ∷ [])) d c → HasClosedRoot was c
+  closed_root on = written 109 on

@@ -4,12 +4,13 @@ use Rattle.outside_api.specs.Disk.{Files, After, Holds, Torn, OnFile, LeavesOnly
 use Rattle.outside_api.specs.Moments.{started}
 use Rattle.disk_journal.specs.Text.{IsGroup, AreGroups, mark, blocks}
 use Rattle.disk_journal.specs.Images.{Committed, with_group, with_generation, IsOpening, HasForm, IsAtRest, IsReady}
+use Rattle.disk_journal.specs.Marks.{HasClosedMark, HasClosedRoot, IsShut}
 use Rattle.disk_journal.specs.Stands.{Doubtful, nothing, group, opening, Knows, IsImage, HasWithOrWithout, Stands}
 use Rattle.disk_journal.specs.declared.journal.Journal.{Journal}
 use Rattle.disk_journal.specs.declared.journal.Doubt.{Doubt}
 use Rattle.disk_journal.specs.declared.journal.Doubt.TheVariants.{Nothing, Group, Generation}
-use Rattle.disk_journal.proofs.Images.{rest_holds, ready_holds, rest_torn, rest_written, ready_torn, ready_opened, ready_closed}
-use Rattle.disk_journal.proofs.Opening.{opening_holds, opening_torn, opening_opened, opening_closed, rest_elsewhere, next_written, rest_opening}
+use Rattle.disk_journal.proofs.Images.{rest_holds, ready_holds, rest_torn, rest_written, ready_torn, ready_opened, ready_closed, opened_mark, closed_mark}
+use Rattle.disk_journal.proofs.Opening.{opening_holds, opening_torn, opening_opened, opening_closed, rest_elsewhere, next_written, rest_opening, opened_next, closed_root}
 
 -- the journal's file reaches past the mark
 form_room : (was : Committed) (byte : ℕ) (behind : List ℕ) (image : Files) → HasForm was byte behind image → length (blocks was.groups) + 5 ≤ length (image (1 + 2 * was.generation))
@@ -88,6 +89,13 @@ module _ {D : Type 0} (seen may_leave : D → Files → Type 0) (reads : (disk :
     pub mark_closed : (c : Files) → After (OnFile file (Holds (journal.end.length + 1) (109 ∷ []))) (seen mid) c → IsAtRest was c
     mark_closed c after = ready_closed was file file_of (journal.end.length + 1) at_mark g after.0 c (ready after.0 (reads mid after.0 after.1)) after.2
 
+    -- the closed marks that these leave
+    pub mark_behind : (c : Files) → After (OnFile file (Holds (journal.end.length + 1) (101 ∷ []))) (seen mid) c → HasClosedMark (with_group was g) c
+    mark_behind c after = opened_mark was file file_of (journal.end.length + 1) at_mark g after.0 c (ready after.0 (reads mid after.0 after.1)) after.2
+
+    pub mark_shut : (c : Files) → After (OnFile file (Holds (journal.end.length + 1) (109 ∷ []))) (seen mid) c → HasClosedMark was c
+    mark_shut c after = closed_mark was file file_of (journal.end.length + 1) at_mark g after.0 c (ready after.0 (reads mid after.0 after.1)) after.2
+
   -- a group's mark that is in doubt
   module _ (file : ℕ) (file_is : file ≡ 1 + 2 * journal.end.generation) (in_doubt : journal.doubt ≡ Group) where
     pub settling : (doubt : Doubtful) → Stands may_leave journal was doubt → (c : Files) → After (OnFile file (Torn (journal.end.length + 1) 1)) (may_leave journal.disk) c → IsImage was doubt c
@@ -114,6 +122,15 @@ module _ {D : Type 0} (seen may_leave : D → Files → Type 0) (reads : (disk :
     settled (group g) stands c after =
         mark_closed file g (omega (arith, file_is, stands.generation)) stands.length journal.disk stands.each c after
 
+    pub settled_mark : (doubt : Doubtful) → Stands may_leave journal was doubt → (c : Files) → After (OnFile file (Holds (journal.end.length + 1) (109 ∷ []))) (seen journal.disk) c → IsShut was doubt c
+    settled_mark nothing stands c after = tt
+    settled_mark (opening checkpoint) stands c after = absurd (never stands.known)
+      where
+        never : journal.doubt ≡ Generation → ⊥
+        never is = cc
+    settled_mark (group g) stands c after =
+        mark_shut file g (omega (arith, file_is, stands.generation)) stands.length journal.disk stands.each c after
+
   -- a root mark that is in doubt
   module _ (in_doubt : journal.doubt ≡ Generation) where
     pub root_settling : (doubt : Doubtful) → Stands may_leave journal was doubt → (c : Files) → After (OnFile 0 (Torn journal.end.generation 1)) (may_leave journal.disk) c → IsImage was doubt c
@@ -138,6 +155,15 @@ module _ {D : Type 0} (seen may_leave : D → Files → Type 0) (reads : (disk :
         never is = cc
     root_settled (opening checkpoint) stands c after =
         opening_closed was checkpoint journal.end.generation stands.generation after.0 c (stands.each after.0 (reads journal.disk after.0 after.1)) after.2
+
+    pub root_settled_mark : (doubt : Doubtful) → Stands may_leave journal was doubt → (c : Files) → After (OnFile 0 (Holds journal.end.generation (109 ∷ []))) (seen journal.disk) c → IsShut was doubt c
+    root_settled_mark nothing stands c after = tt
+    root_settled_mark (group g) stands c after = absurd (never stands.known.0)
+      where
+        never : journal.doubt ≡ Group → ⊥
+        never is = cc
+    root_settled_mark (opening checkpoint) stands c after =
+        closed_root was checkpoint journal.end.generation stands.generation after.0 c (stands.each after.0 (reads journal.disk after.0 after.1)) after.2
 
   -- the root reaches to its mark
   image_root : (doubt : Doubtful) (image : Files) → IsImage was doubt image → length (image 0) ≡ 4095
@@ -175,6 +201,9 @@ module _ {D : Type 0} (seen may_leave : D → Files → Type 0) (reads : (disk :
     pub root_opened : (checkpoint : List ℕ) (mid : D) → ((c : Files) → may_leave mid c → IsOpening was checkpoint c) → (c : Files) → After (OnFile 0 (Holds journal.end.generation (101 ∷ []))) (seen mid) c → IsAtRest (with_generation was checkpoint) c
     root_opened checkpoint mid is c after = opening_opened was checkpoint journal.end.generation stands.generation after.0 c (is after.0 (reads mid after.0 after.1)) after.2
 
+    pub next_mark : (checkpoint : List ℕ) (mid : D) → ((c : Files) → may_leave mid c → IsOpening was checkpoint c) → (c : Files) → After (OnFile 0 (Holds journal.end.generation (101 ∷ []))) (seen mid) c → HasClosedMark (with_generation was checkpoint) c
+    next_mark checkpoint mid is c after = opened_next was checkpoint journal.end.generation stands.generation after.0 c (is after.0 (reads mid after.0 after.1)) after.2
+
 pub opening_room : (was : Committed) (checkpoint : List ℕ) (image : Files) → IsOpening was checkpoint image → length (image 0) ≡ 4095
 opening_room was checkpoint image is = is.root.long
 
@@ -204,6 +233,18 @@ known_doubt may_leave journal was (opening checkpoint) is stands some = never st
     never : journal.doubt ≡ Generation → ⊥
     never known = cc
 known_doubt may_leave journal was (group g) is stands some = never stands.known.0
+  where
+    never : journal.doubt ≡ Group → ⊥
+    never known = cc
+
+-- and then no mark has to be closed
+pub nothing_shut : {D : Type 0} (may_leave : D → Files → Type 0) (journal : Journal D) (was : Committed) (doubt : Doubtful) (image : Files) → journal.doubt ≡ Nothing → Stands may_leave journal was doubt → IsShut was doubt image
+nothing_shut may_leave journal was nothing image is stands = tt
+nothing_shut may_leave journal was (opening checkpoint) image is stands = absurd (never stands.known)
+  where
+    never : journal.doubt ≡ Generation → ⊥
+    never known = cc
+nothing_shut may_leave journal was (group g) image is stands = absurd (never stands.known.0)
   where
     never : journal.doubt ≡ Group → ⊥
     never known = cc

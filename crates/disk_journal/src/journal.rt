@@ -2,7 +2,7 @@
 
 ghost use Rattle.std.specs.Prelude.{◌≡◌, ◌≢◌, ◌⊎◌, ◌+◌, ◌*◌, ◌<◌, ◌≤◌, ◌^◌, length, OnOk, IfOk, IsErr, IsTrue, ◌↔◌};
 ghost use Rattle.outside_api.specs.Count.{HasCause, counted};
-ghost use Rattle.outside_api.specs.Disk.{After, Follows, LeavesOnly};
+ghost use Rattle.outside_api.specs.Disk.{Files, After, Follows, LeavesOnly};
 ghost use Rattle.journal_groups.specs.Groups.{group_text};
 ghost use Rattle.disk_journal.specs.Text.{IsGroup};
 ghost use Rattle.disk_journal.specs.Older.{SameBefore};
@@ -66,6 +66,7 @@ pub struct Journal<D: Disk> {
 
 impl<D: Disk> Journal<D> {
     ghost use Rattle.disk_journal.specs.declared.journal.Doubt.TheVariants.{Nothing};
+    ghost use Rattle.disk_journal.specs.Marks.{HasClosedMark, IsShut};
     ghost use Rattle.disk_journal.specs.Images.{Committed, HasCommitted, with_group, with_generation, HasEither};
     ghost use Rattle.disk_journal.specs.Stands.{Doubtful, nothing, group, opening, HasWithOrWithout, Stands, IsStill, CanBeAdopted, group_of, IsPrepared, next_number, generation_of_journal, disk_of};
 
@@ -129,6 +130,9 @@ impl<D: Disk> Journal<D> {
 
         ensures ok { (was : Committed) → Stands D.may_leave self.old was nothing →
             OnOk result (Stands D.may_leave self.new (with_group was (group_of prepared)) nothing) }
+        // The closed mark behind the group is `@mx@` and a line end.
+        ensures closed { (was : Committed) → Stands D.may_leave self.old was nothing →
+            OnOk result ((image : Files) → D.may_leave (disk_of self.new) image → HasClosedMark (with_group was (group_of prepared)) image) }
         ensures receipt { (was : Committed) → Stands D.may_leave self.old was nothing →
             IfOk result (λ receipt. (receipt.generation ≡ was.generation) × (receipt.group ≡ length was.groups + 1)) }
 
@@ -177,6 +181,9 @@ impl<D: Disk> Journal<D> {
         requires { (was : Committed) × ((doubt : Doubtful) × Stands D.may_leave self.old was doubt) }
         ensures ok { (was : Committed) (doubt : Doubtful) → Stands D.may_leave self.old was doubt →
             OnOk result (Stands D.may_leave self.new was nothing) }
+        // The mark is closed by `m`: a journal's is then `@mx@` and a line end.
+        ensures closed { (was : Committed) (doubt : Doubtful) → Stands D.may_leave self.old was doubt →
+            OnOk result ((image : Files) → D.may_leave (disk_of self.new) image → IsShut was doubt image) }
         ensures err { (was : Committed) (doubt : Doubtful) → Stands D.may_leave self.old was doubt →
             IsErr result → Stands D.may_leave self.new was doubt }
         ensures any_moment { (was : Committed) (doubt : Doubtful) → Stands D.may_leave self.old was doubt →
@@ -216,6 +223,9 @@ impl<D: Disk> Journal<D> {
 
         ensures ok { (was : Committed) → Stands D.may_leave self.old was nothing →
             OnOk result (Stands D.may_leave self.new (with_generation was checkpoint.now) nothing) }
+        // The next generation's journal begins with the closed mark `@mx@` and a line end.
+        ensures closed { (was : Committed) → Stands D.may_leave self.old was nothing →
+            OnOk result ((image : Files) → D.may_leave (disk_of self.new) image → HasClosedMark (with_generation was checkpoint.now) image) }
         ensures number { IfOk result (λ n. n ≡ generation_of_journal self.old + 1) }
 
         // Where the root mark's write wasn't begun, no image of the call is of the next generation; else it is in doubt.

@@ -110,3 +110,13 @@ module _ (files : Files) (rows : AllRows) (hold : Hold files rows) where
     where
       same_groups : {a b : List (List Change)} → Some a ≡ Some b → a ≡ b
       same_groups e = cc
+
+-- files hold one set of rows
+pub rows_once : (files : Files) (one other : AllRows) → Hold files one → Hold files other → (table : TableId) → other table ≡ one table
+rows_once files one other hold h table =
+    let same : h.was.generation ≡ hold.was.generation = sym h.committed.root ∙ hold.committed.root in
+    let puts : hold.has.puts ≡ h.has.puts = held_puts files one hold h.was.generation h.has.puts same (held_checkpoint files other h) (held_begins files other h h.was.generation refl) in
+    h.has.rows_are table
+    ∙ (ap (λ (r : AllRows). r table) (changed_joined no_rows h.has.puts (joined h.has.groups))
+    ∙ held_rows files one hold h.was.generation h.has.puts h.has.groups (changed_by no_rows h.has.puts) (changed_by (changed_by no_rows h.has.puts) (joined h.has.groups)) same puts
+    (held_groups files other h h.was.generation refl) refl refl table)

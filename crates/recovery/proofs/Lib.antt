@@ -14,6 +14,7 @@ pub mod Checkpoint
 pub mod Journals
 pub mod Held
 pub mod Looks
+pub mod Making
 pub mod Synced
 pub mod Landed
 pub mod Whole

@@ -1,5 +1,5 @@
 -- Faults that are passed on, and those that say nothing.
-use Rattle.std.proofs.Common.{◌≡◌, ℕ, Result, Ok, Err, sym, subst}
+use Rattle.std.proofs.Common.{◌≡◌, ◌≢◌, ℕ, Result, Ok, Err, sym, subst}
 use Rattle.std.specs.Result.{IfErr, IsErrAnd}
 use Rattle.recovery.specs.declared.fault.OpenFault.{OpenFault}
 use Rattle.recovery.specs.declared.fault.OpenFault.TheVariants.{Unmade, Damaged, DiskFault, Memory}
@@ -42,3 +42,8 @@ nothing_damaged {X} (Err y) fault P is says = subst (λ (f : OpenFault). IfDamag
     go (Damaged disk file place) says = absurd says
     go DiskFault says = tt
     go Memory says = tt
+
+-- of the fault of a disk nothing is said that is said of others
+pub no_fault_but : {X : Type 0} (r : Result X OpenFault) (P : Type 0) → IsErrAnd r (λ y. y ≡ DiskFault) → IfErr r (λ fault. fault ≢ DiskFault → P)
+no_fault_but (Ok x) P is = tt
+no_fault_but (Err y) P is = λ other. absurd (other is)

@@ -146,5 +146,5 @@ module _ (d : List Deed) (files contents : Files) (stands : StandFor d files con
   hold_of = record {
     hold_within = record { hold = record { was = stands.was; committed = stands.committed; has = stands.has }; within = stands.within };
     whole = each_found (contents 0) [] (stands.rows tables.Rev) rows_rise row_whole;
-    suit = record { rules = kept; tells = ap value_of (stands.stand.each tables.Counter (keys.Counter (codes "journal")) refl) ∙ stands.generation };
+    suit = record { rules = kept; deletes = stands.deletes; tells = ap value_of (stands.stand.each tables.Counter (keys.Counter (codes "journal")) refl) ∙ stands.generation };
   }

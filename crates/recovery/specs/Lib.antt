@@ -3,6 +3,7 @@ pub mod Contents
 pub mod Faults
 pub mod Pieces
 pub mod Looking
+pub mod Making
 pub mod Opening
 pub mod Reading
 pub mod Rules

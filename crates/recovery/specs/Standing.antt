@@ -17,6 +17,7 @@ use Rattle.depot_model.specs.Records.{record_of}
 use Rattle.depot_path.specs.Path.{printed}
 use Rattle.depot_rows.specs.Standing.{Stand}
 use Rattle.recovery.specs.Holding.{HasAllRows, spots_end}
+use Rattle.recovery.specs.Rules.{DeletesAreUnplaced}
 
 -- the archive's file has the bytes at the spot of a row
 abbrev pub HasContent : List ℕ → RevRecord → List ℕ → Type 0
@@ -27,13 +28,15 @@ abbrev pub HasContents : List ℕ → AllRows → List Deed → Type 0
 HasContents file rows d = (path : List ℕ) (n : ℕ) (r : Revision) (bytes : List ℕ) → revision d path n ≡ Some r → r.entry.content ≡ Some bytes →
     (row : RevRecord) × (row_at (keys.Rev (printed path) n) (rows tables.Rev) ≡ Some (Rev row)) × HasContent file row bytes
 
--- The files' rows are those of the depot, the counter `journal` is the generation, and the archive has the contents and no spot past its end.
+-- The files' rows are those of the depot, deleted revisions having no place, the counter `journal` is the generation, and the archive has the contents
+-- and no spot past its end.
 pub record StandFor (d : List Deed) (journal archive : Files) : Type 0 where
   pub was : Committed
   pub committed : HasCommitted was journal
   pub rows : AllRows
   pub has : HasAllRows was rows
   pub stand : Stand rows d
+  pub deletes : DeletesAreUnplaced (rows tables.Rev)
   pub generation : value_of (record_of d (keys.Counter (codes "journal"))) ≡ was.generation
   pub within : spots_end (rows tables.Rev) ≤ length (archive 0)
   pub contents : HasContents (archive 0) rows d

@@ -1,11 +1,14 @@
 //! Making the files of an empty depot.
 
 ghost use Rattle.std.specs.Prelude.{◌≡◌, ◌≢◌, ◌⊎◌, [], length, OnOk, Err};
-ghost use Rattle.outside_api.specs.Disk.{Files};
+ghost use Rattle.outside_api.specs.Count.{HasRisen};
+ghost use Rattle.outside_api.specs.Disk.{Files, After, Follows, LeavesOnly, Same};
 ghost use Rattle.disk_journal.specs.Images.{HasCommitted};
-ghost use Rattle.disk_journal.specs.Made.{made};
+ghost use Rattle.disk_journal.specs.Made.{made, SameOthers};
 ghost use Rattle.recovery.specs.Standing.{StandFor};
 ghost use Rattle.recovery.specs.Looking.{OnlyReads, AreCauses};
+ghost use Rattle.recovery.specs.Making.{IsMaking};
+ghost use Rattle.recovery.specs.Opening.{LooksOnly};
 ghost use Rattle.recovery.specs.declared.fault.MakeFault.TheVariants.{Made, DiskFault};
 
 use crate::fault::MakeFault;
@@ -14,11 +17,20 @@ use outside_api::Disk;
 
 const ROOT: u32 = 0;
 
-/// Makes the files of an empty depot: the root, the first checkpoint and an empty journal. Takes no
-/// memory. Where the root isn't empty it makes nothing.
+/// Makes the files of an empty depot: the first checkpoint and an empty journal, and then the root, so
+/// that there are no files before the rest stands whole. Takes no memory. Where the root isn't empty it
+/// makes nothing.
 pub fn make_files<D: Disk>(journal: &mut D, archive: &mut D) -> Result<(), MakeFault>
     ensures made { OnOk result ((image : Files) → D.may_leave journal.new image → HasCommitted made image) }
     ensures empty_depot { OnOk result ((image contents : Files) → D.may_leave journal.new image → StandFor [] image contents) }
+    // The journal's other files are as they were read.
+    ensures others { OnOk result (Follows SameOthers (D.seen journal.old) (D.may_leave journal.new)) }
+    // Whatever is answered, at every moment they stay as they were, and so does the root until the rest is that of an empty depot.
+    ensures images { Follows IsMaking (D.may_leave journal.old) (D.may_leave journal.new) }
+    ensures any_moment { LeavesOnly D.moment D.left_since journal.old journal.new (After IsMaking (D.may_leave journal.old)) }
+    // Whatever is answered, each image of the archive, at every moment, is one that it had, and it reads as before unless its sync failed.
+    ensures archive_looks { LooksOnly D.may_leave D.moment D.left_since archive.old archive.new }
+    ensures archive_reads { Same (D.seen archive.old) (D.seen archive.new) ⊎ ((result ≡ Err DiskFault) × HasRisen (D.faults archive.old) (D.faults archive.new)) }
     ensures unmade { (files : Files) → D.seen journal.old files → OnOk result (length (files 0) ≡ 0) }
     ensures there { (files : Files) → D.seen journal.old files → result ≡ Err Made → length (files 0) ≢ 0 }
     ensures exactly { (files : Files) → D.seen journal.old files → length (files 0) ≢ 0 → (result ≡ Err Made) ⊎ (result ≡ Err DiskFault) }

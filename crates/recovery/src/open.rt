@@ -63,6 +63,7 @@ fn read_depot<D: Disk>(alloc: Global, journal: &mut D, archive: &mut D) -> Resul
     ensures damaged { (files contents : Files) → D.seen journal.old files → D.seen archive.old contents → IfErr result (Tells (IsDamage files contents)) }
     ensures unmade { (files : Files) → D.seen journal.old files → result ≡ Err Unmade → length (files 0) ≡ 0 }
     ensures exactly { (files : Files) → D.seen journal.old files → length (files 0) ≡ 0 → IsUnmadeOrSaysNothing result }
+    ensures read { IfErr result (λ fault. fault ≢ DiskFault → HasSynced D.seen D.may_leave journal.old journal.new × HasSynced D.seen D.may_leave archive.old archive.new) }
     ensures journal_looks { LooksOnly D.may_leave D.moment D.left_since journal.old journal.new }
     ensures archive_looks { LooksOnly D.may_leave D.moment D.left_since archive.old archive.new }
     ensures cause { AreCauses (D.faults journal.old) (D.faults journal.new) (D.faults archive.old) (D.faults archive.new) (result ≡ Err DiskFault) }
@@ -78,8 +79,9 @@ fn read_depot<D: Disk>(alloc: Global, journal: &mut D, archive: &mut D) -> Resul
 /// Opens the files of a depot: syncs both disks, and reads the root, the checkpoint of its generation and
 /// the journal.
 ///
-/// It is checked that the changes fit the rows before them, that the rows keep their rules, that the counter
-/// `journal` tells the generation, that no spot ends behind the archive, and that each content has its digest.
+/// It is checked that the changes fit the rows before them, that the rows keep their rules, that deleted
+/// revisions have their place at 0, that the counter `journal` tells the generation, that no spot ends behind
+/// the archive, and that each content has its digest.
 pub fn open_files<D: Disk>(alloc: Global, journal: D, archive: D) -> Result<Opened<D>, NotOpened<D>>
     // What is committed has the rows of the tables.
     ensures open { IfOk result (λ opened. (was : Committed) × IsOpen D.may_leave was opened) }
@@ -88,15 +90,19 @@ pub fn open_files<D: Disk>(alloc: Global, journal: D, archive: D) -> Result<Open
     ensures within { (contents : Files) → D.seen archive contents → IfOk result (λ opened. opened.tables.archive_end ≤ length (contents 0)) }
     // The archive has the content of each live revision.
     ensures contents { (contents : Files) → D.seen archive contents → IfOk result (λ opened. AreWhole (contents 0) (rows_of opened.tables Rev)) }
-    // The rows keep their rules, and tell the generation of the files.
+    // The rows keep their rules, deleted revisions having no place, and tell the generation of the files.
     ensures suit { IfOk result (λ opened. SuitFiles (generation_of_journal opened.journal) (rows_of opened.tables)) }
-    // Files that hold rows that keep their rules and tell the generation, and their contents, are opened, and so those are that stand for a depot: the rows then stand for it.
+    // So the files hold them whole.
+    ensures whole { (files contents : Files) → D.seen journal files → D.seen archive contents → IfOk result (λ opened. HoldWhole files contents (rows_of opened.tables)) }
+    // Files that hold rows that suit them, and their contents, are opened, and so those are that stand for a depot: the rows then stand for it.
     ensures opens { (files contents : Files) (rows : AllRows) → D.seen journal files → D.seen archive contents → HoldWhole files contents rows → OpensOrSaysNothing result }
     ensures stands { (files contents : Files) (d : List Deed) → D.seen journal files → D.seen archive contents → StandFor d files contents →
         OpensOrSaysNothing result × IfOk result (λ opened. Stand (rows_of opened.tables) d) }
     ensures damaged { (files contents : Files) → D.seen journal files → D.seen archive contents → IfErr result (λ found. Tells (IsDamage files contents) found.fault) }
     ensures unmade { (files : Files) → D.seen journal files → IsUnmade result → length (files 0) ≡ 0 }
     ensures exactly { (files : Files) → D.seen journal files → length (files 0) ≡ 0 → UnmadeOrSaysNothing result }
+    // Files that aren't opened, where no disk failed, read as before, and a crash leaves what they read.
+    ensures unopened { IfErr result (λ found. found.fault ≢ DiskFault → HasSynced D.seen D.may_leave journal found.journal × HasSynced D.seen D.may_leave archive found.archive) }
     ensures journal_synced { IfOk result (λ opened. HasSynced D.seen D.may_leave journal (disk_of opened.journal)) }
     ensures archive_synced { IfOk result (λ opened. HasSynced D.seen D.may_leave archive (archive_of opened.archive)) }
     ensures journal_looks { LooksOnly D.may_leave D.moment D.left_since journal (journal_disk result) }

@@ -15,22 +15,24 @@ ghost use Rattle.recovery.specs.declared.fault.OpenFault.TheVariants.{DiskFault,
 
 use crate::depot::{Found, read_rows};
 use crate::fault::{DepotDisk, OpenFault};
+use crate::spots::deletes_are_unplaced;
 use outside_api::Disk;
 use row_rules::{generation_of, keep_rules};
 use std::alloc::{AllocError, Global};
 
-/// Whether the rows that were read keep their rules, and tell the generation of the files.
+/// Whether the rows that were read keep their rules, deleted revisions have no place, and the rows tell the
+/// generation of the files.
 fn suit_files(alloc: Global, found: &Found) -> Result<bool, AllocError>
     ensures suit { IfOk result (λ suit. IsTrue suit → SuitFiles found.now.generation (rows_of found.now.tables)) }
     ensures only { SuitFiles found.now.generation (rows_of found.now.tables) → IfOk result IsTrue }
 {
     let told = generation_of(alloc, &found.tables)?;
     let keep = keep_rules(alloc, &found.tables)?;
-    Ok(keep && told == found.generation as u64)
+    let unplaced = deletes_are_unplaced(&found.tables);
+    Ok(keep && unplaced && told == found.generation as u64)
 }
 
-/// Checks that the rows that were read keep their rules, and tell the generation of the files. Where they
-/// don't, the journal is damaged at the end of its committed text.
+/// Checks that the rows that were read suit the files. Where they don't, the journal is damaged at the end of its committed text.
 fn check_rules(alloc: Global, found: &Found) -> Result<(), OpenFault>
     requires last { found.now.generation ≤ 4095 }
     ensures suit { OnOk result (SuitFiles found.now.generation (rows_of found.now.tables)) }
@@ -47,7 +49,7 @@ fn check_rules(alloc: Global, found: &Found) -> Result<(), OpenFault>
     })
 }
 
-/// Reads the rows of the files, and checks that they keep their rules and tell the generation.
+/// Reads the rows of the files, and checks that they suit these.
 pub(crate) fn read_kept_rows<D: Disk>(alloc: Global, disk: &mut D) -> Result<Found, OpenFault>
     ensures found { IfOk result (λ found. HasFound (D.seen disk.old) found) }
     ensures suit { IfOk result (λ found. SuitFiles found.generation (rows_of found.tables)) }

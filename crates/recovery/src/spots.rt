@@ -1,10 +1,11 @@
 //! The spots of revisions in the archive.
 
-ghost use Rattle.std.specs.Prelude.{◌≡◌, ◌≤◌, ◌<◌, ◌+◌, IfSome, None};
+ghost use Rattle.std.specs.Prelude.{◌≡◌, ◌≤◌, ◌<◌, ◌+◌, ◌↔◌, IfSome, IsTrue, None};
 ghost use Rattle.db_records.specs.declared.table.TableId.TheVariants.{Rev};
 ghost use Rattle.table_changes.specs.Changed.{rows_of};
+ghost use Rattle.recovery.specs.Rules.{DeletesAreUnplaced, IsUnplacedIfDeleted};
 
-use db_records::{RevRecord, TableId};
+use db_records::{Record, RevRecord, TableId};
 use table_store::{Tables, Walk};
 
 /// All rows of the table of revisions.
@@ -21,4 +22,27 @@ pub(crate) fn end_within(revision: &RevRecord, limit: u64) -> Option<u64>
 {
     let end = revision.at.checked_add(revision.length)?;
     if end <= limit { Some(end) } else { None }
+}
+
+/// Whether a row has its place at 0, where it is of a deleted revision.
+fn is_unplaced_if_deleted(row: &Record) -> bool
+    ensures { IsTrue result ↔ IsUnplacedIfDeleted row.now }
+{
+    let live = row.live();
+    let Record::Rev(revision) = row else {
+        return true;
+    };
+    live || revision.at == 0
+}
+
+/// Whether each deleted revision has its place at 0.
+pub(crate) fn deletes_are_unplaced(tables: &Tables) -> bool
+    ensures { IsTrue result ↔ DeletesAreUnplaced (rows_of tables.now Rev) }
+{
+    for row in revisions(tables) {
+        if !is_unplaced_if_deleted(row) {
+            return false;
+        }
+    }
+    true
 }

@@ -1,14 +1,14 @@
 -- Revisions of a submitted change: each stands at the spot of its entry.
-use Rattle.std.proofs.Common.{◌≡◌, ◌⊎◌, ◌+◌, ℕ, zero, suc, Bool, true, false, List, [], ◌∷◌, length, map, Option, Some, None, Ok, inl, inr, refl, sym, ap, subst, ◌∙◌, arith}
-use Rattle.std.specs.Prelude.{◌&&◌, ◌==◌, is_some, if◌then◌else◌, option_map, option_and_then, find, slice_get, codes}
+use Rattle.std.proofs.Common.{◌≡◌, ◌⊎◌, ◌+◌, ℕ, zero, suc, Bool, true, false, List, [], ◌∷◌, map, Option, Some, None, Ok, inl, inr, refl, sym, ap, subst, ◌∙◌, arith}
+use Rattle.std.specs.Prelude.{◌&&◌, ◌==◌, not, bytes_eq, is_some, is_none, if◌then◌else◌, option_map, find, slice_get, codes}
 use Rattle.std.specs.List.{list_all}
 use Rattle.std.specs.Option.{option_map_or}
 use Rattle.std.proofs.lemmas.Option.{slice_get_past}
 use Rattle.depot_path.specs.Bytes.{same}
 use Rattle.depot_path.specs.Path.{path_of, printed, is_path}
 use Rattle.depot_path.proofs.Paths.{prints_path}
+use Rattle.db_records.specs.Record.{is_live}
 use Rattle.db_records.specs.declared.change.Spot.{Spot}
-use Rattle.db_records.specs.declared.key.Key.{Key}
 use Rattle.db_records.specs.declared.key.Key.TheVariants as keys
 use Rattle.db_records.specs.declared.record.Record.{Record}
 use Rattle.db_records.specs.declared.record.Record.TheVariants as records
@@ -17,8 +17,9 @@ use Rattle.db_records.specs.declared.table.TableId.TheVariants as tables
 use Rattle.table_changes.specs.Changed.{AllRows}
 use Rattle.depot_model.specs.Deeds as model
 use Rattle.depot_model.specs.Records.{record_of, at_path, rev_record, unplaced}
-use Rattle.depot_model.specs.Revisions.{Revision, revisions, revision, revision_in, head, entries_at}
-use Rattle.depot_model.specs.Rules.{Rows, HasRev, are_distinct}
+use Rattle.depot_model.specs.Revisions.{Revision, revisions, revision, revision_in, head, entries_at, is_live_action}
+use Rattle.depot_model.specs.Rows.{action_word}
+use Rattle.depot_model.specs.Rules.{Rows, HasRev, are_distinct, has_its_content, have_their_contents}
 use Rattle.depot_model.specs.Step.{after}
 use Rattle.depot_rows.specs.declared.deed.Deed.{Deed}
 use Rattle.depot_rows.specs.declared.deed.Deed.TheVariants as deeds
@@ -33,7 +34,7 @@ use Rattle.depot_rows.proofs.Keys.{same-is, same-self, number-self, left-true, r
 use Rattle.sound_landing.proofs.Listed.{in_filter, in_map, get_in, get_left, get_either, IsBehind}
 use Rattle.sound_landing.proofs.NewRevisions.{at_read, shown}
 use Rattle.step_stores.specs.Stored.{IsPlaced, ArePlaced, LandNothing, NothingLands}
-use Rattle.stored_contents.specs.Placed.{IsPlacedAt, no_spot, spot_of}
+use Rattle.stored_contents.specs.Placed.{HasNoneIfDeleted, HasSpot, IsPlacedAt, no_spot, spot_of}
 
 some-is : {A : Type 0} {x y : A} → Some x ≡ Some y → x ≡ y
 some-is e = cc
@@ -68,6 +69,31 @@ get_map : {A B : Type 0} (f : A → B) (xs : List A) (k : ℕ) → slice_get xs 
 get_map f [] k e = refl
 get_map f (x ∷ xs) zero e = absurd cc
 get_map f (x ∷ xs) (suc k) e = get_map f xs k e
+
+-- what holds of all elements holds of each
+of_all : {A : Type 0} (test : A → Bool) (xs : List A) (x : A) → list_all test xs ≡ true → In xs x → test x ≡ true
+of_all test [] x all there = absurd there
+of_all test (y ∷ xs) x all (inl one) = ap test (sym one) ∙ left-true (test y) (list_all test xs) all
+of_all test (y ∷ xs) x all (inr later) = of_all test xs x (right-true (test y) (list_all test xs) all) later
+
+-- ---- actions that aren't live
+
+abbrev bytes_live : List ℕ → Bool
+bytes_live word = not (bytes_eq word (codes "delete")) && not (bytes_eq word (codes "move/delete"))
+
+live_word : (action : model.Action) → bytes_live (action_word action) ≡ false → is_live_action action ≡ false
+live_word model.Delete dead = refl
+live_word model.MoveDelete dead = refl
+live_word model.Add dead = absurd cc
+live_word model.Edit dead = absurd cc
+live_word model.Branch dead = absurd cc
+live_word model.Integrate dead = absurd cc
+live_word model.MoveAdd dead = absurd cc
+
+no_content : (live : Bool) (content : Option (List ℕ)) → live ≡ false → (if live then is_some content else is_none content) ≡ true → content ≡ None
+no_content true content dead own = absurd cc
+no_content false None dead own = refl
+no_content false (Some bytes) dead own = absurd cc
 
 -- the spot of a revision's row
 abbrev spot_in : Record → Spot
@@ -226,26 +252,51 @@ module _ (all : AllRows) (d : List model.Deed) (l : Landing) (m : model.Landing)
     made_row : (text : List ℕ) (n : ℕ) → rows_made (keys.Rev text n) ≡ or_before (option_map (rev_row l.change) (find (is_revision text n) l.entries)) (row_in all (keys.Rev text n))
     made_row text n = done_revs dones (effect (deeds.Land l) (row_in all)) quiet text n
 
-    -- a row that is made of nothing has the spot of its entry's content, or none
-    pub new_place : (text : List ℕ) (n : ℕ) (row : RevRecord) → row_in all (keys.Rev text n) ≡ None → Some (records.Rev row) ≡ rows_made (keys.Rev text n)
-        → (spot_of row ≡ no_spot) ⊎ ((bytes : List ℕ) × IsPlacedAt all d stores from (spot_of row) bytes)
-    new_place text n row none is_made = go (find (is_revision text n) l.entries) refl (is_made ∙ made_row text n
-        ∙ ap (or_before (option_map (rev_row l.change) (find (is_revision text n) l.entries))) none)
-      where
-        by_content : (s : Option Stored) (c : Option (List ℕ)) → IsStored s c → IsPlaced all d stores from s c
-            → spot_of row ≡ record { at = option_map_or (λ (x : Stored). x.spot.at) s 0; length = option_map_or (λ (x : Stored). x.spot.length) s 0 }
-            → (spot_of row ≡ no_spot) ⊎ ((bytes : List ℕ) × IsPlacedAt all d stores from (spot_of row) bytes)
-        by_content None None is at spot = inl spot
-        by_content None (Some c) is at spot = absurd is
-        by_content (Some s) None is at spot = absurd is
-        by_content (Some s) (Some c) is at spot = inr (c, subst (λ (x : Spot). IsPlacedAt all d stores from x c) (sym spot) at)
+    module _ (text : List ℕ) (n : ℕ) (row : RevRecord) (none : row_in all (keys.Rev text n) ≡ None) (is_made : Some (records.Rev row) ≡ rows_made (keys.Rev text n)) where
+      -- the entry of a row that is made of nothing
+      record IsOfEntry : Type 0 where
+        pub entry : Entry
+        pub found : IsFound text n entry m.entries
+        pub row_is : records.Rev row ≡ rev_row l.change entry
 
-        go : (found : Option Entry) → find (is_revision text n) l.entries ≡ found → Some (records.Rev row) ≡ or_before (option_map (rev_row l.change) found) None
-            → (spot_of row ≡ no_spot) ⊎ ((bytes : List ℕ) × IsPlacedAt all d stores from (spot_of row) bytes)
-        go None f e = absurd cc
-        go (Some e) f one =
-            let x = found_entry text n l.entries m.entries is.entries placed ok.0 e f in
-            by_content e.content (x.entry).content (x.entry_is).content x.at (ap spot_in (some-is one))
+      of_entry : IsOfEntry
+      of_entry = go (find (is_revision text n) l.entries) refl (is_made ∙ made_row text n
+          ∙ ap (or_before (option_map (rev_row l.change) (find (is_revision text n) l.entries))) none)
+        where
+          go : (found : Option Entry) → find (is_revision text n) l.entries ≡ found → Some (records.Rev row) ≡ or_before (option_map (rev_row l.change) found) None → IsOfEntry
+          go None f e = absurd cc
+          go (Some e) f one = record { entry = e; found = found_entry text n l.entries m.entries is.entries placed ok.0 e f; row_is = some-is one }
+
+      -- it has the spot of its entry's content, or none
+      pub new_place : HasSpot all d stores from row
+      new_place =
+          let x = of_entry in
+          by_content x.entry.content (x.found.entry).content (x.found.entry_is).content x.found.at (ap spot_in x.row_is)
+        where
+          by_content : (s : Option Stored) (c : Option (List ℕ)) → IsStored s c → IsPlaced all d stores from s c
+              → spot_of row ≡ record { at = option_map_or (λ (x : Stored). x.spot.at) s 0; length = option_map_or (λ (x : Stored). x.spot.length) s 0 }
+              → HasSpot all d stores from row
+          by_content None None is at spot = inl spot
+          by_content None (Some c) is at spot = absurd is
+          by_content (Some s) None is at spot = absurd is
+          by_content (Some s) (Some c) is at spot = inr (c, subst (λ (x : Spot). IsPlacedAt all d stores from x c) (sym spot) at)
+
+      -- and none where it isn't live
+      pub new_none : have_their_contents m ≡ true → HasNoneIfDeleted row
+      new_none whole dead =
+          let x = of_entry in
+          let own : has_its_content x.found.entry ≡ true = of_all has_its_content m.entries x.found.entry whole x.found.there in
+          let word : bytes_live (action_word x.found.entry.action) ≡ false =
+          ap (λ (a : model.Action). bytes_live (action_word a)) (sym (x.found.entry_is).action) ∙ (ap is_live (sym x.row_is) ∙ dead) in
+          by_content x.entry.content (x.found.entry).content (x.found.entry_is).content
+          (no_content (is_live_action x.found.entry.action) (x.found.entry).content (live_word x.found.entry.action word) own) (ap spot_in x.row_is)
+        where
+          by_content : (s : Option Stored) (c : Option (List ℕ)) → IsStored s c → c ≡ None
+              → spot_of row ≡ record { at = option_map_or (λ (x : Stored). x.spot.at) s 0; length = option_map_or (λ (x : Stored). x.spot.length) s 0 }
+              → spot_of row ≡ no_spot
+          by_content None c is none spot = spot
+          by_content (Some s) None is none spot = absurd is
+          by_content (Some s) (Some c) is none spot = absurd cc
 
     -- the content of a new revision is at the spot of its row
     pub new_content : HasRows all d tables.Rev → (path : List ℕ) (n : ℕ) (r : Revision) (bytes : List ℕ) → IsNew path n r → (r.entry).content ≡ Some bytes

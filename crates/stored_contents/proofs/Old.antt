@@ -18,7 +18,7 @@ use Rattle.depot_model.specs.Steps.Submitting.{content_at}
 use Rattle.depot_rows.specs.Standing.{HasRows, row_in}
 use Rattle.depot_rows.proofs.Paths.{at_path-here}
 use Rattle.depots_alike.proofs.Nowhere.{no_revisions}
-use Rattle.row_changes.specs.Differences.{AreDifferences, LeadsTo, change_at, changed_key}
+use Rattle.row_changes.specs.Differences.{AreDifferences, LeadsTo, change_at}
 use Rattle.row_changes.proofs.Kept.{stored-after, row_after}
 use Rattle.stored_contents.specs.Placed.{IsPlacedAt, spot_of}
 

@@ -1,7 +1,7 @@
 -- Contents after a step: those that were there stand where they stood, and those of a submitted change where their entries say.
-use Rattle.std.proofs.Common.{◌≡◌, ◌⊎◌, ℕ, List, [], ◌∷◌, Option, Some, None, inl, inr, refl, sym, ap, subst, ◌∙◌}
-use Rattle.std.specs.Prelude.{option_and_then, map}
-use Rattle.std.specs.List.{AllByRecursion}
+use Rattle.std.proofs.Common.{◌≡◌, ◌⊎◌, ℕ, true, List, [], ◌∷◌, Option, Some, None, inl, inr, refl, sym, ap, subst, ◌∙◌}
+use Rattle.std.specs.Prelude.{option_and_then}
+use Rattle.std.specs.List.{AllByRecursion, list_all}
 use Rattle.depot_path.specs.Path.{printed}
 use Rattle.db_records.specs.Record.{key_of}
 use Rattle.db_records.specs.declared.change.Change.{Change}
@@ -17,7 +17,8 @@ use Rattle.table_changes.specs.Changed.{AllRows, changed_by}
 use Rattle.depot_model.specs.Deeds as model
 use Rattle.depot_model.specs.Records.{record_of}
 use Rattle.depot_model.specs.Revisions.{Revision, revision}
-use Rattle.depot_model.specs.Rules.{IsSound, HasRev}
+use Rattle.depot_model.specs.Numbers.{landings}
+use Rattle.depot_model.specs.Rules.{IsSound, HasRev, have_their_contents}
 use Rattle.depot_model.specs.Step.{Step as ModelStep, after}
 use Rattle.depot_model.specs.Steps.Submitting.{content_at}
 use Rattle.depot_rows.specs.declared.deed.Deed.{Deed}
@@ -26,27 +27,24 @@ use Rattle.depot_rows.specs.declared.deed.Landing.{Landing}
 use Rattle.depot_rows.specs.Deed.{IsLanding}
 use Rattle.depot_rows.specs.Effects.{effects, AreOfPaths, Follow}
 use Rattle.depot_rows.specs.Standing.{HasRows, row_in}
+use Rattle.depot_rows.proofs.Keys.{left-true}
 use Rattle.reply_rows.specs.declared.step.Step.{Step}
 use Rattle.row_changes.specs.Differences.{AreDifferences, change_at, changed_key}
 use Rattle.row_changes.proofs.Kept.{stored-after, row_after, row_left}
 use Rattle.row_texts.proofs.Changes.{own_change}
 use Rattle.step_stores.specs.Stored.{AreStored, ArePlaced, IsStoring, LandNothing, NothingLands}
-use Rattle.stored_contents.specs.Placed.{HasPlace, IsPlacedAt, StandAfter, no_spot, spot_of}
+use Rattle.stored_contents.specs.Placed.{HasNoneIfDeleted, HasSpot, IfPut, IsPlacedAt, StandAfter, spot_of}
 use Rattle.stored_contents.proofs.Old.{old_content, revision_there, was_none}
-use Rattle.stored_contents.proofs.New.{IsNew, done_revs, either, new_content, new_place, old_row, told_revision, told_row}
+use Rattle.stored_contents.proofs.New.{IsNew, done_revs, either, new_content, new_none, new_place, old_row, told_revision, told_row}
 
 module _ (all : AllRows) (from : ℕ) (d : List model.Deed) (sound : IsSound d) (has : HasRows all d Rev) (stores : List (List ℕ)) (changes : List Change)
     (dones : List Deed) (told : List model.Deed) (differ : AreDifferences all d (after d told) changes)
     (new : (key : Key) → row_in all key ≡ None → row_in (changed_by all changes) key ≡ effects dones (row_in all) key) where
-  -- what rows of new revisions have
-  abbrev HasSpot : RevRecord → Type 0
-  HasSpot row = (spot_of row ≡ no_spot) ⊎ ((bytes : List ℕ) × IsPlacedAt all d stores from (spot_of row) bytes)
-
-  module _ (kept : (text : List ℕ) (n : ℕ) → HasRev (record_of d) text n → record_of (after d told) (keys.Rev text n) ≡ record_of d (keys.Rev text n))
-      (placed : (text : List ℕ) (n : ℕ) (row : RevRecord) → row_in all (keys.Rev text n) ≡ None → Some (records.Rev row) ≡ effects dones (row_in all) (keys.Rev text n) → HasSpot row) where
+  module _ (P : RevRecord → Type 0) (kept : (text : List ℕ) (n : ℕ) → HasRev (record_of d) text n → record_of (after d told) (keys.Rev text n) ≡ record_of d (keys.Rev text n))
+      (made : (text : List ℕ) (n : ℕ) (row : RevRecord) → row_in all (keys.Rev text n) ≡ None → Some (records.Rev row) ≡ effects dones (row_in all) (keys.Rev text n) → P row) where
     -- a row that is put is after the changes the one at its key
     put : (change : Change) (op : Op) (row : RevRecord) → change_at changes (changed_key change) ≡ Some change → change.op ≡ op → change.row ≡ records.Rev row
-        → row_left op (records.Rev row) ≡ Some (records.Rev row) → HasSpot row
+        → row_left op (records.Rev row) ≡ Some (records.Rev row) → P row
     put change op row own op_is row_is left =
         let at : change_at changes (keys.Rev row.path row.rev) ≡ Some change = ap (λ (r : Record). change_at changes (key_of r)) (sym row_is) ∙ own in
         let none = was_none all d (after d told) changes has differ kept row.path row.rev change at in
@@ -54,37 +52,49 @@ module _ (all : AllRows) (from : ℕ) (d : List model.Deed) (sound : IsSound d) 
         stored-after all changes differ.rising (keys.Rev row.path row.rev)
         ∙ ap (λ (c : Option Change). row_after c (row_in all (keys.Rev row.path row.rev))) at in
         let row_now : row_in (changed_by all changes) (keys.Rev row.path row.rev) ≡ Some (records.Rev row) = now ∙ (λ i. row_left (op_is i) (row_is i)) ∙ left in
-        placed row.path row.rev row none (sym row_now ∙ new (keys.Rev row.path row.rev) none)
+        made row.path row.rev row none (sym row_now ∙ new (keys.Rev row.path row.rev) none)
 
-    place : (change : Change) → change_at changes (changed_key change) ≡ Some change → HasPlace all d stores from change.op change.row
-    place change own = go change.op change.row refl refl
+    if_put : (change : Change) → change_at changes (changed_key change) ≡ Some change → IfPut P change.op change.row
+    if_put change own = go change.op change.row refl refl
       where
-        go : (op : Op) (row : Record) → change.op ≡ op → change.row ≡ row → HasPlace all d stores from op row
+        go : (op : Op) (row : Record) → change.op ≡ op → change.row ≡ row → IfPut P op row
         go Remove row op_is row_is = tt
         go Put (records.Rev row) op_is row_is = put change Put row own op_is row_is refl
         go Replace (records.Rev row) op_is row_is = put change Replace row own op_is row_is refl
         go Put _ op_is row_is = tt
         go Replace _ op_is row_is = tt
 
-    pub all_placed : AllByRecursion (λ change. HasPlace all d stores from change.op change.row) changes
-    all_placed = go changes (own_change changes differ.rising)
+    -- what holds of each new row holds of all that are put
+    pub all_put : AllByRecursion (λ change. IfPut P change.op change.row) changes
+    all_put = go changes (own_change changes differ.rising)
       where
-        go : (cs : List Change) → AllByRecursion (λ change. change_at changes (changed_key change) ≡ Some change) cs → AllByRecursion (λ change. HasPlace all d stores from change.op change.row) cs
+        go : (cs : List Change) → AllByRecursion (λ change. change_at changes (changed_key change) ≡ Some change) cs → AllByRecursion (λ change. IfPut P change.op change.row) cs
         go [] own = tt
-        go (change ∷ cs) own = (place change own.0, go cs own.1)
+        go (change ∷ cs) own = (if_put change own.0, go cs own.1)
 
   -- ---- nothing is submitted
+
+  no_row : LandNothing dones → (P : RevRecord → Type 0) (text : List ℕ) (n : ℕ) (row : RevRecord) → row_in all (keys.Rev text n) ≡ None
+      → Some (records.Rev row) ≡ effects dones (row_in all) (keys.Rev text n) → P row
+  no_row none P text n row empty is = absurd (let both : Some (records.Rev row) ≡ None = is ∙ done_revs dones (row_in all) none text n ∙ empty in cc)
 
   pub quiet_after : LandNothing dones → NothingLands told → StandAfter all from d (after d told) stores changes
   quiet_after none nothing = record {
     contents = λ path n bytes content.
         old_content all d (after d told) changes has differ (λ text n h. told_row told d nothing text n) sound stores from path n bytes
         (ap (option_and_then (λ (r : Revision). r.entry.content)) (sym (told_revision told d nothing path n)) ∙ content);
-    places = all_placed (λ text n h. told_row told d nothing text n)
-        (λ text n row empty is. absurd (let both : Some (records.Rev row) ≡ None = is ∙ done_revs dones (row_in all) none text n ∙ empty in cc));
+    places = all_put (HasSpot all d stores from) (λ text n h. told_row told d nothing text n) (no_row none (HasSpot all d stores from));
+    deletes = λ sound_after. all_put HasNoneIfDeleted (λ text n h. told_row told d nothing text n) (no_row none HasNoneIfDeleted);
   }
 
 -- ---- a change is submitted
+
+-- in a sound depot the change that landed before deeds that submit nothing has its contents
+told_whole : (told d : List model.Deed) → NothingLands told → (m : model.Landing) (others : List model.Landing) → landings d ≡ m ∷ others
+    → list_all have_their_contents (landings (after d told)) ≡ true → have_their_contents m ≡ true
+told_whole [] d nothing m others is whole = left-true (have_their_contents m) (list_all have_their_contents others) (ap (list_all have_their_contents) (sym is) ∙ whole)
+told_whole (model.Land l ∷ told) d nothing m others is whole = absurd nothing
+told_whole (deed ∷ told) d nothing m others is whole = told_whole told (deed ∷ d) nothing m others is whole
 
 module _ (all : AllRows) (from : ℕ) (d : List model.Deed) (sound : IsSound d) (has : HasRows all d Rev) (stores : List (List ℕ)) (changes : List Change)
     (l : Landing) (m : model.Landing) (dones : List Deed) (told : List model.Deed) (differ : AreDifferences all d (after d (model.Land m ∷ told)) changes)
@@ -113,8 +123,11 @@ module _ (all : AllRows) (from : ℕ) (d : List model.Deed) (sound : IsSound d) 
   pub landed_after : StandAfter all from d (after landed told) stores changes
   landed_after = record {
     contents = contents;
-    places = all_placed all from d sound has stores changes (deeds.Land l ∷ dones) (model.Land m ∷ told) differ new kept
+    places = all_put all from d sound has stores changes (deeds.Land l ∷ dones) (model.Land m ∷ told) differ new (HasSpot all d stores from) kept
         (λ text n row empty is_made. new_place all d l m is ok stores from placed dones quiet text n row empty is_made);
+    deletes = λ sound_after.
+        all_put all from d sound has stores changes (deeds.Land l ∷ dones) (model.Land m ∷ told) differ new HasNoneIfDeleted kept
+        (λ text n row empty is_made. new_none all d l m is ok stores from placed dones quiet text n row empty is_made (told_whole told landed nothing m (landings d) refl sound_after.contents));
   }
 
 -- ---- either

@@ -1,4 +1,4 @@
-use Rattle.std.proofs.Common.{◌≡◌, ℕ, List, sym, subst, ◌∙◌}
+use Rattle.std.proofs.Common.{◌≡◌, ℕ, List, sym, subst, ◌∙◌, arith}
 use Rattle.db_records.specs.declared.record.Record.{Record}
 use Rattle.db_records.specs.declared.table.TableId.{TableId}
 use Rattle.disk_journal.specs.Stands.{CanBeAdopted}
@@ -7,6 +7,7 @@ use Rattle.depot_model.specs.Deeds.{Deed}
 use Rattle.depot_model.specs.Records.{record_of}
 use Rattle.depot_rows.specs.Standing.{Stand, unplaced_at}
 use Rattle.recovery.specs.Rules.{SuitFiles}
+use Rattle.recovery.proofs.Damaged.{hold_found}
 use Rattle.recovery.proofs.Whole.{hold_of}
 use Rattle.recovery.proofs.open.open_files.Goals as goal
 
@@ -50,6 +51,17 @@ returns-in-Ok-clause-suit g c =
     let found = c.in-Ok.ensures.found in
     let open_now = returns-in-Ok-clause-open g c in
     subst (λ (n : ℕ). SuitFiles n (rows_of c.in-Ok.found.tables)) (found.generation ∙ sym open_now.1.stands.generation) c.in-Ok.ensures.suit
+
+pub returns-in-Ok-clause-whole : goal.returns-in-Ok-clause-whole
+returns-in-Ok-clause-whole g c = λ files contents read read_contents.
+    let found = c.in-Ok.ensures.found in
+    let rows = rows_of c.in-Ok.found.tables in
+    let within = c.in-Ok.ensures.within contents read_contents in
+    record {
+      hold_within = record { hold = hold_found found.was rows files found.has found.are_groups (found.at_rest files read); within = omega (arith, c.in-Ok.ensures.end, within) };
+      whole = c.in-Ok.ensures.contents contents read_contents;
+      suit = subst (λ (n : ℕ). SuitFiles n rows) found.generation c.in-Ok.ensures.suit;
+    }
 
 pub returns-in-Ok-clause-stands : goal.returns-in-Ok-clause-stands
 returns-in-Ok-clause-stands g c = λ files contents d read read_contents stands.

@@ -11,7 +11,7 @@ use Rattle.recovery.specs.Rules.{SuitFiles}
 use Rattle.recovery.specs.declared.depot.Found.{Found}
 use Rattle.recovery.proofs.Damaged.{hold_found, archive_damage}
 use Rattle.recovery.proofs.Looks.{passed_nothing}
-use Rattle.recovery.proofs.PassedOn.{passed_on, passed_unmade}
+use Rattle.recovery.proofs.PassedOn.{passed_on, passed_unmade, no_fault_but}
 use Rattle.recovery.proofs.GoodSpots.{nothing_bad}
 use Rattle.recovery.proofs.Synced.{synced_then, looks_then, same_rows, same_end}
 use Rattle.recovery.proofs.open.read_depot.Goals as goal
@@ -98,3 +98,23 @@ returns-clause-suit g c =
 pub returns-in_err-found-clause-exactly : goal.returns-in_err-found-clause-exactly
 returns-in_err-found-clause-exactly g c = λ files read empty.
     passed_unmade Found c.from_residual-in_err-found.result c.in_err-found.field-0.0 c.from_residual-in_err-found.ensures.1 (c.in_err-found.ensures.exactly files (c.in_ok-sync.ensures.same.kept files read) empty)
+
+pub returns-in_err-sync-clause-read : goal.returns-in_err-sync-clause-read
+returns-in_err-sync-clause-read g c = no_fault_but c.from_residual.result _ c.from_residual.ensures.1
+
+pub returns-in_err-sync-2-clause-read : goal.returns-in_err-sync-2-clause-read
+returns-in_err-sync-2-clause-read g c = no_fault_but c.from_residual-in_err-sync-2.result _ c.from_residual-in_err-sync-2.ensures.1
+
+pub returns-in_err-found-clause-read : goal.returns-in_err-found-clause-read
+returns-in_err-found-clause-read g c =
+    passed_on c.from_residual-in_err-found.result c.in_err-found.field-0.0 _ c.from_residual-in_err-found.ensures.1 (λ other. (
+      synced_then g.D.Disk.seen g.D.Disk.may_leave g.D.Disk.moment g.D.Disk.left_since c.args.journal.now c.sync.new.self c.read_kept_rows.new.disk c.in_ok-sync.ensures.same c.in_ok-sync.ensures.durable c.read_kept_rows.ensures.reads,
+      record { same = c.in_ok-sync-2.ensures.same; durable = c.in_ok-sync-2.ensures.durable },
+    ))
+
+pub returns-in_err-end-clause-read : goal.returns-in_err-end-clause-read
+returns-in_err-end-clause-read g c =
+    passed_on c.from_residual-in_err-end.result c.in_err-end.field-0.0 _ c.from_residual-in_err-end.ensures.1 (λ other. (
+      synced_then g.D.Disk.seen g.D.Disk.may_leave g.D.Disk.moment g.D.Disk.left_since c.args.journal.now c.sync.new.self c.read_kept_rows.new.disk c.in_ok-sync.ensures.same c.in_ok-sync.ensures.durable c.read_kept_rows.ensures.reads,
+      synced_then g.D.Disk.seen g.D.Disk.may_leave g.D.Disk.moment g.D.Disk.left_since c.args.archive.now c.sync-2.new.self c.read_contents.new.disk c.in_ok-sync-2.ensures.same c.in_ok-sync-2.ensures.durable c.read_contents.ensures.reads,
+    ))

@@ -5,7 +5,7 @@ use Rattle.disk_journal.specs.Images.{HasCommitted, HasEither, with_generation, 
 use Rattle.disk_journal.specs.Stands.{nothing, opening}
 use Rattle.disk_journal.proofs.Images.{rest_holds}
 use Rattle.disk_journal.proofs.Opening.{opening_holds}
-use Rattle.disk_journal.proofs.Standing.{standing, first_file, second_file, both_files, root_torn, root_opened, opening_room}
+use Rattle.disk_journal.proofs.Standing.{standing, first_file, second_file, both_files, root_torn, root_opened, opening_room, next_mark}
 use Rattle.disk_journal.proofs.Runs.{IsApart, Keeps, KeepsAlways, kept_one, kept_two, always_call, always_one, always_two}
 use Rattle.disk_journal.proofs.journal.Journal.begin_generation.Goals as goal
 
@@ -163,3 +163,9 @@ returns-clause-any_older g c =
     let always2 : KeepsAlways g.D.Disk.moment g.D.Disk.left_since g.D.Disk.may_leave (3 + 2 * c.args.self.now.end.generation) c.args.self.now.disk c.write_through.new.disk = always_two g.D.Disk.moment g.D.Disk.left_since g.D.Disk.may_leave (3 + 2 * c.args.self.now.end.generation) c.args.self.now.disk c.write_at.new.self c.write_through.new.disk kept1 always1 (always_one g.D.Disk.moment g.D.Disk.left_since g.D.Disk.may_leave (3 + 2 * c.args.self.now.end.generation) c.journal_file.result (Torn 0 5) second c.write_at.new.self c.write_through.new.disk c.write_through.ensures.any_moment) in
     let always3 : KeepsAlways g.D.Disk.moment g.D.Disk.left_since g.D.Disk.may_leave (3 + 2 * c.args.self.now.end.generation) c.args.self.now.disk c.write_through-2.new.disk = always_two g.D.Disk.moment g.D.Disk.left_since g.D.Disk.may_leave (3 + 2 * c.args.self.now.end.generation) c.args.self.now.disk c.write_through.new.disk c.write_through-2.new.disk kept2 always2 (always_one g.D.Disk.moment g.D.Disk.left_since g.D.Disk.may_leave (3 + 2 * c.args.self.now.end.generation) 0 (Torn c.args.self.now.end.generation 1) third c.write_through.new.disk c.write_through-2.new.disk c.write_through-2.ensures.any_moment) in
     always3
+
+pub returns-clause-closed : goal.returns-clause-closed
+returns-clause-closed g c = λ was stands image left.
+    let first : (f : Files) → g.D.Disk.may_leave c.write_at.new.self f → IsAtRest was f = λ f there. first_file g.D.Disk.seen g.D.Disk.may_leave g.met.D.Disk.reads_an_image c.args.self.now was stands c.checkpoint_file.result (length c.args.checkpoint.now) f (omega (arith, c.checkpoint_file.ensures)) (c.write_at.ensures.crash f there) in
+    let both : (f : Files) → g.D.Disk.may_leave c.write_through.new.disk f → IsOpening was c.args.checkpoint.now f = λ f there. both_files g.D.Disk.seen g.D.Disk.may_leave g.met.D.Disk.reads_an_image c.args.self.now was stands c.write_at.new.self first c.args.checkpoint.now c.checkpoint_file.result c.journal_file.result (omega (arith, c.checkpoint_file.ensures)) (omega (arith, c.journal_file.ensures)) c.requires.below c.in_ok-write_at.ensures.written.from f (c.in_ok-write_through.ensures.durable f there) in
+    next_mark g.D.Disk.seen g.D.Disk.may_leave g.met.D.Disk.reads_an_image c.args.self.now was stands c.args.checkpoint.now c.write_through.new.disk both image (c.in_ok-write_through-2.ensures.durable image left)

@@ -6,7 +6,7 @@ use Rattle.disk_journal.specs.Images.{HasCommitted, HasEither, with_group, IsRea
 use Rattle.disk_journal.specs.Stands.{nothing, group, group_of}
 use Rattle.disk_journal.proofs.Blocks.{are_groups-push, length_push}
 use Rattle.disk_journal.proofs.Images.{rest_holds, ready_holds}
-use Rattle.disk_journal.proofs.Standing.{standing, room, behind_rest, behind_ready, mark_room, mark_ready, mark_opened}
+use Rattle.disk_journal.proofs.Standing.{standing, room, behind_rest, behind_ready, mark_room, mark_ready, mark_opened, mark_behind}
 use Rattle.disk_journal.proofs.Runs.{IsApart, kept_one, kept_two, always_one, always_two}
 use Rattle.disk_journal.proofs.journal.Journal.commit.Goals as goal
 
@@ -112,3 +112,10 @@ pub returns-clause-any_older : goal.returns-clause-any_older
 returns-clause-any_older g c =
     let apart : IsApart (1 + 2 * c.args.self.now.end.generation) c.journal_file-file.result = λ f some lt e. omega (arith, lt, e, c.journal_file-file.ensures) in
     always_two g.D.Disk.moment g.D.Disk.left_since g.D.Disk.may_leave (1 + 2 * c.args.self.now.end.generation) c.args.self.now.disk c.write_through.new.disk c.write_through-2.new.disk (kept_one g.D.Disk.moment g.D.Disk.left_since g.D.Disk.may_leave (1 + 2 * c.args.self.now.end.generation) c.journal_file-file.result (Torn (c.args.self.now.end.length + 5) (length c.as_bytes-text.result.now)) apart c.args.self.now.disk c.write_through.new.disk c.write_through.ensures.crash) (always_one g.D.Disk.moment g.D.Disk.left_since g.D.Disk.may_leave (1 + 2 * c.args.self.now.end.generation) c.journal_file-file.result (Torn (c.args.self.now.end.length + 5) (length c.as_bytes-text.result.now)) apart c.args.self.now.disk c.write_through.new.disk c.write_through.ensures.any_moment) (always_one g.D.Disk.moment g.D.Disk.left_since g.D.Disk.may_leave (1 + 2 * c.args.self.now.end.generation) c.journal_file-file.result (Torn (c.args.self.now.end.length + 1) 1) apart c.write_through.new.disk c.write_through-2.new.disk c.write_through-2.ensures.any_moment)
+
+pub returns-clause-closed : goal.returns-clause-closed
+returns-clause-closed g c = λ was stands image left.
+    let added = group_of c.args.prepared in
+    let file_of : c.journal_file-file.result ≡ 1 + 2 * was.generation = omega (arith, c.journal_file-file.ensures, stands.generation) in
+    let ready : (f : Files) → g.D.Disk.may_leave c.write_through.new.disk f → IsReady was added f = λ f there. behind_ready g.D.Disk.seen g.D.Disk.may_leave g.met.D.Disk.reads_an_image c.args.self.now was c.journal_file-file.result stands c.journal_file-file.ensures added c.as_bytes-text.result.now (c.as_bytes-text.ensures ∙ c.requires.prepared.text) f (c.in_ok-write_through.ensures.durable f there) in
+    mark_behind g.D.Disk.seen g.D.Disk.may_leave g.met.D.Disk.reads_an_image c.args.self.now was c.journal_file-file.result added file_of stands.length c.write_through.new.disk ready image (c.in_ok-write_through-2.ensures.durable image left)

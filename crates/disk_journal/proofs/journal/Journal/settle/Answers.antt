@@ -2,7 +2,7 @@ use Rattle.std.proofs.Common.{◌+◌, ◌*◌, refl, arith}
 use Rattle.outside_api.specs.Disk.{Torn}
 use Rattle.outside_api.specs.Moments.{weaker}
 use Rattle.disk_journal.specs.Stands.{nothing, HasWithOrWithout}
-use Rattle.disk_journal.proofs.Standing.{standing, room, root_room, image_holds, root_settling, root_settled, settling, settled, at_rest, no_call, known_doubt}
+use Rattle.disk_journal.proofs.Standing.{standing, room, root_room, image_holds, root_settling, root_settled, settling, settled, settled_mark, root_settled_mark, at_rest, no_call, known_doubt, nothing_shut}
 use Rattle.disk_journal.proofs.Runs.{IsApart, kept_none, kept_one, always_none, always_one}
 use Rattle.disk_journal.proofs.journal.Journal.settle.Goals as goal
 
@@ -114,3 +114,14 @@ returns-in-Nothing-clause-asked g c = λ was doubt stands some. absurd (known_do
 
 pub returns-in-Nothing-clause-at_most : goal.returns-in-Nothing-clause-at_most
 returns-in-Nothing-clause-at_most g c = λ was doubt stands some. absurd (known_doubt g.D.Disk.may_leave c.args.self.now was doubt c.in-Nothing.is stands some)
+
+pub returns-in-Nothing-clause-closed : goal.returns-in-Nothing-clause-closed
+returns-in-Nothing-clause-closed g c = λ was doubt stands image left. nothing_shut g.D.Disk.may_leave c.args.self.now was doubt image c.in-Nothing.is stands
+
+pub returns-in_ok-write_through-in-Group-clause-closed : goal.returns-in_ok-write_through-in-Group-clause-closed
+returns-in_ok-write_through-in-Group-clause-closed g c = λ was doubt stands image left.
+    settled_mark g.D.Disk.seen g.D.Disk.may_leave g.met.D.Disk.reads_an_image c.args.self.now was c.journal_file-file.result c.journal_file-file.ensures c.in-Group.is doubt stands image (c.in_ok-write_through-in-Group.ensures.durable image left)
+
+pub returns-in_ok-write_through-in-Generation-clause-closed : goal.returns-in_ok-write_through-in-Generation-clause-closed
+returns-in_ok-write_through-in-Generation-clause-closed g c = λ was doubt stands image left.
+    root_settled_mark g.D.Disk.seen g.D.Disk.may_leave g.met.D.Disk.reads_an_image c.args.self.now was c.in-Generation.is doubt stands image (c.in_ok-write_through-in-Generation.ensures.durable image left)
