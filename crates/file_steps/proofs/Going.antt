@@ -37,6 +37,11 @@ goes_from IsSome all d e step none there = record {
   there = there;
 }
 
+-- the depot is one of others too
+pub goes_on : (Was Is : List Deed → Type 0) (all : AllRows) (d e : List Deed) (m : ModelStep) (step : Step) → ((f : List Deed) → Was f → Is f) → Goes Was all d e m step
+    → Goes Is all d e m step
+goes_on Was Is all d e m step on goes = record { made = goes.made; there = on (after e m.deeds) goes.there }
+
 -- nothing more is done
 pub goes_nowhere : (IsSome : List Deed → Type 0) (all : AllRows) (d e : List Deed) (m more : ModelStep) (step : Step) → Goes IsSome all d e m step → more ≡ nothing
     → Goes IsSome all d e (both m more) step
@@ -44,13 +49,13 @@ goes_nowhere IsSome all d e m more step goes none =
     subst (λ (x : ModelStep). Goes IsSome all d e x step) (sym (ap (both m) none ∙ both_nothing m)) goes
 
 -- a file is done, unless it was taken
-pub file_done : (IsSome : List Deed → Type 0) (all : AllRows) (d e : List Deed) (m more : ModelStep) (step other joined : Step) (taken : Bool) → taken ≡ false
-    → Goes IsSome all d e m step → IsMade all d (after e m.deeds) more other → IsSome (after (after e m.deeds) more.deeds) → joined.deeds ≡ step.deeds ++ other.deeds
+pub file_done : (Was Is : List Deed → Type 0) (all : AllRows) (d e : List Deed) (m more : ModelStep) (step other joined : Step) (taken : Bool) → taken ≡ false
+    → Goes Was all d e m step → IsMade all d (after e m.deeds) more other → Is (after (after e m.deeds) more.deeds) → joined.deeds ≡ step.deeds ++ other.deeds
     → joined.rows ≡ step.rows ++ other.rows → joined.stores ≡ step.stores ++ other.stores → joined.reads ≡ step.reads ++ other.reads
-    → Goes IsSome all d e (both m (if taken then nothing else more)) joined
-file_done IsSome all d e m more step other joined true left goes made there deeds rows stores reads = absurd cc
-file_done IsSome all d e m more step other joined false left goes made there deeds rows stores reads =
-    turn_on IsSome IsSome all d e m more step other joined goes made there deeds rows stores reads
+    → Goes Is all d e (both m (if taken then nothing else more)) joined
+file_done Was Is all d e m more step other joined true left goes made there deeds rows stores reads = absurd cc
+file_done Was Is all d e m more step other joined false left goes made there deeds rows stores reads =
+    turn_on Was Is all d e m more step other joined goes made there deeds rows stores reads
 
 -- ---- the files of an argument one after another
 

@@ -1,14 +1,15 @@
 //! What is done with a file.
 
-ghost use Rattle.std.specs.Prelude.{ℕ, List, IfOk};
+ghost use Rattle.std.specs.Prelude.{◌≡◌, ℕ, List, filter, IfOk};
 ghost use Rattle.table_changes.specs.Changed.{AllRows, rows_of};
 ghost use Rattle.depot_model.specs.declared.command.FileArgument.{FileArgument as Argument};
 ghost use Rattle.depot_model.specs.Deeds.{Deed};
 ghost use Rattle.depot_model.specs.Step.{Step as ModelStep, after};
 ghost use Rattle.reply_rows.specs.Made.{IsMade};
 
+use crate::sets::FileSet;
 use depot_model::FileArgument;
-use depot_path::DepotPath;
+use depot_path::{DepotPath, Sequence};
 use reply_rows::Step;
 use std::alloc::{AllocError, Global};
 use table_store::Tables;
@@ -39,4 +40,76 @@ pub trait FileAct {
     ghost first: { (act : Self) (d : List Deed) → is_later act d d };
 
     ghost next: { (act : Self) (d e : List Deed) (argument : Argument) (path : List ℕ) → is_later act d e → is_later act d (after e (acts act d argument path).deeds) };
+}
+
+/// What a command does with the files that its arguments name, one after another, where it keeps what it read: it finds the files of a set itself, so
+/// that it may keep what it sees of them, and goes on from what it read for the file before. It reads the tables alone of which `stands` speaks. The one
+/// error is want of memory.
+pub trait WalkAct<'t, S: FileSet> {
+    /// Whether it has come from a depot, of which these are the rows that it reads, to another one, which what was done with files made of it.
+    ghost stands: { Self → AllRows → List Deed → List Deed → Type 0 };
+
+    /// What is done with a file that an argument names.
+    ghost acts: { Self → List Deed → Argument → List ℕ → ModelStep };
+
+    /// Among the files of the set, in their order, at least those that an argument names.
+    fn find(
+        &mut self,
+        alloc: Global,
+        tables: &'t Tables,
+        set: &S,
+        argument: &FileArgument,
+    ) -> Result<Sequence<DepotPath>, AllocError>
+        ensures paths { IfOk result (λ paths. (d : List Deed) → S.reads set.now (rows_of tables.now) d →
+            filter (S.names set.now d argument.now) paths ≡ filter (S.names set.now d argument.now) (S.files set.now d)) }
+        ensures comes { IfOk result (λ _. (d e : List Deed) → stands self.old (rows_of tables.now) d e → stands self.new (rows_of tables.now) d e) }
+        ensures same { IfOk result (λ _. acts self.new ≡ acts self.old) };
+
+    /// What is done with a file that an argument names.
+    fn act(
+        &mut self,
+        alloc: Global,
+        tables: &'t Tables,
+        argument: &FileArgument,
+        path: &DepotPath,
+    ) -> Result<Step, AllocError>
+        ensures step { IfOk result (λ step. (d e : List Deed) → stands self.old (rows_of tables.now) d e →
+            IsMade (rows_of tables.now) d e (acts self.old d argument.now path.now) step) }
+        ensures comes { IfOk result (λ _. (d e : List Deed) → stands self.old (rows_of tables.now) d e →
+            stands self.new (rows_of tables.now) d (after e (acts self.old d argument.now path.now).deeds)) }
+        ensures same { IfOk result (λ _. acts self.new ≡ acts self.old) };
+}
+
+/// What keeps no place, as what keeps one.
+#[derive(Drop)]
+pub(crate) struct Placeless<'a, A> {
+    pub act: &'a A,
+}
+
+impl<'t, 'a, S: FileSet, A: FileAct> WalkAct<'t, S> for Placeless<'a, A> {
+    ghost stands = { λ it rows d e. A.reads it.act.now rows d × A.is_later it.act.now d e };
+
+    ghost acts = { λ it d argument path. A.acts it.act.now d argument path };
+
+    fn find(
+        &mut self,
+        alloc: Global,
+        tables: &'t Tables,
+        set: &S,
+        argument: &FileArgument,
+    ) -> Result<Sequence<DepotPath>, AllocError> {
+        let found = set.candidates(alloc, tables, argument)?;
+        Ok(found)
+    }
+
+    fn act(
+        &mut self,
+        alloc: Global,
+        tables: &'t Tables,
+        argument: &FileArgument,
+        path: &DepotPath,
+    ) -> Result<Step, AllocError> {
+        let step = self.act.act(alloc, tables, argument, path)?;
+        Ok(step)
+    }
 }

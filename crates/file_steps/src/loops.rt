@@ -9,7 +9,7 @@ ghost use Rattle.depot_model.specs.Step.{Step as ModelStep, all_of, both, nothin
 ghost use Rattle.reply_rows.specs.Made.{IsMade};
 ghost use Rattle.file_steps.specs.Goes.{Goes};
 
-use crate::acts::FileAct;
+use crate::acts::{FileAct, Placeless, WalkAct};
 use crate::sets::FileSet;
 use depot_model::FileArgument;
 use depot_path::{DepotPath, FileSpec, Sequence, Text};
@@ -55,6 +55,23 @@ fn add_named<S: FileSet>(
     Ok(())
 }
 
+/// Those of some files that an argument names, in their order.
+fn named_among<S: FileSet>(
+    alloc: Global,
+    tables: &Tables,
+    set: &S,
+    argument: &FileArgument,
+    candidates: Sequence<DepotPath>,
+) -> Result<Sequence<DepotPath>, AllocError>
+    ensures { IfOk result (λ paths. (d : List Deed) → S.reads set.now (rows_of tables.now) d → paths ≡ filter (S.names set.now d argument.now) candidates) }
+{
+    let mut paths = Sequence::new(alloc);
+    for path in candidates.into_vec() {
+        add_named(alloc, tables, set, argument, &mut paths, path)?;
+    }
+    Ok(paths)
+}
+
 /// The files that an argument names, in path order. The one error is want of memory.
 pub fn named_by<S: FileSet>(
     alloc: Global,
@@ -64,27 +81,42 @@ pub fn named_by<S: FileSet>(
 ) -> Result<Sequence<DepotPath>, AllocError>
     ensures { IfOk result (λ paths. (d : List Deed) → S.reads set.now (rows_of tables.now) d → paths ≡ filter (S.names set.now d argument.now) (S.files set.now d)) }
 {
-    let mut paths = Sequence::new(alloc);
     let candidates = set.candidates(alloc, tables, argument)?;
-    for path in candidates.into_vec() {
-        add_named(alloc, tables, set, argument, &mut paths, path)?;
-    }
-    Ok(paths)
+    let named = named_among(alloc, tables, set, argument, candidates)?;
+    Ok(named)
+}
+
+/// The same files, found by what is done with them.
+fn found_by<'t, S: FileSet, A: WalkAct<'t, S>>(
+    alloc: Global,
+    tables: &'t Tables,
+    set: &S,
+    act: &mut A,
+    argument: &FileArgument,
+) -> Result<Sequence<DepotPath>, AllocError>
+    ensures paths { IfOk result (λ paths. (d : List Deed) → S.reads set.now (rows_of tables.now) d → paths ≡ filter (S.names set.now d argument.now) (S.files set.now d)) }
+    ensures comes { IfOk result (λ _. (d e : List Deed) → A.stands act.old (rows_of tables.now) d e → A.stands act.new (rows_of tables.now) d e) }
+    ensures same { IfOk result (λ _. A.acts act.new ≡ A.acts act.old) }
+{
+    let candidates = act.find(alloc, tables, set, argument)?;
+    let named = named_among(alloc, tables, set, argument, candidates)?;
+    Ok(named)
 }
 
 /// Does what is done with a file that an argument names, unless an earlier one names it.
-fn add_file<S: FileSet, A: FileAct>(
+fn add_file<'t, S: FileSet, A: WalkAct<'t, S>>(
     alloc: Global,
-    tables: &Tables,
+    tables: &'t Tables,
     set: &S,
-    act: &A,
+    act: &mut A,
     step: &mut Step,
     earlier: &[FileArgument],
     argument: &FileArgument,
     path: &DepotPath,
 ) -> Result<(), AllocError>
-    ensures { OnOk result ((d : List Deed) (model : ModelStep) → S.reads set.now (rows_of tables.now) d → A.reads act.now (rows_of tables.now) d → Goes (A.is_later act.now d) (rows_of tables.now) d d model step.old →
-        Goes (A.is_later act.now d) (rows_of tables.now) d d (both model (if list_any (λ a. S.names set.now d a path.now) earlier.now then nothing else A.acts act.now d argument.now path.now)) step.new) }
+    ensures step { OnOk result ((d : List Deed) (model : ModelStep) → S.reads set.now (rows_of tables.now) d → Goes (A.stands act.old (rows_of tables.now) d) (rows_of tables.now) d d model step.old →
+        Goes (A.stands act.new (rows_of tables.now) d) (rows_of tables.now) d d (both model (if list_any (λ a. S.names set.now d a path.now) earlier.now then nothing else A.acts act.old d argument.now path.now)) step.new) }
+    ensures same { OnOk result (A.acts act.new ≡ A.acts act.old) }
 {
     let taken = is_taken(alloc, tables, set, earlier, path)?;
     if taken {
@@ -96,18 +128,19 @@ fn add_file<S: FileSet, A: FileAct>(
 }
 
 /// Does so with files that an argument names.
-fn add_files<S: FileSet, A: FileAct>(
+fn add_files<'t, S: FileSet, A: WalkAct<'t, S>>(
     alloc: Global,
-    tables: &Tables,
+    tables: &'t Tables,
     set: &S,
-    act: &A,
+    act: &mut A,
     step: &mut Step,
     earlier: &[FileArgument],
     argument: &FileArgument,
     paths: &[DepotPath],
 ) -> Result<(), AllocError>
-    ensures { OnOk result ((d : List Deed) (model : ModelStep) → S.reads set.now (rows_of tables.now) d → A.reads act.now (rows_of tables.now) d → Goes (A.is_later act.now d) (rows_of tables.now) d d model step.old →
-        Goes (A.is_later act.now d) (rows_of tables.now) d d (both model (all_of (A.acts act.now d argument.now) (filter (λ path. not (list_any (λ a. S.names set.now d a path) earlier.now)) paths.now))) step.new) }
+    ensures step { OnOk result ((d : List Deed) (model : ModelStep) → S.reads set.now (rows_of tables.now) d → Goes (A.stands act.old (rows_of tables.now) d) (rows_of tables.now) d d model step.old →
+        Goes (A.stands act.new (rows_of tables.now) d) (rows_of tables.now) d d (both model (all_of (A.acts act.old d argument.now) (filter (λ path. not (list_any (λ a. S.names set.now d a path) earlier.now)) paths.now))) step.new) }
+    ensures same { OnOk result (A.acts act.new ≡ A.acts act.old) }
 {
     let mut rest = paths;
     while let [path, after @ ..] = rest {
@@ -118,21 +151,22 @@ fn add_files<S: FileSet, A: FileAct>(
 }
 
 /// Does what is done for an argument, after earlier ones.
-fn add_argument<S: FileSet, A: FileAct>(
+fn add_argument<'t, S: FileSet, A: WalkAct<'t, S>>(
     alloc: Global,
-    tables: &Tables,
+    tables: &'t Tables,
     set: &S,
-    act: &A,
+    act: &mut A,
     step: &mut Step,
     earlier: &[FileArgument],
     argument: &FileArgument,
 ) -> Result<(), AllocError>
-    ensures { OnOk result ((d : List Deed) (model : ModelStep) → S.reads set.now (rows_of tables.now) d → A.reads act.now (rows_of tables.now) d → Goes (A.is_later act.now d) (rows_of tables.now) d d model step.old →
-        Goes (A.is_later act.now d) (rows_of tables.now) d d (both model (each_or (tells (S.rows_without set.now argument.now)) (A.acts act.now d argument.now)
+    ensures step { OnOk result ((d : List Deed) (model : ModelStep) → S.reads set.now (rows_of tables.now) d → Goes (A.stands act.old (rows_of tables.now) d) (rows_of tables.now) d d model step.old →
+        Goes (A.stands act.new (rows_of tables.now) d) (rows_of tables.now) d d (both model (each_or (tells (S.rows_without set.now argument.now)) (A.acts act.old d argument.now)
         (filter (S.names set.now d argument.now) (S.files set.now d))
         (not_in (flat_map (λ a. filter (S.names set.now d a) (S.files set.now d)) earlier.now) (filter (S.names set.now d argument.now) (S.files set.now d))))) step.new) }
+    ensures same { OnOk result (A.acts act.new ≡ A.acts act.old) }
 {
-    let paths = named_by(alloc, tables, set, argument)?;
+    let paths = found_by(alloc, tables, set, act, argument)?;
     if paths.is_empty() {
         let more = set.missing(alloc, argument)?;
         step.add(more)?;
@@ -151,6 +185,26 @@ fn add_argument<S: FileSet, A: FileAct>(
     Ok(())
 }
 
+/// What a command does with the files that its arguments name, where it goes on from file to file.
+fn walk_over<'t, S: FileSet, A: WalkAct<'t, S>>(
+    alloc: Global,
+    tables: &'t Tables,
+    set: &S,
+    act: &mut A,
+    arguments: &[FileArgument],
+) -> Result<Step, AllocError>
+    ensures { IfOk result (λ step. (d : List Deed) → S.reads set.now (rows_of tables.now) d → A.stands act.old (rows_of tables.now) d d →
+        IsMade (rows_of tables.now) d d (over_in (λ a. filter (S.names set.now d a) (S.files set.now d)) (λ a. tells (S.rows_without set.now a)) (A.acts act.old d) [] arguments.now) step) }
+{
+    let mut step = Step::new(alloc);
+    for i in 0..arguments.len() {
+        let earlier = &arguments[..i];
+        let argument = &arguments[i];
+        add_argument(alloc, tables, set, act, &mut step, earlier, argument)?;
+    }
+    Ok(step)
+}
+
 /// What a command does with the files that its arguments name: by argument, and then by path, each file once (Command-Line Reference, "File
 /// specifications"). The one error is want of memory.
 pub fn over<S: FileSet, A: FileAct>(
@@ -163,12 +217,8 @@ pub fn over<S: FileSet, A: FileAct>(
     ensures { IfOk result (λ step. (d : List Deed) → S.reads set.now (rows_of tables.now) d → A.reads act.now (rows_of tables.now) d →
         IsMade (rows_of tables.now) d d (over_in (λ a. filter (S.names set.now d a) (S.files set.now d)) (λ a. tells (S.rows_without set.now a)) (A.acts act.now d) [] arguments.now) step) }
 {
-    let mut step = Step::new(alloc);
-    for i in 0..arguments.len() {
-        let earlier = &arguments[..i];
-        let argument = &arguments[i];
-        add_argument(alloc, tables, set, act, &mut step, earlier, argument)?;
-    }
+    let mut placeless = Placeless { act };
+    let step = walk_over(alloc, tables, set, &mut placeless, arguments)?;
     Ok(step)
 }
 
@@ -186,18 +236,18 @@ fn whole(alloc: Global) -> Result<FileArgument, AllocError>
 }
 
 /// What it does with all files, where it is given no argument.
-fn over_everything<S: FileSet, A: FileAct>(
+fn walk_over_everything<'t, S: FileSet, A: WalkAct<'t, S>>(
     alloc: Global,
-    tables: &Tables,
+    tables: &'t Tables,
     set: &S,
-    act: &A,
+    act: &mut A,
 ) -> Result<Step, AllocError>
-    ensures { IfOk result (λ step. (d : List Deed) → S.reads set.now (rows_of tables.now) d → A.reads act.now (rows_of tables.now) d →
-        IsMade (rows_of tables.now) d d (over_in (λ a. filter (S.names set.now d a) (S.files set.now d)) (λ _. nothing) (A.acts act.now d) [] (everything ∷ [])) step) }
+    ensures { IfOk result (λ step. (d : List Deed) → S.reads set.now (rows_of tables.now) d → A.stands act.old (rows_of tables.now) d d →
+        IsMade (rows_of tables.now) d d (over_in (λ a. filter (S.names set.now d a) (S.files set.now d)) (λ _. nothing) (A.acts act.old d) [] (everything ∷ [])) step) }
 {
     let mut step = Step::new(alloc);
     let argument = whole(alloc)?;
-    let paths = named_by(alloc, tables, set, &argument)?;
+    let paths = found_by(alloc, tables, set, act, &argument)?;
     add_files(
         alloc,
         tables,
@@ -211,7 +261,26 @@ fn over_everything<S: FileSet, A: FileAct>(
     Ok(step)
 }
 
-/// The same for arguments that may be absent: then they are `//...`, and no row is given where there is no file.
+/// What a command does with the files that its arguments name, where it goes on from file to file: by argument, and then by path, each file once.
+/// Without arguments these are `//...`, and no row is given where there is no file. The one error is want of memory.
+pub fn walk_over_all<'t, S: FileSet, A: WalkAct<'t, S>>(
+    alloc: Global,
+    tables: &'t Tables,
+    set: &S,
+    act: &mut A,
+    arguments: &[FileArgument],
+) -> Result<Step, AllocError>
+    ensures { IfOk result (λ step. (d : List Deed) → S.reads set.now (rows_of tables.now) d → A.stands act.old (rows_of tables.now) d d →
+        IsMade (rows_of tables.now) d d (over_all_in (λ a. filter (S.names set.now d a) (S.files set.now d)) (λ a. tells (S.rows_without set.now a)) (A.acts act.old d) arguments.now) step) }
+{
+    if arguments.is_empty() {
+        walk_over_everything(alloc, tables, set, act)
+    } else {
+        walk_over(alloc, tables, set, act, arguments)
+    }
+}
+
+/// The same for what keeps no place: without arguments these are `//...`, and no row is given where there is no file.
 pub fn over_all<S: FileSet, A: FileAct>(
     alloc: Global,
     tables: &Tables,
@@ -222,9 +291,7 @@ pub fn over_all<S: FileSet, A: FileAct>(
     ensures { IfOk result (λ step. (d : List Deed) → S.reads set.now (rows_of tables.now) d → A.reads act.now (rows_of tables.now) d →
         IsMade (rows_of tables.now) d d (over_all_in (λ a. filter (S.names set.now d a) (S.files set.now d)) (λ a. tells (S.rows_without set.now a)) (A.acts act.now d) arguments.now) step) }
 {
-    if arguments.is_empty() {
-        over_everything(alloc, tables, set, act)
-    } else {
-        over(alloc, tables, set, act, arguments)
-    }
+    let mut placeless = Placeless { act };
+    let step = walk_over_all(alloc, tables, set, &mut placeless, arguments)?;
+    Ok(step)
 }

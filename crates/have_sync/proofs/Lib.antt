@@ -1,5 +1,7 @@
 pub mod Told
+pub mod Onward
 pub mod Owed
 pub mod Sizes
+pub mod NewestRead
 pub mod Numbers
 pub mod Synced

@@ -1,5 +1,5 @@
 -- What the row of a revision says of the size of its content is what the depot says.
-use Rattle.std.proofs.Common.{◌≡◌, ℕ, List, [], ◌∷◌, length, Option, Some, None, refl, sym, ap, ◌∙◌, arith}
+use Rattle.std.proofs.Common.{◌≡◌, ℕ, List, [], ◌∷◌, length, Option, Some, None, refl, ap, ◌∙◌, arith}
 use Rattle.std.specs.Prelude.{option_and_then, option_map}
 use Rattle.hex.specs.Hex.{encode_upper, encode_with}
 use Rattle.md5.specs.Md5.{md5}

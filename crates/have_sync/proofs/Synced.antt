@@ -14,17 +14,16 @@ use Rattle.view_map.specs.declared.line.ViewLine.{ViewLine}
 use Rattle.view_map.specs.declared.mapped.Mapped.{Mapped}
 use Rattle.view_map.specs.declared.mapped.Mapped.TheVariants.{Nothing, At as MappedAt}
 use Rattle.depot_model.specs.declared.command.FileArgument.{FileArgument}
-use Rattle.depot_model.specs.declared.reply.Row.{Row}
 use Rattle.depot_model.specs.declared.request.Caller.{Caller}
 use Rattle.depot_model.specs.Asking.{view}
-use Rattle.depot_model.specs.Choice.{At, PassedOver, Choice, chosen, is_live_choice, shown}
+use Rattle.depot_model.specs.Choice.{At, chosen, is_live_choice, shown}
 use Rattle.depot_model.specs.Deeds.{Deed, Got, Opening, Owe}
 use Rattle.depot_model.specs.Opened.{opened}
 use Rattle.depot_model.specs.Records.{working_record}
 use Rattle.depot_model.specs.Revisions.{is_live_at}
-use Rattle.depot_model.specs.Step.{Step as ModelStep, does, nothing}
+use Rattle.depot_model.specs.Step.{Step as ModelStep, nothing}
 use Rattle.depot_model.specs.Steps.Opening.{held}
-use Rattle.depot_model.specs.Steps.Syncing.{is_owed, size_of, sync_have, sync_opened, sync_row, sync_to, sync_word, wanted_rev}
+use Rattle.depot_model.specs.Steps.Syncing.{is_owed, size_of, sync_have, sync_opened, sync_row, sync_to, wanted_rev}
 use Rattle.depot_rows.specs.Effects.{Follow}
 use Rattle.depot_rows.specs.declared.deed.Deed.TheVariants as dones
 use Rattle.depot_rows.specs.declared.deed.Held.{Held}

@@ -1,5 +1,5 @@
 -- The files that `where` tells are those of the model.
-use Rattle.std.proofs.Common.{◌≡◌, ℕ, Bool, true, false, List, [], ◌∷◌, Option, Some, None, refl, sym, ap, ◌∙◌}
+use Rattle.std.proofs.Common.{◌≡◌, ℕ, List, [], ◌∷◌, Option, Some, None}
 use Rattle.std.specs.Prelude.{◌&&◌, filter, is_some, if◌then◌else◌}
 use Rattle.view_map.specs.Mapping.{files_at, path_in}
 use Rattle.protect_table.specs.Rights.{may}

@@ -1,3 +1,6 @@
 pub mod Having
+pub mod Heads
+pub mod Newest
+pub mod Places
 pub mod Placing
 pub mod Syncing

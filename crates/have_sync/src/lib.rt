@@ -2,6 +2,9 @@
 #![tactic(auto)]
 
 mod having;
+mod heads;
+mod newest;
+mod place;
 mod placing;
 mod rows;
 mod syncing;

@@ -1,33 +1,35 @@
 //! `sync` (Command-Line Reference, "p4 sync").
 
-ghost use Rattle.std.specs.Prelude.{◌≡◌, ◌<◌, List, IfOk, is_some};
+ghost use Rattle.std.specs.Prelude.{◌≡◌, ◌<◌, ◌&&◌, List, IfOk, is_some};
 ghost use Rattle.std.specs.Option.{option_copied};
 ghost use Rattle.db_records.specs.declared.table.TableId.TheVariants as table_ids;
 ghost use Rattle.table_changes.specs.Changed.{AllRows, rows_of};
 ghost use Rattle.depot_model.specs.Choice as choices;
 ghost use Rattle.depot_model.specs.Choice.{chosen, shown as shown_in};
 ghost use Rattle.depot_model.specs.Deeds.{Deed, Opening};
+ghost use Rattle.depot_model.specs.Revisions.{head, is_live_at as live_at};
 ghost use Rattle.depot_model.specs.Rules.{IsSound};
 ghost use Rattle.depot_model.specs.Step.{Step as ModelStep};
 ghost use Rattle.depot_model.specs.Steps.Syncing as model;
 ghost use Rattle.depot_rows.specs.Standing.{HasRows};
 ghost use Rattle.reply_rows.specs.Made.{IsMade};
+ghost use Rattle.have_sync.specs.Newest.{AreOf, asks_for_none, is_submitted as submitted_test};
 ghost use Rattle.have_sync.specs.Syncing.{Reads, get_step, owe_step, reaches as reaches_in};
 
+use crate::newest::{Places, places_of};
 use crate::rows::{changed_row, shown_row};
 use db_records::ResolveRecord;
 use deed_list::Deeds;
 use depot_model::{Caller, FileArgument};
-use depot_path::{DepotPath, Name};
+use depot_path::{DepotPath, Name, Sequence, Wanted};
 use depot_rows::Owing;
 use file_openings::opening_of;
-use file_steps::{FileAct, over_all, within_files};
-use named_files::{Asker, Listing, ShownFiles};
+use file_steps::{FileSet, WalkAct, walk_over_all, within_files};
+use named_files::{Asker, HeadedFiles, Listing, ShownFiles};
 use opening_reads::{held, owed_of};
 use protect_table::Level;
 use reply_rows::{Step, denied_row};
 use revision_reads::{Chosen, chosen_of, is_live_at, shown_by};
-use row_reads::have_of;
 use std::alloc::{AllocError, Global};
 use table_store::Tables;
 
@@ -37,6 +39,7 @@ struct Syncing<'a> {
     caller: &'a Caller,
     asker: &'a Asker,
     again: bool,
+    places: Places<'a>,
 }
 
 /// What becomes of the revision in the have list, 0 for none; None where nothing is to be done.
@@ -89,13 +92,15 @@ fn sync_have(
     caller: &Caller,
     asker: &Asker,
     again: bool,
+    places: &mut Places<'_>,
     path: &DepotPath,
     wanted: u32,
 ) -> Result<Step, AllocError>
-    ensures { IfOk result (λ step. (d e : List Deed) → Reads caller.now asker.now (rows_of tables.now) d →
+    ensures places { IfOk result (λ _. (rows : AllRows) → AreOf rows places.old → AreOf rows places.new) }
+    ensures step { IfOk result (λ step. (d e : List Deed) → Reads caller.now asker.now (rows_of tables.now) d → AreOf (rows_of tables.now) places.old →
         IsMade (rows_of tables.now) d e (model.sync_have again d caller.now path.now wanted) step) }
 {
-    let had = have_of(alloc, tables, &caller.client, path)?;
+    let had = places.have(alloc, tables, &caller.client, path)?;
     let said = sync_word(again, had, wanted);
     match said {
         Some(word) => {
@@ -204,7 +209,7 @@ fn is_shown(
     Ok(shown)
 }
 
-/// The revision that the client is to have where one is chosen, 0 for none.
+/// The revision that the client is to have where one is chosen, 0 for none, by whether the file isn't deleted there.
 fn wanted_rev(
     alloc: Global,
     tables: &Tables,
@@ -213,10 +218,11 @@ fn wanted_rev(
     argument: &FileArgument,
     path: &DepotPath,
     rev: u32,
+    live: bool,
 ) -> Result<u32, AllocError>
-    ensures { IfOk result (λ wanted. (d : List Deed) → Reads caller.now asker.now (rows_of tables.now) d → wanted ≡ model.wanted_rev d caller.now argument.now path.now rev) }
+    ensures { IfOk result (λ wanted. (d : List Deed) → Reads caller.now asker.now (rows_of tables.now) d → live ≡ live_at d path.now rev →
+        wanted ≡ model.wanted_rev d caller.now argument.now path.now rev) }
 {
-    let live = is_live_at(alloc, tables, path, rev)?;
     if !live {
         return Ok(0);
     }
@@ -224,20 +230,23 @@ fn wanted_rev(
     if shown { Ok(rev) } else { Ok(0) }
 }
 
-/// What is done with a file where a revision is chosen, 0 for none.
+/// What is done with a file where a revision is chosen, 0 for none, by whether it isn't deleted there.
 fn sync_at(
     alloc: Global,
     tables: &Tables,
-    syncing: &Syncing<'_>,
+    caller: &Caller,
+    asker: &Asker,
+    again: bool,
+    places: &mut Places<'_>,
     argument: &FileArgument,
     path: &DepotPath,
     rev: u32,
+    live: bool,
 ) -> Result<Step, AllocError>
-    ensures { IfOk result (λ step. (d e : List Deed) → Reads syncing.now.caller.now syncing.now.asker.now (rows_of tables.now) d →
-        IsMade (rows_of tables.now) d e (model.sync_to syncing.now.again d syncing.now.caller.now argument.now path.now (choices.At rev)) step) }
+    ensures places { IfOk result (λ _. (rows : AllRows) → AreOf rows places.old → AreOf rows places.new) }
+    ensures step { IfOk result (λ step. (d e : List Deed) → Reads caller.now asker.now (rows_of tables.now) d → AreOf (rows_of tables.now) places.old → live ≡ live_at d path.now rev →
+        IsMade (rows_of tables.now) d e (model.sync_to again d caller.now argument.now path.now (choices.At rev)) step) }
 {
-    let caller = syncing.caller;
-    let asker = syncing.asker;
     let row = opening_of(alloc, tables, &caller.client, path)?;
     match row {
         Some(row) => {
@@ -245,58 +254,176 @@ fn sync_at(
             Ok(step)
         }
         None => {
-            let wanted = wanted_rev(alloc, tables, caller, asker, argument, path, rev)?;
-            let step = sync_have(alloc, tables, caller, asker, syncing.again, path, wanted)?;
+            let wanted = wanted_rev(alloc, tables, caller, asker, argument, path, rev, live)?;
+            let step = sync_have(alloc, tables, caller, asker, again, places, path, wanted)?;
             Ok(step)
         }
     }
 }
 
-/// What is done with a file by the choice of the argument.
-fn sync_to(
+/// What is done with a file at its newest revision.
+fn sync_newest(
     alloc: Global,
     tables: &Tables,
-    syncing: &Syncing<'_>,
+    caller: &Caller,
+    asker: &Asker,
+    again: bool,
+    places: &mut Places<'_>,
     argument: &FileArgument,
     path: &DepotPath,
 ) -> Result<Step, AllocError>
-    ensures { IfOk result (λ step. (d e : List Deed) → Reads syncing.now.caller.now syncing.now.asker.now (rows_of tables.now) d →
-        IsMade (rows_of tables.now) d e
-        (model.sync_to syncing.now.again d syncing.now.caller.now argument.now path.now (chosen d syncing.now.caller.now path.now argument.now.spec.wanted)) step) }
+    ensures places { IfOk result (λ _. (rows : AllRows) → AreOf rows places.old → AreOf rows places.new) }
+    ensures step { IfOk result (λ step. (d e : List Deed) → Reads caller.now asker.now (rows_of tables.now) d → AreOf (rows_of tables.now) places.old →
+        IsMade (rows_of tables.now) d e (model.sync_to again d caller.now argument.now path.now (choices.At (head d path.now))) step) }
 {
-    let choice = chosen_of(alloc, tables, syncing.caller, path, &argument.spec.wanted)?;
+    let newest = places.newest(alloc, tables, path)?;
+    let step = sync_at(
+        alloc,
+        tables,
+        caller,
+        asker,
+        again,
+        places,
+        argument,
+        path,
+        newest.rev,
+        newest.live,
+    )?;
+    Ok(step)
+}
+
+/// What is done with a file by the choice of the argument.
+fn sync_chosen(
+    alloc: Global,
+    tables: &Tables,
+    caller: &Caller,
+    asker: &Asker,
+    again: bool,
+    places: &mut Places<'_>,
+    argument: &FileArgument,
+    path: &DepotPath,
+) -> Result<Step, AllocError>
+    ensures places { IfOk result (λ _. (rows : AllRows) → AreOf rows places.old → AreOf rows places.new) }
+    ensures step { IfOk result (λ step. (d e : List Deed) → Reads caller.now asker.now (rows_of tables.now) d → AreOf (rows_of tables.now) places.old →
+        IsMade (rows_of tables.now) d e
+        (model.sync_to again d caller.now argument.now path.now (chosen d caller.now path.now argument.now.spec.wanted)) step) }
+{
+    let choice = chosen_of(alloc, tables, caller, path, &argument.spec.wanted)?;
     match choice {
         Chosen::PassedOver => {
             let step = Step::new(alloc);
             Ok(step)
         }
         Chosen::At(rev) => {
-            let step = sync_at(alloc, tables, syncing, argument, path, rev)?;
+            let live = is_live_at(alloc, tables, path, rev)?;
+            let step = sync_at(
+                alloc, tables, caller, asker, again, places, argument, path, rev, live,
+            )?;
             Ok(step)
         }
     }
 }
 
-impl<'a> FileAct for Syncing<'a> {
+/// Whether no revision is asked for.
+fn is_head(wanted: &Wanted) -> bool
+    ensures { result ≡ asks_for_none wanted.now }
+{
+    match wanted {
+        Wanted::Head => true,
+        Wanted::One(_) => false,
+        Wanted::Range(_, _) => false,
+    }
+}
+
+/// What is done with a file: at its newest revision where the argument asks for none, or else by its choice.
+fn sync_to(
+    alloc: Global,
+    tables: &Tables,
+    caller: &Caller,
+    asker: &Asker,
+    again: bool,
+    places: &mut Places<'_>,
+    argument: &FileArgument,
+    path: &DepotPath,
+) -> Result<Step, AllocError>
+    ensures places { IfOk result (λ _. (rows : AllRows) → AreOf rows places.old → AreOf rows places.new) }
+    ensures step { IfOk result (λ step. (d e : List Deed) → Reads caller.now asker.now (rows_of tables.now) d → AreOf (rows_of tables.now) places.old →
+        IsMade (rows_of tables.now) d e
+        (model.sync_to again d caller.now argument.now path.now (chosen d caller.now path.now argument.now.spec.wanted)) step) }
+{
+    if is_head(&argument.spec.wanted) {
+        let newest = sync_newest(alloc, tables, caller, asker, again, places, argument, path)?;
+        Ok(newest)
+    } else {
+        let step = sync_chosen(alloc, tables, caller, asker, again, places, argument, path)?;
+        Ok(step)
+    }
+}
+
+/// Whether a list is that of the submitted files.
+fn is_submitted(listing: &Listing) -> bool
+    ensures { result ≡ submitted_test listing.now }
+{
+    match listing {
+        Listing::Submitted => true,
+        Listing::Had { .. } => false,
+        Listing::OpenedBy { .. } => false,
+    }
+}
+
+/// Whether an argument asks for the newest revisions of submitted files.
+fn asks_heads(argument: &FileArgument, listing: &Listing) -> bool
+    ensures { result ≡ (asks_for_none argument.now.spec.wanted && submitted_test listing.now) }
+{
+    is_head(&argument.spec.wanted) && is_submitted(listing)
+}
+
+impl<'a> WalkAct<'a, ShownFiles<'a>> for Syncing<'a> {
     ghost use Rattle.depot_model.specs.Steps.Syncing.{sync_file as step_of_file};
+    ghost use Rattle.have_sync.specs.Newest.{AreOf};
     ghost use Rattle.have_sync.specs.Syncing.{Reads};
 
-    ghost reads = { λ syncing rows d. Reads syncing.caller.now syncing.asker.now rows d };
+    ghost stands = { λ syncing rows d e. Reads syncing.caller.now syncing.asker.now rows d × AreOf rows syncing.places };
 
     ghost acts = { λ syncing d argument path. step_of_file syncing.again d syncing.caller.now argument path };
 
-    ghost is_later = { λ syncing d e. Unit {0} };
+    fn find(
+        &mut self,
+        alloc: Global,
+        tables: &'a Tables,
+        set: &ShownFiles<'a>,
+        argument: &FileArgument,
+    ) -> Result<Sequence<DepotPath>, AllocError> {
+        let sees = asks_heads(argument, set.listing);
+        if !sees {
+            let candidates = set.candidates(alloc, tables, argument)?;
+            return Ok(candidates);
+        }
+        let found = set.headed(alloc, tables, argument)?;
+        let HeadedFiles { paths, heads } = found;
+        self.places.see(heads);
+        Ok(paths)
+    }
 
     fn act(
-        &self,
+        &mut self,
         alloc: Global,
-        tables: &Tables,
+        tables: &'a Tables,
         argument: &FileArgument,
         path: &DepotPath,
     ) -> Result<Step, AllocError> {
         let may = self.asker.may(path, Level(2));
         if may {
-            let step = sync_to(alloc, tables, self, argument, path)?;
+            let step = sync_to(
+                alloc,
+                tables,
+                self.caller,
+                self.asker,
+                self.again,
+                &mut self.places,
+                argument,
+                path,
+            )?;
             Ok(step)
         } else {
             let row = denied_row(alloc, path, Level(2))?;
@@ -304,10 +431,6 @@ impl<'a> FileAct for Syncing<'a> {
             Ok(step)
         }
     }
-
-    ghost first = { λ syncing d. tt };
-
-    ghost next = { λ syncing d e argument path later. tt };
 }
 
 /// The step, or its rows alone where it only shows.
@@ -351,12 +474,14 @@ fn sync_asked(
         asker,
         listing: &listing,
     };
-    let syncing = Syncing {
+    let mut syncing = Syncing {
         caller,
         asker,
         again,
+        places: places_of(alloc, tables),
     };
-    let done = over_all(alloc, tables, &files, &syncing, arguments);
+    let done = walk_over_all(alloc, tables, &files, &mut syncing, arguments);
+    drop(syncing);
     drop(listing);
     let whole = done?;
     let told = shown_alone(alloc, shows, whole);
@@ -366,7 +491,8 @@ fn sync_asked(
 
 /// `sync [-f] [-n] [FILE...]`: the client is to have the files at the revisions that the arguments choose, and files that it has opened get a
 /// resolve that is owed; with `-n` it is shown alone. It reads the tables of groups, protections, forms, have lists, labels, resolves, opened
-/// files, changes and revisions, and of each file that is named its rows alone. The one error is want of memory.
+/// files, changes and revisions, and of each file that is named its rows alone: where no revision is asked for, the walk over the rows of revisions that
+/// finds the files gives their newest ones too, and the have list is passed beside it. The one error is want of memory.
 pub fn sync(
     alloc: Global,
     tables: &Tables,

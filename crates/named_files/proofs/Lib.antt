@@ -11,5 +11,6 @@ pub mod Selection
 pub mod OpenedFiles
 pub mod Wanting
 pub mod Heads
+pub mod HeadRows
 pub mod Begun
 pub mod Spelled

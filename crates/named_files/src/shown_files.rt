@@ -1,16 +1,22 @@
 //! The files of a list, as arguments name them where the client shows them.
 
-ghost use Rattle.std.specs.Prelude.{◌≡◌, List, IfOk};
+ghost use Rattle.std.specs.Prelude.{◌≡◌, List, false, filter, map, IfOk};
+ghost use Rattle.std.specs.List.{All};
 ghost use Rattle.db_records.specs.declared.table.TableId.TheVariants as table_ids;
 ghost use Rattle.table_changes.specs.Changed.{rows_of};
+ghost use Rattle.depot_model.specs.Arguments.{names as names_file};
 ghost use Rattle.depot_model.specs.Deeds.{Deed};
 ghost use Rattle.depot_model.specs.Rules.{IsSound};
 ghost use Rattle.depot_rows.specs.Standing.{HasRows};
 ghost use Rattle.revision_reads.specs.Choice.{HaveRows, wanted_tables};
 ghost use Rattle.named_files.specs.Asked.{is_shown as shown_test, is_shown_at as shown_at_test};
+ghost use Rattle.named_files.specs.HeadRows.{IsHead};
+ghost use Rattle.named_files.specs.Listed.{files_of, listing_table};
+ghost use Rattle.named_files.specs.Sets.{ShownReads, rows_without as without};
 
 use crate::asker::Asker;
 use crate::choosing::candidates;
+use crate::head_rows::{HeadedFiles, headed_candidates};
 use crate::listed_files::missing_of;
 use crate::listing::Listing;
 use depot_model::{Caller, FileArgument};
@@ -74,12 +80,27 @@ pub(crate) fn is_shown(
     Ok(shown)
 }
 
-impl<'a> FileSet for ShownFiles<'a> {
-    ghost use Rattle.std.specs.Prelude.{false};
-    ghost use Rattle.depot_model.specs.Arguments.{names as names_file};
-    ghost use Rattle.named_files.specs.Listed.{files_of};
-    ghost use Rattle.named_files.specs.Sets.{ShownReads, rows_without as without};
+impl<'a> ShownFiles<'a> {
+    /// Among the files, in their order, at least those that an argument names, and the rows of their newest revisions: the walk that finds the files
+    /// passes these rows. The one error is want of memory.
+    pub fn headed<'t>(
+        &self,
+        alloc: Global,
+        tables: &'t Tables,
+        argument: &FileArgument,
+    ) -> Result<HeadedFiles<'t>, AllocError>
+        ensures paths { IfOk result (λ found. (d : List Deed) → ShownReads self.now.caller.now self.now.asker.now self.now.listing.now (rows_of tables.now) d →
+            filter (names_file false d self.now.caller.now argument.now.spec) found.paths
+            ≡ filter (names_file false d self.now.caller.now argument.now.spec) (files_of self.now.listing.now d)) }
+        ensures heads { IfOk result (λ found. All (IsHead (rows_of tables.now (listing_table self.now.listing.now))) (map (λ r. r.now) found.heads.items)) }
+    {
+        let pattern = &argument.spec.pattern;
+        let found = headed_candidates(alloc, tables, self.asker, self.listing, pattern)?;
+        Ok(found)
+    }
+}
 
+impl<'a> FileSet for ShownFiles<'a> {
     ghost reads = { λ set rows d. ShownReads set.caller.now set.asker.now set.listing.now rows d };
 
     ghost files = { λ set d. files_of set.listing.now d };

@@ -9,7 +9,7 @@ pub returns : goal.returns
 returns g c = λ d model own goes.
     let act_of = c.args.act.now in
     let after_it = after d model.deeds in
-    file_done (g.A.FileAct.is_later act_of d) (rows_of c.args.tables.now) d d model (g.A.FileAct.acts act_of d c.args.argument.now c.args.path.now) c.args.step.now c.in_ok-more.more c.add.new.self
+    file_done (g.A.FileAct.is_later act_of d) (g.A.FileAct.is_later act_of d) (rows_of c.args.tables.now) d d model (g.A.FileAct.acts act_of d c.args.argument.now c.args.path.now) c.args.step.now c.in_ok-more.more c.add.new.self
     (is_in c.args.taken.now c.args.path.now) (sym c.contains.ensures ∙ c.if-contains.false) goes
     (c.in_ok-more.ensures d after_it own goes.there) (g.met.A.FileAct.next act_of d after_it c.args.argument.now c.args.path.now goes.there)
     c.in_ok-add.ensures.deeds c.in_ok-add.ensures.rows c.in_ok-add.ensures.stores c.in_ok-add.ensures.reads

@@ -1,5 +1,5 @@
-use Rattle.std.proofs.Common.{List, [], ◌∷◌, subst, sym}
-use Rattle.std.specs.Prelude.{filter, true}
+use Rattle.std.proofs.Common.{[], ◌∷◌, subst, sym}
+use Rattle.std.specs.Prelude.{true}
 use Rattle.table_changes.specs.Changed.{rows_of}
 use Rattle.depot_model.specs.declared.command.FileArgument.{FileArgument}
 use Rattle.depot_model.specs.Arguments.{named, over_all}

@@ -1,4 +1,4 @@
-use Rattle.std.proofs.Common.{Bool, [], ◌∷◌, refl, sym, ap, subst, ◌∙◌}
+use Rattle.std.proofs.Common.{Bool, [], ◌∷◌, sym, ap, subst, ◌∙◌}
 use Rattle.std.specs.Prelude.{if◌then◌else◌}
 use Rattle.depot_path.specs.Path.{is_path}
 use Rattle.table_changes.specs.Changed.{rows_of}

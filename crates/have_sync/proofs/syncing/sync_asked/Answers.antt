@@ -4,4 +4,4 @@ use Rattle.have_sync.proofs.syncing.sync_asked.Goals as goal
 pub returns : goal.returns
 returns c = λ d reads.
     let rows = rows_of c.args.tables.now in
-    c.in_ok-step.ensures rows d d _ (c.shown_alone-told.ensures rows d d _ (c.in_ok-whole.ensures d reads.shown reads))
+    c.in_ok-step.ensures rows d d _ (c.shown_alone-told.ensures rows d d _ (c.in_ok-whole.ensures d reads.shown (reads, c.places_of.ensures)))

@@ -1,4 +1,4 @@
-use Rattle.std.proofs.Common.{[], Bool, sym, subst, ◌∙◌}
+use Rattle.std.proofs.Common.{[], sym, subst, ◌∙◌}
 use Rattle.table_changes.specs.Changed.{rows_of}
 use Rattle.depot_model.specs.Step.{Step as ModelStep, nothing}
 use Rattle.depot_model.specs.Steps.Syncing.{is_owed}

@@ -1,40 +1,24 @@
-use Rattle.std.proofs.Common.{[], subst, sym, ap, ◌∙◌}
+use Rattle.std.proofs.Common.{sym, subst, ◌∙◌}
 use Rattle.table_changes.specs.Changed.{rows_of}
-use Rattle.named_files.specs.declared.listing.Listing.TheVariants.{Submitted}
-use Rattle.named_files.proofs.Wanting.{reads_wanted}
 use Rattle.depot_model.specs.Choice.{Choice}
-use Rattle.depot_model.specs.Step.{nothing}
 use Rattle.depot_model.specs.Steps.Syncing as model
 use Rattle.reply_rows.specs.Made.{IsMade}
-use Rattle.reply_rows.specs.declared.step.Step.{Step}
-use Rattle.reply_rows.proofs.Bare.{tells_made}
-use Rattle.revision_reads.specs.Choice.{choice_of}
+use Rattle.have_sync.proofs.NewestRead.{chosen_head}
 use Rattle.have_sync.proofs.syncing.sync_to.Goals as goal
 
-pub returns-in_ok-step-in-At : goal.returns-in_ok-step-in-At
-returns-in_ok-step-in-At c = λ d e reads.
-    let syncing = c.args.syncing.now in
-    let caller = syncing.caller.now in
-    let argument = c.args.argument.now in
+pub returns-in_ok-newest-clause-step : goal.returns-in_ok-newest-clause-step
+returns-in_ok-newest-clause-step c = λ d e reads of.
+    let caller = c.args.caller.now in
     let path = c.args.path.now in
-    let rows = rows_of c.args.tables.now in
-    let shown = reads.shown in
-    let step = c.in_ok-step-in-At.step in
-    subst (λ (x : Choice). IsMade rows d e (model.sync_to syncing.again d caller argument path x) step)
-    (ap choice_of (sym c.in-At.is)
-    ∙ c.in_ok-choice.ensures d shown.sound (reads_wanted caller syncing.asker.now Submitted rows d shown argument.spec.wanted))
-    (c.in_ok-step-in-At.ensures d e reads)
+    let argument = c.args.argument.now in
+    subst (λ (x : Choice). IsMade (rows_of c.args.tables.now) d e (model.sync_to c.args.again d caller argument path x) c.in_ok-newest.newest)
+    (sym (chosen_head d caller path argument.spec.wanted (sym c.is_head.ensures ∙ c.if-is_head.true))) (c.in_ok-newest.ensures.step d e reads of)
 
-pub returns-in-PassedOver : goal.returns-in-PassedOver
-returns-in-PassedOver c = λ d e reads.
-    let syncing = c.args.syncing.now in
-    let caller = syncing.caller.now in
-    let argument = c.args.argument.now in
-    let path = c.args.path.now in
-    let rows = rows_of c.args.tables.now in
-    let shown = reads.shown in
-    let step = c.new-step.result in
-    subst (λ (x : Choice). IsMade rows d e (model.sync_to syncing.again d caller argument path x) step)
-    (ap choice_of (sym c.in-PassedOver.is)
-    ∙ c.in_ok-choice.ensures d shown.sound (reads_wanted caller syncing.asker.now Submitted rows d shown argument.spec.wanted))
-    (subst (λ (s : Step). IsMade rows d e nothing s) (sym c.new-step.ensures) (tells_made rows d e [] tt))
+pub returns-in_ok-newest-clause-places : goal.returns-in_ok-newest-clause-places
+returns-in_ok-newest-clause-places c = λ rows of. c.in_ok-newest.ensures.places rows of
+
+pub returns-in_ok-step-clause-step : goal.returns-in_ok-step-clause-step
+returns-in_ok-step-clause-step c = λ d e reads of. c.in_ok-step.ensures.step d e reads of
+
+pub returns-in_ok-step-clause-places : goal.returns-in_ok-step-clause-places
+returns-in_ok-step-clause-places c = λ rows of. c.in_ok-step.ensures.places rows of

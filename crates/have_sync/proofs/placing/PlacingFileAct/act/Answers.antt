@@ -1,12 +1,11 @@
-use Rattle.std.proofs.Common.{◌≡◌, ℕ, List, [], Option, Some, None, refl, sym, ap, subst, ◌∙◌}
+use Rattle.std.proofs.Common.{ℕ, List, [], Option, refl, sym, ap, subst, ◌∙◌}
 use Rattle.table_changes.specs.Changed.{rows_of}
 use Rattle.view_map.specs.Mapping.{path_in}
 use Rattle.view_map.specs.declared.line.ViewLine.{ViewLine}
-use Rattle.depot_model.specs.Asking.{view}
-use Rattle.depot_model.specs.Step.{Step as ModelStep, nothing, tells}
+use Rattle.depot_model.specs.Step.{nothing}
 use Rattle.depot_model.specs.Steps.Placing.{place_row}
 use Rattle.reply_rows.specs.declared.step.Step.{Step}
-use Rattle.reply_rows.specs.Made.{IsMade, told}
+use Rattle.reply_rows.specs.Made.{IsMade}
 use Rattle.reply_rows.proofs.Bare.{tells_made}
 use Rattle.reply_rows.proofs.Joined.{made_row}
 use Rattle.have_sync.proofs.Told.{placed_by}

@@ -3,13 +3,12 @@ use Rattle.std.specs.Prelude.{filter}
 use Rattle.std.specs.Vec.Iter.{into_iter_items, into_iter_len}
 use Rattle.table_changes.specs.Changed.{rows_of}
 use Rattle.depot_model.specs.Deeds.{Deed}
-use Rattle.file_steps.proofs.loops.named_by.Given as goal
+use Rattle.file_steps.proofs.loops.named_among.Given as goal
 
 abbrev pub invariant-loop-path : goal.invariant-loop-path
 invariant-loop-path g l =
     record {
       goes : (d : List Deed) → g.S.FileSet.reads l.set (rows_of l.tables) d
-          → l.paths ++ filter (g.S.FileSet.names l.set d l.argument) (into_iter_items l.path-iterator)
-          ≡ filter (g.S.FileSet.names l.set d l.argument) (g.S.FileSet.files l.set d);
+          → l.paths ++ filter (g.S.FileSet.names l.set d l.argument) (into_iter_items l.path-iterator) ≡ filter (g.S.FileSet.names l.set d l.argument) l.fn.candidates;
       left : into_iter_len l.path-iterator ≡ length (into_iter_items l.path-iterator);
     }

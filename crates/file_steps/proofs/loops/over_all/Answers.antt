@@ -1,0 +1,4 @@
+use Rattle.file_steps.proofs.loops.over_all.Goals as goal
+
+pub returns : goal.returns
+returns g c = λ d reads own. c.in_ok-step.ensures d reads (own, g.met.A.FileAct.first c.args.act.now d)
