@@ -1,12 +1,9 @@
 -- By what the deletion of a change is refused is what its row tells.
-use Rattle.std.proofs.Common.{◌≡◌, ℕ, Bool, true, false, Option, Some, None, List, [], ◌∷◌, refl, sym, ap, ◌∙◌}
-use Rattle.std.specs.Prelude.{codes, if◌then◌else◌, is_none, is_some, IsSome, not, ◌&&◌, ◌||◌, length, nat_lt, option_map}
+use Rattle.std.proofs.Common.{◌≡◌, ℕ, Bool, true, false, Option, Some, None, List, [], ◌∷◌, refl, ap, ◌∙◌}
+use Rattle.std.specs.Prelude.{if◌then◌else◌, is_none, is_some, IsSome, not, ◌&&◌, ◌||◌, length, nat_lt, option_map}
 use Rattle.std.specs.Option.{option_map_or}
 use Rattle.depot_path.specs.Bytes.{same}
 use Rattle.db_records.specs.declared.record.Record.{Record}
-use Rattle.db_records.specs.declared.rows.ChangeRecord.{ChangeRecord}
-use Rattle.db_records.specs.declared.record.Record.TheVariants.{Change}
-use Rattle.depot_model.specs.declared.reply.Row.{Row}
 use Rattle.depot_model.specs.declared.request.Caller.{Caller}
 use Rattle.depot_model.specs.declared.refusal.Refusal.{Refusal}
 use Rattle.depot_model.specs.declared.refusal.Refusal.TheVariants.{NoSuchChange, NotDeletable, NotYours}

@@ -2,9 +2,8 @@
 use Rattle.std.proofs.Common.{Bor, ◌≤◌, ◌≡◌, ℕ, Bool, true, false, suc, ◌+◌, append_assoc, List, [], ◌∷◌, ◌++◌, Option, Some, None, refl, sym, ap, subst, ◌∙◌, length, arith}
 use Rattle.std.specs.Prelude.{◌==◌, codes, decimal, filter, filter_map, flat_map, if◌then◌else◌, IsSome, map, option_map}
 use Rattle.std.specs.List.{cons_option, enumerate_from}
-use Rattle.std.specs.Option.{option_copied, option_to_list}
+use Rattle.std.specs.Option.{option_to_list}
 use Rattle.std.proofs.lemmas.Bool.Decides.{nat_tests}
-use Rattle.depot_path.specs.Bytes.{same}
 use Rattle.depot_path.specs.Path.{printed}
 use Rattle.db_records.specs.declared.record.Record.{Record}
 use Rattle.db_records.specs.declared.record.Record.TheVariants as records
@@ -27,11 +26,10 @@ use Rattle.depot_model.specs.Rows.{action_word, if_any, number_field, path_field
 use Rattle.depot_model.specs.Rules.{NotBoth}
 use Rattle.depot_model.specs.Step.{Step as ModelStep, refuse_if, refuses, tells, unless}
 use Rattle.depot_model.specs.Steps.Changing.{files_of_change}
-use Rattle.depot_model.specs.Steps.History.{change_fields, describe, describe_fields, describe_landed, describe_pending, landed_files, made_in}
+use Rattle.depot_model.specs.Steps.History.{change_fields, describe, describe_fields, describe_landed, landed_files, made_in}
 use Rattle.depot_model.specs.Steps.Listing.{Numbered}
 use Rattle.reply_rows.specs.declared.step.Step.{Step}
 use Rattle.reply_rows.specs.Made.{IsMade, told}
-use Rattle.reply_rows.proofs.Bare.{refusal_bare}
 use Rattle.reply_rows.proofs.Joined.{made_row}
 use Rattle.revision_reads.specs.History.{numbered_record, seen}
 use Rattle.change_lists.specs.Describing.{content_fields, described_in, described_told, fields_at, landed_by, landed_told, record_fields, revision_fields}

@@ -1,28 +1,26 @@
 -- The numbers of changes, the greatest first, and what is given for each.
-use Rattle.std.proofs.Common.{◌≡◌, ◌≢◌, ℕ, zero, suc, ◌+◌, ◌<◌, ◌≤◌, Bool, true, false, cond, List, [], ◌∷◌, ◌++◌, Option, Some, None, refl, sym, ap, ◌∙◌, subst, arith}
-use Rattle.std.specs.Prelude.{◌==◌, ◌||◌, filter, filter_map, find, flat_map, if◌then◌else◌, map, max, nat_lt}
-use Rattle.std.specs.List.{cons_option, list_any}
-use Rattle.std.specs.Option.{option_flatten, option_or, option_to_list}
+use Rattle.std.proofs.Common.{◌≡◌, ℕ, zero, suc, ◌+◌, ◌<◌, ◌≤◌, Bool, true, false, cond, eqb, List, [], ◌∷◌, ◌++◌, length, Some, None, refl, sym, ap, ◌∙◌, subst, arith}
+use Rattle.std.specs.Prelude.{◌==◌, ◌||◌, flat_map, if◌then◌else◌, max, nat_lt, reverse, slice_index_or}
+use Rattle.std.specs.List.{AllPairs, dedup, dedup_from}
+use Rattle.std.specs.List.Sorted.{IsSorted}
+use Rattle.std.specs.Ordering.{nat_cmp}
+use Rattle.std.proofs.lemmas.List.{reverse-append}
+use Rattle.std.proofs.lemmas.List.Kept.{AllPairs-from_increasing}
+use Rattle.std.proofs.lemmas.Map.Keys.{IsStrictlyIncreasing-dedup}
+use Rattle.std.specs.Option.{option_flatten, option_or}
 use Rattle.std.proofs.lemmas.Bool.{false≢true}
 use Rattle.std.proofs.lemmas.Bool.Decides.{nat_tests}
 use Rattle.depot_model.specs.Deeds as deeds
 use Rattle.depot_model.specs.Deeds.{Deed, Landing, Pending}
 use Rattle.depot_model.specs.Latest.{latest, when}
-use Rattle.depot_model.specs.Numbers.{landing, landings, pending, pending_said, top}
+use Rattle.depot_model.specs.Numbers.{landing, pending, pending_said, top}
 use Rattle.depot_model.specs.Steps.Changes.{number_inserted, numbers}
-use Rattle.change_lists.specs.Listed.{down}
+use Rattle.change_lists.specs.Numbers.{Falls, Under, is_among}
 
--- numbers that are all below one, and numbers that fall
-abbrev pub Under : ℕ → List ℕ → Type 0
-Under t [] = Unit {0}
-Under t (x ∷ xs) = (x < t) × Under t xs
-
-abbrev pub Falls : List ℕ → Type 0
-Falls [] = Unit {0}
-Falls (x ∷ xs) = Under x xs × Falls xs
-
-abbrev pub is_among : ℕ → List ℕ → Bool
-is_among m ns = list_any (λ x. x == m) ns
+-- the numbers below one, the greatest first
+abbrev down : ℕ → List ℕ
+down zero = []
+down (suc n) = n ∷ down n
 
 under_more : (t u : ℕ) → t ≤ u → (ns : List ℕ) → Under t ns → Under u ns
 under_more t u h [] under = tt
@@ -144,6 +142,22 @@ not_landed (deeds.Land l ∷ d) m e =
     ∙ not_landed d m (or_right (l.change == m) (is_among m (numbers d)) gone)
 not_landed (_ ∷ d) m e = not_landed d m e
 
+-- a number above all of them
+abbrev top_of : List ℕ → ℕ
+top_of [] = 0
+top_of (x ∷ xs) = x + 1
+
+under_top : (ns : List ℕ) → Falls ns → Under (top_of ns) ns
+under_top [] falls = tt
+under_top (x ∷ xs) falls = (omega arith, under_more x (x + 1) (omega arith) xs falls.0)
+
+equal_self : (n : ℕ) → (n == n) ≡ true
+equal_self n = grind (arith, nat_tests)
+
+or_last : (a b : Bool) → b ≡ true → (a || b) ≡ true
+or_last true b e = refl
+or_last false b e = e
+
 -- ---- what is given for numbers that fall is given for all numbers below one, where the others give nothing
 
 module _ {A : Type 0} (g : ℕ → List A) where
@@ -187,3 +201,82 @@ module _ {A : Type 0} (g : ℕ → List A) where
       given_down ((top d + 1) + t) (numbers d) (numbers_fall d) (under_more (top d + 1) ((top d + 1) + t) (omega arith) (numbers d) (numbers_under d))
       (λ m h e. none m (not_pending d m e) (not_landed d m e))
       ∙ none_beyond (top d + 1) t beyond
+
+  -- and so for any numbers that fall, where the others give nothing
+  pub given_among : (d : List Deed) (ns : List ℕ) → Falls ns → ((m : ℕ) → pending d m ≡ None → landing d m ≡ None → g m ≡ []) → ((m : ℕ) → is_among m ns ≡ false → g m ≡ [])
+      → flat_map g (numbers d) ≡ flat_map g ns
+  given_among d ns falls none others =
+      let t = top_of ns in
+      let under = under_top ns falls in
+      given_numbers d t none (λ m h. others m (under_none m ns (under_more t m h ns under)))
+      ∙ sym (given_down t ns falls under (λ m h e. others m e))
+
+-- what is given alike for each number
+pub alike_among : {A : Type 0} (f g : ℕ → List A) (ns : List ℕ) → ((m : ℕ) → is_among m ns ≡ true → f m ≡ g m) → flat_map f ns ≡ flat_map g ns
+alike_among f g [] alike = refl
+alike_among f g (x ∷ xs) alike =
+    (λ i. alike x (ap (λ (b : Bool). b || is_among x xs) (equal_self x)) i ++ flat_map f xs)
+    ∙ ap (λ l. g x ++ l) (alike_among f g xs (λ m e. alike m (or_last (x == m) (is_among m xs) e)))
+
+-- ---- numbers in falling order
+
+abbrev Over : ℕ → List ℕ → Type 0
+Over t [] = Unit {0}
+Over t (x ∷ xs) = (t < x) × Over t xs
+
+abbrev Rises : List ℕ → Type 0
+Rises [] = Unit {0}
+Rises (x ∷ xs) = Over x xs × Rises xs
+
+over_all : (x : ℕ) (ys : List ℕ) → ((j d : ℕ) → j < length ys → x < slice_index_or ys j d) → Over x ys
+over_all x [] h = tt
+over_all x (y ∷ ys) h = (h 0 0 (omega arith), over_all x ys (λ j d low. h (suc j) d (omega arith)))
+
+rises_of : (xs : List ℕ) → AllPairs (λ x y. x < y) xs → Rises xs
+rises_of [] up = tt
+rises_of (x ∷ xs) up = (
+  over_all x xs (λ j d low. up 0 (suc j) d (omega arith) (omega arith)),
+  rises_of xs (λ i j d low high. up (suc i) (suc j) d (omega arith) (omega arith)),
+)
+
+over_end : (t x : ℕ) (xs : List ℕ) → Over t xs → t < x → Over t (xs ++ x ∷ [])
+over_end t x [] over h = (h, tt)
+over_end t x (y ∷ xs) over h = (over.0, over_end t x xs over.1 h)
+
+turned_cons : (x : ℕ) (xs : List ℕ) → reverse (x ∷ xs) ≡ reverse xs ++ x ∷ []
+turned_cons x xs = reverse-append (x ∷ []) xs
+
+over_turned : (t : ℕ) (xs : List ℕ) → Over t xs → Over t (reverse xs)
+over_turned t [] over = tt
+over_turned t (x ∷ xs) over = subst (Over t) (sym (turned_cons x xs)) (over_end t x (reverse xs) (over_turned t xs over.1) over.0)
+
+under_end : (x y : ℕ) (ys : List ℕ) → Under y ys → x < y → Under y (ys ++ x ∷ [])
+under_end x y [] under h = (h, tt)
+under_end x y (z ∷ ys) under h = (under.0, under_end x y ys under.1 h)
+
+falls_end : (x : ℕ) (ys : List ℕ) → Falls ys → Over x ys → Falls (ys ++ x ∷ [])
+falls_end x [] falls over = (tt, tt)
+falls_end x (y ∷ ys) falls over = (under_end x y ys falls.0 over.0, falls_end x ys falls.1 over.1)
+
+turned_falls : (xs : List ℕ) → Rises xs → Falls (reverse xs)
+turned_falls [] up = tt
+turned_falls (x ∷ xs) up = subst Falls (sym (turned_cons x xs)) (falls_end x (reverse xs) (turned_falls xs up.1) (over_turned x xs up.0))
+
+pub sorted_falls : (xs : List ℕ) → IsSorted nat_cmp xs → Falls (reverse (dedup eqb xs))
+sorted_falls xs sorted = turned_falls (dedup eqb xs) (rises_of (dedup eqb xs) (AllPairs-from_increasing (dedup eqb xs) (IsStrictlyIncreasing-dedup xs sorted)))
+
+kept_among : (n k : ℕ) (xs : List ℕ) → is_among n (dedup_from eqb k xs) ≡ ((k == n) || is_among n xs)
+kept_among n k [] = refl
+kept_among n k (x ∷ xs) = go (eqb x k) refl (kept_among n k xs) (kept_among n x xs)
+  where
+    go : (b : Bool) → eqb x k ≡ b → is_among n (dedup_from eqb k xs) ≡ ((k == n) || is_among n xs) → is_among n (dedup_from eqb x xs) ≡ ((x == n) || is_among n xs)
+        → is_among n (cond b (dedup_from eqb k xs) (k ∷ dedup_from eqb x xs)) ≡ ((k == n) || ((x == n) || is_among n xs))
+    go true e left more =
+        let one = is_equal x k e in
+        left ∙ or_twice (k == n) (is_among n xs) ∙ ap (λ (y : ℕ). (k == n) || ((y == n) || is_among n xs)) (sym one)
+    go false e left more = ap (λ (b : Bool). (k == n) || b) more
+
+-- each number is kept, and no other one
+pub dedup_among : (n : ℕ) (xs : List ℕ) → is_among n (dedup eqb xs) ≡ is_among n xs
+dedup_among n [] = refl
+dedup_among n (k ∷ xs) = kept_among n k xs

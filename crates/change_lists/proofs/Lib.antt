@@ -1,9 +1,9 @@
-pub mod Bounds
 pub mod Deleted
 pub mod Described
 pub mod Falling
 pub mod ListedRows
 pub mod MadeOnce
 pub mod Moved
+pub mod RowsTell
 pub mod Saved
 pub mod Shown

@@ -1,32 +1,33 @@
 -- The rows of changes, by their records and the greatest first, are those of the model.
-use Rattle.std.proofs.Common.{◌≡◌, ℕ, zero, suc, ◌+◌, ◌≤◌, Bool, true, false, cond, List, [], ◌∷◌, ◌++◌, Option, Some, None, refl, sym, ap, ◌∙◌, subst, arith, append_assoc, append-nil, drop, get_or, length, ◌<◌}
-use Rattle.std.specs.Prelude.{◌-◌, not, ◌==◌, ◌&&◌, ◌||◌, codes, filter, filter_map, find, flat_map, if◌then◌else◌, map, option_map, take}
+use Rattle.std.proofs.Common.{◌≡◌, ℕ, zero, suc, ◌≤◌, Bool, true, false, List, [], ◌∷◌, ◌++◌, Option, Some, None, refl, sym, ap, ◌∙◌, subst, arith, append_assoc, append-nil, drop, get_or, length, ◌<◌}
+use Rattle.std.specs.Prelude.{◌-◌, not, ◌==◌, ◌&&◌, ◌||◌, filter, filter_map, flat_map, if◌then◌else◌, map, option_map, take}
 use Rattle.std.specs.List.{cons_option, list_any}
 use Rattle.std.specs.Option.{option_or, option_to_list}
-use Rattle.std.proofs.lemmas.Bool.Decides.{nat_tests}
-use Rattle.std.proofs.lemmas.Grind.{common_steps}
-use Rattle.std.proofs.lemmas.Bool.{true≢false}
-use Rattle.depot_path.specs.Bytes.{same}
+use Rattle.std.proofs.lemmas.Bool.{false≢true, true≢false}
+use Rattle.std.proofs.lemmas.List.Folds.{list_any-append}
 use Rattle.db_records.specs.declared.record.Record.{Record}
-use Rattle.db_records.specs.declared.rows.ChangeRecord.{ChangeRecord}
 use Rattle.depot_model.specs.declared.reply.Row.{Row}
 use Rattle.depot_model.specs.declared.request.Caller.{Caller}
 use Rattle.depot_model.specs.declared.command.FileArgument.{FileArgument}
 use Rattle.depot_model.specs.declared.refusal.Refusal.TheVariants.{NoSuchFile}
-use Rattle.depot_model.specs.Arguments.{is_in, named, not_in, submitted}
+use Rattle.depot_path.specs.Fit.{fits}
+use Rattle.depot_model.specs.Arguments.{fits_at, in_client_syntax, is_in, named, names, not_in, submitted}
 use Rattle.depot_model.specs.Range.{in_range}
 use Rattle.depot_model.specs.Refusals.{refusal_row}
 use Rattle.depot_model.specs.Asking.{may_list}
-use Rattle.depot_model.specs.Choice.{made_by}
+use Rattle.depot_model.specs.Choice.{made_by, shown}
 use Rattle.depot_model.specs.Deeds.{Deed, Landing, Pending}
-use Rattle.depot_model.specs.Numbers.{landing, landings, pending}
-use Rattle.depot_model.specs.Records.{change_record, landed_record, pending_record}
-use Rattle.depot_model.specs.Revisions.{revisions}
+use Rattle.depot_model.specs.Numbers.{landing, pending}
+use Rattle.depot_model.specs.Records.{landed_record, pending_record}
+use Rattle.depot_model.specs.Revisions.{Revision, revision, revisions}
 use Rattle.depot_model.specs.Steps.Changes.{Listed, at_most, change_at, change_row, is_listable, is_made, listed, listed_landing, listed_pending, made_of, made_over, missing, numbers, passes}
 use Rattle.reply_rows.proofs.Bare.{AreBare}
 use Rattle.file_steps.proofs.Spelling.{AreAlike, left_alike}
-use Rattle.change_lists.specs.Listed.{NoneFrom, changes_listed, down, is_asked, is_kept, is_shown, kept_at, less_by, lists_one, made_in_file, record_told, row_told, rows_of_numbers, told_at, told_of}
-use Rattle.change_lists.proofs.Falling.{given_numbers}
+use Rattle.opening_reads.proofs.Onwards.{all_but_first}
+use Rattle.change_lists.specs.Listed.{asked_at, asked_of, changes_listed, is_listed, is_pending, is_pending_record, less_by, lists_one, made_in_file, rows_asked}
+use Rattle.change_lists.specs.Numbers.{Falls, is_among}
+use Rattle.change_lists.proofs.Falling.{alike_among, given_among}
+use Rattle.change_lists.proofs.RowsTell.{made_at}
 
 map_take : {A B : Type 0} (f : A → B) (n : ℕ) (xs : List A) → map f (take n xs) ≡ take n (map f xs)
 map_take f zero xs = refl
@@ -36,17 +37,6 @@ map_take f (suc n) (x ∷ xs) = ap (λ l. f x ∷ l) (map_take f n xs)
 pub map_most : {A B : Type 0} (f : A → B) (most : Option ℕ) (xs : List A) → map f (at_most most xs) ≡ at_most most (map f xs)
 map_most f None xs = refl
 map_most f (Some n) xs = map_take f n xs
-
-found_passes : {A : Type 0} (test : A → Bool) (xs : List A) (x : A) → find test xs ≡ Some x → test x ≡ true
-found_passes test [] x e = absurd cc
-found_passes test (y ∷ xs) x e = go (test y) refl e (λ f. found_passes test xs x f)
-  where
-    go : (b : Bool) → test y ≡ b → cond b (Some y) (find test xs) ≡ Some x → (find test xs ≡ Some x → test x ≡ true) → test x ≡ true
-    go true t f more = let one : y ≡ x = cc in subst (λ z. test z ≡ true) one t
-    go false t f more = more f
-
-is_number : (n m : ℕ) → (n == m) ≡ true → n ≡ m
-is_number n m e = grind (arith, nat_tests)
 
 any_both : (f g : List ℕ → Bool) (xs : List (List ℕ)) → list_any f (filter g xs) ≡ list_any (λ x. f x && g x) xs
 any_both f g [] = refl
@@ -69,10 +59,8 @@ module _ (d : List Deed) (caller : Caller) (status user client : Option (List �
   abbrev asked : Listed → Bool
   asked l = passes status l.status && passes user l.user && passes client l.client
 
-  shown_is : (n : ℕ) (l : Landing) → landing d n ≡ Some l → is_listable d caller n ≡ list_any (lists_one d caller l.change) (submitted d)
-  shown_is n l e =
-      any_both (may_list d caller) (λ path. list_any (made_by n) (revisions d path)) (submitted d)
-      ∙ ap (λ (m : ℕ). list_any (lists_one d caller m) (submitted d)) (sym (is_number l.change n (found_passes (λ (x : Landing). x.change == n) (landings d) l e)))
+  listable_is : (n : ℕ) → is_listable d caller n ≡ list_any (lists_one d caller n) (submitted d)
+  listable_is n = any_both (may_list d caller) (λ path. list_any (made_by n) (revisions d path)) (submitted d)
 
   abbrev found_in : ℕ → Option Pending → Option Landing → Option Listed
   found_in n p l = option_or (option_map listed_pending p)
@@ -81,95 +69,178 @@ module _ (d : List Deed) (caller : Caller) (status user client : Option (List �
   abbrev record_in : Option Pending → Option Landing → Option Record
   record_in p l = elim p as (λ _. Option Record) [ Some x ↦ Some (pending_record x) | None ↦ option_map landed_record l ]
 
-  one_told : (n : ℕ) → map change_row (filter asked (option_to_list (listed d caller n))) ≡ option_to_list (told_at d caller status user client n)
-  one_told n = go (pending d n) (landing d n) refl
-    where
-      pended : (p : Pending) (b : Bool) → map change_row (if b then listed_pending p ∷ [] else []) ≡ option_to_list (if b && true then Some (change_row (listed_pending p)) else None)
-      pended p true = refl
-      pended p false = refl
-
-      landed : (l : Landing) (a b : Bool) → map change_row (filter asked (option_to_list (if b then Some (listed_landing l) else None))) ≡ option_to_list (if asked (listed_landing l) && b then Some (change_row (listed_landing l)) else None)
-      landed l a true = kept (asked (listed_landing l))
-        where
-          kept : (c : Bool) → map change_row (if c then listed_landing l ∷ [] else []) ≡ option_to_list (if c && true then Some (change_row (listed_landing l)) else None)
-          kept true = refl
-          kept false = refl
-      landed l a false = kept (asked (listed_landing l))
-        where
-          kept : (c : Bool) → [] ≡ option_to_list (if c && false then Some (change_row (listed_landing l)) else None)
-          kept true = refl
-          kept false = refl
-
-      go : (p : Option Pending) (l : Option Landing) → landing d n ≡ l → map change_row (filter asked (option_to_list (found_in n p l))) ≡ option_to_list (told_of d caller status user client (record_in p l))
-      go (Some p) l e = pended p (asked (listed_pending p))
-      go None (Some l) e =
-          landed l true (is_listable d caller n)
-          ∙ ap (λ (b : Bool). option_to_list (if asked (listed_landing l) && b then Some (change_row (listed_landing l)) else None)) (shown_is n l e)
-      go None None e = refl
-
   -- the row of a change that is kept
+  abbrev told_if : Bool → Option Listed → List Row
+  told_if keep o = if keep then map change_row (filter asked (option_to_list o)) else []
+
   abbrev kept_told : (ℕ → Bool) → ℕ → List Row
-  kept_told keep n = option_to_list (if keep n then told_at d caller status user client n else None)
+  kept_told keep n = told_if (keep n) (listed d caller n)
 
   all_told : (keep : ℕ → Bool) (ns : List ℕ) → map change_row (filter asked (filter_map (listed d caller) (filter keep ns))) ≡ flat_map (kept_told keep) ns
   all_told keep [] = refl
   all_told keep (n ∷ ns) = chosen (keep n) (all_told keep ns)
     where
-      go : (o : Option Listed) → map change_row (filter asked (option_to_list o)) ≡ option_to_list (told_at d caller status user client n)
-          → map change_row (filter asked (filter_map (listed d caller) (filter keep ns))) ≡ flat_map (kept_told keep) ns
-          → map change_row (filter asked (cons_option o (filter_map (listed d caller) (filter keep ns))))
-          ≡ option_to_list (told_at d caller status user client n) ++ flat_map (kept_told keep) ns
-      go None one more = more ∙ ap (λ (l : List Row). l ++ flat_map (kept_told keep) ns) one
-      go (Some l) one more = kept (asked l) one more
+      by : (o : Option Listed) → map change_row (filter asked (filter_map (listed d caller) (filter keep ns))) ≡ flat_map (kept_told keep) ns
+          → map change_row (filter asked (cons_option o (filter_map (listed d caller) (filter keep ns)))) ≡ told_if true o ++ flat_map (kept_told keep) ns
+      by None more = more
+      by (Some l) more = kept (asked l) more
         where
-          kept : (b : Bool) → map change_row (if b then l ∷ [] else []) ≡ option_to_list (told_at d caller status user client n)
-              → map change_row (filter asked (filter_map (listed d caller) (filter keep ns))) ≡ flat_map (kept_told keep) ns
+          kept : (b : Bool) → map change_row (filter asked (filter_map (listed d caller) (filter keep ns))) ≡ flat_map (kept_told keep) ns
               → map change_row (if b then l ∷ filter asked (filter_map (listed d caller) (filter keep ns)) else filter asked (filter_map (listed d caller) (filter keep ns)))
-              ≡ option_to_list (told_at d caller status user client n) ++ flat_map (kept_told keep) ns
-          kept true one more = (λ i. change_row l ∷ more i) ∙ ap (λ (x : List Row). x ++ flat_map (kept_told keep) ns) one
-          kept false one more = more ∙ ap (λ (x : List Row). x ++ flat_map (kept_told keep) ns) one
+              ≡ map change_row (if b then l ∷ [] else []) ++ flat_map (kept_told keep) ns
+          kept true more = λ i. change_row l ∷ more i
+          kept false more = more
 
       chosen : (b : Bool) → map change_row (filter asked (filter_map (listed d caller) (filter keep ns))) ≡ flat_map (kept_told keep) ns
-          → map change_row (filter asked (filter_map (listed d caller) (if b then n ∷ filter keep ns else filter keep ns)))
-          ≡ option_to_list (if b then told_at d caller status user client n else None) ++ flat_map (kept_told keep) ns
-      chosen true more = go (listed d caller n) (one_told n) more
+          → map change_row (filter asked (filter_map (listed d caller) (if b then n ∷ filter keep ns else filter keep ns))) ≡ told_if b (listed d caller n) ++ flat_map (kept_told keep) ns
       chosen false more = more
+      chosen true more = by (listed d caller n) more
 
-  none_told : (all : Bool) (made : List ℕ) (n : ℕ) → change_record d n ≡ None → option_to_list (kept_at d caller status user client all made n) ≡ []
-  none_told all made n e =
-      ap (λ (r : Option Record). option_to_list (if is_kept all made n then told_of d caller status user client r else None)) e ∙ none (is_kept all made n)
+  one_told : (l : Listed) (b : Bool) → option_to_list (if b then Some (change_row l) else None) ≡ map change_row (if b then l ∷ [] else [])
+  one_told l true = refl
+  one_told l false = refl
+
+  -- it is that of the change that is asked for, where the change is pending or may be listed
+  told_alike : (n : ℕ) (p : Option Pending) (l : Option Landing) → (is_pending_record (record_in p l) || is_listable d caller n) ≡ true
+      → option_to_list (asked_of status user client (record_in p l)) ≡ told_if true (found_in n p l)
+  told_alike n (Some p) l e = one_told (listed_pending p) (asked (listed_pending p))
+  told_alike n None (Some l) e = go (is_listable d caller n) e
     where
-      none : (b : Bool) → option_to_list (if b then told_of d caller status user client None else None) ≡ []
-      none true = refl
-      none false = refl
+      go : (b : Bool) → b ≡ true
+          → option_to_list (if asked (listed_landing l) then Some (change_row (listed_landing l)) else None) ≡ told_if true (if b then Some (listed_landing l) else None)
+      go true e = one_told (listed_landing l) (asked (listed_landing l))
+      go false e = absurd (false≢true e)
+  told_alike n None None e = refl
 
-  no_record : (n : ℕ) → pending d n ≡ None → landing d n ≡ None → change_record d n ≡ None
-  no_record n p l = λ i. record_in (p i) (l i)
+  -- and else there is none
+  none_told : (n : ℕ) (p : Option Pending) (l : Option Landing) → (is_pending_record (record_in p l) || is_listable d caller n) ≡ false → told_if true (found_in n p l) ≡ []
+  none_told n (Some p) l e = absurd (true≢false e)
+  none_told n None (Some l) e = go (is_listable d caller n) e
+    where
+      go : (b : Bool) → b ≡ false → told_if true (if b then Some (listed_landing l) else None) ≡ []
+      go true e = absurd (true≢false e)
+      go false e = refl
+  none_told n None None e = refl
 
-  -- the numbers below one that none reaches are enough
-  pub all_below : (all : Bool) (made : List ℕ) (t : ℕ) → NoneFrom d t
-      → rows_of_numbers d caller status user client all made (numbers d) ≡ rows_of_numbers d caller status user client all made (down t)
-  all_below all made t beyond =
-      given_numbers (λ n. option_to_list (kept_at d caller status user client all made n)) d t (λ m p l. none_told all made m (no_record m p l))
-      (λ m h. none_told all made m (beyond m h))
+  nothing_there : (keep : Bool) (n : ℕ) (p : Option Pending) (l : Option Landing) → p ≡ None → l ≡ None → told_if keep (found_in n p l) ≡ []
+  nothing_there true n p l e f = λ i. told_if true (found_in n (e i) (f i))
+  nothing_there false n p l e f = refl
+
+  or_with : (a b : Bool) → b ≡ true → (a || b) ≡ true
+  or_with true b e = refl
+  or_with false b e = e
+
+  module _ (all : Bool) (made : List ℕ) (from : (n : ℕ) → is_among n made ≡ true → list_any (lists_one d caller n) (submitted d) ≡ true) where
+    abbrev keeps : ℕ → Bool
+    keeps n = all || is_among n made
+
+    -- a number that is listed is kept, and its change is pending or may be listed
+    listed_so : (n : ℕ) (b : Bool) → (if b then is_pending d n || list_any (lists_one d caller n) (submitted d) else is_among n made) ≡ true
+        → ((b || is_among n made) ≡ true) × ((is_pending d n || is_listable d caller n) ≡ true)
+    listed_so n true e = (refl, ap (λ (x : Bool). is_pending d n || x) (listable_is n) ∙ e)
+    listed_so n false e = (e, or_with (is_pending d n) (is_listable d caller n) (listable_is n ∙ from n e))
+
+    given_listed : (n : ℕ) → is_listed d caller all made n ≡ true → option_to_list (asked_at d status user client n) ≡ kept_told keeps n
+    given_listed n e =
+        let so = listed_so n all e in
+        told_alike n (pending d n) (landing d n) so.1 ∙ ap (λ (b : Bool). told_if b (listed d caller n)) (sym so.0)
+
+    none_listed : (n : ℕ) (b : Bool) → (if b then is_pending d n || list_any (lists_one d caller n) (submitted d) else is_among n made) ≡ false
+        → told_if (b || is_among n made) (listed d caller n) ≡ []
+    none_listed n true e = none_told n (pending d n) (landing d n) (ap (λ (x : Bool). is_pending d n || x) (listable_is n) ∙ e)
+    none_listed n false e = ap (λ (b : Bool). told_if b (listed d caller n)) e
+
+    numbers_told : (ns : List ℕ) → Falls ns → ((n : ℕ) → is_among n ns ≡ is_listed d caller all made n)
+        → flat_map (kept_told keeps) (numbers d) ≡ rows_asked d status user client ns
+    numbers_told ns falls are =
+        given_among (kept_told keeps) d ns falls (λ m e f. nothing_there (keeps m) m (pending d m) (landing d m) e f) (λ m e. none_listed m all (sym (are m) ∙ e))
+        ∙ sym (alike_among (λ n. option_to_list (asked_at d status user client n)) (kept_told keeps) ns (λ m e. given_listed m (sym (are m) ∙ e)))
+
+  -- ---- a change that arguments give may be listed
+
+  chosen_one : (n : ℕ) (path : List ℕ) (revs : List ℕ) → is_among n (filter_map (change_at d path) revs) ≡ true → list_any (made_by n) (revisions d path) ≡ true
+  chosen_one n path [] e = absurd (false≢true e)
+  chosen_one n path (k ∷ ks) e = go (revision d path k) refl e (λ f. chosen_one n path ks f)
+    where
+      go : (o : Option Revision) → revision d path k ≡ o → is_among n (cons_option (option_map (λ (r : Revision). r.landing.change) o) (filter_map (change_at d path) ks)) ≡ true
+          → (is_among n (filter_map (change_at d path) ks) ≡ true → list_any (made_by n) (revisions d path) ≡ true) → list_any (made_by n) (revisions d path) ≡ true
+      go None f e more = more e
+      go (Some r) f e more = here (r.landing.change == n) refl e
+        where
+          here : (b : Bool) → (r.landing.change == n) ≡ b → (b || is_among n (filter_map (change_at d path) ks)) ≡ true → list_any (made_by n) (revisions d path) ≡ true
+          here true is e = made_at d n path k r f is
+          here false is e = more e
+
+  abbrev placed_at : FileArgument → List ℕ → Bool
+  placed_at a path = if in_client_syntax caller.client a.spec.pattern then fits_at a.spec.pattern (shown d caller a.spec.wanted path) else fits a.spec.pattern path
+
+  abbrev left_of : FileArgument → List (List ℕ) → List (List ℕ) → List (List ℕ)
+  left_of a taken paths = not_in taken (filter (names false d caller a.spec) paths)
+
+  abbrev its_changes : FileArgument → List ℕ → List ℕ
+  its_changes a path = filter_map (change_at d path) (in_range d caller path a.spec.wanted)
+
+  given_by : (n : ℕ) (a : FileArgument) (taken paths : List (List ℕ)) → is_among n (made_of d caller a (not_in taken (filter (names false d caller a.spec) paths))) ≡ true
+      → list_any (lists_one d caller n) paths ≡ true
+  given_by n a taken [] e = absurd (false≢true e)
+  given_by n a taken (path ∷ paths) e = go (may_list d caller path) refl (λ f. given_by n a taken paths f)
+    where
+      go : (m : Bool) → may_list d caller path ≡ m → (is_among n (made_of d caller a (left_of a taken paths)) ≡ true → list_any (lists_one d caller n) paths ≡ true)
+          → ((m && list_any (made_by n) (revisions d path)) || list_any (lists_one d caller n) paths) ≡ true
+      go true is more = kept (placed_at a path) refl (subst (λ (b : Bool). is_among n (made_of d caller a (not_in taken (if b && (placed_at a path) then path ∷ filter (names false d caller a.spec) paths else filter (names false d caller a.spec) paths))) ≡ true) is e)
+        where
+          among : (l : List ℕ) → is_among n ((its_changes a path) ++ l) ≡ (is_among n (its_changes a path) || is_among n l)
+          among l = list_any-append (λ (m : ℕ). m == n) (its_changes a path) l
+
+          either : (a b c e : Bool) → (a ≡ true → c ≡ true) → (b ≡ true → e ≡ true) → (a || b) ≡ true → (c || e) ≡ true
+          either true b c e f g h = ap (λ (x : Bool). x || e) (f refl)
+          either false b c e f g h = or_with c e (g h)
+
+          taken_or : (b : Bool) → is_among n (made_of d caller a (if not b then path ∷ (left_of a taken paths) else (left_of a taken paths))) ≡ true
+              → (list_any (made_by n) (revisions d path) || list_any (lists_one d caller n) paths) ≡ true
+          taken_or true f = or_with (list_any (made_by n) (revisions d path)) (list_any (lists_one d caller n) paths) (more f)
+          taken_or false f =
+              either (is_among n (its_changes a path)) (is_among n (made_of d caller a (left_of a taken paths))) (list_any (made_by n) (revisions d path)) (list_any (lists_one d caller n) paths)
+              (λ g. chosen_one n path (in_range d caller path a.spec.wanted) g) more (sym (among (made_of d caller a (left_of a taken paths))) ∙ f)
+
+          kept : (b : Bool) → (placed_at a path) ≡ b → is_among n (made_of d caller a (not_in taken (if b then path ∷ filter (names false d caller a.spec) paths else filter (names false d caller a.spec) paths))) ≡ true
+              → (list_any (made_by n) (revisions d path) || list_any (lists_one d caller n) paths) ≡ true
+          kept true k f = taken_or (is_in taken path) f
+          kept false k f = or_with (list_any (made_by n) (revisions d path)) (list_any (lists_one d caller n) paths) (more f)
+      go false is more = more (subst (λ (b : Bool). is_among n (made_of d caller a (not_in taken (if b && (placed_at a path) then path ∷ filter (names false d caller a.spec) paths else filter (names false d caller a.spec) paths))) ≡ true) is e)
+
+  given_over : (n : ℕ) (taken : List (List ℕ)) (arguments : List FileArgument) → is_among n (made_over d caller taken arguments) ≡ true
+      → list_any (lists_one d caller n) (submitted d) ≡ true
+  given_over n taken [] e = absurd (false≢true e)
+  given_over n taken (a ∷ arguments) e =
+      let files = named false d caller (submitted d) a in
+      let rest = made_over d caller (taken ++ files) arguments in
+      one_of (is_among n (made_of d caller a (not_in taken files))) (is_among n rest) (λ f. given_by n a taken (submitted d) f) (λ f. given_over n (taken ++ files) arguments f)
+      (sym (list_any-append (λ (m : ℕ). m == n) (made_of d caller a (not_in taken files)) rest) ∙ e)
+    where
+      one_of : (a b : Bool) → (a ≡ true → list_any (lists_one d caller n) (submitted d) ≡ true) → (b ≡ true → list_any (lists_one d caller n) (submitted d) ≡ true) → (a || b) ≡ true
+          → list_any (lists_one d caller n) (submitted d) ≡ true
+      one_of true b f g h = f refl
+      one_of false b f g h = g h
 
   kept_is : (all : Bool) (made : List ℕ) (arguments : List FileArgument) → (all ≡ true → arguments ≡ []) → (arguments ≡ [] → all ≡ true) → made ≡ made_over d caller [] arguments
-      → (n : ℕ) → is_kept all made n ≡ is_made d caller arguments n
+      → (n : ℕ) → (all || is_among n made) ≡ is_made d caller arguments n
   kept_is true made [] none none_back are n = refl
   kept_is false made [] none none_back are n = absurd (true≢false (sym (none_back refl)))
   kept_is true made (a ∷ arguments) none none_back are n = absurd (let e = none refl in cc)
   kept_is false made (a ∷ arguments) none none_back are n = ap (λ (ms : List ℕ). list_any (λ m. m == n) ms) are
 
-  -- the rows of the numbers that are kept are the model's
-  pub rows_are : (most : Option ℕ) (all : Bool) (made : List ℕ) (arguments : List FileArgument) → (all ≡ true → arguments ≡ []) → (arguments ≡ [] → all ≡ true)
-      → made ≡ made_over d caller [] arguments
-      → map change_row (changes_listed d caller most status user client arguments) ≡ at_most most (rows_of_numbers d caller status user client all made (numbers d))
-  rows_are most all made arguments none none_back are =
+  -- the rows of the numbers that are listed are the model's
+  pub rows_are : (most : Option ℕ) (all : Bool) (made : List ℕ) (arguments : List FileArgument) (ns : List ℕ) → (all ≡ true → arguments ≡ []) → (arguments ≡ [] → all ≡ true)
+      → made ≡ made_over d caller [] arguments → Falls ns → ((n : ℕ) → is_among n ns ≡ is_listed d caller all made n)
+      → map change_row (changes_listed d caller most status user client arguments) ≡ at_most most (rows_asked d status user client ns)
+  rows_are most all made arguments ns none none_back are falls listed_are =
       map_most change_row most (filter asked (filter_map (listed d caller) (filter (is_made d caller arguments) (numbers d))))
       ∙ ap (λ (l : List Row). at_most most l)
       (ap (λ (keep : ℕ → Bool). map change_row (filter asked (filter_map (listed d caller) (filter keep (numbers d)))))
       (λ i n. sym (kept_is all made arguments none none_back are n) i)
-      ∙ all_told (is_kept all made) (numbers d))
+      ∙ all_told (λ n. all || is_among n made) (numbers d)
+      ∙ numbers_told all made (λ n e. given_over n [] arguments (ap (is_among n) (sym are) ∙ e)) ns falls listed_are)
 
 -- ---- rows one after another, as many as may come
 
@@ -187,41 +258,24 @@ one_on rows more (Some row) (Some (suc n)) some =
     let fewer : n ≡ suc n - 1 = omega arith in
     ap (λ (k : ℕ). rows ++ row ∷ take k more) fewer ∙ sym (append_assoc rows (row ∷ []) (take (suc n - 1) more))
 
-pub next_told : (f : ℕ → Option Row) (rows rows2 whole : List Row) (n m : ℕ) (told : Option Row) (left left2 : Option ℕ) → n ≡ suc m → (left ≡ Some 0 → ⊥) → told ≡ f m
-    → rows2 ≡ rows ++ option_to_list told → left2 ≡ less_by told left → rows ++ at_most left (flat_map (λ k. option_to_list (f k)) (down n)) ≡ whole
-    → rows2 ++ at_most left2 (flat_map (λ k. option_to_list (f k)) (down m)) ≡ whole
-next_told f rows rows2 whole n m told left left2 next some at is by so_far =
-    let more = flat_map (λ k. option_to_list (f k)) (down m) in
-    (λ i. is i ++ at_most (by i) more) ∙ sym (one_on rows more told left some) ∙ ap (λ (t : Option Row). rows ++ at_most left (option_to_list t ++ more)) at
-    ∙ ap (λ (k : ℕ). rows ++ at_most left (flat_map (λ k. option_to_list (f k)) (down k))) (sym next) ∙ so_far
+pub next_told : (f : ℕ → Option Row) (rows rows2 whole : List Row) (items : List ℕ) (n : ℕ) (told : Option Row) (left left2 : Option ℕ) → 1 ≤ length items → n ≡ get_or items 0 n
+    → (left ≡ Some 0 → ⊥) → told ≡ f n → rows2 ≡ rows ++ option_to_list told → left2 ≡ less_by told left
+    → rows ++ at_most left (flat_map (λ k. option_to_list (f k)) items) ≡ whole
+    → rows2 ++ at_most left2 (flat_map (λ k. option_to_list (f k)) (take (length items - 1) (drop 1 items))) ≡ whole
+next_told f rows rows2 whole [] n told left left2 there first some at is by so_far = absurd (omega arith)
+next_told f rows rows2 whole (x ∷ items) n told left left2 there first some at is by so_far =
+    let more = flat_map (λ k. option_to_list (f k)) items in
+    ap (λ (l : List ℕ). rows2 ++ at_most left2 (flat_map (λ k. option_to_list (f k)) l)) (all_but_first x items)
+    ∙ (λ i. is i ++ at_most (by i) more) ∙ sym (one_on rows more told left some)
+    ∙ ap (λ (t : Option Row). rows ++ at_most left (option_to_list t ++ more)) (at ∙ ap f first) ∙ so_far
 
-pub told_to_end : (f : ℕ → Option Row) (rows whole : List Row) (n : ℕ) (left : Option ℕ) → n ≡ 0 → rows ++ at_most left (flat_map (λ k. option_to_list (f k)) (down n)) ≡ whole
-    → rows ≡ whole
-told_to_end f rows whole n left none so_far =
-    sym (append-nil rows) ∙ ap (λ (l : List Row). rows ++ l) (sym (most_none left))
-    ∙ ap (λ (k : ℕ). rows ++ at_most left (flat_map (λ k. option_to_list (f k)) (down k))) (sym none) ∙ so_far
+pub told_to_end : (f : ℕ → Option Row) (rows whole : List Row) (items : List ℕ) (left : Option ℕ) → length items < 1
+    → rows ++ at_most left (flat_map (λ k. option_to_list (f k)) items) ≡ whole → rows ≡ whole
+told_to_end f rows whole [] left few so_far = sym (append-nil rows) ∙ ap (λ (l : List Row). rows ++ l) (sym (most_none left)) ∙ so_far
+told_to_end f rows whole (x ∷ items) left few so_far = absurd (omega arith)
 
 pub told_in_full : (rows more whole : List Row) (left : Option ℕ) → left ≡ Some 0 → rows ++ at_most left more ≡ whole → rows ≡ whole
 told_in_full rows more whole left full so_far = sym (append-nil rows) ∙ ap (λ (k : Option ℕ). rows ++ at_most k more) (sym full) ∙ so_far
-
--- ---- a search over files
-
-all_but_first : {A : Type 0} (first : A) (items : List A) → take (length (first ∷ items) - 1) (drop 1 (first ∷ items)) ≡ items
-all_but_first first items = grind (arith, common_steps)
-
-pub none_yet : {A : Type 0} (f : A → Bool) (items : List A) (item : A) → 1 ≤ length items → item ≡ get_or items 0 item → f item ≡ false
-    → list_any f (take (length items - 1) (drop 1 items)) ≡ list_any f items
-none_yet f [] item some first fails = absurd (omega arith)
-none_yet f (x ∷ items) item some first fails =
-    ap (λ l. list_any f l) (all_but_first x items) ∙ ap (λ (b : Bool). b || list_any f items) (sym (ap f (sym first) ∙ fails))
-
-pub one_found : {A : Type 0} (f : A → Bool) (items : List A) (item : A) → 1 ≤ length items → item ≡ get_or items 0 item → f item ≡ true → list_any f items ≡ true
-one_found f [] item some first passed = absurd (omega arith)
-one_found f (x ∷ items) item some first passed = ap (λ (b : Bool). b || list_any f items) (ap f (sym first) ∙ passed)
-
-pub none_left : {A : Type 0} (f : A → Bool) (items : List A) → length items < 1 → list_any f items ≡ false
-none_left f [] few = refl
-none_left f (x ∷ items) few = absurd (omega arith)
 
 rows_bare : (changes : List Listed) → AreBare (map change_row changes)
 rows_bare [] = tt

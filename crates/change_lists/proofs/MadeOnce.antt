@@ -1,5 +1,5 @@
 -- A change makes at most one revision of a file, so the last one that it made is the first.
-use Rattle.std.proofs.Common.{◌≡◌, ◌⊎◌, inl, inr, ℕ, zero, suc, ◌+◌, ◌<◌, ◌≤◌, Bool, true, false, cond, List, [], ◌∷◌, ◌++◌, Option, Some, None, Ok, refl, sym, ap, ◌∙◌, subst, append-nil, arith}
+use Rattle.std.proofs.Common.{◌≡◌, ℕ, suc, ◌+◌, ◌<◌, Bool, true, false, cond, List, [], ◌∷◌, ◌++◌, Option, Some, None, Ok, refl, sym, ap, ◌∙◌, append-nil, arith}
 use Rattle.std.specs.Prelude.{◌==◌, ◌||◌, filter, find, flat_map, if◌then◌else◌, is_some, max, option_map, slice_get}
 use Rattle.std.specs.List.{list_any}
 use Rattle.std.proofs.lemmas.Bool.{false≢true}
@@ -7,7 +7,7 @@ use Rattle.std.proofs.lemmas.Bool.Decides.{nat_tests}
 use Rattle.depot_path.specs.Path.{path_of, printed}
 use Rattle.depot_model.specs.Choice.{At, PassedOver, at_or_above_one, made_by}
 use Rattle.depot_model.specs.Deeds.{Deed}
-use Rattle.depot_model.specs.Revisions.{Revision, last_passing, revision, revisions}
+use Rattle.depot_model.specs.Revisions.{Revision, last_passing, revisions}
 use Rattle.depot_model.specs.Rules.{IsSound}
 use Rattle.depot_model.specs.Steps.History.{made_in, numbered_from}
 use Rattle.depot_model.specs.Steps.Listing.{Numbered, numbered}

@@ -1,5 +1,5 @@
 -- The openings that are moved into another change.
-use Rattle.std.proofs.Common.{◌≡◌, ℕ, Bool, true, false, List, [], ◌∷◌, ◌++◌, Option, Some, None, refl, sym, ap, subst, ◌∙◌}
+use Rattle.std.proofs.Common.{◌≡◌, ℕ, Bool, true, false, List, [], ◌∷◌, ◌++◌, Option, Some, None, refl, sym, ap, ◌∙◌}
 use Rattle.std.specs.Prelude.{◌&&◌, filter_map, flat_map, is_none, map, option_map}
 use Rattle.std.specs.List.{cons_option, list_all}
 use Rattle.std.specs.Option.{option_to_list}
@@ -12,7 +12,7 @@ use Rattle.depot_model.specs.Deeds as model
 use Rattle.depot_model.specs.Deeds.{Deed, Opening}
 use Rattle.depot_model.specs.Opened.{opened}
 use Rattle.depot_model.specs.Records.{working_record}
-use Rattle.depot_model.specs.Rules.{IsSound, opening_paths}
+use Rattle.depot_model.specs.Rules.{IsSound}
 use Rattle.depot_model.specs.declared.refusal.Refusal.TheVariants.{NotOpen}
 use Rattle.depot_model.specs.Step.{refuse_if}
 use Rattle.depot_model.specs.Steps.Changing.{moved_to, not_open}

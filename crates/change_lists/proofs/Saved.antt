@@ -1,5 +1,5 @@
 -- A change that is saved, by what it is refused and what is done.
-use Rattle.std.proofs.Common.{◌≡◌, ◌<◌, ◌≤◌, ℕ, Bool, true, false, ◌+◌, List, [], ◌∷◌, ◌++◌, Option, Some, None, refl, sym, ap, subst, ◌∙◌, length, arith, drop, get_or, take, append_assoc, Result, Ok, Err}
+use Rattle.std.proofs.Common.{◌≡◌, ◌≤◌, ℕ, Bool, true, false, ◌+◌, List, [], ◌∷◌, ◌++◌, Option, Some, None, refl, sym, ap, ◌∙◌, length, arith, drop, get_or, take, append_assoc, Result, Ok, Err}
 use Rattle.std.specs.Prelude.{◌-◌, IsSome, if◌then◌else◌, is_ok, is_some, map, nat_lt, not, option_map, unwrap_or, codes}
 use Rattle.std.proofs.lemmas.Bool.{true≢false}
 use Rattle.std.proofs.lemmas.Bool.Decides.{nat_tests}
@@ -21,7 +21,7 @@ use Rattle.depot_model.specs.Numbers.{pending, top}
 use Rattle.depot_model.specs.Records.{record_of}
 use Rattle.depot_model.specs.Refusals.{refusal_row}
 use Rattle.depot_model.specs.Rules.{IsSound}
-use Rattle.depot_model.specs.Step.{Step as ModelStep, refuse_if, refuses, unless}
+use Rattle.depot_model.specs.Step.{Step as ModelStep, refuse_if, unless}
 use Rattle.depot_model.specs.Steps.Changing.{bad_lines, change_form, form_number, form_text, has_number, listed_path, listed_paths, not_open, path_before_tab, saved}
 use Rattle.depot_model.specs.Steps.Opening.{is_of}
 use Rattle.depot_rows.specs.Effects.{is_submitted}

@@ -1,6 +1,6 @@
 -- What is shown of a change by its record is what the model shows.
-use Rattle.std.proofs.Common.{◌≡◌, ℕ, Bool, true, false, ◌+◌, List, [], ◌∷◌, ◌++◌, Option, Some, None, refl, sym, ap, subst, ◌∙◌}
-use Rattle.std.specs.Prelude.{◌&&◌, codes, decimal, filter, flat_map, if◌then◌else◌, IfSome, map, option_map}
+use Rattle.std.proofs.Common.{◌≡◌, ℕ, Bool, true, false, ◌+◌, List, [], ◌∷◌, ◌++◌, Option, Some, None, refl, ap, subst, ◌∙◌}
+use Rattle.std.specs.Prelude.{codes, decimal, flat_map, if◌then◌else◌, IfSome, map, option_map}
 use Rattle.std.specs.List.{enumerate_from}
 use Rattle.depot_path.specs.Bytes.{same}
 use Rattle.depot_path.specs.Name.{is_name}
@@ -15,7 +15,7 @@ use Rattle.depot_model.specs.declared.reply.Field.{Field}
 use Rattle.depot_model.specs.declared.reply.Row.{Row}
 use Rattle.depot_model.specs.declared.request.Caller.{Caller}
 use Rattle.depot_model.specs.declared.refusal.Refusal.TheVariants.{NoSuchChange}
-use Rattle.depot_model.specs.Asking.{may_list, protects, who_of}
+use Rattle.depot_model.specs.Asking.{may_list}
 use Rattle.depot_model.specs.Deeds.{Deed, Landing, Opening, Pending}
 use Rattle.depot_model.specs.FormRows.{numbered}
 use Rattle.depot_model.specs.Numbers.{landing, pending}
@@ -24,7 +24,7 @@ use Rattle.depot_model.specs.Refusals.{refusal_row}
 use Rattle.depot_model.specs.Rows.{row, text_field}
 use Rattle.depot_model.specs.Rules.{IsRow, IsSound}
 use Rattle.depot_model.specs.Step.{Step as ModelStep, refuses, tells}
-use Rattle.depot_model.specs.Steps.Changing.{change_row, file_field, listable, openings_in, show_landed, show_numbered}
+use Rattle.depot_model.specs.Steps.Changing.{change_row, file_field, listable, openings_in, show_numbered}
 use Rattle.depot_rows.specs.Deed.{opening_of}
 use Rattle.depot_rows.specs.declared.deed.Opening.{Opening as DeedOpening}
 use Rattle.reply_rows.specs.declared.step.Step.{Step}
@@ -32,8 +32,7 @@ use Rattle.reply_rows.specs.Made.{IsMade, told}
 use Rattle.reply_rows.proofs.Joined.{made_row}
 use Rattle.named_files.specs.Asked.{IsAsker}
 use Rattle.named_files.specs.declared.asker.Asker.{Asker}
-use Rattle.opening_reads.specs.InChange.{opened_in}
-use Rattle.change_lists.specs.Showing.{listed_text, openings_told, record_row, shown_row}
+use Rattle.change_lists.specs.Showing.{listed_text, record_row}
 
 module _ (d : List Deed) (caller : Caller) (asker : Asker) (asked : IsAsker d caller asker) where
   -- the asker's right to list is the caller's

@@ -1,5 +1,5 @@
 -- By what the deletion of a change is refused, by its row and by whether it has opened files (Command-Line Reference, "p4 change", option -d).
-use Rattle.std.specs.Prelude.{ℕ, Bool, not, ◌&&◌, ◌||◌, codes, if◌then◌else◌, List, [], ◌∷◌, Option, Some, None}
+use Rattle.std.specs.Prelude.{ℕ, Bool, not, ◌&&◌, ◌||◌, codes, if◌then◌else◌, [], ◌∷◌, Option, Some, None}
 use Rattle.depot_path.specs.Bytes.{same}
 use Rattle.db_records.specs.declared.record.Record.{Record}
 use Rattle.db_records.specs.declared.record.Record.TheVariants.{Change}

@@ -1,5 +1,5 @@
 -- What is listed of changes, by their records (Command-Line Reference, "p4 changes"; Helix Core database schema reference, "db.change").
-use Rattle.std.specs.Prelude.{◌≡◌, ◌≤◌, ℕ, zero, suc, Bool, true, ◌&&◌, ◌||◌, ◌==◌, ◌-◌, codes, filter, filter_map, flat_map, if◌then◌else◌, List, [], ◌∷◌, Option, Some, None}
+use Rattle.std.specs.Prelude.{ℕ, Bool, false, ◌&&◌, ◌||◌, ◌==◌, ◌-◌, codes, filter, filter_map, flat_map, if◌then◌else◌, List, [], ◌∷◌, Option, Some, None}
 use Rattle.std.specs.List.{list_any}
 use Rattle.std.specs.Option.{option_to_list}
 use Rattle.depot_path.specs.Bytes.{same}
@@ -19,11 +19,6 @@ use Rattle.depot_model.specs.Revisions.{revisions}
 use Rattle.depot_model.specs.Rows.{number_field, row, text_field}
 use Rattle.depot_model.specs.Steps.Changes.{Listed, at_most, change_at, is_made, listed, numbers, passes}
 
--- the numbers below one, the greatest first
-abbrev pub down : ℕ → List ℕ
-down zero = []
-down (suc n) = n ∷ down n
-
 -- a change's row, by its record
 abbrev pub row_told : ChangeRecord → Row
 row_told r = row (
@@ -38,19 +33,33 @@ lists_one d caller n path = may_list d caller path && list_any (made_by n) (revi
 abbrev pub is_asked : Option (List ℕ) → Option (List ℕ) → Option (List ℕ) → ChangeRecord → Bool
 is_asked status user client r = passes status r.status && passes user r.user && passes client r.client
 
-abbrev pub is_shown : List Deed → Caller → ChangeRecord → Bool
-is_shown d caller r = if same r.status (codes "pending") then true else list_any (lists_one d caller r.change) (submitted d)
+-- the row of a change, where it is asked for
+abbrev pub record_asked : Option (List ℕ) → Option (List ℕ) → Option (List ℕ) → ChangeRecord → Option Row
+record_asked status user client r = if is_asked status user client r then Some (row_told r) else None
 
--- the row of a change, where it is listed
-abbrev pub record_told : List Deed → Caller → Option (List ℕ) → Option (List ℕ) → Option (List ℕ) → ChangeRecord → Option Row
-record_told d caller status user client r = if is_asked status user client r && is_shown d caller r then Some (row_told r) else None
+abbrev pub asked_of : Option (List ℕ) → Option (List ℕ) → Option (List ℕ) → Option Record → Option Row
+asked_of status user client (Some (Change r)) = record_asked status user client r
+asked_of status user client _ = None
 
-abbrev pub told_of : List Deed → Caller → Option (List ℕ) → Option (List ℕ) → Option (List ℕ) → Option Record → Option Row
-told_of d caller status user client (Some (Change r)) = record_told d caller status user client r
-told_of d caller status user client _ = None
+abbrev pub asked_at : List Deed → Option (List ℕ) → Option (List ℕ) → Option (List ℕ) → ℕ → Option Row
+asked_at d status user client n = asked_of status user client (change_record d n)
 
-abbrev pub told_at : List Deed → Caller → Option (List ℕ) → Option (List ℕ) → Option (List ℕ) → ℕ → Option Row
-told_at d caller status user client n = told_of d caller status user client (change_record d n)
+-- those of the changes of numbers
+abbrev pub rows_asked : List Deed → Option (List ℕ) → Option (List ℕ) → Option (List ℕ) → List ℕ → List Row
+rows_asked d status user client ns = flat_map (λ n. option_to_list (asked_at d status user client n)) ns
+
+-- the change of a number is pending
+abbrev pub is_pending_record : Option Record → Bool
+is_pending_record (Some (Change r)) = same r.status (codes "pending")
+is_pending_record _ = false
+
+abbrev pub is_pending : List Deed → ℕ → Bool
+is_pending d n = is_pending_record (change_record d n)
+
+-- the change of a number is listed, beside what is asked for: without arguments where it is pending or the caller may list a file of it, and with
+-- arguments where its number is among those that they gave
+abbrev pub is_listed : List Deed → Caller → Bool → List ℕ → ℕ → Bool
+is_listed d caller all made n = if all then is_pending d n || list_any (lists_one d caller n) (submitted d) else list_any (λ m. m == n) made
 
 -- how many rows may still come
 abbrev pub less : Option ℕ → Option ℕ
@@ -60,17 +69,6 @@ less (Some n) = Some (n - 1)
 abbrev pub less_by : Option Row → Option ℕ → Option ℕ
 less_by None left = left
 less_by (Some row) left = less left
-
--- the change of a number is asked for: all are, or it is among these
-abbrev pub is_kept : Bool → List ℕ → ℕ → Bool
-is_kept all made n = all || list_any (λ m. m == n) made
-
-abbrev pub kept_at : List Deed → Caller → Option (List ℕ) → Option (List ℕ) → Option (List ℕ) → Bool → List ℕ → ℕ → Option Row
-kept_at d caller status user client all made n = if is_kept all made n then told_at d caller status user client n else None
-
--- those of the changes of numbers
-abbrev pub rows_of_numbers : List Deed → Caller → Option (List ℕ) → Option (List ℕ) → Option (List ℕ) → Bool → List ℕ → List ℕ → List Row
-rows_of_numbers d caller status user client all made ns = flat_map (λ n. option_to_list (kept_at d caller status user client all made n)) ns
 
 -- the changes that are listed
 abbrev pub changes_listed : List Deed → Caller → Option ℕ → Option (List ℕ) → Option (List ℕ) → Option (List ℕ) → List FileArgument → List Listed
@@ -82,7 +80,3 @@ changes_listed d caller most status user client arguments =
 abbrev pub made_in_file : List Deed → Caller → FileArgument → List (List ℕ) → List ℕ → List ℕ
 made_in_file d caller argument taken path =
     if is_in taken path then [] else flat_map (λ rev. option_to_list (change_at d path rev)) (in_range d caller path argument.spec.wanted)
-
--- no change has that number or a greater one
-abbrev pub NoneFrom : List Deed → ℕ → Type 0
-NoneFrom d t = (n : ℕ) → t ≤ n → change_record d n ≡ None

@@ -10,6 +10,7 @@ mod files;
 mod lines;
 mod listing;
 mod made;
+mod numbers;
 mod saving;
 mod showing;
 

@@ -1,11 +1,10 @@
 //! `changes` (Command-Line Reference, "p4 changes").
 
-ghost use Rattle.std.specs.Prelude.{◌≡◌, ◌&&◌, ◌++◌, ◌==◌, Some, true, false, List, IfOk, OnOk, flat_map, map};
-ghost use Rattle.std.specs.List.{list_any};
+ghost use Rattle.std.specs.Prelude.{◌≡◌, ◌&&◌, ◌++◌, ℕ, Some, true, false, List, IfOk, OnOk, flat_map, map};
 ghost use Rattle.std.specs.Option.{option_to_list};
 ghost use Rattle.db_records.specs.declared.table.TableId.TheVariants as table_ids;
 ghost use Rattle.table_changes.specs.Changed.{rows_of};
-ghost use Rattle.depot_model.specs.Arguments.{submitted};
+ghost use Rattle.depot_model.specs.declared.request.Caller.{Caller as CallerValue};
 ghost use Rattle.depot_model.specs.Deeds.{Deed};
 ghost use Rattle.depot_model.specs.Rules.{IsSound};
 ghost use Rattle.depot_model.specs.Steps.Changes as model;
@@ -14,29 +13,26 @@ ghost use Rattle.reply_rows.specs.Made.{IsMade};
 ghost use Rattle.named_files.specs.Asked.{IsAsker};
 ghost use Rattle.named_files.specs.Sets.{ShownReads};
 ghost use Rattle.named_files.specs.declared.listing.Listing.TheVariants.{Submitted};
-ghost use Rattle.change_lists.specs.Listed.{NoneFrom, changes_listed, down, is_kept as kept_test, is_shown as shown_test, kept_at, less, less_by, lists_one, record_told, row_told, rows_of_numbers, told_at};
+ghost use Rattle.change_lists.specs.Listed.{asked_at, changes_listed, is_listed, less, less_by, record_asked, row_told, rows_asked};
+ghost use Rattle.change_lists.specs.Numbers.{Falls, is_among};
 
-use crate::files::has_made;
 use crate::made::changes_made;
-use db_records::{ChangeRecord, Key, TableId};
+use crate::numbers::{all_numbers, in_falling_order};
+use db_records::ChangeRecord;
 use depot_model::{Caller, FileArgument, Row};
-use depot_path::{DepotPath, Name, Sequence, Text};
-use named_files::{Asker, Listing, all_files};
-use protect_table::Level;
+use depot_path::{Name, Sequence, Text};
+use named_files::Asker;
 use reply_rows::{RowBuilder, Step};
 use revision_reads::change_of;
 use std::alloc::{AllocError, Global};
 use table_store::Tables;
 
-/// Which changes are listed: those of a status, of a user and of a client, where they are given, and of some numbers.
+/// Which changes are listed: those of a status, of a user and of a client, where they are given.
 #[derive(Drop)]
 pub(crate) struct Filter<'a> {
     pub status: &'a Option<Text>,
     pub user: &'a Option<Name>,
     pub client: &'a Option<Name>,
-    /// Changes of any files; otherwise those of the numbers alone.
-    pub all: bool,
-    pub made: &'a [u32],
 }
 
 /// Whether a text is the one that is asked for, if one is.
@@ -81,155 +77,35 @@ fn listed_row(alloc: Global, row: &ChangeRecord) -> Result<Row, AllocError>
     Ok(told.row())
 }
 
-/// Whether the asker may list a file of which the change made a revision.
-fn is_of(
-    alloc: Global,
-    tables: &Tables,
-    caller: &Caller,
-    asker: &Asker,
-    change: u32,
-    path: &DepotPath,
-) -> Result<bool, AllocError>
-    ensures { IfOk result (λ of. (d : List Deed) → IsSound d → IsAsker d caller.now asker.now → HasRows (rows_of tables.now) d table_ids.Rev → of ≡ lists_one d caller.now change path.now) }
-{
-    if !asker.may(path, Level(1)) {
-        return Ok(false);
-    }
-    let made = has_made(alloc, tables, caller, path, change)?;
-    Ok(made)
-}
-
-/// Whether the asker may list one of some files of which the change made a revision.
-fn lists_any(
-    alloc: Global,
-    tables: &Tables,
-    caller: &Caller,
-    asker: &Asker,
-    change: u32,
-    files: &[DepotPath],
-) -> Result<bool, AllocError>
-    ensures { IfOk result (λ any. (d : List Deed) → IsSound d → IsAsker d caller.now asker.now → HasRows (rows_of tables.now) d table_ids.Rev →
-        any ≡ list_any (lists_one d caller.now change) files.now) }
-{
-    let mut rest = files;
-    while let [path, later @ ..] = rest {
-        let of = is_of(alloc, tables, caller, asker, change, path)?;
-        if of {
-            return Ok(true);
-        }
-        rest = later;
-    }
-    Ok(false)
-}
-
-/// Whether a change is listed beside the filter: a pending one is, and a submitted one where the asker may list one of its files.
-fn is_shown(
-    alloc: Global,
-    tables: &Tables,
-    caller: &Caller,
-    asker: &Asker,
-    files: &[DepotPath],
-    row: &ChangeRecord,
-) -> Result<bool, AllocError>
-    ensures { IfOk result (λ shown. (d : List Deed) → IsSound d → IsAsker d caller.now asker.now → HasRows (rows_of tables.now) d table_ids.Rev → files.now ≡ submitted d →
-        shown ≡ shown_test d caller.now row.now) }
-{
-    if row.status.as_bytes() == b"pending".as_slice() {
-        return Ok(true);
-    }
-    let any = lists_any(alloc, tables, caller, asker, row.change, files)?;
-    Ok(any)
-}
-
-/// The row of a change by its row in the table, where it is listed.
-fn tell_row(
-    alloc: Global,
-    tables: &Tables,
-    caller: &Caller,
-    asker: &Asker,
-    filter: &Filter,
-    files: &[DepotPath],
-    row: &ChangeRecord,
-) -> Result<Option<Row>, AllocError>
-    ensures { IfOk result (λ told. (d : List Deed) → IsSound d → IsAsker d caller.now asker.now → HasRows (rows_of tables.now) d table_ids.Rev → files.now ≡ submitted d →
-        told ≡ record_told d caller.now filter.now.status.now filter.now.user.now filter.now.client.now row.now) }
+/// The row of a change by its row in the table, where the filter passes it.
+fn tell_row(alloc: Global, filter: &Filter, row: &ChangeRecord) -> Result<Option<Row>, AllocError>
+    ensures { IfOk result (λ told. told ≡ record_asked filter.now.status.now filter.now.user.now filter.now.client.now row.now) }
 {
     if !passes(filter, row) {
         return Ok(None);
     }
-    let shown = is_shown(alloc, tables, caller, asker, files, row)?;
-    if shown {
-        let told = listed_row(alloc, row)?;
-        Ok(Some(told))
-    } else {
-        Ok(None)
-    }
+    let told = listed_row(alloc, row)?;
+    Ok(Some(told))
 }
 
-/// The row of the change of a number, where it is there and listed.
+/// The row of the change of a number, where it is there and the filter passes it.
 fn tell_change(
     alloc: Global,
     tables: &Tables,
-    caller: &Caller,
-    asker: &Asker,
     filter: &Filter,
-    files: &[DepotPath],
-    change: u32,
+    change: &u32,
 ) -> Result<Option<Row>, AllocError>
-    ensures { IfOk result (λ told. (d : List Deed) → IsSound d → IsAsker d caller.now asker.now → HasRows (rows_of tables.now) d table_ids.Change →
-        HasRows (rows_of tables.now) d table_ids.Rev → files.now ≡ submitted d →
-        told ≡ told_at d caller.now filter.now.status.now filter.now.user.now filter.now.client.now change) }
+    ensures { IfOk result (λ told. (d : List Deed) → HasRows (rows_of tables.now) d table_ids.Change →
+        told ≡ asked_at d filter.now.status.now filter.now.user.now filter.now.client.now change.now) }
 {
-    let found = change_of(tables, change);
+    let found = change_of(tables, *change);
     match found {
         Some(row) => {
-            let told = tell_row(alloc, tables, caller, asker, filter, files, row)?;
+            let told = tell_row(alloc, filter, row)?;
             Ok(told)
         }
         None => Ok(None),
     }
-}
-
-/// Whether a number is among others.
-fn is_among(numbers: &[u32], change: u32) -> bool
-    ensures { result ≡ list_any (λ m. m == change) numbers.now }
-{
-    let mut rest = numbers;
-    while let [one, later @ ..] = rest {
-        if *one == change {
-            return true;
-        }
-        rest = later;
-    }
-    false
-}
-
-/// Whether the change of a number is one of those that are asked for.
-fn is_kept(filter: &Filter, change: u32) -> bool
-    ensures { result ≡ kept_test filter.now.all filter.now.made.now change }
-{
-    filter.all || is_among(filter.made, change)
-}
-
-/// The row of the change of a number, where it is there, asked for and listed.
-fn tell_kept(
-    alloc: Global,
-    tables: &Tables,
-    caller: &Caller,
-    asker: &Asker,
-    filter: &Filter,
-    files: &[DepotPath],
-    change: u32,
-) -> Result<Option<Row>, AllocError>
-    ensures { IfOk result (λ told. (d : List Deed) → IsSound d → IsAsker d caller.now asker.now → HasRows (rows_of tables.now) d table_ids.Change →
-        HasRows (rows_of tables.now) d table_ids.Rev → files.now ≡ submitted d →
-        told ≡ kept_at d caller.now filter.now.status.now filter.now.user.now filter.now.client.now filter.now.all filter.now.made.now change) }
-{
-    if !is_kept(filter, change) {
-        return Ok(None);
-    }
-    let told = tell_change(alloc, tables, caller, asker, filter, files, change)?;
-    Ok(told)
 }
 
 /// One row fewer.
@@ -271,96 +147,52 @@ fn push_told(
     }
 }
 
-/// Adds the rows of the changes below a number that are listed, the greatest first, and at most so many.
-fn tell_below(
+/// Adds the rows of the changes of numbers that the filter passes, and at most so many.
+fn tell_numbers(
     alloc: Global,
     tables: &Tables,
-    caller: &Caller,
-    asker: &Asker,
     filter: &Filter,
-    files: &[DepotPath],
     rows: &mut Sequence<Row>,
-    bound: u32,
+    numbers: &[u32],
     most: Option<u32>,
 ) -> Result<(), AllocError>
-    ensures { OnOk result ((d : List Deed) → IsSound d → IsAsker d caller.now asker.now → HasRows (rows_of tables.now) d table_ids.Change →
-        HasRows (rows_of tables.now) d table_ids.Rev → files.now ≡ submitted d →
-        rows.new ≡ rows.old ++ model.at_most most
-        (rows_of_numbers d caller.now filter.now.status.now filter.now.user.now filter.now.client.now filter.now.all filter.now.made.now (down bound))) }
+    ensures { OnOk result ((d : List Deed) → HasRows (rows_of tables.now) d table_ids.Change →
+        rows.new ≡ rows.old ++ model.at_most most (rows_asked d filter.now.status.now filter.now.user.now filter.now.client.now numbers.now)) }
 {
-    let mut next = bound;
+    let mut rest = numbers;
     let mut left = most;
-    while next > 0 {
+    while let [change, later @ ..] = rest {
         if is_full(left) {
             return Ok(());
         }
-        next -= 1;
-        let told = tell_kept(alloc, tables, caller, asker, filter, files, next)?;
+        let told = tell_change(alloc, tables, filter, change)?;
         left = push_told(rows, left, told)?;
+        rest = later;
     }
     Ok(())
 }
 
-/// Whether there is a change of a number or a greater one.
-fn has_from(tables: &Tables, change: u32) -> bool
-    ensures { (d : List Deed) → HasRows (rows_of tables.now) d table_ids.Change → result ≡ false → NoneFrom d change }
-{
-    let version = tables.version(TableId::Change);
-    let _table = version.table();
-    let key = Key::Change { change };
-    let mut rows = version.from_key(&key);
-    match rows.next() {
-        Some(_) => true,
-        None => false,
-    }
-}
-
-/// A number above those of all changes, found by halving (Command-Line Reference, "p4 changes"). It takes no memory.
-fn bound_of(tables: &Tables) -> u32
-    ensures { (d : List Deed) → IsSound d → HasRows (rows_of tables.now) d table_ids.Change → NoneFrom d result }
-{
-    let mut low: u32 = 0;
-    let mut high: u32 = 2147483648;
-    while low < high {
-        let middle = low + (high - low) / 2;
-        if has_from(tables, middle) {
-            low = middle + 1;
-        } else {
-            high = middle;
-        }
-    }
-    high
-}
-
-/// Adds the rows of the changes that are listed, the greatest first, and at most so many.
-fn tell_all(
+/// The numbers of the changes that are listed, beside the filter: where there are no arguments, of all that the asker sees something of, or else of
+/// those that the arguments gave.
+fn listed_numbers(
     alloc: Global,
     tables: &Tables,
-    caller: &Caller,
     asker: &Asker,
-    filter: &Filter,
-    rows: &mut Sequence<Row>,
-    most: Option<u32>,
-) -> Result<(), AllocError>
-    ensures { OnOk result ((d : List Deed) → IsSound d → IsAsker d caller.now asker.now → HasRows (rows_of tables.now) d table_ids.Change →
-        HasRows (rows_of tables.now) d table_ids.Rev →
-        rows.new ≡ rows.old ++ model.at_most most
-        (rows_of_numbers d caller.now filter.now.status.now filter.now.user.now filter.now.client.now filter.now.all filter.now.made.now (model.numbers d))) }
+    all: bool,
+    made: Vec<u32>,
+) -> Result<Vec<u32>, AllocError>
+    ensures falls { IfOk result (λ numbers. Falls numbers.items) }
+    ensures numbers { IfOk result (λ numbers. (d : List Deed) (caller : CallerValue) → IsSound d → IsAsker d caller asker.now → HasRows (rows_of tables.now) d table_ids.Change →
+        HasRows (rows_of tables.now) d table_ids.Rev → (n : ℕ) → is_among n numbers.items ≡ is_listed d caller all made.items n) }
 {
-    let files = all_files(alloc, tables, &Listing::Submitted)?;
-    let bound = bound_of(tables);
-    tell_below(
-        alloc,
-        tables,
-        caller,
-        asker,
-        filter,
-        files.as_slice(),
-        rows,
-        bound,
-        most,
-    )?;
-    Ok(())
+    if all {
+        drop(made);
+        let numbers = all_numbers(alloc, tables, asker)?;
+        let falling = in_falling_order(numbers);
+        return Ok(falling);
+    }
+    let given = in_falling_order(made);
+    Ok(given)
 }
 
 /// The rows of `changes` of an asker.
@@ -380,14 +212,13 @@ fn changes_told(
 {
     let mut rows = Sequence::new(alloc);
     let made = changes_made(alloc, tables, caller, asker, &mut rows, files)?;
+    let numbers = listed_numbers(alloc, tables, asker, files.is_empty(), made)?;
     let filter = Filter {
         status,
         user,
         client,
-        all: files.is_empty(),
-        made: &made,
     };
-    tell_all(alloc, tables, caller, asker, &filter, &mut rows, most)?;
+    tell_numbers(alloc, tables, &filter, &mut rows, &numbers, most)?;
     Ok(rows)
 }
 
@@ -416,8 +247,9 @@ fn changes_asked(
 
 /// `changes`: the changes of a status, a user and a client, where they are given, and of these those that made a revision that an argument selects, if
 /// there are arguments; a submitted one where the caller may list one of its files. The greatest number is the first, and there are at most `most`. An
-/// argument that names no file is refused. It reads the tables of groups, protections, forms, have lists, labels, changes and revisions alone. It walks
-/// once over all revisions, and takes the numbers from the greatest down; for each change that it lists it looks for a file of it.
+/// argument that names no file is refused. It reads the tables of groups, protections, forms, have lists, labels, changes and revisions alone. With
+/// arguments it reads of the revisions those of the files that they name, and else it walks once over all revisions and all changes; the numbers that
+/// it finds so are sorted, and it looks up their changes from the greatest down, until there are enough.
 pub fn changes(
     alloc: Global,
     tables: &Tables,

@@ -1,9 +1,9 @@
-use Rattle.std.proofs.Common.{◌≡◌, ℕ, Bool, List, [], ◌∷◌, Option, None, Some, refl, sym, ap, ◌∙◌}
+use Rattle.std.proofs.Common.{[], ◌∷◌, Option, refl, sym, ap, ◌∙◌}
 use Rattle.std.specs.Prelude.{option_map}
 use Rattle.db_records.specs.declared.record.Record.{Record}
 use Rattle.table_changes.specs.Changed.{rows_of}
 use Rattle.depot_model.specs.declared.refusal.Refusal.{Refusal}
-use Rattle.depot_model.specs.Deeds.{Deed, Drop}
+use Rattle.depot_model.specs.Deeds.{Drop}
 use Rattle.depot_model.specs.Refusals.{refusal_row}
 use Rattle.depot_model.specs.Step.{does}
 use Rattle.depot_model.specs.Steps.Changing.{delete_refusals}

@@ -1,7 +1,6 @@
-use Rattle.std.proofs.Common.{◌≡◌, ℕ, Bool, List, ap, sym, ◌∙◌}
+use Rattle.std.proofs.Common.{ℕ, ap, sym, ◌∙◌}
 use Rattle.std.specs.Prelude.{length, nat_lt}
 use Rattle.std.proofs.lemmas.List.{length-map}
-use Rattle.depot_model.specs.Deeds.{Opening}
 use Rattle.depot_rows.specs.Deed.{opening_of}
 use Rattle.change_lists.proofs.deleting.has_openings.Goals as goal
 

@@ -1,6 +1,5 @@
-use Rattle.std.proofs.Common.{◌≡◌, ℕ, List, [], ◌∷◌, ◌++◌, ap, ◌∙◌}
+use Rattle.std.proofs.Common.{ℕ, List, [], ◌∷◌, ◌++◌, ap, ◌∙◌}
 use Rattle.std.specs.Prelude.{codes}
-use Rattle.depot_model.specs.declared.reply.Field.{Field}
 use Rattle.depot_model.specs.Rows.{number_field, text_field}
 use Rattle.change_lists.specs.Describing.{content_fields, numbered_name}
 use Rattle.change_lists.proofs.Described.{five_pushed}

@@ -1,4 +1,4 @@
-use Rattle.std.proofs.Common.{Bor, Option, None, Some, Bool, refl, sym, ◌≡◌, ◌∙◌}
+use Rattle.std.proofs.Common.{Bor, Option, None, Some, refl, sym, ◌≡◌, ◌∙◌}
 use Rattle.std.specs.Prelude.{is_some}
 use Rattle.std.specs.Option.{option_copied}
 use Rattle.change_lists.proofs.MadeOnce.{made_is}

@@ -1,4 +1,4 @@
-use Rattle.std.proofs.Common.{◌≡◌, List, ◌++◌, sym, subst, ◌∙◌}
+use Rattle.std.proofs.Common.{◌≡◌, List, ◌++◌, sym, subst}
 use Rattle.std.specs.Prelude.{flat_map, map}
 use Rattle.table_changes.specs.Changed.{rows_of}
 use Rattle.depot_model.specs.declared.reply.Row.{Row}

@@ -4,8 +4,8 @@ use Rattle.std.proofs.lemmas.Bool.{true≢false}
 use Rattle.std.proofs.lemmas.Bool.Decides.{nat_tests}
 use Rattle.depot_model.specs.declared.command.FileArgument.{FileArgument}
 use Rattle.depot_model.specs.declared.reply.Row.{Row}
-use Rattle.depot_model.specs.Steps.Changes.{at_most, missing, numbers}
-use Rattle.change_lists.specs.Listed.{rows_of_numbers}
+use Rattle.depot_model.specs.Steps.Changes.{at_most, missing}
+use Rattle.change_lists.specs.Listed.{rows_asked}
 use Rattle.change_lists.proofs.ListedRows.{rows_are}
 use Rattle.change_lists.proofs.listing.changes_told.Goals as goal
 
@@ -20,12 +20,17 @@ pub returns : goal.returns
 returns c = λ d reads.
     let caller = c.args.caller.now in
     let files = c.args.files.now in
+    let status = c.args.status.now in
+    let user = c.args.user.now in
+    let client = c.args.client.now in
     let all = c.is_empty.result in
-    let made = c.deref.result.now in
-    let told = rows_of_numbers d caller c.args.status.now c.args.user.now c.args.client.now all made (numbers d) in
-    c.in_ok-tell_all.ensures d reads.sound reads.asked reads.has_change reads.has_rev
-    ∙ ap (λ (l : List Row). l ++ at_most c.args.most told) (c.in_ok-made.ensures.rows d reads ∙ ap (λ (l : List Row). l ++ flat_map (missing d caller) files) c.new-rows.ensures)
+    let made = c.in_ok-made.made.items in
+    let numbers = c.in_ok-numbers.numbers.items in
+    c.in_ok-tell_numbers.ensures d reads.has_change
+    ∙ (λ i. (c.in_ok-made.ensures.rows d reads ∙ ap (λ (l : List Row). l ++ flat_map (missing d caller) files) c.new-rows.ensures) i
+    ++ at_most c.args.most (rows_asked d status user client (c.deref.ensures.value i)))
     ∙ ap (λ (l : List Row). flat_map (missing d caller) files ++ l)
-    (sym (rows_are d caller c.args.status.now c.args.user.now c.args.client.now c.args.most all made files (empty_is files all c.is_empty.ensures)
+    (sym (rows_are d caller status user client c.args.most all made files numbers (empty_is files all c.is_empty.ensures)
     (λ none. c.is_empty.ensures ∙ ap (λ (l : List FileArgument). length l == 0) none)
-    (c.deref.ensures.value ∙ c.in_ok-made.ensures.made d reads)))
+    (c.in_ok-made.ensures.made d reads) c.in_ok-numbers.ensures.falls
+    (λ n. c.in_ok-numbers.ensures.numbers d caller reads.sound reads.asked reads.has_change reads.has_rev n)))

@@ -4,12 +4,12 @@ use Rattle.std.specs.Option.{option_copied}
 use Rattle.db_records.specs.declared.record.Record.{Record}
 use Rattle.db_records.specs.declared.record.Record.TheVariants as records
 use Rattle.db_records.specs.declared.rows.ChangeRecord.{ChangeRecord}
-use Rattle.change_lists.specs.Listed.{told_of}
+use Rattle.change_lists.specs.Listed.{asked_of}
 use Rattle.change_lists.proofs.listing.tell_change.Goals as goal
 
 pub returns-in_ok-told-in-Some : goal.returns-in_ok-told-in-Some
-returns-in_ok-told-in-Some c = λ d sound asked has_change has_rev are.
+returns-in_ok-told-in-Some c = λ d has_change.
     let f = c.args.filter.now in
-    c.in_ok-told-in-Some.ensures d sound asked has_rev are
-    ∙ ap (λ (r : Option Record). told_of d c.args.caller.now f.status.now f.user.now f.client.now r)
+    c.in_ok-told-in-Some.ensures
+    ∙ ap (λ (r : Option Record). asked_of f.status.now f.user.now f.client.now r)
     (ap (λ (o : Option (Bor ChangeRecord)). option_map records.Change (option_copied o)) (sym c.in-Some.is) ∙ c.change_of-found.ensures d has_change)

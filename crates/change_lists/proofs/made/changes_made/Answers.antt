@@ -1,4 +1,4 @@
-use Rattle.std.proofs.Common.{◌≡◌, ℕ, List, [], ◌∷◌, ◌++◌, ◌-◌, length, take, drop, refl, ap, sym, ◌∙◌}
+use Rattle.std.proofs.Common.{◌≡◌, ℕ, List, [], ◌∷◌, ◌++◌, ◌-◌, length, take, drop, refl, ap, ◌∙◌}
 use Rattle.std.specs.Prelude.{false}
 use Rattle.opening_reads.proofs.Onwards.{given_on}
 use Rattle.depot_model.specs.Arguments.{is_in, named, submitted}

@@ -1,4 +1,4 @@
-use Rattle.std.proofs.Common.{◌≡◌, ℕ, List, [], ◌∷◌, ◌++◌, ap, ◌∙◌}
+use Rattle.std.proofs.Common.{ℕ, List, [], ◌∷◌, ◌++◌, ap, ◌∙◌}
 use Rattle.std.specs.Prelude.{◌==◌, false, flat_map, if◌then◌else◌, length}
 use Rattle.table_changes.specs.Changed.{rows_of}
 use Rattle.depot_model.specs.Arguments.{is_in, named, submitted}

@@ -1,14 +1,14 @@
-use Rattle.std.proofs.Common.{◌≡◌, ℕ, true, List, [], ◌∷◌, refl, sym, ap, subst, ◌∙◌}
-use Rattle.std.specs.Prelude.{flat_map, map}
+use Rattle.std.proofs.Common.{◌≡◌, true, List, ◌∷◌, refl, sym, ap, subst, ◌∙◌}
+use Rattle.std.specs.Prelude.{map}
 use Rattle.std.specs.List.{list_all}
 use Rattle.table_changes.specs.Changed.{rows_of}
 use Rattle.depot_model.specs.Deeds as model
 use Rattle.depot_model.specs.Deeds.{Deed, Opening}
-use Rattle.depot_rows.specs.Deed.{opening_of, pending_of}
+use Rattle.depot_rows.specs.Deed.{pending_of}
 use Rattle.depot_rows.specs.Effects.{Follow}
 use Rattle.depot_rows.specs.declared.deed.Deed.TheVariants as dones
 use Rattle.reply_rows.proofs.Joined.{made_done}
-use Rattle.change_lists.specs.Saving.{moved_in, pending_deed, saved_row}
+use Rattle.change_lists.specs.Saving.{pending_deed, saved_row}
 use Rattle.change_lists.proofs.Moved.{are_paths, moves_are, of_path, opens_follow}
 use Rattle.change_lists.proofs.saving.keep.Goals as goal
 

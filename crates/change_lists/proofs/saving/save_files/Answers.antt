@@ -1,4 +1,4 @@
-use Rattle.std.proofs.Common.{◌≡◌, List, None, Option, sym, ◌∙◌}
+use Rattle.std.proofs.Common.{sym, ◌∙◌}
 use Rattle.table_changes.specs.Changed.{rows_of}
 use Rattle.command_parts.proofs.Refused.{granted_made, refused_made}
 use Rattle.change_lists.specs.Saving.{file_refusals, with_limits}

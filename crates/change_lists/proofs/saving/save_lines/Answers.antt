@@ -1,8 +1,7 @@
-use Rattle.std.proofs.Common.{◌≡◌, ℕ, List, [], ◌∷◌, ◌++◌, Option, None, Some, sym, ap, subst, ◌∙◌}
-use Rattle.std.specs.Prelude.{option_map, codes, map}
+use Rattle.std.proofs.Common.{ℕ, List, ◌++◌, Option, Some, sym, ap, subst, ◌∙◌}
+use Rattle.std.specs.Prelude.{option_map, map}
 use Rattle.std.specs.List.{join_with_byte}
 use Rattle.table_changes.specs.Changed.{rows_of}
-use Rattle.spec_form.specs.Form.{lines_of}
 use Rattle.depot_model.specs.declared.refusal.Refusal.{Refusal}
 use Rattle.depot_model.specs.declared.reply.Row.{Row}
 use Rattle.depot_model.specs.declared.refusal.Refusal.TheVariants.{BadForm}
@@ -10,11 +9,10 @@ use Rattle.depot_model.specs.Refusals.{refusal_row}
 use Rattle.depot_model.specs.Step.{Step as ModelStep, unless}
 use Rattle.depot_model.specs.Steps.Changing.{listed_path}
 use Rattle.reply_rows.specs.Made.{IsMade}
-use Rattle.reply_rows.specs.Refusing.{first_of}
 use Rattle.command_parts.proofs.Refused.{granted_made, refused_made}
 use Rattle.change_lists.specs.Lines.{first_bad}
 use Rattle.change_lists.specs.Saving.{file_refusals, with_limits}
-use Rattle.change_lists.proofs.Saved.{bad_is, behind, form_is, front, front_is, line_refusal}
+use Rattle.change_lists.proofs.Saved.{behind, form_is, front, front_is, line_refusal}
 use Rattle.change_lists.proofs.saving.save_lines.Goals as goal
 
 pub returns-in_ok-step-in-Some : goal.returns-in_ok-step-in-Some

@@ -1,4 +1,4 @@
-use Rattle.std.proofs.Common.{ℕ, List, ap, ◌∙◌}
+use Rattle.std.proofs.Common.{◌∙◌}
 use Rattle.depot_rows.specs.declared.deed.Opening.{Opening}
 use Rattle.opening_reads.proofs.Onwards.{given_on}
 use Rattle.change_lists.specs.Showing.{listed_text}

@@ -1,4 +1,4 @@
-use Rattle.std.proofs.Common.{ℕ, List, [], ◌∷◌, ap, sym, ◌∙◌}
+use Rattle.std.proofs.Common.{List, [], ◌∷◌, ap, ◌∙◌}
 use Rattle.std.specs.Prelude.{codes, None, flat_map}
 use Rattle.depot_model.specs.declared.reply.Row.{Row}
 use Rattle.depot_model.specs.Steps.Changing.{default_text}
