@@ -2,7 +2,7 @@
 
 ghost use Rattle.std.specs.Prelude.{◌≡◌};
 ghost use Rattle.depot_model.specs.About.{about};
-ghost use Rattle.depot_runs.specs.Built.{is_built as built, is_change as is_change_in, is_history as is_history_in, is_opening as is_opening_in, is_server as is_server_in, is_spec as is_spec_in, is_submit as is_submit_in, is_syncing as is_syncing_in};
+ghost use Rattle.depot_runs.specs.Built.{is_built as built, is_change as is_change_in, is_history as is_history_in, is_job as is_job_in, is_opening as is_opening_in, is_server as is_server_in, is_spec as is_spec_in, is_submit as is_submit_in, is_syncing as is_syncing_in};
 
 use depot_model::{Command, FileArgument, PatternArgument};
 use protect_table::Level;
@@ -100,6 +100,21 @@ pub(crate) fn is_server(command: &Command) -> bool
     matches!(command, Command::Checkpoint | Command::Pull)
 }
 
+/// Whether a command of jobs and fixes is built.
+pub(crate) fn is_job(command: &Command) -> bool
+    ensures { result ≡ is_job_in command.now }
+{
+    matches!(
+        command,
+        Command::JobShow { .. }
+            | Command::JobSave
+            | Command::Jobs
+            | Command::Fix { .. }
+            | Command::FixDelete { .. }
+            | Command::Fixes { .. }
+    )
+}
+
 /// Whether a command submits.
 pub(crate) fn is_submit(command: &Command) -> bool
     ensures { result ≡ is_submit_in command.now }
@@ -118,7 +133,8 @@ pub(crate) fn is_built(command: &Command) -> bool
         || (is_opening(command)
             || (is_change(command)
                 || (is_syncing(command)
-                    || (is_history(command) || (is_server(command) || is_submit(command))))))
+                    || (is_history(command)
+                        || (is_server(command) || (is_job(command) || is_submit(command)))))))
 }
 
 /// The right that a command needs somewhere.

@@ -22,10 +22,11 @@ ghost use Rattle.command_core.specs.Refusing.{first_of};
 ghost use Rattle.command_core.specs.Outcomes.{HasNeeded, HasTouched, IsFormed, IsFormedBy, IsOutcome, IsStep};
 
 use crate::about::{
-    is_built, is_change, is_history, is_opening, is_server, is_spec, is_submit, is_syncing,
+    is_built, is_change, is_history, is_job, is_opening, is_server, is_spec, is_submit, is_syncing,
 };
 use crate::change_commands::change_step;
 use crate::history_commands::history_step;
+use crate::job_commands::job_step;
 use crate::opening_commands::opening_step;
 use crate::outcome::Outcome;
 use crate::refusing::{first_refusal, word_row};
@@ -68,6 +69,9 @@ fn own_step(
     }
     if is_server(command) {
         return server_step(alloc, tables, request, command);
+    }
+    if is_job(command) {
+        return job_step(alloc, tables, request, command);
     }
     unbuilt(alloc, command)
 }

@@ -7,6 +7,7 @@ mod evaluation;
 mod filling;
 mod history_commands;
 mod input;
+mod job_commands;
 mod laws;
 mod opening_commands;
 mod outcome;

@@ -1,0 +1,25 @@
+use Rattle.std.proofs.Common.{ℕ, List, sym, subst, ◌∙◌}
+use Rattle.table_changes.specs.Changed.{rows_of}
+use Rattle.depot_model.specs.Step.{all_of}
+use Rattle.depot_model.specs.Steps.Jobs.{distinct, fix_job}
+use Rattle.reply_rows.specs.Made.{IsMade}
+use Rattle.command_parts.proofs.Refused.{granted_made, refused_made}
+use Rattle.job_ops.specs.Refusals.{fix_refusals}
+use Rattle.job_ops.proofs.fixing.fix_each.Goals as goal
+
+pub returns-in_ok-step-in-Some : goal.returns-in_ok-step-in-Some
+returns-in_ok-step-in-Some c = λ d sound forms changes each.
+    let names = c.args.names.now in
+    let act = fix_job d c.args.caller.now c.args.change in
+    refused_made (rows_of c.args.tables.now) d (fix_refusals d c.args.change names) (all_of act (distinct names)) c.in-Some.row c.in_ok-step-in-Some.step
+    (sym c.in-Some.is ∙ c.in_ok-refused.ensures d sound forms changes each) c.in_ok-step-in-Some.ensures
+
+pub returns-in_ok-step-in-None : goal.returns-in_ok-step-in-None
+returns-in_ok-step-in-None c = λ d sound forms changes each.
+    let all = rows_of c.args.tables.now in
+    let names = c.args.names.now in
+    let act = fix_job d c.args.caller.now c.args.change in
+    granted_made all d (fix_refusals d c.args.change names) (all_of act (distinct names)) c.in_ok-step-in-None.step
+    (sym c.in-None.is ∙ c.in_ok-refused.ensures d sound forms changes each)
+    (subst (λ (l : List (List ℕ)). IsMade all d d (all_of act l) c.in_ok-step-in-None.step) each
+    (c.in_ok-step-in-None.ensures d d sound forms (c.is_landed-landed.ensures d sound changes)))

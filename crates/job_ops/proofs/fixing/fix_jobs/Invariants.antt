@@ -1,0 +1,17 @@
+use Rattle.std.proofs.Common.{◌≡◌, List, take}
+use Rattle.std.specs.Prelude.{is_some}
+use Rattle.db_records.specs.declared.table.TableId.TheVariants as table_ids
+use Rattle.table_changes.specs.Changed.{rows_of}
+use Rattle.depot_model.specs.Deeds.{Deed}
+use Rattle.depot_model.specs.Numbers.{landing}
+use Rattle.depot_model.specs.Rules.{IsSound}
+use Rattle.depot_model.specs.Step.{all_of}
+use Rattle.depot_model.specs.Steps.Jobs.{fix_job}
+use Rattle.depot_rows.specs.Standing.{HasRows}
+use Rattle.reply_rows.specs.Made.{IsMade}
+use Rattle.job_ops.proofs.fixing.fix_jobs.Given as goal
+
+abbrev pub invariant-loop-name : goal.invariant-loop-name
+invariant-loop-name l =
+    (d e : List Deed) → IsSound d → HasRows (rows_of l.tables) d table_ids.Domain → l.landed ≡ is_some (landing d l.change)
+    → IsMade (rows_of l.tables) d e (all_of (fix_job d l.caller l.change) (take l.name-index l.names)) l.step

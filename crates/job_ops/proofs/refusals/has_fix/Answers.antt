@@ -1,0 +1,15 @@
+use Rattle.std.proofs.Common.{ℕ, List, Option, false, ap, ◌∙◌}
+use Rattle.std.specs.Option.{option_map_or}
+use Rattle.spec_form.specs.Form.{FormValue}
+use Rattle.depot_model.specs.Deeds.{Deed, FixForm}
+use Rattle.depot_model.specs.Fixes.{fix_name, is_on}
+use Rattle.depot_model.specs.Latest.{spec}
+use Rattle.job_ops.proofs.ChangeRows.{on_fix}
+use Rattle.job_ops.proofs.refusals.has_fix.Goals as goal
+
+pub returns : goal.returns
+returns c = λ d sound has.
+    c.is_some_on-fixed.ensures
+    ∙ ap (λ (form : Option FormValue). option_map_or is_on form false)
+    (c.as_ref.ensures.value ∙ c.in_ok-form.ensures d sound has ∙ ap (spec d FixForm) (c.as_bytes.ensures ∙ c.in_ok-key.ensures))
+    ∙ on_fix d c.args.change c.args.name.now

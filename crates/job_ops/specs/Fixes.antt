@@ -1,0 +1,18 @@
+-- Fixes by the digits of their change and by their job (Command-Line Reference, "p4 fix", "p4 fixes").
+use Rattle.std.specs.Prelude.{ℕ, Bool, true, ◌&&◌, List, codes, filter, Option}
+use Rattle.std.specs.List.{filter_map}
+use Rattle.std.specs.Option.{option_map_or}
+use Rattle.depot_path.specs.Bytes.{same}
+use Rattle.spec_form.specs.Form.{FormValue}
+use Rattle.depot_model.specs.Deeds.{Deed, FixForm}
+use Rattle.depot_model.specs.Fixes.{is_on}
+use Rattle.depot_model.specs.Latest.{spec}
+use Rattle.depot_model.specs.Values.{value_of}
+
+-- a fix that is on, of the change with these digits and of this job, as far as they are asked for
+abbrev pub is_asked : Option (List ℕ) → Option (List ℕ) → FormValue → Bool
+is_asked digits job form =
+    is_on form && (option_map_or (same (value_of form (codes "Change"))) digits true && option_map_or (same (value_of form (codes "Job"))) job true)
+
+abbrev pub fixes_among : List Deed → Option (List ℕ) → Option (List ℕ) → List (List ℕ) → List FormValue
+fixes_among d digits job names = filter (is_asked digits job) (filter_map (spec d FixForm) names)

@@ -1,0 +1,5 @@
+pub mod Distinct
+pub mod Fixes
+pub mod Refusals
+pub mod Showing
+pub mod Telling

@@ -1,0 +1,169 @@
+//! Fixes that are on, and `fixes` (Command-Line Reference, "p4 fixes").
+
+ghost use Rattle.std.specs.List.{cons_option, filter_map};
+ghost use Rattle.std.specs.Option.{option_map_or};
+ghost use Rattle.std.specs.Prelude.{◌≡◌, ◌++◌, [], true, List, IfOk, OnOk, decimal, filter, map, option_map};
+ghost use Rattle.depot_path.specs.Bytes.{same};
+ghost use Rattle.db_records.specs.declared.table.TableId.TheVariants as table_ids;
+ghost use Rattle.depot_model.specs.Deeds.{Deed, FixForm};
+ghost use Rattle.depot_model.specs.Fixes as model;
+ghost use Rattle.depot_model.specs.Latest.{spec};
+ghost use Rattle.depot_model.specs.Rules.{IsSound};
+ghost use Rattle.depot_model.specs.Steps.Jobs as steps;
+ghost use Rattle.depot_rows.specs.Standing.{HasRows};
+ghost use Rattle.job_ops.specs.Fixes.{fixes_among, is_asked as is_asked_in};
+ghost use Rattle.reply_rows.specs.Made.{IsMade};
+ghost use Rattle.table_changes.specs.Changed.{rows_of};
+
+use crate::closing::digits;
+use depot_model::Row;
+use depot_path::{Sequence, Text};
+use depot_rows::SpecKind;
+use reply_rows::{Step, push_values, row_of};
+use row_reads::{form_names, form_value, saved_form};
+use spec_form::Form;
+use std::alloc::{AllocError, Global};
+use table_store::Tables;
+
+/// Whether a fix is on.
+pub(crate) fn is_on(form: &Form) -> bool
+    ensures { result ≡ model.is_on form.now }
+{
+    form_value(form, "State") == b"on".as_slice()
+}
+
+/// Whether a value is the one that is asked for, if one is.
+fn agrees(value: &[u8], asked: &Option<Text>) -> bool
+    ensures { result ≡ option_map_or (same value.now) asked.now true }
+{
+    match asked {
+        Some(text) => value == text.as_bytes(),
+        None => true,
+    }
+}
+
+/// Whether a form is of a fix that is on, of a change with these digits and of a job, as far as they are asked for.
+fn is_asked(form: &Form, change: &Option<Text>, job: &Option<Text>) -> bool
+    ensures { result ≡ is_asked_in change.now job.now form.now }
+{
+    is_on(form)
+        && (agrees(form_value(form, "Change"), change) && agrees(form_value(form, "Job"), job))
+}
+
+/// Adds the fix of a name, where it is asked for.
+fn add_fix(
+    alloc: Global,
+    tables: &Tables,
+    forms: &mut Sequence<Form>,
+    change: &Option<Text>,
+    job: &Option<Text>,
+    name: &Text,
+) -> Result<(), AllocError>
+    ensures { OnOk result ((d : List Deed) → IsSound d → HasRows (rows_of tables.now) d table_ids.Domain →
+        forms.new ≡ forms.old ++ filter (is_asked_in change.now job.now) (cons_option (spec d FixForm name.now) [])) }
+{
+    let found = saved_form(alloc, tables, SpecKind::Fix, name.as_bytes())?;
+    if let Some(form) = found {
+        if is_asked(&form, change, job) {
+            forms.push(form)?;
+        }
+    }
+    Ok(())
+}
+
+/// The fixes of these names that are asked for.
+fn fixes_named(
+    alloc: Global,
+    tables: &Tables,
+    change: &Option<Text>,
+    job: &Option<Text>,
+    names: &[Text],
+) -> Result<Sequence<Form>, AllocError>
+    ensures { IfOk result (λ forms. (d : List Deed) → IsSound d → HasRows (rows_of tables.now) d table_ids.Domain →
+        forms ≡ fixes_among d change.now job.now names.now) }
+{
+    let mut forms = Sequence::new(alloc);
+    for name in names {
+        add_fix(alloc, tables, &mut forms, change, job, name)?;
+    }
+    Ok(forms)
+}
+
+/// The digits of a change that is asked for.
+fn digits_of(alloc: Global, change: Option<u32>) -> Result<Option<Text>, AllocError>
+    ensures { IfOk result (λ text. text ≡ option_map decimal change) }
+{
+    match change {
+        Some(number) => {
+            let text = digits(alloc, number)?;
+            Ok(Some(text))
+        }
+        None => Ok(None),
+    }
+}
+
+/// The fixes that are on, by name, of a change and of a job, as far as they are asked for, from the table of forms alone. It reads all fixes.
+fn fixes_asked(
+    alloc: Global,
+    tables: &Tables,
+    change: Option<u32>,
+    job: &Option<Text>,
+) -> Result<Sequence<Form>, AllocError>
+    ensures { IfOk result (λ forms. (d : List Deed) → IsSound d → HasRows (rows_of tables.now) d table_ids.Domain →
+        forms ≡ filter (steps.is_wanted change job.now) (model.fixes_on d)) }
+{
+    let names = form_names(alloc, tables, SpecKind::Fix)?;
+    let change = digits_of(alloc, change)?;
+    let forms = fixes_named(alloc, tables, &change, job, names.as_slice())?;
+    Ok(forms)
+}
+
+/// The fixes of a change that are on, by name (Command-Line Reference, "p4 fix"), from the table of forms alone. It reads all fixes. The one
+/// error is want of memory.
+pub fn fixes_of(alloc: Global, tables: &Tables, change: u32) -> Result<Sequence<Form>, AllocError>
+    ensures { IfOk result (λ forms. (d : List Deed) → IsSound d → HasRows (rows_of tables.now) d table_ids.Domain → forms ≡ model.fixes_of d change) }
+{
+    let forms = fixes_asked(alloc, tables, Some(change), &None)?;
+    Ok(forms)
+}
+
+/// The row of a fix.
+fn fix_row(alloc: Global, form: &Form) -> Result<Row, AllocError>
+    ensures { IfOk result (λ row. row ≡ steps.fix_row form.now) }
+{
+    let mut fields = Sequence::new(alloc);
+    push_values(alloc, &mut fields, b"Job", form.lines("Job"))?;
+    push_values(alloc, &mut fields, b"Change", form.lines("Change"))?;
+    push_values(alloc, &mut fields, b"User", form.lines("User"))?;
+    Ok(row_of(fields))
+}
+
+/// The rows of fixes.
+fn fix_rows(alloc: Global, forms: &[Form]) -> Result<Sequence<Row>, AllocError>
+    ensures { IfOk result (λ rows. rows ≡ map steps.fix_row forms.now) }
+{
+    let mut rows = Sequence::new(alloc);
+    for form in forms {
+        let row = fix_row(alloc, form)?;
+        rows.push(row)?;
+    }
+    Ok(rows)
+}
+
+/// `fixes [-c N] [-j JOB]`, from the table of forms alone. It reads all fixes.
+pub fn fix_list(
+    alloc: Global,
+    tables: &Tables,
+    change: Option<u32>,
+    job: &Option<Text>,
+) -> Result<Step, AllocError>
+    ensures { IfOk result (λ step. (d : List Deed) → IsSound d → HasRows (rows_of tables.now) d table_ids.Domain →
+        IsMade (rows_of tables.now) d d (steps.fixes d change job.now) step) }
+{
+    let forms = fixes_asked(alloc, tables, change, job)?;
+    let rows = fix_rows(alloc, forms.as_slice())?;
+    Ok(Step {
+        rows,
+        ..Step::new(alloc)
+    })
+}
