@@ -1,0 +1,9 @@
+pub mod Described
+pub mod FormTexts
+pub mod Kept
+pub mod Limited
+pub mod Listed
+pub mod Saving
+pub mod Shelf
+pub mod Sifted
+pub mod Walking

@@ -1,0 +1,10 @@
+use Rattle.std.proofs.Common.{ap, ◌∙◌, sym, arith}
+use Rattle.depot_path.specs.Path.{is_path}
+use Rattle.shelf_ops.proofs.FormTexts.{gone_is}
+use Rattle.shelf_ops.proofs.forms.gone_form.Goals as goal
+
+pub returns-in-Ok : goal.returns-in-Ok
+returns-in-Ok c =
+    let bytes = c.as_bytes-bytes.ensures in
+    gone_is c.args.change (omega arith) c.args.path.now (ap is_path (sym bytes.value) ∙ bytes.path) c.as_bytes.result.now c.in-Ok.form
+    (c.as_bytes.ensures ∙ c.in_ok-text.ensures) c.in-Ok.ensures.read

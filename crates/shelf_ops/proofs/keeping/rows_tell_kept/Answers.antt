@@ -1,0 +1,10 @@
+use Rattle.std.proofs.Common.{ap}
+use Rattle.table_store.specs.Rows.{TableRows}
+use Rattle.shelf_ops.proofs.Kept.{kept_told}
+use Rattle.shelf_ops.proofs.keeping.rows_tell_kept.Goals as goal
+
+pub returns : goal.returns
+returns c = λ d n sound has.
+    let version = c.version-version in
+    let table = c.table-table.ensures in
+    kept_told d sound n version.result.now _ (ap (λ (v : TableRows). v.rows) version.ensures.rows) version.ensures.table table.of_table table.rising has
