@@ -135,7 +135,7 @@ module _ (start : List Deed) (s : State) (old : LockCore) (i : ℕ) (request : R
     told : AreChanged d (after d (step d at.work.request).deeds) changed
     told =
         let P : Request → Type 0 = λ r. AreChanged d (after d (step d r).deeds) changed in
-        subst P (sym at.asks) (tells (rows_of old.tables) d (after d (step d request).deeds) outcome.changes changed commit.shows.stand ready.outcome_is.changes ready.room.is.changed)
+        subst P (sym at.asks) (tells (rows_of old.tables) d (after d (step d request).deeds) outcome.changes changed commit.shows.stand (ready.outcome_is d commit.shows.stand).changes ready.room.is.changed)
 
     abbrev place : Commit
     place = record { place = record { request = Some at.work.request; fault = false }; changed = changed }
@@ -155,7 +155,7 @@ module _ (start : List Deed) (s : State) (old : LockCore) (i : ℕ) (request : R
             run = run;
             stand = record {
               sound = run.sound;
-              each = subst Of (sym depot_is) (subst Rows (sym rows_are) (λ table. ready.outcome_is.changes.left table (commit.shows.stand.each table)));
+              each = subst Of (sym depot_is) (subst Rows (sym rows_are) (λ table. (ready.outcome_is d commit.shows.stand).changes.left table (commit.shows.stand.each table)));
             };
             parties = subst Parts (sym parties_are) (after_place place);
           });

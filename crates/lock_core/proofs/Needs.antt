@@ -3,7 +3,7 @@ use Rattle.std.proofs.Common.{◌≡◌, ℕ, ◌+◌, Bool, true, false, List, 
 use Rattle.std.specs.Prelude.{filter}
 use Rattle.std.specs.List.{range_with_len}
 use Rattle.std.proofs.lemmas.List.{map-append}
-use Rattle.depot_model.specs.Machine.{Need}
+use Rattle.depot_model.specs.Tables.{Need}
 use Rattle.lock_core.specs.Sets.{need_of}
 use Rattle.lock_core.specs.declared.sets.Need as code
 use Rattle.lock_core.proofs.Ranges.{with_one, without_one}

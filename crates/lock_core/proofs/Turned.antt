@@ -169,13 +169,12 @@ module _ (start : List Deed) (s : State) (old new : LockCore) (i : ℕ) (p p' : 
 
       ready_at : IsReady start s new i ready.work.request outcome
       ready_at =
-          let d = depot_after start s.order in
-          let Its : _ → Type 0 = λ t. IsOutcome (rows_of t) t.archive_end d ready.work.request outcome in
+          let Its : _ → Type 0 = λ t. (d : List Deed) → Stand (rows_of t) d → IsOutcome (rows_of t) t.archive_end d ready.work.request outcome in
           let For : _ → Type 0 = λ t. IsRoomOf (rows_of t) outcome.changes ready.room in
           record {
             commit = commit_of start s new i p' q (record ready.work { room = Some ready.room }) shows_new enabled there its_work ready.judged;
             outcome_is =
-                subst Its (sym tables) (ready.outcome_is d shows.stand.sound (is_formed ready.work.request request_served) (has_needed (rows_of old.tables) d ready.work.request shows.stand));
+                subst Its (sym tables) (λ d stand. ready.outcome_is d stand.sound (is_formed ready.work.request request_served) (has_needed (rows_of old.tables) d ready.work.request stand));
             room = record {
               party = p';
               work = record ready.work { room = Some ready.room };

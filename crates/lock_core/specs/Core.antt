@@ -113,10 +113,11 @@ pub record HasRoomAt (core : LockCore) (i : ℕ) (outcome : Outcome) : Type 0 wh
   pub with_room : work.room ≡ Some room
   pub is : IsRoomOf (rows_of core.tables) outcome.changes room
 
--- It is, with its outcome: the reply is the model's for the depot after the places so far, the changes are what differs then, and there is room for them.
+-- It is, with its outcome, and there is room for its changes: the reply is the model's for the depot after the places so far, as for each that the rows
+-- stand for, and the changes are what differs then.
 pub record IsReady (start : List Deed) (s : State) (core : LockCore) (i : ℕ) (request : Request) (outcome : Outcome) : Type 0 where
   pub commit : IsCommit start s core i request
-  pub outcome_is : IsOutcome (rows_of core.tables) core.tables.archive_end (depot_after start s.order) request outcome
+  pub outcome_is : (d : List Deed) → Stand (rows_of core.tables) d → IsOutcome (rows_of core.tables) core.tables.archive_end d request outcome
   pub room : HasRoomAt core i outcome
 
 -- ---- turns

@@ -47,6 +47,10 @@ abbrev pub room_in : Option Work → Option Room
 room_in None = None
 room_in (Some w) = w.room
 
+abbrev pub room_at : Option Party → Option Room
+room_at None = None
+room_at (Some p) = room_in p.work
+
 -- ---- the machine
 
 -- It has taken a commit that is done: the tables of the changes are those that the order tells, and the rows are those after the changes.

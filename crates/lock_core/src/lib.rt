@@ -15,10 +15,12 @@ mod machine;
 mod party;
 mod preparing;
 mod sets;
+mod sharing;
 mod stopping;
 mod turn;
 mod turns;
 mod work;
 
 pub use machine::LockCore;
+pub use sharing::share_tables;
 pub use turn::{Finish, Turn};

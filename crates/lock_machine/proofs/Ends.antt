@@ -2,7 +2,7 @@
 use Rattle.std.proofs.Common.{◌≡◌, ℕ, zero, suc, ◌<◌, Bool, true, false, cond, List, [], ◌∷◌, set, Option, Some, None, refl, sym, ap, subst, ◌∙◌, arith}
 use Rattle.std.specs.Prelude.{slice_get}
 use Rattle.std.specs.List.{list_any}
-use Rattle.depot_model.specs.Machine.{Need}
+use Rattle.depot_model.specs.Tables.{Need}
 use Rattle.depot_model.specs.declared.request.Request.{Request}
 use Rattle.lock_machine.specs.Machine.{Seen, Work, Party, Commit, State, Finish, may_go, is_stale, judged, worked, moved, acted}
 use Rattle.lock_machine.specs.declared.stage.Stage.{Stage}

@@ -5,12 +5,11 @@ use Rattle.std.specs.List.{list_any}
 use Rattle.std.proofs.lemmas.Bool.Decides.{Decides-eqb}
 use Rattle.std.proofs.lemmas.List.{drop-append-le, drop_all, map-append}
 use Rattle.std.proofs.lemmas.List.Folds.{list_any-append}
-use Rattle.depot_model.specs.Machine.{Need}
 use Rattle.depot_model.specs.declared.request.Request.{Request}
 use Rattle.lock_machine.specs.Machine.{journal, Seen, Work, Party, Commit, State, Finish, Done, Fault, NoMemory, is_owned, owns_seen, has_judged, owns_at, owns_by, owns, is_free, may_go, is_touched, is_stale, begun, judged, gathered, worked, moved, placed, added, added_at, acted}
 use Rattle.lock_machine.specs.declared.stage.Stage.{Stage}
 use Rattle.lock_machine.specs.declared.stage.Stage.TheVariants.{Gathering, Judged, Committed}
-use Rattle.depot_model.specs.Tables.{is_in}
+use Rattle.depot_model.specs.Tables.{Need, is_in}
 use Rattle.lock_machine.specs.Orderly.{is_written, AllLast, IsAtHand, AtHand, IsOrderly, ChangesWritten, MayFinish}
 use Rattle.lock_machine.proofs.Places.{set_here, set_there, one_or_apart, some_is, either_true, both_true, neither, true_or_false, not_true, none_found}
 

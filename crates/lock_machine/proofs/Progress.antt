@@ -2,7 +2,7 @@
 use Rattle.std.proofs.Common.{◌≡◌, ℕ, zero, suc, ◌+◌, ◌<◌, ◌≤◌, Bool, true, not, eqb, List, [], ◌∷◌, ◌++◌, map, Option, Some, None, refl, sym, ap, subst, ◌∙◌, inl, inr, arith}
 use Rattle.std.specs.Prelude.{slice_get, ◌&&◌, ◌||◌}
 use Rattle.std.specs.List.{list_any}
-use Rattle.depot_model.specs.Machine.{Need}
+use Rattle.depot_model.specs.Tables.{Need}
 use Rattle.depot_model.specs.declared.request.Request.{Request}
 use Rattle.lock_machine.specs.Machine.{journal, Seen, Work, Party, State, is_owned, owns_seen, has_judged, owns_at, owns_by, owns, next_lock, may_go, may_work, may_party, is_enabled, is_unfinished}
 use Rattle.lock_machine.specs.declared.stage.Stage.{Stage}

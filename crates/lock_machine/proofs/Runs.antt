@@ -8,12 +8,11 @@ use Rattle.db_records.specs.Table.{table_number}
 use Rattle.db_records.specs.declared.key.Key.{Key}
 use Rattle.depot_runs.specs.Today.{step}
 use Rattle.depot_model.specs.Deeds.{Deed}
-use Rattle.depot_model.specs.Machine.{Need}
 use Rattle.depot_model.specs.Places.{Placed, done_at, taken}
 use Rattle.depot_model.specs.Records.{record_of}
 use Rattle.depot_model.specs.Rules.{IsSound}
 use Rattle.depot_model.specs.Step.{after}
-use Rattle.depot_model.specs.Tables.{needs_of}
+use Rattle.depot_model.specs.Tables.{Need, needs_of}
 use Rattle.depot_model.specs.declared.request.Request.{Request}
 use Rattle.lock_machine.specs.Machine.{Seen, Work, Party, Commit, State, Finish, Done, Fault, NoMemory, has_judged, is_stale, owns_by, judged, gathered, worked, may_go, moved, placed, added, added_at, acted, acts, event}
 use Rattle.lock_machine.specs.declared.stage.Stage.{Stage}

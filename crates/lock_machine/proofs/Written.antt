@@ -10,10 +10,9 @@ use Rattle.db_records.specs.declared.table.TableId.TheVariants as tables
 use Rattle.depot_model.specs.Commands.{built_step}
 use Rattle.depot_model.specs.Common.{word_refusal}
 use Rattle.depot_model.specs.Deeds.{Deed}
-use Rattle.depot_model.specs.Machine.{Need}
 use Rattle.depot_model.specs.Records.{record_of}
 use Rattle.depot_model.specs.Step.{Step, after, refuses}
-use Rattle.depot_model.specs.Tables.{needs_of, need_for, touches, writes, own_tables, is_in}
+use Rattle.depot_model.specs.Tables.{Need, needs_of, need_for, touches, writes, own_tables, is_in}
 use Rattle.depot_model.specs.declared.command.Command.{Command}
 use Rattle.depot_model.specs.declared.request.Request.{Request}
 use Rattle.depot_model.specs.declared.request.WordFault.{WordFault}

@@ -4,8 +4,7 @@
 -- This project's own choice.
 use Rattle.std.specs.Prelude.{ℕ, ◌==◌, nat_lt, Bool, true, false, not, ◌&&◌, ◌||◌, List, [], ◌∷◌, ◌++◌, length, drop, slice_get, slice_set, if◌then◌else◌, Option, Some, None}
 use Rattle.std.specs.List.{list_any}
-use Rattle.depot_model.specs.Machine.{Need}
-use Rattle.depot_model.specs.Tables.{is_in}
+use Rattle.depot_model.specs.Tables.{Need, is_in}
 use Rattle.depot_model.specs.Places.{Placed}
 use Rattle.depot_model.specs.declared.request.Request.{Request}
 use Rattle.lock_machine.specs.declared.stage.Stage.{Stage}

@@ -1,12 +1,11 @@
 -- What holds of the machine after every list of events. This project's own choice.
 use Rattle.std.specs.Prelude.{◌≡◌, ℕ, suc, ◌≤◌, Bool, true, false, ◌==◌, ◌&&◌, List, [], ◌∷◌, ◌++◌, length, map, slice_get, Option, Some, None}
 use Rattle.std.specs.List.{list_any}
-use Rattle.depot_model.specs.Machine.{Need}
 use Rattle.depot_model.specs.declared.request.Request.{Request}
 use Rattle.lock_machine.specs.Machine.{journal, Seen, Work, Party, Commit, State, Finish, Done, Fault, NoMemory, is_owned, has_judged, owns, is_touched}
 use Rattle.lock_machine.specs.declared.stage.Stage.{Stage}
 use Rattle.lock_machine.specs.declared.stage.Stage.TheVariants.{Gathering, Judged, Committed}
-use Rattle.depot_model.specs.Tables.{is_in}
+use Rattle.depot_model.specs.Tables.{Need, is_in}
 
 -- the locks of a set rise, from a number on, and are below the journal's
 abbrev pub Rises : ℕ → List Need → Type 0

@@ -1,6 +1,6 @@
 -- How many events the parties of the machine may take yet, at most. This project's own choice.
 use Rattle.std.specs.Prelude.{ℕ, ◌+◌, Bool, false, List, [], ◌∷◌, length, if◌then◌else◌, Option, Some, None}
-use Rattle.depot_model.specs.Machine.{Need}
+use Rattle.depot_model.specs.Tables.{Need}
 use Rattle.depot_model.specs.declared.request.Request.{Request}
 use Rattle.lock_machine.specs.Machine.{Work, Party, State}
 use Rattle.lock_machine.specs.declared.stage.Stage.{Stage}
