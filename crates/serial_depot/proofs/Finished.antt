@@ -14,6 +14,7 @@ use Rattle.table_store.specs.declared.tables.Tables.{Tables}
 use Rattle.depot_runs.specs.Today.{step}
 use Rattle.depot_model.specs.Deeds.{Deed}
 use Rattle.depot_model.specs.Places.{Placed, taken}
+use Rattle.depot_model.specs.Rules.{IsSound}
 use Rattle.depot_model.specs.Step.{after}
 use Rattle.depot_model.specs.declared.request.Request.{Request}
 use Rattle.db_records.specs.declared.change.Spot.{Spot}
@@ -119,7 +120,8 @@ module _ {D : Type 0} (seen may_leave : D → Files → Type 0) (moment : D → 
     module _ (since : ℕ) (start : List Deed) (places : List Placed) (request : Request) (h : HasRun seen may_leave moment left_since depot since start places) (stores : List (List ℕ)) (changes : List Change)
         (used_is : archives.used_of archive ≡ stores_end stores depot.tables.archive_end) (stored : AllStored (may_leave (archives.disk_of archive)) stores depot.tables.archive_end)
         (reach : AllReach (may_leave (archives.disk_of archive)) (archives.used_of archive))
-        (placed : StandAfter (rows_of depot.tables) depot.tables.archive_end (taken step start places) (after (taken step start places) (step (taken step start places) request).deeds) stores changes) where
+        (placed : StandAfter (rows_of depot.tables) depot.tables.archive_end (taken step start places) (after (taken step start places) (step (taken step start places) request).deeds) stores changes)
+        (sound : IsSound (after (taken step start places) (step (taken step start places) request).deeds)) where
       pub used_more : archives.used_of depot.archive ≤ archives.used_of archive
       used_more = let more = grows stores depot.tables.archive_end in let end = can.end in omega (arith, used_is, more, end)
 
@@ -127,7 +129,7 @@ module _ {D : Type 0} (seen may_leave : D → Files → Type 0) (moment : D → 
           (after (taken step start places) (step (taken step start places) request).deeds)
       with_contents =
           contents_follow (may_leave (archives.disk_of archive)) (archives.used_of depot.archive) (archives.used_of archive) depot.tables.archive_end (rows_of depot.tables) (taken step start places)
-          (after (taken step start places) (step (taken step start places) request).deeds) stores changes placed used_more
+          (after (taken step start places) (step (taken step start places) request).deeds) stores changes placed sound used_more
           (contents_kept (may_leave (archives.disk_of depot.archive)) (may_leave (archives.disk_of archive)) (archives.used_of depot.archive) (archives.used_of depot.archive) (rows_of depot.tables)
           (taken step start places) (omega arith) keeps_used h.stand h.kept) stored (omega (arith, used_is)) reach
 

@@ -59,6 +59,7 @@ module _ (images : Files → Type 0) (used : ℕ) (was : Committed) (rows : AllR
           generation = subst Tells same (f.generation now stand generation);
           kept = record {
             ends = f.kept.ends;
+            deletes = f.kept.deletes;
             contents = λ archive here. contents_alike f.after_it f.after_it (after earlier deeds) (after now deeds) archive archive refl refl same_contents (f.kept.contents archive here);
           };
         };

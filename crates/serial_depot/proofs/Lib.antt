@@ -11,3 +11,4 @@ mod Moved
 mod Outcomes
 mod Finished
 mod Writings
+mod Quiet

@@ -153,6 +153,7 @@ module _ {D : Type 0} (seen may_leave : D → Files → Type 0) (moment : D → 
         tells = h.tells;
         kept = subst With (sym done_is) (record {
           ends = h.kept.ends;
+          deletes = h.kept.deletes;
           contents = λ archive here. contents_alike rows rows current (after current deeds) archive archive refl refl same_contents (h.kept.contents archive here);
         });
         in_doubt = doubt_more images used rows h.was start places (placed_by request false) (λ change. no_difference current (after current deeds) same_rows change.1) (subst Contents (sym done_is) same_contents) h.doubt h.in_doubt;

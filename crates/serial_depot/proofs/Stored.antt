@@ -23,12 +23,14 @@ use Rattle.db_records.specs.Record.{key_of}
 use Rattle.table_changes.specs.Changed.{AllRows, changed_by, changed_in}
 use Rattle.depot_model.specs.Deeds.{Deed}
 use Rattle.depot_model.specs.Revisions.{Revision, revision}
+use Rattle.depot_model.specs.Rules.{IsSound}
 use Rattle.depot_rows.specs.Standing.{Stand}
 use Rattle.recovery.specs.Holding.{spot_end, spots_end}
+use Rattle.recovery.specs.Rules.{DeletesAreUnplaced}
 use Rattle.recovery.specs.Standing.{HasContent}
 use Rattle.reply_rows.specs.Made.{IsSpotOf, StandAt}
 use Rattle.step_stores.specs.Stored.{StandsAmong}
-use Rattle.stored_contents.specs.Placed.{HasPlace, IsPlacedAt, StandAfter, no_spot, spot_of}
+use Rattle.stored_contents.specs.Placed.{HasNoneIfDeleted, HasPlace, HasSpot, IfPut, IsPlacedAt, StandAfter, spot_of}
 use Rattle.serial_depot.specs.Holding.{KeepContents}
 use Rattle.serial_depot.proofs.Contents.{revision_there}
 use Rattle.serial_depot.proofs.Staying.{row_there}
@@ -95,6 +97,46 @@ ends_changed rows (change ∷ changes) place le all =
     go true = ends_once (rows Rev) change place le all.0
     go false = le
 
+-- ---- deleted revisions without a place
+
+unplaced_append : (xs ys : List Record) → DeletesAreUnplaced xs → DeletesAreUnplaced ys → DeletesAreUnplaced (xs ++ ys)
+unplaced_append [] ys first second = second
+unplaced_append (x ∷ xs) ys first second = (first.0, unplaced_append xs ys first.1 second)
+
+unplaced_filter : (test : Record → Bool) (xs : List Record) → DeletesAreUnplaced xs → DeletesAreUnplaced (filter test xs)
+unplaced_filter test [] all = tt
+unplaced_filter test (x ∷ xs) all = go (test x) (unplaced_filter test xs all.1)
+  where
+    go : (b : Bool) → DeletesAreUnplaced (filter test xs) → DeletesAreUnplaced (cond b (x ∷ filter test xs) (filter test xs))
+    go true rest = (all.0, rest)
+    go false rest = rest
+
+deletes_changed : (rows : AllRows) (changes : List Change) → DeletesAreUnplaced (rows Rev) → AllByRecursion (λ change. DeletesAreUnplaced (left_by change.op change.row)) changes
+    → DeletesAreUnplaced (changed_by rows changes Rev)
+deletes_changed rows [] old all = old
+deletes_changed rows (change ∷ changes) old all =
+    deletes_changed (changed_in rows change) changes (go (eqb (table_number Rev) (table_number (table_of change.row)))) all.1
+  where
+    go : (b : Bool) → DeletesAreUnplaced (cond b (changed_once (rows Rev) change) (rows Rev))
+    go true =
+        unplaced_append (filter (is_below (key_of change.row)) (rows Rev)) (left_by change.op change.row ++ filter (is_above (key_of change.row)) (rows Rev))
+        (unplaced_filter (is_below (key_of change.row)) (rows Rev) old)
+        (unplaced_append (left_by change.op change.row) (filter (is_above (key_of change.row)) (rows Rev)) all.0 (unplaced_filter (is_above (key_of change.row)) (rows Rev) old))
+    go false = old
+
+put_unplaced : (op : Op) (row : Record) → IfPut HasNoneIfDeleted op row → DeletesAreUnplaced (left_by op row)
+put_unplaced Remove row none = tt
+put_unplaced Put (RevRow row) none = (λ dead. ap (λ (s : Spot). s.at) (none dead), tt)
+put_unplaced Replace (RevRow row) none = (λ dead. ap (λ (s : Spot). s.at) (none dead), tt)
+put_unplaced Put _ none = (tt, tt)
+put_unplaced Replace _ none = (tt, tt)
+
+puts_unplaced : (changes : List Change) → AllByRecursion (λ change. IfPut HasNoneIfDeleted change.op change.row) changes → AllByRecursion (λ change. DeletesAreUnplaced (left_by change.op change.row)) changes
+puts_unplaced [] all = tt
+puts_unplaced (change ∷ changes) all = (put_unplaced change.op change.row all.0, puts_unplaced changes all.1)
+
+-- ---- where contents are stored
+
 pub grows : (stores : List (List ℕ)) (from : ℕ) → from ≤ stores_end stores from
 grows [] from = omega arith
 grows (store ∷ stores) from = let rest = grows stores (from + length store) in omega (arith, rest)
@@ -112,7 +154,7 @@ module _ (rows : AllRows) (d : List Deed) (stores : List (List ℕ)) (from place
       omega (arith, end, le, old)
   placed_end spot bytes (inr among) = let le = among_end stores from spot bytes among in omega (arith, le, new)
 
-  row_placed : (row : RevRecord) → (spot_of row ≡ no_spot) ⊎ ((bytes : List ℕ) × IsPlacedAt rows d stores from (spot_of row) bytes) → spots_end (RevRow row ∷ []) ≤ place
+  row_placed : (row : RevRecord) → HasSpot rows d stores from row → spots_end (RevRow row ∷ []) ≤ place
   row_placed row (inl none) = let end : row.at + row.length ≡ 0 + 0 = ap end_of none in omega (arith, end)
   row_placed row (inr (bytes, at)) = let le : row.at + row.length ≤ place = placed_end (spot_of row) bytes at in omega (arith, le)
 
@@ -196,6 +238,7 @@ pub contents_kept : (old new : Files → Type 0) (used used' : ℕ) (rows : AllR
     → KeepContents old used rows d → KeepContents new used' rows d
 contents_kept old new used used' rows d le keeps stand kept = record {
   ends = let ends = kept.ends in omega (arith, ends, le);
+  deletes = kept.deletes;
   contents = λ image left. record {
     within =
         let ends = kept.ends in
@@ -226,9 +269,10 @@ stored_at images image left (store ∷ stores) from spot bytes all (inr h) = sto
 
 -- the contents after a command
 pub contents_follow : (images : Files → Type 0) (used used' from : ℕ) (rows : AllRows) (d e : List Deed) (stores : List (List ℕ)) (changes : List Change) → StandAfter rows from d e stores changes
-    → used ≤ used' → KeepContents images used rows d → AllStored images stores from → stores_end stores from ≤ used' → AllReach images used' → KeepContents images used' (changed_by rows changes) e
-contents_follow images used used' from rows d e stores changes placed le kept stored end reach = record {
+    → IsSound e → used ≤ used' → KeepContents images used rows d → AllStored images stores from → stores_end stores from ≤ used' → AllReach images used' → KeepContents images used' (changed_by rows changes) e
+contents_follow images used used' from rows d e stores changes placed sound le kept stored end reach = record {
   ends = ends;
+  deletes = deletes_changed rows changes kept.deletes (puts_unplaced changes (placed.deletes sound));
   contents = λ image left. record {
     within = let far = reach image left in omega (arith, ends, far);
     contents = λ path n r bytes there content.

@@ -1,7 +1,9 @@
 -- What a commit needs, and what it leaves.
-use Rattle.std.specs.Prelude.{◌≡◌, ◌≢◌, ℕ, Bool, List, [], if◌then◌else◌}
+use Rattle.std.specs.Prelude.{◌≡◌, ◌≢◌, ℕ, Bool, true, false, List, [], if◌then◌else◌}
 use Rattle.db_records.specs.declared.change.Change.{Change}
 use Rattle.journal_groups.specs.Groups.{AreRecords}
+use Rattle.command_core.specs.Outcomes.{IsOutcome}
+use Rattle.command_core.specs.declared.outcome.Outcome.{Outcome}
 use Rattle.table_changes.specs.Changed.{AllRows, changed_by}
 use Rattle.depot_runs.specs.Today.{step}
 use Rattle.depot_model.specs.Deeds.{Deed}
@@ -24,3 +26,12 @@ pub record AreChangesOf (rows : AllRows) (request : Request) (opens : Bool) (cha
 pub record IsToldAt (place : Place) (reply of_fault : List ℕ) (answer : Answer) : Type 0 where
   pub place_is : answer.place ≡ record place { fault = answer.place.fault }
   pub reply_is : answer.reply ≡ (if answer.place.fault then of_fault else reply)
+
+-- an outcome is a request's for each depot with these rows, what it stores being put from a place of the archive on
+abbrev pub IsOutcomeOf : AllRows → ℕ → Request → Outcome → Type 0
+IsOutcomeOf rows from request outcome = (d : List Deed) → Stand rows d → IsOutcome rows from d request outcome
+
+-- the rows after a place: those after the changes, or at a fault place those before
+abbrev pub AreRowsAfter : AllRows → List Change → Bool → AllRows → Type 0
+AreRowsAfter rows changes false now = now ≡ changed_by rows changes
+AreRowsAfter rows changes true now = now ≡ rows

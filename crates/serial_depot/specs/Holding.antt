@@ -13,6 +13,7 @@ use Rattle.depot_model.specs.Rules.{value_of}
 use Rattle.depot_model.specs.Steps.Submitting.{content_at}
 use Rattle.depot_rows.specs.Standing.{Stand}
 use Rattle.recovery.specs.Holding.{HasAllRows, spots_end}
+use Rattle.recovery.specs.Rules.{DeletesAreUnplaced}
 use Rattle.recovery.specs.Standing.{HasContents}
 
 -- the generation that a depot tells
@@ -32,9 +33,10 @@ pub record HasItsContents (rows : AllRows) (d : List Deed) (archive : Files) : T
 abbrev pub AllHaveContents : (Files → Type 0) → AllRows → List Deed → Type 0
 AllHaveContents archives rows d = (archive : Files) → archives archive → HasItsContents rows d archive
 
--- No spot of these rows ends behind a place of the archive, and each of these images has the contents of the depot.
+-- No spot of these rows ends behind a place of the archive, deleted revisions have no place, and each of these images has the contents of the depot.
 pub record KeepContents (archives : Files → Type 0) (used : ℕ) (rows : AllRows) (d : List Deed) : Type 0 where
   pub ends : spots_end (rows Rev) ≤ used
+  pub deletes : DeletesAreUnplaced (rows Rev)
   pub contents : AllHaveContents archives rows d
 
 -- An image of the journal's disk stands for the depot with each of these images of the archive's disk, which is used up to a place.

@@ -1,10 +1,10 @@
 //! Giving a command its place.
 
-ghost use Rattle.std.specs.Prelude.{◌≡◌, ◌≢◌, ◌⊎◌, ◌≤◌, ℕ, Bool, List, [], ◌∷◌, ◌++◌, true, false, IfOk, OnErr};
+ghost use Rattle.std.specs.Prelude.{◌≡◌, ◌≢◌, ◌⊎◌, ◌≤◌, ℕ, Bool, List, [], ◌∷◌, ◌++◌, true, false, None, IfOk, IfSome, OnErr};
 ghost use Rattle.archive_file.specs.Archive.{disk_of as archive_disk_of};
 ghost use Rattle.outside_api.specs.Count.{HasRisen};
 ghost use Rattle.db_records.specs.declared.change.Change.{Change as AnyChange};
-ghost use Rattle.table_changes.specs.Changed.{AllFitIn, rows_of};
+ghost use Rattle.table_changes.specs.Changed.{AllFitIn, changed_by, rows_of};
 ghost use Rattle.depot_runs.specs.Today.{step};
 ghost use Rattle.depot_model.specs.Deeds.{Deed};
 ghost use Rattle.depot_model.specs.Places.{Placed, taken};
@@ -13,7 +13,7 @@ ghost use Rattle.depot_model.specs.declared.request.Request.{Request};
 ghost use Rattle.disk_journal.specs.Stands.{disk_of, generation_of_journal, next_number};
 ghost use Rattle.session_loop.specs.Taking.{placed_by, with_place};
 ghost use Rattle.stored_contents.specs.Placed.{StandAfter};
-ghost use Rattle.serial_depot.specs.Committing.{AreChangesOf, IsToldAt};
+ghost use Rattle.serial_depot.specs.Committing.{AreChangesOf, AreRowsAfter, IsToldAt};
 ghost use Rattle.serial_depot.specs.Running.{CanTake, HasRun};
 ghost use Rattle.serial_depot.specs.Writing.{CanWrite, IsWritingOf, left_by};
 
@@ -42,6 +42,22 @@ pub(crate) fn fault_answer(place: Place, reply: Text) -> Answer
     }
 }
 
+/// The tables after changes: those given, where they are, and else made of the tables.
+fn tables_after(
+    alloc: Global,
+    tables: &Tables,
+    changed: Option<Tables>,
+    changes: &[Change],
+) -> Result<Tables, AllocError>
+    requires { changed ≡ None → AllFitIn (rows_of tables.now) changes.now }
+    ensures { IfSome changed (λ given. rows_of given ≡ changed_by (rows_of tables.now) changes.now) → IfOk result (λ after. rows_of after ≡ changed_by (rows_of tables.now) changes.now) }
+{
+    match changed {
+        Some(given) => Ok(given),
+        None => change_tables(alloc, tables, changes),
+    }
+}
+
 impl<D: Disk> SerialDepot<D> {
     /// Settles what is in doubt, stores contents behind what is used of the archive, writes a group or a
     /// generation, and puts the tables after it in the place of those before. Answers whether a disk has
@@ -58,6 +74,8 @@ impl<D: Disk> SerialDepot<D> {
             AreChangesOf (rows_of self.old.tables) request opens changes →
             StandAfter (rows_of self.old.tables) self.old.tables.archive_end (taken step start places) (after (taken step start places) (step (taken step start places) request).deeds) stores.now changes →
             HasRun D.seen D.may_leave D.moment D.left_since self.new since start (places ++ placed_by request result ∷ []) }
+        ensures landed { result ≡ false → rows_of self.new.tables ≡ rows_of changed }
+        ensures failed { result ≡ true → rows_of self.new.tables ≡ rows_of self.old.tables }
         ensures never_falls { D.faults (disk_of self.old.journal) ≤ D.faults (disk_of self.new.journal) }
         ensures never_falls_contents { D.faults (archive_disk_of self.old.archive) ≤ D.faults (archive_disk_of self.new.archive) }
         ensures cause { result ≡ true → HasRisen (D.faults (disk_of self.old.journal)) (D.faults (disk_of self.new.journal)) ⊎ HasRisen (D.faults (archive_disk_of self.old.archive)) (D.faults (archive_disk_of self.new.archive)) }
@@ -78,7 +96,7 @@ impl<D: Disk> SerialDepot<D> {
 
     /// Makes the changes of a command, which may open a generation, and stores its contents, and answers with
     /// its reply, or with that of a fault where a disk failed; then the rows stay. All memory is had before the
-    /// first call of a disk. Without changes no call of a disk is made.
+    /// first call of a disk. Without changes no call of a disk is made. The tables after the changes may be given.
     pub(crate) fn place(
         &mut self,
         alloc: Global,
@@ -88,28 +106,33 @@ impl<D: Disk> SerialDepot<D> {
         changes: &[Change],
         opens: bool,
         stores: &[Text],
+        changed: Option<Tables>,
     ) -> Result<Answer, AllocError>
         requires can { CanTake D.may_leave self.old }
         requires no_fault { place.fault ≡ false }
-        requires fit { AllFitIn (rows_of self.old.tables) changes.now }
+        requires fit { changed ≡ None → AllFitIn (rows_of self.old.tables) changes.now }
         ensures can { CanTake D.may_leave self.new }
         ensures nothing { OnErr result (self.new ≡ self.old) }
         ensures told { IfOk result (IsToldAt place reply of_fault) }
         ensures ran { (since : ℕ) (start : List Deed) (places : List Placed) (request : Request) →
             HasRun D.seen D.may_leave D.moment D.left_since self.old since start places →
+            AllFitIn (rows_of self.old.tables) changes.now → IfSome changed (λ given. rows_of given ≡ changed_by (rows_of self.old.tables) changes.now) →
             AreChangesOf (rows_of self.old.tables) request opens changes.now →
             StandAfter (rows_of self.old.tables) self.old.tables.archive_end (taken step start places) (after (taken step start places) (step (taken step start places) request).deeds) stores.now changes.now →
             IfOk result (λ answer. HasRun D.seen D.may_leave D.moment D.left_since self.new since start (with_place places request answer)) }
+        ensures rows { IfSome changed (λ given. rows_of given ≡ changed_by (rows_of self.old.tables) changes.now) →
+            IfOk result (λ answer. AreRowsAfter (rows_of self.old.tables) changes.now answer.place.fault (rows_of self.new.tables)) }
         ensures no_call { changes.now ≡ [] → self.new ≡ self.old }
         ensures never_falls { D.faults (disk_of self.old.journal) ≤ D.faults (disk_of self.new.journal) }
         ensures never_falls_contents { D.faults (archive_disk_of self.old.archive) ≤ D.faults (archive_disk_of self.new.archive) }
         ensures cause { IfOk result (λ answer. answer.place.fault ≡ true → HasRisen (D.faults (disk_of self.old.journal)) (D.faults (disk_of self.new.journal)) ⊎ HasRisen (D.faults (archive_disk_of self.old.archive)) (D.faults (archive_disk_of self.new.archive))) }
     {
         if changes.is_empty() {
+            drop(changed);
             return Ok(Answer { place, reply });
         }
         measure(alloc, changes)?;
-        let changed = change_tables(alloc, &self.tables, changes)?;
+        let changed = tables_after(alloc, &self.tables, changed, changes)?;
         let writing = prepare(alloc, &self.journal, &changed, changes, opens)?;
         if self.land(changed, writing, stores) {
             return Ok(fault_answer(place, of_fault));

@@ -1,6 +1,6 @@
 //! Taking commands one after another.
 
-ghost use Rattle.std.specs.Prelude.{◌≡◌, ◌⊎◌, ◌≤◌, ℕ, List, [], All, IsTrue, true, false, IfOk, OnErr};
+ghost use Rattle.std.specs.Prelude.{◌≡◌, ◌⊎◌, ◌≤◌, ℕ, List, [], All, IsTrue, true, false, None, IfOk, IfSome, OnErr};
 ghost use Rattle.archive_file.specs.Archive.{disk_of as archive_disk_of, end_of, used_of};
 ghost use Rattle.outside_api.specs.Count.{HasRisen};
 ghost use Rattle.depot_model.specs.Deeds.{Deed};
@@ -14,11 +14,11 @@ ghost use Rattle.depot_model.specs.declared.request.Request.{Request as AnyReque
 ghost use Rattle.depot_rows.specs.Standing.{Stand};
 ghost use Rattle.command_core.specs.Outcomes.{IsOutcome};
 ghost use Rattle.reply_rows.specs.Made.{contents_of};
-ghost use Rattle.table_changes.specs.Changed.{AllFitIn, rows_of};
+ghost use Rattle.table_changes.specs.Changed.{AllFitIn, changed_by, rows_of};
 ghost use Rattle.disk_journal.specs.Stands.{disk_of};
 ghost use Rattle.row_texts.specs.Texts.{is_counted};
 ghost use Rattle.session_loop.specs.Taking.{Answers, IsProper, place_by, with_place};
-ghost use Rattle.serial_depot.specs.Committing.{AreChangesOf, IsToldAt};
+ghost use Rattle.serial_depot.specs.Committing.{AreChangesOf, AreRowsAfter, IsOutcomeOf, IsToldAt};
 ghost use Rattle.serial_depot.specs.Opening.{opens_generation};
 ghost use Rattle.serial_depot.specs.Running.{CanTake, HasRun};
 
@@ -35,6 +35,7 @@ use outside_api::{Disk, Gate};
 use session_loop::Taker;
 use sound_requests::requests_are_typed;
 use std::alloc::{AllocError, Global};
+use table_store::Tables;
 use wire_text::print_reply;
 
 /// The place of a request, where no disk fails.
@@ -74,21 +75,25 @@ impl<D: Disk> SerialDepot<D> {
         outcome: Outcome,
         opens: bool,
         of_fault: Text,
+        changed: Option<Tables>,
     ) -> Result<Answer, AllocError>
         requires can { CanTake D.may_leave self.old }
         requires no_fault { place.fault ≡ false }
-        requires fit { AllFitIn (rows_of self.old.tables) outcome.changes }
+        requires fit { changed ≡ None → AllFitIn (rows_of self.old.tables) outcome.changes }
         requires within { All (λ spot. end_of spot ≤ used_of self.old.archive) outcome.reads }
         ensures can { CanTake D.may_leave self.new }
         ensures nothing { (since : ℕ) (start : List Deed) (places : List Placed) → HasRun D.seen D.may_leave D.moment D.left_since self.old since start places →
             OnErr result (HasRun D.seen D.may_leave D.moment D.left_since self.new since start places) }
         ensures ran { (since : ℕ) (start : List Deed) (places : List Placed) (request : AnyRequest) → HasRun D.seen D.may_leave D.moment D.left_since self.old since start places →
-            AreChangesOf (rows_of self.old.tables) request opens outcome.changes →
+            IfSome changed (λ given. rows_of given ≡ changed_by (rows_of self.old.tables) outcome.changes) → AreChangesOf (rows_of self.old.tables) request opens outcome.changes →
             IsOutcome (rows_of self.old.tables) self.old.tables.archive_end (taken step start places) request outcome →
             IfOk result (λ answer. HasRun D.seen D.may_leave D.moment D.left_since self.new since start (with_place places request answer)) }
         ensures told { (since : ℕ) (start : List Deed) (places : List Placed) (request : AnyRequest) → HasRun D.seen D.may_leave D.moment D.left_since self.old since start places →
             IsOutcome (rows_of self.old.tables) self.old.tables.archive_end (taken step start places) request outcome →
             IfOk result (IsToldAt place (printed (step (taken step start places) request).rows place.number) of_fault) }
+        ensures rows { IfSome changed (λ given. rows_of given ≡ changed_by (rows_of self.old.tables) outcome.changes) →
+            IfOk result (λ answer. AreRowsAfter (rows_of self.old.tables) outcome.changes answer.place.fault (rows_of self.new.tables)) }
+        ensures same_tables { OnErr result (self.new.tables ≡ self.old.tables) }
         ensures no_write { outcome.changes ≡ [] → (self.new.journal ≡ self.old.journal) × (self.new.tables ≡ self.old.tables) }
         ensures no_call { outcome.changes ≡ [] → outcome.reads ≡ [] → self.new ≡ self.old }
         ensures never_falls { D.faults (disk_of self.old.journal) ≤ D.faults (disk_of self.new.journal) }
@@ -116,12 +121,98 @@ impl<D: Disk> SerialDepot<D> {
             changes.as_slice(),
             opens,
             stores.as_slice(),
+            changed,
         )?;
         Ok(answer)
     }
 
-    /// Takes the command of a request. A command that would change a row with a number that no text
-    /// says is answered as want of memory, before any call of a disk.
+    /// Gives the command of a request its place, whose outcome these tables tell; the tables after its changes may be given. A command that would
+    /// change a row with a number that no text says is answered as want of memory, before any call of a disk.
+    fn take_outcome<G: Gate>(
+        &mut self,
+        alloc: Global,
+        gate: &G,
+        request: &Request,
+        outcome: Outcome,
+        changed: Option<Tables>,
+    ) -> Result<Answer, AllocError>
+        requires can { CanTake D.may_leave self.old }
+        requires fit { changed ≡ None → AllFitIn (rows_of self.old.tables) outcome.changes }
+        ensures can { CanTake D.may_leave self.new }
+        ensures ran { (since : ℕ) (start : List Deed) (places : List Placed) → HasRun D.seen D.may_leave D.moment D.left_since self.old since start places → IsProper request.now →
+            IsOutcomeOf (rows_of self.old.tables) self.old.tables.archive_end request.now outcome → IfSome changed (λ given. rows_of given ≡ changed_by (rows_of self.old.tables) outcome.changes) →
+            IfOk result (λ answer. HasRun D.seen D.may_leave D.moment D.left_since self.new since start (with_place places request.now answer)) }
+        ensures answers { (since : ℕ) (start : List Deed) (places : List Placed) → HasRun D.seen D.may_leave D.moment D.left_since self.old since start places →
+            IsOutcomeOf (rows_of self.old.tables) self.old.tables.archive_end request.now outcome → IfOk result (Answers start places request.now) }
+        ensures nothing { (since : ℕ) (start : List Deed) (places : List Placed) → HasRun D.seen D.may_leave D.moment D.left_since self.old since start places →
+            OnErr result (HasRun D.seen D.may_leave D.moment D.left_since self.new since start places) }
+        ensures rows { IfSome changed (λ given. rows_of given ≡ changed_by (rows_of self.old.tables) outcome.changes) →
+            IfOk result (λ answer. AreRowsAfter (rows_of self.old.tables) outcome.changes answer.place.fault (rows_of self.new.tables)) }
+        ensures same_tables { OnErr result (self.new.tables ≡ self.old.tables) }
+        ensures no_write { outcome.changes ≡ [] → (self.new.journal ≡ self.old.journal) × (self.new.tables ≡ self.old.tables) }
+        ensures no_call { outcome.changes ≡ [] → outcome.reads ≡ [] → self.new ≡ self.old }
+        ensures never_falls { D.faults (disk_of self.old.journal) ≤ D.faults (disk_of self.new.journal) }
+        ensures never_falls_contents { D.faults (archive_disk_of self.old.archive) ≤ D.faults (archive_disk_of self.new.archive) }
+        ensures cause { IfOk result (λ answer. answer.place.fault ≡ true → HasRisen (D.faults (disk_of self.old.journal)) (D.faults (disk_of self.new.journal)) ⊎ HasRisen (D.faults (archive_disk_of self.old.archive)) (D.faults (archive_disk_of self.new.archive))) }
+    {
+        requests_are_typed(request);
+        if !is_ready(&outcome, self.archive.used()) {
+            drop(outcome);
+            drop(changed);
+            return Err(AllocError);
+        }
+        know_records(outcome.changes.as_slice());
+        let of_fault = match fault_reply(alloc, request.number) {
+            Ok(text) => text,
+            Err(_) => {
+                drop(outcome);
+                drop(changed);
+                return Err(AllocError);
+            }
+        };
+        gate.pass(request.party, request.number);
+        let answer = self.finish(
+            alloc,
+            place_of(request),
+            outcome,
+            opens(request),
+            of_fault,
+            changed,
+        )?;
+        gate.answered(request.party, request.number);
+        Ok(answer)
+    }
+
+    /// Gives the command of a request its place, whose outcome was found in tables with the same rows, as [`command_core::evaluate`] does; these are the
+    /// tables after its changes. The one error is want of memory, and then nothing is done. The command may be held back at the gate.
+    pub fn place_outcome<G: Gate>(
+        &mut self,
+        alloc: Global,
+        gate: &G,
+        request: &Request,
+        outcome: Outcome,
+        changed: Tables,
+    ) -> Result<Answer, AllocError>
+        requires { CanTake D.may_leave self.old }
+        ensures can { CanTake D.may_leave self.new }
+        ensures ran { (since : ℕ) (start : List Deed) (places : List Placed) → HasRun D.seen D.may_leave D.moment D.left_since self.old since start places → IsProper request.now →
+            IsOutcomeOf (rows_of self.old.tables) self.old.tables.archive_end request.now outcome → rows_of changed ≡ changed_by (rows_of self.old.tables) outcome.changes →
+            IfOk result (λ answer. HasRun D.seen D.may_leave D.moment D.left_since self.new since start (with_place places request.now answer)) }
+        ensures answers { (since : ℕ) (start : List Deed) (places : List Placed) → HasRun D.seen D.may_leave D.moment D.left_since self.old since start places →
+            IsOutcomeOf (rows_of self.old.tables) self.old.tables.archive_end request.now outcome → IfOk result (Answers start places request.now) }
+        ensures nothing { (since : ℕ) (start : List Deed) (places : List Placed) → HasRun D.seen D.may_leave D.moment D.left_since self.old since start places →
+            OnErr result (HasRun D.seen D.may_leave D.moment D.left_since self.new since start places) }
+        ensures rows { rows_of changed ≡ changed_by (rows_of self.old.tables) outcome.changes →
+            IfOk result (λ answer. AreRowsAfter (rows_of self.old.tables) outcome.changes answer.place.fault (rows_of self.new.tables)) }
+        ensures same_tables { OnErr result (self.new.tables ≡ self.old.tables) }
+        ensures never_falls { D.faults (disk_of self.old.journal) ≤ D.faults (disk_of self.new.journal) }
+        ensures never_falls_contents { D.faults (archive_disk_of self.old.archive) ≤ D.faults (archive_disk_of self.new.archive) }
+        ensures cause { IfOk result (λ answer. answer.place.fault ≡ true → HasRisen (D.faults (disk_of self.old.journal)) (D.faults (disk_of self.new.journal)) ⊎ HasRisen (D.faults (archive_disk_of self.old.archive)) (D.faults (archive_disk_of self.new.archive))) }
+    {
+        self.take_outcome(alloc, gate, request, outcome, Some(changed))
+    }
+
+    /// Takes the command of a request.
     fn take_request<G: Gate>(
         &mut self,
         alloc: Global,
@@ -145,17 +236,8 @@ impl<D: Disk> SerialDepot<D> {
         ensures never_falls_contents { D.faults (archive_disk_of self.old.archive) ≤ D.faults (archive_disk_of self.new.archive) }
         ensures cause { IfOk result (λ answer. answer.place.fault ≡ true → HasRisen (D.faults (disk_of self.old.journal)) (D.faults (disk_of self.new.journal)) ⊎ HasRisen (D.faults (archive_disk_of self.old.archive)) (D.faults (archive_disk_of self.new.archive))) }
     {
-        requests_are_typed(request);
         let outcome = evaluate(alloc, &self.tables, request)?;
-        if !is_ready(&outcome, self.archive.used()) {
-            drop(outcome);
-            return Err(AllocError);
-        }
-        know_records(outcome.changes.as_slice());
-        let of_fault = fault_reply(alloc, request.number)?;
-        gate.pass(request.party, request.number);
-        let answer = self.finish(alloc, place_of(request), outcome, opens(request), of_fault)?;
-        gate.answered(request.party, request.number);
+        let answer = self.take_outcome(alloc, gate, request, outcome, None)?;
         Ok(answer)
     }
 }
@@ -164,6 +246,10 @@ impl<D: Disk> Taker for SerialDepot<D> {
     ghost can_take = { λ depot. CanTake D.may_leave depot };
 
     ghost has_run = { λ depot since start places. HasRun D.seen D.may_leave D.moment D.left_since depot since start places };
+
+    ghost unwritten = { λ old new. (new.journal ≡ old.journal) × (new.tables ≡ old.tables) };
+
+    ghost untouched = { λ old new. new ≡ old };
 
     ghost faults = { λ depot. D.faults (disk_of depot.journal) };
 

@@ -2,3 +2,4 @@ pub mod Asking
 pub mod Reading
 pub mod Served
 pub mod Taking
+pub mod Requests

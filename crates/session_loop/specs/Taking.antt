@@ -1,10 +1,13 @@
 -- What who takes commands promises: each command gets its place behind those before it, and is answered what the model says there. This project's
 -- own choice.
-use Rattle.std.specs.Prelude.{◌≡◌, ℕ, Bool, List, [], ◌∷◌, ◌++◌, Some}
+use Rattle.std.specs.Prelude.{◌≡◌, ℕ, Bool, List, [], ◌∷◌, ◌++◌, Some, None}
+use Rattle.std.specs.List.{AllByRecursion}
 use Rattle.depot_model.specs.Deeds.{Deed}
 use Rattle.depot_runs.specs.Today.{step}
 use Rattle.depot_model.specs.Places.{Placed, told_at, taken}
 use Rattle.depot_model.specs.Printed.{printed}
+use Rattle.depot_model.specs.Records.{SameRows}
+use Rattle.depot_model.specs.Step.{after}
 use Rattle.depot_model.specs.declared.order.Answer.{Answer}
 use Rattle.depot_model.specs.declared.order.Place.{Place}
 use Rattle.depot_model.specs.declared.request.Request.{Request}
@@ -29,3 +32,11 @@ pub record Answers (start : List Deed) (places : List Placed) (request : Request
 -- the places with that of the request behind them
 abbrev pub with_place : List Placed → Request → Answer → List Placed
 with_place places request answer = places ++ placed_by request answer.place.fault ∷ []
+
+-- no row differs after the step of the request
+abbrev pub ChangesNoRow : List Deed → Request → Type 0
+ChangesNoRow d request = SameRows d (after d (step d request).deeds)
+
+-- it prints no content
+abbrev pub PrintsNoContent : List Deed → Request → Type 0
+PrintsNoContent d request = AllByRecursion (λ row. row.content ≡ None) (step d request).rows

@@ -3,10 +3,12 @@
 
 mod laws;
 mod reading;
+mod requests;
 mod session;
 mod taker;
 
 pub use laws::sessions_ask_well_formed_commands;
 pub use reading::{ReadSession, read_session};
+pub use requests::session_requests;
 pub use session::{SessionRun, run_session};
 pub use taker::Taker;

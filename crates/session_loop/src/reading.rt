@@ -8,8 +8,8 @@ ghost use Rattle.session_loop.specs.Asking as spec;
 ghost use Rattle.session_loop.specs.Reading.{IsReadSession, end_for};
 
 use command_words::read_command;
-use depot_model::{Asked, Command, Content, Session, WordFault};
-use depot_path::{ClientPath, Sequence, Text};
+use depot_model::{Asked, Block, Command, Content, Session, WordFault};
+use depot_path::{ClientPath, Sequence};
 use indexmap::IndexMap;
 use outside_api::Source;
 use std::alloc::{AllocError, Global};
@@ -35,40 +35,40 @@ fn takes_contents(command: &Result<Command, WordFault>) -> bool
     )
 }
 
-/// A copy of a content.
-fn copied_content(path: &ClientPath, bytes: &Text) -> Result<Content, AllocError>
+/// A content that shares its bytes.
+fn shared_content(path: &ClientPath, bytes: &Block) -> Result<Content, AllocError>
     ensures { IfOk result (λ content. content ≡ spec.content_of (path.now, bytes.now)) }
 {
     Ok(Content {
         path: path.clone()?,
-        bytes: bytes.clone()?,
+        bytes: bytes.share()?,
     })
 }
 
-/// A copy of contents.
-fn copied(
+/// Contents that share their bytes with these.
+fn shared(
     alloc: Global,
-    contents: &IndexMap<ClientPath, Text>,
+    contents: &IndexMap<ClientPath, Block>,
 ) -> Result<Sequence<Content>, AllocError>
-    ensures { IfOk result (λ copies. copies ≡ map spec.content_of contents.now.entries) }
+    ensures { IfOk result (λ shares. shares ≡ map spec.content_of contents.now.entries) }
 {
-    let mut copies = Sequence::new(alloc);
+    let mut shares = Sequence::new(alloc);
     for (path, bytes) in contents.iter() {
-        copies.push(copied_content(path, bytes)?)?;
+        shares.push(shared_content(path, bytes)?)?;
     }
-    Ok(copies)
+    Ok(shares)
 }
 
 /// What a command takes of the contents.
 fn taken_contents(
     alloc: Global,
     takes: bool,
-    contents: &IndexMap<ClientPath, Text>,
+    contents: &IndexMap<ClientPath, Block>,
 ) -> Result<Sequence<Content>, AllocError>
     ensures { IfOk result (λ taken. taken ≡ spec.taken_contents takes contents.now.entries) }
 {
     if takes {
-        copied(alloc, contents)
+        shared(alloc, contents)
     } else {
         Ok(Sequence::new(alloc))
     }
@@ -85,7 +85,7 @@ fn wants_memory(command: &Result<Command, WordFault>) -> bool
 fn contents_for(
     alloc: Global,
     command: &Result<Command, WordFault>,
-    contents: &IndexMap<ClientPath, Text>,
+    contents: &IndexMap<ClientPath, Block>,
 ) -> Result<Sequence<Content>, AllocError>
     ensures taken { IfOk result (λ taken. taken ≡ spec.taken_contents (spec.takes_contents command.now) contents.now.entries) }
     ensures read { OnOk result (command.now ≢ Err WordFault.Memory) }
@@ -100,7 +100,7 @@ fn contents_for(
 fn asked(
     alloc: Global,
     item: Item,
-    contents: &IndexMap<ClientPath, Text>,
+    contents: &IndexMap<ClientPath, Block>,
 ) -> Result<Asked, AllocError>
     ensures { IfOk result (λ asked. asked ≡ spec.asked_by contents.now.entries item) }
 {
@@ -123,7 +123,7 @@ fn asked(
 fn follow(
     alloc: Global,
     entry: Entry,
-    contents: &mut IndexMap<ClientPath, Text>,
+    contents: &mut IndexMap<ClientPath, Block>,
     commands: &mut Sequence<Asked>,
 ) -> Result<(), AllocError>
     ensures goes { OnOk result ((rest : List Entry) → commands.old ++ spec.asked_from contents.old.entries (entry ∷ rest) ≡ commands.new ++ spec.asked_from contents.new.entries rest) }

@@ -5,12 +5,13 @@ ghost use Rattle.outside_api.specs.Count.{HasCause, HasRisen};
 ghost use Rattle.depot_model.specs.Deeds.{Deed};
 ghost use Rattle.depot_model.specs.Places.{Placed};
 ghost use Rattle.depot_model.specs.declared.request.Session.{Session};
-ghost use Rattle.depot_runs.specs.Run.{placed, request_of};
+ghost use Rattle.depot_runs.specs.Run.{placed};
 ghost use Rattle.session_loop.specs.Asking.{AreProper, AreWellFormed};
 ghost use Rattle.session_loop.specs.Served.{AreCaused, IsTaken, IsAnswered, IsServed};
 
+use crate::requests::request;
 use crate::taker::Taker;
-use depot_model::{Answer, Asked, Caller, Place, Request, Session};
+use depot_model::{Answer, Asked, Caller, Place, Session};
 use depot_path::Text;
 use outside_api::{Clock, Gate, Sink};
 use std::alloc::{AllocError, Global};
@@ -23,39 +24,6 @@ pub struct SessionRun {
     pub commands: u32,
     /// Whether its sink failed in the reply to the last of them.
     pub failed: bool,
-}
-
-/// The request of a place, by a caller of its own.
-fn request_by(place: &Place, caller: Caller, asked: Asked) -> Request
-    ensures { result ≡ request_of place.now caller asked }
-{
-    let Asked {
-        command,
-        input,
-        contents,
-    } = asked;
-    Request {
-        caller,
-        party: place.party,
-        number: place.number,
-        moment: place.moment,
-        command,
-        input,
-        contents,
-    }
-}
-
-/// The request of a place.
-fn request(place: &Place, caller: &Caller, asked: Asked) -> Result<Request, AllocError>
-    ensures { IfOk result (λ request. request ≡ request_of place.now caller.now asked) }
-{
-    match caller.copy() {
-        Ok(caller) => Ok(request_by(place, caller, asked)),
-        Err(error) => {
-            drop(asked);
-            Err(error)
-        }
-    }
 }
 
 /// Makes room for a place, so that the value may be used up.

@@ -3,8 +3,9 @@
 ghost use Rattle.std.specs.Prelude.{◌≡◌, ◌⊎◌, ◌≤◌, ℕ, List, true, IfOk, OnErr};
 ghost use Rattle.outside_api.specs.Count.{HasRisen};
 ghost use Rattle.depot_model.specs.Deeds.{Deed};
-ghost use Rattle.depot_model.specs.Places.{Placed};
-ghost use Rattle.session_loop.specs.Taking.{Answers, IsProper, with_place};
+ghost use Rattle.depot_model.specs.Places.{Placed, taken};
+ghost use Rattle.depot_runs.specs.Today.{step};
+ghost use Rattle.session_loop.specs.Taking.{Answers, ChangesNoRow, IsProper, PrintsNoContent, with_place};
 
 use depot_model::{Answer, Request};
 use outside_api::Gate;
@@ -18,6 +19,12 @@ pub trait Taker {
     /// Whether, since a moment as it counts them, it took the commands of these places, in order, from
     /// this depot on.
     ghost has_run: { Self → ℕ → List Deed → List Placed → Type 0 };
+
+    /// Whether, from the one to the other, that to which it commits wasn't called.
+    ghost unwritten: { Self → Self → Type 0 };
+
+    /// Whether, from the one to the other, nothing was called and nothing changed.
+    ghost untouched: { Self → Self → Type 0 };
 
     /// How often that failed to which it commits.
     ghost faults: { Self → ℕ };
@@ -39,6 +46,9 @@ pub trait Taker {
         ensures ran { (since : ℕ) (start : List Deed) (places : List Placed) → has_run self.old since start places → IsProper request → IfOk result (λ answer. has_run self.new since start (with_place places request answer)) }
         ensures answers { (since : ℕ) (start : List Deed) (places : List Placed) → has_run self.old since start places → IsProper request → IfOk result (Answers start places request) }
         ensures nothing { (since : ℕ) (start : List Deed) (places : List Placed) → has_run self.old since start places → OnErr result (has_run self.new since start places) }
+        // A command after which no row differs commits nothing, and calls nothing where it prints no content.
+        ensures no_write { (since : ℕ) (start : List Deed) (places : List Placed) → has_run self.old since start places → IsProper request → ChangesNoRow (taken step start places) request → unwritten self.old self.new }
+        ensures no_call { (since : ℕ) (start : List Deed) (places : List Placed) → has_run self.old since start places → IsProper request → ChangesNoRow (taken step start places) request → PrintsNoContent (taken step start places) request → untouched self.old self.new }
         ensures never_falls { faults self.old ≤ faults self.new }
         ensures never_falls_contents { content_faults self.old ≤ content_faults self.new }
         ensures cause { IfOk result (λ answer. answer.place.fault ≡ true → HasRisen (faults self.old) (faults self.new) ⊎ HasRisen (content_faults self.old) (content_faults self.new)) };

@@ -1,12 +1,13 @@
 use Rattle.std.proofs.Common.{◌≡◌, ◌⊎◌, ℕ, ◌≤◌, List, [], ◌∷◌, ◌++◌, refl, sym, ap, subst, ◌∙◌, inl, inr, Err, arith, rules}
-use Rattle.std.specs.Prelude.{All}
+use Rattle.std.specs.Prelude.{All, IfSome, None, Option}
 use Rattle.archive_file.specs.Archive as archives
 use Rattle.archive_file.specs.declared.archive.ContentFault.TheVariants.{DiskFault}
 use Rattle.outside_api.specs.Disk.{Files}
 use Rattle.db_records.specs.declared.change.Change.{Change}
 use Rattle.db_records.specs.declared.change.Spot.{Spot}
 use Rattle.db_records.specs.declared.table.TableId.TheVariants.{Rev}
-use Rattle.table_changes.specs.Changed.{rows_of}
+use Rattle.table_changes.specs.Changed.{AllFitIn, AllRows, changed_by, rows_of}
+use Rattle.table_store.specs.declared.tables.Tables.{Tables}
 use Rattle.depot_runs.specs.Today.{step}
 use Rattle.depot_model.specs.Places.{taken}
 use Rattle.depot_model.specs.Printed.{printed}
@@ -15,7 +16,7 @@ use Rattle.depot_model.specs.declared.order.Answer.{Answer}
 use Rattle.depot_model.specs.declared.reply.Row.{Row}
 use Rattle.session_loop.specs.Taking.{placed_by}
 use Rattle.stored_contents.specs.Placed.{StandAfter}
-use Rattle.serial_depot.specs.Committing.{AreChangesOf, IsToldAt}
+use Rattle.serial_depot.specs.Committing.{AreChangesOf, AreRowsAfter, IsToldAt}
 use Rattle.serial_depot.specs.Running.{HasRun}
 use Rattle.serial_depot.specs.Storing.{AreAt}
 use Rattle.serial_depot.specs.declared.depot.SerialDepot.{SerialDepot}
@@ -35,7 +36,7 @@ returns-in-Err-DiskFault-clause-can g c =
     read_can g.D.Disk.seen g.D.Disk.may_leave g.D.Disk.moment g.D.Disk.left_since c.args.self.now c.read_all.new.archive c.read_all.ensures.used c.read_all.ensures.same c.read_all.ensures.crash c.requires.can
 
 pub returns-in-Err-DiskFault-clause-ran : goal.returns-in-Err-DiskFault-clause-ran
-returns-in-Err-DiskFault-clause-ran g c = λ since start places request h made is.
+returns-in-Err-DiskFault-clause-ran g c = λ since start places request h given made is.
     let read : SerialDepot g.row.D.Denot = record { tables = c.args.self.now.tables; journal = c.args.self.now.journal; archive = c.read_all.new.archive } in
     let P : Answer → Type 0 = λ answer. HasRun g.D.Disk.seen g.D.Disk.may_leave g.D.Disk.moment g.D.Disk.left_since read since start (places ++ placed_by request answer.place.fault ∷ []) in
     subst P (sym c.fault_answer.ensures)
@@ -53,6 +54,12 @@ returns-in-Err-DiskFault-clause-no_call g c = λ none unread.
 
 pub returns-in-Err-DiskFault-clause-cause : goal.returns-in-Err-DiskFault-clause-cause
 returns-in-Err-DiskFault-clause-cause g c = λ fault. let failed : c.read_all.result ≡ Err DiskFault = search rules in inr (c.read_all.ensures.cause.risen failed)
+
+pub returns-in-Err-DiskFault-clause-rows : goal.returns-in-Err-DiskFault-clause-rows
+returns-in-Err-DiskFault-clause-rows g c = λ given.
+    let rows = rows_of c.args.self.now.tables in
+    let P : Answer → Type 0 = λ answer. AreRowsAfter rows c.args.outcome.changes answer.place.fault rows in
+    subst P (sym c.fault_answer.ensures) refl
 
 -- ---- no memory was left for one
 
@@ -108,13 +115,16 @@ returns-in_err-answer-clause-no_call g c = λ none unread.
     c.in_err-answer.ensures.nothing ∙ (λ i. record { tables = c.args.self.now.tables; journal = c.args.self.now.journal; archive = same i })
 
 pub returns-clause-ran : goal.returns-clause-ran
-returns-clause-ran g c = λ since start places request h made is.
+returns-clause-ran g c = λ since start places request h given made is.
     let rows = rows_of c.args.self.now.tables in
     let current = taken step start places in
     let run = read_run g.D.Disk.seen g.D.Disk.may_leave g.D.Disk.moment g.D.Disk.left_since c.args.self.now c.read_all.new.archive c.read_all.ensures.used c.read_all.ensures.same c.read_all.ensures.crash since start places h in
     let Made : List Change → Type 0 = AreChangesOf rows request c.args.opens in
     let Placed : List (List ℕ) → List Change → Type 0 = λ stores changes. StandAfter rows c.args.self.now.tables.archive_end current (after current (step current request).deeds) stores changes in
-    c.in_ok-answer.ensures.ran since start places request run (subst Made (sym c.as_slice-2.ensures) made)
+    let Fits : List Change → Type 0 = AllFitIn rows in
+    let Given : List Change → Type 0 = λ changes. IfSome c.args.changed (λ (tables : Tables). rows_of tables ≡ changed_by rows changes) in
+    c.in_ok-answer.ensures.ran since start places request run (subst Fits (sym c.as_slice-2.ensures) is.changes.fit) (subst Given (sym c.as_slice-2.ensures) given)
+    (subst Made (sym c.as_slice-2.ensures) made)
     (subst (λ stores. Placed stores c.as_slice-2.result.now) (sym c.as_slice-3.ensures) (subst (Placed c.args.outcome.stores) (sym c.as_slice-2.ensures) (is.contents (h.stand.each Rev))))
 
 pub returns-clause-told : goal.returns-clause-told
@@ -126,6 +136,20 @@ returns-clause-told g c = λ since start places request h is.
     c.in-Ok.contents (subst Read c.as_slice.ensures c.in-Ok.ensures.contents) in
     let text_is = c.in_ok-text.ensures ∙ ap (λ (told : List Row). printed told c.args.place.number) (c.filled-whole.ensures rows is.reply contents) in
     subst (λ text. IsToldAt c.args.place text c.args.of_fault c.in_ok-answer.answer) text_is c.in_ok-answer.ensures.told
+
+pub place-requires-clause-fit : goal.place-requires-clause-fit
+place-requires-clause-fit g c = λ none. subst (AllFitIn (rows_of c.args.self.now.tables)) (sym c.as_slice-2.ensures) (c.requires.fit none)
+
+pub returns-in_err-answer-clause-same_tables : goal.returns-in_err-answer-clause-same_tables
+returns-in_err-answer-clause-same_tables g c =
+    on_err c.from_residual-in_err-answer.result _ (ap (λ (depot : SerialDepot g.row.D.Denot). depot.tables) c.in_err-answer.ensures.nothing)
+
+pub returns-clause-rows : goal.returns-clause-rows
+returns-clause-rows g c = λ given.
+    let rows = rows_of c.args.self.now.tables in
+    let Given : List Change → Type 0 = λ changes. IfSome c.args.changed (λ (tables : Tables). rows_of tables ≡ changed_by rows changes) in
+    let After : List Change → Type 0 = λ changes. AreRowsAfter rows changes c.in_ok-answer.answer.place.fault (rows_of c.place.new.self.tables) in
+    subst After c.as_slice-2.ensures (c.in_ok-answer.ensures.rows (subst Given (sym c.as_slice-2.ensures) given))
 
 pub returns-clause-no_write : goal.returns-clause-no_write
 returns-clause-no_write g c = λ none.

@@ -3,6 +3,8 @@ use Rattle.archive_file.specs.Archive as archives
 use Rattle.outside_api.specs.Disk.{StillTells}
 use Rattle.disk_journal.specs.Stands.{generation_of_journal, next_number, nothing}
 use Rattle.table_changes.specs.Changed.{rows_of}
+use Rattle.depot_model.specs.Places.{taken}
+use Rattle.depot_runs.specs.Today.{step}
 use Rattle.serial_depot.specs.Writing.{IsWritingOf, left_by}
 use Rattle.serial_depot.specs.Storing.{AllReach, AllStored, KeepsBelow, stores_end}
 use Rattle.serial_depot.proofs.Writings.{can_write, same_generation}
@@ -120,8 +122,9 @@ returns-clause-ran g c = λ since start places request opens changes h some is m
     let stored = subst Stores same (subst (AllStored (may_leave (archives.disk_of c.store_all.new.archive)) stores) at c.in-Ok-store_all.ensures.stored) in
     let ends : archives.used_of archive ≡ stores_end stores from = used_is ∙ c.in-Ok-store_all.ensures.end ∙ ap (stores_end stores) at in
     let settled = has_run_settled seen may_leave moment left_since depot since start places h c.settle.new.self (c.in-Ok.ensures.ok h.was h.doubt h.stands) (c.settle.ensures.any_moment h.was h.doubt h.stands) in
-    let more = used_more seen may_leave moment left_since depot can archive keeps tells since start places request h stores changes ends stored reach placed in
-    let contents = with_contents seen may_leave moment left_since depot can archive keeps tells since start places request h stores changes ends stored reach placed in
+    let sound = (made.stand (taken step start places) h.stand).sound in
+    let more = used_more seen may_leave moment left_since depot can archive keeps tells since start places request h stores changes ends stored reach placed sound in
+    let contents = with_contents seen may_leave moment left_since depot can archive keeps tells since start places request h stores changes ends stored reach placed sound in
     let m = stored_run seen may_leave moment left_since depot can archive keeps tells more c.settle.new.self since start places settled in
     let generation = same_generation may_leave depot.journal c.settle.new.self h.was h.doubt nothing h.stands (c.in-Ok.ensures.ok h.was h.doubt h.stands) in
     let Numbered : ℕ → Type 0 = λ number. IsWritingOf (rows_of depot.tables) (rows_of c.args.changed) number (generation_of_journal depot.journal) opens (left_by c.args.writing) changes in
@@ -130,6 +133,16 @@ returns-clause-ran g c = λ since start places request opens changes h some is m
     committed seen may_leave moment left_since (record { tables = depot.tables; journal = c.settle.new.self; archive = archive }) since start places request m (rows_of c.args.changed) opens (left_by c.args.writing) changes some
     (subst Dated (sym generation) (subst Numbered (sym c.settle.ensures.number) is)) made contents c.set_archive_end.new.self c.commit-failed.new.journal (c.commit-failed.ensures.any_moment m.was m.doubt m.stands) c.commit-failed.result
     (c.commit-failed.ensures.stands m.was m.doubt m.stands) (λ e. same_rows ∙ ap rows_of (c.commit-failed.ensures.landed e)) (λ e. same_rows ∙ ap rows_of (c.commit-failed.ensures.failed e))
+
+pub returns-clause-landed : goal.returns-clause-landed
+returns-clause-landed g c = λ e.
+    let same_rows : rows_of c.set_archive_end.new.self ≡ rows_of c.commit-failed.new.tables = λ i table. (c.set_archive_end.ensures.versions table i).rows in
+    same_rows ∙ ap rows_of (c.commit-failed.ensures.landed e)
+
+pub returns-clause-failed : goal.returns-clause-failed
+returns-clause-failed g c = λ e.
+    let same_rows : rows_of c.set_archive_end.new.self ≡ rows_of c.commit-failed.new.tables = λ i table. (c.set_archive_end.ensures.versions table i).rows in
+    same_rows ∙ ap rows_of (c.commit-failed.ensures.failed e)
 
 -- ---- a fault only where a count rose
 

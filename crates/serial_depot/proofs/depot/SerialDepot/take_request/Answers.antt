@@ -1,64 +1,43 @@
-use Rattle.std.proofs.Common.{◌≡◌, ◌≤◌, List, [], refl, sym, ap, subst, ◌∙◌}
-use Rattle.std.specs.Prelude.{All}
-use Rattle.archive_file.specs.Archive.{end_of, used_of}
-use Rattle.db_records.specs.declared.change.Change.{Change}
-use Rattle.db_records.specs.declared.change.Spot.{Spot}
+use Rattle.std.proofs.Common.{◌≡◌, List, refl}
 use Rattle.table_changes.specs.Changed.{rows_of}
 use Rattle.depot_runs.specs.Today.{step}
-use Rattle.depot_model.specs.Deeds.{Deed}
-use Rattle.depot_model.specs.Places.{taken}
 use Rattle.depot_model.specs.Step.{after}
-use Rattle.depot_rows.specs.Standing.{Stand}
-use Rattle.row_changes.specs.Differences.{AreDifferences}
-use Rattle.row_texts.specs.Texts.{IsOf64Bits}
-use Rattle.serial_depot.specs.Committing.{AreChangesOf}
+use Rattle.depot_model.specs.declared.request.Request.{Request}
+use Rattle.session_loop.specs.Taking.{IsProper}
+use Rattle.serial_depot.specs.Committing.{IsOutcomeOf}
 use Rattle.serial_depot.proofs.Differences.{no_changes}
 use Rattle.serial_depot.proofs.Finished.{none_read}
 use Rattle.serial_depot.proofs.Laws.{formed_of}
-use Rattle.serial_depot.proofs.Outcomes.{answers, are_changes, has_needed}
+use Rattle.serial_depot.proofs.Outcomes.{has_needed}
 use Rattle.serial_depot.proofs.depot.SerialDepot.take_request.Goals as goal
-
-pub finish-requires-clause-within : goal.finish-requires-clause-within
-finish-requires-clause-within g c =
-    let ready = c.is_ready.ensures c.if-not-is_ready.false in
-    subst (λ n. All (λ (spot : Spot). end_of spot ≤ n) c.in_ok-outcome.outcome.reads) c.used.ensures ready.1
 
 pub returns-clause-ran : goal.returns-clause-ran
 returns-clause-ran g c = λ since start places h proper.
     let rows = rows_of c.args.self.now.tables in
-    let current = taken step start places in
     let request = c.args.request.now in
-    let outcome = c.in_ok-outcome.outcome in
-    let ready = c.is_ready.ensures c.if-not-is_ready.false in
-    let asks = formed_of request proper in
-    let differences : (d : List Deed) → Stand rows d → AreDifferences rows d (after d (step d request).deeds) outcome.changes
-    = λ d stand. (c.in_ok-outcome.ensures.outcome d stand.sound asks (has_needed rows d request stand)).changes in
-    let Small : List Change → Type 0 = λ l. All (λ (change : Change). IsOf64Bits change.row) l in
-    let made = are_changes rows current request outcome.changes h.stand proper c.requests_are_typed.ensures differences (subst Small c.as_slice.ensures c.know_records.ensures) ready.0 in
-    c.in_ok-answer.ensures.ran since start places request h (subst (λ opens. AreChangesOf rows request opens outcome.changes) (sym c.opens.ensures) made) (c.in_ok-outcome.ensures.outcome current h.stand.sound asks (has_needed rows current request h.stand))
+    c.in_ok-answer.ensures.ran since start places h proper
+    (λ d stand. c.in_ok-outcome.ensures.outcome d stand.sound (formed_of request proper) (has_needed rows d request stand)) tt
 
 pub returns-clause-answers : goal.returns-clause-answers
 returns-clause-answers g c = λ since start places h proper.
     let rows = rows_of c.args.self.now.tables in
-    let current = taken step start places in
     let request = c.args.request.now in
-    let is = c.in_ok-outcome.ensures.outcome current h.stand.sound (formed_of request proper) (has_needed rows current request h.stand) in
-    answers start places request _ c.in_ok-of_fault.of_fault c.place_of.result c.in_ok-answer.answer c.place_of.ensures refl c.in_ok-of_fault.ensures
-    (c.in_ok-answer.ensures.told since start places request h is)
+    c.in_ok-answer.ensures.answers since start places h
+    (λ d stand. c.in_ok-outcome.ensures.outcome d stand.sound (formed_of request proper) (has_needed rows d request stand))
 
 pub returns-clause-no_write : goal.returns-clause-no_write
 returns-clause-no_write g c = λ d stand proper same.
     let rows = rows_of c.args.self.now.tables in
     let request = c.args.request.now in
     let is = c.in_ok-outcome.ensures.outcome d stand.sound (formed_of request proper) (has_needed rows d request stand) in
-    c.finish.ensures.no_write (no_changes rows d (after d (step d request).deeds) c.in_ok-outcome.outcome.changes stand same is.changes)
+    c.take_outcome.ensures.no_write (no_changes rows d (after d (step d request).deeds) c.in_ok-outcome.outcome.changes stand same is.changes)
 
 pub returns-clause-no_call : goal.returns-clause-no_call
 returns-clause-no_call g c = λ d stand proper same none.
     let rows = rows_of c.args.self.now.tables in
     let request = c.args.request.now in
     let is = c.in_ok-outcome.ensures.outcome d stand.sound (formed_of request proper) (has_needed rows d request stand) in
-    c.finish.ensures.no_call (no_changes rows d (after d (step d request).deeds) c.in_ok-outcome.outcome.changes stand same is.changes)
+    c.take_outcome.ensures.no_call (no_changes rows d (after d (step d request).deeds) c.in_ok-outcome.outcome.changes stand same is.changes)
     (none_read rows d c.in_ok-outcome.outcome.reads (step d request).rows is.reads none)
 
 -- ---- no memory was left behind the evaluation
@@ -68,12 +47,12 @@ returns-in_err-answer-clause-no_write g c = λ d stand proper same.
     let rows = rows_of c.args.self.now.tables in
     let request = c.args.request.now in
     let is = c.in_ok-outcome.ensures.outcome d stand.sound (formed_of request proper) (has_needed rows d request stand) in
-    c.finish.ensures.no_write (no_changes rows d (after d (step d request).deeds) c.in_ok-outcome.outcome.changes stand same is.changes)
+    c.take_outcome.ensures.no_write (no_changes rows d (after d (step d request).deeds) c.in_ok-outcome.outcome.changes stand same is.changes)
 
 pub returns-in_err-answer-clause-no_call : goal.returns-in_err-answer-clause-no_call
 returns-in_err-answer-clause-no_call g c = λ d stand proper same none.
     let rows = rows_of c.args.self.now.tables in
     let request = c.args.request.now in
     let is = c.in_ok-outcome.ensures.outcome d stand.sound (formed_of request proper) (has_needed rows d request stand) in
-    c.finish.ensures.no_call (no_changes rows d (after d (step d request).deeds) c.in_ok-outcome.outcome.changes stand same is.changes)
+    c.take_outcome.ensures.no_call (no_changes rows d (after d (step d request).deeds) c.in_ok-outcome.outcome.changes stand same is.changes)
     (none_read rows d c.in_ok-outcome.outcome.reads (step d request).rows is.reads none)

@@ -1,0 +1,40 @@
+use Rattle.std.proofs.Common.{◌≡◌, ◌≤◌, List, [], refl, sym, ap, subst, ◌∙◌}
+use Rattle.std.specs.Prelude.{All}
+use Rattle.archive_file.specs.Archive.{end_of, used_of}
+use Rattle.db_records.specs.declared.change.Change.{Change}
+use Rattle.db_records.specs.declared.change.Spot.{Spot}
+use Rattle.table_changes.specs.Changed.{rows_of}
+use Rattle.depot_runs.specs.Today.{step}
+use Rattle.depot_model.specs.Deeds.{Deed}
+use Rattle.depot_model.specs.Places.{taken}
+use Rattle.depot_model.specs.Step.{after}
+use Rattle.depot_rows.specs.Standing.{Stand}
+use Rattle.row_changes.specs.Differences.{AreDifferences}
+use Rattle.row_texts.specs.Texts.{IsOf64Bits}
+use Rattle.serial_depot.specs.Committing.{AreChangesOf}
+use Rattle.serial_depot.proofs.Outcomes.{answers, are_changes}
+use Rattle.serial_depot.proofs.depot.SerialDepot.take_outcome.Goals as goal
+
+pub finish-requires-clause-within : goal.finish-requires-clause-within
+finish-requires-clause-within g c =
+    let ready = c.is_ready.ensures c.if-not-is_ready.false in
+    subst (λ n. All (λ (spot : Spot). end_of spot ≤ n) c.args.outcome.reads) c.used.ensures ready.1
+
+pub returns-clause-ran : goal.returns-clause-ran
+returns-clause-ran g c = λ since start places h proper is given.
+    let rows = rows_of c.args.self.now.tables in
+    let current = taken step start places in
+    let request = c.args.request.now in
+    let outcome = c.args.outcome in
+    let ready = c.is_ready.ensures c.if-not-is_ready.false in
+    let differences : (d : List Deed) → Stand rows d → AreDifferences rows d (after d (step d request).deeds) outcome.changes = λ d stand. (is d stand).changes in
+    let Small : List Change → Type 0 = λ l. All (λ (change : Change). IsOf64Bits change.row) l in
+    let made = are_changes rows current request outcome.changes h.stand proper c.requests_are_typed.ensures differences (subst Small c.as_slice.ensures c.know_records.ensures) ready.0 in
+    c.in_ok-answer.ensures.ran since start places request h given (subst (λ opens. AreChangesOf rows request opens outcome.changes) (sym c.opens.ensures) made) (is current h.stand)
+
+pub returns-clause-answers : goal.returns-clause-answers
+returns-clause-answers g c = λ since start places h is.
+    let current = taken step start places in
+    let request = c.args.request.now in
+    answers start places request _ c.in-Ok.text c.place_of.result c.in_ok-answer.answer c.place_of.ensures refl c.in-Ok.ensures
+    (c.in_ok-answer.ensures.told since start places request h (is current h.stand))
