@@ -1,0 +1,15 @@
+pub mod Slots
+pub mod Events
+pub mod Naming
+pub mod Orders
+pub mod Turning
+pub mod Drawing
+pub mod Making
+pub mod Within
+pub mod Committing
+pub mod Starting
+pub mod Rounds
+pub mod Ending
+pub mod Opening
+pub mod Moving
+pub mod Made

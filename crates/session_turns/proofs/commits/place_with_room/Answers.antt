@@ -1,0 +1,28 @@
+use Rattle.std.proofs.Common.{◌≡◌, ◌⊎◌, ◌∷◌, ◌++◌, [], true, List, refl, sym, subst}
+use Rattle.archive_file.specs.Archive.{disk_of as archive_disk_of}
+use Rattle.depot_model.specs.declared.order.Place.{Place}
+use Rattle.disk_journal.specs.Stands.{disk_of}
+use Rattle.outside_api.specs.Count.{HasRisen}
+use Rattle.session_loop.proofs.Faults.{caused_once, caused_same}
+use Rattle.session_loop.specs.Served.{AreCaused}
+use Rattle.session_turns.proofs.commits.place_with_room.Goals as goal
+
+pub returns-in_err-answer-clause-faults : goal.returns-in_err-answer-clause-faults
+returns-in_err-answer-clause-faults g c =
+    caused_same (g.D.Disk.faults (disk_of c.args.depot.now.journal)) (g.D.Disk.faults (disk_of c.place_outcome.new.self.journal))
+    (g.D.Disk.faults (archive_disk_of c.args.depot.now.archive)) (g.D.Disk.faults (archive_disk_of c.place_outcome.new.self.archive)) c.args.order.now.items c.args.order.now.items refl
+    c.place_outcome.ensures.never_falls c.place_outcome.ensures.never_falls_contents
+
+pub returns-clause-faults : goal.returns-clause-faults
+returns-clause-faults g c =
+    let place : Place = c.in_ok-answer.answer.place in
+    let before = g.D.Disk.faults (disk_of c.args.depot.now.journal) in
+    let now = g.D.Disk.faults (disk_of c.place_outcome.new.self.journal) in
+    let contents_before = g.D.Disk.faults (archive_disk_of c.args.depot.now.archive) in
+    let contents_now = g.D.Disk.faults (archive_disk_of c.place_outcome.new.self.archive) in
+    let old_order = c.args.order.now.items in
+    let more : c.push.new.self.items ≡ old_order ++ place ∷ [] = rw c.unwrap.ensures at c.push.ensures.items in
+    let risen : place.fault ≡ true → HasRisen before now ⊎ HasRisen contents_before contents_now = λ fault. c.in_ok-answer.ensures.cause fault in
+    let Caused : List Place → Type 0 = AreCaused before now contents_before contents_now old_order in
+    subst Caused (sym more)
+    (caused_once before now contents_before contents_now old_order place place.fault refl c.place_outcome.ensures.never_falls c.place_outcome.ensures.never_falls_contents risen)

@@ -1,0 +1,75 @@
+-- How far the parties of a run are, between two turns. This project's own choice.
+use Rattle.std.specs.Prelude.{◌≡◌, ◌≤◌, ℕ, Bool, true, false, List, [], ◌∷◌, length, map, drop, slice_get, Option, Some, None, if◌then◌else◌}
+use Rattle.outside_api.specs.Count.{HasRisen}
+use Rattle.outside_api.specs.Told.{extended}
+use Rattle.depot_model.specs.Deeds.{Deed}
+use Rattle.depot_model.specs.declared.order.Place.{Place}
+use Rattle.depot_model.specs.declared.request.Request.{Request}
+use Rattle.depot_model.specs.declared.request.Session.{Session}
+use Rattle.depot_runs.specs.Run.{placed}
+use Rattle.lock_machine.specs.Machine.{Party, State, Work}
+use Rattle.lock_machine.specs.declared.stage.Stage.{Stage}
+use Rattle.lock_machine.specs.declared.stage.Stage.TheVariants.{Gathering, Judged, Committed}
+use Rattle.session_loop.specs.Requests.{AreRequestsOfAll}
+use Rattle.session_loop.specs.declared.session.SessionRun.{SessionRun}
+use Rattle.session_turns.specs.Served.{AreServed}
+use Rattle.wire_text.specs.Giving.{GotFront}
+
+-- ---- what isn't answered yet
+
+-- a command that has its place is answered
+abbrev pub unanswered_at : List Request → Request → Stage → List Request
+unanswered_at left request Gathering = request ∷ left
+unanswered_at left request Judged = request ∷ left
+unanswered_at left request Committed = left
+
+abbrev pub unanswered_by : List Request → Option Work → List Request
+unanswered_by left None = left
+unanswered_by left (Some w) = unanswered_at left w.request w.stage
+
+-- the commands of a party of the machine that have no answer yet
+abbrev pub unanswered : Party → List Request
+unanswered p = unanswered_by p.left p.work
+
+-- those of a party after so many commands: none where its sink failed
+abbrev pub left_after : List Request → SessionRun → List Request
+left_after requests run = if run.failed then [] else drop run.commands requests
+
+-- ---- the sinks
+
+-- what a sink got of a reply: the whole, or, where it failed, a front that isn't the whole
+abbrev pub Got : Bool → List ℕ → Option (List ℕ) → Option (List ℕ) → Type 0
+Got false text before now = now ≡ extended before text
+Got true text before now = GotFront before now text
+
+-- before any command was taken
+abbrev pub fresh : SessionRun
+fresh = record { commands = 0; failed = false }
+
+abbrev pub fresh_runs : List ℕ → List SessionRun
+fresh_runs totals = map (λ total. fresh) totals
+
+-- ---- all parties
+
+-- The sinks have the replies of the commands that were taken, and the machine is at their order, with the rest of the requests.
+pub record IsUnderWay (may_give : ℕ → Type 0) (sessions : List (Option Session)) (start : List Deed) (requests : List (List Request)) (s : State) (runs : List SessionRun) (before now : List (Option (List ℕ))) (order : List Place) : Type 0 where
+  pub served : AreServed may_give sessions start runs before now order
+  pub asked : AreRequestsOfAll may_give 1 sessions requests
+  pub count : length s.parties ≡ length sessions
+  pub left : (i : ℕ) (own : List Request) (run : SessionRun) (p : Party) → slice_get requests i ≡ Some own → slice_get runs i ≡ Some run → slice_get s.parties i ≡ Some p
+      → unanswered p ≡ left_after own run
+  pub order_is : map (placed sessions) order ≡ map (λ c. c.place) s.order
+
+-- ---- the ends, whatever the depot
+
+-- one party took no more commands than it has, and failed only where its sink did
+pub record IsWithin {K : Type 0} (faults : K → ℕ) (total : ℕ) (run : SessionRun) (before now : K) : Type 0 where
+  pub within : run.commands ≤ total
+  pub counts : faults before ≤ faults now
+  pub cause : run.failed ≡ true → HasRisen (faults before) (faults now)
+
+pub record AreWithin {K : Type 0} (faults : K → ℕ) (totals : List ℕ) (runs : List SessionRun) (before now : List K) : Type 0 where
+  pub runs_count : length runs ≡ length totals
+  pub sinks_count : length now ≡ length before
+  pub each : (i total : ℕ) (run : SessionRun) (old new : K) → slice_get totals i ≡ Some total → slice_get runs i ≡ Some run → slice_get before i ≡ Some old → slice_get now i ≡ Some new
+      → IsWithin faults total run old new

@@ -1,0 +1,122 @@
+//! Answering a command of one of the parties.
+
+ghost use Rattle.std.specs.Prelude.{◌≡◌, ◌≢◌, ◌≤◌, ◌<◌, ℕ, List, Some, length, slice_get, true};
+ghost use Rattle.outside_api.specs.Count.{HasRisen};
+ghost use Rattle.session_loop.specs.declared.session.SessionRun.{SessionRun as AnyRun};
+ghost use Rattle.session_turns.specs.Running.{AreWithin, Got};
+ghost use Rattle.session_turns.specs.Answering.{AnswersNone, AreDone, IsAnsweredAt, IsDoneAt, has_left_at, has_more_at, reply_of};
+
+use depot_model::Answer;
+use outside_api::{Clock, Sink};
+use session_loop::SessionRun;
+use std::alloc::AllocError;
+use wire_text::{give_all, give_memory};
+
+/// Whether a party has a command that isn't answered.
+pub(crate) fn has_more(runs: &[SessionRun], totals: &[u32], at: usize) -> bool
+    ensures more { result ≡ has_more_at (slice_get runs.now at) (slice_get totals.now at) }
+    ensures few { result ≡ true → (run : AnyRun) → slice_get runs.now at ≡ Some run → run.commands < 4294967295 }
+{
+    match runs.get(at) {
+        None => false,
+        Some(run) => match totals.get(at) {
+            None => false,
+            Some(total) => run.commands < *total,
+        },
+    }
+}
+
+/// Gives a reply, or, where there is none, that of a command that found no memory. Answers whether the sink has failed.
+fn give<K: Sink>(sink: &mut K, answer: Result<Answer, AllocError>, number: u32) -> bool
+    ensures got { Got result (reply_of answer number) (K.given sink.old) (K.given sink.new) }
+    ensures counts { K.faults sink.old ≤ K.faults sink.new }
+    ensures cause { result ≡ true → HasRisen (K.faults sink.old) (K.faults sink.new) }
+{
+    match answer {
+        Ok(answer) => match give_all(sink, answer.reply.as_bytes()) {
+            Ok(()) => false,
+            Err(_) => true,
+        },
+        Err(_) => match give_memory(sink, number) {
+            Ok(()) => false,
+            Err(_) => true,
+        },
+    }
+}
+
+/// Gives a party the answer to its next command. Answers whether its sink has failed.
+pub(crate) fn answer_party<K: Sink>(
+    at: usize,
+    answer: Result<Answer, AllocError>,
+    runs: &mut Vec<SessionRun>,
+    sinks: &mut Vec<K>,
+) -> bool
+    requires run { at < length runs.old.items }
+    requires sink { at < length sinks.old.items }
+    requires few { (run : AnyRun) → slice_get runs.old.items at ≡ Some run → run.commands < 4294967295 }
+    ensures { IsAnsweredAt K.given K.faults at answer runs.old.items runs.new.items sinks.old.items sinks.new.items result }
+{
+    let number = runs[at].commands + 1;
+    let failed = give(&mut sinks[at], answer, number);
+    runs[at] = SessionRun {
+        commands: number,
+        failed,
+    };
+    failed
+}
+
+/// Whether a party has a command that isn't answered, and its sink has not failed.
+fn has_left(runs: &[SessionRun], totals: &[u32], at: usize) -> bool
+    ensures left { result ≡ has_left_at (slice_get runs.now at) (slice_get totals.now at) }
+    ensures few { result ≡ true → (run : AnyRun) → slice_get runs.now at ≡ Some run → run.commands < 4294967295 }
+{
+    match runs.get(at) {
+        None => false,
+        Some(run) => {
+            if run.failed {
+                return false;
+            }
+            has_more(runs, totals, at)
+        }
+    }
+}
+
+/// Answers all that a party has left as want of memory, as long as its sink takes it. Where the tables are those of a depot, nothing is left. The clock is
+/// the one that gave the moments of the order.
+fn answer_left<K: Sink, C: Clock>(
+    at: usize,
+    clock: &C,
+    totals: &[u32],
+    runs: &mut Vec<SessionRun>,
+    sinks: &mut Vec<K>,
+)
+    requires sink { at < length sinks.old.items }
+    requires as_many { length sinks.old.items ≡ length runs.old.items }
+    ensures as_many { length sinks.new.items ≡ length runs.new.items }
+    ensures count { length sinks.new.items ≡ length sinks.old.items }
+    ensures none { AnswersNone (C.may_give clock.now) K.given runs.old.items runs.new.items sinks.old.items sinks.new.items }
+    ensures within { (before : List K) → AreWithin K.faults totals.now runs.old.items before sinks.old.items → AreWithin K.faults totals.now runs.new.items before sinks.new.items }
+    ensures done { IsDoneAt runs.new.items totals.now at }
+    ensures others { (j : ℕ) → j ≢ at → slice_get runs.new.items j ≡ slice_get runs.old.items j }
+{
+    'left: while has_left(runs, totals, at) {
+        answer_party(at, Err(AllocError), runs, sinks);
+    }
+}
+
+/// Answers what the parties have left.
+pub(crate) fn answer_rest<K: Sink, C: Clock>(
+    clock: &C,
+    totals: &[u32],
+    runs: &mut Vec<SessionRun>,
+    sinks: &mut Vec<K>,
+)
+    requires as_many { length sinks.old.items ≡ length runs.old.items }
+    ensures none { AnswersNone (C.may_give clock.now) K.given runs.old.items runs.new.items sinks.old.items sinks.new.items }
+    ensures within { (before : List K) → AreWithin K.faults totals.now runs.old.items before sinks.old.items → AreWithin K.faults totals.now runs.new.items before sinks.new.items }
+    ensures done { AreDone runs.new.items totals.now }
+{
+    for at in 0..sinks.len() {
+        answer_left(at, clock, totals, runs, sinks);
+    }
+}

@@ -1,0 +1,67 @@
+//! What a run begins with.
+
+ghost use Rattle.std.specs.Prelude.{◌≡◌, ◌≤◌, ◌<◌, ◌^◌, length, map, All, IfOk};
+ghost use Rattle.session_loop.specs.Asking.{commands_of};
+ghost use Rattle.session_loop.specs.Requests.{AreRequestsOfAll};
+ghost use Rattle.session_turns.specs.Running.{fresh};
+
+use depot_model::{Request, Session};
+use outside_api::Clock;
+use session_loop::{SessionRun, session_requests};
+use std::alloc::{AllocError, Global};
+
+/// How many commands a session has.
+fn total_of(session: &Option<Session>) -> u32
+    ensures { length (commands_of session.now) ≤ 67108864 → result ≡ length (commands_of session.now) }
+{
+    match session {
+        Some(session) => u32::try_from(session.commands.len()).unwrap_or(u32::MAX),
+        None => 0,
+    }
+}
+
+/// How many commands each session has.
+pub(crate) fn totals_of(alloc: Global, sessions: &[Option<Session>]) -> Result<Vec<u32>, AllocError>
+    requires { All (λ session. length (commands_of session) ≤ 67108864) sessions.now }
+    ensures { IfOk result (λ totals. totals.items ≡ map (λ session. length (commands_of session)) sessions.now) }
+{
+    let mut totals = Vec::new(alloc);
+    for session in sessions {
+        totals.push(total_of(session))?;
+    }
+    Ok(totals)
+}
+
+/// The runs of sessions of which no command is taken yet.
+pub(crate) fn fresh_runs(alloc: Global, totals: &[u32]) -> Result<Vec<SessionRun>, AllocError>
+    ensures { IfOk result (λ runs. runs.items ≡ map (λ total. fresh) totals.now) }
+{
+    let mut runs = Vec::new(alloc);
+    for _total in totals {
+        runs.push(SessionRun {
+            commands: 0,
+            failed: false,
+        })?;
+    }
+    Ok(runs)
+}
+
+/// The requests of all sessions, whose parties are numbered from 1.
+pub(crate) fn all_requests<C: Clock>(
+    alloc: Global,
+    sessions: Vec<Option<Session>>,
+    clock: &C,
+) -> Result<Vec<Vec<Request>>, AllocError>
+    requires few_parties { length sessions.items < 2 ^ 32 }
+    requires few { All (λ session. length (commands_of session) ≤ 67108864) sessions.items }
+    ensures { IfOk result (λ requests. AreRequestsOfAll (C.may_give clock.now) 1 sessions.items (map (λ own. own.items) requests.items)) }
+{
+    let mut requests = Vec::new(alloc);
+    let mut party = 0;
+    for session in sessions {
+        party += 1;
+        let own = session_requests(alloc, party, session, clock)?;
+        requests.push(own)?;
+    }
+    Ok(requests)
+}

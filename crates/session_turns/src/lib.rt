@@ -1,0 +1,10 @@
+//! The run of the sessions of all parties by turns over a depot in files: whose turn it is a seed draws, and each party's replies go to its own sink.
+#![tactic(auto)]
+
+mod answers;
+mod beginning;
+mod commits;
+mod run;
+mod turns;
+
+pub use run::run_sessions;

@@ -1,0 +1,162 @@
+//! The turns of all parties.
+
+ghost use Rattle.std.specs.Prelude.{◌≡◌, ◌≤◌, ◌<◌, ◌^◌, ℕ, List, Option, Some, [], ◌++◌, length, map, true, All};
+ghost use Rattle.archive_file.specs.Archive.{disk_of as archive_disk_of};
+ghost use Rattle.depot_model.specs.Deeds.{Deed};
+ghost use Rattle.depot_model.specs.Tables.{needs_of};
+ghost use Rattle.depot_model.specs.declared.request.Request.{Request};
+ghost use Rattle.depot_model.specs.declared.request.Session.{Session};
+ghost use Rattle.disk_journal.specs.Stands.{disk_of};
+ghost use Rattle.lock_machine.specs.Machine.{State, is_enabled};
+ghost use Rattle.lock_machine.specs.Turns.{turns_left};
+ghost use Rattle.serial_depot.specs.Running.{CanTake};
+ghost use Rattle.session_loop.specs.Served.{AreCaused};
+ghost use Rattle.session_turns.specs.Running.{AreWithin};
+ghost use Rattle.session_turns.specs.Taking.{IsAtHand, IsRunning, TakesTurn, TakesTurns};
+
+use crate::answers::{answer_party, has_more};
+use crate::commits::{how_of, place_commit, stop_if};
+use command_core::Outcome;
+use depot_model::Place;
+use lock_core::{LockCore, Turn};
+use outside_api::{Clock, Disk, Gate, Sink};
+use seeded_numbers::Draw;
+use serial_depot::SerialDepot;
+use session_loop::SessionRun;
+use std::alloc::{AllocError, Global};
+
+/// Makes the commit of a party that is at hand, and answers its command at once. Where all its commands are answered already, as in no run of a depot,
+/// it does nothing and says so. The clock is the one that gave the moments of the requests.
+fn make_commit<D: Disk, K: Sink, C: Clock, G: Gate>(
+    alloc: Global,
+    party: u32,
+    clock: &C,
+    gate: &G,
+    outcome: Result<Outcome, AllocError>,
+    core: &mut LockCore,
+    totals: &[u32],
+    runs: &mut Vec<SessionRun>,
+    sinks: &mut Vec<K>,
+    depot: &mut SerialDepot<D>,
+    order: &mut Vec<Place>,
+) -> bool
+    requires can { CanTake D.may_leave depot.old }
+    requires as_many { length sinks.old.items ≡ length runs.old.items }
+    ensures can { CanTake D.may_leave depot.new }
+    ensures as_many { length sinks.new.items ≡ length runs.new.items }
+    ensures turn { (sessions : List (Option Session)) (since : ℕ) (start : List Deed) (requests : List (List Request)) (before : List (Option (List ℕ))) (s : State) →
+        IsRunning D.seen D.may_leave D.moment D.left_since K.given (C.may_give clock.now) sessions since start requests before s core.old runs.old.items sinks.old.items depot.old order.old.items →
+        map (λ own. length own) requests ≡ totals.now → is_enabled s party ≡ true → IsAtHand start s core.old party outcome →
+        (result ≡ true) × TakesTurn s party runs.old.items runs.new.items (λ t.
+        IsRunning D.seen D.may_leave D.moment D.left_since K.given (C.may_give clock.now) sessions since start requests before t core.new runs.new.items sinks.new.items depot.new order.new.items) }
+    ensures within { (before : List K) → AreWithin K.faults totals.now runs.old.items before sinks.old.items → AreWithin K.faults totals.now runs.new.items before sinks.new.items }
+    ensures faults { AreCaused (D.faults (disk_of depot.old.journal)) (D.faults (disk_of depot.new.journal)) (D.faults (archive_disk_of depot.old.archive)) (D.faults (archive_disk_of depot.new.archive)) order.old.items order.new.items }
+{
+    let at = party as usize;
+    if !has_more(runs, totals, at) {
+        drop(outcome);
+        return false;
+    }
+    let answer = place_commit(alloc, party, gate, outcome, core, depot, order);
+    core.finish(party, how_of(&answer), depot.tables().archive_end());
+    let failed = answer_party(at, answer, runs, sinks);
+    stop_if(core, party, failed);
+    true
+}
+
+/// Makes the turn of a party. Where its event isn't enabled, it does nothing and says so.
+fn take_turn<D: Disk, K: Sink, C: Clock, G: Gate>(
+    alloc: Global,
+    party: u32,
+    clock: &C,
+    gate: &G,
+    core: &mut LockCore,
+    totals: &[u32],
+    runs: &mut Vec<SessionRun>,
+    sinks: &mut Vec<K>,
+    depot: &mut SerialDepot<D>,
+    order: &mut Vec<Place>,
+) -> bool
+    requires can { CanTake D.may_leave depot.old }
+    requires as_many { length sinks.old.items ≡ length runs.old.items }
+    ensures can { CanTake D.may_leave depot.new }
+    ensures as_many { length sinks.new.items ≡ length runs.new.items }
+    ensures turn { (sessions : List (Option Session)) (since : ℕ) (start : List Deed) (requests : List (List Request)) (before : List (Option (List ℕ))) (s : State) →
+        IsRunning D.seen D.may_leave D.moment D.left_since K.given (C.may_give clock.now) sessions since start requests before s core.old runs.old.items sinks.old.items depot.old order.old.items →
+        map (λ own. length own) requests ≡ totals.now → is_enabled s party ≡ true →
+        (result ≡ true) × TakesTurn s party runs.old.items runs.new.items (λ t.
+        IsRunning D.seen D.may_leave D.moment D.left_since K.given (C.may_give clock.now) sessions since start requests before t core.new runs.new.items sinks.new.items depot.new order.new.items) }
+    ensures within { (before : List K) → AreWithin K.faults totals.now runs.old.items before sinks.old.items → AreWithin K.faults totals.now runs.new.items before sinks.new.items }
+    ensures faults { AreCaused (D.faults (disk_of depot.old.journal)) (D.faults (disk_of depot.new.journal)) (D.faults (archive_disk_of depot.old.archive)) (D.faults (archive_disk_of depot.new.archive)) order.old.items order.new.items }
+{
+    match core.turn(alloc, party) {
+        Ok(Turn::Idle) => false,
+        Ok(Turn::Moved) => true,
+        Ok(Turn::Ready(outcome)) => make_commit(
+            alloc,
+            party,
+            clock,
+            gate,
+            Ok(outcome),
+            core,
+            totals,
+            runs,
+            sinks,
+            depot,
+            order,
+        ),
+        Err(error) => make_commit(
+            alloc,
+            party,
+            clock,
+            gate,
+            Err(error),
+            core,
+            totals,
+            runs,
+            sinks,
+            depot,
+            order,
+        ),
+    }
+}
+
+/// Makes the turns that the numbers after a seed draw, until no party may go on. A run has less than 2 to the 63 of them.
+pub(crate) fn take_turns<D: Disk, K: Sink, C: Clock, G: Gate>(
+    alloc: Global,
+    seed: u32,
+    clock: &C,
+    gate: &G,
+    core: &mut LockCore,
+    totals: &[u32],
+    runs: &mut Vec<SessionRun>,
+    sinks: &mut Vec<K>,
+    depot: &mut SerialDepot<D>,
+    order: &mut Vec<Place>,
+)
+    requires can { CanTake D.may_leave depot.old }
+    requires as_many { length sinks.old.items ≡ length runs.old.items }
+    ensures can { CanTake D.may_leave depot.new }
+    ensures as_many { length sinks.new.items ≡ length runs.new.items }
+    ensures turns { (sessions : List (Option Session)) (since : ℕ) (start : List Deed) (requests : List (List Request)) (before : List (Option (List ℕ))) (s : State) →
+        IsRunning D.seen D.may_leave D.moment D.left_since K.given (C.may_give clock.now) sessions since start requests before s core.old runs.old.items sinks.old.items depot.old order.old.items →
+        map (λ own. length own) requests ≡ totals.now → length sessions < 2 ^ 32 → turns_left needs_of s < 2 ^ 64 →
+        TakesTurns seed s runs.new.items (λ t.
+        IsRunning D.seen D.may_leave D.moment D.left_since K.given (C.may_give clock.now) sessions since start requests before t core.new runs.new.items sinks.new.items depot.new order.new.items) }
+    ensures within { (before : List K) → AreWithin K.faults totals.now runs.old.items before sinks.old.items → AreWithin K.faults totals.now runs.new.items before sinks.new.items }
+    ensures faults { AreCaused (D.faults (disk_of depot.old.journal)) (D.faults (disk_of depot.new.journal)) (D.faults (archive_disk_of depot.old.archive)) (D.faults (archive_disk_of depot.new.archive)) order.old.items order.new.items }
+{
+    let mut draw = Draw::new(seed);
+    let mut turns = u64::MAX;
+    'turns: while turns > 0 {
+        let Some(party) = core.drawn(draw.next()) else {
+            return;
+        };
+        if !take_turn(
+            alloc, party, clock, gate, core, totals, runs, sinks, depot, order,
+        ) {
+            return;
+        }
+        turns -= 1;
+    }
+}
