@@ -1,0 +1,49 @@
+use Rattle.std.proofs.Common.{◌≡◌, ◌+◌, ◌<◌, ◌≤◌, ℕ, sym, subst, ◌∙◌, arith}
+use Rattle.std.proofs.lemmas.Bool.Decides.{nat_tests}
+use Rattle.outside_api.specs.Moments.{weaker}
+use Rattle.checkpoint_file.specs.Generations.{StandsForEither}
+use Rattle.disk_journal.specs.Stands.{disk_of}
+use Rattle.table_changes.specs.Changed.{rows_of}
+use Rattle.depot_checkpoint.specs.Taking.{StandsBeforeOrAfter}
+use Rattle.depot_checkpoint.proofs.Checkpoints.{stands_begun, stands_either, stands_last}
+use Rattle.depot_checkpoint.proofs.taking.take_checkpoint.Goals as goal
+
+pub returns-then-generation-ge-LAST-clause-taken : goal.returns-then-generation-ge-LAST-clause-taken
+returns-then-generation-ge-LAST-clause-taken g c = λ was d archive stands of_depot image left.
+    let n : ℕ = c.generation-generation.result in
+    let test = c.if-generation-ge-LAST.true in
+    let reached : 4095 ≤ n = grind (arith, nat_tests) in
+    let same : n ≡ was.generation = c.generation-generation.ensures ∙ stands.generation in
+    stands_last was (rows_of c.args.tables.now) d archive of_depot (subst (λ (k : ℕ). 4095 ≤ k) same reached) image (stands.holds image left)
+
+pub returns-in-Ok-clause-taken : goal.returns-in-Ok-clause-taken
+returns-in-Ok-clause-taken g c = λ was d archive stands of_depot image left.
+    let n : ℕ = c.generation-generation.result in
+    let test = c.if-generation-ge-LAST.false in
+    let less : n < 4095 = grind (arith, nat_tests) in
+    let same : n ≡ was.generation = c.generation-generation.ensures ∙ stands.generation in
+    let next = c.in_ok-text.ensures was d of_depot.has of_depot.stand of_depot.generation (sym same) in
+    stands_begun was (rows_of c.args.tables.now) d archive of_depot (subst (λ (k : ℕ). k < 4095) same less) image
+    (c.in-Ok.ensures.opened was (rows_of c.args.tables.now) d archive stands of_depot next image left)
+
+pub returns-in-Ok-clause-any_moment : goal.returns-in-Ok-clause-any_moment
+returns-in-Ok-clause-any_moment g c = λ was d archive stands of_depot.
+    let n : ℕ = c.generation-generation.result in
+    let test = c.if-generation-ge-LAST.false in
+    let less : n < 4095 = grind (arith, nat_tests) in
+    let same : n ≡ was.generation = c.generation-generation.ensures ∙ stands.generation in
+    let next = c.in_ok-text.ensures was d of_depot.has of_depot.stand of_depot.generation (sym same) in
+    weaker g.D.Disk.moment g.D.Disk.left_since (disk_of c.args.journal.now) (disk_of c.write_generation.new.journal) (StandsForEither (was.generation + 1) d archive) (StandsBeforeOrAfter d archive)
+    (stands_either was (rows_of c.args.tables.now) d archive of_depot (subst (λ (k : ℕ). k < 4095) same less))
+    (c.write_generation.ensures.opens was (rows_of c.args.tables.now) d archive stands of_depot next)
+
+pub returns-clause-any_moment : goal.returns-clause-any_moment
+returns-clause-any_moment g c = λ was d archive stands of_depot.
+    let n : ℕ = c.generation-generation.result in
+    let test = c.if-generation-ge-LAST.false in
+    let less : n < 4095 = grind (arith, nat_tests) in
+    let same : n ≡ was.generation = c.generation-generation.ensures ∙ stands.generation in
+    let next = c.in_ok-text.ensures was d of_depot.has of_depot.stand of_depot.generation (sym same) in
+    weaker g.D.Disk.moment g.D.Disk.left_since (disk_of c.args.journal.now) (disk_of c.write_generation.new.journal) (StandsForEither (was.generation + 1) d archive) (StandsBeforeOrAfter d archive)
+    (stands_either was (rows_of c.args.tables.now) d archive of_depot (subst (λ (k : ℕ). k < 4095) same less))
+    (c.write_generation.ensures.opens was (rows_of c.args.tables.now) d archive stands of_depot next)
