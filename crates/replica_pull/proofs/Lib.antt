@@ -7,3 +7,6 @@ pub mod Pieces
 pub mod Moves
 pub mod Kept
 pub mod Fronts
+pub mod Counted
+pub mod Followed
+pub mod Firsts

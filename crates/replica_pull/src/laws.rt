@@ -8,11 +8,12 @@ ghost use Rattle.depot_model.specs.Cut.{cut};
 ghost use Rattle.depot_model.specs.Deeds.{Deed};
 ghost use Rattle.depot_model.specs.Rules.{has_paths};
 ghost use Rattle.depot_model.specs.declared.filter.FilterRule.{FilterRule};
-ghost use Rattle.depot_rows.specs.Standing.{HasRows};
+ghost use Rattle.depot_rows.specs.Standing.{HasRows, Stand};
 ghost use Rattle.outside_api.specs.Link.{IsEarlier, text_of};
 ghost use Rattle.recovery.specs.Holding.{joined};
 ghost use Rattle.table_changes.specs.Changed.{AllRows, AllFitIn, changed_by, changed_in, no_rows, rows_of};
 ghost use Rattle.replica_pull.specs.Cut.{AreCut, cut_changes};
+ghost use Rattle.replica_pull.specs.Prefix.{HasFirst, HasFollowed, HasPrefix, IsJournalOf, Moment, first_rows};
 ghost use Rattle.replica_pull.specs.Replica.{HasPassed, HasTakenPiece, IsNew, IsOfText, beginning};
 ghost use Rattle.replica_pull.specs.declared.replica.Replica.{Replica};
 
@@ -46,4 +47,20 @@ pub fn replicas_take_whole_groups()
     ensures longer { (r : Replica) (text more : List ℕ) → IsOfText r text → IsOfText r (text ++ more) }
     // Each text of an earlier journal is the front of the text that stands there now.
     ensures earlier { (earlier now : List (List ℕ)) (generation : ℕ) → IsEarlier earlier now → (more : List ℕ) × (text_of now generation ≡ text_of earlier generation ++ more) }
+{}
+
+/// After pulls one after another, each of which left the replica as it was or did what its link answered, of the journal as it was at an earlier
+/// moment, a replica has exactly the groups that lie whole in what it took of its master's journal, and one change more for each generation that it
+/// passed. Where the journal is one of whole groups these are its first changes, as many as the replica counts.
+pub fn replicas_have_a_prefix()
+    ensures prefix { (rules : List FilterRule) (journal : List (List ℕ)) (r : Replica) (moments : List Moment) →
+        HasFollowed rules journal r moments → HasPrefix rules journal r }
+    ensures first { (rules : List FilterRule) (journal : List (List ℕ)) (generations : List (List (List Change))) (r : Replica) →
+        HasPrefix rules journal r → IsJournalOf journal generations → HasFirst rules generations r }
+{}
+
+/// Where the rows that these changes make stand for a depot, a replica's tables stand for the depot that is cut to its filter.
+pub fn replicas_stand_for_cut_depots()
+    ensures { (rules : List FilterRule) (generations : List (List (List Change))) (r : Replica) (d : List Deed) →
+        HasFirst rules generations r → Stand (first_rows r.changes generations) d → Stand (rows_of r.tables) (cut rules d) }
 {}

@@ -1,0 +1,4 @@
+pub mod Keyed
+pub mod CutRules
+pub mod CutDeeds
+pub mod Sound
