@@ -1,0 +1,5 @@
+pub mod Rows
+pub mod Lanes
+pub mod Seats
+pub mod Announced
+pub mod Learnt

@@ -1,0 +1,28 @@
+use Rattle.std.proofs.Common.{◌≡◌, ℕ, [], ◌∷◌, ◌++◌, true, List, sym, ap, subst, ◌∙◌}
+use Rattle.order_words.specs.Lanes.{has_lane, is_among}
+use Rattle.order_words.specs.Seats.{LaneState, OrderState}
+use Rattle.locked_tables.specs.Taken.{archive_lane, party_lane}
+use Rattle.locked_tables.specs.Held.{lanes_next}
+use Rattle.locked_tables.specs.declared.taken.Taken.{Taken}
+use Rattle.locked_tables.proofs.Lanes.{lanes_or, no_lane, or_first, or_no_first}
+use Rattle.locked_tables.proofs.Announced.{announced_placed}
+use Rattle.locked_tables.proofs.placing.place_stored_at.Goals as goal
+
+pub settle-requires-clause-placed : goal.settle-requires-clause-placed
+settle-requires-clause-placed g c =
+    let announced = c.announce_next.new.lane in
+    let result = c.place_touching-all.result in
+    let entry : Taken = record c.args.taken { lanes = result } in
+    let order = c.args.order.now.list in
+    let last : c.place_touching-all.new.order.list ≡ order ++ entry ∷ [] =
+    ap (λ (o : OrderState Taken). o.list) c.place_touching-all.ensures.order ∙ ap (λ (l : List Taken). l ++ entry ∷ []) (ap (λ (o : OrderState Taken). o.list) c.announce_next.ensures.order) in
+    let lane : archive_lane ≡ announced.lane = sym (ap (λ (s : LaneState Taken). s.lane) c.announce_next.ensures.lane ∙ ap (λ (s : LaneState Taken). s.lane) c.archive.invariant) in
+    let one : has_lane c.with_lane-lanes.result announced.lane ≡ true = subst (λ (n : ℕ). has_lane c.with_lane-lanes.result n ≡ true) lane c.with_lane-lanes.ensures.one in
+    let has : has_lane result announced.lane ≡ true = c.place_touching-all.ensures.lanes announced.lane ∙ or_first (has_lane c.with_lane-lanes.result announced.lane) _ one in
+    announced_placed c.archive.inside.seat announced order c.place_touching-all.new.order.list entry c.announce_next.ensures.lane last has
+
+pub returns-clause-lanes : goal.returns-clause-lanes
+returns-clause-lanes g c =
+    let rest = party_lane c.args.pass.now.party ∷ lanes_next c.args.held.now in
+    λ lane. lanes_or 0 c.with_lane-lanes.result archive_lane c.with_lane-lanes.ensures.one c.with_lane-lanes.ensures.others c.place_touching-all.result rest c.place_touching-all.ensures.lanes lane
+    ∙ or_no_first (has_lane 0 lane) (is_among lane (archive_lane ∷ rest)) (no_lane lane)

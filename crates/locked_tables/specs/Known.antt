@@ -1,0 +1,39 @@
+-- What is known behind each lock. This project's own choice.
+use Rattle.std.specs.Prelude.{◌≡◌, ◌<◌, ℕ, ◌-◌, true, List, [], ◌∷◌, ◌++◌}
+use Rattle.db_records.specs.declared.table.TableId.{TableId}
+use Rattle.order_words.specs.Lanes.{last_touch}
+use Rattle.order_words.specs.Seats.{Run, LaneState, fresh_lane}
+use Rattle.table_changes.specs.Changed.{AllRows}
+use Rattle.locked_tables.specs.Taken.{lanes_of, rows_after}
+use Rattle.locked_tables.specs.declared.taken.Taken.{Taken}
+
+-- the seat of a lane at rest: the lane's word is the last place of its list that touches the lane
+abbrev pub at_rest : Run → ℕ → List Taken → LaneState Taken
+at_rest run lane list = record { run = run; lane = lane; list = list; word = last_touch lanes_of lane list; resting = true }
+
+-- the seat of the lane of a table, where no place is yet
+abbrev pub IsSeatOfTable : Run → LaneState Taken → Type 0
+IsSeatOfTable run seat = (seat.lane < 11) × (seat ≡ fresh_lane run seat.lane)
+
+-- a table, and a beginning of the order
+pub record TableKnown : Type 0 where
+  pub table : TableId
+  pub list : List Taken
+
+-- a party, and a beginning of the order
+pub record PartyKnown : Type 0 where
+  pub party : ℕ
+  pub list : List Taken
+
+-- the whole order, and how many more places there is room for
+pub record OrderKnown : Type 0 where
+  pub list : List Taken
+  pub room : ℕ
+
+-- one more entry, for which there was room
+abbrev pub with_entry : OrderKnown → Taken → OrderKnown
+with_entry known taken = record { list = known.list ++ taken ∷ []; room = known.room - 1 }
+
+-- a table is after all entries as it was after those of a list
+abbrev pub IsStill : AllRows → List Taken → TableKnown → Type 0
+IsStill rows order known = rows_after rows order known.table ≡ rows_after rows known.list known.table

@@ -1,0 +1,23 @@
+//! Which run it is. The seats behind the locks and those of the parties are seats of one table of
+//! words, and all versions began with the same rows.
+use std::marker::Brand;
+
+/// Names the words of one run, and the rows that the tables had when it began. Each call of a
+/// program picks them.
+pub trait Naming {
+    ghost use Rattle.order_words.specs.Seats.{Run};
+    ghost use Rattle.table_changes.specs.Changed.{AllRows};
+
+    ghost run: { Run };
+
+    ghost rows: { AllRows };
+}
+
+impl Naming for Brand {
+    ghost use Rattle.order_words.specs.Seats.{no_run};
+    ghost use Rattle.table_changes.specs.Changed.{no_rows};
+
+    ghost run = { no_run };
+
+    ghost rows = { no_rows };
+}

@@ -1,0 +1,150 @@
+//! What is done with the seats of lanes under the lock of the order.
+ghost use Rattle.std.specs.Prelude.{◌≡◌, ◌+◌, ◌-◌, ◌^◌, ◌<◌, ℕ, [], ◌∷◌, ◌++◌, ◌||◌, length, drop};
+ghost use Rattle.order_words.specs.Lanes.{has_lane, is_among};
+ghost use Rattle.locked_tables.specs.Taken.{archive_lane, party_lane, IsOwn};
+ghost use Rattle.locked_tables.specs.Known.{IsStill};
+ghost use Rattle.locked_tables.specs.Held.{AllHaveLearnt, AllNext, AllStill, AreAmong, HasLearnt, HaveLearntFrom, known_of, lanes_next};
+
+use crate::archive_lane::ArchiveLane;
+use crate::held_table::HeldTable;
+use crate::naming::Naming;
+use crate::party_pass::PartyPass;
+use crate::taken::Taken;
+use crate::words::OrderWords;
+use order_words::{OrderSeat, with_lane};
+
+/// A held table learns the whole order, and is after it as it was after the places that it knew.
+fn learn_table<N: Naming>(
+    words: &OrderWords<N>,
+    order: &mut OrderSeat<Taken>,
+    held: &mut HeldTable<'_, N>,
+)
+    requires { order.old.run ≡ N.run }
+    ensures order { order.new ≡ order.old }
+    ensures learnt { HasLearnt order.old.list held.old held.new }
+    ensures still { IsStill N.rows order.old.list (known_of held.old) }
+{
+    let table = &mut *held.guard;
+    words.orders.learn(order, &mut table.seat);
+}
+
+/// So does each of them from an index on.
+fn learn_from<N: Naming>(
+    words: &OrderWords<N>,
+    order: &mut OrderSeat<Taken>,
+    held: &mut [HeldTable<'_, N>],
+    from: usize,
+)
+    requires { order.old.run ≡ N.run }
+    ensures order { order.new ≡ order.old }
+    ensures learnt { HaveLearntFrom from order.old.list held.old held.new }
+    ensures still { AllStill N.rows order.old.list (drop from held.old) }
+{
+    if from < held.len() {
+        learn_table(words, order, &mut held[from]);
+        learn_from(words, order, held, from + 1);
+    }
+}
+
+/// So does each of them.
+pub(crate) fn learn_tables<N: Naming>(
+    words: &OrderWords<N>,
+    order: &mut OrderSeat<Taken>,
+    held: &mut [HeldTable<'_, N>],
+)
+    requires { order.old.run ≡ N.run }
+    ensures order { order.new ≡ order.old }
+    ensures learnt { AllHaveLearnt order.old.list held.old held.new }
+    ensures still { AllStill N.rows order.old.list held.old }
+{
+    learn_from(words, order, held, 0);
+}
+
+/// Gives a command the next place, which touches the lanes that it has already, each of which is
+/// checked, and the lane of each held table that is changed; the next version takes the place of
+/// that table's. Answers all these lanes.
+fn place_tables<N: Naming>(
+    words: &OrderWords<N>,
+    order: &mut OrderSeat<Taken>,
+    held: &mut [HeldTable<'_, N>],
+    lanes: u32,
+    taken: Taken,
+) -> u32
+    requires run { order.old.run ≡ N.run }
+    requires room { length order.old.list < 2 ^ 64 - 1 }
+    requires checked { AreAmong lanes order.old.checked }
+    requires next { AllNext N.rows taken.changes held.old }
+    ensures order { order.new ≡ record order.old { list = order.old.list ++ record taken { lanes = result } ∷ []; checked = [] } }
+    ensures lanes { (lane : ℕ) → has_lane result lane ≡ (has_lane lanes lane || is_among lane (lanes_next held.old)) }
+{
+    match held.split_first_mut() {
+        None => {
+            words.orders.append(order, taken.touching(lanes));
+            lanes
+        }
+        Some((first, rest)) => match first.next.take() {
+            None => place_tables(words, order, rest, lanes, taken),
+            Some(version) => {
+                let table = &mut *first.guard;
+                words.orders.announce_next(order, &mut table.seat);
+                let more = with_lane(lanes, table.seat.lane());
+                let all = place_tables(words, order, rest, more, taken);
+                words.orders.settle(order, &mut table.seat);
+                table.version = version;
+                all
+            }
+        },
+    }
+}
+
+/// The same for a command of a party, whose lane it touches too. The party then knows the whole
+/// order.
+pub(crate) fn place_touching<N: Naming>(
+    words: &OrderWords<N>,
+    order: &mut OrderSeat<Taken>,
+    held: &mut [HeldTable<'_, N>],
+    pass: &mut PartyPass<N>,
+    lanes: u32,
+    taken: Taken,
+) -> u32
+    requires run { order.old.run ≡ N.run }
+    requires room { length order.old.list < 2 ^ 64 - 1 }
+    requires checked { AreAmong lanes order.old.checked }
+    requires next { AllNext N.rows taken.changes held.old }
+    ensures order { order.new ≡ record order.old { list = order.old.list ++ record taken { lanes = result } ∷ []; checked = [] } }
+    ensures lanes { (lane : ℕ) → has_lane result lane ≡ (has_lane lanes lane || is_among lane (party_lane pass.old.party ∷ lanes_next held.old)) }
+    ensures pass { pass.new ≡ record pass.old { list = order.new.list } }
+    ensures own { IsOwn (party_lane pass.old.party) pass.old.list order.old.list order.new.list }
+{
+    words.orders.announce_next(order, &mut pass.seat);
+    let more = with_lane(lanes, pass.party + 11);
+    let all = place_tables(words, order, held, more, taken);
+    words.orders.settle(order, &mut pass.seat);
+    all
+}
+
+/// The same for a command that stored contents, which touches the archive's lane too. The archive's
+/// lane then knows the whole order.
+pub(crate) fn place_stored_at<N: Naming>(
+    words: &OrderWords<N>,
+    order: &mut OrderSeat<Taken>,
+    held: &mut [HeldTable<'_, N>],
+    archive: &mut ArchiveLane<N>,
+    pass: &mut PartyPass<N>,
+    taken: Taken,
+) -> u32
+    requires run { order.old.run ≡ N.run }
+    requires room { length order.old.list < 2 ^ 64 - 1 }
+    requires next { AllNext N.rows taken.changes held.old }
+    ensures order { order.new ≡ record order.old { list = order.old.list ++ record taken { lanes = result } ∷ []; checked = [] } }
+    ensures lanes { (lane : ℕ) → has_lane result lane ≡ is_among lane (archive_lane ∷ party_lane pass.old.party ∷ lanes_next held.old) }
+    ensures archive { archive.new ≡ order.new.list }
+    ensures pass { pass.new ≡ record pass.old { list = order.new.list } }
+    ensures own { IsOwn (party_lane pass.old.party) pass.old.list order.old.list order.new.list }
+{
+    words.orders.announce_next(order, &mut archive.seat);
+    let lanes = with_lane(0, 11);
+    let all = place_touching(words, order, held, pass, lanes, taken);
+    words.orders.settle(order, &mut archive.seat);
+    all
+}
