@@ -4,12 +4,13 @@ use Rattle.outside_api.specs.Count.{HasRisen}
 use Rattle.outside_api.specs.Disk.{Files, LeavesOnly, NoMore}
 use Rattle.depot_model.specs.Deeds.{Deed}
 use Rattle.depot_rows.specs.Standing.{Stand}
+use Rattle.recovery.specs.Contents.{HoldWhole}
 use Rattle.recovery.specs.Holding.{Hold}
 use Rattle.table_changes.specs.Changed.{AllRows}
 use Rattle.p4_server.specs.declared.ended.Ended.{Ended}
 use Rattle.p4_server.specs.declared.ended.Cause.TheVariants as causes
 use Rattle.p4_server.specs.Dump.{IsPrinted, Dumps}
-use Rattle.p4_server.specs.Files.{IsStart, DiskRose}
+use Rattle.p4_server.specs.Files.{IsStart, DiskRose, BothSynced}
 use Rattle.p4_server.specs.Opening.{IsUnopened}
 use Rattle.p4_server.specs.Telling.{IsUnrun}
 use Rattle.p4_server.proofs.Openings.{fault_of_unopened, complete_of_unopened}
@@ -37,19 +38,22 @@ module _ {D S K : Type 0} (seen may_leave : D → Files → Type 0) (moment : D 
   complete_of_printed rows (inr (inr memory)) quiet = inr memory
 
   pub dumps_opened : (rows : AllRows) → IsUnrun ended → IsPrinted given sink_faults old_out new_out ended rows
-      → ((files : Files) → seen journal files → Hold files rows) → ((d : List Deed) → IsStart seen journal archive d → Stand rows d)
-      → NoMore (seen journal) (may_leave ended.journal) → NoMore (seen archive) (may_leave ended.archive) → LeavesOnly moment left_since journal ended.journal (may_leave journal)
+      → ((files : Files) → seen journal files → Hold files rows) → ((j a : Files) → seen journal j → seen archive a → HoldWhole j a rows) → ((d : List Deed) → IsStart seen journal archive d → Stand rows d)
+      → BothSynced seen may_leave journal ended.journal archive ended.archive → NoMore (seen journal) (may_leave ended.journal) → NoMore (seen archive) (may_leave ended.archive) → LeavesOnly moment left_since journal ended.journal (may_leave journal) → LeavesOnly moment left_since archive ended.archive (may_leave archive)
       → Dumps seen may_leave moment left_since disk_faults given sink_faults journal archive old_out new_out ended
-  dumps_opened rows unrun printed held stand journal_images archive_images any_moment = record {
+  dumps_opened rows unrun printed held whole stand synced journal_images archive_images any_moment archive_any_moment = record {
     ends = inr (record {
       unrun = unrun;
       rows = rows;
       held = held;
+      whole = whole;
       printed = printed;
       stand = stand;
+      synced = synced;
       journal_images = journal_images;
       archive_images = archive_images;
       any_moment = any_moment;
+      archive_any_moment = archive_any_moment;
     });
     fault = fault_of_printed rows printed;
     complete = λ d start quiet. complete_of_printed rows printed quiet;

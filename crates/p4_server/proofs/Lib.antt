@@ -1,9 +1,21 @@
 pub mod WordsLemmas
+pub mod WordsExamples
 pub mod Tellings
 pub mod RowsLemmas
 pub mod Openings
 pub mod Dumps
 pub mod Contents
-pub mod Alone
+pub mod Together
+pub mod Coming
+pub mod Readings
+pub mod Ending
+pub mod Ran
+pub mod FaultPlaces
 pub mod Promises
 pub mod Scheduled
+pub mod Checkpoints
+pub mod Loadings
+pub mod Mades
+pub mod Names
+pub mod Asked
+mod Inits

@@ -1,17 +1,21 @@
 -- What the faults of opening lead to.
-use Rattle.std.proofs.Common.{◌≡◌, ◌⊎◌, ℕ, List, length, Option, refl, sym, ◌∙◌, inl, inr, ⊎_elim, arith}
+use Rattle.std.proofs.Common.{◌≡◌, ◌≢◌, ◌⊎◌, ℕ, List, length, Option, refl, sym, ◌∙◌, inl, inr, ⊎_elim, arith}
 use Rattle.outside_api.specs.Disk.{Files, LeavesOnly, NoMore}
 use Rattle.depot_model.specs.Deeds.{Deed}
 use Rattle.recovery.specs.Damage.{IsDamage}
 use Rattle.recovery.specs.Faults.{SaysNothing, Tells}
 use Rattle.recovery.specs.Looking.{AreCauses}
-use Rattle.recovery.specs.Opening.{HasSynced}
+use Rattle.disk_journal.specs.Stands.{disk_of}
+use Rattle.table_changes.specs.Changed.{rows_of}
+use Rattle.recovery.specs.Contents.{HoldWhole}
+use Rattle.recovery.specs.Opening.{HasSynced, LooksOnly}
 use Rattle.recovery.specs.Standing.{StandFor}
+use Rattle.recovery.specs.declared.open.Opened.{Opened}
 use Rattle.recovery.specs.declared.fault.OpenFault.{OpenFault}
 use Rattle.recovery.specs.declared.fault.OpenFault.TheVariants.{Unmade, Damaged, DiskFault, Memory}
 use Rattle.p4_server.specs.declared.ended.Ended.{Ended}
 use Rattle.p4_server.specs.declared.ended.Cause.TheVariants as causes
-use Rattle.p4_server.specs.Files.{IsStart, DiskRose}
+use Rattle.p4_server.specs.Files.{IsStart, DiskRose, BothSynced, HasOpened}
 use Rattle.p4_server.specs.Telling.{IsToldAlone}
 use Rattle.p4_server.specs.Opening.{cause_by, IsUnmade, IsDamaged, IsUnread, IsUnopened}
 
@@ -27,9 +31,10 @@ module _ {D S K : Type 0} (seen may_leave : D → Files → Type 0) (moment : D 
       → ((j a : Files) (d : List Deed) → seen journal j → seen archive a → StandFor d j a → SaysNothing fault)
       → ((j a : Files) → seen journal j → seen archive a → Tells (IsDamage j a) fault)
       → AreCauses (disk_faults journal) (disk_faults ended.journal) (disk_faults archive) (disk_faults ended.archive) (fault ≡ DiskFault)
+      → (fault ≢ DiskFault → BothSynced seen may_leave journal ended.journal archive ended.archive)
       → Why
-  why_of Unmade is unmade exactly stands damaged causes = inl (record { cause_is = is; was_empty = λ files reads. unmade files reads refl })
-  why_of (Damaged disk file place) is unmade exactly stands damaged causes = inr (inl (record {
+  why_of Unmade is unmade exactly stands damaged causes synced = inl (record { cause_is = is; was_empty = λ files reads. unmade files reads refl; synced = synced (λ (e : Unmade ≡ DiskFault). absurd cc) })
+  why_of (Damaged disk file place) is unmade exactly stands damaged causes synced = inr (inl (record {
     disk = disk;
     file = file;
     place = place;
@@ -37,9 +42,10 @@ module _ {D S K : Type 0} (seen may_leave : D → Files → Type 0) (moment : D 
     damage = damaged;
     was_there = λ files reads empty. ⊎_elim (λ (e : Damaged disk file place ≡ Unmade). absurd cc) (λ says. says) (exactly files reads empty);
     stands_for_none = λ j a d j_reads a_reads stand. stands j a d j_reads a_reads stand;
+    synced = synced (λ (e : Damaged disk file place ≡ DiskFault). absurd cc);
   }))
-  why_of DiskFault is unmade exactly stands damaged causes = inr (inr (inl (record { cause_is = is; risen = causes.risen refl })))
-  why_of Memory is unmade exactly stands damaged causes = inr (inr (inr is))
+  why_of DiskFault is unmade exactly stands damaged causes synced = inr (inr (inl (record { cause_is = is; risen = causes.risen refl })))
+  why_of Memory is unmade exactly stands damaged causes synced = inr (inr (inr is))
 
   -- a fault comes only where a count rose
   pub fault_of_unopened : Why → ended.cause ≡ causes.Fault → DiskRose disk_faults journal ended.journal archive ended.archive
@@ -62,21 +68,35 @@ module _ {D S K : Type 0} (seen may_leave : D → Files → Type 0) (moment : D 
     (journal_is : ended.journal ≡ left_journal) (archive_is : ended.archive ≡ left_archive) where
   -- the run of files that weren't opened
   pub unopened_of : (fault : OpenFault) → IsToldAlone given sink_faults old_out new_out ended → ended.cause ≡ cause_by fault
-      → NoMore (may_leave journal) (may_leave left_journal) → NoMore (may_leave archive) (may_leave left_archive) → LeavesOnly moment left_since journal left_journal (may_leave journal)
+      → NoMore (may_leave journal) (may_leave left_journal) → NoMore (may_leave archive) (may_leave left_archive) → LeavesOnly moment left_since journal left_journal (may_leave journal) → LeavesOnly moment left_since archive left_archive (may_leave archive)
       → ((files : Files) → seen journal files → fault ≡ Unmade → length (files 0) ≡ 0)
       → ((files : Files) → seen journal files → length (files 0) ≡ 0 → (fault ≡ Unmade) ⊎ SaysNothing fault)
       → ((j a : Files) (d : List Deed) → seen journal j → seen archive a → StandFor d j a → SaysNothing fault)
       → ((j a : Files) → seen journal j → seen archive a → Tells (IsDamage j a) fault)
       → AreCauses (disk_faults journal) (disk_faults left_journal) (disk_faults archive) (disk_faults left_archive) (fault ≡ DiskFault)
+      → (fault ≢ DiskFault → HasSynced seen may_leave journal left_journal × HasSynced seen may_leave archive left_archive)
       → IsUnopened seen may_leave moment left_since disk_faults given sink_faults journal archive old_out new_out ended
-  unopened_of fault told is journal_images archive_images any_moment unmade exactly stands damaged causes = record {
+  unopened_of fault told is journal_images archive_images any_moment archive_any_moment unmade exactly stands damaged causes synced = record {
     told = told;
     journal_images = rw journal_is journal_images;
     archive_images = rw archive_is archive_images;
     any_moment = rw journal_is any_moment;
-    why = why_of seen may_leave moment left_since disk_faults given sink_faults journal archive old_out new_out ended fault is unmade exactly stands damaged (rw (journal_is, archive_is) causes);
+    archive_any_moment = rw archive_is archive_any_moment;
+    why = why_of seen may_leave moment left_since disk_faults given sink_faults journal archive old_out new_out ended fault is unmade exactly stands damaged (rw (journal_is, archive_is) causes)
+        (λ other. let both = synced other in record { journal = rw journal_is both.0; archive = rw archive_is both.1 });
   }
 
 -- a crash leaves what a disk that was only read and synced read at the start
 pub read_at_start : {D : Type 0} (seen may_leave : D → Files → Type 0) (old new : D) → HasSynced seen may_leave old new → NoMore (seen old) (may_leave new)
 read_at_start seen may_leave old new synced image left = synced.same.no_more image (synced.durable image left)
+
+-- the disk of a journal of files that are opened
+pub opened_of : {D : Type 0} (seen may_leave : D → Files → Type 0) (moment : D → ℕ) (left_since : D → ℕ → Files → Type 0) (journal archive : D) (opened : Opened D) → ((files : Files) → seen journal files → length (files 0) ≢ 0)
+    → ((j a : Files) → seen journal j → seen archive a → HoldWhole j a (rows_of opened.tables)) → LooksOnly may_leave moment left_since journal (disk_of opened.journal) → HasSynced seen may_leave journal (disk_of opened.journal)
+    → HasOpened seen may_leave moment left_since journal archive (disk_of opened.journal)
+opened_of seen may_leave moment left_since journal archive opened there whole looks synced = record {
+  was_there = there;
+  whole = λ j a j_reads a_reads. (rows_of opened.tables, whole j a j_reads a_reads);
+  looked = looks;
+  durable = read_at_start seen may_leave journal (disk_of opened.journal) synced;
+}

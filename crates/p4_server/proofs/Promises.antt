@@ -1,7 +1,9 @@
--- What the end of a party gives to the promise.
-use Rattle.std.proofs.Common.{◌≡◌, ℕ, Bool, true, false, cond, ◌||◌, List, [], ◌∷◌, ◌++◌, Option, Some, None, refl, sym, ap, ◌∙◌, arith, inl, inr, ◌⊎◌}
-use Rattle.std.specs.Prelude.{IfSome}
+-- What the ends of the parties give to the promise.
+use Rattle.std.proofs.Common.{◌≡◌, ℕ, ◌+◌, Bool, true, false, cond, ◌||◌, List, [], ◌++◌, length, Option, Some, None, refl, sym, ap, ◌∙◌, arith, inl, inr, ◌⊎◌}
+use Rattle.std.specs.Prelude.{All, slice_get}
 use Rattle.std.proofs.lemmas.List.{append-nil}
+use Rattle.std.proofs.lemmas.List.Folds.{Any-from_list_any, list_any_none}
+use Rattle.std.proofs.lemmas.Option.{slice_get_within, slice_get_read}
 use Rattle.outside_api.specs.Count.{HasRisen}
 use Rattle.outside_api.specs.Disk.{Files}
 use Rattle.outside_api.specs.Told.{extended}
@@ -10,19 +12,22 @@ use Rattle.depot_model.specs.declared.request.Session.{Session}
 use Rattle.wire_text.specs.declared.script.ScriptEnd.{ScriptEnd}
 use Rattle.wire_text.specs.declared.script.ScriptEnd.TheVariants as scripts
 use Rattle.wire_text.specs.Giving.{GotFront}
-use Rattle.session_loop.specs.Asking.{Asking, asking_of}
+use Rattle.session_loop.specs.Asking.{Asking}
 use Rattle.session_loop.specs.Reading.{IsAsked}
 use Rattle.wire_text.proofs.Pieces.{front_before}
 use Rattle.p4_server.specs.declared.ended.Ended.{Ended}
 use Rattle.p4_server.specs.declared.ended.PartyEnd.{PartyEnd}
-use Rattle.p4_server.specs.declared.ended.PartyCause.{PartyCause}
 use Rattle.p4_server.specs.declared.ended.Cause.{Cause}
 use Rattle.p4_server.specs.declared.ended.Cause.TheVariants as causes
-use Rattle.p4_server.specs.Ends.{ends_cause, is_failed, is_faulty, party_end, has_fault_place}
+use Rattle.p4_server.specs.Ends.{ends_cause, is_failed, is_faulty, party_end, has_fault_place, has_failed_party, has_faulty_party}
+use Rattle.p4_server.specs.Headline.{IsPartyEnd}
 use Rattle.p4_server.specs.Lines.{run_lines, place_lines, end_lines, fault_line}
 use Rattle.p4_server.specs.Opening.{IsUnopened}
-use Rattle.p4_server.specs.Schedule.{IsShut, IsRun, SomeRose, Schedules}
+use Rattle.p4_server.specs.Parties.{OnlyTheseCome}
+use Rattle.p4_server.specs.Schedule.{IsShut, IsRun, IsWhole, SomeRose, Schedules}
+use Rattle.p4_server.proofs.FaultPlaces.{place_rose}
 use Rattle.p4_server.proofs.Openings.{fault_of_unopened, complete_of_unopened}
+use Rattle.p4_server.proofs.Together.{all_at, all_of, any_of, there}
 use Rattle.p4_server.specs.Telling.{IsTold}
 
 -- ---- lines
@@ -51,85 +56,136 @@ told_of given sink_faults old_out new_out text cause ended is leads (inr front) 
 
 -- ---- causes
 
-abbrev one_cause : Bool → PartyCause → Cause
-one_cause fault_place end = cond (fault_place || (is_failed end || false)) causes.Fault (cond (is_faulty end || false) causes.Script causes.Done)
+-- a fault is that of a place or that of a party
+of_fault : (place failed faulty : Bool) → cond (place || failed) causes.Fault (cond faulty causes.Script causes.Done) ≡ causes.Fault → (place ≡ true) ⊎ (failed ≡ true)
+of_fault true failed faulty e = inl refl
+of_fault false true faulty e = inr refl
+of_fault false false true e = absurd cc
+of_fault false false false e = absurd cc
 
-blamed : (fault_place failed : Bool) (end : ScriptEnd) (input left : Option (List ℕ)) (before now : ℕ) (session : Option Session) → one_cause fault_place (party_end failed end) ≡ causes.Fault → IsAsked input left before now session end
-    → (fault_place ≡ true) ⊎ ((failed ≡ true) ⊎ HasRisen before now)
-blamed true failed end input left before now session e read = inl refl
-blamed false true end input left before now session e read = inr (inl refl)
-blamed false false scripts.Whole input left before now session e read = absurd cc
-blamed false false (scripts.Fault fault) input left before now session e read = absurd cc
-blamed false false scripts.ReadFault input left before now session e read = inr (inr read.0)
+-- without any of these all is done
+all_done : (place failed faulty : Bool) → place ≡ false → failed ≡ false → faulty ≡ false → cond (place || failed) causes.Fault (cond faulty causes.Script causes.Done) ≡ causes.Done
+all_done place failed faulty a b c = rw (a, b, c) refl
 
-completed : (fault_place failed : Bool) (end : ScriptEnd) (input left : Option (List ℕ)) (before now : ℕ) (session : Option Session) (bytes : List ℕ) (cause : Cause) → cause ≡ one_cause fault_place (party_end failed end) → IsAsked input left before now session end
-    → input ≡ Some bytes → (asking_of bytes).fault ≡ None → ¬ (fault_place ≡ true) → ¬ (failed ≡ true) → ¬ HasRisen before now → (cause ≡ causes.Done) ⊎ (cause ≡ causes.Memory)
-completed true failed end input left before now session bytes cause e read told whole place sink source = absurd (place refl)
-completed false true end input left before now session bytes cause e read told whole place sink source = absurd (sink refl)
-completed false false scripts.Whole input left before now session bytes cause e read told whole place sink source = inl e
-completed false false (scripts.Fault fault) input left before now session bytes cause e read told whole place sink source =
-    let says : asking_of bytes ≡ record { session = session; fault = Some fault } =
-    let h : IfSome input (λ bytes. asking_of bytes ≡ record { session = session; fault = Some fault }) = read in rw told at h in
-    let clash : None ≡ Some fault = sym whole ∙ ap (λ (s : Asking). s.fault) says in
+-- a party whose source or sink failed
+of_failed : (failed : Bool) (end : ScriptEnd) (input left : Option (List ℕ)) (before now : ℕ) (session : Option Session) → is_failed (party_end failed end) ≡ true → IsAsked input left before now session end → (failed ≡ true) ⊎ HasRisen before now
+of_failed true end input left before now session e read = inl refl
+of_failed false scripts.Whole input left before now session e read = absurd cc
+of_failed false (scripts.Fault fault) input left before now session e read = absurd cc
+of_failed false scripts.ReadFault input left before now session e read = inr read.0
+
+-- a whole script ends a party so only where its sink failed
+of_whole : (failed : Bool) (end : ScriptEnd) (input left : Option (List ℕ)) (before now : ℕ) (session : Option Session) → IsAsked input left before now session end → IsWhole input → ¬ (failed ≡ true) → ¬ HasRisen before now
+    → (is_failed (party_end failed end) ≡ false) × (is_faulty (party_end failed end) ≡ false)
+of_whole true end input left before now session read whole sink source = absurd (sink refl)
+of_whole false scripts.Whole input left before now session read whole sink source = (refl, refl)
+of_whole false scripts.ReadFault input left before now session read whole sink source = absurd (source read.0)
+of_whole false (scripts.Fault fault) None left before now session read whole sink source = absurd whole
+of_whole false (scripts.Fault fault) (Some bytes) left before now session read whole sink source =
+    let clash : None ≡ Some fault = sym whole ∙ ap (λ (s : Asking). s.fault) read in
     absurd cc
-completed false false scripts.ReadFault input left before now session bytes cause e read told whole place sink source = absurd (source read.0)
 
-module _ {D S K : Type 0} (seen may_leave : D → Files → Type 0) (moment : D → ℕ) (left_since : D → ℕ → Files → Type 0) (disk_faults : D → ℕ) (left : S → Option (List ℕ)) (source_faults : S → ℕ) (given : K → Option (List ℕ)) (sink_faults : K → ℕ) (may_give : ℕ → Type 0) (inputs outputs : List ℕ → Option (List ℕ)) (doors_before doors_now : ℕ) (journal archive : D) (old_out new_out : K) (name : List ℕ) (ended : Ended D S K) where
+not_true : (b : Bool) → ¬ (b ≡ true) → b ≡ false
+not_true true h = absurd (h refl)
+not_true false h = refl
+
+module _ {D S K H : Type 0} (seen may_leave : D → Files → Type 0) (moment : D → ℕ) (left_since : D → ℕ → Files → Type 0) (disk_faults : D → ℕ) (left : S → Option (List ℕ)) (source_faults : S → ℕ) (given : K → Option (List ℕ)) (sink_faults : K → ℕ) (may_give : ℕ → Type 0) (input output : H → List ℕ → Option (List ℕ)) (door_faults : H → ℕ) (old_doors new_doors : H) (journal archive : D) (old_out new_out : K) (seed : ℕ) (names : List (List ℕ)) (ended : Ended D S K) where
   abbrev pub Promised : Type 0
-  Promised = Schedules seen may_leave moment left_since disk_faults left source_faults given sink_faults may_give inputs outputs doors_before doors_now journal archive old_out new_out name ended
+  Promised = Schedules seen may_leave moment left_since disk_faults left source_faults given sink_faults may_give input output door_faults old_doors new_doors journal archive old_out new_out seed names ended
 
   abbrev pub Ran : Type 0
-  Ran = IsRun seen may_leave moment left_since disk_faults left source_faults given sink_faults may_give inputs outputs doors_before doors_now journal archive old_out new_out name ended
+  Ran = IsRun seen may_leave moment left_since disk_faults left source_faults given sink_faults may_give input output door_faults old_doors new_doors journal archive old_out new_out seed names ended
 
   abbrev Rose : Type 0
-  Rose = SomeRose seen may_leave moment left_since disk_faults left source_faults given sink_faults may_give inputs outputs doors_before doors_now journal archive old_out new_out name ended
+  Rose = SomeRose seen may_leave moment left_since disk_faults left source_faults given sink_faults may_give input output door_faults old_doors new_doors journal archive old_out new_out seed names ended
 
-  -- the cause of the one party's end
-  leads : (run : Ran) → ended.parties ≡ run.party ∷ [] → ended.cause ≡ ends_cause ended.order ended.parties → ended.cause ≡ one_cause (has_fault_place ended.order) (party_end run.end.failed run.end.read.end)
-  leads run are e = e ∙ (ap (λ (ps : List (PartyEnd K)). ends_cause ended.order ps) are ∙ ap (one_cause (has_fault_place ended.order)) run.end.end)
+  abbrev pub Only : Type 0
+  Only = OnlyTheseCome (input old_doors) (output old_doors) (input new_doors) (output new_doors) names
 
-  place_rose : (run : Ran) → has_fault_place ended.order ≡ true → Rose
-  place_rose run e = inr (inr (inl (run.fault_places e)))
+  disk_rose : Ran → has_fault_place ended.order ≡ true → Rose
+  disk_rose run e = inr (inr (inl (place_rose ended.order (disk_faults journal) (disk_faults ended.journal) (disk_faults archive) (disk_faults ended.archive) run.fault_places e)))
 
-  sink_rose : (run : Ran) → ended.parties ≡ run.party ∷ [] → run.end.failed ≡ true → Rose
-  sink_rose run are e = inr (inr (inr (inr (rw are (0, run.party, omega arith, refl, run.end.cause e)))))
+  sink_rose : (run : Ran) → ended.parties ≡ run.parties → (i : ℕ) (party : PartyEnd K) → slice_get run.parties i ≡ Some party → HasRisen 0 (sink_faults party.sink) → Rose
+  sink_rose run are i party at risen = inr (inr (inr (inr (rw are (any_of (λ (p : PartyEnd K). HasRisen 0 (sink_faults p.sink)) run.parties i party at risen)))))
 
-  source_rose : (run : Ran) → ended.sources ≡ run.source ∷ [] → HasRisen 0 (source_faults run.source) → Rose
-  source_rose run are risen = inr (inr (inr (inl (rw are (0, run.source, omega arith, refl, risen)))))
+  source_rose : (run : Ran) → ended.sources ≡ run.sources → (i : ℕ) (source : S) → slice_get run.sources i ≡ Some source → HasRisen 0 (source_faults source) → Rose
+  source_rose run are i source at risen = inr (inr (inr (inl (rw are (any_of (λ (x : S). HasRisen 0 (source_faults x)) run.sources i source at risen)))))
+
+  -- the party at a place, with its name and its source
+  record IsOne (run : Ran) (i : ℕ) (party : PartyEnd K) : Type 0 where
+    name : List ℕ
+    source : S
+    name_at : slice_get names i ≡ Some name
+    source_at : slice_get run.sources i ≡ Some source
+    end : IsPartyEnd left source_faults sink_faults (input old_doors name) (i + 1) source party
+
+  one_at : (run : Ran) (i : ℕ) (party : PartyEnd K) → slice_get run.parties i ≡ Some party → IsOne run i party
+  one_at run i party at =
+      let lt = slice_get_within run.parties i party at in
+      let name = there names i (omega (arith, lt, run.ends.parties_count)) in
+      let source = there run.sources i (omega (arith, lt, run.ends.parties_count, run.ends.sources_count)) in
+      record { name = name.0; source = source.0; name_at = name.1; source_at = source.1; end = run.ends.each i name.0 source.0 party name.1 source.1 at }
+
+  failed_rose : (run : Ran) → ended.parties ≡ run.parties → ended.sources ≡ run.sources → (i : ℕ) (party : PartyEnd K) → slice_get run.parties i ≡ Some party → is_failed party.end ≡ true → Rose
+  failed_rose run are sources_are i party at failed =
+      let one = one_at run i party at in
+      let end = one.end in
+      let why = of_failed end.failed end.read.end (input old_doors one.name) (left one.source) 0 (source_faults one.source) end.read.session (ap is_failed (sym end.end) ∙ failed) end.read_is in
+      elim why [ inl sink ↦ sink_rose run are i party at (end.cause sink) | inr risen ↦ source_rose run sources_are i one.source one.source_at risen ]
+
+  any_failed_rose : (run : Ran) → ended.parties ≡ run.parties → ended.sources ≡ run.sources → has_failed_party run.parties ≡ true → Rose
+  any_failed_rose run are sources_are e =
+      let some = Any-from_list_any (λ (p : PartyEnd K). is_failed p.end) run.parties e in
+      failed_rose run are sources_are some.0 some.1 (slice_get_read run.parties (length run.parties) some.0 some.1 refl some.2 (sym some.3)) some.4
+
+  -- the cause to which the places and the parties lead
+  leads : (run : Ran) → ended.parties ≡ run.parties → ended.cause ≡ ends_cause ended.order ended.parties → ended.cause ≡ ends_cause ended.order run.parties
+  leads run are e = e ∙ ap (λ (ps : List (PartyEnd K)). ends_cause ended.order ps) are
 
   fault_of : Ran → ended.cause ≡ causes.Fault → Rose
   fault_of run is = elim run.told [
     | inl told ↦ elim told.2.is [
       | inl whole ↦
-          let end = run.end in
-          let why = blamed (has_fault_place ended.order) end.failed end.read.end (inputs name) (left run.source) 0 (source_faults run.source) end.read.session (sym (leads run told.0 whole.0) ∙ is) end.read_is in
-          elim why [ inl place ↦ place_rose run place | inr other ↦ elim other [ inl failed ↦ sink_rose run told.0 failed | inr risen ↦ source_rose run told.1 risen ] ]
+          let why = of_fault (has_fault_place ended.order) (has_failed_party run.parties) (has_faulty_party run.parties) (sym (leads run told.0 whole.0) ∙ is) in
+          elim why [ inl place ↦ disk_rose run place | inr failed ↦ any_failed_rose run told.0 told.1 failed ]
       | inr front ↦ inr (inl front.1)
     ]
-    | inr memory ↦ let clash : causes.Memory ≡ causes.Fault = sym memory ∙ is in absurd cc
+    | inr untold ↦ let clash : causes.Memory ≡ causes.Fault = sym untold.cause_is ∙ is in absurd cc
   ]
 
-  complete_of : Ran → (bytes : List ℕ) → inputs name ≡ Some bytes → (asking_of bytes).fault ≡ None → ¬ Rose → (ended.cause ≡ causes.Done) ⊎ (ended.cause ≡ causes.Memory)
-  complete_of run bytes told whole none = elim run.told [
-    | inl is ↦ elim is.2.is [
+  whole_party : (run : Ran) → ended.parties ≡ run.parties → ended.sources ≡ run.sources → All (λ name. IsWhole (input old_doors name)) names → ¬ Rose → (i : ℕ) (party : PartyEnd K) → slice_get run.parties i ≡ Some party
+      → (is_failed party.end ≡ false) × (is_faulty party.end ≡ false)
+  whole_party run are sources_are whole none i party at =
+      let one = one_at run i party at in
+      let end = one.end in
+      let is = of_whole end.failed end.read.end (input old_doors one.name) (left one.source) 0 (source_faults one.source) end.read.session end.read_is
+      (all_at (λ (name : List ℕ). IsWhole (input old_doors name)) names whole i one.name one.name_at) (λ failed. none (sink_rose run are i party at (end.cause failed))) (λ risen. none (source_rose run sources_are i one.source one.source_at risen)) in
+      (ap is_failed end.end ∙ is.0, ap is_faulty end.end ∙ is.1)
+
+  complete_of : Ran → All (λ name. IsWhole (input old_doors name)) names → ¬ Rose → (ended.cause ≡ causes.Done) ⊎ (ended.cause ≡ causes.Memory)
+  complete_of run whole none = elim run.told [
+    | inl told ↦ elim told.2.is [
       | inl all ↦
-          let end = run.end in
-          completed (has_fault_place ended.order) end.failed end.read.end (inputs name) (left run.source) 0 (source_faults run.source) end.read.session bytes ended.cause (leads run is.0 all.0) end.read_is told whole
-          (λ place. none (place_rose run place)) (λ failed. none (sink_rose run is.0 failed)) (λ risen. none (source_rose run is.1 risen))
+          let each = whole_party run told.0 told.1 whole none in
+          let no_place = not_true (has_fault_place ended.order) (λ place. none (disk_rose run place)) in
+          let no_failed = list_any_none (λ (p : PartyEnd K). is_failed p.end) run.parties (all_of (λ (p : PartyEnd K). is_failed p.end ≡ false) run.parties (λ i party at. (each i party at).0)) in
+          let no_faulty = list_any_none (λ (p : PartyEnd K). is_faulty p.end) run.parties (all_of (λ (p : PartyEnd K). is_faulty p.end ≡ false) run.parties (λ i party at. (each i party at).1)) in
+          inl (leads run told.0 all.0 ∙ all_done (has_fault_place ended.order) (has_failed_party run.parties) (has_faulty_party run.parties) no_place no_failed no_faulty)
       | inr front ↦ absurd (none (inr (inl front.1)))
     ]
-    | inr memory ↦ inr memory
+    | inr untold ↦ inr untold.cause_is
   ]
 
-  pub schedules_run : Ran → Promised
-  schedules_run run = record {
+  pub schedules_run : Only → Ran → Promised
+  schedules_run only run = record {
     ends = inr (inr run);
+    doors = only;
     fault = fault_of run;
-    complete = λ d bytes start told whole none. complete_of run bytes told whole none;
+    complete = λ d start whole none. complete_of run whole none;
   }
 
   abbrev pub Shut : Type 0
-  Shut = IsShut seen may_leave moment left_since disk_faults left source_faults given sink_faults may_give inputs outputs doors_before doors_now journal archive old_out new_out name ended
+  Shut = IsShut seen may_leave moment left_since disk_faults left source_faults given sink_faults may_give input output door_faults old_doors new_doors journal archive old_out new_out seed names ended
 
   fault_of_shut : Shut → ended.cause ≡ causes.Fault → Rose
   fault_of_shut shut is = elim shut.why [
@@ -140,16 +196,18 @@ module _ {D S K : Type 0} (seen may_leave : D → Files → Type 0) (moment : D 
   complete_of_shut : Shut → ¬ Rose → (ended.cause ≡ causes.Done) ⊎ (ended.cause ≡ causes.Memory)
   complete_of_shut shut none = elim shut.why [ inl fault ↦ absurd (none (inl fault.1)) | inr memory ↦ inr memory ]
 
-  pub schedules_shut : Shut → Promised
-  schedules_shut shut = record {
+  pub schedules_shut : Only → Shut → Promised
+  schedules_shut only shut = record {
     ends = inr (inl shut);
+    doors = only;
     fault = fault_of_shut shut;
-    complete = λ d bytes start told whole none. complete_of_shut shut none;
+    complete = λ d start whole none. complete_of_shut shut none;
   }
 
-  pub schedules_unopened : IsUnopened seen may_leave moment left_since disk_faults given sink_faults journal archive old_out new_out ended → Promised
-  schedules_unopened unopened = record {
-    ends = inl unopened;
+  pub schedules_unopened : new_doors ≡ old_doors → IsUnopened seen may_leave moment left_since disk_faults given sink_faults journal archive old_out new_out ended → Promised
+  schedules_unopened stay unopened = record {
+    ends = inl (record { unopened = unopened; doors_stay = stay });
+    doors = rw stay (record { inputs = λ other apart. refl; outputs = λ other apart. refl });
     fault = λ is. inr (inr (inl (fault_of_unopened seen may_leave moment left_since disk_faults given sink_faults journal archive old_out new_out ended unopened.why is)));
-    complete = λ d bytes start told whole none. inr (complete_of_unopened seen may_leave moment left_since disk_faults given sink_faults journal archive old_out new_out ended unopened.why d start (λ rose. none (inr (inr (inl rose)))));
+    complete = λ d start whole none. inr (complete_of_unopened seen may_leave moment left_since disk_faults given sink_faults journal archive old_out new_out ended unopened.why d start (λ rose. none (inr (inr (inl rose)))));
   }

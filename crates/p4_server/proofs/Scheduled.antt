@@ -1,10 +1,8 @@
 -- A depot in files that is opened, asked and closed.
-use Rattle.std.proofs.Common.{◌≡◌, ◌≢◌, ◌≤◌, ◌+◌, ℕ, zero, suc, Bool, true, false, List, [], ◌∷◌, length, cond, Option, refl, sym, ap, subst, ◌∙◌, ◌⊎◌, inl, inr, arith}
-use Rattle.std.proofs.lemmas.List.Sums.{sum_by-cons}
+use Rattle.std.proofs.Common.{◌≡◌, ◌≤◌, ℕ, List, [], length, Option, refl, sym, subst, ◌∙◌, ◌⊎◌, inl, inr, arith}
 use Rattle.outside_api.specs.Count.{HasRisen}
 use Rattle.depot_model.specs.declared.order.Place.{Place}
-use Rattle.session_loop.specs.Served.{AreCaused, fault_count}
-use Rattle.p4_server.specs.Ends.{has_fault_place}
+use Rattle.session_loop.specs.Served.{AreCaused}
 use Rattle.archive_file.specs.Archive as archives
 use Rattle.outside_api.specs.Disk.{Files}
 use Rattle.depot_model.specs.Deeds.{Deed}
@@ -15,12 +13,12 @@ use Rattle.disk_journal.specs.Stands.{nothing, disk_of}
 use Rattle.db_records.specs.declared.table.TableId.TheVariants.{Rev}
 use Rattle.table_changes.specs.Changed.{rows_of}
 use Rattle.recovery.specs.Holding.{Hold, spots_end}
-use Rattle.recovery.specs.Opening.{IsOpen, HasSynced, LooksOnly}
+use Rattle.recovery.specs.Opening.{IsOpen, HasSynced}
+use Rattle.recovery.specs.Rules.{DeletesAreUnplaced}
 use Rattle.recovery.specs.Standing.{StandFor}
 use Rattle.recovery.specs.declared.open.Opened.{Opened}
 use Rattle.serial_depot.specs.Holding.{generation_in, AllHaveContents, KeepContents, StandsWith}
 use Rattle.serial_depot.specs.Running.{CanTake, HasRun}
-use Rattle.serial_depot.specs.Storing.{AllReach}
 use Rattle.serial_depot.specs.declared.depot.SerialDepot.{SerialDepot}
 use Rattle.serial_depot.proofs.Kept.{kept_leads, kept_now}
 use Rattle.serial_depot.proofs.Places.{kept_whole}
@@ -30,11 +28,12 @@ use Rattle.p4_server.specs.declared.ended.Cause.{Cause}
 use Rattle.p4_server.specs.declared.ended.Cause.TheVariants as causes
 use Rattle.p4_server.specs.declared.party.NotRun.{NotRun}
 use Rattle.p4_server.specs.declared.party.NotRun.TheVariants.{Doors, Memory}
-use Rattle.p4_server.specs.Files.{IsStart, PairIsKept}
-use Rattle.p4_server.specs.Headline.{IsPartyEnd, IsRunFrom}
-use Rattle.p4_server.specs.Schedule.{IsOpened, AreKept, IsRun, unrun_cause}
-use Rattle.p4_server.specs.Telling.{IsReport}
-use Rattle.p4_server.proofs.Contents.{contents_opened, pair_stands}
+use Rattle.p4_server.specs.Files.{IsStart, HasOpened, PairIsKept}
+use Rattle.p4_server.specs.Headline.{AreEnds, IsRunFrom}
+use Rattle.p4_server.specs.Schedule.{AreKept, IsRun, unrun_cause}
+use Rattle.p4_server.specs.Telling.{IsReport, IsUntold}
+use Rattle.p4_server.proofs.FaultPlaces.{caused_since}
+use Rattle.p4_server.proofs.Contents.{contents_opened, deletes_opened, pair_stands}
 use Rattle.p4_server.proofs.Openings.{read_at_start}
 
 module _ {D : Type 0} (seen may_leave : D → Files → Type 0) (moment : D → ℕ) (left_since : D → ℕ → Files → Type 0) where
@@ -53,12 +52,12 @@ module _ {D : Type 0} (seen may_leave : D → Files → Type 0) (moment : D → 
       → ((files : Files) → seen journal files → may_leave (disk_of opened.journal) files)
       → ((image : Files) → left_since (disk_of opened.journal) (moment (disk_of opened.journal)) image → may_leave (disk_of opened.journal) image)
       → (d : List Deed) → IsStart seen journal archive d → Stand (rows_of opened.tables) d → ((files : Files) × seen (archives.disk_of opened.archive) files)
-      → AllHaveContents (may_leave (archives.disk_of opened.archive)) (rows_of opened.tables) d
+      → DeletesAreUnplaced (rows_of opened.tables Rev) → AllHaveContents (may_leave (archives.disk_of opened.archive)) (rows_of opened.tables) d
       → HasRun seen may_leave moment left_since (depot_of opened) (moment (disk_of opened.journal)) d []
-  has_opened journal archive opened was is images now d start stand tells contents =
+  has_opened journal archive opened was is images now d start stand tells deletes contents =
       let generation = generation_at journal archive opened was is images d start in
       let used : archives.used_of opened.archive ≡ spots_end (rows_of opened.tables Rev) = is.used ∙ is.archive_end in
-      let kept : KeepContents (may_leave (archives.disk_of opened.archive)) (archives.used_of opened.archive) (rows_of opened.tables) d = record { ends = omega (arith, used); contents = contents } in
+      let kept : KeepContents (may_leave (archives.disk_of opened.archive)) (archives.used_of opened.archive) (rows_of opened.tables) d = record { ends = omega (arith, used); deletes = deletes; contents = contents } in
       record {
         was = was;
         doubt = nothing;
@@ -111,6 +110,7 @@ module _ {D : Type 0} (seen may_leave : D → Files → Type 0) (moment : D → 
       subst P (sym is) (has_opened journal archive opened opening.0 opening.1 (λ files read. reads (disk_of opened.journal) files (synced.same.kept files read)) (now (disk_of opened.journal)) d start
       (stands start.journal_files start.archive_files d start.journal_reads start.archive_reads start.stand)
       (start.archive_files, archive_synced.same.kept start.archive_files start.archive_reads)
+      (deletes_opened start.journal_files start.archive_files (rows_of opened.tables) d start.stand (held start.journal_files start.journal_reads))
       (λ image left. contents_opened start.journal_files start.archive_files image (rows_of opened.tables) d start.stand (held start.journal_files start.journal_reads)
       (one archive image start.archive_files (read_at_start seen may_leave archive (archives.disk_of opened.archive) archive_synced image left) start.archive_reads 0)))
 
@@ -133,38 +133,11 @@ module _ {D : Type 0} (seen may_leave : D → Files → Type 0) (moment : D → 
       let kept = ran.any_moment j j_left in
       (kept.0, kept.1, kept_leads (StandsWith images used j) (λ e. StandFor e j a) (pair_stands images used j a a_left) d places kept.0 kept.2)
 
--- ---- fault places
-
-fault_counted_here : (place : Place) (order : List Place) (b : Bool) → place.fault ≡ b → (has_fault_place order ≡ true → 1 ≤ fault_count order) → has_fault_place (place ∷ order) ≡ true → 1 ≤ fault_count (place ∷ order)
-fault_counted_here place order true is more e =
-    let P : ℕ → Type 0 = λ n. 1 ≤ n in
-    let one : 1 ≤ 1 + fault_count order = omega arith in
-    subst P (sym (sum_by-cons (λ (p : Place). cond p.fault 1 0) place order ∙ ap (λ (b : Bool). cond b 1 0 + fault_count order) is)) one
-fault_counted_here place order false is more e = rw is (more (rw is at e))
-
-fault_counted : (order : List Place) → has_fault_place order ≡ true → 1 ≤ fault_count order
-fault_counted [] e = absurd cc
-fault_counted (place ∷ order) e = fault_counted_here place order place.fault refl (fault_counted order) e
-
--- a fault place comes only where a count rose
-pub place_rose : (order : List Place) (before opened now contents_before contents_opened contents_now : ℕ) → before ≤ opened → contents_before ≤ contents_opened
-    → AreCaused opened now contents_opened contents_now [] order → has_fault_place order ≡ true → HasRisen before now ⊎ HasRisen contents_before contents_now
-place_rose order before opened now contents_before contents_opened contents_now le contents_le (zero, m, count, risen, contents_risen) e =
-    let some = fault_counted order e in inr (omega (arith, some, count, contents_le, contents_risen))
-place_rose order before opened now contents_before contents_opened contents_now le contents_le (suc n, m, count, risen, contents_risen) e = inl (omega (arith, le, risen))
-
 -- ---- the end
 
-module _ {D S K : Type 0} (seen may_leave : D → Files → Type 0) (moment : D → ℕ) (left_since : D → ℕ → Files → Type 0) (disk_faults : D → ℕ) (left : S → Option (List ℕ)) (source_faults : S → ℕ) (given : K → Option (List ℕ)) (sink_faults : K → ℕ) (may_give : ℕ → Type 0) (inputs outputs : List ℕ → Option (List ℕ)) (doors_before doors_now : ℕ) (journal archive : D) (old_out new_out : K) (name : List ℕ) (ended : Ended D S K) where
-  abbrev Opens : D → Type 0
-  Opens opened = IsOpened seen may_leave moment left_since disk_faults left source_faults given sink_faults may_give inputs outputs doors_before doors_now journal archive old_out new_out name ended opened
-
+module _ {D S K H : Type 0} (seen may_leave : D → Files → Type 0) (moment : D → ℕ) (left_since : D → ℕ → Files → Type 0) (disk_faults : D → ℕ) (left : S → Option (List ℕ)) (source_faults : S → ℕ) (given : K → Option (List ℕ)) (sink_faults : K → ℕ) (may_give : ℕ → Type 0) (input output : H → List ℕ → Option (List ℕ)) (door_faults : H → ℕ) (old_doors new_doors : H) (journal archive : D) (old_out new_out : K) (seed : ℕ) (names : List (List ℕ)) (ended : Ended D S K) where
   abbrev Kept : D → List Deed → List Placed → Type 0
-  Kept opened d places = AreKept seen may_leave moment left_since disk_faults left source_faults given sink_faults may_give inputs outputs doors_before doors_now journal archive old_out new_out name ended opened d places
-
-  -- files are opened only where the root isn't empty
-  pub is_opened : (opened : Opened D) → ((files : Files) → seen journal files → length (files 0) ≢ 0) → LooksOnly may_leave moment left_since journal (disk_of opened.journal) → HasSynced seen may_leave journal (disk_of opened.journal) → Opens (disk_of opened.journal)
-  is_opened opened there looks synced = record { was_there = there; looked = looks; durable = read_at_start seen may_leave journal (disk_of opened.journal) synced }
+  Kept opened d places = AreKept seen may_leave moment left_since disk_faults left source_faults given sink_faults may_give input output door_faults old_doors new_doors journal archive old_out new_out seed names ended opened d places
 
   -- what a depot that has run leaves, once it is closed
   pub are_kept : (depot : SerialDepot D) (opened : D) → ended.journal ≡ disk_of depot.journal → ended.archive ≡ archives.disk_of depot.archive → (d : List Deed) (places : List Placed) → HasRun seen may_leave moment left_since depot (moment opened) d places → Kept opened d places
@@ -173,31 +146,30 @@ module _ {D S K : Type 0} (seen may_leave : D → Files → Type 0) (moment : D 
     any_moment = λ j a j_left a_left. kept_since seen may_leave moment left_since depot (moment opened) d places ran j a (rw is at j_left) (rw archive_is at a_left);
   }
 
-  -- the party was run over the depot
-  pub run_of : (depot : SerialDepot D) (opened : D) (opened_faults opened_contents : ℕ) (order : List Place) (party : PartyEnd K) (source : S) → ended.journal ≡ disk_of depot.journal → ended.archive ≡ archives.disk_of depot.archive → Opens opened → ended.order ≡ order
-      → IsPartyEnd left source_faults sink_faults (inputs name) 1 source party
-      → ((d : List Deed) → IsStart seen journal archive d → IsRunFrom left source_faults given sink_faults may_give (HasRun seen may_leave moment left_since depot (moment opened)) d inputs outputs name order party source)
+  -- the parties were run over the depot
+  pub run_of : (depot : SerialDepot D) (opened : D) (opened_faults opened_contents : ℕ) (order : List Place) (parties : List (PartyEnd K)) (sources : List S) → ended.journal ≡ disk_of depot.journal → ended.archive ≡ archives.disk_of depot.archive → HasOpened seen may_leave moment left_since journal archive opened → ended.order ≡ order
+      → AreEnds left source_faults sink_faults (input old_doors) names parties sources
+      → ((d : List Deed) → IsStart seen journal archive d → IsRunFrom left source_faults given sink_faults may_give (HasRun seen may_leave moment left_since depot (moment opened)) seed d (input old_doors) (output old_doors) names order parties sources)
       → disk_faults journal ≤ opened_faults → disk_faults archive ≤ opened_contents
       → AreCaused opened_faults (disk_faults (disk_of depot.journal)) opened_contents (disk_faults (archives.disk_of depot.archive)) [] order
-      → IsReport given sink_faults old_out new_out ended order party source ⊎ (ended.cause ≡ causes.Memory)
-      → IsRun seen may_leave moment left_since disk_faults left source_faults given sink_faults may_give inputs outputs doors_before doors_now journal archive old_out new_out name ended
-  run_of depot opened opened_faults opened_contents order party source journal_is archive_is opens order_is end runs before contents_before counts told =
-      let P : List Place → Type 0 = λ o. (d : List Deed) → IsStart seen journal archive d → IsRunFrom left source_faults given sink_faults may_give (HasRun seen may_leave moment left_since depot (moment opened)) d inputs outputs name o party source in
+      → IsReport given sink_faults old_out new_out ended order parties sources ⊎ IsUntold ended
+      → IsRun seen may_leave moment left_since disk_faults left source_faults given sink_faults may_give input output door_faults old_doors new_doors journal archive old_out new_out seed names ended
+  run_of depot opened opened_faults opened_contents order parties sources journal_is archive_is opens order_is ends runs before contents_before counts told =
+      let P : List Place → Type 0 = λ o. (d : List Deed) → IsStart seen journal archive d → IsRunFrom left source_faults given sink_faults may_give (HasRun seen may_leave moment left_since depot (moment opened)) seed d (input old_doors) (output old_doors) names o parties sources in
       let all = subst P (sym order_is) runs in
       record {
-        party = party;
-        source = source;
-        end = end;
+        parties = parties;
+        sources = sources;
+        ends = ends;
         opened = opened;
         is_opened = opens;
-        run = λ d start. record { headline = (all d start).headline; kept = are_kept depot opened journal_is archive_is d _ (all d start).ran };
-        fault_places = λ e. rw (journal_is, archive_is)
-            (place_rose order (disk_faults journal) opened_faults (disk_faults (disk_of depot.journal)) (disk_faults archive) opened_contents (disk_faults (archives.disk_of depot.archive)) before contents_before counts
-            (rw order_is at e));
-        told = elim told [ inl report ↦ inl (report.parties_are, report.sources_are, report.told) | inr memory ↦ inr memory ];
+        run = λ d start. record { headline = (all d start).headline; drawn = (all d start).drawn; kept = are_kept depot opened journal_is archive_is d _ (all d start).ran };
+        fault_places = rw (journal_is, archive_is, order_is)
+            (caused_since (disk_faults journal) opened_faults (disk_faults (disk_of depot.journal)) (disk_faults archive) opened_contents (disk_faults (archives.disk_of depot.archive)) order before contents_before counts);
+        told = elim told [ inl report ↦ inl (report.parties_are, report.sources_are, report.told) | inr untold ↦ inr untold ];
       }
 
--- why a party wasn't run
+-- why the parties weren't run
 pub why_unrun : (cause : Cause) (before now : ℕ) (why : NotRun) → cause ≡ unrun_cause why → (why ≡ Doors → HasRisen before now) → ((cause ≡ causes.Fault) × HasRisen before now) ⊎ (cause ≡ causes.Memory)
 why_unrun cause before now Doors is risen = inl (is, risen refl)
 why_unrun cause before now Memory is risen = inr is

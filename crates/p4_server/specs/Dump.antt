@@ -6,12 +6,13 @@ use Rattle.outside_api.specs.Told.{extended}
 use Rattle.db_records.specs.Table.{all_tables}
 use Rattle.depot_model.specs.Deeds.{Deed}
 use Rattle.depot_rows.specs.Standing.{Stand}
+use Rattle.recovery.specs.Contents.{HoldWhole}
 use Rattle.recovery.specs.Holding.{Hold}
 use Rattle.table_changes.specs.Changed.{AllRows}
 use Rattle.wire_text.specs.Giving.{GotFront}
 use Rattle.p4_server.specs.declared.ended.Ended.{Ended}
 use Rattle.p4_server.specs.declared.ended.Cause.TheVariants as causes
-use Rattle.p4_server.specs.Files.{IsStart, DiskRose}
+use Rattle.p4_server.specs.Files.{IsStart, DiskRose, BothSynced}
 use Rattle.p4_server.specs.Opening.{IsUnopened}
 use Rattle.p4_server.specs.Rows.{tables_text}
 use Rattle.p4_server.specs.Telling.{IsUnrun}
@@ -24,16 +25,19 @@ IsPrinted given sink_faults old_out new_out ended rows =
     ⊎ (ended.cause ≡ causes.Memory))
 
 module _ {D S K : Type 0} (seen may_leave : D → Files → Type 0) (moment : D → ℕ) (left_since : D → ℕ → Files → Type 0) (disk_faults : D → ℕ) (given : K → Option (List ℕ)) (sink_faults : K → ℕ) (journal archive : D) (old_out new_out : K) (ended : Ended D S K) where
-  -- `out` got the rows that the files hold, and whatever a crash leaves is what the disks read at the start.
+  -- `out` got the rows that the files hold, which suit them and have their contents; both disks read as before, and whatever a crash leaves is what they read at the start.
   pub record IsDumped : Type 0 where
     pub unrun : IsUnrun ended
     pub rows : AllRows
     pub held : (files : Files) → seen journal files → Hold files rows
+    pub whole : (j a : Files) → seen journal j → seen archive a → HoldWhole j a rows
     pub printed : IsPrinted given sink_faults old_out new_out ended rows
     pub stand : (d : List Deed) → IsStart seen journal archive d → Stand rows d
+    pub synced : BothSynced seen may_leave journal ended.journal archive ended.archive
     pub journal_images : NoMore (seen journal) (may_leave ended.journal)
     pub archive_images : NoMore (seen archive) (may_leave ended.archive)
     pub any_moment : LeavesOnly moment left_since journal ended.journal (may_leave journal)
+    pub archive_any_moment : LeavesOnly moment left_since archive ended.archive (may_leave archive)
 
   pub record Dumps : Type 0 where
     pub ends : IsUnopened seen may_leave moment left_since disk_faults given sink_faults journal archive old_out new_out ended ⊎ IsDumped

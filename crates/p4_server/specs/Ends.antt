@@ -1,7 +1,8 @@
 -- How the ends of parties and the places of an order lead to the end of the program.
-use Rattle.std.specs.Prelude.{ℕ, Bool, true, false, List, if◌then◌else◌, ◌||◌}
+use Rattle.std.specs.Prelude.{ℕ, ◌+◌, Bool, true, false, List, [], ◌∷◌, if◌then◌else◌, ◌||◌}
 use Rattle.std.specs.List.{list_any}
 use Rattle.depot_model.specs.declared.order.Place.{Place}
+use Rattle.session_loop.specs.declared.session.SessionRun.{SessionRun}
 use Rattle.wire_text.specs.declared.script.ScriptEnd.{ScriptEnd}
 use Rattle.wire_text.specs.declared.script.ScriptEnd.TheVariants as scripts
 use Rattle.p4_server.specs.declared.ended.PartyEnd.{PartyEnd}
@@ -26,6 +27,26 @@ party_end true end = ends.WriteFault
 party_end false scripts.Whole = ends.Whole
 party_end false (scripts.Fault fault) = ends.Script fault
 party_end false scripts.ReadFault = ends.ReadFault
+
+-- the end of a party by its number: how far its session came, how its script was read, and its sink
+abbrev pub ended_party : {K : Type 0} → ℕ → SessionRun → ScriptEnd → K → PartyEnd K
+ended_party number run end sink = record { party = number; sink = sink; commands = run.commands; end = party_end run.failed end }
+
+-- the ends of parties, the first of which has this number
+abbrev pub ended_parties : {K : Type 0} → ℕ → List SessionRun → List ScriptEnd → List K → List (PartyEnd K)
+ended_parties number (run ∷ runs) (end ∷ ends) (sink ∷ sinks) = ended_party number run end sink ∷ ended_parties (number + 1) runs ends sinks
+ended_parties number _ _ _ = []
+
+-- the party's sink failed
+abbrev pub has_lost_sink : PartyCause → Bool
+has_lost_sink ends.WriteFault = true
+has_lost_sink ends.Whole = false
+has_lost_sink (ends.Script fault) = false
+has_lost_sink ends.ReadFault = false
+
+-- how far a party's session came
+abbrev pub run_of : {K : Type 0} → PartyEnd K → SessionRun
+run_of party = record { commands = party.commands; failed = has_lost_sink party.end }
 
 -- the party's source or sink failed
 abbrev pub is_failed : PartyCause → Bool

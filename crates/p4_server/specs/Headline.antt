@@ -1,5 +1,5 @@
 -- The headline: one order of the commands of all parties explains every party's output.
-use Rattle.std.specs.Prelude.{◌≡◌, ◌≤◌, ℕ, ◌+◌, Bool, true, false, List, ◌∷◌, [], length, map, slice_get, Option, Some}
+use Rattle.std.specs.Prelude.{◌≡◌, ◌≤◌, ℕ, ◌+◌, Bool, true, false, List, length, map, slice_get, Option, Some}
 use Rattle.outside_api.specs.Count.{HasRisen}
 use Rattle.depot_model.specs.Deeds.{Deed}
 use Rattle.depot_model.specs.Places.{Placed}
@@ -12,7 +12,8 @@ use Rattle.session_loop.specs.Asking.{commands_of}
 use Rattle.session_loop.specs.Reading.{IsReadSession}
 use Rattle.session_loop.specs.Served.{IsOutput}
 use Rattle.p4_server.specs.declared.ended.PartyEnd.{PartyEnd}
-use Rattle.p4_server.specs.Ends.{party_end}
+use Rattle.session_turns.specs.Drawn.{IsDrawn}
+use Rattle.p4_server.specs.Ends.{party_end, run_of}
 
 -- The end of one party, by its number from 1, whatever the depot at the start. A session was read of its source; it was served its
 -- first `commands` commands, all of them unless its sink failed.
@@ -44,7 +45,16 @@ pub record IsHeadline {S K : Type 0} (left : S → Option (List ℕ)) (source_fa
   pub each : (i : ℕ) (name : List ℕ) (session : Option Session) (source : S) (party : PartyEnd K) → slice_get names i ≡ Some name → slice_get sessions i ≡ Some session → slice_get sources i ≡ Some source → slice_get parties i ≡ Some party
       → IsPartyOf left source_faults given sink_faults start sessions order (inputs name) (outputs name) (i + 1) session source party
 
--- The headline of one party, and who took its commands has run their places.
-pub record IsRunFrom {S K : Type 0} (left : S → Option (List ℕ)) (source_faults : S → ℕ) (given : K → Option (List ℕ)) (sink_faults : K → ℕ) (may_give : ℕ → Type 0) (has_run : List Deed → List Placed → Type 0) (start : List Deed) (inputs outputs : List ℕ → Option (List ℕ)) (name : List ℕ) (order : List Place) (party : PartyEnd K) (source : S) : Type 0 where
-  pub headline : IsHeadline left source_faults given sink_faults may_give start inputs outputs (name ∷ []) order (party ∷ []) (source ∷ [])
+-- Each name has its party and its source, and each party ends as that of its name does.
+pub record AreEnds {S K : Type 0} (left : S → Option (List ℕ)) (source_faults : S → ℕ) (sink_faults : K → ℕ) (inputs : List ℕ → Option (List ℕ)) (names : List (List ℕ)) (parties : List (PartyEnd K)) (sources : List S) : Type 0 where
+  pub parties_count : length parties ≡ length names
+  pub sources_count : length sources ≡ length names
+  pub each : (i : ℕ) (name : List ℕ) (source : S) (party : PartyEnd K) → slice_get names i ≡ Some name → slice_get sources i ≡ Some source → slice_get parties i ≡ Some party
+      → IsPartyEnd left source_faults sink_faults (inputs name) (i + 1) source party
+
+-- The headline, who took the commands has run their places, and the order is that of the turns which the seed draws, where a party whose sink failed
+-- takes no further turn.
+pub record IsRunFrom {S K : Type 0} (left : S → Option (List ℕ)) (source_faults : S → ℕ) (given : K → Option (List ℕ)) (sink_faults : K → ℕ) (may_give : ℕ → Type 0) (has_run : List Deed → List Placed → Type 0) (seed : ℕ) (start : List Deed) (inputs outputs : List ℕ → Option (List ℕ)) (names : List (List ℕ)) (order : List Place) (parties : List (PartyEnd K)) (sources : List S) : Type 0 where
+  pub headline : IsHeadline left source_faults given sink_faults may_give start inputs outputs names order parties sources
   pub ran : has_run start (map (placed headline.sessions) order)
+  pub drawn : IsDrawn may_give seed headline.sessions start order (map run_of parties)

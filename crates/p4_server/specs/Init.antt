@@ -1,18 +1,32 @@
 -- What the mode `init` promises: it makes the files of an empty depot where there are none.
-use Rattle.std.specs.Prelude.{◌≡◌, ◌≢◌, ◌⊎◌, ℕ, List, [], length, Option}
-use Rattle.outside_api.specs.Disk.{Files}
+use Rattle.std.specs.Prelude.{◌≡◌, ◌≢◌, ◌⊎◌, ℕ, List, [], length, Option, Result, Ok, Err}
+use Rattle.outside_api.specs.Count.{HasRisen}
+use Rattle.outside_api.specs.Disk.{Files, After, Follows, LeavesOnly, Same}
+use Rattle.disk_journal.specs.Made.{SameOthers}
+use Rattle.recovery.specs.Making.{IsMaking}
+use Rattle.recovery.specs.Opening.{LooksOnly}
 use Rattle.recovery.specs.Standing.{StandFor}
+use Rattle.recovery.specs.declared.fault.MakeFault.{MakeFault}
+use Rattle.recovery.specs.declared.fault.MakeFault.TheVariants.{Made, DiskFault}
 use Rattle.p4_server.specs.declared.ended.Ended.{Ended}
+use Rattle.p4_server.specs.declared.ended.Cause.{Cause}
 use Rattle.p4_server.specs.declared.ended.Cause.TheVariants as causes
 use Rattle.p4_server.specs.Files.{EachPair, DiskRose, BothOnlyRead}
 use Rattle.p4_server.specs.Telling.{IsToldAlone}
 
+-- the cause of an end, by how the making ended
+abbrev pub cause_by : Result (Unit {0}) MakeFault → Cause
+cause_by (Ok done) = causes.Done
+cause_by (Err Made) = causes.Made
+cause_by (Err DiskFault) = causes.Fault
+
 module _ {D S K : Type 0} (seen may_leave : D → Files → Type 0) (moment : D → ℕ) (left_since : D → ℕ → Files → Type 0) (disk_faults : D → ℕ) (given : K → Option (List ℕ)) (sink_faults : K → ℕ) (journal archive : D) (old_out new_out : K) (ended : Ended D S K) where
-  -- The root was empty, and whatever a crash leaves stands for the empty depot.
+  -- The root was empty, and whatever a crash leaves stands for the empty depot, with the other files of the journal's disk as they were read.
   pub record IsInited : Type 0 where
     pub cause_is : ended.cause ≡ causes.Done
     pub was_empty : (files : Files) → seen journal files → length (files 0) ≡ 0
     pub empty : EachPair may_leave ended.journal ended.archive (StandFor [])
+    pub others : Follows SameOthers (seen journal) (may_leave ended.journal)
 
   -- The root wasn't empty, and nothing is touched.
   pub record IsThere : Type 0 where
@@ -25,6 +39,12 @@ module _ {D S K : Type 0} (seen may_leave : D → Files → Type 0) (moment : D 
     pub cause_is : ended.cause ≡ causes.Fault
     pub risen : DiskRose disk_faults journal ended.journal archive ended.archive
 
+  -- However it ends, at every moment the other files of the journal's disk are as they were, and so is the root until the rest is that of an empty
+  -- depot. Of the archive's disk each image, at every moment, is one that it had, and it reads as before unless its sync failed.
   pub record Inits : Type 0 where
     pub told : IsToldAlone given sink_faults old_out new_out ended
     pub ends : IsInited ⊎ (IsThere ⊎ IsFailed)
+    pub journal_images : Follows IsMaking (may_leave journal) (may_leave ended.journal)
+    pub any_moment : LeavesOnly moment left_since journal ended.journal (After IsMaking (may_leave journal))
+    pub archive_looks : LooksOnly may_leave moment left_since archive ended.archive
+    pub archive_reads : Same (seen archive) (seen ended.archive) ⊎ ((ended.cause ≡ causes.Fault) × HasRisen (disk_faults archive) (disk_faults ended.archive))

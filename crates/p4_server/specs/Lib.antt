@@ -7,6 +7,9 @@ pub mod Rows
 pub mod Init
 pub mod Opening
 pub mod Dump
+pub mod Parties
+pub mod Checkpoint
 pub mod Headline
 pub mod Schedule
+pub mod Load
 pub mod Promise

@@ -1,5 +1,5 @@
 -- The lines that tell the order and the ends.
-use Rattle.std.specs.Prelude.{ℕ, List, [], ◌++◌, codes, decimal, if◌then◌else◌}
+use Rattle.std.specs.Prelude.{ℕ, List, [], ◌++◌, Option, Some, None, codes, decimal, if◌then◌else◌}
 use Rattle.std.specs.List.{flat_map}
 use Rattle.depot_model.specs.declared.order.Place.{Place}
 use Rattle.recovery.specs.declared.fault.DepotDisk.{DepotDisk}
@@ -75,3 +75,8 @@ cause_line causes.Fault = codes "fault\n"
 cause_line causes.Done = []
 cause_line causes.Script = []
 cause_line causes.Memory = []
+
+-- `journal N` for the generation that a checkpoint began, or `limit generation 4095` where there is none behind the last one
+abbrev pub generation_line : Option ℕ → List ℕ
+generation_line (Some generation) = codes "journal " ++ (decimal generation ++ codes "\n")
+generation_line None = codes "limit generation 4095\n"

@@ -10,7 +10,7 @@ use Rattle.recovery.specs.Standing.{StandFor}
 use Rattle.p4_server.specs.declared.ended.Ended.{Ended}
 use Rattle.p4_server.specs.declared.ended.Cause.{Cause}
 use Rattle.p4_server.specs.declared.ended.Cause.TheVariants as causes
-use Rattle.p4_server.specs.Files.{DiskRose}
+use Rattle.p4_server.specs.Files.{DiskRose, BothSynced}
 use Rattle.p4_server.specs.Telling.{IsToldAlone}
 
 -- the cause of an end whose files weren't opened
@@ -21,12 +21,13 @@ cause_by DiskFault = causes.Fault
 cause_by Memory = causes.Memory
 
 module _ {D S K : Type 0} (seen may_leave : D → Files → Type 0) (moment : D → ℕ) (left_since : D → ℕ → Files → Type 0) (disk_faults : D → ℕ) (given : K → Option (List ℕ)) (sink_faults : K → ℕ) (journal archive : D) (old_out new_out : K) (ended : Ended D S K) where
-  -- the root is empty
+  -- the root is empty, and both disks read as before
   pub record IsUnmade : Type 0 where
     pub cause_is : ended.cause ≡ causes.Unmade
     pub was_empty : (files : Files) → seen journal files → length (files 0) ≡ 0
+    pub synced : BothSynced seen may_leave journal ended.journal archive ended.archive
 
-  -- the root isn't empty, the files are damaged at the place, and no depot stands in them
+  -- the root isn't empty, the files are damaged at the place, no depot stands in them, and both disks read as before
   pub record IsDamaged : Type 0 where
     pub disk : DepotDisk
     pub file : ℕ
@@ -35,6 +36,7 @@ module _ {D S K : Type 0} (seen may_leave : D → Files → Type 0) (moment : D 
     pub damage : (j a : Files) → seen journal j → seen archive a → IsDamage j a disk file place
     pub was_there : (files : Files) → seen journal files → length (files 0) ≢ 0
     pub stands_for_none : (j a : Files) (d : List Deed) → seen journal j → seen archive a → StandFor d j a → ⊥
+    pub synced : BothSynced seen may_leave journal ended.journal archive ended.archive
 
   -- a disk failed
   pub record IsUnread : Type 0 where
@@ -47,4 +49,5 @@ module _ {D S K : Type 0} (seen may_leave : D → Files → Type 0) (moment : D 
     pub journal_images : NoMore (may_leave journal) (may_leave ended.journal)
     pub archive_images : NoMore (may_leave archive) (may_leave ended.archive)
     pub any_moment : LeavesOnly moment left_since journal ended.journal (may_leave journal)
+    pub archive_any_moment : LeavesOnly moment left_since archive ended.archive (may_leave archive)
     pub why : IsUnmade ⊎ (IsDamaged ⊎ (IsUnread ⊎ (ended.cause ≡ causes.Memory)))

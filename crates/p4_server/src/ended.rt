@@ -1,11 +1,13 @@
 //! How a run of the program ends.
 
-ghost use Rattle.std.specs.Prelude.{◌≡◌};
-ghost use Rattle.p4_server.specs.Ends.{status_of, is_failed as failed_test, is_faulty as faulty_test, has_fault_place, has_failed_party, has_faulty_party, ends_cause, party_end};
+ghost use Rattle.std.specs.Prelude.{◌≡◌, ◌≤◌, ◌<◌, ◌+◌, ◌∷◌, List, drop, length, IfOk};
+ghost use Rattle.p4_server.specs.Ends.{status_of, is_failed as failed_test, is_faulty as faulty_test, has_fault_place, has_failed_party, has_faulty_party, ends_cause, party_end, ended_parties};
 
 use depot_model::Place;
 use depot_path::Sequence;
 use recovery::DepotDisk;
+use session_loop::SessionRun;
+use std::alloc::{AllocError, Global};
 use wire_text::{ScriptEnd, ScriptFault};
 
 /// How a party ends.
@@ -107,6 +109,42 @@ pub fn end_of_party(failed: bool, end: ScriptEnd) -> PartyCause
     }
 }
 
+/// The end of the party at a place of the lists, which count from 0.
+fn end_at<K>(runs: &[SessionRun], ends: &[ScriptEnd], index: usize, sink: K) -> PartyEnd<K>
+    requires runs { index < length runs.now }
+    requires ends { index < length ends.now }
+    requires few { index < 16 }
+    ensures { (rest : List K) → ended_parties (index + 1) (drop index runs.now) (drop index ends.now) (sink ∷ rest) ≡ result ∷ ended_parties (index + 1 + 1) (drop (index + 1) runs.now) (drop (index + 1) ends.now) rest }
+{
+    let run = runs[index];
+    PartyEnd {
+        party: index as u32 + 1,
+        sink,
+        commands: run.commands,
+        end: end_of_party(run.failed, ends[index]),
+    }
+}
+
+/// The ends of all parties, from party 1 on: how far each session came, how its script was read, and its sink.
+pub fn all_ends<K: Drop>(
+    alloc: Global,
+    runs: &[SessionRun],
+    ends: &[ScriptEnd],
+    sinks: Vec<K>,
+) -> Result<Sequence<PartyEnd<K>>, AllocError>
+    requires runs { length runs.now ≡ length sinks.items }
+    requires ends { length ends.now ≡ length sinks.items }
+    requires few { length sinks.items ≤ 16 }
+    ensures { IfOk result (λ parties. parties ≡ ended_parties 1 runs.now ends.now sinks.items) }
+{
+    let mut parties = Sequence::new(alloc);
+    for sink in sinks {
+        let party = end_at(runs, ends, parties.len(), sink);
+        parties.push(party)?;
+    }
+    Ok(parties)
+}
+
 fn is_failed(end: PartyCause) -> bool
     ensures { result ≡ failed_test end }
 {
@@ -125,7 +163,8 @@ fn is_faulty(end: PartyCause) -> bool
     }
 }
 
-fn any_fault(order: &[Place]) -> bool
+/// Whether a place of the order is a fault.
+pub fn any_fault(order: &[Place]) -> bool
     ensures { result ≡ has_fault_place order.now }
 {
     order.iter().any(|place| place.fault)

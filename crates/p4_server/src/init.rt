@@ -2,7 +2,7 @@
 
 ghost use Rattle.std.specs.Prelude.{◌≡◌};
 ghost use Rattle.p4_server.specs.Ends.{status_of};
-ghost use Rattle.p4_server.specs.Init.{Inits};
+ghost use Rattle.p4_server.specs.Init.{Inits, cause_by};
 
 use crate::ended::{Cause, Ended};
 use crate::telling::end_alone;
@@ -10,7 +10,18 @@ use outside_api::{Disk, Sink};
 use recovery::{MakeFault, make_files};
 use std::alloc::Global;
 
-/// Makes the files of an empty depot. Where files are there it touches nothing.
+/// The cause of an end, by how the making ended.
+fn cause_of_making(made: Result<(), MakeFault>) -> Cause
+    ensures { result ≡ cause_by made }
+{
+    match made {
+        Ok(()) => Cause::Done,
+        Err(MakeFault::Made) => Cause::Made,
+        Err(MakeFault::DiskFault) => Cause::Fault,
+    }
+}
+
+/// Makes the files of an empty depot, the root last. Where files are there it touches nothing.
 pub fn init<D: Disk, S, K: Sink>(
     alloc: Global,
     journal: D,
@@ -22,10 +33,6 @@ pub fn init<D: Disk, S, K: Sink>(
 {
     let mut journal = journal;
     let mut archive = archive;
-    let cause = match make_files(&mut journal, &mut archive) {
-        Ok(()) => Cause::Done,
-        Err(MakeFault::Made) => Cause::Made,
-        Err(MakeFault::DiskFault) => Cause::Fault,
-    };
-    end_alone(alloc, cause, out, journal, archive)
+    let made = make_files(&mut journal, &mut archive);
+    end_alone(alloc, cause_of_making(made), out, journal, archive)
 }

@@ -1,121 +1,208 @@
-//! The run of one party alone.
+//! The parties of a run: the doors of their names, their scripts, and their turns.
 
-ghost use Rattle.std.specs.Prelude.{◌≡◌, ◌≤◌, ◌∷◌, [], ℕ, List, Option, Some, Err, length, map, slice_get, true, false, IfOk};
+ghost use Rattle.std.specs.Prelude.{◌≡◌, ◌≤◌, ◌∷◌, ◌++◌, [], ℕ, List, Err, length, IfOk, OnOk};
 ghost use Rattle.outside_api.specs.Count.{HasRisen};
+ghost use Rattle.archive_file.specs.Archive.{disk_of as archive_disk_of};
+ghost use Rattle.disk_journal.specs.Stands.{disk_of};
 ghost use Rattle.depot_model.specs.Deeds.{Deed};
-ghost use Rattle.depot_runs.specs.Run.{placed};
-ghost use Rattle.depot_model.specs.declared.request.Session.{Session};
-ghost use Rattle.session_loop.specs.Asking.{AreWellFormed, commands_of};
-ghost use Rattle.session_loop.specs.Served.{AreCaused, IsServed};
+ghost use Rattle.serial_depot.specs.Running.{CanTake, HasRun};
+ghost use Rattle.session_loop.specs.Served.{AreCaused};
 ghost use Rattle.p4_server.specs.declared.party.NotRun.{NotRun};
-ghost use Rattle.p4_server.specs.Headline.{IsPartyEnd, IsRunFrom};
+ghost use Rattle.p4_server.specs.Headline.{AreEnds, IsRunFrom};
+ghost use Rattle.p4_server.specs.Parties.{AreDifferent, AreFew, AreFormed, AreRead, CanBeTold, HaveCome, OnlyTheseCome, parties_of};
+ghost use Rattle.p4_server.specs.Words.{words_of};
 
-use crate::ended::{PartyEnd, end_of_party};
 use depot_model::{Place, Session};
 use depot_path::Sequence;
-use outside_api::{Clock, Doors, Gate, Sink};
-use session_loop::{SessionRun, Taker, read_session, run_session};
-use std::alloc::Global;
+use outside_api::{Clock, Disk, Doors, Gate, Sink, Source};
+use serial_depot::SerialDepot;
+use session_loop::{ReadSession, SessionRun, read_session};
+use session_turns::run_sessions;
+use std::alloc::{AllocError, Global};
+use wire_text::ScriptEnd;
 
-/// A party that was run, with its source and the order.
-#[derive(Drop)]
-pub struct PartyRun<S, K> {
-    /// What its script was read from.
-    pub source: S,
-    /// Its end.
-    pub party: PartyEnd<K>,
-    /// The places of its commands.
-    pub order: Sequence<Place>,
-}
-
-/// Why a party wasn't run.
+/// Why no party was run.
 #[derive(Clone, Copy, PartialEq, Eq)]
 pub enum NotRun {
-    /// Its door failed.
+    /// A door failed.
     Doors,
-    /// There was no memory for its script.
+    /// There was no memory for the scripts or for the turns.
     Memory,
 }
 
-/// Runs what was read of a script, which may have no session.
-fn run_read<T: Taker, K: Sink, C: Clock, G: Gate>(
-    alloc: Global,
-    session: Option<Session>,
-    clock: &C,
-    gate: &G,
-    sink: &mut K,
-    taker: &mut T,
-    order: &mut Vec<Place>,
-) -> SessionRun
-    requires can { T.can_take taker.old }
-    requires few { length (commands_of session) ≤ 67108864 }
-    requires no_places { order.old.items ≡ [] }
-    ensures can { T.can_take taker.new }
-    ensures served { (since : ℕ) (start : List Deed) → AreWellFormed (commands_of session) → T.has_run taker.old since start [] →
-        IsServed (C.may_give clock.now) (session ∷ []) start 1 result.commands result.failed (K.given sink.old) (K.given sink.new) order.new.items }
-    ensures ran { (since : ℕ) (start : List Deed) → AreWellFormed (commands_of session) → T.has_run taker.old since start [] →
-        T.has_run taker.new since start (map (placed (session ∷ [])) order.new.items) }
-    ensures all { result.failed ≡ false → result.commands ≡ length (commands_of session) }
-    ensures within { result.commands ≤ length (commands_of session) }
-    ensures counts { K.faults sink.old ≤ K.faults sink.new }
-    ensures cause { result.failed ≡ true → HasRisen (K.faults sink.old) (K.faults sink.new) }
-    ensures faults { AreCaused (T.faults taker.old) (T.faults taker.new) (T.content_faults taker.old) (T.content_faults taker.new) [] order.new.items }
-{
-    match session {
-        Some(session) => run_session(alloc, 1, session, clock, gate, sink, taker, order),
-        None => SessionRun {
-            commands: 0,
-            failed: false,
-        },
-    }
+/// What came by the doors, in the order of the names.
+#[derive(Drop)]
+pub struct Came<S, K> {
+    /// What the scripts are read from.
+    pub sources: Vec<S>,
+    /// What the replies are given to.
+    pub sinks: Vec<K>,
 }
 
-/// Opens the door of a name, reads its script and runs it as party 1. Where it isn't run, nothing is taken.
-pub fn run_party<T: Taker, H: Doors, C: Clock, G: Gate>(
+/// Adds the source and the sink of one more name.
+fn add_pair<S: Drop, K: Drop>(came: &mut Came<S, K>, source: S, sink: K) -> Result<(), AllocError>
+    ensures sources { OnOk result (came.new.sources.items ≡ came.old.sources.items ++ source ∷ []) }
+    ensures sinks { OnOk result (came.new.sinks.items ≡ came.old.sinks.items ++ sink ∷ []) }
+{
+    came.sources.push(source)?;
+    came.sinks.push(sink)?;
+    Ok(())
+}
+
+/// Opens the door of each name, in their order.
+pub fn open_doors<H: Doors>(
     alloc: Global,
-    name: &str,
+    names: &[&str],
+    doors: &mut H,
+) -> Result<Came<H::In, H::Out>, NotRun>
+    requires different { AreDifferent (words_of names.now) }
+    ensures came { IfOk result (λ came. HaveCome H.In.left H.In.faults H.Out.given H.Out.faults (H.input doors.old) (H.output doors.old) (words_of names.now) came.sources.items came.sinks.items) }
+    ensures only { OnlyTheseCome (H.input doors.old) (H.output doors.old) (H.input doors.new) (H.output doors.new) (words_of names.now) }
+    ensures cause { result ≡ Err NotRun.Doors → HasRisen (H.faults doors.old) (H.faults doors.new) }
+{
+    let mut came = Came {
+        sources: Vec::new(alloc),
+        sinks: Vec::new(alloc),
+    };
+    for name in names {
+        let (source, sink) = match doors.come(name) {
+            Ok(pair) => pair,
+            Err(_) => return Err(NotRun::Doors),
+        };
+        match add_pair(&mut came, source, sink) {
+            Ok(()) => {}
+            Err(_) => return Err(NotRun::Memory),
+        }
+    }
+    Ok(came)
+}
+
+/// What was read of the scripts, in the order of the names.
+#[derive(Drop)]
+pub struct Scripts<S> {
+    /// The sources, as the reading left them.
+    pub sources: Vec<S>,
+    /// The session of each script that has the head of one.
+    pub sessions: Vec<Option<Session>>,
+    /// How each script ends.
+    pub ends: Vec<ScriptEnd>,
+}
+
+/// Adds what was read of one more script.
+fn add_script<S: Drop>(
+    scripts: &mut Scripts<S>,
+    source: S,
+    read: ReadSession,
+) -> Result<(), AllocError>
+    ensures sources { OnOk result (scripts.new.sources.items ≡ scripts.old.sources.items ++ source ∷ []) }
+    ensures sessions { OnOk result (scripts.new.sessions.items ≡ scripts.old.sessions.items ++ read.session ∷ []) }
+    ensures ends { OnOk result (scripts.new.ends.items ≡ scripts.old.ends.items ++ read.end ∷ []) }
+{
+    let ReadSession { session, end } = read;
+    scripts.sessions.push(session)?;
+    scripts.sources.push(source)?;
+    scripts.ends.push(end)?;
+    Ok(())
+}
+
+/// Reads one more script.
+fn read_one<S: Source + Drop>(
+    alloc: Global,
+    source: S,
+    scripts: &mut Scripts<S>,
+) -> Result<(), AllocError>
+    ensures read { OnOk result ((before : List S) → AreRead S.left S.faults before scripts.old.sources.items scripts.old.sessions.items scripts.old.ends.items →
+        AreRead S.left S.faults (before ++ source ∷ []) scripts.new.sources.items scripts.new.sessions.items scripts.new.ends.items) }
+    ensures formed { OnOk result (AreFormed scripts.old.sessions.items → AreFormed scripts.new.sessions.items) }
+    ensures few { OnOk result (AreFew scripts.old.sessions.items → AreFew scripts.new.sessions.items) }
+{
+    let mut source = source;
+    let read = read_session(alloc, &mut source)?;
+    add_script(scripts, source, read)?;
+    Ok(())
+}
+
+/// Reads the script of each source.
+pub fn read_scripts<S: Source + Drop>(
+    alloc: Global,
+    sources: Vec<S>,
+) -> Result<Scripts<S>, AllocError>
+    ensures read { IfOk result (λ scripts. AreRead S.left S.faults sources.items scripts.sources.items scripts.sessions.items scripts.ends.items) }
+    ensures formed { IfOk result (λ scripts. AreFormed scripts.sessions.items) }
+    ensures few { IfOk result (λ scripts. AreFew scripts.sessions.items) }
+{
+    let mut scripts = Scripts {
+        sources: Vec::new(alloc),
+        sessions: Vec::new(alloc),
+        ends: Vec::new(alloc),
+    };
+    for source in sources {
+        read_one(alloc, source, &mut scripts)?;
+    }
+    Ok(scripts)
+}
+
+/// Parties that were run, in the order of the names.
+#[derive(Drop)]
+pub struct PartiesRun<S, K> {
+    /// What the scripts were read from.
+    pub sources: Vec<S>,
+    /// What the parties were answered.
+    pub sinks: Vec<K>,
+    /// How far each session came.
+    pub runs: Vec<SessionRun>,
+    /// How each script ends.
+    pub ends: Vec<ScriptEnd>,
+    /// The order in which the commands were taken.
+    pub order: Sequence<Place>,
+}
+
+/// Opens the doors of the names, reads all scripts and takes their commands, by turns that the seed draws. Where the parties aren't run, nothing is taken.
+pub fn run_parties<H: Doors, D: Disk, C: Clock, G: Gate>(
+    alloc: Global,
+    seed: u32,
+    names: &[&str],
     doors: &mut H,
     clock: &C,
     gate: &G,
-    taker: &mut T,
-) -> Result<PartyRun<H::In, H::Out>, NotRun>
-    requires { T.can_take taker.old }
-    ensures can { T.can_take taker.new }
-    ensures end { IfOk result (λ run. IsPartyEnd H.In.left H.In.faults H.Out.faults (H.input doors.old name.now) 1 run.source run.party) }
-    ensures run { (since : ℕ) (start : List Deed) → T.has_run taker.old since start [] → IfOk result (λ run.
-        IsRunFrom H.In.left H.In.faults H.Out.given H.Out.faults (C.may_give clock.now) (T.has_run taker.new since) start (H.input doors.old) (H.output doors.old) name.now run.order run.party run.source) }
-    ensures faults { IfOk result (λ run. AreCaused (T.faults taker.old) (T.faults taker.new) (T.content_faults taker.old) (T.content_faults taker.new) [] run.order) }
-    ensures unrun { (why : NotRun) → result ≡ Err why → taker.new ≡ taker.old }
+    depot: &mut SerialDepot<D>,
+) -> Result<PartiesRun<H::In, H::Out>, NotRun>
+    requires can { CanTake D.may_leave depot.old }
+    requires different { AreDifferent (words_of names.now) }
+    requires few { length names.now ≤ 16 }
+    ensures told { IfOk result CanBeTold }
+    ensures ends { IfOk result (λ run. AreEnds H.In.left H.In.faults H.Out.faults (H.input doors.old) (words_of names.now) (parties_of run) run.sources.items) }
+    ensures run { (since : ℕ) (start : List Deed) → HasRun D.seen D.may_leave D.moment D.left_since depot.old since start [] → IfOk result (λ run.
+        IsRunFrom H.In.left H.In.faults H.Out.given H.Out.faults (C.may_give clock.now) (HasRun D.seen D.may_leave D.moment D.left_since depot.new since) seed start (H.input doors.old) (H.output doors.old) (words_of names.now) run.order (parties_of run) run.sources.items) }
+    ensures faults { IfOk result (λ run. AreCaused (D.faults (disk_of depot.old.journal)) (D.faults (disk_of depot.new.journal)) (D.faults (archive_disk_of depot.old.archive)) (D.faults (archive_disk_of depot.new.archive)) [] run.order) }
+    ensures unrun { (why : NotRun) → result ≡ Err why → depot.new ≡ depot.old }
+    ensures only { OnlyTheseCome (H.input doors.old) (H.output doors.old) (H.input doors.new) (H.output doors.new) (words_of names.now) }
     ensures doors { result ≡ Err NotRun.Doors → HasRisen (H.faults doors.old) (H.faults doors.new) }
 {
-    let (source, sink) = match doors.come(name) {
-        Ok(pair) => pair,
-        Err(_) => return Err(NotRun::Doors),
+    let Came { sources, sinks } = match open_doors(alloc, names, doors) {
+        Ok(came) => came,
+        Err(why) => return Err(why),
     };
-    let mut source = source;
-    let mut sink = sink;
-    let read = match read_session(alloc, &mut source) {
-        Ok(read) => read,
+    let Scripts {
+        sources,
+        sessions,
+        ends,
+    } = match read_scripts(alloc, sources) {
+        Ok(scripts) => scripts,
         Err(_) => return Err(NotRun::Memory),
     };
+    let mut sinks = sinks;
     let mut order = Vec::new(alloc);
-    let run = run_read(
-        alloc,
-        read.session,
-        clock,
-        gate,
-        &mut sink,
-        taker,
-        &mut order,
-    );
-    Ok(PartyRun {
-        source,
-        party: PartyEnd {
-            party: 1,
-            sink,
-            commands: run.commands,
-            end: end_of_party(run.failed, read.end),
-        },
-        order: Sequence::from_vec(order),
-    })
+    match run_sessions(
+        alloc, seed, sessions, clock, gate, &mut sinks, depot, &mut order,
+    ) {
+        Ok(runs) => Ok(PartiesRun {
+            sources,
+            sinks,
+            runs,
+            ends,
+            order: Sequence::from_vec(order),
+        }),
+        Err(_) => Err(NotRun::Memory),
+    }
 }

@@ -1,65 +1,60 @@
-//! The mode `schedule`: the run of one party over the files of the depot, and what is told of it.
+//! The mode `schedule`: the run of the parties over the files of the depot, and what is told of it.
 
-ghost use Rattle.std.specs.Prelude.{◌≡◌, ◌⊎◌, ◌∷◌, [], IfOk};
+ghost use Rattle.std.specs.Prelude.{◌≡◌, ◌≤◌, ◌⊎◌, length, IfOk};
 ghost use Rattle.outside_api.specs.Count.{HasRisen};
 ghost use Rattle.outside_api.specs.Told.{extended};
 ghost use Rattle.wire_text.specs.Giving.{GotFront};
-ghost use Rattle.p4_server.specs.Ends.{status_of, ends_cause};
+ghost use Rattle.p4_server.specs.Ends.{status_of, ends_cause, ended_parties};
 ghost use Rattle.p4_server.specs.Lines.{run_lines};
+ghost use Rattle.p4_server.specs.Parties.{AreDifferent, CanBeTold, parties_of};
 ghost use Rattle.p4_server.specs.Schedule.{Schedules, unrun_cause};
-ghost use Rattle.p4_server.specs.Telling.{IsUnrun, IsReport};
+ghost use Rattle.p4_server.specs.Telling.{IsReport, IsUntold};
+ghost use Rattle.p4_server.specs.Words.{words_of};
 
-use crate::ended::{Cause, Ended, PartyEnd, cause_of, status_code};
+use crate::ended::{Cause, Ended, PartyEnd, all_ends, cause_of, status_code};
 use crate::lines::lines;
 use crate::opening::end_unopened;
-use crate::party::{NotRun, PartyRun, run_party};
+use crate::party::{NotRun, PartiesRun, run_parties};
 use crate::telling::end_alone;
 use depot_model::Place;
 use depot_path::{Sequence, Text};
 use outside_api::{Clock, Disk, Doors, Gate, Sink};
 use recovery::{Opened, open_files};
 use serial_depot::{Closed, SerialDepot};
+use session_loop::SessionRun;
 use std::alloc::{AllocError, Global};
-use wire_text::give_all;
-
-fn one<T: Drop>(alloc: Global, item: T) -> Result<Sequence<T>, AllocError>
-    ensures { IfOk result (λ items. items ≡ item ∷ []) }
-{
-    let mut items = Sequence::new(alloc);
-    items.push(item)?;
-    Ok(items)
-}
+use wire_text::{ScriptEnd, give_all};
 
 /// What is told of the parties, before `out` has it.
 #[derive(Drop)]
-struct Report<S, K> {
+struct Report<K> {
     text: Text,
     cause: Cause,
     parties: Sequence<PartyEnd<K>>,
-    sources: Sequence<S>,
 }
 
-/// The report of one party, whose commands have these places.
-fn report_of<S: Drop, K: Drop>(
+/// The report of parties whose commands have these places.
+fn report_of<K: Drop>(
     alloc: Global,
     order: &[Place],
-    party: PartyEnd<K>,
-    source: S,
-) -> Result<Report<S, K>, AllocError>
+    runs: &[SessionRun],
+    ends: &[ScriptEnd],
+    sinks: Vec<K>,
+) -> Result<Report<K>, AllocError>
+    requires runs { length runs.now ≡ length sinks.items }
+    requires ends { length ends.now ≡ length sinks.items }
+    requires few { length sinks.items ≤ 16 }
     ensures text { IfOk result (λ report. report.text ≡ run_lines order.now report.parties report.cause) }
     ensures cause { IfOk result (λ report. report.cause ≡ ends_cause order.now report.parties) }
-    ensures parties { IfOk result (λ report. report.parties ≡ party ∷ []) }
-    ensures sources { IfOk result (λ report. report.sources ≡ source ∷ []) }
+    ensures parties { IfOk result (λ report. report.parties ≡ ended_parties 1 runs.now ends.now sinks.items) }
 {
-    let parties = one(alloc, party)?;
-    let sources = one(alloc, source)?;
+    let parties = all_ends(alloc, runs, ends, sinks)?;
     let cause = cause_of(order, parties.as_slice());
     let text = lines(alloc, order, parties.as_slice(), cause)?;
     Ok(Report {
         text,
         cause,
         parties,
-        sources,
     })
 }
 
@@ -73,26 +68,29 @@ fn give_lines<K: Sink>(out: &mut K, text: &[u8], cause: Cause) -> Cause
     }
 }
 
-/// Tells the end of a party. Where there is no memory to tell it, its end is lacking, and the order stays.
+/// Tells the ends of the parties. Where there is no memory to tell them, their ends are lacking, and the order stays.
 fn told<S: Drop, K: Sink + Drop, D>(
     alloc: Global,
-    run: PartyRun<S, K>,
+    run: PartiesRun<S, K>,
     out: &mut K,
     journal: D,
     archive: D,
 ) -> Ended<D, S, K>
+    requires { CanBeTold run }
     ensures order { result.order ≡ run.order }
-    ensures told { IsReport K.given K.faults out.old out.new result run.order run.party run.source ⊎ (result.cause ≡ Cause.Memory) }
+    ensures told { IsReport K.given K.faults out.old out.new result run.order (parties_of run) run.sources.items ⊎ IsUntold result }
     ensures status { result.status ≡ status_of result.cause }
     ensures journal { result.journal ≡ journal }
     ensures archive { result.archive ≡ archive }
 {
-    let PartyRun {
-        source,
-        party,
+    let PartiesRun {
+        sources,
+        sinks,
+        runs,
+        ends,
         order,
     } = run;
-    match report_of(alloc, order.as_slice(), party, source) {
+    match report_of(alloc, order.as_slice(), &runs, &ends, sinks) {
         Err(_) => Ended {
             status: status_code(Cause::Memory),
             cause: Cause::Memory,
@@ -109,7 +107,7 @@ fn told<S: Drop, K: Sink + Drop, D>(
                 cause,
                 order,
                 parties: report.parties,
-                sources: report.sources,
+                sources: Sequence::from_vec(sources),
                 journal,
                 archive,
             }
@@ -117,7 +115,7 @@ fn told<S: Drop, K: Sink + Drop, D>(
     }
 }
 
-/// The cause of an end whose party wasn't run.
+/// The cause of an end whose parties weren't run.
 fn cause_of_unrun(why: NotRun) -> Cause
     ensures { result ≡ unrun_cause why }
 {
@@ -127,10 +125,12 @@ fn cause_of_unrun(why: NotRun) -> Cause
     }
 }
 
-/// Runs the script of a name over the files of the depot, and tells its end.
+/// Runs the scripts of 1 to 16 different names over the files of the depot, by turns that the seed draws, and tells the order and the ends. Party i is the
+/// i-th name, from 1. No door is asked before the files are open.
 pub fn schedule<H: Doors, D: Disk, C: Clock, G: Gate>(
     alloc: Global,
-    name: &str,
+    seed: u32,
+    names: &[&str],
     doors: &mut H,
     journal: D,
     archive: D,
@@ -138,7 +138,9 @@ pub fn schedule<H: Doors, D: Disk, C: Clock, G: Gate>(
     clock: &C,
     gate: &G,
 ) -> Ended<D, H::In, H::Out>
-    ensures schedules { Schedules D.seen D.may_leave D.moment D.left_since D.faults H.In.left H.In.faults H.Out.given H.Out.faults (C.may_give clock.now) (H.input doors.old) (H.output doors.old) (H.faults doors.old) (H.faults doors.new) journal archive out.old out.new name.now result }
+    requires different { AreDifferent (words_of names.now) }
+    requires few { length names.now ≤ 16 }
+    ensures schedules { Schedules D.seen D.may_leave D.moment D.left_since D.faults H.In.left H.In.faults H.Out.given H.Out.faults (C.may_give clock.now) H.input H.output H.faults doors.old doors.new journal archive out.old out.new seed (words_of names.now) result }
     ensures status { result.status ≡ status_of result.cause }
 {
     let Opened {
@@ -150,7 +152,7 @@ pub fn schedule<H: Doors, D: Disk, C: Clock, G: Gate>(
         Err(found) => return end_unopened(alloc, found, out),
     };
     let mut depot = SerialDepot::new(tables, journal, archive);
-    let run = run_party(alloc, name, doors, clock, gate, &mut depot);
+    let run = run_parties(alloc, seed, names, doors, clock, gate, &mut depot);
     let Closed {
         journal,
         archive,

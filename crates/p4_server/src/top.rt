@@ -1,12 +1,14 @@
 //! The program: its words, its modes, its end.
 
-ghost use Rattle.std.specs.Prelude.{◌≡◌, Some, [], None};
+ghost use Rattle.std.specs.Prelude.{◌≡◌};
 ghost use Rattle.p4_server.specs.Promise.{KeepsPromise};
-ghost use Rattle.p4_server.specs.Words.{words_of, asked, init as to_init, dump as to_dump};
+ghost use Rattle.p4_server.specs.Words.{words_of};
 
+use crate::checkpoint::checkpoint;
 use crate::dump::dump;
 use crate::ended::{Cause, Ended};
 use crate::init::init;
+use crate::load::load;
 use crate::schedule::schedule;
 use crate::telling::end_alone;
 use crate::words::{Mode, mode_of};
@@ -27,17 +29,32 @@ pub fn p4_alone<H: Doors, D: Disk, C: Clock, G: Gate>(
     clock: &C,
     gate: &G,
 ) -> Ended<D, H::In, H::Out>
-    ensures promise { KeepsPromise D.seen D.may_leave D.moment D.left_since D.faults H.In.left H.In.faults H.Out.given H.Out.faults (C.may_give clock.now) (H.input doors.old) (H.output doors.old) (H.faults doors.old) (H.faults doors.new) (words_of words.now) journal archive out.old out.new result }
-    ensures unasked { asked (words_of words.now) ≡ None → doors.new ≡ doors.old }
-    ensures init { asked (words_of words.now) ≡ Some to_init → doors.new ≡ doors.old }
-    ensures dump { asked (words_of words.now) ≡ Some to_dump → doors.new ≡ doors.old }
+    ensures promise { KeepsPromise D.seen D.may_leave D.moment D.left_since D.faults H.In.left H.In.faults H.Out.given H.Out.faults (C.may_give clock.now) H.input H.output H.faults doors.old doors.new (words_of words.now) journal archive out.old out.new result }
 {
-    match mode_of(words) {
+    let mode = match mode_of(alloc, words) {
+        Ok(mode) => mode,
+        Err(_) => return end_alone(alloc, Cause::Memory, out, journal, archive),
+    };
+    match mode {
         None => end_alone(alloc, Cause::Usage, out, journal, archive),
         Some(Mode::Init) => init(alloc, journal, archive, out),
         Some(Mode::Dump) => dump(alloc, journal, archive, out),
-        Some(Mode::Schedule(name)) => {
-            schedule(alloc, name, doors, journal, archive, out, clock, gate)
+        Some(Mode::Checkpoint) => checkpoint(alloc, journal, archive, out, clock),
+        Some(Mode::Load { seed, count }) => {
+            load(alloc, seed, count, journal, archive, out, clock, gate)
+        }
+        Some(Mode::Schedule { seed, names }) => {
+            schedule(
+                alloc,
+                seed,
+                names.as_slice(),
+                doors,
+                journal,
+                archive,
+                out,
+                clock,
+                gate,
+            )
         }
     }
 }
@@ -54,10 +71,7 @@ pub fn p4_top<R: Threads + Wait + Sync, H: Doors, D: Disk + Send, C: Clock + Syn
     clock: &C,
     gate: &G,
 ) -> Ended<D, H::In, H::Out>
-    ensures promise { KeepsPromise D.seen D.may_leave D.moment D.left_since D.faults H.In.left H.In.faults H.Out.given H.Out.faults (C.may_give clock.now) (H.input doors.old) (H.output doors.old) (H.faults doors.old) (H.faults doors.new) (words_of words.now) journal archive out.old out.new result }
-    ensures unasked { asked (words_of words.now) ≡ None → doors.new ≡ doors.old }
-    ensures init { asked (words_of words.now) ≡ Some to_init → doors.new ≡ doors.old }
-    ensures dump { asked (words_of words.now) ≡ Some to_dump → doors.new ≡ doors.old }
+    ensures promise { KeepsPromise D.seen D.may_leave D.moment D.left_since D.faults H.In.left H.In.faults H.Out.given H.Out.faults (C.may_give clock.now) H.input H.output H.faults doors.old doors.new (words_of words.now) journal archive out.old out.new result }
 {
     p4_alone(alloc, words, doors, journal, archive, out, clock, gate)
 }

@@ -1,0 +1,182 @@
+-- No mode ends as usage; and what is promised of a mode is the promise where the words ask for it.
+use Rattle.std.proofs.Common.{◌≡◌, ◌≢◌, ℕ, Bool, true, false, cond, ◌||◌, List, Option, Some, None, refl, sym, ap, subst, ◌∙◌, inl, inr, ◌⊎◌}
+use Rattle.std.specs.Prelude.{IfSome, IfNone}
+use Rattle.std.proofs.lemmas.Bool.{true≢false}
+use Rattle.outside_api.specs.Disk.{Files}
+use Rattle.depot_model.specs.declared.order.Place.{Place}
+use Rattle.p4_server.specs.declared.ended.Ended.{Ended}
+use Rattle.p4_server.specs.declared.ended.PartyEnd.{PartyEnd}
+use Rattle.p4_server.specs.declared.ended.Cause.{Cause}
+use Rattle.p4_server.specs.declared.ended.Cause.TheVariants as causes
+use Rattle.p4_server.specs.Checkpoint.{Checkpoints, IsUntaken, IsTaken, IsInDoubt}
+use Rattle.p4_server.specs.Dump.{Dumps, IsDumped}
+use Rattle.p4_server.specs.Ends.{status_of, ends_cause, has_fault_place, has_failed_party, has_faulty_party}
+use Rattle.p4_server.specs.Init.{Inits, IsInited, IsThere, IsFailed}
+use Rattle.p4_server.specs.Opening.{IsUnopened, IsUnmade, IsDamaged, IsUnread}
+use Rattle.p4_server.specs.Promise.{IsRefused, Keeps, KeepsPromise}
+use Rattle.p4_server.specs.Schedule.{Schedules, IsClosed, IsShut, IsRun}
+use Rattle.p4_server.specs.Telling.{IsTold, IsToldAlone, IsUntold}
+use Rattle.p4_server.specs.declared.words.Mode.{Mode}
+use Rattle.p4_server.specs.Words.{HasParties, Job, asked, job_of, init, dump, checkpoint, load, schedule}
+
+abbrev is_usage : Cause → Bool
+is_usage causes.Usage = true
+is_usage causes.Done = false
+is_usage causes.Made = false
+is_usage causes.Unmade = false
+is_usage (causes.Damaged disk file place) = false
+is_usage causes.Script = false
+is_usage causes.Fault = false
+is_usage causes.Memory = false
+
+other : (cause is : Cause) → cause ≡ is → is_usage is ≡ false → cause ≢ causes.Usage
+other cause is it isnt usage = true≢false (sym (ap is_usage usage) ∙ (ap is_usage it ∙ isnt))
+
+leads : (fault faulty : Bool) → is_usage (cond fault causes.Fault (cond faulty causes.Script causes.Done)) ≡ false
+leads true faulty = refl
+leads false true = refl
+leads false false = refl
+
+leads_elsewhere : {K : Type 0} (order : List Place) (parties : List (PartyEnd K)) → is_usage (ends_cause order parties) ≡ false
+leads_elsewhere order parties = leads (has_fault_place order || has_failed_party parties) (has_faulty_party parties)
+
+module _ {D S K : Type 0} (seen may_leave : D → Files → Type 0) (moment : D → ℕ) (left_since : D → ℕ → Files → Type 0) (disk_faults : D → ℕ) (given : K → Option (List ℕ)) (sink_faults : K → ℕ) (journal archive : D) (old_out new_out : K) (ended : Ended D S K) where
+  unopened : IsUnopened seen may_leave moment left_since disk_faults given sink_faults journal archive old_out new_out ended → ended.cause ≢ causes.Usage
+  unopened u = go u.why
+    where
+      go : IsUnmade seen may_leave moment left_since disk_faults given sink_faults journal archive old_out new_out ended
+          ⊎ (IsDamaged seen may_leave moment left_since disk_faults given sink_faults journal archive old_out new_out ended
+          ⊎ (IsUnread seen may_leave moment left_since disk_faults given sink_faults journal archive old_out new_out ended ⊎ (ended.cause ≡ causes.Memory))) → ended.cause ≢ causes.Usage
+      go (inl it) = other ended.cause causes.Unmade it.cause_is refl
+      go (inr (inl it)) = other ended.cause (causes.Damaged it.disk it.file it.place) it.cause_is refl
+      go (inr (inr (inl it))) = other ended.cause causes.Fault it.cause_is refl
+      go (inr (inr (inr is))) = other ended.cause causes.Memory is refl
+
+  inits : Inits seen may_leave moment left_since disk_faults given sink_faults journal archive old_out new_out ended → ended.cause ≢ causes.Usage
+  inits it = go it.ends
+    where
+      go : IsInited seen may_leave moment left_since disk_faults given sink_faults journal archive old_out new_out ended
+          ⊎ (IsThere seen may_leave moment left_since disk_faults given sink_faults journal archive old_out new_out ended
+          ⊎ IsFailed seen may_leave moment left_since disk_faults given sink_faults journal archive old_out new_out ended) → ended.cause ≢ causes.Usage
+      go (inl is) = other ended.cause causes.Done is.cause_is refl
+      go (inr (inl is)) = other ended.cause causes.Made is.cause_is refl
+      go (inr (inr is)) = other ended.cause causes.Fault is.cause_is refl
+
+  dumps : Dumps seen may_leave moment left_since disk_faults given sink_faults journal archive old_out new_out ended → ended.cause ≢ causes.Usage
+  dumps it = go it.ends
+    where
+      printed : (is : IsDumped seen may_leave moment left_since disk_faults given sink_faults journal archive old_out new_out ended) → ended.cause ≢ causes.Usage
+      printed is = elim is.printed [
+        | inl whole ↦ other ended.cause causes.Done whole.0 refl
+        | inr (inl front) ↦ other ended.cause causes.Fault front.0 refl
+        | inr (inr memory) ↦ other ended.cause causes.Memory memory refl
+      ]
+
+      go : IsUnopened seen may_leave moment left_since disk_faults given sink_faults journal archive old_out new_out ended
+          ⊎ IsDumped seen may_leave moment left_since disk_faults given sink_faults journal archive old_out new_out ended → ended.cause ≢ causes.Usage
+      go (inl is) = unopened is
+      go (inr is) = printed is
+
+  checkpoints : (may_give : ℕ → Type 0) → Checkpoints seen may_leave moment left_since disk_faults given sink_faults may_give journal archive old_out new_out ended → ended.cause ≢ causes.Usage
+  checkpoints may_give it = go it.ends
+    where
+      taken : (is : IsTaken seen may_leave moment left_since disk_faults given sink_faults may_give journal archive old_out new_out ended) → ended.cause ≢ causes.Usage
+      taken is = elim is.line [
+        | inl whole ↦ other ended.cause causes.Done whole.0 refl
+        | inr front ↦ other ended.cause causes.Fault front.0 refl
+      ]
+
+      go : IsUnopened seen may_leave moment left_since disk_faults given sink_faults journal archive old_out new_out ended
+          ⊎ (IsUntaken seen may_leave moment left_since disk_faults given sink_faults may_give journal archive old_out new_out ended
+          ⊎ (IsTaken seen may_leave moment left_since disk_faults given sink_faults may_give journal archive old_out new_out ended
+          ⊎ IsInDoubt seen may_leave moment left_since disk_faults given sink_faults may_give journal archive old_out new_out ended)) → ended.cause ≢ causes.Usage
+      go (inl is) = unopened is
+      go (inr (inl is)) = other ended.cause causes.Memory is.cause_is refl
+      go (inr (inr (inl is))) = taken is
+      go (inr (inr (inr is))) = other ended.cause causes.Fault is.cause_is refl
+
+module _ {D S K H : Type 0} (seen may_leave : D → Files → Type 0) (moment : D → ℕ) (left_since : D → ℕ → Files → Type 0) (disk_faults : D → ℕ) (left : S → Option (List ℕ)) (source_faults : S → ℕ) (given : K → Option (List ℕ)) (sink_faults : K → ℕ) (may_give : ℕ → Type 0) (input output : H → List ℕ → Option (List ℕ)) (door_faults : H → ℕ) (old_doors new_doors : H) (journal archive : D) (old_out new_out : K) (ended : Ended D S K) where
+  schedules : (seed : ℕ) (names : List (List ℕ))
+      → Schedules seen may_leave moment left_since disk_faults left source_faults given sink_faults may_give input output door_faults old_doors new_doors journal archive old_out new_out seed names ended → ended.cause ≢ causes.Usage
+  schedules seed names it = go it.ends
+    where
+      shut : (is : IsShut seen may_leave moment left_since disk_faults left source_faults given sink_faults may_give input output door_faults old_doors new_doors journal archive old_out new_out seed names ended) → ended.cause ≢ causes.Usage
+      shut is = elim is.why [
+        | inl fault ↦ other ended.cause causes.Fault fault.0 refl
+        | inr memory ↦ other ended.cause causes.Memory memory refl
+      ]
+
+      told : IsTold given sink_faults old_out new_out ended → ended.cause ≢ causes.Usage
+      told is = elim is.is [
+        | inl whole ↦ other ended.cause (ends_cause ended.order ended.parties) whole.0 (leads_elsewhere ended.order ended.parties)
+        | inr front ↦ other ended.cause causes.Fault front.0 refl
+      ]
+
+      ran : (is : IsRun seen may_leave moment left_since disk_faults left source_faults given sink_faults may_give input output door_faults old_doors new_doors journal archive old_out new_out seed names ended) → ended.cause ≢ causes.Usage
+      ran is = elim is.told [
+        | inl parties ↦ told parties.2
+        | inr untold ↦ other ended.cause causes.Memory untold.cause_is refl
+      ]
+
+      go : IsClosed seen may_leave moment left_since disk_faults left source_faults given sink_faults may_give input output door_faults old_doors new_doors journal archive old_out new_out seed names ended
+          ⊎ (IsShut seen may_leave moment left_since disk_faults left source_faults given sink_faults may_give input output door_faults old_doors new_doors journal archive old_out new_out seed names ended
+          ⊎ IsRun seen may_leave moment left_since disk_faults left source_faults given sink_faults may_give input output door_faults old_doors new_doors journal archive old_out new_out seed names ended) → ended.cause ≢ causes.Usage
+      go (inl is) = unopened seen may_leave moment left_since disk_faults given sink_faults journal archive old_out new_out ended is.unopened
+      go (inr (inl is)) = shut is
+      go (inr (inr is)) = ran is
+
+  keeps : (job : Job) (words : List (List ℕ))
+      → Keeps seen may_leave moment left_since disk_faults left source_faults given sink_faults may_give input output door_faults old_doors new_doors words journal archive old_out new_out ended job → ended.cause ≢ causes.Usage
+  keeps init words it = inits seen may_leave moment left_since disk_faults given sink_faults journal archive old_out new_out ended it.0
+  keeps dump words it = dumps seen may_leave moment left_since disk_faults given sink_faults journal archive old_out new_out ended it.0
+  keeps checkpoint words it = checkpoints seen may_leave moment left_since disk_faults given sink_faults journal archive old_out new_out ended may_give it.0
+  keeps (load seed count) words it = it.0.no_usage
+  keeps (schedule seed names) words it = schedules seed names it
+
+  -- ---- the promise
+
+  -- where the words ask for a mode
+  pub kept : (words : List (List ℕ)) (job : Job) → asked words ≡ Some job
+      → Keeps seen may_leave moment left_since disk_faults left source_faults given sink_faults may_give input output door_faults old_doors new_doors words journal archive old_out new_out ended job
+      → ended.status ≡ status_of ended.cause
+      → KeepsPromise seen may_leave moment left_since disk_faults left source_faults given sink_faults may_give input output door_faults old_doors new_doors words journal archive old_out new_out ended
+  kept words job asks it status = record {
+    kept = inl (record { job = job; asks = asks; keeps = it });
+    usage = λ usage. absurd (keeps job words it usage);
+    status = status;
+  }
+
+  refused : (cause : Cause) → IsToldAlone given sink_faults old_out new_out ended → ended.cause ≡ cause → ended.journal ≡ journal → ended.archive ≡ archive → new_doors ≡ old_doors
+      → IsRefused given sink_faults old_doors new_doors journal archive old_out new_out ended cause
+  refused cause told is journal_is archive_is doors_stay = record { cause_is = is; told = told; journal_is = journal_is; archive_is = archive_is; doors_stay = doors_stay }
+
+  -- where they ask for none
+  pub unasked : (words : List (List ℕ)) → asked words ≡ None → IsToldAlone given sink_faults old_out new_out ended → ended.cause ≡ causes.Usage → ended.status ≡ status_of causes.Usage
+      → ended.journal ≡ journal → ended.archive ≡ archive → new_doors ≡ old_doors
+      → KeepsPromise seen may_leave moment left_since disk_faults left source_faults given sink_faults may_give input output door_faults old_doors new_doors words journal archive old_out new_out ended
+  unasked words asks told is status journal_is archive_is doors_stay = record {
+    kept = inr (inl (record { asks = asks; refused = refused causes.Usage told is journal_is archive_is doors_stay }));
+    usage = λ usage. asks;
+    status = status ∙ ap status_of (sym is);
+  }
+
+  -- where there was no memory to read them
+  pub unread : (words : List (List ℕ)) → IsToldAlone given sink_faults old_out new_out ended → ended.cause ≡ causes.Memory → ended.status ≡ status_of causes.Memory
+      → ended.journal ≡ journal → ended.archive ≡ archive → new_doors ≡ old_doors
+      → KeepsPromise seen may_leave moment left_since disk_faults left source_faults given sink_faults may_give input output door_faults old_doors new_doors words journal archive old_out new_out ended
+  unread words told is status journal_is archive_is doors_stay = record {
+    kept = inr (inr (refused causes.Memory told is journal_is archive_is doors_stay));
+    usage = λ usage. absurd (other ended.cause causes.Memory is refl usage);
+    status = status ∙ ap status_of (sym is);
+  }
+
+-- ---- what a mode that was read says of the words
+
+pub asks_for : (words : List (List ℕ)) (found : Option Mode) (mode : Mode) → found ≡ Some mode → IfSome found (λ (m : Mode). asked words ≡ Some (job_of m)) → asked words ≡ Some (job_of mode)
+asks_for words found mode is asks = let P : Option Mode → Type 0 = λ o. IfSome o (λ (m : Mode). asked words ≡ Some (job_of m)) in subst P is asks
+
+pub asks_none : (words : List (List ℕ)) (found : Option Mode) → found ≡ None → IfNone found (asked words ≡ None) → asked words ≡ None
+asks_none words found is asks = let P : Option Mode → Type 0 = λ o. IfNone o (asked words ≡ None) in subst P is asks
+
+pub has_parties : (found : Option Mode) (mode : Mode) → found ≡ Some mode → IfSome found HasParties → HasParties mode
+has_parties found mode is has = let P : Option Mode → Type 0 = λ o. IfSome o HasParties in subst P is has

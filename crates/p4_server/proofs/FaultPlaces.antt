@@ -1,0 +1,30 @@
+-- Fault places and the counts of the two disks.
+use Rattle.std.proofs.Common.{◌≡◌, ◌≤◌, ◌+◌, ℕ, zero, suc, Bool, true, false, List, [], ◌∷◌, cond, refl, sym, ap, subst, ◌∙◌, ◌⊎◌, inl, inr, arith}
+use Rattle.std.proofs.lemmas.List.Sums.{sum_by-cons}
+use Rattle.outside_api.specs.Count.{HasRisen}
+use Rattle.depot_model.specs.declared.order.Place.{Place}
+use Rattle.session_loop.specs.Served.{AreCaused, fault_count}
+use Rattle.p4_server.specs.Ends.{has_fault_place}
+
+fault_counted_here : (place : Place) (order : List Place) (b : Bool) → place.fault ≡ b → (has_fault_place order ≡ true → 1 ≤ fault_count order) → has_fault_place (place ∷ order) ≡ true → 1 ≤ fault_count (place ∷ order)
+fault_counted_here place order true is more e =
+    let P : ℕ → Type 0 = λ n. 1 ≤ n in
+    let one : 1 ≤ 1 + fault_count order = omega arith in
+    subst P (sym (sum_by-cons (λ (p : Place). cond p.fault 1 0) place order ∙ ap (λ (b : Bool). cond b 1 0 + fault_count order) is)) one
+fault_counted_here place order false is more e = rw is (more (rw is at e))
+
+fault_counted : (order : List Place) → has_fault_place order ≡ true → 1 ≤ fault_count order
+fault_counted [] e = absurd cc
+fault_counted (place ∷ order) e = fault_counted_here place order place.fault refl (fault_counted order) e
+
+-- a fault place comes only where a count rose
+pub place_rose : (order : List Place) (before now contents_before contents_now : ℕ) → AreCaused before now contents_before contents_now [] order → has_fault_place order ≡ true → HasRisen before now ⊎ HasRisen contents_before contents_now
+place_rose order before now contents_before contents_now (zero, m, count, risen, contents_risen) e =
+    let some = fault_counted order e in inr (omega (arith, some, count, contents_risen))
+place_rose order before now contents_before contents_now (suc n, m, count, risen, contents_risen) e = inl (omega (arith, risen))
+
+-- fault places that came since the counts had risen already
+pub caused_since : (before opened now contents_before contents_opened contents_now : ℕ) (order : List Place) → before ≤ opened → contents_before ≤ contents_opened
+    → AreCaused opened now contents_opened contents_now [] order → AreCaused before now contents_before contents_now [] order
+caused_since before opened now contents_before contents_opened contents_now order le contents_le (n, m, count, risen, contents_risen) =
+    (n, m, count, omega (arith, le, risen), omega (arith, contents_le, contents_risen))
