@@ -33,7 +33,6 @@ impl<D: Disk> Journal<D> {
         at: u64,
         buffer: &mut [u8],
     ) -> Result<Fetched, DiskFault>
-        requires stands { (was : Committed) × ((doubt : Doubtful) × Stands D.may_leave self.old was doubt) }
         requires room { 0 < length buffer.old }
 
         ensures text { (was : Committed) (doubt : Doubtful) (files : Files) → Stands D.may_leave self.old was doubt → D.seen (disk_of self.old) files → generation ≡ was.generation →
