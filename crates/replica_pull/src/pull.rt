@@ -140,6 +140,20 @@ impl Replica {
         (self.generation, self.changes)
     }
 
+    /// Where the next piece stands in the master's journal: its generation, and its place in the generation's text, in bytes from 0.
+    pub fn awaits(&self) -> (u32, u64)
+        ensures { result ≡ (self.now.generation, self.now.at) }
+    {
+        (self.generation, self.at)
+    }
+
+    /// The rows, cut to the filter.
+    pub fn tables(&self) -> &Tables
+        ensures { result.now ≡ self.now.tables }
+    {
+        &self.tables
+    }
+
     /// Takes what is whole of the rest and a piece behind it.
     fn feed(&self, alloc: Global, piece: &[u8]) -> Result<Fed, PullFault>
         requires { length piece.now ≤ 65536 }
@@ -198,8 +212,14 @@ impl Replica {
         Ok(())
     }
 
-    /// Does what is fetched, at the front of a buffer.
-    fn follow(&mut self, alloc: Global, fetched: Fetched, buffer: &[u8]) -> Result<Moved, PullFault>
+    /// Does what was fetched where it awaits its next piece, at the front of a buffer: the changes of the groups that are whole now are made, cut to the
+    /// filter, and a rest is kept; or the next generation begins. After an error the replica is as it was.
+    pub fn follow(
+        &mut self,
+        alloc: Global,
+        fetched: Fetched,
+        buffer: &[u8],
+    ) -> Result<Moved, PullFault>
         requires fits { Fits fetched (length buffer.now) }
         requires piece { length buffer.now ≤ 65536 }
         ensures moved { IfOk result (HasMoved self.old self.new fetched buffer.now) }
