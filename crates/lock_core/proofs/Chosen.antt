@@ -1,26 +1,27 @@
--- The parties that may go on are those of the machine whose next event is enabled, and one of them is chosen.
-use Rattle.std.proofs.Common.{◌≡◌, ◌<◌, ◌^◌, ℕ, List, [], ◌∷◌, length, None, refl, ap, ◌∙◌, arith}
-use Rattle.std.specs.Prelude.{◌%◌, filter, slice_get}
+-- The parties that may go on are those that may in the machine or outside of it, and one of them is chosen.
+use Rattle.std.proofs.Common.{◌≡◌, ◌<◌, ◌^◌, ℕ, Bool, List, [], ◌∷◌, length, None, refl, ap, ◌∙◌, arith}
+use Rattle.std.specs.Prelude.{◌%◌, ◌||◌, filter, slice_get}
 use Rattle.std.specs.List.{range_with_len}
 use Rattle.std.proofs.Math.Path.{fun_ext}
 use Rattle.depot_model.specs.Deeds.{Deed}
-use Rattle.lock_machine.specs.Draws.{chosen, enabled_parties}
-use Rattle.lock_machine.specs.Machine.{State, is_enabled}
+use Rattle.lock_machine.specs.Draws.{chosen}
+use Rattle.lock_machine.specs.Machine.{State}
 use Rattle.lock_core.specs.Core.{Shows, may_wait, wait_at}
-use Rattle.lock_core.specs.Drawing.{may_go_below}
+use Rattle.lock_core.specs.Drawing.{going_parties, has_other, may_go_below, may_go_on}
 use Rattle.lock_core.specs.declared.machine.LockCore.{LockCore}
 use Rattle.lock_core.proofs.Counterparts.{enabled_same, same_length}
 
-pub enabled_are : (start : List Deed) (core : LockCore) (s : State) → Shows start core s → may_go_below core.parties.items (length core.parties.items) ≡ enabled_parties s
-enabled_are start core s shows =
-    let tests : (λ (i : ℕ). may_wait core.parties.items (wait_at core.parties.items i)) ≡ (λ (i : ℕ). is_enabled s i) = fun_ext (λ i. enabled_same start core s i shows) in
+pub going_are : (start : List Deed) (core : LockCore) (s : State) (others : List ℕ) → Shows start core s → may_go_below core.parties.items others (length core.parties.items) ≡ going_parties s others
+going_are start core s others shows =
+    let tests : (λ (i : ℕ). may_wait core.parties.items (wait_at core.parties.items i) || has_other others i) ≡ (λ (i : ℕ). may_go_on s others i) =
+    fun_ext (λ i. ap (λ (b : Bool). b || has_other others i) (enabled_same start core s i shows)) in
     λ k. filter (tests k) (range_with_len 0 (same_length s.order core.parties.items s.parties shows.parties k))
 
-pub all_enabled : (start : List Deed) (core : LockCore) (s : State) → Shows start core s → length s.parties < 2 ^ 32 → (end : ℕ)
-    → (length core.parties.items < 2 ^ 32 → end ≡ length core.parties.items) → may_go_below core.parties.items end ≡ enabled_parties s
-all_enabled start core s shows few end end_is =
+pub all_going : (start : List Deed) (core : LockCore) (s : State) (others : List ℕ) → Shows start core s → length s.parties < 2 ^ 32 → (end : ℕ)
+    → (length core.parties.items < 2 ^ 32 → end ≡ length core.parties.items) → may_go_below core.parties.items others end ≡ going_parties s others
+all_going start core s others shows few end end_is =
     let same = same_length s.order core.parties.items s.parties shows.parties in
-    ap (may_go_below core.parties.items) (end_is (let below : length core.parties.items < 2 ^ 32 = omega (arith, same, few) in below)) ∙ enabled_are start core s shows
+    ap (may_go_below core.parties.items others) (end_is (let below : length core.parties.items < 2 ^ 32 = omega (arith, same, few) in below)) ∙ going_are start core s others shows
 
 pub none_chosen : (xs : List ℕ) (value : ℕ) → length xs ≡ 0 → chosen xs value ≡ None
 none_chosen [] value none = refl

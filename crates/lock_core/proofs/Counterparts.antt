@@ -11,11 +11,11 @@ use Rattle.lock_core.specs.Core.{wait_in, wait_at, may_wait, is_waiting, is_work
 use Rattle.lock_machine.specs.Machine.{journal, Seen, Commit, State, owns_seen, has_judged, owns_at, owns_by, owns, next_lock, may_work, may_go, may_party, is_enabled, is_unfinished}
 use Rattle.lock_machine.specs.Machine as model
 use Rattle.lock_core.specs.Parties.{IsShownBy, IsShownAs, IsShown, holds, holds_by, waits_by, wait_of}
-use Rattle.lock_core.specs.Sets.{need_of}
+use Rattle.command_needs.specs.Sets.{need_of}
 use Rattle.lock_core.specs.Works.{IsWorkShown, holds_need, holds_lock, waits_for, waits_at, first_lock, rest_of}
 use Rattle.lock_core.specs.declared.machine.LockCore.{LockCore}
 use Rattle.lock_core.specs.declared.party.Party.{Party}
-use Rattle.lock_core.specs.declared.sets.Need.{Need}
+use Rattle.command_needs.specs.declared.sets.Need.{Need}
 use Rattle.lock_machine.specs.declared.stage.Stage.{Stage}
 use Rattle.lock_machine.specs.declared.stage.Stage.TheVariants.{Gathering, Judged, Committed}
 use Rattle.lock_core.specs.declared.work.Work.{Work}

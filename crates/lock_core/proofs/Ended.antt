@@ -31,7 +31,7 @@ use Rattle.lock_core.specs.declared.machine.LockCore.{LockCore}
 use Rattle.lock_core.specs.declared.party.Party.{Party}
 use Rattle.lock_core.specs.declared.turn.Finish as code_finish
 use Rattle.lock_core.specs.declared.turn.Finish.TheVariants as code
-use Rattle.lock_core.specs.declared.sets.Need.{Need}
+use Rattle.command_needs.specs.declared.sets.Need.{Need}
 use Rattle.lock_core.specs.declared.work.Room.{Room}
 use Rattle.lock_core.specs.declared.work.Work.{Work}
 use Rattle.lock_core.proofs.Counterparts.{shown_of, set_shown}

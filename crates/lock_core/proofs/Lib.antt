@@ -1,5 +1,3 @@
-pub mod Ranges
-pub mod Needs
 pub mod Working
 pub mod Turning
 pub mod Counterparts

@@ -14,10 +14,10 @@ use Rattle.lock_machine.proofs.Orderly.{changes_lock}
 use Rattle.lock_core.specs.Core.{AreShown}
 use Rattle.lock_core.specs.Finished.{marked_party, marked_parties}
 use Rattle.lock_core.specs.Parties.{IsShownBy, IsShown}
-use Rattle.lock_core.specs.Sets.{need_of}
+use Rattle.command_needs.specs.Sets.{need_of}
 use Rattle.lock_core.specs.Works.{IsWorkShown, looked_at, looked_at_need, marked}
 use Rattle.lock_core.specs.declared.party.Party.{Party}
-use Rattle.lock_core.specs.declared.sets.Need.{Need}
+use Rattle.command_needs.specs.declared.sets.Need.{Need}
 use Rattle.lock_core.specs.declared.work.Work.{Work}
 
 -- ---- what one more place touches

@@ -12,7 +12,7 @@ use Rattle.lock_core.specs.Core.{AllProper, AllProperIn, all_items}
 use Rattle.lock_core.specs.Parties.{IsFresh, AllFresh, AllTypedIn, AreTyped, IsShownBy, IsShownAs}
 use Rattle.sound_requests.specs.Asked.{is_typed}
 use Rattle.lock_machine.specs.Runs.{AllServed, AllServedIn}
-use Rattle.lock_core.specs.Sets.{need_of}
+use Rattle.command_needs.specs.Sets.{need_of}
 use Rattle.lock_core.specs.Works.{IsWorkShown, gathered}
 use Rattle.lock_machine.specs.declared.stage.Stage.{Stage}
 use Rattle.lock_machine.specs.declared.stage.Stage.TheVariants.{Gathering, Committed}

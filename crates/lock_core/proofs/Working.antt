@@ -13,9 +13,9 @@ use Rattle.lock_machine.specs.Machine as model
 use Rattle.lock_machine.specs.declared.stage.Stage.TheVariants.{Gathering, Judged}
 use Rattle.lock_machine.proofs.Orderly.{changes_lock}
 use Rattle.lock_machine.proofs.Places.{some_is}
-use Rattle.lock_core.specs.Sets.{need_of}
+use Rattle.command_needs.specs.Sets.{need_of}
 use Rattle.lock_core.specs.Works.{IsWorkShown, gathered}
-use Rattle.lock_core.specs.declared.sets.Need.{Need}
+use Rattle.command_needs.specs.declared.sets.Need.{Need}
 use Rattle.lock_core.specs.declared.work.Work.{Work}
 
 -- ---- the place of a set at which it is

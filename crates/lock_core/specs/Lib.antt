@@ -1,4 +1,3 @@
-pub mod Sets
 pub mod Works
 pub mod Parties
 pub mod Core

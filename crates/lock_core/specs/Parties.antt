@@ -12,7 +12,7 @@ use Rattle.lock_machine.specs.Machine.{Commit, moved}
 use Rattle.lock_machine.specs.Machine as model
 use Rattle.lock_machine.specs.declared.stage.Stage.{Stage}
 use Rattle.lock_machine.specs.declared.stage.Stage.TheVariants.{Gathering, Judged}
-use Rattle.lock_core.specs.Sets.{need_of}
+use Rattle.command_needs.specs.Sets.{need_of}
 use Rattle.lock_core.specs.Works.{IsRoomOf, IsWorkShown, holds_lock, waits_for}
 use Rattle.lock_core.specs.declared.party.Party.{Party}
 use Rattle.lock_core.specs.declared.party.Wait.{Wait}

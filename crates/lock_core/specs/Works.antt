@@ -10,8 +10,8 @@ use Rattle.lock_machine.specs.Machine.{journal, Seen, Commit, has_judged, is_sta
 use Rattle.lock_machine.specs.Machine as model
 use Rattle.lock_machine.specs.declared.stage.Stage.{Stage}
 use Rattle.lock_machine.specs.declared.stage.Stage.TheVariants.{Gathering, Judged, Committed}
-use Rattle.lock_core.specs.Sets.{need_of}
-use Rattle.lock_core.specs.declared.sets.Need.{Need}
+use Rattle.command_needs.specs.Sets.{need_of}
+use Rattle.command_needs.specs.declared.sets.Need.{Need}
 use Rattle.lock_core.specs.declared.work.Room.{Room}
 use Rattle.lock_core.specs.declared.work.Work.{Work}
 

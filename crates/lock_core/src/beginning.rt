@@ -12,8 +12,8 @@ ghost use Rattle.lock_core.specs.Parties.{AreTyped, IsFresh, IsShown};
 
 use crate::machine::LockCore;
 use crate::party::Party;
-use crate::sets::request_needs;
 use crate::work::Work;
+use command_needs::request_needs;
 use depot_model::Request;
 use lock_machine::Stage;
 use sound_requests::requests_are_typed;

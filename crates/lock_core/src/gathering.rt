@@ -5,8 +5,8 @@ ghost use Rattle.std.specs.List.{list_any};
 ghost use Rattle.lock_machine.specs.Machine.{has_judged};
 ghost use Rattle.lock_core.specs.Works.{gathered, holds_lock, holds_need, looked_at, marked, waits_for};
 
-use crate::sets::is_among;
 use crate::work::Work;
+use command_needs::is_among;
 use lock_machine::Stage;
 
 /// The number of the journal's lock.

@@ -14,7 +14,6 @@ mod gathering;
 mod machine;
 mod party;
 mod preparing;
-mod sets;
 mod sharing;
 mod stopping;
 mod turn;

@@ -9,9 +9,9 @@ ghost use Rattle.command_core.specs.Outcomes.{HasNeeded, IsFormedBy, IsOutcome};
 ghost use Rattle.lock_core.specs.Works.{IsRoomOf, is_changed};
 ghost use Rattle.lock_core.specs.declared.work.Room.{Room as AnyRoom};
 
-use crate::sets::is_among;
 use crate::work::{Room, Work};
 use command_core::{Outcome, evaluate};
+use command_needs::is_among;
 use db_records::Change;
 use std::alloc::{AllocError, Global};
 use table_changes::change_tables;

@@ -1,6 +1,6 @@
 //! The command that a party has at hand.
 
-use crate::sets::Need;
+use command_needs::Need;
 use depot_model::Request;
 use lock_machine::Stage;
 use table_store::Tables;

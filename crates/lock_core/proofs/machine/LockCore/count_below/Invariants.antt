@@ -5,6 +5,6 @@ use Rattle.lock_core.proofs.machine.LockCore.count_below.Given as goal
 -- those so far are counted
 abbrev pub invariant-loop-party : goal.invariant-loop-party
 invariant-loop-party l = record {
-  counted : l.count ≡ length (may_go_below l.self.parties.items l.party);
+  counted : l.count ≡ length (may_go_below l.self.parties.items l.others l.party);
   few : l.count ≤ l.party;
 }

@@ -5,6 +5,6 @@ use Rattle.lock_core.proofs.machine.LockCore.nth_below.Given as goal
 -- those so far are passed, and they are no more than the place
 abbrev pub invariant-loop-party : goal.invariant-loop-party
 invariant-loop-party l = record {
-  counted : l.passed ≡ length (may_go_below l.self.parties.items l.party);
+  counted : l.passed ≡ length (may_go_below l.self.parties.items l.others l.party);
   before : l.passed ≤ l.place;
 }

@@ -2,7 +2,7 @@
 
 ghost use Rattle.std.specs.Prelude.{◌≡◌, ◌∷◌, IfOk, map};
 ghost use Rattle.depot_model.specs.Tables.{own_tables, is_in, needs_of};
-ghost use Rattle.lock_core.specs.Sets.{need_of, set_of};
+ghost use Rattle.command_needs.specs.Sets.{need_of, set_of};
 
 use depot_model::{Command, Request};
 use std::alloc::{AllocError, Global};
@@ -73,7 +73,7 @@ fn tables_of(command: &Command) -> (&'static [u32], &'static [u32])
 }
 
 /// Whether a number is among these.
-pub(crate) fn is_among(numbers: &[u32], number: u32) -> bool
+pub fn is_among(numbers: &[u32], number: u32) -> bool
     ensures { result ≡ is_in numbers.now number }
 {
     numbers.iter().any(|other| *other == number)
@@ -95,7 +95,7 @@ fn command_needs(alloc: Global, command: &Command) -> Result<Vec<Need>, AllocErr
 }
 
 /// The set of a request: that of its command, and none of words that are no command.
-pub(crate) fn request_needs(alloc: Global, request: &Request) -> Result<Vec<Need>, AllocError>
+pub fn request_needs(alloc: Global, request: &Request) -> Result<Vec<Need>, AllocError>
     ensures { IfOk result (λ needs. map need_of needs.items ≡ needs_of request.now) }
 {
     match &request.command {

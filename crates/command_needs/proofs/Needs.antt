@@ -4,9 +4,9 @@ use Rattle.std.specs.Prelude.{filter}
 use Rattle.std.specs.List.{range_with_len}
 use Rattle.std.proofs.lemmas.List.{map-append}
 use Rattle.depot_model.specs.Tables.{Need}
-use Rattle.lock_core.specs.Sets.{need_of}
-use Rattle.lock_core.specs.declared.sets.Need as code
-use Rattle.lock_core.proofs.Ranges.{with_one, without_one}
+use Rattle.command_needs.specs.Sets.{need_of}
+use Rattle.command_needs.specs.declared.sets.Need as code
+use Rattle.command_needs.proofs.Ranges.{with_one, without_one}
 
 module _ (made : ℕ → Need) (test : ℕ → Bool) where
   pub pushed : (n : ℕ) (items : List code.Need) (need : code.Need) → map need_of items ≡ map made (filter test (range_with_len 0 n)) → test n ≡ true → need_of need ≡ made n

@@ -1,10 +1,10 @@
 use Rattle.std.proofs.Common.{◌≡◌, ℕ, true, false, List, Vec, map, sym, ap, ◌∙◌}
 use Rattle.std.specs.Prelude.{◌||◌}
 use Rattle.depot_model.specs.Tables.{need_for, touches, writes, is_in}
-use Rattle.lock_core.specs.Sets.{need_of}
-use Rattle.lock_core.proofs.Needs.{pushed, skipped}
-use Rattle.lock_core.proofs.sets.command_needs.Goals as goal
-use Rattle.lock_core.proofs.sets.command_needs.Goals.{then-is_among+in_ok-push, then-is_among-via-then-is_among, then-is_among-via-else-is_among+then-writes, else-is_among+else-writes}
+use Rattle.command_needs.specs.Sets.{need_of}
+use Rattle.command_needs.proofs.Needs.{pushed, skipped}
+use Rattle.command_needs.proofs.sets.command_needs.Goals as goal
+use Rattle.command_needs.proofs.sets.command_needs.Goals.{then-is_among+in_ok-push, then-is_among-via-then-is_among, then-is_among-via-else-is_among+then-writes, else-is_among+else-writes}
 
 pub loop-lock-preserved : goal.loop-lock-preserved
 loop-lock-preserved c =
