@@ -1,0 +1,17 @@
+use Rattle.std.proofs.Common.{◌≡◌, [], ◌∷◌, List, sym, ap, subst, ◌∙◌}
+use Rattle.db_records.specs.declared.change.Change.{Change}
+use Rattle.locked_tables.specs.Held.{OnlyChange, lanes_next}
+use Rattle.locked_tables.specs.Taken.{TouchesItsTables, party_lane, rows_after}
+use Rattle.locked_tables.specs.declared.taken.Taken.{Taken}
+use Rattle.table_changes.specs.Changed.{AllRows, changed_by}
+use Rattle.table_locks.proofs.Placed.{changes_none, rows_with, touches_none}
+use Rattle.table_locks.proofs.placing.place_kept.Goals as goal
+
+pub place_stored-requires-clause-only : goal.place_stored-requires-clause-only
+place_stored-requires-clause-only g c = changes_none c.args.taken.changes c.requires.unchanged _
+
+pub returns-clause-rows : goal.returns-clause-rows
+returns-clause-rows g c = λ table.
+    let entry : Taken = record c.args.taken { lanes = c.place_stored.result } in
+    rows_with table g.N.Naming.rows c.args.order.now c.place_stored.new.self entry c.place_stored.ensures.placed (touches_none entry c.requires.unchanged)
+    ∙ ap (λ (changes : List Change). changed_by (rows_after g.N.Naming.rows c.args.order.now.list) changes table) c.requires.unchanged

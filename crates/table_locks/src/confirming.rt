@@ -1,0 +1,59 @@
+//! What a command does first under the lock of the order.
+ghost use Rattle.std.specs.Prelude.{◌≡◌, [], IfSome, IsSome, IsTrue};
+ghost use Rattle.std.specs.List.{AllByRecursion};
+ghost use Rattle.depot_model.specs.declared.request.Request.{Request};
+ghost use Rattle.locked_tables.specs.Known.{IsStill};
+ghost use Rattle.locked_tables.specs.Taken.{rows_after};
+ghost use Rattle.table_changes.specs.Changed.{rows_of};
+ghost use Rattle.table_locks.specs.Confirmed.{IsConfirmed};
+ghost use Rattle.table_locks.specs.Gathered.{Covers, HasSet, IsShown};
+
+use crate::confirmed::Confirmed;
+use crate::gathered::Gathered;
+use locked_tables::{Naming, OrderWords, Peek, PlacedOrder};
+
+/// Whether each table is after the whole order as it was when it was looked at.
+fn are_still<N: Naming>(
+    words: &OrderWords<N>,
+    order: &mut PlacedOrder<N>,
+    peeks: Vec<Peek<N>>,
+) -> bool
+    ensures same { order.new ≡ order.old }
+    ensures still { IsTrue result → AllByRecursion (IsStill N.rows order.old.list) peeks.items }
+    ensures always { peeks.items ≡ [] → IsTrue result }
+{
+    for peek in peeks {
+        if !order.judge(words, peek) {
+            return false;
+        }
+    }
+    true
+}
+
+impl<'a, N: Naming> Gathered<'a, N> {
+    /// What was gathered, where no table that was looked at was touched since: the tables of the
+    /// set are then as they are after the whole order, and the held ones know it. Otherwise all
+    /// locks are given back; where no table was only looked at, it doesn't come to this.
+    pub fn confirm(
+        self,
+        words: &OrderWords<N>,
+        order: &mut PlacedOrder<N>,
+    ) -> Option<Confirmed<'a, N>>
+        requires { IsShown N.rows self }
+        ensures same { order.new ≡ order.old }
+        ensures confirmed { IfSome result (IsConfirmed N.rows order.old.list self.entry) }
+        ensures set { IfSome result (λ confirmed. (request : Request) → Covers self.entry request → HasSet (rows_after N.rows order.old.list) (rows_of confirmed.tables) request) }
+        ensures always { self.entry.peeks.items ≡ [] → IsSome result }
+    {
+        let Gathered {
+            mut held,
+            peeks,
+            tables,
+        } = self;
+        order.learn_held(words, held.as_mut_slice());
+        if !are_still(words, order, peeks) {
+            return None;
+        }
+        Some(Confirmed { held, tables })
+    }
+}

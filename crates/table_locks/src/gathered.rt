@@ -1,0 +1,77 @@
+//! What a command has gathered of its set.
+ghost use Rattle.std.specs.Prelude.{◌≡◌, [], IfOk, OnOk};
+ghost use Rattle.db_records.specs.Table.{table_number};
+ghost use Rattle.table_locks.specs.Gathered.{AddsHeld, AddsPeek, IsBelow, IsShown};
+
+use db_records::TableId;
+use locked_tables::{HeldTable, Naming, OrderWords, Peek, TableLocks};
+use std::alloc::{AllocError, Global};
+use std::sync::Wait;
+use table_store::Tables;
+
+/// The tables whose locks a command has taken, those that it looked at, and the version of each
+/// of them. The tables outside its set have no rows here.
+#[derive(Drop)]
+pub struct Gathered<'a, N: Naming> {
+    pub(crate) held: Vec<HeldTable<'a, N>>,
+    pub(crate) peeks: Vec<Peek<N>>,
+    pub(crate) tables: Tables,
+}
+
+impl<'a, N: Naming> Gathered<'a, N> {
+    /// Nothing yet. The one error is want of memory.
+    pub(crate) fn empty(alloc: Global) -> Result<Gathered<'a, N>, AllocError>
+        ensures { IfOk result (λ gathered. (gathered.held.items ≡ []) × (gathered.peeks.items ≡ [])) }
+    {
+        Ok(Gathered {
+            held: Vec::new(alloc),
+            peeks: Vec::new(alloc),
+            tables: Tables::empty(alloc)?,
+        })
+    }
+
+    /// The tables over which the command is evaluated.
+    pub fn tables(&self) -> &Tables
+        ensures { result.now ≡ self.now.tables }
+    {
+        &self.tables
+    }
+
+    /// Takes the lock of a table behind those that it has. The error is that of `hold`, or stands
+    /// for want of memory.
+    pub(crate) fn hold(
+        &mut self,
+        rt: &impl Wait,
+        locks: &'a TableLocks<N>,
+        table: TableId,
+    ) -> Result<(), AllocError>
+        requires shown { IsShown N.rows self.old }
+        requires below { IsBelow (table_number table) self.old }
+        ensures { OnOk result (AddsHeld N.rows table self.old self.new) }
+    {
+        let held = locks.hold(rt, table)?;
+        let version = held.guard.version().share()?;
+        self.held.push(held)?;
+        self.tables.put(version);
+        Ok(())
+    }
+
+    /// Looks at a table behind those that it has. The error is as with `hold`.
+    pub(crate) fn look(
+        &mut self,
+        rt: &impl Wait,
+        words: &OrderWords<N>,
+        locks: &TableLocks<N>,
+        table: TableId,
+    ) -> Result<(), AllocError>
+        requires shown { IsShown N.rows self.old }
+        requires below { IsBelow (table_number table) self.old }
+        ensures { OnOk result (AddsPeek N.rows table self.old self.new) }
+    {
+        let peek = locks.peek(rt, words, table)?;
+        let version = peek.version().share()?;
+        self.peeks.push(peek)?;
+        self.tables.put(version);
+        Ok(())
+    }
+}
