@@ -1,4 +1,5 @@
 pub mod Committing
+pub mod Fetching
 pub mod Holding
 pub mod Opening
 pub mod Running

@@ -7,6 +7,7 @@
 mod commit;
 mod counting;
 mod depot;
+mod fetching;
 mod placing;
 mod storing;
 mod taking;

@@ -205,6 +205,11 @@ impl<D: Disk> SerialDepot<D> {
         ensures rows { rows_of changed ≡ changed_by (rows_of self.old.tables) outcome.changes →
             IfOk result (λ answer. AreRowsAfter (rows_of self.old.tables) outcome.changes answer.place.fault (rows_of self.new.tables)) }
         ensures same_tables { OnErr result (self.new.tables ≡ self.old.tables) }
+        // A command after which no row differs makes no call of the journal's disk, and none of the archive's where it prints no content.
+        ensures no_write { (d : List Deed) → Stand (rows_of self.old.tables) d → IsOutcomeOf (rows_of self.old.tables) self.old.tables.archive_end request.now outcome →
+            SameRows d (after d (step d request.now).deeds) → (self.new.journal ≡ self.old.journal) × (self.new.tables ≡ self.old.tables) }
+        ensures no_call { (d : List Deed) → Stand (rows_of self.old.tables) d → IsOutcomeOf (rows_of self.old.tables) self.old.tables.archive_end request.now outcome →
+            SameRows d (after d (step d request.now).deeds) → contents_of (step d request.now).rows ≡ [] → self.new ≡ self.old }
         ensures never_falls { D.faults (disk_of self.old.journal) ≤ D.faults (disk_of self.new.journal) }
         ensures never_falls_contents { D.faults (archive_disk_of self.old.archive) ≤ D.faults (archive_disk_of self.new.archive) }
         ensures cause { IfOk result (λ answer. answer.place.fault ≡ true → HasRisen (D.faults (disk_of self.old.journal)) (D.faults (disk_of self.new.journal)) ⊎ HasRisen (D.faults (archive_disk_of self.old.archive)) (D.faults (archive_disk_of self.new.archive))) }

@@ -1,0 +1,66 @@
+//! What a replica asks of the depot that it follows: bytes of the journal, and contents of the archive.
+
+ghost use Rattle.std.specs.Prelude.{◌≡◌, ◌<◌, ℕ, List, [], length, IfOk};
+ghost use Rattle.archive_file.specs.Archive.{HasMemoryOr, disk_of as archive_disk_of};
+ghost use Rattle.outside_api.specs.Count.{HasCause};
+ghost use Rattle.outside_api.specs.Disk.{Files};
+ghost use Rattle.outside_api.specs.Link.{Answers, Fits};
+ghost use Rattle.depot_model.specs.Deeds.{Deed};
+ghost use Rattle.depot_model.specs.Places.{Placed};
+ghost use Rattle.disk_journal.specs.Stands.{disk_of};
+ghost use Rattle.serial_depot.specs.Fetching.{HasTexts};
+ghost use Rattle.serial_depot.specs.Running.{CanTake, HasRun};
+ghost use Rattle.serial_depot.specs.Storing.{AreAt};
+
+use crate::depot::SerialDepot;
+use crate::storing::{are_within, read_all};
+use archive_file::ContentFault;
+use db_records::Spot;
+use depot_path::{Sequence, Text};
+use outside_api::{Disk, DiskFault, Fetched};
+use std::alloc::Global;
+
+impl<D: Disk> SerialDepot<D> {
+    /// Committed bytes of the journal of a generation from a place on, at the front of the buffer, as far as the buffer and the text go. They are answered
+    /// as by a link to the journal: where none stands there it is the end of the newest generation and of one not there yet, and the next of an older one.
+    pub fn fetch(
+        &mut self,
+        generation: u32,
+        at: u64,
+        buffer: &mut [u8],
+    ) -> Result<Fetched, DiskFault>
+        requires room { 0 < length buffer.old }
+        ensures answers { (texts : List (List ℕ)) → HasTexts D.seen D.may_leave self.old texts → IfOk result (λ fetched. Answers texts generation at fetched buffer.new) }
+        ensures fits { IfOk result (λ fetched. Fits fetched (length buffer.old)) }
+        ensures can { CanTake D.may_leave self.old → CanTake D.may_leave self.new }
+        ensures ran { (since : ℕ) (start : List Deed) (places : List Placed) → HasRun D.seen D.may_leave D.moment D.left_since self.old since start places →
+            HasRun D.seen D.may_leave D.moment D.left_since self.new since start places }
+        ensures tables { self.new.tables ≡ self.old.tables }
+        ensures archive { self.new.archive ≡ self.old.archive }
+        ensures cause { HasCause (D.faults (disk_of self.old.journal)) (D.faults (disk_of self.new.journal)) result }
+    {
+        self.journal.fetch(generation, at, buffer)
+    }
+
+    /// The contents at spots of the archive, in their order. A spot that ends behind what is used of the archive, which no row of the tables has, is
+    /// answered as want of memory. Without spots no call of the disk is made.
+    pub fn contents(
+        &mut self,
+        alloc: Global,
+        spots: &[Spot],
+    ) -> Result<Sequence<Text>, ContentFault>
+        ensures contents { (files : Files) (contents : List (List ℕ)) → D.seen (archive_disk_of self.old.archive) files → AreAt (files 0) spots.now contents → IfOk result (λ texts. texts ≡ contents) }
+        ensures can { CanTake D.may_leave self.old → CanTake D.may_leave self.new }
+        ensures ran { (since : ℕ) (start : List Deed) (places : List Placed) → HasRun D.seen D.may_leave D.moment D.left_since self.old since start places →
+            HasRun D.seen D.may_leave D.moment D.left_since self.new since start places }
+        ensures tables { self.new.tables ≡ self.old.tables }
+        ensures journal { self.new.journal ≡ self.old.journal }
+        ensures no_call { spots.now ≡ [] → self.new ≡ self.old }
+        ensures cause { HasMemoryOr (D.faults (archive_disk_of self.old.archive)) (D.faults (archive_disk_of self.new.archive)) result }
+    {
+        if !are_within(spots, self.archive.used()) {
+            return Err(ContentFault::Memory);
+        }
+        read_all(alloc, &mut self.archive, spots)
+    }
+}
