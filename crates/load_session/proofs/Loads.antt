@@ -10,6 +10,7 @@ use Rattle.depot_model.specs.declared.request.Session.{Session}
 use Rattle.depot_runs.specs.Run.{placed}
 use Rattle.session_loop.specs.Asking.{Asking, asking_of, commands_of}
 use Rattle.session_loop.specs.Reading.{IsAsked}
+use Rattle.session_loop.specs.declared.reading.ReplicaScript.{ReplicaScript}
 use Rattle.session_loop.specs.Served.{IsServed, IsTurn}
 use Rattle.wire_text.specs.declared.script.ScriptEnd.{ScriptEnd}
 use Rattle.wire_text.specs.declared.script.ScriptEnd.TheVariants.{Whole, Fault, ReadFault}
@@ -21,15 +22,15 @@ not_risen : HasRisen 0 0 → ⊥
 not_risen risen = omega (arith, risen)
 
 -- bytes that can't fail are read to their end
-pub read_is : (bytes : List ℕ) (left : Option (List ℕ)) (session : Option Session) (end : ScriptEnd) → IsAsked (Some bytes) left 0 0 session end → IsAskedBy bytes session end
-read_is bytes left session Whole asked = asked
-read_is bytes left session (Fault fault) asked = asked
-read_is bytes left session ReadFault asked = not_risen asked.0
+pub read_is : (bytes : List ℕ) (left : Option (List ℕ)) (session : Option Session) (replica : Option ReplicaScript) (end : ScriptEnd) → IsAsked (Some bytes) left 0 0 session replica end → IsAskedBy bytes session end
+read_is bytes left session replica Whole asked = (ap (λ (s : Asking). s.session) asked, ap (λ (s : Asking). s.fault) asked)
+read_is bytes left session replica (Fault fault) asked = (ap (λ (s : Asking). s.session) asked, ap (λ (s : Asking). s.fault) asked)
+read_is bytes left session replica ReadFault asked = not_risen asked.0
 
 -- the session that is read is that of the bytes
 pub session_is : (bytes : List ℕ) (session : Option Session) (end : ScriptEnd) → IsAskedBy bytes session end → session ≡ (asking_of bytes).session
-session_is bytes session Whole asked = sym (ap (λ (s : Asking). s.session) asked)
-session_is bytes session (Fault fault) asked = sym (ap (λ (s : Asking). s.session) asked)
+session_is bytes session Whole asked = sym asked.0
+session_is bytes session (Fault fault) asked = sym asked.0
 session_is bytes session ReadFault asked = absurd asked
 
 -- where the sink can't fail all commands are taken

@@ -18,7 +18,6 @@ use Rattle.wire_text.specs.Script.{Entries, Part, Point, Script, headed, part_of
 use Rattle.wire_text.specs.Words.{line_of}
 use Rattle.wire_text.specs.declared.entry.Item.{Item}
 use Rattle.wire_text.specs.declared.entry.Entry.TheVariants.{Put, Command}
-use Rattle.wire_text.specs.declared.fault.ScriptFault.{ScriptFault}
 use Rattle.wire_text.specs.declared.head.Head.TheVariants.{Session}
 use Rattle.load_session.specs.Loading.{LoadScriptsAreWhole}
 
@@ -179,6 +178,6 @@ load_scripts_whole seed count few =
     let bytes = load_text seed count in
     let (said, says, is) = script_says seed count few in
     let whole : (asking_of bytes).fault ≡ None = ap (λ (s : Script). (asking_by s).fault) is ∙ says.whole in (
-      ap (λ (fault : Option ScriptFault). record { session = (asking_of bytes).session; fault = fault }) whole,
+      (refl, whole),
       ap (λ (s : Script). length (commands_of (asking_by s).session)) is ∙ says.commands [],
     )

@@ -18,8 +18,8 @@ load_session seed count = (asking_of (script_of seed count)).session
 
 -- the session that the bytes of a script say, and the fault that ends it, if one does
 abbrev pub IsAskedBy : List ℕ → Option Session → ScriptEnd → Type 0
-IsAskedBy bytes session Whole = asking_of bytes ≡ record { session = session; fault = None }
-IsAskedBy bytes session (Fault fault) = asking_of bytes ≡ record { session = session; fault = Some fault }
+IsAskedBy bytes session Whole = ((asking_of bytes).session ≡ session) × ((asking_of bytes).fault ≡ None)
+IsAskedBy bytes session (Fault fault) = ((asking_of bytes).session ≡ session) × ((asking_of bytes).fault ≡ Some fault)
 IsAskedBy bytes session ReadFault = ⊥
 
 abbrev pub IsReadLoad : List ℕ → ReadSession → Type 0

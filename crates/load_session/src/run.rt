@@ -5,7 +5,7 @@ ghost use Rattle.depot_model.specs.Deeds.{Deed};
 ghost use Rattle.session_loop.specs.Asking.{AreWellFormed, asking_of, commands_of};
 ghost use Rattle.session_loop.specs.Served.{AreCaused};
 ghost use Rattle.load_script.specs.Script.{script_of};
-ghost use Rattle.load_session.specs.Loading.{IsLoaded, IsReadLoad, load_session as session_of};
+ghost use Rattle.load_session.specs.Loading.{IsAskedBy, IsLoaded, IsReadLoad, load_session as session_of};
 
 use crate::streams::{NoReplies, ScriptBytes};
 use depot_model::{Place, Session};
@@ -79,7 +79,7 @@ pub fn run_load<T: Taker, C: Clock, G: Gate>(
     requires { T.can_take taker.old }
     ensures can { T.can_take taker.new }
     ensures unrun { OnErr result (taker.new ≡ taker.old) }
-    ensures read { IfOk result (λ run. IsReadLoad (script_of seed count) (record { session = session_of seed count; end = run.end })) }
+    ensures read { IfOk result (λ run. IsAskedBy (script_of seed count) (session_of seed count) run.end) }
     ensures commands { IfOk result (λ run. run.commands ≡ length (commands_of (session_of seed count))) }
     ensures loaded { (since : ℕ) (start : List Deed) → T.has_run taker.old since start [] → IfOk result (λ run.
         IsLoaded (C.may_give clock.now) (T.has_run taker.new since) start (session_of seed count) run.order) }

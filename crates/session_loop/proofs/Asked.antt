@@ -5,7 +5,10 @@ use Rattle.std.specs.List.{list_all}
 use Rattle.std.proofs.lemmas.List.Elements.{All-nil, All-cons}
 use Rattle.indexmap.specs.IndexMap.{insert_entry, shift_remove_entry}
 use Rattle.depot_path.specs.Bytes.{same}
+use Rattle.depot_model.specs.Filter.{filter_of}
+use Rattle.depot_model.specs.declared.filter.FilterRule.{FilterRule}
 use Rattle.depot_model.specs.declared.request.Asked.{Asked}
+use Rattle.depot_model.specs.declared.request.Session.{Session}
 use Rattle.command_words.specs.Reading.{command_of}
 use Rattle.command_words.proofs.FormedLines.{each_line}
 use Rattle.wire_text.specs.declared.entry.Entry.{Entry}
@@ -14,7 +17,7 @@ use Rattle.wire_text.specs.declared.head.Head.{Head}
 use Rattle.wire_text.specs.declared.head.Head.TheVariants.{Session as SessionHead, Replica}
 use Rattle.wire_text.specs.Script.{script_of, is_short, has_short_content}
 use Rattle.wire_text.proofs.Short.{script_short}
-use Rattle.session_loop.specs.Asking.{asked_by, asked_from, content_of, taken_contents, takes_contents, session_of, commands_of, asking_of, AreProper, AreWellFormed}
+use Rattle.session_loop.specs.Asking.{asked_by, asked_from, content_of, taken_contents, takes_contents, session_by, session_of, commands_of, rules_of, replica_with, replica_of, replica_commands, asking_of, AreProper, AreWellFormed}
 
 abbrev IsAskedWell : Asked → Type 0
 IsAskedWell asked = AreProper asked.command asked.contents
@@ -86,9 +89,21 @@ scripts_ask (Some (SessionHead caller)) entries all = entries_ask [] entries ref
 scripts_ask (Some (Replica caller patterns)) entries all = All-nil IsAskedWell
 scripts_ask None entries all = All-nil IsAskedWell
 
+with_rules : (rules : Option (List FilterRule)) (session : Session) → AreWellFormed session.commands → AreWellFormed (replica_commands (replica_with rules session))
+with_rules (Some rules) session all = all
+with_rules None session all = All-nil IsAskedWell
+
+pub replicas_ask : (head : Option Head) (entries : List Entry) → list_all has_short_content entries ≡ true → AreWellFormed (replica_commands (replica_of head entries))
+replicas_ask (Some (SessionHead caller)) entries all = All-nil IsAskedWell
+replicas_ask (Some (Replica caller patterns)) entries all = with_rules (rules_of (filter_of patterns)) (session_by caller entries) (entries_ask [] entries refl all)
+replicas_ask None entries all = All-nil IsAskedWell
+
 pub bytes_ask : (bytes : List ℕ) → AreWellFormed (commands_of (asking_of bytes).session)
 bytes_ask bytes = scripts_ask (script_of bytes).head (script_of bytes).entries (script_short bytes)
 
 -- commands that are those of a script's entries
 pub asked_well : (commands : List Asked) (entries : List Entry) → commands ≡ asked_from [] entries → list_all has_short_content entries ≡ true → AreWellFormed commands
 asked_well commands entries e all = subst AreWellFormed (sym e) (entries_ask [] entries refl all)
+
+pub bytes_ask_replicas : (bytes : List ℕ) → AreWellFormed (replica_commands (asking_of bytes).replica)
+bytes_ask_replicas bytes = replicas_ask (script_of bytes).head (script_of bytes).entries (script_short bytes)

@@ -1,5 +1,5 @@
 -- One more request of a session.
-use Rattle.std.proofs.Common.{◌≡◌, ℕ, zero, suc, ◌+◌, List, [], ◌∷◌, ◌++◌, length, subst, sym, arith}
+use Rattle.std.proofs.Common.{◌≡◌, ℕ, suc, ◌+◌, List, [], ◌∷◌, ◌++◌, length, subst, arith}
 use Rattle.depot_model.specs.declared.request.Asked.{Asked}
 use Rattle.depot_model.specs.declared.request.Caller.{Caller}
 use Rattle.depot_model.specs.declared.request.Request.{Request}

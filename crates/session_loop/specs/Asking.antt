@@ -1,13 +1,17 @@
--- What a session asks: the commands of its script's lines. A line brings the input that stands before it, and a submit or a shelve also the
+-- What a session or a replica is asked: the commands of its script's lines. A line brings the input that stands before it, and a submit or a shelve also the
 -- contents that are in force there, the last one of each file, in the order in which the files were first named since they were last cleared
 -- (this project's own choice).
-use Rattle.std.specs.Prelude.{ℕ, Bool, true, false, List, [], ◌∷◌, map, Option, Some, None, is_some, Result, Ok, IfOk, IsTrue}
+use Rattle.std.specs.Prelude.{ℕ, Bool, true, false, List, [], ◌∷◌, map, Option, Some, None, is_some, Result, Ok, Err, IfOk, IsTrue}
 use Rattle.std.specs.List.{All, list_all}
 use Rattle.indexmap.specs.IndexMap.{insert_entry, shift_remove_entry}
 use Rattle.depot_path.specs.Bytes.{same}
+use Rattle.depot_path.specs.declared.fault.PathFault.{PathFault}
+use Rattle.depot_model.specs.Filter.{filter_of}
 use Rattle.depot_model.specs.declared.command.Command.{Command}
 use Rattle.depot_model.specs.declared.command.Command.TheVariants.{SubmitChange, SubmitDefault, Shelve}
+use Rattle.depot_model.specs.declared.filter.FilterRule.{FilterRule}
 use Rattle.depot_model.specs.declared.request.Asked.{Asked}
+use Rattle.depot_model.specs.declared.request.Caller.{Caller}
 use Rattle.depot_model.specs.declared.request.Content.{Content}
 use Rattle.depot_model.specs.declared.request.Session.{Session}
 use Rattle.depot_model.specs.declared.request.WordFault.{WordFault}
@@ -17,10 +21,10 @@ use Rattle.wire_text.specs.declared.entry.Entry.{Entry}
 use Rattle.wire_text.specs.declared.entry.Entry.TheVariants.{Put, Clear, Command as Asks}
 use Rattle.wire_text.specs.declared.entry.Item.{Item}
 use Rattle.wire_text.specs.declared.fault.ScriptFault.{ScriptFault}
-use Rattle.wire_text.specs.declared.fault.ScriptFaultKind.TheVariants.{BadHead}
 use Rattle.wire_text.specs.declared.head.Head.{Head}
 use Rattle.wire_text.specs.declared.head.Head.TheVariants.{Session as SessionHead, Replica}
-use Rattle.wire_text.specs.Script.{Script, script_of, fault_at, is_short}
+use Rattle.wire_text.specs.Script.{Script, script_of, is_short}
+use Rattle.session_loop.specs.declared.reading.ReplicaScript.{ReplicaScript}
 
 -- ---- lines
 
@@ -53,22 +57,34 @@ asked_from contents (Asks item ∷ entries) = asked_by contents item ∷ asked_f
 
 -- ---- sessions
 
--- A session, where the script has the head of one, and the fault that ends it.
+-- A session or a replica's script, where the script has the head of one, and the fault that ends it.
 pub record Asking : Type 0 where
   pub session : Option Session
+  pub replica : Option ReplicaScript
   pub fault : Option ScriptFault
 
+abbrev pub session_by : Caller → List Entry → Session
+session_by caller entries = record { caller = caller; commands = asked_from [] entries }
+
 abbrev pub session_of : Option Head → List Entry → Option Session
-session_of (Some (SessionHead caller)) entries = Some (record { caller = caller; commands = asked_from [] entries })
+session_of (Some (SessionHead caller)) entries = Some (session_by caller entries)
 session_of _ entries = None
 
--- the script of a replica has no head that is known yet
-abbrev pub fault_of : Option Head → Option ScriptFault → Option ScriptFault
-fault_of (Some (Replica caller patterns)) fault = Some (fault_at BadHead 0)
-fault_of _ fault = fault
+-- patterns that are no filter's stand in no head
+abbrev pub rules_of : Result (List FilterRule) PathFault → Option (List FilterRule)
+rules_of (Ok rules) = Some rules
+rules_of (Err fault) = None
+
+abbrev pub replica_with : Option (List FilterRule) → Session → Option ReplicaScript
+replica_with (Some rules) session = Some (record { filter = rules; session = session })
+replica_with None session = None
+
+abbrev pub replica_of : Option Head → List Entry → Option ReplicaScript
+replica_of (Some (Replica caller patterns)) entries = replica_with (rules_of (filter_of patterns)) (session_by caller entries)
+replica_of _ entries = None
 
 abbrev pub asking_by : Script → Asking
-asking_by script = record { session = session_of script.head script.entries; fault = fault_of script.head script.fault }
+asking_by script = record { session = session_of script.head script.entries; replica = replica_of script.head script.entries; fault = script.fault }
 
 -- what the bytes of a script ask
 abbrev pub asking_of : List ℕ → Asking
@@ -77,6 +93,10 @@ asking_of bytes = asking_by (script_of bytes)
 abbrev pub commands_of : Option Session → List Asked
 commands_of (Some session) = session.commands
 commands_of None = []
+
+abbrev pub replica_commands : Option ReplicaScript → List Asked
+replica_commands (Some script) = script.session.commands
+replica_commands None = []
 
 -- a command, where words spell one, is well-formed, and contents are short
 abbrev pub AreProper : Result Command WordFault → List Content → Type 0

@@ -1,6 +1,6 @@
 -- What who takes commands promises: each command gets its place behind those before it, and is answered what the model says there. This project's
 -- own choice.
-use Rattle.std.specs.Prelude.{◌≡◌, ℕ, Bool, List, [], ◌∷◌, ◌++◌, Some, None}
+use Rattle.std.specs.Prelude.{◌≡◌, Bool, List, [], ◌∷◌, ◌++◌, Some, None}
 use Rattle.std.specs.List.{AllByRecursion}
 use Rattle.depot_model.specs.Deeds.{Deed}
 use Rattle.depot_runs.specs.Today.{step}

@@ -7,8 +7,8 @@ mod requests;
 mod session;
 mod taker;
 
-pub use laws::sessions_ask_well_formed_commands;
-pub use reading::{ReadSession, read_session};
-pub use requests::session_requests;
+pub use laws::{replicas_ask_well_formed_commands, sessions_ask_well_formed_commands};
+pub use reading::{ReadSession, ReplicaScript, read_session};
+pub use requests::{requests_of, session_requests};
 pub use session::{SessionRun, run_session};
 pub use taker::Taker;

@@ -1,27 +1,37 @@
-//! Reading a session: what its script asks, line by line.
+//! Reading a session or a replica's script: what it asks, line by line.
 
-ghost use Rattle.std.specs.Prelude.{◌≡◌, ◌≤◌, ◌+◌, ◌++◌, ◌∷◌, List, [], ◌≢◌, Err, length, map, IfOk, OnOk, IsTrue, IsFalse};
+ghost use Rattle.std.specs.Prelude.{◌≡◌, ◌≤◌, ◌+◌, ◌++◌, ◌∷◌, List, [], ◌≢◌, Err, None, length, map, IfOk, IfSome, OnOk, IsTrue, IsFalse};
 ghost use Rattle.std.specs.List.{list_all};
 ghost use Rattle.wire_text.specs.Script.{has_short_content};
 ghost use Rattle.wire_text.specs.declared.entry.Entry.{Entry};
 ghost use Rattle.session_loop.specs.Asking as spec;
-ghost use Rattle.session_loop.specs.Reading.{IsReadSession, end_for};
+ghost use Rattle.depot_model.specs.Filter.{filter_of as filter_spec};
+ghost use Rattle.session_loop.specs.Reading.{IsReadSession};
 
 use command_words::read_command;
-use depot_model::{Asked, Block, Command, Content, Session, WordFault};
-use depot_path::{ClientPath, Sequence};
+use depot_model::{Asked, Block, Caller, Command, Content, Filter, Session, WordFault};
+use depot_path::{ClientPath, PathFault, Sequence, Text};
 use indexmap::IndexMap;
 use outside_api::Source;
 use std::alloc::{AllocError, Global};
-use wire_text::{
-    Entry, Head, Item, ReadScript, ScriptEnd, ScriptFault, ScriptFaultKind, pass_entry, read_script,
-};
+use wire_text::{Entry, Head, Item, ReadScript, ScriptEnd, pass_entry, read_script};
 
-/// What was read of a session.
+/// What the script of a replica asks.
+#[derive(Drop)]
+pub struct ReplicaScript {
+    /// Which files the replica has.
+    pub filter: Filter,
+    /// Who asks, and what.
+    pub session: Session,
+}
+
+/// What was read of a script.
 #[derive(Drop)]
 pub struct ReadSession {
     /// The session, where the script has the head of one.
     pub session: Option<Session>,
+    /// What a replica is asked, where the script has the head of one.
+    pub replica: Option<ReplicaScript>,
     /// How the reading of its script ended.
     pub end: ScriptEnd,
 }
@@ -148,50 +158,111 @@ fn asked_by_entries(alloc: Global, entries: Sequence<Entry>) -> Result<Sequence<
     Ok(commands)
 }
 
-/// The session of a script with this head and these entries, if it is the head of one.
-fn session(
+/// What a caller asks by these entries.
+fn session_by(
+    alloc: Global,
+    caller: Caller,
+    entries: Sequence<Entry>,
+) -> Result<Session, AllocError>
+    requires short { IsTrue (list_all has_short_content entries) }
+    ensures value { IfOk result (λ session. session ≡ spec.session_by caller entries) }
+    ensures few { IfOk result (λ session. length session.commands ≤ length entries) }
+    ensures formed { IfOk result (λ session. spec.AreWellFormed session.commands) }
+{
+    match asked_by_entries(alloc, entries) {
+        Ok(commands) => Ok(Session { caller, commands }),
+        Err(error) => {
+            drop(caller);
+            Err(error)
+        }
+    }
+}
+
+/// The filter of these patterns, if they are one's.
+fn filter_of(alloc: Global, patterns: &[Text]) -> Result<Option<Filter>, AllocError>
+    ensures { IfOk result (λ filter. filter ≡ spec.rules_of (filter_spec patterns.now)) }
+{
+    match Filter::read(alloc, patterns) {
+        Ok(filter) => Ok(Some(filter)),
+        Err(PathFault::Memory) => Err(AllocError),
+        Err(_) => Ok(None),
+    }
+}
+
+/// What a replica with this filter is asked.
+fn replica_with(filter: Option<Filter>, session: Session) -> Option<ReplicaScript>
+    ensures { result ≡ spec.replica_with filter session }
+{
+    match filter {
+        Some(filter) => Some(ReplicaScript { filter, session }),
+        None => {
+            drop(session);
+            None
+        }
+    }
+}
+
+/// What a replica of these patterns is asked.
+fn replica(
+    alloc: Global,
+    caller: Caller,
+    patterns: Sequence<Text>,
+    entries: Sequence<Entry>,
+) -> Result<Option<ReplicaScript>, AllocError>
+    requires short { IsTrue (list_all has_short_content entries) }
+    ensures value { IfOk result (λ replica. replica ≡ spec.replica_with (spec.rules_of (filter_spec patterns)) (spec.session_by caller entries)) }
+    ensures few { IfOk result (λ replica. length (spec.replica_commands replica) ≤ length entries) }
+    ensures formed { IfOk result (λ replica. spec.AreWellFormed (spec.replica_commands replica)) }
+{
+    let filter = filter_of(alloc, patterns.as_slice())?;
+    let session = session_by(alloc, caller, entries)?;
+    Ok(replica_with(filter, session))
+}
+
+/// The session, or the replica's script, that a script with this head and these entries has.
+fn asks(
     alloc: Global,
     head: Option<Head>,
     entries: Sequence<Entry>,
-) -> Result<Option<Session>, AllocError>
+) -> Result<(Option<Session>, Option<ReplicaScript>), AllocError>
     requires short { IsTrue (list_all has_short_content entries) }
-    ensures value { IfOk result (λ session. session ≡ spec.session_of head entries) }
-    ensures few { IfOk result (λ session. length (spec.commands_of session) ≤ length entries) }
-    ensures formed { IfOk result (λ session. spec.AreWellFormed (spec.commands_of session)) }
+    ensures session { IfOk result (λ asks. asks.0 ≡ spec.session_of head entries) }
+    ensures replica { IfOk result (λ asks. asks.1 ≡ spec.replica_of head entries) }
+    ensures few { IfOk result (λ asks. length (spec.commands_of asks.0) ≤ length entries) }
+    ensures few_of_replica { IfOk result (λ asks. length (spec.replica_commands asks.1) ≤ length entries) }
+    ensures formed { IfOk result (λ asks. spec.AreWellFormed (spec.commands_of asks.0)) }
+    ensures formed_of_replica { IfOk result (λ asks. spec.AreWellFormed (spec.replica_commands asks.1)) }
+    ensures apart { IfOk result (λ asks. IfSome asks.1 (λ script. asks.0 ≡ None)) }
 {
     match head {
-        Some(Head::Session(caller)) => Ok(Some(Session {
-            caller,
-            commands: asked_by_entries(alloc, entries)?,
-        })),
-        _ => Ok(None),
-    }
-}
-
-/// How the reading of a script ends: the head of a replica isn't known yet.
-fn end_of(head: &Option<Head>, end: ScriptEnd) -> ScriptEnd
-    ensures { result ≡ end_for head.now end }
-{
-    match (head, end) {
-        (Some(Head::Replica { .. }), ScriptEnd::Whole | ScriptEnd::Fault(_)) => {
-            ScriptEnd::Fault(ScriptFault {
-                what: ScriptFaultKind::BadHead,
-                place: 0,
-            })
+        Some(Head::Session(caller)) => {
+            let session = session_by(alloc, caller, entries)?;
+            Ok((Some(session), None))
         }
-        _ => end,
+        Some(Head::Replica { caller, patterns }) => {
+            let replica = replica(alloc, caller, patterns, entries)?;
+            Ok((None, replica))
+        }
+        None => Ok((None, None)),
     }
 }
 
-/// Reads a session from the source of its script.
+/// Reads a session or a replica's script from the source of its bytes.
 pub fn read_session<S: Source>(alloc: Global, source: &mut S) -> Result<ReadSession, AllocError>
     ensures read { IfOk result (IsReadSession (S.left source.old) (S.left source.new) (S.faults source.old) (S.faults source.new)) }
     ensures few { IfOk result (λ read. length (spec.commands_of read.session) ≤ 67108864) }
+    ensures few_of_replica { IfOk result (λ read. length (spec.replica_commands read.replica) ≤ 67108864) }
     ensures formed { IfOk result (λ read. spec.AreWellFormed (spec.commands_of read.session)) }
+    ensures formed_of_replica { IfOk result (λ read. spec.AreWellFormed (spec.replica_commands read.replica)) }
+    // A script is a session's or a replica's.
+    ensures apart { IfOk result (λ read. IfSome read.replica (λ script. read.session ≡ None)) }
     ensures counts { S.faults source.old ≤ S.faults source.new }
 {
     let ReadScript { head, entries, end } = read_script(alloc, source)?;
-    let end = end_of(&head, end);
-    let session = session(alloc, head, entries)?;
-    Ok(ReadSession { session, end })
+    let (session, replica) = asks(alloc, head, entries)?;
+    Ok(ReadSession {
+        session,
+        replica,
+        end,
+    })
 }

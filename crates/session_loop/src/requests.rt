@@ -62,8 +62,9 @@ fn request_now<C: Clock>(
     Ok(request)
 }
 
-/// The requests of the commands of a session that its script has.
-fn requests_of<C: Clock>(
+/// The requests of the commands of a session, or of a replica's script, in order and numbered from 1, each with the moment that the clock gives then.
+/// The one error is want of memory.
+pub fn requests_of<C: Clock>(
     alloc: Global,
     party: u32,
     session: Session,

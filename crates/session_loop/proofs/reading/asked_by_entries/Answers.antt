@@ -1,7 +1,6 @@
 use Rattle.std.proofs.Common.{◌≡◌, ◌∷◌, [], ◌++◌, List, length, refl, sym, ap, ◌∙◌, append-nil, arith}
 use Rattle.std.specs.Vec.Iter.{into_iter_items}
 use Rattle.wire_text.specs.declared.entry.Entry.{Entry}
-use Rattle.depot_model.specs.declared.request.Asked.{Asked}
 use Rattle.session_loop.specs.Asking.{asked_from}
 use Rattle.session_loop.proofs.reading.asked_by_entries.Goals as goal
 

@@ -1,4 +1,4 @@
-use Rattle.std.proofs.Common.{◌≡◌, ◌∷◌, [], ◌++◌, List, ℕ, map, refl, sym, ap, ◌∙◌, append_assoc, append-nil}
+use Rattle.std.proofs.Common.{◌≡◌, ◌∷◌, [], ◌++◌, List, ℕ, map, sym, ap, ◌∙◌, append_assoc, append-nil}
 use Rattle.depot_model.specs.declared.request.Content.{Content}
 use Rattle.session_loop.specs.Asking.{content_of}
 use Rattle.session_loop.proofs.reading.shared.Goals as goal
