@@ -1,0 +1,79 @@
+-- How far a replica among the parties of a run is. This project's own choice.
+use Rattle.std.specs.Prelude.{◌≡◌, ◌||◌, ℕ, Bool, true, false, List, [], ◌∷◌, ◌++◌, reverse, length, Option, Result, Ok, Err}
+use Rattle.std.specs.List.{flat_map}
+use Rattle.outside_api.specs.Disk.{Files}
+use Rattle.outside_api.specs.Told.{extended}
+use Rattle.depot_model.specs.Printed.{printed}
+use Rattle.depot_model.specs.Rows.{memory_row}
+use Rattle.depot_model.specs.declared.request.Request.{Request}
+use Rattle.replica_pull.specs.Replica.{IsNew}
+use Rattle.replica_pull.specs.declared.replica.Replica.{Replica}
+use Rattle.command_core.specs.Outcomes.{IsFormedBy}
+use Rattle.session_loop.specs.Asking.{AreWellFormed}
+use Rattle.session_loop.specs.Requests.{AreRequests}
+use Rattle.session_loop.specs.declared.reading.ReplicaScript.{ReplicaScript}
+use Rattle.serial_depot.specs.declared.depot.SerialDepot.{SerialDepot}
+use Rattle.wire_text.specs.Giving.{IsProperFront}
+use Rattle.replica_turns.specs.Replying.{IsAnswered}
+use Rattle.replica_turns.specs.declared.party.Answered.{Answered}
+use Rattle.replica_turns.specs.declared.party.ReplicaParty.{ReplicaParty}
+
+-- ---- commands one after another
+
+-- These commands were answered with these texts, one after another, and whether one of them tells that a disk failed.
+abbrev pub AreAnswered : {D : Type 0} → (SerialDepot D → Type 0) → (D → Files → Type 0) → (D → Files → Type 0) → Replica → Replica → List Request → List (List ℕ) → Bool → Type 0
+AreAnswered HasBeen seen may_leave old new [] [] lost = (new ≡ old) × (lost ≡ false)
+AreAnswered HasBeen seen may_leave old new (request ∷ requests) (text ∷ texts) lost =
+    (next : Replica) × (first : Bool) × (later : Bool) × (lost ≡ first || later) × IsAnswered HasBeen seen may_leave old next request text first × AreAnswered HasBeen seen may_leave next new requests texts later
+AreAnswered HasBeen seen may_leave old new _ _ lost = ⊥
+
+-- The party has answered the first commands of its script, as many as there are texts, with these printed replies, from a new replica with the script's
+-- filter on, over depots that have been; the others are left, the next one last. Whether one of the replies tells that a disk failed.
+pub record IsGoing {D : Type 0} (HasBeen : SerialDepot D → Type 0) (seen may_leave : D → Files → Type 0) (may_give : ℕ → Type 0) (party : ℕ) (script : ReplicaScript) (p : ReplicaParty) (texts : List (List ℕ)) (lost : Bool) : Type 0 where
+  pub formed : AreWellFormed script.session.commands
+  pub answered : List Request
+  pub asked : AreRequests may_give party 1 script.session.caller script.session.commands (answered ++ reverse p.left.items)
+  pub first : Replica
+  pub is_new : IsNew script.filter first
+  pub are : AreAnswered HasBeen seen may_leave first p.replica answered texts lost
+
+-- a party that has answered nothing yet
+pub record IsFresh (may_give : ℕ → Type 0) (party : ℕ) (script : ReplicaScript) (p : ReplicaParty) : Type 0 where
+  pub asked : AreRequests may_give party 1 script.session.caller script.session.commands (reverse p.left.items)
+  pub is_new : IsNew script.filter p.replica
+
+-- ---- a turn
+
+-- the printed reply that a turn gives; the caller gives that of a command without memory
+abbrev pub reply_text : {E : Type 0} → Result Answered E → ℕ → List ℕ
+reply_text (Ok answered) number = answered.text
+reply_text (Err error) number = printed (memory_row ∷ []) number
+
+abbrev pub is_lost : {E : Type 0} → Result Answered E → Bool
+is_lost (Ok answered) = answered.lost
+is_lost (Err error) = false
+
+-- One turn over a depot: the next command was answered.
+pub record IsTurned {D E : Type 0} (seen may_leave : D → Files → Type 0) (depot : SerialDepot D) (old new : ReplicaParty) (result : Result Answered E) : Type 0 where
+  pub request : Request
+  pub left : old.left.items ≡ new.left.items ++ request ∷ []
+  pub answered : IsFormedBy request → IsAnswered (λ been. been ≡ depot) seen may_leave old.replica new.replica request (reply_text result request.number) (is_lost result)
+
+-- ---- the sink
+
+abbrev pub all_of : List (List ℕ) → List ℕ
+all_of texts = flat_map (λ (text : List ℕ). text) texts
+
+-- The sink got all texts; or, where it failed, all before the last, and a front of the last that isn't the whole.
+abbrev pub HasGotTexts : Bool → List (List ℕ) → Option (List ℕ) → Option (List ℕ) → Type 0
+HasGotTexts false texts before now = now ≡ extended before (all_of texts)
+HasGotTexts true texts before now =
+    (given : List (List ℕ)) × (last : List ℕ) × (texts ≡ given ++ last ∷ []) × (front : List ℕ) × IsProperFront front last × (now ≡ extended before (all_of given ++ front))
+
+-- A replica's first commands were answered, so many, and its sink got the replies.
+pub record IsReplicaOutput {D : Type 0} (HasBeen : SerialDepot D → Type 0) (seen may_leave : D → Files → Type 0) (may_give : ℕ → Type 0) (party : ℕ) (script : ReplicaScript) (commands : ℕ) (failed lost : Bool) (before now : Option (List ℕ)) : Type 0 where
+  pub replica : ReplicaParty
+  pub texts : List (List ℕ)
+  pub count : length texts ≡ commands
+  pub going : IsGoing HasBeen seen may_leave may_give party script replica texts lost
+  pub got : HasGotTexts failed texts before now

@@ -1,0 +1,4 @@
+pub mod Going
+pub mod Position
+pub mod Replying
+pub mod Turning

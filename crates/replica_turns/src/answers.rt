@@ -1,0 +1,41 @@
+//! The answers to a replica's commands.
+
+ghost use Rattle.std.specs.Prelude.{◌≡◌, ◌∷◌, [], true, false, IfOk};
+ghost use Rattle.depot_model.specs.Printed.{printed};
+ghost use Rattle.depot_model.specs.Rows.{disk_row};
+
+use crate::party::Answered;
+use depot_model::Reply;
+use depot_path::{Sequence, Text};
+use reply_rows::RowBuilder;
+use std::alloc::{AllocError, Global};
+use wire_text::print_reply;
+
+/// An answer that tells of no disk.
+pub(crate) fn tells(text: Text) -> Answered
+    ensures { result ≡ record { text = text; lost = false } }
+{
+    Answered { text, lost: false }
+}
+
+/// An answer that tells that a disk failed.
+pub(crate) fn loses(text: Text) -> Answered
+    ensures { result ≡ record { text = text; lost = true } }
+{
+    Answered { text, lost: true }
+}
+
+/// The reply to the command of that number for which a disk failed.
+pub(crate) fn fault_reply(alloc: Global, number: u32) -> Result<Text, AllocError>
+    ensures { IfOk result (λ text. text ≡ printed (disk_row ∷ []) number) }
+{
+    let row = RowBuilder::new(alloc)
+        .number(b"code", 30)?
+        .text(b"name", b"Disk")?
+        .row();
+    let mut rows = Sequence::new(alloc);
+    rows.push(row)?;
+    let reply = Reply { rows };
+    let text = print_reply(alloc, &reply, number)?;
+    Ok(text)
+}

@@ -1,0 +1,97 @@
+//! A replica with the commands that it is still asked.
+
+ghost use Rattle.std.specs.Prelude.{◌≡◌, ◌⊎◌, ◌≤◌, ◌<◌, ◌+◌, ◌^◌, ℕ, List, [], length, true, IfOk};
+ghost use Rattle.archive_file.specs.Archive.{disk_of as archive_disk_of};
+ghost use Rattle.depot_model.specs.Deeds.{Deed};
+ghost use Rattle.depot_model.specs.Places.{Placed};
+ghost use Rattle.disk_journal.specs.Stands.{disk_of};
+ghost use Rattle.outside_api.specs.Count.{HasRisen};
+ghost use Rattle.serial_depot.specs.Running.{CanTake, HasRun};
+ghost use Rattle.replica_turns.specs.Going.{IsFresh, IsTurned};
+
+use crate::replying::answer_request;
+use depot_model::Request;
+use depot_path::Text;
+use outside_api::{Clock, Disk};
+use replica_pull::Replica;
+use serial_depot::SerialDepot;
+use session_loop::{ReplicaScript, requests_of};
+use std::alloc::{AllocError, Global};
+
+/// A replica among the parties of a run, with the commands that it hasn't answered yet.
+#[derive(Drop)]
+pub struct ReplicaParty {
+    pub(crate) replica: Replica,
+    /// The next one last.
+    pub(crate) left: Vec<Request>,
+}
+
+/// The answer to a command.
+#[derive(Drop)]
+pub struct Answered {
+    /// The printed reply.
+    pub text: Text,
+    /// Whether it tells that a disk failed.
+    pub lost: bool,
+}
+
+impl ReplicaParty {
+    /// A replica that has followed and answered nothing yet. Each of its commands has the moment that the clock gives now. The one error is want of
+    /// memory.
+    pub fn new<C: Clock>(
+        alloc: Global,
+        party: u32,
+        script: ReplicaScript,
+        clock: &C,
+    ) -> Result<ReplicaParty, AllocError>
+        requires { length script.session.commands < 2 ^ 32 }
+        ensures fresh { IfOk result (IsFresh (C.may_give clock.now) party script) }
+        ensures left { IfOk result (λ p. length p.left.items ≡ length script.session.commands) }
+    {
+        let ReplicaScript { filter, session } = script;
+        let mut left = requests_of(alloc, party, session, clock)?;
+        left.reverse();
+        let replica = Replica::with_filter(alloc, filter)?;
+        Ok(ReplicaParty { replica, left })
+    }
+
+    /// How many commands it hasn't answered yet.
+    pub fn left_count(&self) -> u32
+        ensures { length self.now.left.items < 2 ^ 32 → result ≡ length self.now.left.items }
+    {
+        u32::try_from(self.left.len()).unwrap_or(u32::MAX)
+    }
+
+    /// Answers the next command. `pull` fetches of the depot's journal where the replica awaits its next piece, and `print` reads the archive. The one error
+    /// is want of memory; the command counts as answered then too, and the replica is as it was. With no command left nothing is done, and the answer is
+    /// the same.
+    pub fn answer_next<D: Disk>(
+        &mut self,
+        alloc: Global,
+        depot: &mut SerialDepot<D>,
+    ) -> Result<Answered, AllocError>
+        requires { CanTake D.may_leave depot.old }
+        ensures can { CanTake D.may_leave depot.new }
+        ensures ran { (since : ℕ) (start : List Deed) (places : List Placed) → HasRun D.seen D.may_leave D.moment D.left_since depot.old since start places →
+            HasRun D.seen D.may_leave D.moment D.left_since depot.new since start places }
+        ensures tables { depot.new.tables ≡ depot.old.tables }
+        ensures turned { 0 < length self.old.left.items → IsTurned D.seen D.may_leave depot.old self.old self.new result }
+        ensures left { 0 < length self.old.left.items → length self.old.left.items ≡ length self.new.left.items + 1 }
+        ensures done { self.old.left.items ≡ [] → (self.new ≡ self.old) × (depot.new ≡ depot.old) }
+        ensures never_falls { D.faults (disk_of depot.old.journal) ≤ D.faults (disk_of depot.new.journal) }
+        ensures never_falls_contents { D.faults (archive_disk_of depot.old.archive) ≤ D.faults (archive_disk_of depot.new.archive) }
+        ensures cause { IfOk result (λ answered. answered.lost ≡ true → HasRisen (D.faults (disk_of depot.old.journal)) (D.faults (disk_of depot.new.journal)) ⊎ HasRisen (D.faults (archive_disk_of depot.old.archive)) (D.faults (archive_disk_of depot.new.archive))) }
+    {
+        if self.left.is_empty() {
+            return Err(AllocError);
+        }
+        match self.left.pop() {
+            Some(request) => {
+                let answered = answer_request(alloc, &mut self.replica, depot, &request);
+                drop(request);
+                answered
+            }
+            None => Err(AllocError),
+        }
+    }
+}

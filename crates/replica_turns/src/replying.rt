@@ -1,0 +1,134 @@
+//! Commands other than `pull`, among the parties of a run.
+
+ghost use Rattle.std.specs.Prelude.{◌≡◌, ◌⊎◌, List, [], ◌∷◌, map, true, false, IfOk, OnErr};
+ghost use Rattle.archive_file.specs.Archive.{disk_of as archive_disk_of};
+ghost use Rattle.command_core.specs.Outcomes.{IsFormedBy};
+ghost use Rattle.depot_model.specs.Deeds.{Deed};
+ghost use Rattle.depot_model.specs.Printed.{printed};
+ghost use Rattle.depot_model.specs.Rows.{disk_row};
+ghost use Rattle.depot_model.specs.declared.reply.Row.{Row};
+ghost use Rattle.disk_journal.specs.Stands.{disk_of};
+ghost use Rattle.outside_api.specs.Count.{HasRisen};
+ghost use Rattle.outside_api.specs.Disk.{Files};
+ghost use Rattle.recovery.specs.Standing.{HasContents};
+ghost use Rattle.reply_rows.specs.Made.{contents_of, waiting};
+ghost use Rattle.replica_answers.specs.Answering.{IsAnswerOf};
+ghost use Rattle.replica_replies.specs.Prints.{prints};
+ghost use Rattle.table_changes.specs.Changed.{AllRows};
+ghost use Rattle.replica_turns.specs.Replying.{IsAnsweredBy, IsReply, pulls};
+ghost use Rattle.replica_turns.specs.Turning.{IsUnmoved};
+
+use crate::answers::{fault_reply, loses, tells};
+use crate::party::Answered;
+use crate::pulling::pull;
+use archive_file::ContentFault;
+use command_core::filled;
+use depot_model::{Command, Reply, Request};
+use depot_path::{Sequence, Text};
+use outside_api::Disk;
+use replica_answers::{Answered as Waiting, answer};
+use replica_pull::Replica;
+use serial_depot::SerialDepot;
+use std::alloc::{AllocError, Global};
+use wire_text::print_reply;
+
+/// Whether a request is a `print`.
+fn is_print(request: &Request) -> bool
+    ensures { result ≡ prints request.now.command }
+{
+    matches!(&request.command, Ok(Command::Print { .. }))
+}
+
+/// Whether a request is a `pull`.
+fn is_pull(request: &Request) -> bool
+    ensures { result ≡ pulls request.now.command }
+{
+    matches!(&request.command, Ok(Command::Pull))
+}
+
+/// The printed reply with these contents in the rows that wait for theirs.
+fn printed_with(
+    alloc: Global,
+    reply: Reply,
+    contents: Sequence<Text>,
+    number: u32,
+) -> Result<Text, AllocError>
+    ensures { (rows : List Row) → reply.rows ≡ map waiting rows → contents ≡ contents_of rows → IfOk result (λ text. text ≡ printed rows number) }
+{
+    let whole = filled(reply, contents);
+    let text = print_reply(alloc, &whole, number)?;
+    Ok(text)
+}
+
+/// The printed answer whose rows have no contents.
+fn without_contents(alloc: Global, answer: Waiting, number: u32) -> Result<Answered, AllocError>
+    ensures kept { IfOk result (λ answered. answered.lost ≡ false) }
+    ensures told { (all : AllRows) (d : List Deed) (rows : List Row) → IsAnswerOf all d rows answer → contents_of rows ≡ [] → IfOk result (λ answered. answered.text ≡ printed rows number) }
+{
+    let Waiting { reply, reads } = answer;
+    drop(reads);
+    let text = printed_with(alloc, reply, Sequence::new(alloc), number)?;
+    Ok(tells(text))
+}
+
+/// The printed answer with the contents that its rows lack, from the depot's archive.
+fn with_contents<D: Disk>(
+    alloc: Global,
+    depot: &mut SerialDepot<D>,
+    answer: Waiting,
+    number: u32,
+) -> Result<Answered, AllocError>
+    ensures lost { IfOk result (λ answered. answered.lost ≡ true → answered.text ≡ printed (disk_row ∷ []) number) }
+    ensures told { (all : AllRows) (d : List Deed) (files : Files) (rows : List Row) → IsAnswerOf all d rows answer → D.seen (archive_disk_of depot.old.archive) files → HasContents (files 0) all d →
+        IfOk result (λ answered. answered.lost ≡ false → answered.text ≡ printed rows number) }
+    ensures depot { IsUnmoved D.seen D.may_leave D.moment D.left_since D.faults depot.old depot.new }
+    ensures cause { IfOk result (λ answered. answered.lost ≡ true → HasRisen (D.faults (archive_disk_of depot.old.archive)) (D.faults (archive_disk_of depot.new.archive))) }
+{
+    let Waiting { reply, reads } = answer;
+    let of_fault = fault_reply(alloc, number)?;
+    let contents = match depot.contents(alloc, reads.as_slice()) {
+        Ok(contents) => contents,
+        Err(ContentFault::DiskFault) => return Ok(loses(of_fault)),
+        Err(ContentFault::Memory) => return Err(AllocError),
+    };
+    let text = printed_with(alloc, reply, contents, number)?;
+    Ok(tells(text))
+}
+
+/// Answers a command other than `pull`.
+fn reply<D: Disk>(
+    alloc: Global,
+    replica: &Replica,
+    depot: &mut SerialDepot<D>,
+    request: &Request,
+) -> Result<Answered, AllocError>
+    ensures answered { IsFormedBy request.now → IfOk result (λ answered. IsReply (λ been. been ≡ depot.old) D.seen replica.now request.now answered.text answered.lost) }
+    ensures depot { IsUnmoved D.seen D.may_leave D.moment D.left_since D.faults depot.old depot.new }
+    ensures cause { IfOk result (λ answered. answered.lost ≡ true → HasRisen (D.faults (archive_disk_of depot.old.archive)) (D.faults (archive_disk_of depot.new.archive))) }
+{
+    let answer = answer(alloc, replica, request)?;
+    if is_print(request) {
+        with_contents(alloc, depot, answer, request.number)
+    } else {
+        without_contents(alloc, answer, request.number)
+    }
+}
+
+/// Answers a command.
+pub(crate) fn answer_request<D: Disk>(
+    alloc: Global,
+    replica: &mut Replica,
+    depot: &mut SerialDepot<D>,
+    request: &Request,
+) -> Result<Answered, AllocError>
+    ensures answered { IsFormedBy request.now → IfOk result (λ answered. IsAnsweredBy (λ been. been ≡ depot.old) D.seen D.may_leave replica.old replica.new request.now answered.text answered.lost) }
+    ensures kept { OnErr result (replica.new ≡ replica.old) }
+    ensures depot { IsUnmoved D.seen D.may_leave D.moment D.left_since D.faults depot.old depot.new }
+    ensures cause { IfOk result (λ answered. answered.lost ≡ true → HasRisen (D.faults (disk_of depot.old.journal)) (D.faults (disk_of depot.new.journal)) ⊎ HasRisen (D.faults (archive_disk_of depot.old.archive)) (D.faults (archive_disk_of depot.new.archive))) }
+{
+    if is_pull(request) {
+        pull(alloc, replica, depot, request.number)
+    } else {
+        reply(alloc, replica, depot, request)
+    }
+}
