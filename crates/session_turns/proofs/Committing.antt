@@ -27,6 +27,7 @@ use Rattle.serial_depot.specs.Committing.{AreRowsAfter, IsOutcomeOf}
 use Rattle.serial_depot.specs.Running.{HasRun}
 use Rattle.serial_depot.specs.declared.depot.SerialDepot.{SerialDepot}
 use Rattle.session_loop.specs.Taking.{Answers, IsProper, place_by, placed_by, with_place}
+use Rattle.session_loop.specs.declared.reading.ReplicaScript.{ReplicaScript}
 use Rattle.session_loop.specs.declared.session.SessionRun.{SessionRun}
 use Rattle.session_turns.proofs.Naming.{proper}
 use Rattle.session_turns.proofs.Orders.{IsNext}
@@ -34,6 +35,7 @@ use Rattle.session_turns.proofs.Turning.{commit_more, here, its, more_left, n, n
 use Rattle.session_turns.specs.Drawn.{ended}
 use Rattle.session_turns.specs.Running.{Got, IsUnderWay}
 use Rattle.session_turns.specs.Answering.{IsAnsweredAt, has_more_at, reply_of}
+use Rattle.session_turns.specs.Served.{session_counts}
 use Rattle.session_turns.specs.Taking.{IsRunning, TakesTurn, finish_for}
 use Rattle.table_changes.specs.Changed.{AllRows, changed_by, rows_of}
 
@@ -44,13 +46,13 @@ outcome_of start s core i request outcome depot ready rows end =
     let P : AllRows → ℕ → Type 0 = λ all from. IsOutcomeOf all from request outcome in
     subst (P (rows_of depot.tables)) end (subst (λ (all : AllRows). P all core.tables.archive_end) rows ready.outcome_is)
 
-module _ {D K : Type 0} (seen may_leave : D → Files → Type 0) (moment : D → ℕ) (left_since : D → ℕ → Files → Type 0) (given : K → Option (List ℕ)) (may_give : ℕ → Type 0) (sessions : List (Option Session)) (since : ℕ) (start : List Deed)
+module _ {D K : Type 0} (seen may_leave : D → Files → Type 0) (moment : D → ℕ) (left_since : D → ℕ → Files → Type 0) (given : K → Option (List ℕ)) (may_give : ℕ → Type 0) (sessions : List (Option Session)) (scripts : List (Option ReplicaScript)) (since : ℕ) (start : List Deed)
     (requests : List (List Request)) (before : List (Option (List ℕ))) (s : State) (core : LockCore) (runs : List SessionRun) (sinks : List K) (depot : SerialDepot D) (order : List Place)
-    (r : IsRunning seen may_leave moment left_since given may_give sessions since start requests before s core runs sinks depot order) (i : ℕ) (request : Request) (commit : IsCommit start s core i request) where
+    (r : IsRunning seen may_leave moment left_since given may_give sessions scripts since start requests before s core runs sinks depot order) (i : ℕ) (request : Request) (commit : IsCommit start s core i request) where
   abbrev at : IsAt s.parties i request
   at = commit.at
 
-  abbrev u : IsUnderWay may_give sessions start requests s runs before (map given sinks) order
+  abbrev u : IsUnderWay may_give sessions scripts start requests s runs before (map given sinks) order
   u = r.under_way
 
   abbrev places : List Placed
@@ -63,14 +65,14 @@ module _ {D K : Type 0} (seen may_leave : D → Files → Type 0) (moment : D �
   pub request_proper : IsProper request
   request_proper =
       let P : Request → Type 0 = IsProper in
-      subst P at.asks (proper may_give sessions i (n may_give sessions start requests s runs before (map given sinks) order u i at.party at.there commit.enabled) at.work.request
-      (its may_give sessions start requests s runs before (map given sinks) order u i at.party at.there commit.enabled at.work at.has at.judged) r.formed)
+      subst P at.asks (proper may_give sessions i (n may_give sessions scripts start requests s runs before (map given sinks) order u i at.party at.there commit.enabled) at.work.request
+      (its may_give sessions scripts start requests s runs before (map given sinks) order u i at.party at.there commit.enabled at.work at.has at.judged) r.formed)
 
   -- the party has one more
   pub more_is : (totals : List ℕ) → map (λ (own : List Request). length own) requests ≡ totals → has_more_at (slice_get runs i) (slice_get totals i) ≡ true
   more_is totals totals_are =
-      let own = here may_give sessions start requests s runs before (map given sinks) order u i at.party at.there commit.enabled in
-      let left = more_left may_give sessions start requests s runs before (map given sinks) order u i at.party at.there commit.enabled at.work at.has at.judged in
+      let own = here may_give sessions scripts start requests s runs before (map given sinks) order u i at.party at.there commit.enabled in
+      let left = more_left may_give sessions scripts start requests s runs before (map given sinks) order u i at.party at.there commit.enabled at.work at.has at.judged in
       let total : slice_get totals i ≡ Some (length own.own) =
       sym (ap (λ (ts : List ℕ). slice_get ts i) totals_are) ∙ (slice_get-map (λ (o : List Request). length o) requests i ∙ ap (option_map (λ (o : List Request). length o)) own.at_own) in
       let within = slice_get_within own.own own.run.commands at.work.request left.0 in
@@ -84,8 +86,8 @@ module _ {D K : Type 0} (seen may_leave : D → Files → Type 0) (moment : D �
     pub shows : Shows start mid (event needs_of s i how)
     pub rows : rows_of mid.tables ≡ rows_of depot'.tables
     pub ran : Ran depot' (map (placed sessions) order')
-    pub next : IsNext may_give sessions start runs i (n may_give sessions start requests s runs before (map given sinks) order u i at.party at.there commit.enabled) order order'
-        (reply_of answer (n may_give sessions start requests s runs before (map given sinks) order u i at.party at.there commit.enabled + 1))
+    pub next : IsNext may_give sessions start (session_counts scripts runs) i (n may_give sessions scripts start requests s runs before (map given sinks) order u i at.party at.there commit.enabled) order order'
+        (reply_of answer (n may_give sessions scripts start requests s runs before (map given sinks) order u i at.party at.there commit.enabled + 1))
     pub order_is : map (placed sessions) order' ≡ places_of s.order ++ places_of (machine.placed at.work.request how)
 
   module _ {E : Type 0} (mid : LockCore) (depot' : SerialDepot D) (order' : List Place) where
@@ -111,18 +113,18 @@ module _ {D K : Type 0} (seen may_leave : D → Files → Type 0) (moment : D �
         ran_at : (fault : Bool) → answer.place.fault ≡ fault → Ran depot' (map (placed sessions) order')
         ran_at fault is =
             let P : List Placed → Type 0 = Ran depot' in
-            subst P (sym (ap (map (placed sessions)) (order_at fault is) ∙ (places_more may_give sessions start requests s runs before (map given sinks) order u i at.party at.there commit.enabled w at.has at.judged fault
+            subst P (sym (ap (map (placed sessions)) (order_at fault is) ∙ (places_more may_give sessions scripts start requests s runs before (map given sinks) order u i at.party at.there commit.enabled w at.has at.judged fault
             ∙ (λ k. places ++ placed_by (at.asks k) (sym is k) ∷ [])))) ran
 
         order_of : (fault : Bool) → answer.place.fault ≡ fault → map (placed sessions) order' ≡ places_of s.order ++ placed_by w.request fault ∷ []
-        order_of fault is = ap (map (placed sessions)) (order_at fault is) ∙ (places_more may_give sessions start requests s runs before (map given sinks) order u i at.party at.there commit.enabled w at.has at.judged fault
+        order_of fault is = ap (map (placed sessions)) (order_at fault is) ∙ (places_more may_give sessions scripts start requests s runs before (map given sinks) order u i at.party at.there commit.enabled w at.has at.judged fault
             ∙ ap (λ (ps : List Placed). ps ++ placed_by w.request fault ∷ []) u.order_is)
 
-        next_at : (fault : Bool) → answer.place.fault ≡ fault → IsNext may_give sessions start runs i (n may_give sessions start requests s runs before (map given sinks) order u i at.party at.there commit.enabled) order order' answer.reply
+        next_at : (fault : Bool) → answer.place.fault ≡ fault → IsNext may_give sessions start (session_counts scripts runs) i (n may_give sessions scripts start requests s runs before (map given sinks) order u i at.party at.there commit.enabled) order order' answer.reply
         next_at fault is =
-            let P : List Place → List ℕ → Type 0 = IsNext may_give sessions start runs i (n may_give sessions start requests s runs before (map given sinks) order u i at.party at.there commit.enabled) order in
+            let P : List Place → List ℕ → Type 0 = IsNext may_give sessions start (session_counts scripts runs) i (n may_give sessions scripts start requests s runs before (map given sinks) order u i at.party at.there commit.enabled) order in
             subst (λ (o : List Place). P o answer.reply) (sym (order_at fault is)) (subst (P (order ++ place_by w.request fault ∷ [])) (text fault is)
-            (next_with may_give sessions start requests s runs before (map given sinks) order u i at.party at.there commit.enabled w at.has at.judged fault))
+            (next_with may_give sessions scripts start requests s runs before (map given sinks) order u i at.party at.there commit.enabled w at.has at.judged fault))
 
         go : (fault : Bool) → answer.place.fault ≡ fault → IsCommitted {E = E} mid depot' (Ok answer) order'
         go true is =
@@ -154,34 +156,34 @@ module _ {D K : Type 0} (seen may_leave : D → Files → Type 0) (moment : D �
     pub committed_unplaced : (error : E) → Ran depot' places → depot'.tables ≡ depot.tables → order' ≡ order → Finishes core mid i (finish_for (Err error)) → IsCommitted {E = E} mid depot' (Err error) order'
     committed_unplaced error ran same order_same finishes =
         let undone = finishes start s request commit in
-        let m = n may_give sessions start requests s runs before (map given sinks) order u i at.party at.there commit.enabled in
+        let m = n may_give sessions scripts start requests s runs before (map given sinks) order u i at.party at.there commit.enabled in
         let P : List Place → Type 0 = λ o. Ran depot' (map (placed sessions) o) in
-        let Q : List Place → Type 0 = λ o. IsNext may_give sessions start runs i m order o (reply_of (Err error) (m + 1)) in
+        let Q : List Place → Type 0 = λ o. IsNext may_give sessions start (session_counts scripts runs) i m order o (reply_of (Err error) (m + 1)) in
         record {
           how = machine.NoMemory;
           shows = undone.shows;
           rows = undone.rows ∙ (r.rows ∙ ap rows_of (sym same));
           ran = subst P (sym order_same) ran;
-          next = subst Q (sym order_same) (next_without may_give sessions start requests s runs before (map given sinks) order u i at.party at.there commit.enabled at.work at.has at.judged);
+          next = subst Q (sym order_same) (next_without may_give sessions scripts start requests s runs before (map given sinks) order u i at.party at.there commit.enabled at.work at.has at.judged);
           order_is = ap (map (placed sessions)) order_same ∙ (u.order_is ∙ sym (append-nil (places_of s.order)));
         }
 
     -- ---- its answer
 
-    pub answered : (answer : Result Answer E) → IsCommitted mid depot' answer order' → (faults : K → ℕ) (runs' : List SessionRun) (sinks' : List K) (failed : Bool) → IsAnsweredAt given faults i answer runs runs' sinks sinks' failed
+    pub answered : (answer : Result Answer E) → IsCommitted mid depot' answer order' → (faults : K → ℕ) (runs' : List SessionRun) (sinks' : List K) (failed : Bool) → IsAnsweredAt given faults i (reply_of answer) runs runs' sinks sinks' failed
         → (new : LockCore) → new.tables ≡ mid.tables → mid.tables.archive_end ≡ depot'.tables.archive_end → ((s : State) → Shows start mid s → Shows start new (ended s i failed))
-        → TakesTurn s i runs runs' (λ (t : State). IsRunning seen may_leave moment left_since given may_give sessions since start requests before t new runs' sinks' depot' order')
+        → TakesTurn s i runs runs' (λ (t : State). IsRunning seen may_leave moment left_since given may_give sessions scripts since start requests before t new runs' sinks' depot' order')
     answered answer c faults runs' sinks' failed a new tables_same end shows =
-        let own = here may_give sessions start requests s runs before (map given sinks) order u i at.party at.there commit.enabled in
+        let own = here may_give sessions scripts start requests s runs before (map given sinks) order u i at.party at.there commit.enabled in
         let run_is : own.run ≡ a.run = some_is (sym own.at_run ∙ a.at_run) in
         let got_at : slice_get (map given sinks) i ≡ Some (given a.sink) = slice_get-map given sinks i ∙ ap (option_map given) a.at_sink in
         let P : ℕ → Type 0 = λ m. Got failed (reply_of answer (m + 1)) (given a.sink) (given a.new) in
         let gives = subst P (ap (λ (run : SessionRun). run.commands) (sym run_is)) a.got in
-        let more = commit_more may_give sessions start requests s runs before (map given sinks) order u i at.party at.there commit.enabled at.work at.has at.judged
+        let more = commit_more may_give sessions scripts start requests s runs before (map given sinks) order u i at.party at.there commit.enabled at.work at.has at.judged
         c.how order' (reply_of answer (own.run.commands + 1)) c.next c.order_is failed (given a.sink) (given a.new) got_at gives in
         let runs_are : runs' ≡ set runs i (record { commands = own.run.commands + 1; failed = failed }) = a.runs ∙ ap (λ (run : SessionRun). set runs i (record { commands = run.commands + 1; failed = failed })) (sym run_is) in
         let sinks_are : map given sinks' ≡ set (map given sinks) i (given a.new) = ap (map given) a.sinks ∙ map-set given sinks i a.new in
-        let U : List SessionRun → List (Option (List ℕ)) → Type 0 = λ rs now. IsUnderWay may_give sessions start requests (ended (event needs_of s i c.how) i failed) rs before now order' in
+        let U : List SessionRun → List (Option (List ℕ)) → Type 0 = λ rs now. IsUnderWay may_give sessions scripts start requests (ended (event needs_of s i c.how) i failed) rs before now order' in
         record {
           how = c.how;
           stops = failed;
@@ -204,7 +206,7 @@ module _ {D K : Type 0} (seen may_leave : D → Files → Type 0) (moment : D �
               elim (one_or_apart i j) [
                 | inl same ↦ absurd (
                     let one : own.run ≡ run = some_is (sym own.at_run ∙ (ap (slice_get runs) same ∙ at_j)) in
-                    let good = whole may_give sessions start requests s runs before (map given sinks) order u i at.party at.there commit.enabled at.work at.has at.judged in
+                    let good = whole may_give sessions scripts start requests s runs before (map given sinks) order u i at.party at.there commit.enabled at.work at.has at.judged in
                     let both : true ≡ false = sym is ∙ (ap (λ (x : SessionRun). x.failed) (sym one) ∙ good) in
                     cc)
                 | inr apart ↦ subst R (sym (set_there runs i j (record { commands = own.run.commands + 1; failed = failed }) apart ∙ at_j)) is

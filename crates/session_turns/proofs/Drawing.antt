@@ -1,12 +1,17 @@
 -- The turns that numbers draw.
-use Rattle.std.proofs.Common.{◌≡◌, ℕ, zero, suc, ◌+◌, ◌*◌, ◌≤◌, ◌<◌, Bool, true, false, cond, List, [], ◌∷◌, ◌++◌, length, set, Option, Some, None, refl, sym, ap, subst, ◌∙◌, arith}
-use Rattle.std.specs.Prelude.{◌%◌, filter, slice_get}
-use Rattle.std.specs.List.{range_with_len}
+use Rattle.std.proofs.Common.{◌≡◌, ℕ, zero, suc, ◌+◌, ◌*◌, ◌≤◌, ◌<◌, Bool, true, false, cond, List, [], ◌∷◌, ◌++◌, get_or, length, set, Option, Some, None, refl, sym, ap, subst, ◌∙◌, arith, inl, inr}
+use Rattle.std.specs.Prelude.{All, ◌%◌, ◌||◌, filter, slice_get}
+use Rattle.std.specs.List.{AllByRecursion, range_with_len, sum}
+use Rattle.std.proofs.lemmas.Bool.{ltb-true}
+use Rattle.std.proofs.lemmas.List.{get_or_past}
+use Rattle.std.proofs.lemmas.List.Sums.{sum_by-cons, sum_by-set}
+use Rattle.std.proofs.lemmas.List.Elements.{recursion_from_All}
 use Rattle.std.proofs.lemmas.Nat.{mod_below}
-use Rattle.std.proofs.lemmas.Option.{slice_get-get_or}
+use Rattle.std.proofs.lemmas.Option.{slice_get-get_or, slice_get_cases}
 use Rattle.depot_model.specs.Tables.{Need, needs_of}
 use Rattle.depot_model.specs.declared.request.Request.{Request}
-use Rattle.lock_machine.specs.Draws.{chosen, enabled_parties}
+use Rattle.lock_core.specs.Drawing.{has_other, may_go_on}
+use Rattle.lock_machine.specs.Draws.{chosen}
 use Rattle.lock_machine.specs.Machine.{Fault, Finish, Party, State, event, is_enabled, journal, may_party, stops}
 use Rattle.lock_machine.specs.Orderly.{Rises}
 use Rattle.lock_machine.specs.Runs.{beginning}
@@ -15,16 +20,19 @@ use Rattle.lock_machine.proofs.Ends.{acted_less}
 use Rattle.lock_machine.proofs.Places.{some_is}
 use Rattle.lock_machine.proofs.Rising.{sets_rise}
 use Rattle.seeded_numbers.specs.Numbers.{next_number, value_of}
+use Rattle.session_loop.specs.Asking.{replica_commands}
+use Rattle.session_loop.specs.declared.reading.ReplicaScript.{ReplicaScript}
 use Rattle.session_turns.proofs.Events.{acted_is}
-use Rattle.session_turns.specs.Drawn.{AreDrawn, Turn, ended, turned}
+use Rattle.session_turns.specs.Drawn.{AreDrawn, Progress, Turn, advanced, ended, going, left_after_turn, others_turned, replica_totals, turned}
+use Rattle.session_turns.specs.Going.{all_left}
 
 -- ---- one more turn
 
-pub drawn_more : (x : ℕ) (s : State) (turns : List Turn) (y : ℕ) (t : State) (turn : Turn) → AreDrawn x s turns y t → chosen (enabled_parties t) (value_of (next_number y)) ≡ Some turn.party
-    → AreDrawn x s (turns ++ turn ∷ []) (next_number y) (turned t turn)
-drawn_more x s [] y t turn drawn one =
-    ((λ k. chosen (enabled_parties (drawn.1 k)) (value_of (next_number (drawn.0 k)))) ∙ one, (ap next_number drawn.0, ap (λ (u : State). turned u turn) drawn.1))
-drawn_more x s (first ∷ turns) y t turn drawn one = (drawn.0, drawn_more (next_number x) (turned s first) turns y t turn drawn.1 one)
+pub drawn_more : (x : ℕ) (p : Progress) (turns : List Turn) (y : ℕ) (q : Progress) (turn : Turn) → AreDrawn x p turns y q → chosen (going q) (value_of (next_number y)) ≡ Some turn.party
+    → AreDrawn x p (turns ++ turn ∷ []) (next_number y) (advanced q turn)
+drawn_more x p [] y q turn drawn one =
+    ((λ k. chosen (going (drawn.1 k)) (value_of (next_number (drawn.0 k)))) ∙ one, (ap next_number drawn.0, ap (λ (u : Progress). advanced u turn) drawn.1))
+drawn_more x p (first ∷ turns) y q turn drawn one = (drawn.0, drawn_more (next_number x) (advanced p first) turns y q turn drawn.1 one)
 
 -- ---- who is chosen
 
@@ -41,11 +49,11 @@ chosen_in : (xs : List ℕ) (value i : ℕ) → chosen xs value ≡ Some i → (
 chosen_in [] value i is = absurd cc
 chosen_in (x ∷ xs) value i is = (value % length (x ∷ xs), is)
 
--- its event is enabled
-pub chosen_enabled : (s : State) (value i : ℕ) → chosen (enabled_parties s) value ≡ Some i → is_enabled s i ≡ true
-chosen_enabled s value i is =
-    let one = chosen_in (enabled_parties s) value i is in
-    passes (is_enabled s) (range_with_len 0 (length s.parties)) one.0 i one.1
+-- it may go on
+pub chosen_going : (p : Progress) (value i : ℕ) → chosen (going p) value ≡ Some i → may_go_on p.machine p.others i ≡ true
+chosen_going p value i is =
+    let one = chosen_in (going p) value i is in
+    passes (may_go_on p.machine p.others) (range_with_len 0 (length p.machine.parties)) one.0 i one.1
 
 -- none is chosen only of none
 pub chosen_none : (xs : List ℕ) (value : ℕ) → chosen xs value ≡ None → xs ≡ []
@@ -81,9 +89,6 @@ event_less s i how enabled =
     let P : State → Type 0 = λ t. turns_left needs_of t < turns_left needs_of s in
     subst P (sym (acted_is s i p.0 p.1 enabled how)) (acted_less needs_of s i p.0 how p.1 (sym (ap (may_party s.parties) p.1) ∙ enabled))
 
-pub none_left : (s : State) → turns_left needs_of s ≤ 0 → enabled_parties s ≡ []
-none_left s none = filter_none (is_enabled s) (range_with_len 0 (length s.parties)) (λ i enabled. let less = event_less s i Fault enabled in absurd (omega (arith, none, less)))
-
 set_less : (parties : List Party) (i : ℕ) (p q : Party) → slice_get parties i ≡ Some p → turns_of needs_of q ≤ turns_of needs_of p → turns_in needs_of (set parties i q) ≤ turns_in needs_of parties
 set_less [] i p q at less = absurd cc
 set_less (x ∷ parties) zero p q at less = let same = ap (turns_of needs_of) (some_is at) in omega (arith, less, same)
@@ -104,7 +109,59 @@ turned_less s turn enabled = go turn.stops
         let more = stops_less t turn.party (slice_get t.parties turn.party) refl in
         omega (arith, less, more)
 
+-- ---- how many are left to replicas
+
+least_other : (others : List ℕ) (i : ℕ) → has_other others i ≡ true → i < length others
+least_other others i has =
+    elim (slice_get_cases others i).1 [
+      | inl there ↦ there.1
+      | inr past ↦ absurd (let none = get_or_past others i 0 past.0 in let more = ltb-true 0 (get_or others i 0) has in omega (arith, none, more))
+    ]
+
+-- one turn of a replica
+other_less : (others : List ℕ) (turn : Turn) → has_other others turn.party ≡ true → sum (others_turned others turn) < sum others
+other_less others turn has =
+    let i = turn.party in
+    let old = get_or others i 0 in
+    let new = left_after_turn old turn.stops in
+    let some = ltb-true 0 old has in
+    let moved = sum_by-set (λ (n : ℕ). n) others i new 0 (least_other others i has) in
+    let less = fewer old turn.stops some in
+    omega (arith, moved, less)
+  where
+    fewer : (old : ℕ) (stops : Bool) → 0 < old → left_after_turn old stops < old
+    fewer old true some = omega (arith, some)
+    fewer old false some = omega (arith, some)
+
+pub either_first : (a b : Bool) → (a || b) ≡ true → b ≡ false → a ≡ true
+either_first true b e none = refl
+either_first false b e none = absurd (let both : true ≡ false = sym e ∙ none in cc)
+
+pub advanced_less : (p : Progress) (turn : Turn) → may_go_on p.machine p.others turn.party ≡ true → all_left (advanced p turn) < all_left p
+advanced_less p turn may = go (has_other p.others turn.party) refl
+  where
+    go : (b : Bool) → has_other p.others turn.party ≡ b → all_left (cond b (record p { others = others_turned p.others turn }) (record p { machine = turned p.machine turn })) < all_left p
+    go true has = let less = other_less p.others turn has in omega (arith, less)
+    go false none = let less = turned_less p.machine turn (either_first (is_enabled p.machine turn.party) (has_other p.others turn.party) may none) in omega (arith, less)
+
+pub none_left : (p : Progress) → all_left p ≤ 0 → going p ≡ []
+none_left p none = filter_none (may_go_on p.machine p.others) (range_with_len 0 (length p.machine.parties)) (λ i may.
+    let less = advanced_less p (record { party = i; how = Fault; stops = false }) may in
+    absurd (omega (arith, none, less)))
+
 -- ---- at first
+
+replica_count : (scripts : List (Option ReplicaScript)) → AllByRecursion (λ (script : Option ReplicaScript). length (replica_commands script) ≤ 67108864) scripts
+    → sum (replica_totals scripts) ≤ 67108864 * length scripts
+replica_count [] few = omega arith
+replica_count (script ∷ scripts) few =
+    let here = few.0 in
+    let more = replica_count scripts few.1 in
+    let all : sum (replica_totals (script ∷ scripts)) ≡ length (replica_commands script) + sum (replica_totals scripts) = sum_by-cons (λ (n : ℕ). n) (length (replica_commands script)) (replica_totals scripts) in
+    omega (arith, here, more, all)
+
+pub all_replica_count : (scripts : List (Option ReplicaScript)) → All (λ (script : Option ReplicaScript). length (replica_commands script) ≤ 67108864) scripts → sum (replica_totals scripts) ≤ 67108864 * length scripts
+all_replica_count scripts few = replica_count scripts (recursion_from_All (λ (script : Option ReplicaScript). length (replica_commands script) ≤ 67108864) scripts few)
 
 set_count : (n : ℕ) (needs : List Need) → Rises n needs → n + length needs ≤ journal
 set_count n [] rises = omega (arith, rises)

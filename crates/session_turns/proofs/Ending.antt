@@ -1,20 +1,15 @@
 -- The ends of the parties.
-use Rattle.std.proofs.Common.{◌≡◌, ℕ, zero, suc, ◌≤◌, List, [], ◌∷◌, length, map, Option, Some, Result, Ok, Err, refl, sym, ap, subst, ◌∙◌, arith}
-use Rattle.std.specs.Prelude.{OnErr, slice_get, option_map}
+use Rattle.std.proofs.Common.{◌≡◌, ℕ, ◌≤◌, List, length, Option, Some, Result, Ok, Err, refl, sym, ap, subst, ◌∙◌, arith}
+use Rattle.std.specs.Prelude.{OnErr, slice_get}
 use Rattle.std.proofs.lemmas.List.{length-map}
-use Rattle.std.proofs.lemmas.Option.{slice_get-map}
 use Rattle.depot_model.specs.declared.request.Session.{Session}
 use Rattle.lock_machine.proofs.Places.{some_is}
-use Rattle.session_loop.specs.Asking.{commands_of}
+use Rattle.session_loop.specs.declared.reading.ReplicaScript.{ReplicaScript}
 use Rattle.session_loop.specs.declared.session.SessionRun.{SessionRun}
+use Rattle.session_turns.proofs.Fresh.{fresh_at}
 use Rattle.session_turns.specs.Answering.{AreDone}
 use Rattle.session_turns.specs.Running.{AreWithin, IsWithin, fresh, fresh_runs}
-use Rattle.session_turns.specs.Served.{AreEnds}
-
-fresh_at : (totals : List ℕ) (i : ℕ) (run : SessionRun) → slice_get (fresh_runs totals) i ≡ Some run → run ≡ fresh
-fresh_at [] i run at = absurd cc
-fresh_at (t ∷ totals) zero run at = sym (some_is at)
-fresh_at (t ∷ totals) (suc i) run at = fresh_at totals i run at
+use Rattle.session_turns.specs.Served.{AreEnds, total_of}
 
 -- at first
 pub within_none : {K : Type 0} (faults : K → ℕ) (totals : List ℕ) (sinks : List K) → AreWithin faults totals (fresh_runs totals) sinks sinks
@@ -30,18 +25,17 @@ within_none faults totals sinks = record {
 }
 
 -- at the end
-pub ends_are : {K : Type 0} (faults : K → ℕ) (sessions : List (Option Session)) (totals : List ℕ) (runs : List SessionRun) (before now : List K)
-    → totals ≡ map (λ (session : Option Session). length (commands_of session)) sessions → AreWithin faults totals runs before now → AreDone runs totals → AreEnds faults sessions runs before now
-ends_are faults sessions totals runs before now totals_are within done = record {
-  runs_count = within.runs_count ∙ (ap (length {A = ℕ}) totals_are ∙ length-map sessions (λ (session : Option Session). length (commands_of session)));
+pub ends_are : {K : Type 0} (faults : K → ℕ) (sessions : List (Option Session)) (scripts : List (Option ReplicaScript)) (bounds : List ℕ) (runs : List SessionRun) (before now : List K) → length bounds ≡ length sessions
+    → ((i : ℕ) (session : Option Session) (script : Option ReplicaScript) → slice_get sessions i ≡ Some session → slice_get scripts i ≡ Some script → slice_get bounds i ≡ Some (total_of session script))
+    → AreWithin faults bounds runs before now → AreDone runs bounds → AreEnds faults sessions scripts runs before now
+ends_are faults sessions scripts bounds runs before now count are within done = record {
+  runs_count = within.runs_count ∙ count;
   sinks_count = within.sinks_count;
-  each = λ i session run old new at_session at_run at_old at_new.
-      let total : slice_get totals i ≡ Some (length (commands_of session)) =
-      ap (λ (ts : List ℕ). slice_get ts i) totals_are
-      ∙ (slice_get-map (λ (s : Option Session). length (commands_of s)) sessions i ∙ ap (option_map (λ (s : Option Session). length (commands_of s))) at_session) in
-      let one = within.each i (length (commands_of session)) run old new total at_run at_old at_new in
+  each = λ i session script run old new at_session at_script at_run at_old at_new.
+      let total = are i session script at_session at_script in
+      let one = within.each i (total_of session script) run old new total at_run at_old at_new in
       record {
-        all = λ whole. let most = one.within in let least = done i run (length (commands_of session)) at_run total whole in omega (arith, most, least);
+        all = λ whole. let most = one.within in let least = done i run (total_of session script) at_run total whole in omega (arith, most, least);
         within = one.within;
         counts = one.counts;
         cause = one.cause;

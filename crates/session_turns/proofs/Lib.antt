@@ -1,4 +1,5 @@
 pub mod Slots
+pub mod Counts
 pub mod Events
 pub mod Naming
 pub mod Orders
@@ -13,3 +14,10 @@ pub mod Ending
 pub mod Opening
 pub mod Moving
 pub mod Made
+pub mod Following
+pub mod Advancing
+pub mod Bounds
+pub mod Fresh
+pub mod Answered
+pub mod Losing
+pub mod Stepping

@@ -11,6 +11,7 @@ use Rattle.lock_core.specs.declared.machine.LockCore.{LockCore}
 use Rattle.lock_core.specs.declared.turn.Turn.TheVariants.{Idle, Moved}
 use Rattle.lock_machine.specs.Machine.{NoMemory, State, is_enabled}
 use Rattle.serial_depot.specs.declared.depot.SerialDepot.{SerialDepot}
+use Rattle.session_loop.specs.declared.reading.ReplicaScript.{ReplicaScript}
 use Rattle.session_loop.specs.declared.session.SessionRun.{SessionRun}
 use Rattle.session_turns.proofs.Drawing.{found_at}
 use Rattle.session_turns.proofs.Events.{never_judged}
@@ -19,11 +20,11 @@ use Rattle.session_turns.specs.Taking.{IsRunning, TakesTurn}
 use Rattle.table_changes.specs.Changed.{rows_of}
 use Rattle.table_store.specs.declared.tables.Tables.{Tables}
 
-module _ {D K : Type 0} (seen may_leave : D → Files → Type 0) (moment : D → ℕ) (left_since : D → ℕ → Files → Type 0) (given : K → Option (List ℕ)) (may_give : ℕ → Type 0) (sessions : List (Option Session)) (since : ℕ) (start : List Deed)
+module _ {D K : Type 0} (seen may_leave : D → Files → Type 0) (moment : D → ℕ) (left_since : D → ℕ → Files → Type 0) (given : K → Option (List ℕ)) (may_give : ℕ → Type 0) (sessions : List (Option Session)) (scripts : List (Option ReplicaScript)) (since : ℕ) (start : List Deed)
     (requests : List (List Request)) (before : List (Option (List ℕ))) (s : State) (core : LockCore) (runs : List SessionRun) (sinks : List K) (depot : SerialDepot D) (order : List Place)
-    (r : IsRunning seen may_leave moment left_since given may_give sessions since start requests before s core runs sinks depot order) (new : LockCore) where
+    (r : IsRunning seen may_leave moment left_since given may_give sessions scripts since start requests before s core runs sinks depot order) (new : LockCore) where
   -- the same machine, as another core shows it
-  pub same_machine : Shows start new s → new.tables ≡ core.tables → IsRunning seen may_leave moment left_since given may_give sessions since start requests before s new runs sinks depot order
+  pub same_machine : Shows start new s → new.tables ≡ core.tables → IsRunning seen may_leave moment left_since given may_give sessions scripts since start requests before s new runs sinks depot order
   same_machine shows same = record {
     formed = r.formed;
     under_way = r.under_way;
@@ -34,7 +35,7 @@ module _ {D K : Type 0} (seen may_leave : D → Files → Type 0) (moment : D �
   }
 
   pub moved_turn : (i : ℕ) → is_enabled s i ≡ true → IsTurn start s core new i Moved
-      → TakesTurn s i runs runs (λ (t : State). IsRunning seen may_leave moment left_since given may_give sessions since start requests before t new runs sinks depot order)
+      → TakesTurn s i runs runs (λ (t : State). IsRunning seen may_leave moment left_since given may_give sessions scripts since start requests before t new runs sinks depot order)
   moved_turn i enabled did =
       let p = found_at s i enabled in
       let none = never_judged start s i p.0 p.1 enabled (λ how. (did.1 how).run.told) in
@@ -43,7 +44,7 @@ module _ {D K : Type 0} (seen may_leave : D → Files → Type 0) (moment : D �
         stops = false;
         is_then = record {
           formed = r.formed;
-          under_way = quiet_more may_give sessions start requests s runs before (map given sinks) order r.under_way i p.0 p.1 enabled none NoMemory;
+          under_way = quiet_more may_give sessions scripts start requests s runs before (map given sinks) order r.under_way i p.0 p.1 enabled none NoMemory;
           shows = did.1 NoMemory;
           rows = ap rows_of did.2 ∙ r.rows;
           end = ap (λ (t : Tables). t.archive_end) did.2 ∙ r.end;

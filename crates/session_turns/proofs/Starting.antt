@@ -1,6 +1,6 @@
 -- What a run begins with.
-use Rattle.std.proofs.Common.{◌≡◌, ℕ, zero, suc, ◌+◌, ◌≤◌, true, List, [], ◌∷◌, length, map, Option, Some, None, Result, Ok, Err, refl, sym, ap, subst, ◌∙◌, arith}
-use Rattle.std.specs.Prelude.{All, IfOk, slice_get, option_map}
+use Rattle.std.proofs.Common.{◌≡◌, ℕ, suc, ◌+◌, ◌≤◌, true, List, [], ◌∷◌, length, map, Option, Some, None, Result, Ok, Err, refl, sym, ap, subst, ◌∙◌, arith}
+use Rattle.std.specs.Prelude.{All, IfOk, option_map}
 use Rattle.std.specs.List.{AllByRecursion}
 use Rattle.std.proofs.lemmas.List.{length-map}
 use Rattle.std.proofs.lemmas.List.Elements.{recursion_from_All}
@@ -22,10 +22,13 @@ use Rattle.session_loop.specs.Asking.{AreProper, AreWellFormed, commands_of}
 use Rattle.session_loop.specs.Requests.{AreRequests, AreRequestsOf, AreRequestsOfAll, IsRequest}
 use Rattle.session_loop.specs.Served.{IsOutput}
 use Rattle.session_loop.specs.Taking.{IsProper}
+use Rattle.session_loop.specs.declared.reading.ReplicaScript.{ReplicaScript}
 use Rattle.session_loop.specs.declared.session.SessionRun.{SessionRun}
 use Rattle.session_turns.proofs.Drawing.{AllShort}
+use Rattle.session_turns.proofs.Fresh.{fresh_at}
 use Rattle.session_turns.proofs.Turning.{asked_count}
 use Rattle.session_turns.specs.Running.{IsUnderWay, fresh, fresh_runs, left_after, unanswered}
+use Rattle.session_turns.specs.Served.{AreApart}
 use Rattle.wire_text.proofs.Pieces.{extended-nil}
 
 abbrev total : Option Session → ℕ
@@ -104,18 +107,20 @@ module _ (may_give : ℕ → Type 0) where
 
   -- ---- nothing is taken yet
 
-  pub under_way : (sessions : List (Option Session)) (start : List Deed) (requests : List (List Request)) (totals : List ℕ) (given : List (Option (List ℕ))) → AreRequestsOfAll may_give 1 sessions requests → length totals ≡ length sessions
-      → IsUnderWay may_give sessions start requests (beginning requests) (fresh_runs totals) given given []
-  under_way sessions start requests totals given asked as_many = record {
+  pub under_way : (sessions : List (Option Session)) (scripts : List (Option ReplicaScript)) (start : List Deed) (requests : List (List Request)) (totals : List ℕ) (given : List (Option (List ℕ))) → AreRequestsOfAll may_give 1 sessions requests → length totals ≡ length sessions
+      → length scripts ≡ length sessions → AreApart sessions scripts → IsUnderWay may_give sessions scripts start requests (beginning requests) (fresh_runs totals) given given []
+  under_way sessions scripts start requests totals given asked as_many as_many_scripts apart = record {
     served = record {
       count = length-map totals (λ (n : ℕ). fresh) ∙ as_many;
       places = record { places = λ k d lt. absurd (omega (arith, lt)); rising = λ i j d lt1 lt2. absurd (omega (arith, lt2)) };
-      each = λ i run before now at_run at_before at_now.
+      each = λ i run before now at_script at_run at_before at_now.
           let run_is = fresh_at totals i run at_run in
           let same : before ≡ now = some_is (sym at_before ∙ at_now) in
           let P : SessionRun → Type 0 = λ r. IsOutput sessions start [] (i + 1) r.commands r.failed before now in
           subst P (sym run_is) (sym same ∙ sym (extended-nil before));
     };
+    as_many = as_many_scripts;
+    apart = apart;
     asked = asked;
     count = length-map requests idle ∙ asked_count may_give 1 sessions requests asked;
     left = λ i own run p at_own at_run at_p.
@@ -124,8 +129,3 @@ module _ (may_give : ℕ → Type 0) where
         ap unanswered (sym p_is) ∙ ap (left_after own) (sym run_is);
     order_is = refl;
   }
-    where
-      fresh_at : (totals : List ℕ) (i : ℕ) (run : SessionRun) → slice_get (fresh_runs totals) i ≡ Some run → run ≡ fresh
-      fresh_at [] i run at = absurd cc
-      fresh_at (t ∷ totals) zero run at = sym (some_is at)
-      fresh_at (t ∷ totals) (suc i) run at = fresh_at totals i run at

@@ -1,8 +1,7 @@
 -- One more turn of one of the parties.
-use Rattle.std.proofs.Common.{◌≡◌, ◌≢◌, ◌⊎◌, ℕ, suc, ◌+◌, Bool, true, false, cond, List, [], ◌∷◌, ◌++◌, length, map, drop, set, Option, Some, refl, sym, ap, subst, ◌∙◌, inl, inr}
-use Rattle.std.specs.Prelude.{slice_get, option_map}
+use Rattle.std.proofs.Common.{◌≡◌, ◌≢◌, ◌⊎◌, ℕ, suc, ◌+◌, Bool, true, false, cond, List, [], ◌∷◌, ◌++◌, length, map, drop, set, Option, Some, None, refl, sym, ap, subst, ◌∙◌, inl, inr}
+use Rattle.std.specs.Prelude.{slice_get}
 use Rattle.std.proofs.lemmas.List.{length-set, map-append, map_push}
-use Rattle.std.proofs.lemmas.Option.{slice_get-map}
 use Rattle.depot_model.specs.Deeds.{Deed}
 use Rattle.depot_model.specs.Places.{Placed, taken, told_at}
 use Rattle.depot_model.specs.Printed.{printed}
@@ -19,14 +18,16 @@ use Rattle.lock_machine.specs.declared.stage.Stage.TheVariants.{Judged}
 use Rattle.lock_machine.proofs.Places.{some_is}
 use Rattle.session_loop.specs.Requests.{AreRequestsOfAll}
 use Rattle.session_loop.specs.Taking.{place_by, placed_by}
+use Rattle.session_loop.specs.declared.reading.ReplicaScript.{ReplicaScript}
 use Rattle.session_loop.specs.declared.session.SessionRun.{SessionRun}
+use Rattle.session_turns.proofs.Counts.{count_at, session_at}
 use Rattle.session_turns.proofs.Events.{IsJudged, commit_after, commit_is, commit_left, committed, quiet_is, quiet_left, stopped_is}
 use Rattle.session_turns.proofs.Naming.{IsOf, moment_is, named, number_is, party_is, placed_is}
 use Rattle.session_turns.proofs.Orders.{IsNext, next_placed, next_unplaced, served_more}
 use Rattle.session_turns.proofs.Slots.{also_at, at_set, drop_next}
 use Rattle.session_turns.specs.Drawn.{ended}
 use Rattle.session_turns.specs.Running.{Got, IsUnderWay, left_after, unanswered}
-use Rattle.session_turns.specs.Served.{counts_of}
+use Rattle.session_turns.specs.Served.{session_counts}
 
 pub asked_count : (may_give : ℕ → Type 0) (party : ℕ) (sessions : List (Option Session)) (requests : List (List Request)) → AreRequestsOfAll may_give party sessions requests → length requests ≡ length sessions
 asked_count may_give party [] [] all = refl
@@ -37,15 +38,17 @@ asked_count may_give party (s ∷ sessions) (r ∷ requests) all = ap suc (asked
 abbrev pub places_of : List Commit → List Placed
 places_of order = map (λ (c : Commit). c.place) order
 
-module _ (may_give : ℕ → Type 0) (sessions : List (Option Session)) (start : List Deed) (requests : List (List Request)) (s : State) (runs : List SessionRun) (before now : List (Option (List ℕ))) (order : List Place)
-    (u : IsUnderWay may_give sessions start requests s runs before now order) (i : ℕ) (p : Party) (there : slice_get s.parties i ≡ Some p) (enabled : is_enabled s i ≡ true) where
+module _ (may_give : ℕ → Type 0) (sessions : List (Option Session)) (scripts : List (Option ReplicaScript)) (start : List Deed) (requests : List (List Request)) (s : State) (runs : List SessionRun) (before now : List (Option (List ℕ))) (order : List Place)
+    (u : IsUnderWay may_give sessions scripts start requests s runs before now order) (i : ℕ) (p : Party) (there : slice_get s.parties i ≡ Some p) (enabled : is_enabled s i ≡ true) where
   abbrev UnderWay : State → Type 0
-  UnderWay t = IsUnderWay may_give sessions start requests t runs before now order
+  UnderWay t = IsUnderWay may_give sessions scripts start requests t runs before now order
 
   -- no commit is at hand
-  pub quiet_more : (IsJudged p → ⊥) → (how : Finish) → IsUnderWay may_give sessions start requests (event needs_of s i how) runs before now order
+  pub quiet_more : (IsJudged p → ⊥) → (how : Finish) → IsUnderWay may_give sessions scripts start requests (event needs_of s i how) runs before now order
   quiet_more none how = subst UnderWay (sym (quiet_is s i p there enabled none how)) (record {
     served = u.served;
+    as_many = u.as_many;
+    apart = u.apart;
     asked = u.asked;
     count = length-set s.parties i (machine.moved needs_of s.order p.left p.work) ∙ u.count;
     left = λ j own run q at_own at_run at_q.
@@ -75,9 +78,6 @@ module _ (may_give : ℕ → Type 0) (sessions : List (Option Session)) (start :
   abbrev pub n : ℕ
   n = here.run.commands
 
-  pub at_count : slice_get (counts_of runs) i ≡ Some n
-  at_count = slice_get-map (λ (run : SessionRun). run.commands) runs i ∙ ap (option_map (λ (run : SessionRun). run.commands)) here.at_run
-
   module _ (w : Work) (has : p.work ≡ Some w) (is : w.stage ≡ Judged) where
     left_is : left_after here.own here.run ≡ w.request ∷ p.left
     left_is = sym (u.left i here.own here.run p here.at_own here.at_run there) ∙ commit_left s i p there enabled w has is
@@ -95,6 +95,13 @@ module _ (may_give : ℕ → Type 0) (sessions : List (Option Session)) (start :
     pub its : IsOf may_give sessions i n w.request
     its = named may_give sessions requests u.asked i n here.own w.request here.at_own (drop_next here.own n w.request p.left rest_is).0
 
+    -- the party is no replica
+    pub is_session : slice_get scripts i ≡ Some None
+    is_session = session_at sessions scripts i its.session u.as_many u.apart its.has
+
+    pub at_count : slice_get (session_counts scripts runs) i ≡ Some n
+    at_count = count_at scripts runs i here.run is_session here.at_run
+
     -- there is one more
     pub more_left : (slice_get here.own n ≡ Some w.request) × (drop (n + 1) here.own ≡ p.left)
     more_left = drop_next here.own n w.request p.left rest_is
@@ -103,33 +110,35 @@ module _ (may_give : ℕ → Type 0) (sessions : List (Option Session)) (start :
     pub places_more : (fault : Bool) → map (placed sessions) (order ++ place_by w.request fault ∷ []) ≡ map (placed sessions) order ++ placed_by w.request fault ∷ []
     places_more fault = map_push (placed sessions) order (place_by w.request fault) ∙ ap (λ (x : Placed). map (placed sessions) order ++ x ∷ []) (placed_is may_give sessions i n w.request its fault)
 
-    pub next_with : (fault : Bool) → IsNext may_give sessions start runs i n order (order ++ place_by w.request fault ∷ []) (printed (told_at step (taken step start (map (placed sessions) order)) (placed_by w.request fault)) w.request.number)
+    pub next_with : (fault : Bool) → IsNext may_give sessions start (session_counts scripts runs) i n order (order ++ place_by w.request fault ∷ []) (printed (told_at step (taken step start (map (placed sessions) order)) (placed_by w.request fault)) w.request.number)
     next_with fault =
         let depot = taken step start (map (placed sessions) order) in
-        let P : List ℕ → Type 0 = IsNext may_give sessions start runs i n order (order ++ place_by w.request fault ∷ []) in
+        let P : List ℕ → Type 0 = IsNext may_give sessions start (session_counts scripts runs) i n order (order ++ place_by w.request fault ∷ []) in
         subst P (ap (λ (x : Placed). printed (told_at step depot x) (n + 1)) (placed_is may_give sessions i n w.request its fault) ∙ ap (printed (told_at step depot (placed_by w.request fault))) (sym (number_is may_give sessions i n w.request its)))
-        (next_placed may_give sessions start runs i n order at_count u.served.places (place_by w.request fault) (party_is may_give sessions i n w.request its) (number_is may_give sessions i n w.request its)
+        (next_placed may_give sessions start (session_counts scripts runs) i n order at_count u.served.places (place_by w.request fault) (party_is may_give sessions i n w.request its) (number_is may_give sessions i n w.request its)
         (moment_is may_give sessions i n w.request its))
 
-    pub next_without : IsNext may_give sessions start runs i n order order (printed (memory_row ∷ []) (n + 1))
-    next_without = next_unplaced may_give sessions start runs i n order at_count u.served.places
+    pub next_without : IsNext may_give sessions start (session_counts scripts runs) i n order order (printed (memory_row ∷ []) (n + 1))
+    next_without = next_unplaced may_give sessions start (session_counts scripts runs) i n order at_count u.served.places
 
     -- ---- the parties after it
 
-    module _ (how : Finish) (order' : List Place) (text : List ℕ) (next : IsNext may_give sessions start runs i n order order' text)
+    module _ (how : Finish) (order' : List Place) (text : List ℕ) (next : IsNext may_give sessions start (session_counts scripts runs) i n order order' text)
         (order_is : map (placed sessions) order' ≡ places_of s.order ++ places_of (machine.placed w.request how)) (failed : Bool) (got new : Option (List ℕ)) (at_got : slice_get now i ≡ Some got) (gives : Got failed text got new) where
       abbrev run' : SessionRun
       run' = record { commands = n + 1; failed = failed }
 
       abbrev After : State → Type 0
-      After t = IsUnderWay may_give sessions start requests t (set runs i run') before (set now i new) order'
+      After t = IsUnderWay may_give sessions scripts start requests t (set runs i run') before (set now i new) order'
 
       -- of a party it is, or isn't, that whose commit it was
       module _ (parties : List Party) (as_many : length parties ≡ length s.parties)
           (each : (j : ℕ) (q : Party) → slice_get parties j ≡ Some q → ((i ≡ j) × (unanswered q ≡ left_after here.own run')) ⊎ ((i ≢ j) × (slice_get s.parties j ≡ Some q))) where
         after_it : After (record { parties = parties; order = s.order ++ machine.placed w.request how })
         after_it = record {
-          served = served_more may_give sessions start runs i n order here.run here.at_run refl whole before now u.served order' text next failed got new at_got gives;
+          served = served_more may_give sessions start (session_counts scripts runs) i n order scripts runs refl is_session here.run here.at_run refl whole before now u.served order' text next failed got new at_got gives;
+          as_many = u.as_many;
+          apart = u.apart;
           asked = u.asked;
           count = as_many ∙ u.count;
           left = λ j own run q at_own at_run at_q.

@@ -8,6 +8,7 @@ use Rattle.depot_model.specs.Rows.{memory_row}
 use Rattle.depot_model.specs.declared.order.Answer.{Answer}
 use Rattle.depot_model.specs.declared.order.Place.{Place}
 use Rattle.depot_model.specs.declared.request.Session.{Session}
+use Rattle.session_loop.specs.declared.reading.ReplicaScript.{ReplicaScript}
 use Rattle.session_loop.specs.declared.session.SessionRun.{SessionRun}
 use Rattle.session_turns.specs.Running.{Got}
 use Rattle.session_turns.specs.Served.{AreServed}
@@ -29,13 +30,20 @@ abbrev pub left_count : Option SessionRun → Option ℕ → ℕ
 left_count (Some run) (Some total) = total - run.commands
 left_count _ _ = 0
 
--- what is given of an answer: its reply, or that of a command that found no memory
-abbrev pub reply_of : {E : Type 0} → Result Answer E → ℕ → List ℕ
-reply_of (Ok answer) number = answer.reply
-reply_of (Err error) number = printed (memory_row ∷ []) number
+-- what is given of a reply: the reply, or, where there is none, that of a command that found no memory
+abbrev pub text_of : {E : Type 0} → Result (List ℕ) E → ℕ → List ℕ
+text_of (Ok text) number = text
+text_of (Err error) number = printed (memory_row ∷ []) number
 
--- one party got an answer
-pub record IsAnsweredAt {K E : Type 0} (given : K → Option (List ℕ)) (faults : K → ℕ) (at : ℕ) (answer : Result Answer E) (old_runs new_runs : List SessionRun) (old_sinks new_sinks : List K) (failed : Bool) : Type 0 where
+abbrev pub reply_in : {E : Type 0} → Result Answer E → Result (List ℕ) E
+reply_in (Ok answer) = Ok answer.reply
+reply_in (Err error) = Err error
+
+abbrev pub reply_of : {E : Type 0} → Result Answer E → ℕ → List ℕ
+reply_of answer number = text_of (reply_in answer) number
+
+-- one party got the text of an answer to the command that has this number
+pub record IsAnsweredAt {K : Type 0} (given : K → Option (List ℕ)) (faults : K → ℕ) (at : ℕ) (text : ℕ → List ℕ) (old_runs new_runs : List SessionRun) (old_sinks new_sinks : List K) (failed : Bool) : Type 0 where
   pub run : SessionRun
   pub sink : K
   pub new : K
@@ -43,7 +51,7 @@ pub record IsAnsweredAt {K E : Type 0} (given : K → Option (List ℕ)) (faults
   pub at_sink : slice_get old_sinks at ≡ Some sink
   pub runs : new_runs ≡ slice_set old_runs at (record { commands = run.commands + 1; failed = failed })
   pub sinks : new_sinks ≡ slice_set old_sinks at new
-  pub got : Got failed (reply_of answer (run.commands + 1)) (given sink) (given new)
+  pub got : Got failed (text (run.commands + 1)) (given sink) (given new)
   pub counts : faults sink ≤ faults new
   pub cause : failed ≡ true → HasRisen (faults sink) (faults new)
 
@@ -53,8 +61,8 @@ StayFailed old new = (j : ℕ) (run : SessionRun) → slice_get old j ≡ Some r
 
 -- The replies stay those of an order that gets no place, and whose sink has failed has still failed.
 pub record AnswersNone {K : Type 0} (may_give : ℕ → Type 0) (given : K → Option (List ℕ)) (old_runs new_runs : List SessionRun) (old_sinks new_sinks : List K) : Type 0 where
-  pub served : (sessions : List (Option Session)) (start : List Deed) (before : List (Option (List ℕ))) (order : List Place)
-      → AreServed may_give sessions start old_runs before (map given old_sinks) order → AreServed may_give sessions start new_runs before (map given new_sinks) order
+  pub served : (sessions : List (Option Session)) (scripts : List (Option ReplicaScript)) (start : List Deed) (before : List (Option (List ℕ))) (order : List Place)
+      → AreServed may_give sessions scripts start old_runs before (map given old_sinks) order → AreServed may_give sessions scripts start new_runs before (map given new_sinks) order
   pub stay : StayFailed old_runs new_runs
 
 -- all commands of a party are answered, unless its sink failed
@@ -63,3 +71,7 @@ IsDoneAt runs totals i = (run : SessionRun) (total : ℕ) → slice_get runs i �
 
 abbrev pub AreDone : List SessionRun → List ℕ → Type 0
 AreDone runs totals = (i : ℕ) → IsDoneAt runs totals i
+
+-- a party got nothing
+abbrev pub IsSameAt : {K : Type 0} → ℕ → List SessionRun → List SessionRun → List K → List K → Type 0
+IsSameAt i old_runs new_runs old_sinks new_sinks = (slice_get new_runs i ≡ slice_get old_runs i) × (slice_get new_sinks i ≡ slice_get old_sinks i)

@@ -11,8 +11,9 @@ use Rattle.lock_machine.specs.Machine.{Party, State, Work}
 use Rattle.lock_machine.specs.declared.stage.Stage.{Stage}
 use Rattle.lock_machine.specs.declared.stage.Stage.TheVariants.{Gathering, Judged, Committed}
 use Rattle.session_loop.specs.Requests.{AreRequestsOfAll}
+use Rattle.session_loop.specs.declared.reading.ReplicaScript.{ReplicaScript}
 use Rattle.session_loop.specs.declared.session.SessionRun.{SessionRun}
-use Rattle.session_turns.specs.Served.{AreServed}
+use Rattle.session_turns.specs.Served.{AreApart, AreServed}
 use Rattle.wire_text.specs.Giving.{GotFront}
 
 -- ---- what isn't answered yet
@@ -51,9 +52,11 @@ fresh_runs totals = map (λ total. fresh) totals
 
 -- ---- all parties
 
--- The sinks have the replies of the commands that were taken, and the machine is at their order, with the rest of the requests.
-pub record IsUnderWay (may_give : ℕ → Type 0) (sessions : List (Option Session)) (start : List Deed) (requests : List (List Request)) (s : State) (runs : List SessionRun) (before now : List (Option (List ℕ))) (order : List Place) : Type 0 where
-  pub served : AreServed may_give sessions start runs before now order
+-- The sessions' sinks have the replies of the commands that were taken, and the machine is at their order, with the rest of the requests.
+pub record IsUnderWay (may_give : ℕ → Type 0) (sessions : List (Option Session)) (scripts : List (Option ReplicaScript)) (start : List Deed) (requests : List (List Request)) (s : State) (runs : List SessionRun) (before now : List (Option (List ℕ))) (order : List Place) : Type 0 where
+  pub served : AreServed may_give sessions scripts start runs before now order
+  pub as_many : length scripts ≡ length sessions
+  pub apart : AreApart sessions scripts
   pub asked : AreRequestsOfAll may_give 1 sessions requests
   pub count : length s.parties ≡ length sessions
   pub left : (i : ℕ) (own : List Request) (run : SessionRun) (p : Party) → slice_get requests i ≡ Some own → slice_get runs i ≡ Some run → slice_get s.parties i ≡ Some p

@@ -12,14 +12,14 @@ use Rattle.lock_core.specs.Core.{IsCommit, IsReady, Shows}
 use Rattle.lock_core.specs.declared.machine.LockCore.{LockCore}
 use Rattle.lock_core.specs.declared.turn.Finish as code
 use Rattle.lock_core.specs.declared.turn.Finish.TheVariants as ends
-use Rattle.lock_machine.specs.Draws.{enabled_parties}
 use Rattle.lock_machine.specs.Machine.{Finish, State}
 use Rattle.serial_depot.specs.Running.{HasRun}
 use Rattle.serial_depot.specs.declared.depot.SerialDepot.{SerialDepot}
 use Rattle.session_loop.specs.Asking.{AreWellFormed, commands_of}
+use Rattle.session_loop.specs.declared.reading.ReplicaScript.{ReplicaScript}
 use Rattle.session_loop.specs.declared.session.SessionRun.{SessionRun}
 use Rattle.session_turns.specs.Answering.{StayFailed}
-use Rattle.session_turns.specs.Drawn.{AreDrawn, StopsFailed, Turn, turned}
+use Rattle.session_turns.specs.Drawn.{AreDrawn, Progress, StopsFailed, Turn, advanced, going, turned}
 use Rattle.session_turns.specs.Running.{IsUnderWay}
 use Rattle.table_changes.specs.Changed.{rows_of}
 
@@ -38,15 +38,15 @@ IsAtHand start s core i (Err error) = (request : Request) × IsCommit start s co
 -- ---- between two turns
 
 -- The core is the machine that is under way, with the tables of the depot, which has run the places of the order.
-pub record IsRunning {D K : Type 0} (seen may_leave : D → Files → Type 0) (moment : D → ℕ) (left_since : D → ℕ → Files → Type 0) (given : K → Option (List ℕ)) (may_give : ℕ → Type 0) (sessions : List (Option Session)) (since : ℕ) (start : List Deed) (requests : List (List Request)) (before : List (Option (List ℕ))) (s : State) (core : LockCore) (runs : List SessionRun) (sinks : List K) (depot : SerialDepot D) (order : List Place) : Type 0 where
+pub record IsRunning {D K : Type 0} (seen may_leave : D → Files → Type 0) (moment : D → ℕ) (left_since : D → ℕ → Files → Type 0) (given : K → Option (List ℕ)) (may_give : ℕ → Type 0) (sessions : List (Option Session)) (scripts : List (Option ReplicaScript)) (since : ℕ) (start : List Deed) (requests : List (List Request)) (before : List (Option (List ℕ))) (s : State) (core : LockCore) (runs : List SessionRun) (sinks : List K) (depot : SerialDepot D) (order : List Place) : Type 0 where
   pub formed : All (λ session. AreWellFormed (commands_of session)) sessions
-  pub under_way : IsUnderWay may_give sessions start requests s runs before (map given sinks) order
+  pub under_way : IsUnderWay may_give sessions scripts start requests s runs before (map given sinks) order
   pub shows : Shows start core s
   pub rows : rows_of core.tables ≡ rows_of depot.tables
   pub end : core.tables.archive_end ≡ depot.tables.archive_end
   pub ran : HasRun seen may_leave moment left_since depot since start (map (placed sessions) order)
 
--- A party took its turn, after which this holds.
+-- A party took a turn of the machine, after which this holds.
 pub record TakesTurn (s : State) (i : ℕ) (old_runs new_runs : List SessionRun) (IsThen : State → Type 0) : Type 0 where
   pub how : Finish
   pub stops : Bool
@@ -54,12 +54,20 @@ pub record TakesTurn (s : State) (i : ℕ) (old_runs new_runs : List SessionRun)
   pub failed : StopsFailed new_runs (record { party = i; how = how; stops = stops })
   pub stay : StayFailed old_runs new_runs
 
--- The parties took the turns that the numbers after a number draw, until no event was enabled, after which this holds.
-pub record TakesTurns (x : ℕ) (s : State) (runs : List SessionRun) (IsThen : State → Type 0) : Type 0 where
+-- A party took its turn, after which this holds.
+pub record Advances (p : Progress) (i : ℕ) (old_runs new_runs : List SessionRun) (IsThen : Progress → Type 0) : Type 0 where
+  pub how : Finish
+  pub stops : Bool
+  pub is_then : IsThen (advanced p (record { party = i; how = how; stops = stops }))
+  pub failed : StopsFailed new_runs (record { party = i; how = how; stops = stops })
+  pub stay : StayFailed old_runs new_runs
+
+-- The parties took the turns that the numbers after a number draw, until none could go on, after which this holds.
+pub record TakesTurns (x : ℕ) (p : Progress) (runs : List SessionRun) (IsThen : Progress → Type 0) : Type 0 where
   pub turns : List Turn
   pub last : ℕ
-  pub machine : State
-  pub drawn : AreDrawn x s turns last machine
-  pub done : enabled_parties machine ≡ []
-  pub is_then : IsThen machine
+  pub end : Progress
+  pub drawn : AreDrawn x p turns last end
+  pub done : going end ≡ []
+  pub is_then : IsThen end
   pub stops : All (StopsFailed runs) turns

@@ -4,9 +4,10 @@ ghost use Rattle.std.specs.Prelude.{◌≡◌, ◌≢◌, ◌≤◌, ◌<◌, �
 ghost use Rattle.outside_api.specs.Count.{HasRisen};
 ghost use Rattle.session_loop.specs.declared.session.SessionRun.{SessionRun as AnyRun};
 ghost use Rattle.session_turns.specs.Running.{AreWithin, Got};
-ghost use Rattle.session_turns.specs.Answering.{AnswersNone, AreDone, IsAnsweredAt, IsDoneAt, has_left_at, has_more_at, reply_of};
+ghost use Rattle.session_turns.specs.Answering.{AnswersNone, AreDone, IsAnsweredAt, IsDoneAt, IsSameAt, has_left_at, has_more_at, reply_in, text_of};
 
 use depot_model::Answer;
+use depot_path::Text;
 use outside_api::{Clock, Sink};
 use session_loop::SessionRun;
 use std::alloc::AllocError;
@@ -26,14 +27,24 @@ pub(crate) fn has_more(runs: &[SessionRun], totals: &[u32], at: usize) -> bool
     }
 }
 
+/// The reply of an answer.
+pub(crate) fn reply_in(answer: Result<Answer, AllocError>) -> Result<Text, AllocError>
+    ensures { result ≡ reply_in answer }
+{
+    match answer {
+        Ok(answer) => Ok(answer.reply),
+        Err(error) => Err(error),
+    }
+}
+
 /// Gives a reply, or, where there is none, that of a command that found no memory. Answers whether the sink has failed.
-fn give<K: Sink>(sink: &mut K, answer: Result<Answer, AllocError>, number: u32) -> bool
-    ensures got { Got result (reply_of answer number) (K.given sink.old) (K.given sink.new) }
+fn give<K: Sink>(sink: &mut K, reply: Result<Text, AllocError>, number: u32) -> bool
+    ensures got { Got result (text_of reply number) (K.given sink.old) (K.given sink.new) }
     ensures counts { K.faults sink.old ≤ K.faults sink.new }
     ensures cause { result ≡ true → HasRisen (K.faults sink.old) (K.faults sink.new) }
 {
-    match answer {
-        Ok(answer) => match give_all(sink, answer.reply.as_bytes()) {
+    match reply {
+        Ok(text) => match give_all(sink, text.as_bytes()) {
             Ok(()) => false,
             Err(_) => true,
         },
@@ -44,20 +55,20 @@ fn give<K: Sink>(sink: &mut K, answer: Result<Answer, AllocError>, number: u32) 
     }
 }
 
-/// Gives a party the answer to its next command. Answers whether its sink has failed.
+/// Gives a party the reply to its next command. Answers whether its sink has failed.
 pub(crate) fn answer_party<K: Sink>(
     at: usize,
-    answer: Result<Answer, AllocError>,
+    reply: Result<Text, AllocError>,
     runs: &mut Vec<SessionRun>,
     sinks: &mut Vec<K>,
 ) -> bool
     requires run { at < length runs.old.items }
     requires sink { at < length sinks.old.items }
     requires few { (run : AnyRun) → slice_get runs.old.items at ≡ Some run → run.commands < 4294967295 }
-    ensures { IsAnsweredAt K.given K.faults at answer runs.old.items runs.new.items sinks.old.items sinks.new.items result }
+    ensures { IsAnsweredAt K.given K.faults at (text_of reply) runs.old.items runs.new.items sinks.old.items sinks.new.items result }
 {
     let number = runs[at].commands + 1;
-    let failed = give(&mut sinks[at], answer, number);
+    let failed = give(&mut sinks[at], reply, number);
     runs[at] = SessionRun {
         commands: number,
         failed,
@@ -97,14 +108,15 @@ fn answer_left<K: Sink, C: Clock>(
     ensures none { AnswersNone (C.may_give clock.now) K.given runs.old.items runs.new.items sinks.old.items sinks.new.items }
     ensures within { (before : List K) → AreWithin K.faults totals.now runs.old.items before sinks.old.items → AreWithin K.faults totals.now runs.new.items before sinks.new.items }
     ensures done { IsDoneAt runs.new.items totals.now at }
-    ensures others { (j : ℕ) → j ≢ at → slice_get runs.new.items j ≡ slice_get runs.old.items j }
+    ensures others { (j : ℕ) → j ≢ at → IsSameAt j runs.old.items runs.new.items sinks.old.items sinks.new.items }
+    ensures same { IsDoneAt runs.old.items totals.now at → IsSameAt at runs.old.items runs.new.items sinks.old.items sinks.new.items }
 {
     'left: while has_left(runs, totals, at) {
         answer_party(at, Err(AllocError), runs, sinks);
     }
 }
 
-/// Answers what the parties have left.
+/// Answers what the parties have left, as want of memory. Where a party has nothing left, it gets nothing.
 pub(crate) fn answer_rest<K: Sink, C: Clock>(
     clock: &C,
     totals: &[u32],
@@ -115,6 +127,7 @@ pub(crate) fn answer_rest<K: Sink, C: Clock>(
     ensures none { AnswersNone (C.may_give clock.now) K.given runs.old.items runs.new.items sinks.old.items sinks.new.items }
     ensures within { (before : List K) → AreWithin K.faults totals.now runs.old.items before sinks.old.items → AreWithin K.faults totals.now runs.new.items before sinks.new.items }
     ensures done { AreDone runs.new.items totals.now }
+    ensures same { (i : ℕ) → IsDoneAt runs.old.items totals.now i → IsSameAt i runs.old.items runs.new.items sinks.old.items sinks.new.items }
 {
     for at in 0..sinks.len() {
         answer_left(at, clock, totals, runs, sinks);

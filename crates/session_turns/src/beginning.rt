@@ -3,6 +3,7 @@
 ghost use Rattle.std.specs.Prelude.{◌≡◌, ◌≤◌, ◌<◌, ◌^◌, length, map, All, IfOk};
 ghost use Rattle.session_loop.specs.Asking.{commands_of};
 ghost use Rattle.session_loop.specs.Requests.{AreRequestsOfAll};
+ghost use Rattle.session_turns.specs.Going.{AreBoundsOf, bound_of};
 ghost use Rattle.session_turns.specs.Running.{fresh};
 
 use depot_model::{Request, Session};
@@ -32,7 +33,31 @@ pub(crate) fn totals_of(alloc: Global, sessions: &[Option<Session>]) -> Result<V
     Ok(totals)
 }
 
-/// The runs of sessions of which no command is taken yet.
+/// How many commands a party has that has so many as a session, and so many as a replica: it is one of the two.
+fn bound_of(total: u32, other: u32) -> u32
+    ensures { result ≡ bound_of total other }
+{
+    if other > 0 { other } else { total }
+}
+
+/// How many commands each party has.
+pub(crate) fn bounds_of(
+    alloc: Global,
+    totals: &[u32],
+    others: &[u32],
+) -> Result<Vec<u32>, AllocError>
+    requires { length others.now ≡ length totals.now }
+    ensures count { IfOk result (λ bounds. length bounds.items ≡ length totals.now) }
+    ensures each { IfOk result (λ bounds. AreBoundsOf totals.now others.now bounds.items) }
+{
+    let mut bounds = Vec::new(alloc);
+    for at in 0..totals.len() {
+        bounds.push(bound_of(totals[at], others[at]))?;
+    }
+    Ok(bounds)
+}
+
+/// The runs of parties of which no command is taken yet.
 pub(crate) fn fresh_runs(alloc: Global, totals: &[u32]) -> Result<Vec<SessionRun>, AllocError>
     ensures { IfOk result (λ runs. runs.items ≡ map (λ total. fresh) totals.now) }
 {

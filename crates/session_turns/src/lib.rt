@@ -1,10 +1,13 @@
-//! The run of the sessions of all parties by turns over a depot in files: whose turn it is a seed draws, and each party's replies go to its own sink.
+//! The run of the sessions and replicas of all parties by turns over a depot in files: whose turn it is a seed draws, and each party's replies go to its own
+//! sink.
 #![tactic(auto)]
 
 mod answers;
 mod beginning;
 mod commits;
+mod replica_turn;
+mod replicas;
 mod run;
 mod turns;
 
-pub use run::run_sessions;
+pub use run::{Ran, run_sessions};

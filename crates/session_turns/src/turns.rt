@@ -1,21 +1,26 @@
 //! The turns of all parties.
 
-ghost use Rattle.std.specs.Prelude.{◌≡◌, ◌≤◌, ◌<◌, ◌^◌, ℕ, List, Option, Some, [], ◌++◌, length, map, true, All};
+ghost use Rattle.std.specs.Prelude.{◌≡◌, ◌≤◌, ◌<◌, ◌^◌, ℕ, List, Option, Some, ◌++◌, length, map, slice_get, true};
 ghost use Rattle.archive_file.specs.Archive.{disk_of as archive_disk_of};
 ghost use Rattle.depot_model.specs.Deeds.{Deed};
-ghost use Rattle.depot_model.specs.Tables.{needs_of};
 ghost use Rattle.depot_model.specs.declared.request.Request.{Request};
 ghost use Rattle.depot_model.specs.declared.request.Session.{Session};
 ghost use Rattle.disk_journal.specs.Stands.{disk_of};
+ghost use Rattle.lock_core.specs.Drawing.{may_go_on};
 ghost use Rattle.lock_machine.specs.Machine.{State, is_enabled};
-ghost use Rattle.lock_machine.specs.Turns.{turns_left};
 ghost use Rattle.serial_depot.specs.Running.{CanTake};
 ghost use Rattle.session_loop.specs.Served.{AreCaused};
+ghost use Rattle.session_loop.specs.declared.reading.ReplicaScript.{ReplicaScript};
+ghost use Rattle.session_turns.specs.Answering.{IsSameAt};
+ghost use Rattle.session_turns.specs.Drawn.{Progress};
+ghost use Rattle.session_turns.specs.Going.{AreAtMost, AreBounded, AreGoing, HasLost, all_left};
 ghost use Rattle.session_turns.specs.Running.{AreWithin};
-ghost use Rattle.session_turns.specs.Taking.{IsAtHand, IsRunning, TakesTurn, TakesTurns};
+ghost use Rattle.session_turns.specs.Taking.{Advances, IsAtHand, IsRunning, TakesTurn, TakesTurns};
 
-use crate::answers::{answer_party, has_more};
+use crate::answers::{answer_party, has_more, reply_in};
 use crate::commits::{how_of, place_commit, stop_if};
+use crate::replica_turn::take_replica_turn;
+use crate::replicas::Replicas;
 use command_core::Outcome;
 use depot_model::Place;
 use lock_core::{LockCore, Turn};
@@ -44,12 +49,14 @@ fn make_commit<D: Disk, K: Sink, C: Clock, G: Gate>(
     requires as_many { length sinks.old.items ≡ length runs.old.items }
     ensures can { CanTake D.may_leave depot.new }
     ensures as_many { length sinks.new.items ≡ length runs.new.items }
-    ensures turn { (sessions : List (Option Session)) (since : ℕ) (start : List Deed) (requests : List (List Request)) (before : List (Option (List ℕ))) (s : State) →
-        IsRunning D.seen D.may_leave D.moment D.left_since K.given (C.may_give clock.now) sessions since start requests before s core.old runs.old.items sinks.old.items depot.old order.old.items →
+    ensures turn { (sessions : List (Option Session)) (scripts : List (Option ReplicaScript)) (since : ℕ) (start : List Deed) (requests : List (List Request)) (before : List (Option (List ℕ))) (s : State) →
+        IsRunning D.seen D.may_leave D.moment D.left_since K.given (C.may_give clock.now) sessions scripts since start requests before s core.old runs.old.items sinks.old.items depot.old order.old.items →
         map (λ own. length own) requests ≡ totals.now → is_enabled s party ≡ true → IsAtHand start s core.old party outcome →
         (result ≡ true) × TakesTurn s party runs.old.items runs.new.items (λ t.
-        IsRunning D.seen D.may_leave D.moment D.left_since K.given (C.may_give clock.now) sessions since start requests before t core.new runs.new.items sinks.new.items depot.new order.new.items) }
-    ensures within { (before : List K) → AreWithin K.faults totals.now runs.old.items before sinks.old.items → AreWithin K.faults totals.now runs.new.items before sinks.new.items }
+        IsRunning D.seen D.may_leave D.moment D.left_since K.given (C.may_give clock.now) sessions scripts since start requests before t core.new runs.new.items sinks.new.items depot.new order.new.items) }
+    ensures within { (bounds : List ℕ) (before : List K) → AreAtMost totals.now bounds → AreWithin K.faults bounds runs.old.items before sinks.old.items → AreWithin K.faults bounds runs.new.items before sinks.new.items }
+    ensures grown { (more : List Place) × (order.new.items ≡ order.old.items ++ more) }
+    ensures others { (j : ℕ) → slice_get totals.now j ≡ Some 0 → IsSameAt j runs.old.items runs.new.items sinks.old.items sinks.new.items }
     ensures faults { AreCaused (D.faults (disk_of depot.old.journal)) (D.faults (disk_of depot.new.journal)) (D.faults (archive_disk_of depot.old.archive)) (D.faults (archive_disk_of depot.new.archive)) order.old.items order.new.items }
 {
     let at = party as usize;
@@ -59,7 +66,7 @@ fn make_commit<D: Disk, K: Sink, C: Clock, G: Gate>(
     }
     let answer = place_commit(alloc, party, gate, outcome, core, depot, order);
     core.finish(party, how_of(&answer), depot.tables().archive_end());
-    let failed = answer_party(at, answer, runs, sinks);
+    let failed = answer_party(at, reply_in(answer), runs, sinks);
     stop_if(core, party, failed);
     true
 }
@@ -81,12 +88,14 @@ fn take_turn<D: Disk, K: Sink, C: Clock, G: Gate>(
     requires as_many { length sinks.old.items ≡ length runs.old.items }
     ensures can { CanTake D.may_leave depot.new }
     ensures as_many { length sinks.new.items ≡ length runs.new.items }
-    ensures turn { (sessions : List (Option Session)) (since : ℕ) (start : List Deed) (requests : List (List Request)) (before : List (Option (List ℕ))) (s : State) →
-        IsRunning D.seen D.may_leave D.moment D.left_since K.given (C.may_give clock.now) sessions since start requests before s core.old runs.old.items sinks.old.items depot.old order.old.items →
+    ensures turn { (sessions : List (Option Session)) (scripts : List (Option ReplicaScript)) (since : ℕ) (start : List Deed) (requests : List (List Request)) (before : List (Option (List ℕ))) (s : State) →
+        IsRunning D.seen D.may_leave D.moment D.left_since K.given (C.may_give clock.now) sessions scripts since start requests before s core.old runs.old.items sinks.old.items depot.old order.old.items →
         map (λ own. length own) requests ≡ totals.now → is_enabled s party ≡ true →
         (result ≡ true) × TakesTurn s party runs.old.items runs.new.items (λ t.
-        IsRunning D.seen D.may_leave D.moment D.left_since K.given (C.may_give clock.now) sessions since start requests before t core.new runs.new.items sinks.new.items depot.new order.new.items) }
-    ensures within { (before : List K) → AreWithin K.faults totals.now runs.old.items before sinks.old.items → AreWithin K.faults totals.now runs.new.items before sinks.new.items }
+        IsRunning D.seen D.may_leave D.moment D.left_since K.given (C.may_give clock.now) sessions scripts since start requests before t core.new runs.new.items sinks.new.items depot.new order.new.items) }
+    ensures within { (bounds : List ℕ) (before : List K) → AreAtMost totals.now bounds → AreWithin K.faults bounds runs.old.items before sinks.old.items → AreWithin K.faults bounds runs.new.items before sinks.new.items }
+    ensures grown { (more : List Place) × (order.new.items ≡ order.old.items ++ more) }
+    ensures others { (j : ℕ) → slice_get totals.now j ≡ Some 0 → IsSameAt j runs.old.items runs.new.items sinks.old.items sinks.new.items }
     ensures faults { AreCaused (D.faults (disk_of depot.old.journal)) (D.faults (disk_of depot.new.journal)) (D.faults (archive_disk_of depot.old.archive)) (D.faults (archive_disk_of depot.new.archive)) order.old.items order.new.items }
 {
     match core.turn(alloc, party) {
@@ -121,7 +130,44 @@ fn take_turn<D: Disk, K: Sink, C: Clock, G: Gate>(
     }
 }
 
-/// Makes the turns that the numbers after a seed draw, until no party may go on. A run has less than 2 to the 63 of them.
+/// Makes the turn of a party: of a replica that has commands left, or of a session. Where it can't go on, it does nothing and says so.
+fn advance<D: Disk, K: Sink, C: Clock, G: Gate>(
+    alloc: Global,
+    party: u32,
+    clock: &C,
+    gate: &G,
+    core: &mut LockCore,
+    totals: &[u32],
+    bounds: &[u32],
+    replicas: &mut Replicas,
+    runs: &mut Vec<SessionRun>,
+    sinks: &mut Vec<K>,
+    depot: &mut SerialDepot<D>,
+    order: &mut Vec<Place>,
+) -> bool
+    requires can { CanTake D.may_leave depot.old }
+    requires as_many { length sinks.old.items ≡ length runs.old.items }
+    ensures can { CanTake D.may_leave depot.new }
+    ensures as_many { length sinks.new.items ≡ length runs.new.items }
+    ensures turn { (sessions : List (Option Session)) (scripts : List (Option ReplicaScript)) (since : ℕ) (start : List Deed) (requests : List (List Request)) (before : List (Option (List ℕ))) (p : Progress) →
+        AreGoing D.seen D.may_leave D.moment D.left_since K.given (C.may_give clock.now) sessions scripts since start requests before p core.old replicas.old runs.old.items sinks.old.items depot.old order.old.items →
+        map (λ own. length own) requests ≡ totals.now → AreBounded scripts totals.now bounds.now → may_go_on p.machine p.others party ≡ true →
+        (result ≡ true) × Advances p party runs.old.items runs.new.items (λ q.
+        AreGoing D.seen D.may_leave D.moment D.left_since K.given (C.may_give clock.now) sessions scripts since start requests before q core.new replicas.new runs.new.items sinks.new.items depot.new order.new.items) }
+    ensures within { (before : List K) → AreAtMost totals.now bounds.now → AreWithin K.faults bounds.now runs.old.items before sinks.old.items → AreWithin K.faults bounds.now runs.new.items before sinks.new.items }
+    ensures faults { AreCaused (D.faults (disk_of depot.old.journal)) (D.faults (disk_of depot.new.journal)) (D.faults (archive_disk_of depot.old.archive)) (D.faults (archive_disk_of depot.new.archive)) order.old.items order.new.items }
+    ensures lost { HasLost replicas.old.lost replicas.new.lost (D.faults (disk_of depot.old.journal)) (D.faults (disk_of depot.new.journal)) (D.faults (archive_disk_of depot.old.archive)) (D.faults (archive_disk_of depot.new.archive)) }
+{
+    if replicas.has_left(party) {
+        take_replica_turn(alloc, party, bounds, replicas, runs, sinks, depot)
+    } else {
+        take_turn(
+            alloc, party, clock, gate, core, totals, runs, sinks, depot, order,
+        )
+    }
+}
+
+/// Makes the turns that the numbers after a seed draw, until no party may go on. A run has less than 2 to the 64 of them.
 pub(crate) fn take_turns<D: Disk, K: Sink, C: Clock, G: Gate>(
     alloc: Global,
     seed: u32,
@@ -129,6 +175,8 @@ pub(crate) fn take_turns<D: Disk, K: Sink, C: Clock, G: Gate>(
     gate: &G,
     core: &mut LockCore,
     totals: &[u32],
+    bounds: &[u32],
+    replicas: &mut Replicas,
     runs: &mut Vec<SessionRun>,
     sinks: &mut Vec<K>,
     depot: &mut SerialDepot<D>,
@@ -138,22 +186,23 @@ pub(crate) fn take_turns<D: Disk, K: Sink, C: Clock, G: Gate>(
     requires as_many { length sinks.old.items ≡ length runs.old.items }
     ensures can { CanTake D.may_leave depot.new }
     ensures as_many { length sinks.new.items ≡ length runs.new.items }
-    ensures turns { (sessions : List (Option Session)) (since : ℕ) (start : List Deed) (requests : List (List Request)) (before : List (Option (List ℕ))) (s : State) →
-        IsRunning D.seen D.may_leave D.moment D.left_since K.given (C.may_give clock.now) sessions since start requests before s core.old runs.old.items sinks.old.items depot.old order.old.items →
-        map (λ own. length own) requests ≡ totals.now → length sessions < 2 ^ 32 → turns_left needs_of s < 2 ^ 64 →
-        TakesTurns seed s runs.new.items (λ t.
-        IsRunning D.seen D.may_leave D.moment D.left_since K.given (C.may_give clock.now) sessions since start requests before t core.new runs.new.items sinks.new.items depot.new order.new.items) }
-    ensures within { (before : List K) → AreWithin K.faults totals.now runs.old.items before sinks.old.items → AreWithin K.faults totals.now runs.new.items before sinks.new.items }
+    ensures turns { (sessions : List (Option Session)) (scripts : List (Option ReplicaScript)) (since : ℕ) (start : List Deed) (requests : List (List Request)) (before : List (Option (List ℕ))) (p : Progress) →
+        AreGoing D.seen D.may_leave D.moment D.left_since K.given (C.may_give clock.now) sessions scripts since start requests before p core.old replicas.old runs.old.items sinks.old.items depot.old order.old.items →
+        map (λ own. length own) requests ≡ totals.now → AreBounded scripts totals.now bounds.now → length sessions < 2 ^ 32 → all_left p < 2 ^ 64 →
+        TakesTurns seed p runs.new.items (λ q.
+        AreGoing D.seen D.may_leave D.moment D.left_since K.given (C.may_give clock.now) sessions scripts since start requests before q core.new replicas.new runs.new.items sinks.new.items depot.new order.new.items) }
+    ensures within { (before : List K) → AreAtMost totals.now bounds.now → AreWithin K.faults bounds.now runs.old.items before sinks.old.items → AreWithin K.faults bounds.now runs.new.items before sinks.new.items }
     ensures faults { AreCaused (D.faults (disk_of depot.old.journal)) (D.faults (disk_of depot.new.journal)) (D.faults (archive_disk_of depot.old.archive)) (D.faults (archive_disk_of depot.new.archive)) order.old.items order.new.items }
+    ensures lost { HasLost replicas.old.lost replicas.new.lost (D.faults (disk_of depot.old.journal)) (D.faults (disk_of depot.new.journal)) (D.faults (archive_disk_of depot.old.archive)) (D.faults (archive_disk_of depot.new.archive)) }
 {
     let mut draw = Draw::new(seed);
     let mut turns = u64::MAX;
     'turns: while turns > 0 {
-        let Some(party) = core.drawn(draw.next()) else {
+        let Some(party) = core.drawn(draw.next(), &replicas.others) else {
             return;
         };
-        if !take_turn(
-            alloc, party, clock, gate, core, totals, runs, sinks, depot, order,
+        if !advance(
+            alloc, party, clock, gate, core, totals, bounds, replicas, runs, sinks, depot, order,
         ) {
             return;
         }

@@ -1,7 +1,7 @@
 use Rattle.std.proofs.Common.{◌≡◌, List, true, refl, sym, ap, ◌∙◌, arith}
 use Rattle.std.specs.Prelude.{slice_get}
 use Rattle.session_loop.specs.declared.session.SessionRun.{SessionRun}
-use Rattle.session_turns.proofs.Within.{as_many_more, count_more, fewer, left_more, none_left_at, none_more, none_same, none_then, others_same, within_more}
+use Rattle.session_turns.proofs.Within.{as_many_more, count_more, fewer, left_more, none_left_at, none_more, none_same, none_then, not_done, others_same, within_more}
 use Rattle.session_turns.specs.Answering.{has_left_at}
 use Rattle.session_turns.proofs.answers.answer_left.Goals as goal
 
@@ -12,7 +12,8 @@ left-init g c = record {
   same = refl;
   none = none_same (g.C.Clock.may_give c.args.clock.now) g.K.Sink.given c.args.runs.now.items c.args.sinks.now.items;
   within = λ before h. h;
-  others = λ j apart. refl;
+  others = λ j apart. (refl, refl);
+  still = λ done. (refl, refl);
 }
 
 pub left-preserved : goal.left-preserved
@@ -31,9 +32,13 @@ left-preserved g c =
       there = omega (arith, there, count);
       as_many = as_many;
       same = count ∙ was.same;
-      none = none_then (g.C.Clock.may_give c.args.clock.now) g.K.Sink.given _ _ _ _ _ _ was.none (none_more (g.C.Clock.may_give c.args.clock.now) g.K.Sink.given g.K.Sink.faults _ _ _ _ at _ _ a (more.1 a.run a.at_run));
+      none = none_then (g.C.Clock.may_give c.args.clock.now) g.K.Sink.given _ _ _ _ _ _ was.none (none_more (g.C.Clock.may_give c.args.clock.now) g.K.Sink.given g.K.Sink.faults _ _ _ _ at _ (λ number. refl) _ a (more.1 a.run a.at_run));
       within = λ before h. within_more g.K.Sink.given g.K.Sink.faults totals _ _ _ _ at _ _ a before (was.within before h) more.0;
-      others = λ j apart. others_same g.K.Sink.given g.K.Sink.faults totals _ _ _ _ at _ _ a j apart ∙ was.others j apart;
+      others = λ j apart.
+          let one = others_same g.K.Sink.given g.K.Sink.faults totals _ _ _ _ at _ _ a j apart in
+          let before = was.others j apart in
+          (one.0 ∙ before.0, one.1 ∙ before.1);
+      still = λ done. absurd (not_done c.args.runs.now.items c.left.runs.items totals at (was.still done).0 left done);
     }
 
 pub left-smaller : goal.left-smaller

@@ -1,7 +1,7 @@
 use Rattle.std.proofs.Common.{◌≡◌, ◌≢◌, ◌<◌, ℕ, List, length}
 use Rattle.std.specs.Prelude.{slice_get}
 use Rattle.session_turns.specs.Running.{AreWithin}
-use Rattle.session_turns.specs.Answering.{AnswersNone, left_count}
+use Rattle.session_turns.specs.Answering.{AnswersNone, IsDoneAt, IsSameAt, left_count}
 use Rattle.session_turns.proofs.answers.answer_left.Given as goal
 
 -- the answers so far
@@ -12,7 +12,8 @@ invariant-left g l = record {
   same : length l.sinks.items ≡ length l.fn.sinks.items;
   none : AnswersNone (g.C.Clock.may_give l.clock) g.K.Sink.given l.fn.runs.items l.runs.items l.fn.sinks.items l.sinks.items;
   within : (before : List g.row.K.Denot) → AreWithin g.K.Sink.faults l.totals l.fn.runs.items before l.fn.sinks.items → AreWithin g.K.Sink.faults l.totals l.runs.items before l.sinks.items;
-  others : (j : ℕ) → j ≢ l.at → slice_get l.runs.items j ≡ slice_get l.fn.runs.items j;
+  others : (j : ℕ) → j ≢ l.at → IsSameAt j l.fn.runs.items l.runs.items l.fn.sinks.items l.sinks.items;
+  still : IsDoneAt l.fn.runs.items l.totals l.at → IsSameAt l.at l.fn.runs.items l.runs.items l.fn.sinks.items l.sinks.items;
 }
 
 abbrev pub decreases-left : goal.decreases-left

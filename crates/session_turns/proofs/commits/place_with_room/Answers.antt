@@ -5,7 +5,11 @@ use Rattle.disk_journal.specs.Stands.{disk_of}
 use Rattle.outside_api.specs.Count.{HasRisen}
 use Rattle.session_loop.proofs.Faults.{caused_once, caused_same}
 use Rattle.session_loop.specs.Served.{AreCaused}
+use Rattle.session_turns.proofs.Ending.{on_error}
 use Rattle.session_turns.proofs.commits.place_with_room.Goals as goal
+
+pub returns-in_err-answer-clause-nothing : goal.returns-in_err-answer-clause-nothing
+returns-in_err-answer-clause-nothing g c = λ since start places h. on_error c.from_residual.result (c.in_err-answer.ensures.nothing since start places h)
 
 pub returns-in_err-answer-clause-faults : goal.returns-in_err-answer-clause-faults
 returns-in_err-answer-clause-faults g c =

@@ -1,30 +1,30 @@
 use Rattle.std.proofs.Common.{◌≡◌, ◌<◌, ◌^◌, ℕ, List, Option, length, map}
 use Rattle.archive_file.specs.Archive.{disk_of as archive_disk_of}
 use Rattle.depot_model.specs.Deeds.{Deed}
-use Rattle.depot_model.specs.Tables.{needs_of}
 use Rattle.depot_model.specs.declared.request.Request.{Request}
 use Rattle.depot_model.specs.declared.request.Session.{Session}
 use Rattle.disk_journal.specs.Stands.{disk_of}
-use Rattle.lock_machine.specs.Machine.{State}
-use Rattle.lock_machine.specs.Turns.{turns_left}
 use Rattle.serial_depot.specs.Running.{CanTake}
 use Rattle.session_loop.specs.Served.{AreCaused}
 use Rattle.session_turns.proofs.Rounds.{AreSoFar}
 use Rattle.session_turns.specs.Running.{AreWithin}
-use Rattle.session_turns.specs.Taking.{IsRunning}
+use Rattle.session_turns.specs.Drawn.{Progress}
+use Rattle.session_turns.specs.Going.{AreAtMost, AreBounded, AreGoing, HasLost, all_left}
 use Rattle.session_turns.proofs.turns.take_turns.Given as goal
+use Rattle.session_loop.specs.declared.reading.ReplicaScript.{ReplicaScript}
 
 -- the turns so far
 abbrev pub invariant-turns : goal.invariant-turns
 invariant-turns g l = record {
   can : CanTake g.D.Disk.may_leave l.depot;
   as_many : length l.sinks.items ≡ length l.runs.items;
-  so_far : (sessions : List (Option Session)) (since : ℕ) (start : List Deed) (requests : List (List Request)) (before : List (Option (List ℕ))) (s : State)
-      → IsRunning g.D.Disk.seen g.D.Disk.may_leave g.D.Disk.moment g.D.Disk.left_since g.K.Sink.given (g.C.Clock.may_give l.clock) sessions since start requests before s l.fn.core l.fn.runs.items l.fn.sinks.items l.fn.depot l.fn.order.items
-      → map (λ (own : List Request). length own) requests ≡ l.totals → length sessions < 2 ^ 32 → turns_left needs_of s < 2 ^ 64
-      → AreSoFar l.seed s l.runs.items (λ (t : State). IsRunning g.D.Disk.seen g.D.Disk.may_leave g.D.Disk.moment g.D.Disk.left_since g.K.Sink.given (g.C.Clock.may_give l.clock) sessions since start requests before t l.core l.runs.items l.sinks.items l.depot l.order.items) l.draw l.turns;
-  within : (before : List g.row.K.Denot) → AreWithin g.K.Sink.faults l.totals l.fn.runs.items before l.fn.sinks.items → AreWithin g.K.Sink.faults l.totals l.runs.items before l.sinks.items;
+  so_far : (sessions : List (Option Session)) (scripts : List (Option ReplicaScript)) (since : ℕ) (start : List Deed) (requests : List (List Request)) (before : List (Option (List ℕ))) (p : Progress)
+      → AreGoing g.D.Disk.seen g.D.Disk.may_leave g.D.Disk.moment g.D.Disk.left_since g.K.Sink.given (g.C.Clock.may_give l.clock) sessions scripts since start requests before p l.fn.core l.fn.replicas l.fn.runs.items l.fn.sinks.items l.fn.depot l.fn.order.items
+      → map (λ (own : List Request). length own) requests ≡ l.totals → AreBounded scripts l.totals l.bounds → length sessions < 2 ^ 32 → all_left p < 2 ^ 64
+      → AreSoFar l.seed p l.runs.items (λ (q : Progress). AreGoing g.D.Disk.seen g.D.Disk.may_leave g.D.Disk.moment g.D.Disk.left_since g.K.Sink.given (g.C.Clock.may_give l.clock) sessions scripts since start requests before q l.core l.replicas l.runs.items l.sinks.items l.depot l.order.items) l.draw l.turns;
+  within : (before : List g.row.K.Denot) → AreAtMost l.totals l.bounds → AreWithin g.K.Sink.faults l.bounds l.fn.runs.items before l.fn.sinks.items → AreWithin g.K.Sink.faults l.bounds l.runs.items before l.sinks.items;
   faults : AreCaused (g.D.Disk.faults (disk_of l.fn.depot.journal)) (g.D.Disk.faults (disk_of l.depot.journal)) (g.D.Disk.faults (archive_disk_of l.fn.depot.archive)) (g.D.Disk.faults (archive_disk_of l.depot.archive)) l.fn.order.items l.order.items;
+  lost : HasLost l.fn.replicas.lost l.replicas.lost (g.D.Disk.faults (disk_of l.fn.depot.journal)) (g.D.Disk.faults (disk_of l.depot.journal)) (g.D.Disk.faults (archive_disk_of l.fn.depot.archive)) (g.D.Disk.faults (archive_disk_of l.depot.archive));
 }
 
 abbrev pub decreases-turns : goal.decreases-turns

@@ -1,0 +1,52 @@
+use Rattle.std.proofs.Common.{◌≡◌, true, false, List, ℕ, refl, sym, ap, ◌∙◌, inl}
+use Rattle.lock_core.specs.Drawing.{has_other}
+use Rattle.session_loop.proofs.Faults.{caused_same}
+use Rattle.session_turns.proofs.Advancing.{replica_advances, replica_here, session_advances}
+use Rattle.session_turns.proofs.Drawing.{either_first}
+use Rattle.lock_machine.specs.Machine.{is_enabled}
+use Rattle.session_turns.proofs.turns.advance.Goals as goal
+
+pub returns-then-has_left-clause-turn : goal.returns-then-has_left-clause-turn
+returns-then-has_left-clause-turn g c = λ sessions scripts since start requests before p r totals bounded may.
+    let party = c.args.party in
+    let has : has_other p.others party ≡ true = ap (λ (os : List ℕ). has_other os party) r.others ∙ (sym c.has_left.ensures ∙ c.if-has_left.true) in
+    let here = replica_here g.D.Disk.seen g.D.Disk.may_leave g.D.Disk.moment g.D.Disk.left_since g.K.Sink.given (g.C.Clock.may_give c.args.clock.now) sessions scripts since start requests before p c.args.core.now c.args.replicas.now
+    c.args.runs.now.items c.args.sinks.now.items c.args.depot.now c.args.order.now.items r party c.args.totals.now c.args.bounds.now bounded has in
+    let taken = c.take_replica_turn.ensures.turn here.left.p here.left.at_party here.party_left here.more in (
+      taken.0,
+      replica_advances g.D.Disk.seen g.D.Disk.may_leave g.D.Disk.moment g.D.Disk.left_since g.K.Sink.given (g.C.Clock.may_give c.args.clock.now) sessions scripts since start requests before p c.args.core.now c.args.replicas.now
+          c.args.runs.now.items c.args.sinks.now.items c.args.depot.now c.args.order.now.items r party c.take_replica_turn.new.replicas c.take_replica_turn.new.runs.items c.take_replica_turn.new.sinks.items c.take_replica_turn.new.depot
+          g.K.Sink.faults c.args.bounds.now here has taken.1 (λ ran. c.take_replica_turn.ensures.ran since start _ ran) c.take_replica_turn.ensures.tables,
+    )
+
+pub returns-else-has_left-clause-turn : goal.returns-else-has_left-clause-turn
+returns-else-has_left-clause-turn g c = λ sessions scripts since start requests before p r totals bounded may.
+    let party = c.args.party in
+    let none : has_other p.others party ≡ false = ap (λ (os : List ℕ). has_other os party) r.others ∙ (sym c.has_left.ensures ∙ c.if-has_left.false) in
+    let enabled = either_first (is_enabled p.machine party) (has_other p.others party) may none in
+    let taken = c.take_turn.ensures.turn sessions scripts since start requests before p.machine r.running totals enabled in
+    let grown = c.take_turn.ensures.grown in (
+      taken.0,
+      session_advances g.D.Disk.seen g.D.Disk.may_leave g.D.Disk.moment g.D.Disk.left_since g.K.Sink.given (g.C.Clock.may_give c.args.clock.now) sessions scripts since start requests before p c.args.core.now c.args.replicas.now
+          c.args.runs.now.items c.args.sinks.now.items c.args.depot.now c.args.order.now.items r party c.take_turn.new.runs.items c.take_turn.new.sinks.items c.take_turn.new.core c.take_turn.new.depot c.take_turn.new.order.items
+          grown.0 grown.1 c.args.totals.now c.args.bounds.now none bounded c.take_turn.ensures.others taken.1,
+    )
+
+pub returns-then-has_left-clause-within : goal.returns-then-has_left-clause-within
+returns-then-has_left-clause-within g c = λ before most h. c.take_replica_turn.ensures.within before h
+
+pub returns-else-has_left-clause-within : goal.returns-else-has_left-clause-within
+returns-else-has_left-clause-within g c = λ before most h. c.take_turn.ensures.within c.args.bounds.now before most h
+
+pub returns-then-has_left-clause-faults : goal.returns-then-has_left-clause-faults
+returns-then-has_left-clause-faults g c =
+    caused_same _ _ _ _ c.args.order.now.items c.args.order.now.items refl c.take_replica_turn.ensures.never_falls c.take_replica_turn.ensures.never_falls_contents
+
+pub returns-else-has_left-clause-faults : goal.returns-else-has_left-clause-faults
+returns-else-has_left-clause-faults g c = c.take_turn.ensures.faults
+
+pub returns-then-has_left-clause-lost : goal.returns-then-has_left-clause-lost
+returns-then-has_left-clause-lost g c = c.take_replica_turn.ensures.lost
+
+pub returns-else-has_left-clause-lost : goal.returns-else-has_left-clause-lost
+returns-else-has_left-clause-lost g c = λ is. inl is

@@ -1,0 +1,127 @@
+-- How far the replicas of a run are, between two turns. This project's own choice.
+use Rattle.std.specs.Prelude.{◌≡◌, ◌⊎◌, ◌≤◌, ◌+◌, nat_lt, if◌then◌else◌, ℕ, suc, Bool, true, false, List, [], ◌∷◌, length, map, get_or, slice_get, slice_set, Option, Some, None, Result}
+use Rattle.std.specs.List.{sum}
+use Rattle.outside_api.specs.Disk.{Files}
+use Rattle.depot_model.specs.Deeds.{Deed}
+use Rattle.depot_model.specs.Tables.{needs_of}
+use Rattle.depot_model.specs.declared.order.Place.{Place}
+use Rattle.depot_model.specs.declared.request.Request.{Request}
+use Rattle.depot_model.specs.declared.request.Session.{Session}
+use Rattle.lock_core.specs.declared.machine.LockCore.{LockCore}
+use Rattle.lock_machine.specs.Turns.{turns_left}
+use Rattle.replica_turns.specs.Going.{HasGotTexts, IsFresh, IsGoing, IsTurned, is_lost, reply_text}
+use Rattle.replica_turns.specs.declared.party.Answered.{Answered}
+use Rattle.replica_turns.specs.declared.party.ReplicaParty.{ReplicaParty}
+use Rattle.serial_depot.specs.declared.depot.SerialDepot.{SerialDepot}
+use Rattle.session_loop.specs.Asking.{AreWellFormed, replica_commands}
+use Rattle.session_loop.specs.declared.reading.ReplicaScript.{ReplicaScript}
+use Rattle.session_loop.specs.declared.session.SessionRun.{SessionRun}
+use Rattle.session_turns.specs.Answering.{IsAnsweredAt}
+use Rattle.session_turns.specs.Drawn.{Progress, left_after_turn}
+use Rattle.session_turns.specs.Replicas.{HasBeenAt, OneHasRisen}
+use Rattle.session_turns.specs.Taking.{IsRunning}
+use Rattle.session_turns.specs.declared.replicas.Replicas.{Replicas}
+
+-- ---- at first
+
+abbrev pub left_in : Option ReplicaParty → List Request
+left_in None = []
+left_in (Some p) = p.left.items
+
+-- the party of a replica's script has all its commands left
+abbrev pub IsFreshParty : (ℕ → Type 0) → ℕ → Option ReplicaScript → Option ReplicaParty → Type 0
+IsFreshParty may_give party None None = Unit {0}
+IsFreshParty may_give party (Some script) (Some p) = IsFresh may_give party script p × (length p.left.items ≡ length script.session.commands)
+IsFreshParty may_give party _ _ = ⊥
+
+-- so has each of those that are numbered from a number on
+abbrev pub AreFresh : (ℕ → Type 0) → ℕ → List (Option ReplicaScript) → List (Option ReplicaParty) → Type 0
+AreFresh may_give party [] [] = Unit {0}
+AreFresh may_give party (script ∷ scripts) (p ∷ parties) = IsFreshParty may_give party script p × AreFresh may_give (suc party) scripts parties
+AreFresh may_give party _ _ = ⊥
+
+-- ---- between two turns
+
+-- What is left of a replica: the commands that its run doesn't tell of, or none where its sink failed.
+pub record IsLeft (script : ReplicaScript) (replicas : Replicas) (i : ℕ) (run : SessionRun) : Type 0 where
+  pub p : ReplicaParty
+  pub other : ℕ
+  pub at_party : slice_get replicas.parties.items i ≡ Some (Some p)
+  pub at_other : slice_get replicas.others.items i ≡ Some other
+  pub stopped : run.failed ≡ true → other ≡ 0
+  pub left : run.failed ≡ false → other ≡ length p.left.items
+  pub total : run.failed ≡ false → run.commands + other ≡ length (replica_commands (Some script))
+
+-- The sink has the replies of a replica to the commands that its run tells of.
+pub record HasGiven {D : Type 0} (HasBeen : SerialDepot D → Type 0) (seen may_leave : D → Files → Type 0) (may_give : ℕ → Type 0) (party : ℕ) (script : ReplicaScript) (p : ReplicaParty) (run : SessionRun) (lost : Bool) (before now : Option (List ℕ)) : Type 0 where
+  pub texts : List (List ℕ)
+  pub its_lost : Bool
+  pub told : its_lost ≡ true → lost ≡ true
+  pub count : length texts ≡ run.commands
+  pub going : IsGoing HasBeen seen may_leave may_give party script p texts its_lost
+  pub got : HasGotTexts run.failed texts before now
+
+-- So has each replica's, where its commands are well-formed; and no other party has commands left as one.
+pub record AreFollowing {D : Type 0} (HasBeen : SerialDepot D → Type 0) (seen may_leave : D → Files → Type 0) (may_give : ℕ → Type 0) (scripts : List (Option ReplicaScript)) (replicas : Replicas) (runs : List SessionRun) (before now : List (Option (List ℕ))) : Type 0 where
+  pub count : length replicas.others.items ≡ length scripts
+  pub none : (i other : ℕ) → slice_get scripts i ≡ Some None → slice_get replicas.others.items i ≡ Some other → other ≡ 0
+  pub left : (i : ℕ) (script : ReplicaScript) (run : SessionRun) → slice_get scripts i ≡ Some (Some script) → slice_get runs i ≡ Some run → IsLeft script replicas i run
+  pub gave : (i : ℕ) (script : ReplicaScript) (run : SessionRun) (p : ReplicaParty) (given got : Option (List ℕ)) → slice_get scripts i ≡ Some (Some script) → slice_get runs i ≡ Some run
+      → slice_get replicas.parties.items i ≡ Some (Some p) → slice_get before i ≡ Some given → slice_get now i ≡ Some got → AreWellFormed script.session.commands
+      → HasGiven HasBeen seen may_leave may_give (i + 1) script p run replicas.lost given got
+
+-- The sessions are running, and the replicas are following.
+pub record AreGoing {D K : Type 0} (seen may_leave : D → Files → Type 0) (moment : D → ℕ) (left_since : D → ℕ → Files → Type 0) (given : K → Option (List ℕ)) (may_give : ℕ → Type 0) (sessions : List (Option Session)) (scripts : List (Option ReplicaScript)) (since : ℕ) (start : List Deed) (requests : List (List Request)) (before : List (Option (List ℕ))) (progress : Progress) (core : LockCore) (replicas : Replicas) (runs : List SessionRun) (sinks : List K) (depot : SerialDepot D) (order : List Place) : Type 0 where
+  pub running : IsRunning seen may_leave moment left_since given may_give sessions scripts since start requests before progress.machine core runs sinks depot order
+  pub others : progress.others ≡ replicas.others.items
+  pub following : AreFollowing (HasBeenAt seen may_leave moment left_since sessions since start order) seen may_leave may_give scripts replicas runs before (map given sinks)
+
+-- ---- a replica's turn
+
+-- One replica answered a command, with this text by the number of the command.
+pub record IsStepped {D : Type 0} (seen may_leave : D → Files → Type 0) (depot : SerialDepot D) (at : ℕ) (p : ReplicaParty) (old new : Replicas) (text : ℕ → List ℕ) : Type 0 where
+  pub next : ReplicaParty
+  pub result : Result Answered (Unit {0})
+  pub parties : new.parties.items ≡ slice_set old.parties.items at (Some next)
+  pub turned : IsTurned seen may_leave depot p next result
+  pub left : length p.left.items ≡ length next.left.items + 1
+  pub text_is : (number : ℕ) → text number ≡ reply_text result number
+  pub still : old.lost ≡ true → new.lost ≡ true
+  pub told : is_lost result ≡ true → new.lost ≡ true
+
+-- It took its turn: its sink got the text, and one command fewer is left to it, or none where the sink failed.
+pub record IsReplicaTurn {D K : Type 0} (seen may_leave : D → Files → Type 0) (given : K → Option (List ℕ)) (faults : K → ℕ) (depot : SerialDepot D) (at : ℕ) (p : ReplicaParty) (old new : Replicas) (old_runs new_runs : List SessionRun) (old_sinks new_sinks : List K) : Type 0 where
+  pub mid : Replicas
+  pub text : ℕ → List ℕ
+  pub failed : Bool
+  pub stepped : IsStepped seen may_leave depot at p old mid text
+  pub parties : new.parties.items ≡ mid.parties.items
+  pub lost : new.lost ≡ mid.lost
+  pub others : new.others.items ≡ slice_set old.others.items at (left_after_turn (get_or old.others.items at 0) failed)
+  pub answered : IsAnsweredAt given faults at text old_runs new_runs old_sinks new_sinks failed
+
+-- a replica was answered that a disk failed only where one was already, or a count rose
+abbrev pub HasLost : Bool → Bool → ℕ → ℕ → ℕ → ℕ → Type 0
+HasLost old new before now contents_before contents_now = new ≡ true → (old ≡ true) ⊎ OneHasRisen before now contents_before contents_now
+
+-- ---- how many there are
+
+-- a party has those that it has as a replica, or else as a session
+abbrev pub bound_of : ℕ → ℕ → ℕ
+bound_of total other = if nat_lt 0 other then other else total
+
+abbrev pub AreBoundsOf : List ℕ → List ℕ → List ℕ → Type 0
+AreBoundsOf totals others bounds = (i total other : ℕ) → slice_get totals i ≡ Some total → slice_get others i ≡ Some other → slice_get bounds i ≡ Some (bound_of total other)
+
+-- a replica has no commands as a session, and its bound is how many it has
+pub record AreBounded (scripts : List (Option ReplicaScript)) (totals bounds : List ℕ) : Type 0 where
+  pub none : (i : ℕ) (script : ReplicaScript) → slice_get scripts i ≡ Some (Some script) → slice_get totals i ≡ Some 0
+  pub bound : (i : ℕ) (script : ReplicaScript) → slice_get scripts i ≡ Some (Some script) → slice_get bounds i ≡ Some (length (replica_commands (Some script)))
+
+-- a party has at most as many commands as its bound
+abbrev pub AreAtMost : List ℕ → List ℕ → Type 0
+AreAtMost totals bounds = (i total : ℕ) → slice_get totals i ≡ Some total → (bound : ℕ) × (slice_get bounds i ≡ Some bound) × (total ≤ bound)
+
+-- how many turns are left at most
+abbrev pub all_left : Progress → ℕ
+all_left p = turns_left needs_of p.machine + sum p.others
