@@ -15,7 +15,7 @@ use Rattle.p4_server.specs.Init.{Inits, IsInited, IsThere, IsFailed}
 use Rattle.p4_server.specs.Opening.{IsUnopened, IsUnmade, IsDamaged, IsUnread}
 use Rattle.p4_server.specs.Promise.{IsRefused, Keeps, KeepsPromise}
 use Rattle.p4_server.specs.Schedule.{Schedules, IsClosed, IsShut, IsRun}
-use Rattle.p4_server.specs.Telling.{IsTold, IsToldAlone, IsUntold}
+use Rattle.p4_server.specs.Telling.{IsTold, IsToldAlone}
 use Rattle.p4_server.specs.declared.words.Mode.{Mode}
 use Rattle.p4_server.specs.Words.{HasParties, Job, asked, job_of, init, dump, checkpoint, load, schedule}
 
@@ -37,8 +37,8 @@ leads true faulty = refl
 leads false true = refl
 leads false false = refl
 
-leads_elsewhere : {K : Type 0} (order : List Place) (parties : List (PartyEnd K)) → is_usage (ends_cause order parties) ≡ false
-leads_elsewhere order parties = leads (has_fault_place order || has_failed_party parties) (has_faulty_party parties)
+leads_elsewhere : {K : Type 0} (order : List Place) (parties : List (PartyEnd K)) (lost : Bool) → is_usage (ends_cause order parties lost) ≡ false
+leads_elsewhere order parties lost = leads (lost || (has_fault_place order || has_failed_party parties)) (has_faulty_party parties)
 
 module _ {D S K : Type 0} (seen may_leave : D → Files → Type 0) (moment : D → ℕ) (left_since : D → ℕ → Files → Type 0) (disk_faults : D → ℕ) (given : K → Option (List ℕ)) (sink_faults : K → ℕ) (journal archive : D) (old_out new_out : K) (ended : Ended D S K) where
   unopened : IsUnopened seen may_leave moment left_since disk_faults given sink_faults journal archive old_out new_out ended → ended.cause ≢ causes.Usage
@@ -106,15 +106,15 @@ module _ {D S K H : Type 0} (seen may_leave : D → Files → Type 0) (moment : 
         | inr memory ↦ other ended.cause causes.Memory memory refl
       ]
 
-      told : IsTold given sink_faults old_out new_out ended → ended.cause ≢ causes.Usage
-      told is = elim is.is [
-        | inl whole ↦ other ended.cause (ends_cause ended.order ended.parties) whole.0 (leads_elsewhere ended.order ended.parties)
+      told : (lost : Bool) → IsTold given sink_faults old_out new_out ended lost → ended.cause ≢ causes.Usage
+      told lost is = elim is.is [
+        | inl whole ↦ other ended.cause (ends_cause ended.order ended.parties lost) whole.0 (leads_elsewhere ended.order ended.parties lost)
         | inr front ↦ other ended.cause causes.Fault front.0 refl
       ]
 
       ran : (is : IsRun seen may_leave moment left_since disk_faults left source_faults given sink_faults may_give input output door_faults old_doors new_doors journal archive old_out new_out seed names ended) → ended.cause ≢ causes.Usage
       ran is = elim is.told [
-        | inl parties ↦ told parties.2
+        | inl parties ↦ told is.lost parties.2
         | inr untold ↦ other ended.cause causes.Memory untold.cause_is refl
       ]
 

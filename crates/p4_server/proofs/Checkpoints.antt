@@ -1,7 +1,6 @@
 -- What the mode `checkpoint` promises, by how it ends.
-use Rattle.std.proofs.Common.{◌≡◌, ◌≢◌, ◌⊎◌, ◌+◌, ◌≤◌, ℕ, Bool, true, false, List, [], ◌∷◌, length, Option, refl, sym, ap, ◌∙◌, inl, inr, arith}
+use Rattle.std.proofs.Common.{◌≡◌, ◌≢◌, ◌≤◌, ℕ, true, false, List, length, Option, refl, sym, ◌∙◌, inl, inr}
 use Rattle.archive_file.specs.Archive as archives
-use Rattle.outside_api.specs.Count.{HasRisen}
 use Rattle.outside_api.specs.Disk.{Files, LeavesOnly}
 use Rattle.checkpoint_file.specs.Generations.{IsOfDepot}
 use Rattle.depot_checkpoint.specs.Taking.{StandsBeforeOrAfter, checkpointed, next_generation}
@@ -10,8 +9,8 @@ use Rattle.depot_checkpoint.specs.declared.fault.TakingFault.TheVariants as taki
 use Rattle.depot_checkpoint.proofs.Checkpoints.{stands_before}
 use Rattle.depot_model.specs.Deeds.{Deed}
 use Rattle.depot_rows.specs.Standing.{Stand}
-use Rattle.disk_journal.specs.Images.{Committed, HasCommitted, generation_of}
-use Rattle.disk_journal.specs.Stands.{Stands, disk_of, generation_of_journal, nothing}
+use Rattle.disk_journal.specs.Images.{Committed, generation_of}
+use Rattle.disk_journal.specs.Stands.{disk_of, generation_of_journal}
 use Rattle.recovery.specs.Contents.{HoldWhole}
 use Rattle.recovery.specs.Holding.{Hold}
 use Rattle.recovery.specs.Opening.{IsOpen, HasSynced, LooksOnly}
@@ -20,7 +19,7 @@ use Rattle.recovery.specs.declared.open.Opened.{Opened}
 use Rattle.table_changes.specs.Changed.{rows_of}
 use Rattle.p4_server.specs.declared.ended.Ended.{Ended}
 use Rattle.p4_server.specs.declared.ended.Cause.TheVariants as causes
-use Rattle.p4_server.specs.Checkpoint.{AreKept, BeforeOrAfter, Checkpoints, IsInDoubt, IsLine, IsPlaced, IsTaken, IsUntaken}
+use Rattle.p4_server.specs.Checkpoint.{Checkpoints, IsInDoubt, IsLine, IsPlaced, IsTaken, IsUntaken}
 use Rattle.p4_server.specs.Files.{IsStart, DiskRose, HasOpened}
 use Rattle.p4_server.specs.Lines.{cause_line, generation_line}
 use Rattle.p4_server.specs.Opening.{IsUnopened}

@@ -89,10 +89,3 @@ runs_are number (run ∷ runs) [] (sink ∷ sinks) a b = absurd (omega (arith, b
 runs_are number (run ∷ runs) (end ∷ ends) (sink ∷ sinks) a b =
     ap (λ (r : SessionRun). r ∷ map run_of (ended_parties (number + 1) runs ends sinks)) (run_is number run end sink)
     ∙ ap (λ (rs : List SessionRun). run ∷ rs) (runs_are (number + 1) runs ends sinks (omega (arith, a)) (omega (arith, b)))
-
-pub counts_are : {K : Type 0} (number : ℕ) (runs : List SessionRun) (ends : List ScriptEnd) (sinks : List K) → length runs ≡ length sinks → length ends ≡ length sinks
-    → map (λ (party : PartyEnd K). party.commands) (ended_parties number runs ends sinks) ≡ map (λ (run : SessionRun). run.commands) runs
-counts_are number [] ends sinks a b = refl
-counts_are number (run ∷ runs) ends [] a b = absurd (omega (arith, a))
-counts_are number (run ∷ runs) [] (sink ∷ sinks) a b = absurd (omega (arith, b))
-counts_are number (run ∷ runs) (end ∷ ends) (sink ∷ sinks) a b = ap (λ (ns : List ℕ). run.commands ∷ ns) (counts_are (number + 1) runs ends sinks (omega (arith, a)) (omega (arith, b)))

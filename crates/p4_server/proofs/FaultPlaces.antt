@@ -23,6 +23,12 @@ place_rose order before now contents_before contents_now (zero, m, count, risen,
     let some = fault_counted order e in inr (omega (arith, some, count, contents_risen))
 place_rose order before now contents_before contents_now (suc n, m, count, risen, contents_risen) e = inl (omega (arith, risen))
 
+-- a count that rose since has risen
+pub rose_since : (before opened now contents_before contents_opened contents_now : ℕ) → before ≤ opened → contents_before ≤ contents_opened
+    → HasRisen opened now ⊎ HasRisen contents_opened contents_now → HasRisen before now ⊎ HasRisen contents_before contents_now
+rose_since before opened now contents_before contents_opened contents_now le contents_le (inl risen) = inl (omega (arith, le, risen))
+rose_since before opened now contents_before contents_opened contents_now le contents_le (inr risen) = inr (omega (arith, contents_le, risen))
+
 -- fault places that came since the counts had risen already
 pub caused_since : (before opened now contents_before contents_opened contents_now : ℕ) (order : List Place) → before ≤ opened → contents_before ≤ contents_opened
     → AreCaused opened now contents_opened contents_now [] order → AreCaused before now contents_before contents_now [] order

@@ -11,7 +11,6 @@ use Rattle.recovery.specs.Standing.{StandFor}
 use Rattle.recovery.specs.declared.fault.MakeFault.{MakeFault}
 use Rattle.recovery.specs.declared.fault.MakeFault.TheVariants.{Made, DiskFault}
 use Rattle.p4_server.specs.declared.ended.Ended.{Ended}
-use Rattle.p4_server.specs.declared.ended.Cause.TheVariants as causes
 use Rattle.p4_server.specs.Init.{cause_by, IsInited, IsThere, IsFailed, Inits}
 use Rattle.p4_server.specs.Telling.{IsToldAlone}
 

@@ -1,5 +1,5 @@
 -- What the end of a load gives to its promise.
-use Rattle.std.proofs.Common.{◌≡◌, ◌≢◌, ◌⊎◌, ◌≤◌, ℕ, ◌+◌, Bool, true, false, eqb, cond, List, [], ◌∷◌, length, map, Option, Some, None, Result, Ok, Err, refl, sym, ap, subst, ◌∙◌, inl, inr, arith}
+use Rattle.std.proofs.Common.{◌≡◌, ◌≢◌, ◌⊎◌, ◌≤◌, ℕ, Bool, true, false, eqb, cond, List, [], ◌∷◌, length, map, Option, Some, None, refl, sym, subst, ◌∙◌, inl, inr, arith}
 use Rattle.std.proofs.lemmas.Bool.Decides.{Decides-eqb}
 use Rattle.outside_api.specs.Count.{HasRisen}
 use Rattle.outside_api.specs.Disk.{Files}
@@ -10,19 +10,15 @@ use Rattle.depot_model.specs.declared.order.Place.{Place}
 use Rattle.depot_model.specs.declared.request.Session.{Session}
 use Rattle.depot_runs.specs.Run.{placed}
 use Rattle.disk_journal.specs.Stands.{disk_of}
-use Rattle.load_script.specs.Lines.{lines_of}
 use Rattle.load_script.specs.Script.{script_of}
 use Rattle.load_script.specs.declared.lines.LoadFigures.{LoadFigures}
 use Rattle.load_session.specs.Loading.{IsAskedBy, IsLoaded, load_session, numbers_from}
 use Rattle.load_session.proofs.Whole.{load_scripts_whole}
 use Rattle.serial_depot.specs.Running.{HasRun}
 use Rattle.serial_depot.specs.declared.depot.SerialDepot.{SerialDepot}
-use Rattle.session_loop.specs.Asking.{Asking, asking_of}
 use Rattle.session_loop.specs.Served.{AreCaused}
 use Rattle.table_changes.specs.Changed.{AllRows, rows_of}
 use Rattle.depot_rows.specs.Standing.{Stand}
-use Rattle.wire_text.specs.Giving.{GotFront}
-use Rattle.wire_text.specs.declared.fault.ScriptFault.{ScriptFault}
 use Rattle.wire_text.specs.declared.script.ScriptEnd.{ScriptEnd}
 use Rattle.wire_text.specs.declared.script.ScriptEnd.TheVariants.{Whole, Fault, ReadFault}
 use Rattle.p4_server.specs.declared.ended.Ended.{Ended}
@@ -32,7 +28,7 @@ use Rattle.p4_server.specs.Ends.{has_fault_place}
 use Rattle.p4_server.specs.Files.{IsStart, DiskRose, HasOpened}
 use Rattle.p4_server.specs.Lines.{cause_line}
 use Rattle.p4_server.specs.Opening.{IsUnopened}
-use Rattle.p4_server.specs.Telling.{IsToldAlone, OutGot}
+use Rattle.p4_server.specs.Telling.{OutGot}
 use Rattle.p4_server.specs.Load.{AreKept, IsBegun, IsLoadRun, IsUnbegun, IsLoadTold, IsUnloaded, Loads, LoadsFiles, SomeRose, WereMade, WereThere, depot_after, end_cause, figures_in, load_cause, load_commands}
 use Rattle.p4_server.proofs.Openings.{fault_of_unopened, complete_of_unopened}
 use Rattle.p4_server.proofs.FaultPlaces.{caused_since, place_rose}
@@ -113,7 +109,7 @@ no_read_fault bytes session ReadFault asked e = asked
 whole_again : (bytes : List ℕ) (session : Option Session) (end : ScriptEnd) → IsAskedBy bytes session end → IsAskedBy bytes session Whole → end ≡ Whole
 whole_again bytes session Whole asked whole = refl
 whole_again bytes session (Fault fault) asked whole =
-    let clash : None ≡ Some fault = ap (λ (s : Asking). s.fault) (sym whole ∙ asked) in absurd cc
+    let clash : None ≡ Some fault = sym whole.1 ∙ asked.1 in absurd cc
 whole_again bytes session ReadFault asked whole = absurd asked
 
 -- ---- the promise

@@ -1,5 +1,5 @@
 -- A disk that isn't asked at all only reads.
-use Rattle.std.proofs.Common.{◌≡◌, ◌≤◌, ℕ, inl, inr, arith}
+use Rattle.std.proofs.Common.{◌≡◌, ℕ, inl, arith}
 use Rattle.outside_api.specs.Disk.{Files}
 use Rattle.recovery.specs.Looking.{OnlyReads}
 use Rattle.p4_server.specs.Files.{BothOnlyRead}

@@ -1,16 +1,14 @@
 -- The names of the parties that the words ask for.
-use Rattle.std.proofs.Common.{◌≡◌, ◌≢◌, ◌≤◌, ℕ, ◌<◌, ◌+◌, Bool, true, false, cond, ◌&&◌, not, nat_le, List, [], ◌∷◌, length, Option, Some, None, refl, sym, ap, subst, ◌∙◌, arith}
-use Rattle.std.specs.Prelude.{All, AllPairs, slice_get}
-use Rattle.std.specs.List.{list_any, list_all}
+use Rattle.std.proofs.Common.{◌≡◌, ◌≢◌, ℕ, Bool, true, false, cond, ◌&&◌, not, List, [], ◌∷◌, Option, Some, None, refl, sym, ap, subst, ◌∙◌, arith}
+use Rattle.std.specs.List.{list_any}
 use Rattle.std.specs.Option.{option_and_then}
 use Rattle.std.proofs.lemmas.List.Folds.{list_any_at}
 use Rattle.std.proofs.lemmas.List.Kept.{AllPairs-cons}
 use Rattle.std.proofs.lemmas.Slice.Eq.{bytes_eq-Decides}
 use Rattle.depot_path.specs.Bytes.{same}
-use Rattle.depot_path.specs.Name.{is_name}
 use Rattle.depot_model.specs.Rules.{are_distinct}
 use Rattle.p4_server.specs.Parties.{AreDifferent}
-use Rattle.p4_server.specs.Words.{Job, Said, asked, asked_by, init, dump, checkpoint, load, schedule, said_from, job_alone, job_with_names, job_of_words, job_with, seed_given, count_given, are_party_names}
+use Rattle.p4_server.specs.Words.{Job, Said, asked, asked_by, init, dump, checkpoint, load, schedule, said_from, job_of_words, job_with, seed_given, count_given, are_party_names}
 use Rattle.p4_server.specs.declared.words.Coming.TheVariants.{Anything}
 
 left_of : (a b : Bool) → (a && b) ≡ true → a ≡ true

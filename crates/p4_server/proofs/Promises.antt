@@ -14,6 +14,7 @@ use Rattle.wire_text.specs.declared.script.ScriptEnd.TheVariants as scripts
 use Rattle.wire_text.specs.Giving.{GotFront}
 use Rattle.session_loop.specs.Asking.{Asking}
 use Rattle.session_loop.specs.Reading.{IsAsked}
+use Rattle.session_loop.specs.declared.reading.ReplicaScript.{ReplicaScript}
 use Rattle.wire_text.proofs.Pieces.{front_before}
 use Rattle.p4_server.specs.declared.ended.Ended.{Ended}
 use Rattle.p4_server.specs.declared.ended.PartyEnd.{PartyEnd}
@@ -46,42 +47,43 @@ got_fault before now order parties causes.Script got = more_lines before now (pl
 got_fault before now order parties causes.Fault got = got
 got_fault before now order parties causes.Memory got = more_lines before now (place_lines order ++ end_lines parties) got
 
-pub told_of : {D S K : Type 0} (given : K → Option (List ℕ)) (sink_faults : K → ℕ) (old_out new_out : K) (text : List ℕ) (cause : Cause) (ended : Ended D S K) → text ≡ run_lines ended.order ended.parties cause → cause ≡ ends_cause ended.order ended.parties
+pub told_of : {D S K : Type 0} (given : K → Option (List ℕ)) (sink_faults : K → ℕ) (old_out new_out : K) (text : List ℕ) (cause : Cause) (lost : Bool) (ended : Ended D S K) → text ≡ run_lines ended.order ended.parties cause → cause ≡ ends_cause ended.order ended.parties lost
     → ((ended.cause ≡ cause) × (given new_out ≡ extended (given old_out) text)) ⊎ ((ended.cause ≡ causes.Fault) × HasRisen (sink_faults old_out) (sink_faults new_out) × GotFront (given old_out) (given new_out) text)
-    → IsTold given sink_faults old_out new_out ended
-told_of given sink_faults old_out new_out text cause ended is leads (inl whole) =
+    → IsTold given sink_faults old_out new_out ended lost
+told_of given sink_faults old_out new_out text cause lost ended is leads (inl whole) =
     record { is = inl (whole.0 ∙ leads, whole.1 ∙ ap (extended (given old_out)) (is ∙ ap (run_lines ended.order ended.parties) (sym whole.0))) }
-told_of given sink_faults old_out new_out text cause ended is leads (inr front) =
+told_of given sink_faults old_out new_out text cause lost ended is leads (inr front) =
     record { is = inr (front.0, front.1, got_fault (given old_out) (given new_out) ended.order ended.parties cause (rw is at front.2)) }
 
 -- ---- causes
 
--- a fault is that of a place or that of a party
-of_fault : (place failed faulty : Bool) → cond (place || failed) causes.Fault (cond faulty causes.Script causes.Done) ≡ causes.Fault → (place ≡ true) ⊎ (failed ≡ true)
-of_fault true failed faulty e = inl refl
-of_fault false true faulty e = inr refl
-of_fault false false true e = absurd cc
-of_fault false false false e = absurd cc
+-- a fault is that of a replica, that of a place or that of a party
+of_fault : (lost place failed faulty : Bool) → cond (lost || (place || failed)) causes.Fault (cond faulty causes.Script causes.Done) ≡ causes.Fault → (lost ≡ true) ⊎ ((place ≡ true) ⊎ (failed ≡ true))
+of_fault true place failed faulty e = inl refl
+of_fault false true failed faulty e = inr (inl refl)
+of_fault false false true faulty e = inr (inr refl)
+of_fault false false false true e = absurd cc
+of_fault false false false false e = absurd cc
 
 -- without any of these all is done
-all_done : (place failed faulty : Bool) → place ≡ false → failed ≡ false → faulty ≡ false → cond (place || failed) causes.Fault (cond faulty causes.Script causes.Done) ≡ causes.Done
-all_done place failed faulty a b c = rw (a, b, c) refl
+all_done : (lost place failed faulty : Bool) → lost ≡ false → place ≡ false → failed ≡ false → faulty ≡ false → cond (lost || (place || failed)) causes.Fault (cond faulty causes.Script causes.Done) ≡ causes.Done
+all_done lost place failed faulty a b c d = rw (a, b, c, d) refl
 
 -- a party whose source or sink failed
-of_failed : (failed : Bool) (end : ScriptEnd) (input left : Option (List ℕ)) (before now : ℕ) (session : Option Session) → is_failed (party_end failed end) ≡ true → IsAsked input left before now session end → (failed ≡ true) ⊎ HasRisen before now
-of_failed true end input left before now session e read = inl refl
-of_failed false scripts.Whole input left before now session e read = absurd cc
-of_failed false (scripts.Fault fault) input left before now session e read = absurd cc
-of_failed false scripts.ReadFault input left before now session e read = inr read.0
+of_failed : (failed : Bool) (end : ScriptEnd) (input left : Option (List ℕ)) (before now : ℕ) (session : Option Session) (replica : Option ReplicaScript) → is_failed (party_end failed end) ≡ true → IsAsked input left before now session replica end → (failed ≡ true) ⊎ HasRisen before now
+of_failed true end input left before now session replica e read = inl refl
+of_failed false scripts.Whole input left before now session replica e read = absurd cc
+of_failed false (scripts.Fault fault) input left before now session replica e read = absurd cc
+of_failed false scripts.ReadFault input left before now session replica e read = inr read.0
 
 -- a whole script ends a party so only where its sink failed
-of_whole : (failed : Bool) (end : ScriptEnd) (input left : Option (List ℕ)) (before now : ℕ) (session : Option Session) → IsAsked input left before now session end → IsWhole input → ¬ (failed ≡ true) → ¬ HasRisen before now
+of_whole : (failed : Bool) (end : ScriptEnd) (input left : Option (List ℕ)) (before now : ℕ) (session : Option Session) (replica : Option ReplicaScript) → IsAsked input left before now session replica end → IsWhole input → ¬ (failed ≡ true) → ¬ HasRisen before now
     → (is_failed (party_end failed end) ≡ false) × (is_faulty (party_end failed end) ≡ false)
-of_whole true end input left before now session read whole sink source = absurd (sink refl)
-of_whole false scripts.Whole input left before now session read whole sink source = (refl, refl)
-of_whole false scripts.ReadFault input left before now session read whole sink source = absurd (source read.0)
-of_whole false (scripts.Fault fault) None left before now session read whole sink source = absurd whole
-of_whole false (scripts.Fault fault) (Some bytes) left before now session read whole sink source =
+of_whole true end input left before now session replica read whole sink source = absurd (sink refl)
+of_whole false scripts.Whole input left before now session replica read whole sink source = (refl, refl)
+of_whole false scripts.ReadFault input left before now session replica read whole sink source = absurd (source read.0)
+of_whole false (scripts.Fault fault) None left before now session replica read whole sink source = absurd whole
+of_whole false (scripts.Fault fault) (Some bytes) left before now session replica read whole sink source =
     let clash : None ≡ Some fault = sym whole ∙ ap (λ (s : Asking). s.fault) read in
     absurd cc
 
@@ -104,6 +106,9 @@ module _ {D S K H : Type 0} (seen may_leave : D → Files → Type 0) (moment : 
 
   disk_rose : Ran → has_fault_place ended.order ≡ true → Rose
   disk_rose run e = inr (inr (inl (place_rose ended.order (disk_faults journal) (disk_faults ended.journal) (disk_faults archive) (disk_faults ended.archive) run.fault_places e)))
+
+  lost_rose : (run : Ran) → run.lost ≡ true → Rose
+  lost_rose run e = inr (inr (inl (run.lost_rose e)))
 
   sink_rose : (run : Ran) → ended.parties ≡ run.parties → (i : ℕ) (party : PartyEnd K) → slice_get run.parties i ≡ Some party → HasRisen 0 (sink_faults party.sink) → Rose
   sink_rose run are i party at risen = inr (inr (inr (inr (rw are (any_of (λ (p : PartyEnd K). HasRisen 0 (sink_faults p.sink)) run.parties i party at risen)))))
@@ -130,7 +135,7 @@ module _ {D S K H : Type 0} (seen may_leave : D → Files → Type 0) (moment : 
   failed_rose run are sources_are i party at failed =
       let one = one_at run i party at in
       let end = one.end in
-      let why = of_failed end.failed end.read.end (input old_doors one.name) (left one.source) 0 (source_faults one.source) end.read.session (ap is_failed (sym end.end) ∙ failed) end.read_is in
+      let why = of_failed end.failed end.read.end (input old_doors one.name) (left one.source) 0 (source_faults one.source) end.read.session end.read.replica (ap is_failed (sym end.end) ∙ failed) end.read_is in
       elim why [ inl sink ↦ sink_rose run are i party at (end.cause sink) | inr risen ↦ source_rose run sources_are i one.source one.source_at risen ]
 
   any_failed_rose : (run : Ran) → ended.parties ≡ run.parties → ended.sources ≡ run.sources → has_failed_party run.parties ≡ true → Rose
@@ -139,15 +144,18 @@ module _ {D S K H : Type 0} (seen may_leave : D → Files → Type 0) (moment : 
       failed_rose run are sources_are some.0 some.1 (slice_get_read run.parties (length run.parties) some.0 some.1 refl some.2 (sym some.3)) some.4
 
   -- the cause to which the places and the parties lead
-  leads : (run : Ran) → ended.parties ≡ run.parties → ended.cause ≡ ends_cause ended.order ended.parties → ended.cause ≡ ends_cause ended.order run.parties
-  leads run are e = e ∙ ap (λ (ps : List (PartyEnd K)). ends_cause ended.order ps) are
+  leads : (run : Ran) → ended.parties ≡ run.parties → ended.cause ≡ ends_cause ended.order ended.parties run.lost → ended.cause ≡ ends_cause ended.order run.parties run.lost
+  leads run are e = e ∙ ap (λ (ps : List (PartyEnd K)). ends_cause ended.order ps run.lost) are
 
   fault_of : Ran → ended.cause ≡ causes.Fault → Rose
   fault_of run is = elim run.told [
     | inl told ↦ elim told.2.is [
       | inl whole ↦
-          let why = of_fault (has_fault_place ended.order) (has_failed_party run.parties) (has_faulty_party run.parties) (sym (leads run told.0 whole.0) ∙ is) in
-          elim why [ inl place ↦ disk_rose run place | inr failed ↦ any_failed_rose run told.0 told.1 failed ]
+          let why = of_fault run.lost (has_fault_place ended.order) (has_failed_party run.parties) (has_faulty_party run.parties) (sym (leads run told.0 whole.0) ∙ is) in
+          elim why [
+            | inl lost ↦ lost_rose run lost
+            | inr other ↦ elim other [ inl place ↦ disk_rose run place | inr failed ↦ any_failed_rose run told.0 told.1 failed ]
+          ]
       | inr front ↦ inr (inl front.1)
     ]
     | inr untold ↦ let clash : causes.Memory ≡ causes.Fault = sym untold.cause_is ∙ is in absurd cc
@@ -158,7 +166,7 @@ module _ {D S K H : Type 0} (seen may_leave : D → Files → Type 0) (moment : 
   whole_party run are sources_are whole none i party at =
       let one = one_at run i party at in
       let end = one.end in
-      let is = of_whole end.failed end.read.end (input old_doors one.name) (left one.source) 0 (source_faults one.source) end.read.session end.read_is
+      let is = of_whole end.failed end.read.end (input old_doors one.name) (left one.source) 0 (source_faults one.source) end.read.session end.read.replica end.read_is
       (all_at (λ (name : List ℕ). IsWhole (input old_doors name)) names whole i one.name one.name_at) (λ failed. none (sink_rose run are i party at (end.cause failed))) (λ risen. none (source_rose run sources_are i one.source one.source_at risen)) in
       (ap is_failed end.end ∙ is.0, ap is_faulty end.end ∙ is.1)
 
@@ -167,10 +175,11 @@ module _ {D S K H : Type 0} (seen may_leave : D → Files → Type 0) (moment : 
     | inl told ↦ elim told.2.is [
       | inl all ↦
           let each = whole_party run told.0 told.1 whole none in
+          let not_lost = not_true run.lost (λ lost. none (lost_rose run lost)) in
           let no_place = not_true (has_fault_place ended.order) (λ place. none (disk_rose run place)) in
           let no_failed = list_any_none (λ (p : PartyEnd K). is_failed p.end) run.parties (all_of (λ (p : PartyEnd K). is_failed p.end ≡ false) run.parties (λ i party at. (each i party at).0)) in
           let no_faulty = list_any_none (λ (p : PartyEnd K). is_faulty p.end) run.parties (all_of (λ (p : PartyEnd K). is_faulty p.end ≡ false) run.parties (λ i party at. (each i party at).1)) in
-          inl (leads run told.0 all.0 ∙ all_done (has_fault_place ended.order) (has_failed_party run.parties) (has_faulty_party run.parties) no_place no_failed no_faulty)
+          inl (leads run told.0 all.0 ∙ all_done run.lost (has_fault_place ended.order) (has_failed_party run.parties) (has_faulty_party run.parties) not_lost no_place no_failed no_faulty)
       | inr front ↦ absurd (none (inr (inl front.1)))
     ]
     | inr untold ↦ inr untold.cause_is

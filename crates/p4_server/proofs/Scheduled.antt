@@ -1,5 +1,5 @@
 -- A depot in files that is opened, asked and closed.
-use Rattle.std.proofs.Common.{◌≡◌, ◌≤◌, ℕ, List, [], length, Option, refl, sym, subst, ◌∙◌, ◌⊎◌, inl, inr, arith}
+use Rattle.std.proofs.Common.{◌≡◌, ◌≤◌, ℕ, Bool, true, List, [], length, Option, refl, sym, subst, ◌∙◌, ◌⊎◌, inl, inr, arith}
 use Rattle.outside_api.specs.Count.{HasRisen}
 use Rattle.depot_model.specs.declared.order.Place.{Place}
 use Rattle.session_loop.specs.Served.{AreCaused}
@@ -32,7 +32,7 @@ use Rattle.p4_server.specs.Files.{IsStart, HasOpened, PairIsKept}
 use Rattle.p4_server.specs.Headline.{AreEnds, IsRunFrom}
 use Rattle.p4_server.specs.Schedule.{AreKept, IsRun, unrun_cause}
 use Rattle.p4_server.specs.Telling.{IsReport, IsUntold}
-use Rattle.p4_server.proofs.FaultPlaces.{caused_since}
+use Rattle.p4_server.proofs.FaultPlaces.{caused_since, rose_since}
 use Rattle.p4_server.proofs.Contents.{contents_opened, deletes_opened, pair_stands}
 use Rattle.p4_server.proofs.Openings.{read_at_start}
 
@@ -147,15 +147,16 @@ module _ {D S K H : Type 0} (seen may_leave : D → Files → Type 0) (moment : 
   }
 
   -- the parties were run over the depot
-  pub run_of : (depot : SerialDepot D) (opened : D) (opened_faults opened_contents : ℕ) (order : List Place) (parties : List (PartyEnd K)) (sources : List S) → ended.journal ≡ disk_of depot.journal → ended.archive ≡ archives.disk_of depot.archive → HasOpened seen may_leave moment left_since journal archive opened → ended.order ≡ order
+  pub run_of : (depot : SerialDepot D) (opened : D) (opened_faults opened_contents : ℕ) (order : List Place) (lost : Bool) (parties : List (PartyEnd K)) (sources : List S) → ended.journal ≡ disk_of depot.journal → ended.archive ≡ archives.disk_of depot.archive → HasOpened seen may_leave moment left_since journal archive opened → ended.order ≡ order
       → AreEnds left source_faults sink_faults (input old_doors) names parties sources
-      → ((d : List Deed) → IsStart seen journal archive d → IsRunFrom left source_faults given sink_faults may_give (HasRun seen may_leave moment left_since depot (moment opened)) seed d (input old_doors) (output old_doors) names order parties sources)
+      → ((d : List Deed) → IsStart seen journal archive d → IsRunFrom seen may_leave moment left_since left source_faults given sink_faults may_give (moment opened) d (HasRun seen may_leave moment left_since depot (moment opened)) seed (input old_doors) (output old_doors) names order lost parties sources)
       → disk_faults journal ≤ opened_faults → disk_faults archive ≤ opened_contents
       → AreCaused opened_faults (disk_faults (disk_of depot.journal)) opened_contents (disk_faults (archives.disk_of depot.archive)) [] order
-      → IsReport given sink_faults old_out new_out ended order parties sources ⊎ IsUntold ended
+      → (lost ≡ true → HasRisen opened_faults (disk_faults (disk_of depot.journal)) ⊎ HasRisen opened_contents (disk_faults (archives.disk_of depot.archive)))
+      → IsReport given sink_faults old_out new_out ended order parties sources lost ⊎ IsUntold ended
       → IsRun seen may_leave moment left_since disk_faults left source_faults given sink_faults may_give input output door_faults old_doors new_doors journal archive old_out new_out seed names ended
-  run_of depot opened opened_faults opened_contents order parties sources journal_is archive_is opens order_is ends runs before contents_before counts told =
-      let P : List Place → Type 0 = λ o. (d : List Deed) → IsStart seen journal archive d → IsRunFrom left source_faults given sink_faults may_give (HasRun seen may_leave moment left_since depot (moment opened)) seed d (input old_doors) (output old_doors) names o parties sources in
+  run_of depot opened opened_faults opened_contents order lost parties sources journal_is archive_is opens order_is ends runs before contents_before counts lost_rose told =
+      let P : List Place → Type 0 = λ o. (d : List Deed) → IsStart seen journal archive d → IsRunFrom seen may_leave moment left_since left source_faults given sink_faults may_give (moment opened) d (HasRun seen may_leave moment left_since depot (moment opened)) seed (input old_doors) (output old_doors) names o lost parties sources in
       let all = subst P (sym order_is) runs in
       record {
         parties = parties;
@@ -163,6 +164,9 @@ module _ {D S K H : Type 0} (seen may_leave : D → Files → Type 0) (moment : 
         ends = ends;
         opened = opened;
         is_opened = opens;
+        lost = lost;
+        lost_rose = λ is. rw (journal_is, archive_is)
+            (rose_since (disk_faults journal) opened_faults (disk_faults (disk_of depot.journal)) (disk_faults archive) opened_contents (disk_faults (archives.disk_of depot.archive)) before contents_before (lost_rose is));
         run = λ d start. record { headline = (all d start).headline; drawn = (all d start).drawn; kept = are_kept depot opened journal_is archive_is d _ (all d start).ran };
         fault_places = rw (journal_is, archive_is, order_is)
             (caused_since (disk_faults journal) opened_faults (disk_faults (disk_of depot.journal)) (disk_faults archive) opened_contents (disk_faults (archives.disk_of depot.archive)) order before contents_before counts);

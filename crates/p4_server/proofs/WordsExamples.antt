@@ -1,5 +1,5 @@
 -- Some command lines, and what they ask.
-use Rattle.std.proofs.Common.{◌≡◌, List, [], ◌∷◌, Some, None, refl}
+use Rattle.std.proofs.Common.{◌≡◌, [], ◌∷◌, Some, None, refl}
 use Rattle.std.specs.Prelude.{codes}
 use Rattle.p4_server.specs.Words.{asked, init, dump, load, schedule}
 

@@ -28,7 +28,7 @@ party_end false scripts.Whole = ends.Whole
 party_end false (scripts.Fault fault) = ends.Script fault
 party_end false scripts.ReadFault = ends.ReadFault
 
--- the end of a party by its number: how far its session came, how its script was read, and its sink
+-- the end of a party by its number: how far it came, how its script was read, and its sink
 abbrev pub ended_party : {K : Type 0} → ℕ → SessionRun → ScriptEnd → K → PartyEnd K
 ended_party number run end sink = record { party = number; sink = sink; commands = run.commands; end = party_end run.failed end }
 
@@ -44,7 +44,7 @@ has_lost_sink ends.Whole = false
 has_lost_sink (ends.Script fault) = false
 has_lost_sink ends.ReadFault = false
 
--- how far a party's session came
+-- how far a party came
 abbrev pub run_of : {K : Type 0} → PartyEnd K → SessionRun
 run_of party = record { commands = party.commands; failed = has_lost_sink party.end }
 
@@ -74,8 +74,8 @@ has_failed_party parties = list_any (λ party. is_failed party.end) parties
 abbrev pub has_faulty_party : {K : Type 0} → List (PartyEnd K) → Bool
 has_faulty_party parties = list_any (λ party. is_faulty party.end) parties
 
--- a fault of the outside counts before one of a script
-abbrev pub ends_cause : {K : Type 0} → List Place → List (PartyEnd K) → Cause
-ends_cause order parties =
-    if has_fault_place order || has_failed_party parties then causes.Fault else
+-- A fault of the outside counts before one of a script. `lost` says that a replica was answered that a disk failed.
+abbrev pub ends_cause : {K : Type 0} → List Place → List (PartyEnd K) → Bool → Cause
+ends_cause order parties lost =
+    if lost || (has_fault_place order || has_failed_party parties) then causes.Fault else
     (if has_faulty_party parties then causes.Script else causes.Done)

@@ -1,6 +1,6 @@
 -- What the mode `load` promises: it makes the files where there are none, runs the script of a seed and a number of steps as the session of party 1, and
 -- prints the figures of the depot after it (this project's own choice).
-use Rattle.std.specs.Prelude.{◌≡◌, ◌≢◌, ◌⊎◌, ◌≤◌, ℕ, ◌==◌, Bool, true, false, List, [], ◌∷◌, length, map, Option, Some, None, if◌then◌else◌}
+use Rattle.std.specs.Prelude.{◌≡◌, ◌≢◌, ◌⊎◌, ◌≤◌, ℕ, ◌==◌, List, [], ◌∷◌, length, map, Option, if◌then◌else◌}
 use Rattle.outside_api.specs.Count.{HasRisen}
 use Rattle.outside_api.specs.Disk.{Files}
 use Rattle.outside_api.specs.Told.{extended}
@@ -9,7 +9,6 @@ use Rattle.depot_model.specs.Deeds.{Deed}
 use Rattle.depot_model.specs.Order.{IsOrder}
 use Rattle.depot_model.specs.Places.{Placed, taken}
 use Rattle.depot_model.specs.declared.order.Place.{Place}
-use Rattle.depot_model.specs.declared.request.Session.{Session}
 use Rattle.depot_runs.specs.Run.{placed}
 use Rattle.depot_runs.specs.Today.{step}
 use Rattle.load_script.specs.Lines.{lines_of}

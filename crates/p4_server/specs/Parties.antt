@@ -1,12 +1,14 @@
 -- The parties of a run before their first turns: what came by the doors of their names, and what was read of their scripts.
 use Rattle.std.specs.Prelude.{◌≡◌, ◌≢◌, ◌≤◌, ℕ, List, length, slice_get, All, AllPairs, Option, Some}
 use Rattle.depot_model.specs.declared.request.Session.{Session}
-use Rattle.session_loop.specs.Asking.{AreWellFormed, commands_of}
+use Rattle.session_loop.specs.Asking.{AreWellFormed, commands_of, replica_commands}
 use Rattle.session_loop.specs.Reading.{IsAsked}
+use Rattle.session_loop.specs.declared.reading.ReplicaScript.{ReplicaScript}
 use Rattle.wire_text.specs.declared.script.ScriptEnd.{ScriptEnd}
 use Rattle.p4_server.specs.declared.ended.PartyEnd.{PartyEnd}
 use Rattle.p4_server.specs.declared.party.PartiesRun.{PartiesRun}
 use Rattle.p4_server.specs.Ends.{ended_parties}
+use Rattle.p4_server.specs.Headline.{IsApart}
 
 -- ---- names
 
@@ -42,20 +44,28 @@ module _ {S K : Type 0} (left : S → Option (List ℕ)) (source_faults : S → 
 
 -- ---- scripts
 
--- Of each source the session and the end of its script were read.
-pub record AreRead {S : Type 0} (left : S → Option (List ℕ)) (faults : S → ℕ) (before now : List S) (sessions : List (Option Session)) (ends : List ScriptEnd) : Type 0 where
+-- of a source the session or the replica and the end of its script were read
+pub record IsRead {S : Type 0} (left : S → Option (List ℕ)) (faults : S → ℕ) (was is : S) (session : Option Session) (replica : Option ReplicaScript) (end : ScriptEnd) : Type 0 where
+  pub asked : IsAsked (left was) (left is) (faults was) (faults is) session replica end
+  pub apart : IsApart session replica
+
+-- so it is of each source
+pub record AreRead {S : Type 0} (left : S → Option (List ℕ)) (faults : S → ℕ) (before now : List S) (sessions : List (Option Session)) (replicas : List (Option ReplicaScript)) (ends : List ScriptEnd) : Type 0 where
   pub sources_count : length now ≡ length before
   pub sessions_count : length sessions ≡ length before
+  pub replicas_count : length replicas ≡ length before
   pub ends_count : length ends ≡ length before
-  pub each : (i : ℕ) (was is : S) (session : Option Session) (end : ScriptEnd) → slice_get before i ≡ Some was → slice_get now i ≡ Some is → slice_get sessions i ≡ Some session → slice_get ends i ≡ Some end
-      → IsAsked (left was) (left is) (faults was) (faults is) session end
+  pub each : (i : ℕ) (was is : S) (session : Option Session) (replica : Option ReplicaScript) (end : ScriptEnd) → slice_get before i ≡ Some was → slice_get now i ≡ Some is → slice_get sessions i ≡ Some session → slice_get replicas i ≡ Some replica
+      → slice_get ends i ≡ Some end → IsRead left faults was is session replica end
 
--- what a session asks is well-formed, and not more than a script can ask
-abbrev pub AreFormed : List (Option Session) → Type 0
-AreFormed sessions = All (λ session. AreWellFormed (commands_of session)) sessions
+-- what a session or a replica asks is well-formed, and not more than a script can ask
+pub record AreFormed (sessions : List (Option Session)) (replicas : List (Option ReplicaScript)) : Type 0 where
+  pub sessions_formed : All (λ session. AreWellFormed (commands_of session)) sessions
+  pub replicas_formed : All (λ replica. AreWellFormed (replica_commands replica)) replicas
 
-abbrev pub AreFew : List (Option Session) → Type 0
-AreFew sessions = All (λ session. length (commands_of session) ≤ 67108864) sessions
+pub record AreFew (sessions : List (Option Session)) (replicas : List (Option ReplicaScript)) : Type 0 where
+  pub sessions_few : All (λ session. length (commands_of session) ≤ 67108864) sessions
+  pub replicas_few : All (λ replica. length (replica_commands replica) ≤ 67108864) replicas
 
 -- ---- runs
 

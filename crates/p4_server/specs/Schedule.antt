@@ -1,5 +1,5 @@
 -- What the mode `schedule` promises: the headline, from each depot that the files stood for.
-use Rattle.std.specs.Prelude.{◌≡◌, ◌⊎◌, ◌≤◌, ℕ, List, [], length, map, All, Any, IsSomeAnd, Option, None}
+use Rattle.std.specs.Prelude.{◌≡◌, ◌⊎◌, ◌≤◌, ℕ, Bool, true, List, [], length, map, All, Any, IsSomeAnd, Option, None}
 use Rattle.outside_api.specs.Count.{HasRisen}
 use Rattle.outside_api.specs.Disk.{Files}
 use Rattle.depot_model.specs.Deeds.{Deed}
@@ -60,10 +60,10 @@ module _ {D S K H : Type 0} (seen may_leave : D → Files → Type 0) (moment : 
     pub kept : (d : List Deed) → IsStart seen journal archive d → AreKept opened d []
 
   -- the headline from that depot on, the turns that made its order, and what the files hold after the places of the order
-  pub record IsRunKept (opened : D) (parties : List (PartyEnd K)) (sources : List S) (d : List Deed) : Type 0 where
-    pub headline : IsHeadline left source_faults given sink_faults may_give d (input old_doors) (output old_doors) names ended.order parties sources
+  pub record IsRunKept (opened : D) (lost : Bool) (parties : List (PartyEnd K)) (sources : List S) (d : List Deed) : Type 0 where
+    pub headline : IsHeadline seen may_leave moment left_since left source_faults given sink_faults may_give (moment opened) d (input old_doors) (output old_doors) names ended.order lost parties sources
     -- the order is that of the machine with the turns that the seed draws, where a party whose sink failed takes no further turn
-    pub drawn : IsDrawn may_give seed headline.sessions d ended.order (map run_of parties)
+    pub drawn : IsDrawn may_give seed headline.sessions headline.replicas d ended.order (map run_of parties)
     pub kept : AreKept opened d (map (placed headline.sessions) ended.order)
 
   -- The parties were run, and told; where there was no memory to tell them, their ends are lacking.
@@ -73,11 +73,14 @@ module _ {D S K H : Type 0} (seen may_leave : D → Files → Type 0) (moment : 
     pub ends : AreEnds left source_faults sink_faults (input old_doors) names parties sources
     pub opened : D
     pub is_opened : HasOpened seen may_leave moment left_since journal archive opened
-    pub run : (d : List Deed) → IsStart seen journal archive d → IsRunKept opened parties sources d
+    -- whether a replica was answered that a disk failed, which comes only where one has failed
+    pub lost : Bool
+    pub lost_rose : lost ≡ true → DiskRose disk_faults journal ended.journal archive ended.archive
+    pub run : (d : List Deed) → IsStart seen journal archive d → IsRunKept opened lost parties sources d
     -- A commit fails, and a content can't be read or stored, only where a disk has failed: there are at most as many fault places as the counts of the
     -- two disks rose together.
     pub fault_places : AreCaused (disk_faults journal) (disk_faults ended.journal) (disk_faults archive) (disk_faults ended.archive) [] ended.order
-    pub told : ((ended.parties ≡ parties) × (ended.sources ≡ sources) × IsTold given sink_faults old_out new_out ended) ⊎ IsUntold ended
+    pub told : ((ended.parties ≡ parties) × (ended.sources ≡ sources) × IsTold given sink_faults old_out new_out ended lost) ⊎ IsUntold ended
 
   pub record Schedules : Type 0 where
     pub ends : IsClosed ⊎ (IsShut ⊎ IsRun)

@@ -1,5 +1,5 @@
 -- What `out` gets of the end of a run.
-use Rattle.std.specs.Prelude.{◌≡◌, ◌⊎◌, ℕ, List, [], Option}
+use Rattle.std.specs.Prelude.{◌≡◌, ◌⊎◌, ℕ, Bool, List, [], Option}
 use Rattle.outside_api.specs.Count.{HasRisen}
 use Rattle.outside_api.specs.Told.{extended}
 use Rattle.depot_model.specs.declared.order.Place.{Place}
@@ -27,17 +27,18 @@ module _ {D S K : Type 0} (given : K → Option (List ℕ)) (sink_faults : K →
     pub unrun : IsUnrun ended
     pub lines : OutGot (given old_out) (given new_out) (sink_faults old_out) (sink_faults new_out) (cause_line ended.cause)
 
-  -- The cause is that of the places and of the parties' ends, and `out` got all lines; or `out` failed, which is a fault, and got a front of them.
-  pub record IsTold : Type 0 where
-    pub is : ((ended.cause ≡ ends_cause ended.order ended.parties) × (given new_out ≡ extended (given old_out) (run_lines ended.order ended.parties ended.cause)))
+  -- The cause is that of the places and of the parties' ends, and of whether a replica was answered that a disk failed, and `out` got all lines; or `out`
+  -- failed, which is a fault, and got a front of them.
+  pub record IsTold (lost : Bool) : Type 0 where
+    pub is : ((ended.cause ≡ ends_cause ended.order ended.parties lost) × (given new_out ≡ extended (given old_out) (run_lines ended.order ended.parties ended.cause)))
         ⊎ ((ended.cause ≡ causes.Fault) × HasRisen (sink_faults old_out) (sink_faults new_out) × GotFront (given old_out) (given new_out) (run_lines ended.order ended.parties causes.Fault))
 
   -- these parties were run, and told
-  pub record IsReport (order : List Place) (parties : List (PartyEnd K)) (sources : List S) : Type 0 where
+  pub record IsReport (order : List Place) (parties : List (PartyEnd K)) (sources : List S) (lost : Bool) : Type 0 where
     pub order_is : ended.order ≡ order
     pub parties_are : ended.parties ≡ parties
     pub sources_are : ended.sources ≡ sources
-    pub told : IsTold
+    pub told : IsTold lost
 
 -- There was no memory to tell the parties, and their ends are lacking.
 pub record IsUntold {D S K : Type 0} (ended : Ended D S K) : Type 0 where

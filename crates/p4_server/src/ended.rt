@@ -182,11 +182,11 @@ fn any_faulty<K>(parties: &[PartyEnd<K>]) -> bool
     parties.iter().any(|party| is_faulty(party.end))
 }
 
-/// The cause to which the places of the order and the ends of the parties lead.
-pub fn cause_of<K>(order: &[Place], parties: &[PartyEnd<K>]) -> Cause
-    ensures { result ≡ ends_cause order.now parties.now }
+/// The cause to which the places of the order and the ends of the parties lead, and whether a replica was answered that a disk failed.
+pub fn cause_of<K>(order: &[Place], parties: &[PartyEnd<K>], lost: bool) -> Cause
+    ensures { result ≡ ends_cause order.now parties.now lost }
 {
-    if any_fault(order) || any_failed(parties) {
+    if lost || any_fault(order) || any_failed(parties) {
         Cause::Fault
     } else if any_faulty(parties) {
         Cause::Script

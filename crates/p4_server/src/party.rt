@@ -1,6 +1,6 @@
 //! The parties of a run: the doors of their names, their scripts, and their turns.
 
-ghost use Rattle.std.specs.Prelude.{◌≡◌, ◌≤◌, ◌∷◌, ◌++◌, [], ℕ, List, Err, length, IfOk, OnOk};
+ghost use Rattle.std.specs.Prelude.{◌≡◌, ◌≤◌, ◌⊎◌, ◌∷◌, ◌++◌, [], ℕ, List, Err, length, true, IfOk, OnOk};
 ghost use Rattle.outside_api.specs.Count.{HasRisen};
 ghost use Rattle.archive_file.specs.Archive.{disk_of as archive_disk_of};
 ghost use Rattle.disk_journal.specs.Stands.{disk_of};
@@ -16,8 +16,8 @@ use depot_model::{Place, Session};
 use depot_path::Sequence;
 use outside_api::{Clock, Disk, Doors, Gate, Sink, Source};
 use serial_depot::SerialDepot;
-use session_loop::{ReadSession, SessionRun, read_session};
-use session_turns::run_sessions;
+use session_loop::{ReadSession, ReplicaScript, SessionRun, read_session};
+use session_turns::{Ran, run_sessions};
 use std::alloc::{AllocError, Global};
 use wire_text::ScriptEnd;
 
@@ -84,6 +84,8 @@ pub struct Scripts<S> {
     pub sources: Vec<S>,
     /// The session of each script that has the head of one.
     pub sessions: Vec<Option<Session>>,
+    /// The replica of each script that has the head of one.
+    pub replicas: Vec<Option<ReplicaScript>>,
     /// How each script ends.
     pub ends: Vec<ScriptEnd>,
 }
@@ -96,10 +98,16 @@ fn add_script<S: Drop>(
 ) -> Result<(), AllocError>
     ensures sources { OnOk result (scripts.new.sources.items ≡ scripts.old.sources.items ++ source ∷ []) }
     ensures sessions { OnOk result (scripts.new.sessions.items ≡ scripts.old.sessions.items ++ read.session ∷ []) }
+    ensures replicas { OnOk result (scripts.new.replicas.items ≡ scripts.old.replicas.items ++ read.replica ∷ []) }
     ensures ends { OnOk result (scripts.new.ends.items ≡ scripts.old.ends.items ++ read.end ∷ []) }
 {
-    let ReadSession { session, end } = read;
+    let ReadSession {
+        session,
+        replica,
+        end,
+    } = read;
     scripts.sessions.push(session)?;
+    scripts.replicas.push(replica)?;
     scripts.sources.push(source)?;
     scripts.ends.push(end)?;
     Ok(())
@@ -111,10 +119,10 @@ fn read_one<S: Source + Drop>(
     source: S,
     scripts: &mut Scripts<S>,
 ) -> Result<(), AllocError>
-    ensures read { OnOk result ((before : List S) → AreRead S.left S.faults before scripts.old.sources.items scripts.old.sessions.items scripts.old.ends.items →
-        AreRead S.left S.faults (before ++ source ∷ []) scripts.new.sources.items scripts.new.sessions.items scripts.new.ends.items) }
-    ensures formed { OnOk result (AreFormed scripts.old.sessions.items → AreFormed scripts.new.sessions.items) }
-    ensures few { OnOk result (AreFew scripts.old.sessions.items → AreFew scripts.new.sessions.items) }
+    ensures read { OnOk result ((before : List S) → AreRead S.left S.faults before scripts.old.sources.items scripts.old.sessions.items scripts.old.replicas.items scripts.old.ends.items →
+        AreRead S.left S.faults (before ++ source ∷ []) scripts.new.sources.items scripts.new.sessions.items scripts.new.replicas.items scripts.new.ends.items) }
+    ensures formed { OnOk result (AreFormed scripts.old.sessions.items scripts.old.replicas.items → AreFormed scripts.new.sessions.items scripts.new.replicas.items) }
+    ensures few { OnOk result (AreFew scripts.old.sessions.items scripts.old.replicas.items → AreFew scripts.new.sessions.items scripts.new.replicas.items) }
 {
     let mut source = source;
     let read = read_session(alloc, &mut source)?;
@@ -127,13 +135,14 @@ pub fn read_scripts<S: Source + Drop>(
     alloc: Global,
     sources: Vec<S>,
 ) -> Result<Scripts<S>, AllocError>
-    ensures read { IfOk result (λ scripts. AreRead S.left S.faults sources.items scripts.sources.items scripts.sessions.items scripts.ends.items) }
-    ensures formed { IfOk result (λ scripts. AreFormed scripts.sessions.items) }
-    ensures few { IfOk result (λ scripts. AreFew scripts.sessions.items) }
+    ensures read { IfOk result (λ scripts. AreRead S.left S.faults sources.items scripts.sources.items scripts.sessions.items scripts.replicas.items scripts.ends.items) }
+    ensures formed { IfOk result (λ scripts. AreFormed scripts.sessions.items scripts.replicas.items) }
+    ensures few { IfOk result (λ scripts. AreFew scripts.sessions.items scripts.replicas.items) }
 {
     let mut scripts = Scripts {
         sources: Vec::new(alloc),
         sessions: Vec::new(alloc),
+        replicas: Vec::new(alloc),
         ends: Vec::new(alloc),
     };
     for source in sources {
@@ -149,10 +158,12 @@ pub struct PartiesRun<S, K> {
     pub sources: Vec<S>,
     /// What the parties were answered.
     pub sinks: Vec<K>,
-    /// How far each session came.
+    /// How far each party came.
     pub runs: Vec<SessionRun>,
     /// How each script ends.
     pub ends: Vec<ScriptEnd>,
+    /// Whether a replica was answered that a disk failed.
+    pub lost: bool,
     /// The order in which the commands were taken.
     pub order: Sequence<Place>,
 }
@@ -173,7 +184,8 @@ pub fn run_parties<H: Doors, D: Disk, C: Clock, G: Gate>(
     ensures told { IfOk result CanBeTold }
     ensures ends { IfOk result (λ run. AreEnds H.In.left H.In.faults H.Out.faults (H.input doors.old) (words_of names.now) (parties_of run) run.sources.items) }
     ensures run { (since : ℕ) (start : List Deed) → HasRun D.seen D.may_leave D.moment D.left_since depot.old since start [] → IfOk result (λ run.
-        IsRunFrom H.In.left H.In.faults H.Out.given H.Out.faults (C.may_give clock.now) (HasRun D.seen D.may_leave D.moment D.left_since depot.new since) seed start (H.input doors.old) (H.output doors.old) (words_of names.now) run.order (parties_of run) run.sources.items) }
+        IsRunFrom D.seen D.may_leave D.moment D.left_since H.In.left H.In.faults H.Out.given H.Out.faults (C.may_give clock.now) since start (HasRun D.seen D.may_leave D.moment D.left_since depot.new since) seed (H.input doors.old) (H.output doors.old) (words_of names.now) run.order run.lost (parties_of run) run.sources.items) }
+    ensures lost { IfOk result (λ run. run.lost ≡ true → HasRisen (D.faults (disk_of depot.old.journal)) (D.faults (disk_of depot.new.journal)) ⊎ HasRisen (D.faults (archive_disk_of depot.old.archive)) (D.faults (archive_disk_of depot.new.archive))) }
     ensures faults { IfOk result (λ run. AreCaused (D.faults (disk_of depot.old.journal)) (D.faults (disk_of depot.new.journal)) (D.faults (archive_disk_of depot.old.archive)) (D.faults (archive_disk_of depot.new.archive)) [] run.order) }
     ensures unrun { (why : NotRun) → result ≡ Err why → depot.new ≡ depot.old }
     ensures only { OnlyTheseCome (H.input doors.old) (H.output doors.old) (H.input doors.new) (H.output doors.new) (words_of names.now) }
@@ -186,6 +198,7 @@ pub fn run_parties<H: Doors, D: Disk, C: Clock, G: Gate>(
     let Scripts {
         sources,
         sessions,
+        replicas,
         ends,
     } = match read_scripts(alloc, sources) {
         Ok(scripts) => scripts,
@@ -194,13 +207,14 @@ pub fn run_parties<H: Doors, D: Disk, C: Clock, G: Gate>(
     let mut sinks = sinks;
     let mut order = Vec::new(alloc);
     match run_sessions(
-        alloc, seed, sessions, clock, gate, &mut sinks, depot, &mut order,
+        alloc, seed, sessions, replicas, clock, gate, &mut sinks, depot, &mut order,
     ) {
-        Ok(runs) => Ok(PartiesRun {
+        Ok(Ran { runs, lost }) => Ok(PartiesRun {
             sources,
             sinks,
             runs,
             ends,
+            lost,
             order: Sequence::from_vec(order),
         }),
         Err(_) => Err(NotRun::Memory),

@@ -40,16 +40,17 @@ fn report_of<K: Drop>(
     runs: &[SessionRun],
     ends: &[ScriptEnd],
     sinks: Vec<K>,
+    lost: bool,
 ) -> Result<Report<K>, AllocError>
     requires runs { length runs.now ≡ length sinks.items }
     requires ends { length ends.now ≡ length sinks.items }
     requires few { length sinks.items ≤ 16 }
     ensures text { IfOk result (λ report. report.text ≡ run_lines order.now report.parties report.cause) }
-    ensures cause { IfOk result (λ report. report.cause ≡ ends_cause order.now report.parties) }
+    ensures cause { IfOk result (λ report. report.cause ≡ ends_cause order.now report.parties lost) }
     ensures parties { IfOk result (λ report. report.parties ≡ ended_parties 1 runs.now ends.now sinks.items) }
 {
     let parties = all_ends(alloc, runs, ends, sinks)?;
-    let cause = cause_of(order, parties.as_slice());
+    let cause = cause_of(order, parties.as_slice(), lost);
     let text = lines(alloc, order, parties.as_slice(), cause)?;
     Ok(Report {
         text,
@@ -78,7 +79,7 @@ fn told<S: Drop, K: Sink + Drop, D>(
 ) -> Ended<D, S, K>
     requires { CanBeTold run }
     ensures order { result.order ≡ run.order }
-    ensures told { IsReport K.given K.faults out.old out.new result run.order (parties_of run) run.sources.items ⊎ IsUntold result }
+    ensures told { IsReport K.given K.faults out.old out.new result run.order (parties_of run) run.sources.items run.lost ⊎ IsUntold result }
     ensures status { result.status ≡ status_of result.cause }
     ensures journal { result.journal ≡ journal }
     ensures archive { result.archive ≡ archive }
@@ -88,9 +89,10 @@ fn told<S: Drop, K: Sink + Drop, D>(
         sinks,
         runs,
         ends,
+        lost,
         order,
     } = run;
-    match report_of(alloc, order.as_slice(), &runs, &ends, sinks) {
+    match report_of(alloc, order.as_slice(), &runs, &ends, sinks, lost) {
         Err(_) => Ended {
             status: status_code(Cause::Memory),
             cause: Cause::Memory,

@@ -1,5 +1,4 @@
 use Rattle.std.proofs.Common.{◌≡◌, Err, ap, inl, subst, sym, ◌∙◌, arith}
-use Rattle.archive_file.specs.Archive as archives
 use Rattle.disk_journal.specs.Stands.{disk_of}
 use Rattle.disk_journal.specs.declared.journal.Journal.{Journal}
 use Rattle.outside_api.specs.Count.{HasRisen}

@@ -29,11 +29,11 @@ returns-in-Ok-run-clause-schedules g c =
     let party = c.in-Ok-run.run' in
     let opened = disk_of c.in-Ok.opened.journal in
     schedules_run _ _ _ _ _ _ _ _ _ _ _ _ _ _ _ _ _ _ _ _ (words_of c.args.names.now) _ c.run_parties-run.ensures.only (run_of _ _ _ _ _ _ _ _ _ _ _ _ _ _ _ _ _ _ _ _ (words_of c.args.names.now) _
-    c.run_parties-run.new.depot opened (g.D.Disk.faults (disk_of c.new-depot.result.journal)) (g.D.Disk.faults (archives.disk_of c.new-depot.result.archive)) party.order (parties_of party) party.sources.items
+    c.run_parties-run.new.depot opened (g.D.Disk.faults (disk_of c.new-depot.result.journal)) (g.D.Disk.faults (archives.disk_of c.new-depot.result.archive)) party.order party.lost (parties_of party) party.sources.items
     (end.journal ∙ c.close-journal.ensures.journal) (end.archive ∙ c.close-journal.ensures.archive) (opened_of _ _ _ _ _ _ c.in-Ok.opened opens.exactly opens.whole opens.journal_looks opens.journal_synced) end.order run.ends
     (λ d start. run.run (g.D.Disk.moment opened) d (begins g.D.Disk.seen g.D.Disk.may_leave g.D.Disk.moment g.D.Disk.left_since c.args.journal c.args.archive c.in-Ok.opened c.new-depot.result c.new-depot.ensures opens.«open» opens.journal_synced opens.archive_synced g.met.D.Disk.reads_an_image g.met.D.Disk.only_now g.met.D.Disk.reads_one opens.held
     (λ j a d j_reads a_reads stand. (opens.stands j a d j_reads a_reads stand).1) d start))
-    (rw c.new-depot.ensures opens.cause.journal_never_falls) (rw c.new-depot.ensures opens.cause.archive_never_falls) run.faults end.told)
+    (rw c.new-depot.ensures opens.cause.journal_never_falls) (rw c.new-depot.ensures opens.cause.archive_never_falls) run.faults run.lost end.told)
 
 pub returns-in-Err-run-clause-schedules : goal.returns-in-Err-run-clause-schedules
 returns-in-Err-run-clause-schedules g c =

@@ -1,5 +1,5 @@
-use Rattle.std.proofs.Common.{◌≡◌, Some, refl, ap, ◌∙◌}
-use Rattle.p4_server.proofs.Asked.{asks_for, asks_none, has_parties, kept, unasked, unread}
+use Rattle.std.proofs.Common.{Some, refl, ap, ◌∙◌}
+use Rattle.p4_server.proofs.Asked.{asks_for, asks_none, kept, unasked, unread}
 use Rattle.p4_server.proofs.Names.{names_differ}
 use Rattle.p4_server.specs.Words.{checkpoint, dump, init, load, schedule, words_of}
 use Rattle.p4_server.specs.declared.words.Mode.{Mode}
