@@ -7,7 +7,7 @@ ghost use Rattle.db_records.specs.declared.change.Spot.{Spot};
 ghost use Rattle.archive_file.specs.Archive.{disk_of, used_of, end_of, Has, AllHave, HasMemoryOr};
 
 use db_records::Spot;
-use depot_path::Text;
+use db_records::paths::Text;
 use outside_api::{Disk, DiskFault, fill, write_through};
 use std::alloc::Global;
 

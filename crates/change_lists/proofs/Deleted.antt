@@ -2,20 +2,20 @@
 use Rattle.std.proofs.Common.{◌≡◌, ℕ, Bool, true, false, Option, Some, None, List, [], ◌∷◌, refl, ap, ◌∙◌}
 use Rattle.std.specs.Prelude.{if◌then◌else◌, is_none, is_some, IsSome, not, ◌&&◌, ◌||◌, length, nat_lt, option_map}
 use Rattle.std.specs.Option.{option_map_or}
-use Rattle.depot_path.specs.Bytes.{same}
-use Rattle.db_records.specs.declared.record.Record.{Record}
-use Rattle.depot_model.specs.declared.request.Caller.{Caller}
-use Rattle.depot_model.specs.declared.refusal.Refusal.{Refusal}
-use Rattle.depot_model.specs.declared.refusal.Refusal.TheVariants.{NoSuchChange, NotDeletable, NotYours}
-use Rattle.depot_model.specs.Deeds.{Deed, Landing, Pending}
-use Rattle.depot_model.specs.Numbers.{landing, pending}
-use Rattle.depot_model.specs.Records.{change_record, landed_record, pending_record}
-use Rattle.depot_model.specs.Refusals.{refusal_row}
-use Rattle.depot_model.specs.Rules.{NotBoth}
-use Rattle.depot_model.specs.Step.{refuse_if}
-use Rattle.depot_model.specs.Steps.Changing.{delete_refusals, landed_by}
-use Rattle.depot_model.specs.Steps.Opening.{is_of}
-use Rattle.depot_model.specs.Steps.Submitting.{openings_of}
+use Rattle.depot_rows.specs.depot_path.Bytes.{same}
+use Rattle.depot_rows.specs.db_records.declared.record.Record.{Record}
+use Rattle.depot_rows.specs.depot_model.declared.request.Caller.{Caller}
+use Rattle.depot_rows.specs.depot_model.declared.refusal.Refusal.{Refusal}
+use Rattle.depot_rows.specs.depot_model.declared.refusal.Refusal.TheVariants.{NoSuchChange, NotDeletable, NotYours}
+use Rattle.depot_rows.specs.depot_model.Deeds.{Deed, Landing, Pending}
+use Rattle.depot_rows.specs.depot_model.Numbers.{landing, pending}
+use Rattle.depot_rows.specs.depot_model.Records.{change_record, landed_record, pending_record}
+use Rattle.depot_rows.specs.depot_model.Refusals.{refusal_row}
+use Rattle.depot_rows.specs.depot_model.Rules.{NotBoth}
+use Rattle.depot_rows.specs.depot_model.Step.{refuse_if}
+use Rattle.depot_rows.specs.depot_model.Steps.Changing.{delete_refusals, landed_by}
+use Rattle.depot_rows.specs.depot_model.Steps.Opening.{is_of}
+use Rattle.depot_rows.specs.depot_model.Steps.Submitting.{openings_of}
 use Rattle.depot_rows.specs.Effects.{is_submitted}
 use Rattle.reply_rows.specs.Refusing.{first_of}
 use Rattle.change_lists.specs.Deleting.{delete_told}

@@ -4,30 +4,30 @@ use Rattle.std.specs.Prelude.{◌==◌, codes, decimal, filter, filter_map, flat
 use Rattle.std.specs.List.{cons_option, enumerate_from}
 use Rattle.std.specs.Option.{option_to_list}
 use Rattle.std.proofs.lemmas.Bool.Decides.{nat_tests}
-use Rattle.depot_path.specs.Path.{printed}
-use Rattle.db_records.specs.declared.record.Record.{Record}
-use Rattle.db_records.specs.declared.record.Record.TheVariants as records
-use Rattle.db_records.specs.declared.rows.ChangeRecord.{ChangeRecord}
-use Rattle.db_records.specs.declared.rows.RevRecord.{RevRecord}
-use Rattle.table_changes.specs.Changed.{AllRows}
+use Rattle.depot_rows.specs.depot_path.Path.{printed}
+use Rattle.depot_rows.specs.db_records.declared.record.Record.{Record}
+use Rattle.depot_rows.specs.db_records.declared.record.Record.TheVariants as records
+use Rattle.depot_rows.specs.db_records.declared.rows.ChangeRecord.{ChangeRecord}
+use Rattle.depot_rows.specs.db_records.declared.rows.RevRecord.{RevRecord}
+use Rattle.depot_rows.specs.table_changes.Changed.{AllRows}
 use Rattle.hex.specs.Hex.{encode_upper, encode_with}
 use Rattle.md5.specs.Md5.{md5}
 use Rattle.md5.proofs.StandardFacts.{length-md5}
-use Rattle.depot_model.specs.declared.refusal.Refusal.TheVariants.{NoSuchChange}
-use Rattle.depot_model.specs.declared.reply.Field.{Field}
-use Rattle.depot_model.specs.declared.reply.Row.{Row}
-use Rattle.depot_model.specs.declared.request.Caller.{Caller}
-use Rattle.depot_model.specs.Asking.{may_list}
-use Rattle.depot_model.specs.Deeds.{Deed, Landing, Pending}
-use Rattle.depot_model.specs.Numbers.{landing, pending}
-use Rattle.depot_model.specs.Records.{change_record, digest, landed_record, pending_record}
-use Rattle.depot_model.specs.Refusals.{refusal_row}
-use Rattle.depot_model.specs.Rows.{action_word, if_any, number_field, path_field, row, text_field}
-use Rattle.depot_model.specs.Rules.{NotBoth}
-use Rattle.depot_model.specs.Step.{Step as ModelStep, refuse_if, refuses, tells, unless}
-use Rattle.depot_model.specs.Steps.Changing.{files_of_change}
-use Rattle.depot_model.specs.Steps.History.{change_fields, describe, describe_fields, describe_landed, landed_files, made_in}
-use Rattle.depot_model.specs.Steps.Listing.{Numbered}
+use Rattle.depot_rows.specs.depot_model.declared.refusal.Refusal.TheVariants.{NoSuchChange}
+use Rattle.depot_rows.specs.depot_model.declared.reply.Field.{Field}
+use Rattle.depot_rows.specs.depot_model.declared.reply.Row.{Row}
+use Rattle.depot_rows.specs.depot_model.declared.request.Caller.{Caller}
+use Rattle.depot_rows.specs.depot_model.Asking.{may_list}
+use Rattle.depot_rows.specs.depot_model.Deeds.{Deed, Landing, Pending}
+use Rattle.depot_rows.specs.depot_model.Numbers.{landing, pending}
+use Rattle.depot_rows.specs.depot_model.Records.{change_record, digest, landed_record, pending_record}
+use Rattle.depot_rows.specs.depot_model.Refusals.{refusal_row}
+use Rattle.depot_rows.specs.depot_model.Rows.{action_word, if_any, number_field, path_field, row, text_field}
+use Rattle.depot_rows.specs.depot_model.Rules.{NotBoth}
+use Rattle.depot_rows.specs.depot_model.Step.{Step as ModelStep, refuse_if, refuses, tells, unless}
+use Rattle.depot_rows.specs.depot_model.Steps.Changing.{files_of_change}
+use Rattle.depot_rows.specs.depot_model.Steps.History.{change_fields, describe, describe_fields, describe_landed, landed_files, made_in}
+use Rattle.depot_rows.specs.depot_model.Steps.Listing.{Numbered}
 use Rattle.reply_rows.specs.declared.step.Step.{Step}
 use Rattle.reply_rows.specs.Made.{IsMade, told}
 use Rattle.reply_rows.proofs.Joined.{made_row}

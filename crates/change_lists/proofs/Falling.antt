@@ -10,11 +10,11 @@ use Rattle.std.proofs.lemmas.Map.Keys.{IsStrictlyIncreasing-dedup}
 use Rattle.std.specs.Option.{option_flatten, option_or}
 use Rattle.std.proofs.lemmas.Bool.{false≢true}
 use Rattle.std.proofs.lemmas.Bool.Decides.{nat_tests}
-use Rattle.depot_model.specs.Deeds as deeds
-use Rattle.depot_model.specs.Deeds.{Deed, Landing, Pending}
-use Rattle.depot_model.specs.Latest.{latest, when}
-use Rattle.depot_model.specs.Numbers.{landing, pending, pending_said, top}
-use Rattle.depot_model.specs.Steps.Changes.{number_inserted, numbers}
+use Rattle.depot_rows.specs.depot_model.Deeds as deeds
+use Rattle.depot_rows.specs.depot_model.Deeds.{Deed, Landing, Pending}
+use Rattle.depot_rows.specs.depot_model.Latest.{latest, when}
+use Rattle.depot_rows.specs.depot_model.Numbers.{landing, pending, pending_said, top}
+use Rattle.depot_rows.specs.depot_model.Steps.Changes.{number_inserted, numbers}
 use Rattle.change_lists.specs.Numbers.{Falls, Under, is_among}
 
 -- the numbers below one, the greatest first

@@ -5,22 +5,22 @@ use Rattle.std.specs.List.{cons_option, list_any}
 use Rattle.std.specs.Option.{option_or, option_to_list}
 use Rattle.std.proofs.lemmas.Bool.{false≢true, true≢false}
 use Rattle.std.proofs.lemmas.List.Folds.{list_any-append}
-use Rattle.db_records.specs.declared.record.Record.{Record}
-use Rattle.depot_model.specs.declared.reply.Row.{Row}
-use Rattle.depot_model.specs.declared.request.Caller.{Caller}
-use Rattle.depot_model.specs.declared.command.FileArgument.{FileArgument}
-use Rattle.depot_model.specs.declared.refusal.Refusal.TheVariants.{NoSuchFile}
-use Rattle.depot_path.specs.Fit.{fits}
-use Rattle.depot_model.specs.Arguments.{fits_at, in_client_syntax, is_in, named, names, not_in, submitted}
-use Rattle.depot_model.specs.Range.{in_range}
-use Rattle.depot_model.specs.Refusals.{refusal_row}
-use Rattle.depot_model.specs.Asking.{may_list}
-use Rattle.depot_model.specs.Choice.{made_by, shown}
-use Rattle.depot_model.specs.Deeds.{Deed, Landing, Pending}
-use Rattle.depot_model.specs.Numbers.{landing, pending}
-use Rattle.depot_model.specs.Records.{landed_record, pending_record}
-use Rattle.depot_model.specs.Revisions.{Revision, revision, revisions}
-use Rattle.depot_model.specs.Steps.Changes.{Listed, at_most, change_at, change_row, is_listable, is_made, listed, listed_landing, listed_pending, made_of, made_over, missing, numbers, passes}
+use Rattle.depot_rows.specs.db_records.declared.record.Record.{Record}
+use Rattle.depot_rows.specs.depot_model.declared.reply.Row.{Row}
+use Rattle.depot_rows.specs.depot_model.declared.request.Caller.{Caller}
+use Rattle.depot_rows.specs.depot_model.declared.command.FileArgument.{FileArgument}
+use Rattle.depot_rows.specs.depot_model.declared.refusal.Refusal.TheVariants.{NoSuchFile}
+use Rattle.depot_rows.specs.depot_path.Fit.{fits}
+use Rattle.depot_rows.specs.depot_model.Arguments.{fits_at, in_client_syntax, is_in, named, names, not_in, submitted}
+use Rattle.depot_rows.specs.depot_model.Range.{in_range}
+use Rattle.depot_rows.specs.depot_model.Refusals.{refusal_row}
+use Rattle.depot_rows.specs.depot_model.Asking.{may_list}
+use Rattle.depot_rows.specs.depot_model.Choice.{made_by, shown}
+use Rattle.depot_rows.specs.depot_model.Deeds.{Deed, Landing, Pending}
+use Rattle.depot_rows.specs.depot_model.Numbers.{landing, pending}
+use Rattle.depot_rows.specs.depot_model.Records.{landed_record, pending_record}
+use Rattle.depot_rows.specs.depot_model.Revisions.{Revision, revision, revisions}
+use Rattle.depot_rows.specs.depot_model.Steps.Changes.{Listed, at_most, change_at, change_row, is_listable, is_made, listed, listed_landing, listed_pending, made_of, made_over, missing, numbers, passes}
 use Rattle.reply_rows.proofs.Bare.{AreBare}
 use Rattle.file_steps.proofs.Spelling.{AreAlike, left_alike}
 use Rattle.opening_reads.proofs.Onwards.{all_but_first}

@@ -4,14 +4,14 @@ use Rattle.std.specs.Prelude.{◌==◌, ◌||◌, filter, find, flat_map, if◌t
 use Rattle.std.specs.List.{list_any}
 use Rattle.std.proofs.lemmas.Bool.{false≢true}
 use Rattle.std.proofs.lemmas.Bool.Decides.{nat_tests}
-use Rattle.depot_path.specs.Path.{path_of, printed}
-use Rattle.depot_model.specs.Choice.{At, PassedOver, at_or_above_one, made_by}
-use Rattle.depot_model.specs.Deeds.{Deed}
-use Rattle.depot_model.specs.Revisions.{Revision, last_passing, revisions}
-use Rattle.depot_model.specs.Rules.{IsSound}
-use Rattle.depot_model.specs.Steps.History.{made_in, numbered_from}
-use Rattle.depot_model.specs.Steps.Listing.{Numbered, numbered}
-use Rattle.db_records.specs.declared.rows.RevRecord.{RevRecord}
+use Rattle.depot_rows.specs.depot_path.Path.{path_of, printed}
+use Rattle.depot_rows.specs.depot_model.Choice.{At, PassedOver, at_or_above_one, made_by}
+use Rattle.depot_rows.specs.depot_model.Deeds.{Deed}
+use Rattle.depot_rows.specs.depot_model.Revisions.{Revision, last_passing, revisions}
+use Rattle.depot_rows.specs.depot_model.Rules.{IsSound}
+use Rattle.depot_rows.specs.depot_model.Steps.History.{made_in, numbered_from}
+use Rattle.depot_rows.specs.depot_model.Steps.Listing.{Numbered, numbered}
+use Rattle.depot_rows.specs.db_records.declared.rows.RevRecord.{RevRecord}
 use Rattle.revision_reads.specs.History.{numbered_record, seen}
 use Rattle.revision_reads.proofs.FileRows.{rises}
 use Rattle.change_lists.specs.Files.{file_in}

@@ -4,26 +4,26 @@ use Rattle.std.specs.Prelude.{◌-◌, IsSome, if◌then◌else◌, is_ok, is_so
 use Rattle.std.proofs.lemmas.Bool.{true≢false}
 use Rattle.std.proofs.lemmas.Bool.Decides.{nat_tests}
 use Rattle.std.proofs.lemmas.Grind.{common_steps}
-use Rattle.depot_path.specs.Path.{path_of}
-use Rattle.depot_path.specs.declared.fault.PathFault.{PathFault}
+use Rattle.depot_rows.specs.depot_path.Path.{path_of}
+use Rattle.depot_rows.specs.depot_path.declared.fault.PathFault.{PathFault}
 use Rattle.opening_reads.specs.Read.{path_in_text}
-use Rattle.db_records.specs.declared.key.Key.TheVariants as keys
-use Rattle.spec_form.specs.Form.{FormValue, lines_of}
-use Rattle.spec_form.specs.Places.{field_place, line_place}
-use Rattle.depot_model.specs.declared.refusal.Limit.TheVariants.{Text, Change, Files}
-use Rattle.depot_model.specs.declared.refusal.Refusal.{Refusal}
-use Rattle.depot_model.specs.declared.refusal.Refusal.TheVariants.{BadForm, NoSuchChange, NotYours, OverLimit}
-use Rattle.depot_model.specs.declared.reply.Row.{Row}
-use Rattle.depot_model.specs.declared.request.Caller.{Caller}
-use Rattle.depot_model.specs.declared.request.Request.{Request}
-use Rattle.depot_model.specs.Deeds.{Deed, Pending}
-use Rattle.depot_model.specs.Numbers.{pending, top}
-use Rattle.depot_model.specs.Records.{record_of}
-use Rattle.depot_model.specs.Refusals.{refusal_row}
-use Rattle.depot_model.specs.Rules.{IsSound}
-use Rattle.depot_model.specs.Step.{Step as ModelStep, refuse_if, unless}
-use Rattle.depot_model.specs.Steps.Changing.{bad_lines, change_form, form_number, form_text, has_number, listed_path, listed_paths, not_open, path_before_tab, saved}
-use Rattle.depot_model.specs.Steps.Opening.{is_of}
+use Rattle.depot_rows.specs.db_records.declared.key.Key.TheVariants as keys
+use Rattle.depot_rows.specs.spec_form.Form.{FormValue, lines_of}
+use Rattle.depot_rows.specs.spec_form.Places.{field_place, line_place}
+use Rattle.depot_rows.specs.depot_model.declared.refusal.Limit.TheVariants.{Text, Change, Files}
+use Rattle.depot_rows.specs.depot_model.declared.refusal.Refusal.{Refusal}
+use Rattle.depot_rows.specs.depot_model.declared.refusal.Refusal.TheVariants.{BadForm, NoSuchChange, NotYours, OverLimit}
+use Rattle.depot_rows.specs.depot_model.declared.reply.Row.{Row}
+use Rattle.depot_rows.specs.depot_model.declared.request.Caller.{Caller}
+use Rattle.depot_rows.specs.depot_model.declared.request.Request.{Request}
+use Rattle.depot_rows.specs.depot_model.Deeds.{Deed, Pending}
+use Rattle.depot_rows.specs.depot_model.Numbers.{pending, top}
+use Rattle.depot_rows.specs.depot_model.Records.{record_of}
+use Rattle.depot_rows.specs.depot_model.Refusals.{refusal_row}
+use Rattle.depot_rows.specs.depot_model.Rules.{IsSound}
+use Rattle.depot_rows.specs.depot_model.Step.{Step as ModelStep, refuse_if, unless}
+use Rattle.depot_rows.specs.depot_model.Steps.Changing.{bad_lines, change_form, form_number, form_text, has_number, listed_path, listed_paths, not_open, path_before_tab, saved}
+use Rattle.depot_rows.specs.depot_model.Steps.Opening.{is_of}
 use Rattle.depot_rows.specs.Effects.{is_submitted}
 use Rattle.depot_rows.proofs.Allowed.{new_change, pending_change}
 use Rattle.reply_rows.specs.Refusing.{first_of}

@@ -2,29 +2,29 @@
 use Rattle.std.proofs.Common.{◌≡◌, ℕ, Bool, true, false, ◌+◌, List, [], ◌∷◌, ◌++◌, Option, Some, None, refl, ap, subst, ◌∙◌}
 use Rattle.std.specs.Prelude.{codes, decimal, flat_map, if◌then◌else◌, IfSome, map, option_map}
 use Rattle.std.specs.List.{enumerate_from}
-use Rattle.depot_path.specs.Bytes.{same}
-use Rattle.depot_path.specs.Name.{is_name}
-use Rattle.depot_path.specs.Path.{printed}
-use Rattle.protect_table.specs.Rights.{may}
-use Rattle.db_records.specs.declared.key.Key.TheVariants as keys
-use Rattle.db_records.specs.declared.record.Record.{Record}
-use Rattle.db_records.specs.declared.record.Record.TheVariants.{Change}
-use Rattle.db_records.specs.declared.rows.ChangeRecord.{ChangeRecord}
-use Rattle.table_changes.specs.Changed.{AllRows}
-use Rattle.depot_model.specs.declared.reply.Field.{Field}
-use Rattle.depot_model.specs.declared.reply.Row.{Row}
-use Rattle.depot_model.specs.declared.request.Caller.{Caller}
-use Rattle.depot_model.specs.declared.refusal.Refusal.TheVariants.{NoSuchChange}
-use Rattle.depot_model.specs.Asking.{may_list}
-use Rattle.depot_model.specs.Deeds.{Deed, Landing, Opening, Pending}
-use Rattle.depot_model.specs.FormRows.{numbered}
-use Rattle.depot_model.specs.Numbers.{landing, pending}
-use Rattle.depot_model.specs.Records.{change_record, landed_record, pending_record, record_of}
-use Rattle.depot_model.specs.Refusals.{refusal_row}
-use Rattle.depot_model.specs.Rows.{row, text_field}
-use Rattle.depot_model.specs.Rules.{IsRow, IsSound}
-use Rattle.depot_model.specs.Step.{Step as ModelStep, refuses, tells}
-use Rattle.depot_model.specs.Steps.Changing.{change_row, file_field, listable, openings_in, show_numbered}
+use Rattle.depot_rows.specs.depot_path.Bytes.{same}
+use Rattle.depot_rows.specs.depot_path.Name.{is_name}
+use Rattle.depot_rows.specs.depot_path.Path.{printed}
+use Rattle.depot_rows.specs.protect_table.Rights.{may}
+use Rattle.depot_rows.specs.db_records.declared.key.Key.TheVariants as keys
+use Rattle.depot_rows.specs.db_records.declared.record.Record.{Record}
+use Rattle.depot_rows.specs.db_records.declared.record.Record.TheVariants.{Change}
+use Rattle.depot_rows.specs.db_records.declared.rows.ChangeRecord.{ChangeRecord}
+use Rattle.depot_rows.specs.table_changes.Changed.{AllRows}
+use Rattle.depot_rows.specs.depot_model.declared.reply.Field.{Field}
+use Rattle.depot_rows.specs.depot_model.declared.reply.Row.{Row}
+use Rattle.depot_rows.specs.depot_model.declared.request.Caller.{Caller}
+use Rattle.depot_rows.specs.depot_model.declared.refusal.Refusal.TheVariants.{NoSuchChange}
+use Rattle.depot_rows.specs.depot_model.Asking.{may_list}
+use Rattle.depot_rows.specs.depot_model.Deeds.{Deed, Landing, Opening, Pending}
+use Rattle.depot_rows.specs.depot_model.FormRows.{numbered}
+use Rattle.depot_rows.specs.depot_model.Numbers.{landing, pending}
+use Rattle.depot_rows.specs.depot_model.Records.{change_record, landed_record, pending_record, record_of}
+use Rattle.depot_rows.specs.depot_model.Refusals.{refusal_row}
+use Rattle.depot_rows.specs.depot_model.Rows.{row, text_field}
+use Rattle.depot_rows.specs.depot_model.Rules.{IsRow, IsSound}
+use Rattle.depot_rows.specs.depot_model.Step.{Step as ModelStep, refuses, tells}
+use Rattle.depot_rows.specs.depot_model.Steps.Changing.{change_row, file_field, listable, openings_in, show_numbered}
 use Rattle.depot_rows.specs.Deed.{opening_of}
 use Rattle.depot_rows.specs.declared.deed.Opening.{Opening as DeedOpening}
 use Rattle.reply_rows.specs.declared.step.Step.{Step}

@@ -1,13 +1,13 @@
 -- By what the deletion of a change is refused, by its row and by whether it has opened files (Command-Line Reference, "p4 change", option -d).
 use Rattle.std.specs.Prelude.{ℕ, Bool, not, ◌&&◌, ◌||◌, codes, if◌then◌else◌, [], ◌∷◌, Option, Some, None}
-use Rattle.depot_path.specs.Bytes.{same}
-use Rattle.db_records.specs.declared.record.Record.{Record}
-use Rattle.db_records.specs.declared.record.Record.TheVariants.{Change}
-use Rattle.depot_model.specs.declared.reply.Row.{Row}
-use Rattle.depot_model.specs.declared.request.Caller.{Caller}
-use Rattle.depot_model.specs.declared.refusal.Refusal.{Refusal}
-use Rattle.depot_model.specs.declared.refusal.Refusal.TheVariants.{NoSuchChange, NotDeletable, NotYours}
-use Rattle.depot_model.specs.Rows.{number_field, row, text_field}
+use Rattle.depot_rows.specs.depot_path.Bytes.{same}
+use Rattle.depot_rows.specs.db_records.declared.record.Record.{Record}
+use Rattle.depot_rows.specs.db_records.declared.record.Record.TheVariants.{Change}
+use Rattle.depot_rows.specs.depot_model.declared.reply.Row.{Row}
+use Rattle.depot_rows.specs.depot_model.declared.request.Caller.{Caller}
+use Rattle.depot_rows.specs.depot_model.declared.refusal.Refusal.{Refusal}
+use Rattle.depot_rows.specs.depot_model.declared.refusal.Refusal.TheVariants.{NoSuchChange, NotDeletable, NotYours}
+use Rattle.depot_rows.specs.depot_model.Rows.{number_field, row, text_field}
 
 abbrev pub delete_told : Caller → ℕ → Bool → Option Record → Option Refusal
 delete_told caller n holds (Some (Change r)) =

@@ -3,19 +3,19 @@
 use Rattle.std.specs.Prelude.{ℕ, List, [], ◌∷◌, ◌++◌, codes, decimal, flat_map, if◌then◌else◌, length, Option, Some, None, ◌==◌}
 use Rattle.std.specs.List.{enumerate_from}
 use Rattle.std.specs.Option.{option_to_list}
-use Rattle.depot_path.specs.Bytes.{same}
-use Rattle.db_records.specs.declared.rows.ChangeRecord.{ChangeRecord}
-use Rattle.db_records.specs.declared.rows.RevRecord.{RevRecord}
-use Rattle.depot_model.specs.declared.refusal.Refusal.TheVariants.{NoSuchChange}
-use Rattle.depot_model.specs.declared.reply.Field.{Field}
-use Rattle.depot_model.specs.declared.reply.Row.{Row}
-use Rattle.depot_model.specs.declared.request.Caller.{Caller}
-use Rattle.depot_model.specs.Asking.{may_list}
-use Rattle.depot_model.specs.Deeds.{Deed}
-use Rattle.depot_model.specs.Refusals.{refusal_row}
-use Rattle.depot_model.specs.Rows.{number_field, row, text_field}
-use Rattle.depot_model.specs.Steps.History.{change_fields, describe_fields, landed_files, made_in}
-use Rattle.depot_model.specs.Steps.Listing.{Numbered}
+use Rattle.depot_rows.specs.depot_path.Bytes.{same}
+use Rattle.depot_rows.specs.db_records.declared.rows.ChangeRecord.{ChangeRecord}
+use Rattle.depot_rows.specs.db_records.declared.rows.RevRecord.{RevRecord}
+use Rattle.depot_rows.specs.depot_model.declared.refusal.Refusal.TheVariants.{NoSuchChange}
+use Rattle.depot_rows.specs.depot_model.declared.reply.Field.{Field}
+use Rattle.depot_rows.specs.depot_model.declared.reply.Row.{Row}
+use Rattle.depot_rows.specs.depot_model.declared.request.Caller.{Caller}
+use Rattle.depot_rows.specs.depot_model.Asking.{may_list}
+use Rattle.depot_rows.specs.depot_model.Deeds.{Deed}
+use Rattle.depot_rows.specs.depot_model.Refusals.{refusal_row}
+use Rattle.depot_rows.specs.depot_model.Rows.{number_field, row, text_field}
+use Rattle.depot_rows.specs.depot_model.Steps.History.{change_fields, describe_fields, landed_files, made_in}
+use Rattle.depot_rows.specs.depot_model.Steps.Listing.{Numbered}
 
 abbrev pub record_fields : ChangeRecord → List Field
 record_fields r = change_fields r.change r.user r.client r.moment r.status r.text

@@ -2,22 +2,22 @@
 use Rattle.std.specs.Prelude.{ℕ, Bool, false, ◌&&◌, ◌||◌, ◌==◌, ◌-◌, codes, filter, filter_map, flat_map, if◌then◌else◌, List, [], ◌∷◌, Option, Some, None}
 use Rattle.std.specs.List.{list_any}
 use Rattle.std.specs.Option.{option_to_list}
-use Rattle.depot_path.specs.Bytes.{same}
-use Rattle.db_records.specs.declared.record.Record.{Record}
-use Rattle.db_records.specs.declared.record.Record.TheVariants.{Change}
-use Rattle.db_records.specs.declared.rows.ChangeRecord.{ChangeRecord}
-use Rattle.depot_model.specs.declared.reply.Row.{Row}
-use Rattle.depot_model.specs.declared.request.Caller.{Caller}
-use Rattle.depot_model.specs.declared.command.FileArgument.{FileArgument}
-use Rattle.depot_model.specs.Arguments.{is_in, submitted}
-use Rattle.depot_model.specs.Asking.{may_list}
-use Rattle.depot_model.specs.Choice.{made_by}
-use Rattle.depot_model.specs.Deeds.{Deed}
-use Rattle.depot_model.specs.Range.{in_range}
-use Rattle.depot_model.specs.Records.{change_record}
-use Rattle.depot_model.specs.Revisions.{revisions}
-use Rattle.depot_model.specs.Rows.{number_field, row, text_field}
-use Rattle.depot_model.specs.Steps.Changes.{Listed, at_most, change_at, is_made, listed, numbers, passes}
+use Rattle.depot_rows.specs.depot_path.Bytes.{same}
+use Rattle.depot_rows.specs.db_records.declared.record.Record.{Record}
+use Rattle.depot_rows.specs.db_records.declared.record.Record.TheVariants.{Change}
+use Rattle.depot_rows.specs.db_records.declared.rows.ChangeRecord.{ChangeRecord}
+use Rattle.depot_rows.specs.depot_model.declared.reply.Row.{Row}
+use Rattle.depot_rows.specs.depot_model.declared.request.Caller.{Caller}
+use Rattle.depot_rows.specs.depot_model.declared.command.FileArgument.{FileArgument}
+use Rattle.depot_rows.specs.depot_model.Arguments.{is_in, submitted}
+use Rattle.depot_rows.specs.depot_model.Asking.{may_list}
+use Rattle.depot_rows.specs.depot_model.Choice.{made_by}
+use Rattle.depot_rows.specs.depot_model.Deeds.{Deed}
+use Rattle.depot_rows.specs.depot_model.Range.{in_range}
+use Rattle.depot_rows.specs.depot_model.Records.{change_record}
+use Rattle.depot_rows.specs.depot_model.Revisions.{revisions}
+use Rattle.depot_rows.specs.depot_model.Rows.{number_field, row, text_field}
+use Rattle.depot_rows.specs.depot_model.Steps.Changes.{Listed, at_most, change_at, is_made, listed, numbers, passes}
 
 -- a change's row, by its record
 abbrev pub row_told : ChangeRecord → Row

@@ -1,21 +1,21 @@
 -- How a change is saved: by what it is refused, in parts of their order, and what is done (Command-Line Reference, "p4 change", option -i).
 use Rattle.std.specs.Prelude.{ℕ, ◌+◌, List, [], ◌∷◌, codes, filter_map, length, map, nat_lt, Option, Some, None, option_and_then, option_map, unwrap_or}
 use Rattle.std.specs.Option.{option_to_list}
-use Rattle.depot_path.specs.Path.{printed}
-use Rattle.db_records.specs.declared.rows.WorkingRecord.{WorkingRecord}
-use Rattle.depot_model.specs.declared.refusal.Limit.TheVariants.{Text, Change, Files}
-use Rattle.depot_model.specs.declared.refusal.Refusal.{Refusal}
-use Rattle.depot_model.specs.declared.refusal.Refusal.TheVariants.{NotOpen, OverLimit}
-use Rattle.depot_model.specs.declared.reply.Row.{Row}
-use Rattle.depot_model.specs.declared.request.Caller.{Caller}
-use Rattle.depot_model.specs.declared.request.Request.{Request}
-use Rattle.depot_model.specs.Deeds.{Deed, Opening, Pend}
-use Rattle.depot_model.specs.Numbers.{top}
-use Rattle.depot_model.specs.Opened.{opened}
-use Rattle.depot_model.specs.Rows.{number_field, row, text_field}
-use Rattle.depot_model.specs.Step.{Step, does, refuse_if, unless}
-use Rattle.depot_model.specs.Steps.Changing.{moved_to, not_open}
-use Rattle.depot_model.specs.Steps.Opening.{change_refusal}
+use Rattle.depot_rows.specs.depot_path.Path.{printed}
+use Rattle.depot_rows.specs.db_records.declared.rows.WorkingRecord.{WorkingRecord}
+use Rattle.depot_rows.specs.depot_model.declared.refusal.Limit.TheVariants.{Text, Change, Files}
+use Rattle.depot_rows.specs.depot_model.declared.refusal.Refusal.{Refusal}
+use Rattle.depot_rows.specs.depot_model.declared.refusal.Refusal.TheVariants.{NotOpen, OverLimit}
+use Rattle.depot_rows.specs.depot_model.declared.reply.Row.{Row}
+use Rattle.depot_rows.specs.depot_model.declared.request.Caller.{Caller}
+use Rattle.depot_rows.specs.depot_model.declared.request.Request.{Request}
+use Rattle.depot_rows.specs.depot_model.Deeds.{Deed, Opening, Pend}
+use Rattle.depot_rows.specs.depot_model.Numbers.{top}
+use Rattle.depot_rows.specs.depot_model.Opened.{opened}
+use Rattle.depot_rows.specs.depot_model.Rows.{number_field, row, text_field}
+use Rattle.depot_rows.specs.depot_model.Step.{Step, does, refuse_if, unless}
+use Rattle.depot_rows.specs.depot_model.Steps.Changing.{moved_to, not_open}
+use Rattle.depot_rows.specs.depot_model.Steps.Opening.{change_refusal}
 use Rattle.depot_rows.specs.declared.deed.Opening.{Opening as DeedOpening}
 use Rattle.depot_rows.specs.declared.deed.Pending.{Pending as DeedPending}
 use Rattle.opening_reads.specs.Read.{opening_in_row}

@@ -2,17 +2,17 @@
 -- whose client is no name has no opened files is this project's own choice; no sound depot has one.
 use Rattle.std.specs.Prelude.{ℕ, ◌&&◌, codes, decimal, if◌then◌else◌, List, [], ◌∷◌, map, Option, Some, None}
 use Rattle.std.specs.List.{enumerate_from}
-use Rattle.depot_path.specs.Bytes.{same}
-use Rattle.depot_path.specs.Name.{is_name}
-use Rattle.depot_path.specs.Path.{printed}
-use Rattle.protect_table.specs.Rights.{may}
-use Rattle.db_records.specs.declared.rows.ChangeRecord.{ChangeRecord}
-use Rattle.depot_model.specs.declared.reply.Row.{Row}
-use Rattle.depot_model.specs.declared.request.Caller.{Caller}
-use Rattle.depot_model.specs.Deeds.{Deed, Opening}
-use Rattle.depot_model.specs.FormRows.{numbered}
-use Rattle.depot_model.specs.Rows.{row, text_field}
-use Rattle.depot_model.specs.Steps.Changing.{change_row, listable}
+use Rattle.depot_rows.specs.depot_path.Bytes.{same}
+use Rattle.depot_rows.specs.depot_path.Name.{is_name}
+use Rattle.depot_rows.specs.depot_path.Path.{printed}
+use Rattle.depot_rows.specs.protect_table.Rights.{may}
+use Rattle.depot_rows.specs.db_records.declared.rows.ChangeRecord.{ChangeRecord}
+use Rattle.depot_rows.specs.depot_model.declared.reply.Row.{Row}
+use Rattle.depot_rows.specs.depot_model.declared.request.Caller.{Caller}
+use Rattle.depot_rows.specs.depot_model.Deeds.{Deed, Opening}
+use Rattle.depot_rows.specs.depot_model.FormRows.{numbered}
+use Rattle.depot_rows.specs.depot_model.Rows.{row, text_field}
+use Rattle.depot_rows.specs.depot_model.Steps.Changing.{change_row, listable}
 use Rattle.named_files.specs.declared.asker.Asker.{Asker}
 use Rattle.opening_reads.specs.InChange.{opened_in}
 

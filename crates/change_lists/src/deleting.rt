@@ -2,13 +2,13 @@
 
 ghost use Rattle.std.specs.Prelude.{◌≡◌, ◌∷◌, [], List, IfOk, nat_lt, length, option_map};
 ghost use Rattle.std.specs.Option.{option_copied};
-ghost use Rattle.db_records.specs.declared.record.Record.TheVariants as records;
-ghost use Rattle.db_records.specs.declared.table.TableId.TheVariants as table_ids;
-ghost use Rattle.table_changes.specs.Changed.{rows_of};
-ghost use Rattle.depot_model.specs.Deeds.{Deed};
-ghost use Rattle.depot_model.specs.Refusals.{refusal_row};
-ghost use Rattle.depot_model.specs.Rules.{IsSound};
-ghost use Rattle.depot_model.specs.Steps.Changing as model;
+ghost use Rattle.depot_rows.specs.db_records.declared.record.Record.TheVariants as records;
+ghost use Rattle.depot_rows.specs.db_records.declared.table.TableId.TheVariants as table_ids;
+ghost use Rattle.depot_rows.specs.table_changes.Changed.{rows_of};
+ghost use Rattle.depot_rows.specs.depot_model.Deeds.{Deed};
+ghost use Rattle.depot_rows.specs.depot_model.Refusals.{refusal_row};
+ghost use Rattle.depot_rows.specs.depot_model.Rules.{IsSound};
+ghost use Rattle.depot_rows.specs.depot_model.Steps.Changing as model;
 ghost use Rattle.depot_rows.specs.Standing.{HasRows};
 ghost use Rattle.depot_rows.specs.declared.deed.Deed.TheVariants as dones;
 ghost use Rattle.reply_rows.specs.Made.{IsMade, does};
@@ -16,14 +16,14 @@ ghost use Rattle.opening_reads.specs.InChange.{opened_in};
 ghost use Rattle.change_lists.specs.Deleting.{delete_told, deleted_row as row_of_deleted};
 
 use command_parts::is_own;
-use db_records::ChangeRecord;
-use depot_model::{Caller, Row};
-use depot_path::Name;
+use depot_rows::model::{Caller, Row};
+use depot_rows::paths::Name;
+use depot_rows::records::ChangeRecord;
+use depot_rows::tables::Tables;
 use opening_reads::openings_of;
 use reply_rows::{RowBuilder, Step, no_such_change_row, not_deletable_row, not_yours_row};
 use revision_reads::change_of;
 use std::alloc::{AllocError, Global};
-use table_store::Tables;
 
 /// The row of the first refusal of deleting a change, by its row and by whether it has opened files.
 fn refusal_of(

@@ -3,12 +3,12 @@
 ghost use Rattle.std.specs.Prelude.{◌≡◌, ◌++◌, ◌∷◌, [], List, IfOk, OnOk, flat_map, map};
 ghost use Rattle.std.specs.List.{enumerate_from};
 ghost use Rattle.std.specs.Option.{option_copied};
-ghost use Rattle.db_records.specs.declared.table.TableId.TheVariants as table_ids;
-ghost use Rattle.table_changes.specs.Changed.{rows_of};
-ghost use Rattle.depot_model.specs.Deeds.{Deed};
-ghost use Rattle.depot_model.specs.Rows.{number_field as field_of_number, row as row_with, text_field as field_of_text};
-ghost use Rattle.depot_model.specs.Rules.{IsSound};
-ghost use Rattle.depot_model.specs.Steps.History as model;
+ghost use Rattle.depot_rows.specs.db_records.declared.table.TableId.TheVariants as table_ids;
+ghost use Rattle.depot_rows.specs.table_changes.Changed.{rows_of};
+ghost use Rattle.depot_rows.specs.depot_model.Deeds.{Deed};
+ghost use Rattle.depot_rows.specs.depot_model.Rows.{number_field as field_of_number, row as row_with, text_field as field_of_text};
+ghost use Rattle.depot_rows.specs.depot_model.Rules.{IsSound};
+ghost use Rattle.depot_rows.specs.depot_model.Steps.History as model;
 ghost use Rattle.depot_rows.specs.Standing.{HasRows};
 ghost use Rattle.reply_rows.specs.Made.{IsMade, told};
 ghost use Rattle.named_files.specs.Asked.{IsAsker};
@@ -16,16 +16,16 @@ ghost use Rattle.revision_reads.specs.History.{numbered_record, seen};
 ghost use Rattle.change_lists.specs.Describing.{content_fields, described_in, described_told, fields_at, landed_by, landed_told, numbered_name as name_numbered, record_fields as fields_of_record, revision_fields};
 
 use crate::files::{files_of_change, revision_made};
-use db_records::{ChangeRecord, RevRecord};
-use depot_model::{Caller, Field, Row};
-use depot_path::{DepotPath, Sequence, Text};
+use depot_rows::model::{Caller, Field, Row};
+use depot_rows::paths::{DepotPath, Sequence, Text};
+use depot_rows::protections::Level;
+use depot_rows::records::{ChangeRecord, RevRecord};
+use depot_rows::tables::Tables;
 use itoa::Buffer;
 use named_files::Asker;
-use protect_table::Level;
 use reply_rows::{Step, no_such_change_row, number_field, row_of, text_field};
 use revision_reads::change_of;
 use std::alloc::{AllocError, Global};
-use table_store::Tables;
 
 /// The fields of a change, by its row.
 fn record_fields(alloc: Global, row: &ChangeRecord) -> Result<Sequence<Field>, AllocError>

@@ -3,25 +3,25 @@
 ghost use Rattle.std.specs.Prelude.{◌≡◌, ◌++◌, ◌∷◌, [], List, IfOk, OnOk, flat_map, option_map};
 ghost use Rattle.std.specs.List.{list_any};
 ghost use Rattle.std.specs.Option.{option_copied};
-ghost use Rattle.db_records.specs.declared.table.TableId.TheVariants as table_ids;
-ghost use Rattle.table_changes.specs.Changed.{rows_of};
-ghost use Rattle.depot_model.specs.Choice.{made_by};
-ghost use Rattle.depot_model.specs.Deeds.{Deed};
-ghost use Rattle.depot_model.specs.Revisions.{revisions};
-ghost use Rattle.depot_model.specs.Rules.{IsSound};
-ghost use Rattle.depot_model.specs.Steps.Changing.{files_of_change as files_in};
-ghost use Rattle.depot_model.specs.Steps.History.{made_in};
+ghost use Rattle.depot_rows.specs.db_records.declared.table.TableId.TheVariants as table_ids;
+ghost use Rattle.depot_rows.specs.table_changes.Changed.{rows_of};
+ghost use Rattle.depot_rows.specs.depot_model.Choice.{made_by};
+ghost use Rattle.depot_rows.specs.depot_model.Deeds.{Deed};
+ghost use Rattle.depot_rows.specs.depot_model.Revisions.{revisions};
+ghost use Rattle.depot_rows.specs.depot_model.Rules.{IsSound};
+ghost use Rattle.depot_rows.specs.depot_model.Steps.Changing.{files_of_change as files_in};
+ghost use Rattle.depot_rows.specs.depot_model.Steps.History.{made_in};
 ghost use Rattle.depot_rows.specs.Standing.{HasRows};
 ghost use Rattle.revision_reads.specs.History.{numbered_record, seen};
 ghost use Rattle.change_lists.specs.Files.{file_in};
 
-use db_records::RevRecord;
-use depot_model::Caller;
-use depot_path::{DepotPath, RevSpec, Sequence, Wanted};
+use depot_rows::model::Caller;
+use depot_rows::paths::{DepotPath, RevSpec, Sequence, Wanted};
+use depot_rows::records::RevRecord;
+use depot_rows::tables::Tables;
 use named_files::{Listing, all_files};
 use revision_reads::chosen_revision;
 use std::alloc::{AllocError, Global};
-use table_store::Tables;
 
 /// The row of the revision of a file that a change made, None exactly where it made none, from the table of revisions alone.
 pub(crate) fn revision_made<'a>(

@@ -2,15 +2,15 @@
 
 ghost use Rattle.std.specs.Prelude.{◌≡◌, ◌++◌, true, None, IfOk, OnOk, map};
 ghost use Rattle.std.specs.List.{join_with_byte};
-ghost use Rattle.depot_path.specs.Revision.{small_number as number_in};
-ghost use Rattle.depot_model.specs.Steps.Changing as model;
+ghost use Rattle.depot_rows.specs.depot_path.Revision.{small_number as number_in};
+ghost use Rattle.depot_rows.specs.depot_model.Steps.Changing as model;
 ghost use Rattle.opening_reads.specs.Read.{path_in_text};
 ghost use Rattle.change_lists.specs.Lines.{first_bad};
 
-use depot_path::{DepotPath, Sequence, Text, number_up_to};
+use depot_rows::forms::Form;
+use depot_rows::paths::{DepotPath, Sequence, Text, number_up_to};
 use opening_reads::path_in;
 use row_reads::form_value;
-use spec_form::Form;
 use std::alloc::{AllocError, Global};
 
 /// The number that a word of digits spells, up to 2,147,483,647.

@@ -2,12 +2,12 @@
 
 ghost use Rattle.std.specs.Prelude.{◌≡◌, ◌&&◌, ◌++◌, ℕ, Some, true, false, List, IfOk, OnOk, flat_map, map};
 ghost use Rattle.std.specs.Option.{option_to_list};
-ghost use Rattle.db_records.specs.declared.table.TableId.TheVariants as table_ids;
-ghost use Rattle.table_changes.specs.Changed.{rows_of};
-ghost use Rattle.depot_model.specs.declared.request.Caller.{Caller as CallerValue};
-ghost use Rattle.depot_model.specs.Deeds.{Deed};
-ghost use Rattle.depot_model.specs.Rules.{IsSound};
-ghost use Rattle.depot_model.specs.Steps.Changes as model;
+ghost use Rattle.depot_rows.specs.db_records.declared.table.TableId.TheVariants as table_ids;
+ghost use Rattle.depot_rows.specs.table_changes.Changed.{rows_of};
+ghost use Rattle.depot_rows.specs.depot_model.declared.request.Caller.{Caller as CallerValue};
+ghost use Rattle.depot_rows.specs.depot_model.Deeds.{Deed};
+ghost use Rattle.depot_rows.specs.depot_model.Rules.{IsSound};
+ghost use Rattle.depot_rows.specs.depot_model.Steps.Changes as model;
 ghost use Rattle.depot_rows.specs.Standing.{HasRows};
 ghost use Rattle.reply_rows.specs.Made.{IsMade};
 ghost use Rattle.named_files.specs.Asked.{IsAsker};
@@ -18,14 +18,14 @@ ghost use Rattle.change_lists.specs.Numbers.{Falls, is_among};
 
 use crate::made::changes_made;
 use crate::numbers::{all_numbers, in_falling_order};
-use db_records::ChangeRecord;
-use depot_model::{Caller, FileArgument, Row};
-use depot_path::{Name, Sequence, Text};
+use depot_rows::model::{Caller, FileArgument, Row};
+use depot_rows::paths::{Name, Sequence, Text};
+use depot_rows::records::ChangeRecord;
+use depot_rows::tables::Tables;
 use named_files::Asker;
 use reply_rows::{RowBuilder, Step};
 use revision_reads::change_of;
 use std::alloc::{AllocError, Global};
-use table_store::Tables;
 
 /// Which changes are listed: those of a status, of a user and of a client, where they are given.
 #[derive(Drop)]

@@ -2,28 +2,28 @@
 
 ghost use Rattle.std.specs.Prelude.{◌≡◌, ◌++◌, ℕ, [], false, List, IfOk, OnOk, filter_map, flat_map, if◌then◌else◌, length, ◌==◌, ◌∷◌};
 ghost use Rattle.std.specs.Option.{option_to_list};
-ghost use Rattle.db_records.specs.declared.table.TableId.TheVariants as table_ids;
-ghost use Rattle.table_changes.specs.Changed.{rows_of};
-ghost use Rattle.depot_model.specs.declared.refusal.Refusal.TheVariants.{NoSuchFile};
-ghost use Rattle.depot_model.specs.Arguments.{is_in, named, not_in, submitted};
-ghost use Rattle.depot_model.specs.Deeds.{Deed};
-ghost use Rattle.depot_model.specs.Refusals.{refusal_row};
-ghost use Rattle.depot_model.specs.Rules.{IsSound};
-ghost use Rattle.depot_model.specs.Steps.Changes.{change_at, made_of, made_over, missing};
+ghost use Rattle.depot_rows.specs.db_records.declared.table.TableId.TheVariants as table_ids;
+ghost use Rattle.depot_rows.specs.table_changes.Changed.{rows_of};
+ghost use Rattle.depot_rows.specs.depot_model.declared.refusal.Refusal.TheVariants.{NoSuchFile};
+ghost use Rattle.depot_rows.specs.depot_model.Arguments.{is_in, named, not_in, submitted};
+ghost use Rattle.depot_rows.specs.depot_model.Deeds.{Deed};
+ghost use Rattle.depot_rows.specs.depot_model.Refusals.{refusal_row};
+ghost use Rattle.depot_rows.specs.depot_model.Rules.{IsSound};
+ghost use Rattle.depot_rows.specs.depot_model.Steps.Changes.{change_at, made_of, made_over, missing};
 ghost use Rattle.depot_rows.specs.Standing.{HasRows};
 ghost use Rattle.named_files.specs.Sets.{ShownReads};
 ghost use Rattle.named_files.specs.declared.listing.Listing.TheVariants.{Submitted};
 ghost use Rattle.revision_reads.specs.Choice.{HaveRows, wanted_tables};
 ghost use Rattle.change_lists.specs.Listed.{made_in_file};
 
-use depot_model::{Caller, FileArgument, Row};
-use depot_path::{DepotPath, Sequence};
+use depot_rows::model::{Caller, FileArgument, Row};
+use depot_rows::paths::{DepotPath, Sequence};
+use depot_rows::tables::Tables;
 use file_steps::{PathSet, named_by};
 use named_files::{Asker, Listing, ShownFiles};
 use reply_rows::no_such_file_row;
 use revision_reads::{in_range, revision_of};
 use std::alloc::{AllocError, Global};
-use table_store::Tables;
 
 /// Adds the number of the change that made a revision, if there is that one.
 fn push_change(

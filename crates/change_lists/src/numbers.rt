@@ -3,23 +3,23 @@
 ghost use Rattle.std.specs.Prelude.{◌≡◌, ◌++◌, ◌∷◌, ◌||◌, [], ℕ, List, IfOk, OnOk, flat_map, if◌then◌else◌};
 ghost use Rattle.std.specs.List.{list_any};
 ghost use Rattle.std.specs.Option.{option_copied};
-ghost use Rattle.db_records.specs.declared.table.TableId.TheVariants as table_ids;
-ghost use Rattle.table_changes.specs.Changed.{rows_of};
-ghost use Rattle.depot_model.specs.declared.request.Caller.{Caller as CallerValue};
-ghost use Rattle.depot_model.specs.Arguments.{submitted};
-ghost use Rattle.depot_model.specs.Deeds.{Deed};
-ghost use Rattle.depot_model.specs.Rules.{IsSound};
+ghost use Rattle.depot_rows.specs.db_records.declared.table.TableId.TheVariants as table_ids;
+ghost use Rattle.depot_rows.specs.table_changes.Changed.{rows_of};
+ghost use Rattle.depot_rows.specs.depot_model.declared.request.Caller.{Caller as CallerValue};
+ghost use Rattle.depot_rows.specs.depot_model.Arguments.{submitted};
+ghost use Rattle.depot_rows.specs.depot_model.Deeds.{Deed};
+ghost use Rattle.depot_rows.specs.depot_model.Rules.{IsSound};
 ghost use Rattle.depot_rows.specs.Standing.{HasRows};
 ghost use Rattle.named_files.specs.Asked.{IsAsker};
 ghost use Rattle.change_lists.specs.Listed.{is_pending, lists_one};
 ghost use Rattle.change_lists.specs.Numbers.{Falls, Knows, is_among, may_in_text, number_listed, number_pending, text_behind};
 
-use db_records::{Record, TableId};
-use depot_path::{DepotPath, PathFault, Text};
+use depot_rows::paths::{DepotPath, PathFault, Text};
+use depot_rows::protections::Level;
+use depot_rows::records::{Record, TableId};
+use depot_rows::tables::Tables;
 use named_files::Asker;
-use protect_table::Level;
 use std::alloc::{AllocError, Global};
-use table_store::Tables;
 
 /// Whether the asker may list the file that a text spells, if it spells one.
 fn may_in(alloc: Global, asker: &Asker, text: &Text) -> Result<bool, AllocError>

@@ -2,17 +2,17 @@
 
 ghost use Rattle.std.specs.Prelude.{◌≡◌, ◌≤◌, ◌+◌, ◌∷◌, ◌++◌, true, None, List, IfOk, IsFalse, OnOk, flat_map, length, map, option_map, unwrap_or};
 ghost use Rattle.std.specs.Option.{option_copied, option_to_list};
-ghost use Rattle.db_records.specs.declared.key.Key.TheVariants as keys;
-ghost use Rattle.db_records.specs.declared.table.TableId.TheVariants as table_ids;
-ghost use Rattle.table_changes.specs.Changed.{rows_of};
-ghost use Rattle.depot_model.specs.Deeds.{Deed};
-ghost use Rattle.depot_model.specs.declared.request.Caller.{Caller as ModelCaller};
-ghost use Rattle.depot_model.specs.Numbers.{top};
-ghost use Rattle.depot_model.specs.Records.{record_of};
-ghost use Rattle.depot_model.specs.Refusals.{refusal_row};
-ghost use Rattle.depot_model.specs.Rules.{IsSound};
-ghost use Rattle.depot_model.specs.Step.{unless};
-ghost use Rattle.depot_model.specs.Steps.Changing as model;
+ghost use Rattle.depot_rows.specs.db_records.declared.key.Key.TheVariants as keys;
+ghost use Rattle.depot_rows.specs.db_records.declared.table.TableId.TheVariants as table_ids;
+ghost use Rattle.depot_rows.specs.table_changes.Changed.{rows_of};
+ghost use Rattle.depot_rows.specs.depot_model.Deeds.{Deed};
+ghost use Rattle.depot_rows.specs.depot_model.declared.request.Caller.{Caller as ModelCaller};
+ghost use Rattle.depot_rows.specs.depot_model.Numbers.{top};
+ghost use Rattle.depot_rows.specs.depot_model.Records.{record_of};
+ghost use Rattle.depot_rows.specs.depot_model.Refusals.{refusal_row};
+ghost use Rattle.depot_rows.specs.depot_model.Rules.{IsSound};
+ghost use Rattle.depot_rows.specs.depot_model.Step.{unless};
+ghost use Rattle.depot_rows.specs.depot_model.Steps.Changing as model;
 ghost use Rattle.depot_rows.specs.Deed.{opening_of as opening_of_deed};
 ghost use Rattle.depot_rows.specs.Effects.{is_submitted};
 ghost use Rattle.depot_rows.specs.Standing.{HasRows};
@@ -23,18 +23,18 @@ ghost use Rattle.change_lists.specs.Saving.{file_refusals, limit_refusals, moved
 
 use crate::lines::{form_number, has_number, joined, push_paths};
 use command_parts::{named_change_refusal, unread};
-use db_records::WorkingRecord;
 use deed_list::Deeds;
-use depot_model::{Caller, Limit, Request, Row};
-use depot_path::{DepotPath, Name, Sequence, Text};
+use depot_rows::forms::{Form, Shape, field_place, line_place};
+use depot_rows::model::{Caller, Limit, Request, Row};
+use depot_rows::paths::{DepotPath, Name, Sequence, Text};
+use depot_rows::records::WorkingRecord;
+use depot_rows::tables::Tables;
 use depot_rows::{Opening, Pending};
 use file_openings::opening_of;
 use opening_reads::reopened_in;
 use reply_rows::{RowBuilder, Step, bad_form_row, limit_row, not_open_row};
 use row_reads::top_change;
-use spec_form::{Form, Shape, field_place, line_place};
 use std::alloc::{AllocError, Global};
-use table_store::Tables;
 
 /// Adds the opening of a row in another change, where there is one.
 fn push_moved(

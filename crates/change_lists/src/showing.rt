@@ -2,15 +2,15 @@
 
 ghost use Rattle.std.specs.Prelude.{◌≡◌, ◌∷◌, [], ◌++◌, List, IfOk, OnOk, codes, flat_map, map, option_map};
 ghost use Rattle.std.specs.Option.{option_copied};
-ghost use Rattle.db_records.specs.declared.record.Record.TheVariants as records;
-ghost use Rattle.db_records.specs.declared.table.TableId.TheVariants as table_ids;
-ghost use Rattle.table_changes.specs.Changed.{rows_of};
-ghost use Rattle.depot_model.specs.Deeds.{Deed};
-ghost use Rattle.depot_model.specs.declared.request.Caller.{Caller as ModelCaller};
-ghost use Rattle.depot_model.specs.Records.{change_record};
-ghost use Rattle.depot_model.specs.Rules.{IsSound};
-ghost use Rattle.depot_model.specs.Rows.{text_field as field_of_text};
-ghost use Rattle.depot_model.specs.Steps.Changing as model;
+ghost use Rattle.depot_rows.specs.db_records.declared.record.Record.TheVariants as records;
+ghost use Rattle.depot_rows.specs.db_records.declared.table.TableId.TheVariants as table_ids;
+ghost use Rattle.depot_rows.specs.table_changes.Changed.{rows_of};
+ghost use Rattle.depot_rows.specs.depot_model.Deeds.{Deed};
+ghost use Rattle.depot_rows.specs.depot_model.declared.request.Caller.{Caller as ModelCaller};
+ghost use Rattle.depot_rows.specs.depot_model.Records.{change_record};
+ghost use Rattle.depot_rows.specs.depot_model.Rules.{IsSound};
+ghost use Rattle.depot_rows.specs.depot_model.Rows.{text_field as field_of_text};
+ghost use Rattle.depot_rows.specs.depot_model.Steps.Changing as model;
 ghost use Rattle.depot_rows.specs.Deed.{opening_of};
 ghost use Rattle.depot_rows.specs.Standing.{HasRows};
 ghost use Rattle.reply_rows.specs.Made.{IsMade, told};
@@ -18,17 +18,17 @@ ghost use Rattle.named_files.specs.Asked.{IsAsker};
 ghost use Rattle.change_lists.specs.Showing.{listed_text as text_listed, number_word, openings_told, record_row, shown_row};
 
 use command_parts::named;
-use db_records::ChangeRecord;
-use depot_model::{Caller, Field, Row};
-use depot_path::{DepotPath, Sequence, Text, is_name};
 use depot_rows::Opening;
+use depot_rows::model::{Caller, Field, Row};
+use depot_rows::paths::{DepotPath, Sequence, Text, is_name};
+use depot_rows::protections::Level;
+use depot_rows::records::ChangeRecord;
+use depot_rows::tables::Tables;
 use named_files::Asker;
 use opening_reads::openings_of;
-use protect_table::Level;
 use reply_rows::{Step, no_such_change_row, number_field, push_numbered, row_of, text_field};
 use revision_reads::change_of;
 use std::alloc::{AllocError, Global};
-use table_store::Tables;
 
 /// Adds the path of a file as it is printed, where the asker may list the file.
 fn push_listed(

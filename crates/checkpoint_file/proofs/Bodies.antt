@@ -2,11 +2,11 @@
 use Rattle.std.proofs.Common.{◌≡◌, ℕ, ◌+◌, ◌<◌, [], ◌∷◌, ◌++◌, List, length, take, get_or, ap, ◌∙◌}
 use Rattle.std.proofs.lemmas.List.{append-nil, take_more}
 use Rattle.std.proofs.lemmas.Grind.{flat_map-append}
-use Rattle.db_records.specs.Table.{all_tables}
-use Rattle.db_records.specs.declared.table.TableId.{TableId}
-use Rattle.db_records.specs.declared.table.TableId.TheVariants.{Counter}
+use Rattle.depot_rows.specs.db_records.Table.{all_tables}
+use Rattle.depot_rows.specs.db_records.declared.table.TableId.{TableId}
+use Rattle.depot_rows.specs.db_records.declared.table.TableId.TheVariants.{Counter}
 use Rattle.journal_groups.specs.Groups.{body_of, change_text}
-use Rattle.table_changes.specs.Changed.{AllRows}
+use Rattle.depot_rows.specs.table_changes.Changed.{AllRows}
 use Rattle.checkpoint_file.specs.Checkpoint.{puts, puts_in}
 
 puts_more : (rows : AllRows) (tables : List TableId) (i : ℕ) → i < length tables → puts_in rows (take (i + 1) tables) ≡ puts_in rows (take i tables) ++ puts (rows (get_or tables i Counter))

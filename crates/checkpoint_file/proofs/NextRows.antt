@@ -2,20 +2,20 @@
 use Rattle.std.proofs.Common.{◌≡◌, ◌≤◌, ℕ, ◌+◌, List, [], ◌++◌, inl, inr, length, refl, sym, ap, subst, ◌∙◌}
 use Rattle.std.proofs.lemmas.List.{append-nil}
 use Rattle.outside_api.specs.Disk.{Files}
-use Rattle.db_records.specs.Table.{all_tables}
-use Rattle.db_records.specs.declared.change.Change.{Change}
-use Rattle.db_records.specs.declared.key.Key.TheVariants as keys
-use Rattle.db_records.specs.declared.record.Record.{Record}
-use Rattle.db_records.specs.declared.table.TableId.TheVariants.{Rev}
-use Rattle.depot_model.specs.Deeds.{Deed}
-use Rattle.depot_path.specs.Path.{printed}
+use Rattle.depot_rows.specs.db_records.Table.{all_tables}
+use Rattle.depot_rows.specs.db_records.declared.change.Change.{Change}
+use Rattle.depot_rows.specs.db_records.declared.key.Key.TheVariants as keys
+use Rattle.depot_rows.specs.db_records.declared.record.Record.{Record}
+use Rattle.depot_rows.specs.db_records.declared.table.TableId.TheVariants.{Rev}
+use Rattle.depot_rows.specs.depot_model.Deeds.{Deed}
+use Rattle.depot_rows.specs.depot_path.Path.{printed}
 use Rattle.disk_journal.specs.Images.{Committed, HasCommitted, HasEither, with_generation}
 use Rattle.recovery.specs.Holding.{ArePuts, HasAllRows, spots_end}
 use Rattle.recovery.specs.Rules.{DeletesAreUnplaced}
 use Rattle.recovery.specs.Standing.{StandFor}
 use Rattle.recovery.proofs.PutsFit.{puts_fit}
-use Rattle.table_changes.specs.Changed.{AllFitIn, AllRows, changed_by, no_rows}
-use Rattle.table_store.specs.Rows.{IsRising, row_at}
+use Rattle.depot_rows.specs.table_changes.Changed.{AllFitIn, AllRows, changed_by, no_rows}
+use Rattle.depot_rows.specs.table_store.Rows.{IsRising, row_at}
 use Rattle.checkpoint_file.specs.Checkpoint.{IsCheckpointOf, puts_of}
 use Rattle.checkpoint_file.specs.Generations.{HoldsEither, IsNext, IsOfDepot, StandsForEither, of_generation}
 use Rattle.checkpoint_file.specs.Tables.{AreTables}

@@ -5,15 +5,15 @@ use Rattle.std.specs.List.{flat_map}
 use Rattle.std.specs.Ordering.{nat_cmp, ordering_then}
 use Rattle.std.specs.declared.cmp.Ordering.{Ordering}
 use Rattle.std.specs.declared.cmp.Ordering.TheVariants.{Greater}
-use Rattle.db_records.specs.Key.{key_table}
-use Rattle.db_records.specs.Record.{key_of, table_of}
-use Rattle.db_records.specs.Table.{all_tables, table_number}
-use Rattle.db_records.specs.declared.key.Key.{Key}
-use Rattle.db_records.specs.declared.record.Record.{Record}
-use Rattle.db_records.specs.declared.table.TableId.{TableId}
-use Rattle.table_changes.specs.Changed.{AllRows}
-use Rattle.table_store.specs.Rows.{AllAbove, AllOfTable, IsRising}
-use Rattle.table_store.proofs.Order.{AllAbove-append}
+use Rattle.depot_rows.specs.db_records.Key.{key_table}
+use Rattle.depot_rows.specs.db_records.Record.{key_of, table_of}
+use Rattle.depot_rows.specs.db_records.Table.{all_tables, table_number}
+use Rattle.depot_rows.specs.db_records.declared.key.Key.{Key}
+use Rattle.depot_rows.specs.db_records.declared.record.Record.{Record}
+use Rattle.depot_rows.specs.db_records.declared.table.TableId.{TableId}
+use Rattle.depot_rows.specs.table_changes.Changed.{AllRows}
+use Rattle.depot_rows.specs.table_store.Rows.{AllAbove, AllOfTable, IsRising}
+use Rattle.depot_rows.proofs.table_store.Order.{AllAbove-append}
 use Rattle.checkpoint_file.specs.Tables.{AreTables}
 
 -- tables whose numbers rise from this one on

@@ -4,19 +4,19 @@ use Rattle.std.proofs.lemmas.Bool.Decides.{nat_tests}
 use Rattle.std.proofs.lemmas.List.{append-nil}
 use Rattle.std.specs.Prelude.{◌==◌, if◌then◌else◌}
 use Rattle.std.specs.List.{AllByRecursion, flat_map}
-use Rattle.db_records.specs.Record.{table_of}
-use Rattle.db_records.specs.Table.{all_tables, table_number}
-use Rattle.db_records.specs.declared.change.Change.{Change}
-use Rattle.db_records.specs.declared.change.Op.TheVariants.{Put}
-use Rattle.db_records.specs.declared.record.Record.{Record}
-use Rattle.db_records.specs.declared.table.TableId.{TableId}
-use Rattle.db_records.specs.declared.table.TableId.TheVariants as ids
+use Rattle.depot_rows.specs.db_records.Record.{table_of}
+use Rattle.depot_rows.specs.db_records.Table.{all_tables, table_number}
+use Rattle.depot_rows.specs.db_records.declared.change.Change.{Change}
+use Rattle.depot_rows.specs.db_records.declared.change.Op.TheVariants.{Put}
+use Rattle.depot_rows.specs.db_records.declared.record.Record.{Record}
+use Rattle.depot_rows.specs.db_records.declared.table.TableId.{TableId}
+use Rattle.depot_rows.specs.db_records.declared.table.TableId.TheVariants as ids
 use Rattle.recovery.proofs.Fits.{changed_joined}
 use Rattle.recovery.specs.Holding.{rows_put}
-use Rattle.table_changes.specs.Changed.{AllRows, changed_by, changed_in, no_rows}
-use Rattle.table_store.specs.Rows.{AllOfTable, IsRising, changed_once}
-use Rattle.table_store.proofs.Order.{IsRising-left, before_row}
-use Rattle.table_store.proofs.Place.{row_behind}
+use Rattle.depot_rows.specs.table_changes.Changed.{AllRows, changed_by, changed_in, no_rows}
+use Rattle.depot_rows.specs.table_store.Rows.{AllOfTable, IsRising, changed_once}
+use Rattle.depot_rows.proofs.table_store.Order.{IsRising-left, before_row}
+use Rattle.depot_rows.proofs.table_store.Place.{row_behind}
 use Rattle.checkpoint_file.specs.Checkpoint.{put, puts, puts_in, puts_of}
 use Rattle.checkpoint_file.specs.Tables.{AreTables}
 use Rattle.checkpoint_file.proofs.OneAfterOther.{RiseFrom, all_rise}

@@ -2,19 +2,19 @@
 use Rattle.std.proofs.Common.{Bool, true, false, List, [], ◌∷◌, ◌++◌, sym, subst}
 use Rattle.std.specs.Prelude.{◌==◌, filter, if◌then◌else◌}
 use Rattle.std.specs.List.{AllByRecursion}
-use Rattle.db_records.specs.Record.{key_of, table_of}
-use Rattle.db_records.specs.Table.{all_tables, table_number}
-use Rattle.db_records.specs.declared.change.Change.{Change}
-use Rattle.db_records.specs.declared.change.Op.{Op}
-use Rattle.db_records.specs.declared.change.Op.TheVariants.{Put, Replace, Remove}
-use Rattle.db_records.specs.declared.record.Record.{Record}
-use Rattle.db_records.specs.declared.table.TableId.{TableId}
+use Rattle.depot_rows.specs.db_records.Record.{key_of, table_of}
+use Rattle.depot_rows.specs.db_records.Table.{all_tables, table_number}
+use Rattle.depot_rows.specs.db_records.declared.change.Change.{Change}
+use Rattle.depot_rows.specs.db_records.declared.change.Op.{Op}
+use Rattle.depot_rows.specs.db_records.declared.change.Op.TheVariants.{Put, Replace, Remove}
+use Rattle.depot_rows.specs.db_records.declared.record.Record.{Record}
+use Rattle.depot_rows.specs.db_records.declared.table.TableId.{TableId}
 use Rattle.disk_journal.specs.Images.{Committed}
 use Rattle.journal_groups.specs.Groups.{AreRecords, IsGroup}
 use Rattle.record_text.specs.Grammar.{IsRecord}
 use Rattle.recovery.specs.Holding.{HasAllRows, joined}
-use Rattle.table_changes.specs.Changed.{AllRows, changed_by, changed_in, no_rows}
-use Rattle.table_store.specs.Rows.{changed_once, is_above, is_below, left_by}
+use Rattle.depot_rows.specs.table_changes.Changed.{AllRows, changed_by, changed_in, no_rows}
+use Rattle.depot_rows.specs.table_store.Rows.{changed_once, is_above, is_below, left_by}
 use Rattle.checkpoint_file.specs.Checkpoint.{puts, puts_in, puts_of}
 
 abbrev HaveTexts : List Record → Type 0

@@ -1,13 +1,13 @@
 -- The text of a checkpoint: a journal's record that puts it for each row (System Administrator Guide, "Checkpoint files"). That it is one group, whose
 -- number is that of its generation, is this project's own choice.
 use Rattle.std.specs.Prelude.{◌≡◌, ℕ, List, map, flat_map}
-use Rattle.db_records.specs.Table.{all_tables}
-use Rattle.db_records.specs.declared.change.Change.{Change}
-use Rattle.db_records.specs.declared.change.Op.TheVariants.{Put}
-use Rattle.db_records.specs.declared.record.Record.{Record}
-use Rattle.db_records.specs.declared.table.TableId.{TableId}
+use Rattle.depot_rows.specs.db_records.Table.{all_tables}
+use Rattle.depot_rows.specs.db_records.declared.change.Change.{Change}
+use Rattle.depot_rows.specs.db_records.declared.change.Op.TheVariants.{Put}
+use Rattle.depot_rows.specs.db_records.declared.record.Record.{Record}
+use Rattle.depot_rows.specs.db_records.declared.table.TableId.{TableId}
 use Rattle.journal_groups.specs.Groups.{IsGroup, group_text}
-use Rattle.table_changes.specs.Changed.{AllRows}
+use Rattle.depot_rows.specs.table_changes.Changed.{AllRows}
 use Rattle.checkpoint_file.specs.Tables.{AreTables}
 
 abbrev pub put : Record → Change

@@ -1,9 +1,9 @@
 -- The rows of tables (Helix Core database schema reference, "Tables"). That they stand in the order of their keys is this project's own choice.
-use Rattle.db_records.specs.declared.record.Record.{Record}
-use Rattle.db_records.specs.declared.table.TableId.{TableId}
+use Rattle.depot_rows.specs.db_records.declared.record.Record.{Record}
+use Rattle.depot_rows.specs.db_records.declared.table.TableId.{TableId}
 use Rattle.std.specs.Prelude.{List}
-use Rattle.table_changes.specs.Changed.{AllRows}
-use Rattle.table_store.specs.Rows.{AllOfTable, IsRising}
+use Rattle.depot_rows.specs.table_changes.Changed.{AllRows}
+use Rattle.depot_rows.specs.table_store.Rows.{AllOfTable, IsRising}
 
 -- each of these rows is of the table, and their keys rise
 pub record IsTable (table : TableId) (rows : List Record) : Type 0 where

@@ -1,19 +1,19 @@
 //! The text of a checkpoint.
 
 ghost use Rattle.std.specs.Prelude.{◌≡◌, ◌+◌, ◌≤◌, ◌++◌, length, IfOk};
-ghost use Rattle.db_records.specs.declared.change.Op.TheVariants.{Put as PutOp};
+ghost use Rattle.depot_rows.specs.db_records.declared.change.Op.TheVariants.{Put as PutOp};
 ghost use Rattle.journal_groups.specs.Groups.{AreRecords, body_of, head_of};
 ghost use Rattle.record_text.specs.Grammar.{largest_wide, spelling};
-ghost use Rattle.table_changes.specs.Changed.{rows_of};
+ghost use Rattle.depot_rows.specs.table_changes.Changed.{rows_of};
 ghost use Rattle.checkpoint_file.specs.Checkpoint.{IsCheckpointOf, checkpoint_text, puts, puts_of};
 ghost use Rattle.checkpoint_file.specs.Tables.{AreTables, IsTable};
 
-use db_records::{Op, Record, TableId};
-use depot_path::Text;
+use depot_rows::paths::Text;
+use depot_rows::records::{Op, Record, TableId};
+use depot_rows::tables::{Tables, Version};
 use itoa::Buffer;
 use record_text::append_record;
 use std::alloc::{AllocError, Global};
-use table_store::{Tables, Version};
 
 /// The record that puts a row, in the room of another text.
 fn print_over(room: Text, row: &Record) -> Result<Text, AllocError>

@@ -3,19 +3,19 @@
 ghost use Rattle.std.specs.Prelude.{◌≡◌, ◌≢◌, ◌⊎◌, ◌+◌, ◌*◌, ◌≤◌, ℕ, List, OnOk, IfOk, IsErr, Err};
 ghost use Rattle.outside_api.specs.Count.{HasRisen, counted};
 ghost use Rattle.outside_api.specs.Disk.{After, Files, Follows, LeavesOnly};
-ghost use Rattle.depot_model.specs.Deeds.{Deed};
+ghost use Rattle.depot_rows.specs.depot_model.Deeds.{Deed};
 ghost use Rattle.disk_journal.specs.Images.{Committed, HasEither, with_generation};
 ghost use Rattle.disk_journal.specs.Older.{SameBefore};
 ghost use Rattle.disk_journal.specs.Stands.{IsStill, Stands, disk_of, generation_of_journal, nothing, opening};
 ghost use Rattle.recovery.specs.Holding.{HasAllRows};
 ghost use Rattle.recovery.specs.Standing.{StandFor};
-ghost use Rattle.table_changes.specs.Changed.{AllRows};
+ghost use Rattle.depot_rows.specs.table_changes.Changed.{AllRows};
 ghost use Rattle.checkpoint_file.specs.Checkpoint.{IsCheckpointOf};
 ghost use Rattle.checkpoint_file.specs.Generations.{HoldsEither, IsNext, IsOfDepot, StandsForEither, of_generation};
 ghost use Rattle.checkpoint_file.specs.declared.fault.CheckpointFault.TheVariants.{NoGeneration, DiskFault};
 
 use crate::fault::CheckpointFault;
-use depot_path::Text;
+use depot_rows::paths::Text;
 use disk_journal::Journal;
 use outside_api::Disk;
 

@@ -2,19 +2,19 @@
 use Rattle.std.proofs.Common.{◌≡◌, ℕ, Bool, true, false, List, [], ◌∷◌, Some, Result, Ok, Err, refl, sym, ap, ◌∙◌, subst}
 use Rattle.std.specs.Prelude.{◌||◌, ◌&&◌, IsTrue}
 use Rattle.std.specs.List.{list_any, list_all}
-use Rattle.db_records.specs.Table.{table_number}
-use Rattle.db_records.specs.declared.table.TableId.TheVariants.{Working}
-use Rattle.table_changes.specs.Changed.{AllRows}
-use Rattle.depot_model.specs.declared.command.Command.{Command}
-use Rattle.depot_model.specs.declared.request.Request.{Request}
-use Rattle.depot_model.specs.declared.request.WordFault.{WordFault}
+use Rattle.depot_rows.specs.db_records.Table.{table_number}
+use Rattle.depot_rows.specs.db_records.declared.table.TableId.TheVariants.{Working}
+use Rattle.depot_rows.specs.table_changes.Changed.{AllRows}
+use Rattle.depot_rows.specs.depot_model.declared.command.Command.{Command}
+use Rattle.depot_rows.specs.depot_model.declared.request.Request.{Request}
+use Rattle.depot_rows.specs.depot_model.declared.request.WordFault.{WordFault}
 use Rattle.depot_runs.specs.Built.{is_built}
-use Rattle.depot_model.specs.Commands.{built_step}
+use Rattle.depot_rows.specs.depot_model.Commands.{built_step}
 use Rattle.depot_runs.specs.Today.{step}
-use Rattle.depot_model.specs.Common.{word_refusal}
-use Rattle.depot_model.specs.Deeds as model
-use Rattle.depot_model.specs.Step.{Step as ModelStep, refuses}
-use Rattle.depot_model.specs.Tables.{is_in, own_tables, touches, writes}
+use Rattle.depot_rows.specs.depot_model.Common.{word_refusal}
+use Rattle.depot_rows.specs.depot_model.Deeds as model
+use Rattle.depot_rows.specs.depot_model.Step.{Step as ModelStep, refuses}
+use Rattle.depot_rows.specs.depot_model.Tables.{is_in, own_tables, touches, writes}
 use Rattle.depot_rows.specs.declared.deed.Deed.{Deed}
 use Rattle.depot_rows.specs.declared.deed.Deed.TheVariants.{Spec, Guard, Group, Count, Pend, Drop, Open, Shut, Hold, Free, Got, Tag, Owe, Paid, Land}
 use Rattle.depot_rows.specs.Deed.{IsDeed}

@@ -2,7 +2,7 @@
 use Rattle.std.proofs.Common.{◌≡◌, ℕ, zero, suc, ◌<◌, ◌≤◌, List, [], ◌∷◌, ◌++◌, length, map, take, drop, set, get_or, refl, sym, ap, subst, ◌∙◌, arith, append_assoc, append-nil}
 use Rattle.std.specs.Option.{option_to_list}
 use Rattle.std.proofs.lemmas.List.{drop_all, take_all}
-use Rattle.depot_model.specs.declared.reply.Row.{Row}
+use Rattle.depot_rows.specs.depot_model.declared.reply.Row.{Row}
 use Rattle.reply_rows.specs.Made.{contents_of, waiting}
 
 -- rows of which the first k wait for their contents

@@ -1,18 +1,18 @@
 -- What a request does in the tables of a depot. This project's own choice.
 use Rattle.std.specs.Prelude.{◌≡◌, ℕ, IsTrue, List, [], map, Result, Ok, Err, IfOk}
 use Rattle.std.specs.List.{list_any}
-use Rattle.db_records.specs.Table.{table_number}
-use Rattle.db_records.specs.declared.table.TableId.{TableId}
-use Rattle.db_records.specs.declared.table.TableId.TheVariants.{Rev, Working}
-use Rattle.table_changes.specs.Changed.{AllRows}
-use Rattle.depot_model.specs.declared.command.Command.{Command}
-use Rattle.depot_model.specs.declared.request.Request.{Request}
-use Rattle.depot_model.specs.declared.request.WordFault.{WordFault}
+use Rattle.depot_rows.specs.db_records.Table.{table_number}
+use Rattle.depot_rows.specs.db_records.declared.table.TableId.{TableId}
+use Rattle.depot_rows.specs.db_records.declared.table.TableId.TheVariants.{Rev, Working}
+use Rattle.depot_rows.specs.table_changes.Changed.{AllRows}
+use Rattle.depot_rows.specs.depot_model.declared.command.Command.{Command}
+use Rattle.depot_rows.specs.depot_model.declared.request.Request.{Request}
+use Rattle.depot_rows.specs.depot_model.declared.request.WordFault.{WordFault}
 use Rattle.depot_runs.specs.Today.{step}
-use Rattle.depot_model.specs.Deeds.{Deed}
-use Rattle.depot_model.specs.Step.{Step as ModelStep, after}
-use Rattle.depot_model.specs.Tables.{touches}
-use Rattle.depot_model.specs.WellFormed.{asks_rightly, is_command}
+use Rattle.depot_rows.specs.depot_model.Deeds.{Deed}
+use Rattle.depot_rows.specs.depot_model.Step.{Step as ModelStep, after}
+use Rattle.depot_rows.specs.depot_model.Tables.{touches}
+use Rattle.depot_rows.specs.depot_model.WellFormed.{asks_rightly, is_command}
 use Rattle.depot_rows.specs.Standing.{HasRows}
 use Rattle.row_changes.specs.Differences.{AreDifferences}
 use Rattle.row_changes.specs.Locking.{is_hold}

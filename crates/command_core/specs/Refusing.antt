@@ -1,6 +1,6 @@
 -- The first refusal of several. This project's own choice.
 use Rattle.std.specs.Prelude.{List, [], ◌∷◌, Option, Some, None}
-use Rattle.depot_model.specs.declared.refusal.Refusal.{Refusal}
+use Rattle.depot_rows.specs.depot_model.declared.refusal.Refusal.{Refusal}
 
 abbrev pub first_of : List (Option Refusal) → Option Refusal
 first_of [] = None

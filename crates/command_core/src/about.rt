@@ -1,11 +1,11 @@
 //! What is known of each form of command: whether it is built, the right that it needs, whether it needs a client, and its arguments.
 
 ghost use Rattle.std.specs.Prelude.{◌≡◌};
-ghost use Rattle.depot_model.specs.About.{about};
+ghost use Rattle.depot_rows.specs.depot_model.About.{about};
 ghost use Rattle.depot_runs.specs.Built.{is_built as built, is_change as is_change_in, is_history as is_history_in, is_job as is_job_in, is_opening as is_opening_in, is_server as is_server_in, is_spec as is_spec_in, is_submit as is_submit_in, is_syncing as is_syncing_in};
 
-use depot_model::{Command, FileArgument, PatternArgument};
-use protect_table::Level;
+use depot_rows::model::{Command, FileArgument, PatternArgument};
+use depot_rows::protections::Level;
 use std::slice;
 
 /// Whether a command of counters or forms is built.

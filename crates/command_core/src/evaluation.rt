@@ -1,19 +1,19 @@
 //! What a request does.
 
 ghost use Rattle.std.specs.Prelude.{◌≡◌, List, [], ◌∷◌, None, IfOk, IfSome, IsFalse, codes, true, false, unwrap_or};
-ghost use Rattle.db_records.specs.declared.table.TableId.TheVariants as table_ids;
-ghost use Rattle.table_changes.specs.Changed.{AllFitIn, rows_of};
-ghost use Rattle.depot_model.specs.About.{about};
+ghost use Rattle.depot_rows.specs.db_records.declared.table.TableId.TheVariants as table_ids;
+ghost use Rattle.depot_rows.specs.table_changes.Changed.{AllFitIn, rows_of};
+ghost use Rattle.depot_rows.specs.depot_model.About.{about};
 ghost use Rattle.depot_runs.specs.Built.{is_built as built, is_submit as submits};
-ghost use Rattle.depot_model.specs.Commands.{built_step, own_step as own_step_of};
+ghost use Rattle.depot_rows.specs.depot_model.Commands.{built_step, own_step as own_step_of};
 ghost use Rattle.depot_runs.specs.Today.{step};
-ghost use Rattle.depot_model.specs.Common.{last_refusals};
-ghost use Rattle.depot_model.specs.Deeds.{Deed};
-ghost use Rattle.depot_model.specs.Refusals.{refusal_row};
-ghost use Rattle.depot_model.specs.Rules.{IsSound, NotBoth};
-ghost use Rattle.depot_model.specs.Step.{Step as ModelStep, after};
+ghost use Rattle.depot_rows.specs.depot_model.Common.{last_refusals};
+ghost use Rattle.depot_rows.specs.depot_model.Deeds.{Deed};
+ghost use Rattle.depot_rows.specs.depot_model.Refusals.{refusal_row};
+ghost use Rattle.depot_rows.specs.depot_model.Rules.{IsSound, NotBoth};
+ghost use Rattle.depot_rows.specs.depot_model.Step.{Step as ModelStep, after};
 ghost use Rattle.depot_rows.specs.Standing.{HasRows};
-ghost use Rattle.depot_model.specs.declared.refusal.Refusal.TheVariants as refusals;
+ghost use Rattle.depot_rows.specs.depot_model.declared.refusal.Refusal.TheVariants as refusals;
 ghost use Rattle.row_changes.specs.Differences.{AreDifferences};
 ghost use Rattle.reply_rows.specs.Made.{IsMade, told};
 ghost use Rattle.step_stores.specs.Stored.{IsStoring};
@@ -35,12 +35,12 @@ use crate::spec_commands::spec_step;
 use crate::submit_commands::submit_step;
 use crate::syncing_commands::syncing_step;
 use crate::unbuilt::unbuilt;
-use depot_model::{Command, Reply, Request};
-use depot_path::Sequence;
+use depot_rows::model::{Command, Reply, Request};
+use depot_rows::paths::Sequence;
+use depot_rows::tables::Tables;
 use reply_rows::Step;
 use row_changes::row_changes;
 use std::alloc::{AllocError, Global};
-use table_store::Tables;
 
 /// What a command that is built, and no submit, does where no refusal holds that is common to all.
 fn own_step(

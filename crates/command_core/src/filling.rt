@@ -2,11 +2,11 @@
 
 ghost use Rattle.std.specs.Prelude.{◌≡◌, ◌++◌, List, ℕ, map};
 ghost use Rattle.std.specs.Option.{option_to_list};
-ghost use Rattle.depot_model.specs.declared.reply.Row.{Row as AnyRow};
+ghost use Rattle.depot_rows.specs.depot_model.declared.reply.Row.{Row as AnyRow};
 ghost use Rattle.reply_rows.specs.Made.{contents_of, waiting};
 
-use depot_model::{Reply, Row};
-use depot_path::{Sequence, Text};
+use depot_rows::model::{Reply, Row};
+use depot_rows::paths::{Sequence, Text};
 
 /// Puts the last of the contents into a row, where it waits for one.
 fn fill(row: &mut Row, contents: &mut Vec<Text>)

@@ -2,7 +2,7 @@
 
 ghost use Rattle.std.specs.Prelude.{◌≡◌, [], unwrap_or};
 
-use depot_model::Request;
+use depot_rows::model::Request;
 
 /// The input block of a request, without bytes where it has none.
 pub(crate) fn input_of(request: &Request) -> &[u8]

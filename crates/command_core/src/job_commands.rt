@@ -1,21 +1,21 @@
 //! Jobs, and the changes that fix them.
 
 ghost use Rattle.std.specs.Prelude.{List, IfOk, IsTrue};
-ghost use Rattle.table_changes.specs.Changed.{rows_of};
-ghost use Rattle.depot_model.specs.Commands.{own_step};
-ghost use Rattle.depot_model.specs.Deeds.{Deed};
-ghost use Rattle.depot_model.specs.Rules.{IsSound};
+ghost use Rattle.depot_rows.specs.table_changes.Changed.{rows_of};
+ghost use Rattle.depot_rows.specs.depot_model.Commands.{own_step};
+ghost use Rattle.depot_rows.specs.depot_model.Deeds.{Deed};
+ghost use Rattle.depot_rows.specs.depot_model.Rules.{IsSound};
 ghost use Rattle.depot_runs.specs.Built.{is_job};
 ghost use Rattle.reply_rows.specs.Made.{IsMade};
 ghost use Rattle.command_core.specs.Outcomes.{HasTouched, IsFormed};
 
 use crate::input::input_of;
 use crate::unbuilt::unbuilt;
-use depot_model::{Command, Request};
+use depot_rows::model::{Command, Request};
+use depot_rows::tables::Tables;
 use job_ops::{fix, fix_delete, fix_list, job_list, job_save, job_show};
 use reply_rows::Step;
 use std::alloc::{AllocError, Global};
-use table_store::Tables;
 
 /// What a command of jobs and fixes does where no refusal holds that is common to all.
 pub(crate) fn job_step(

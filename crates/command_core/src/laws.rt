@@ -1,12 +1,12 @@
 //! Laws of requests over depots.
 
 ghost use Rattle.std.specs.Prelude.{◌≡◌, List, IsTrue};
-ghost use Rattle.depot_model.specs.declared.request.Request.{Request};
+ghost use Rattle.depot_rows.specs.depot_model.declared.request.Request.{Request};
 ghost use Rattle.depot_runs.specs.Today.{step};
-ghost use Rattle.depot_model.specs.Deeds.{Deed};
-ghost use Rattle.depot_model.specs.Records.{SameRows};
-ghost use Rattle.depot_model.specs.Rules.{IsSound};
-ghost use Rattle.depot_model.specs.Step.{after};
+ghost use Rattle.depot_rows.specs.depot_model.Deeds.{Deed};
+ghost use Rattle.depot_rows.specs.depot_model.Records.{SameRows};
+ghost use Rattle.depot_rows.specs.depot_model.Rules.{IsSound};
+ghost use Rattle.depot_rows.specs.depot_model.Step.{after};
 ghost use Rattle.depot_rows.specs.declared.deed.Deed.{Deed as Done};
 ghost use Rattle.depot_rows.specs.Effects.{Follow};
 ghost use Rattle.depots_alike.specs.Contents.{SameContents};

@@ -1,8 +1,8 @@
 //! The outcome of a request.
 
-use db_records::{Change, Spot};
-use depot_model::Reply;
-use depot_path::{Sequence, Text};
+use depot_rows::model::Reply;
+use depot_rows::paths::{Sequence, Text};
+use depot_rows::records::{Change, Spot};
 
 /// What a request is answered, and what it changes.
 #[derive(Drop)]

@@ -3,27 +3,28 @@
 ghost use Rattle.std.specs.Prelude.{◌≡◌, ◌||◌, ◌&&◌, ◌++◌, ◌∷◌, [], not, List, flat_map, IfOk, option_map};
 ghost use Rattle.std.specs.List.{list_any};
 ghost use Rattle.std.specs.Option.{option_copied, option_to_list};
-ghost use Rattle.db_records.specs.declared.table.TableId.TheVariants as table_ids;
-ghost use Rattle.table_changes.specs.Changed.{rows_of};
-ghost use Rattle.depot_model.specs.declared.command.FileArgument.{FileArgument as AnyFile};
-ghost use Rattle.depot_model.specs.About.{about};
-ghost use Rattle.depot_model.specs.Arguments.{in_client_syntax as in_syntax};
-ghost use Rattle.depot_model.specs.Asking.{is_client as client_saved, is_label as label_saved};
-ghost use Rattle.depot_model.specs.Common.{asks_client as client_asked, asks_have as have_asked, common_refusals, first_unknown as first_unknown_in, last_refusals, unknown_name as unknown_in, word_refusal};
-ghost use Rattle.depot_model.specs.Deeds.{Deed};
-ghost use Rattle.depot_model.specs.Fixes.{is_fixing as is_fixing_in};
-ghost use Rattle.depot_model.specs.Refusals.{refusal_row};
-ghost use Rattle.depot_model.specs.Rules.{IsSound};
-ghost use Rattle.depot_model.specs.Shelves.{is_shelved as is_shelved_in};
-ghost use Rattle.depot_model.specs.Step.{refuse_if};
-ghost use Rattle.depot_model.specs.declared.refusal.Refusal.TheVariants as refusals;
+ghost use Rattle.depot_rows.specs.db_records.declared.table.TableId.TheVariants as table_ids;
+ghost use Rattle.depot_rows.specs.table_changes.Changed.{rows_of};
+ghost use Rattle.depot_rows.specs.depot_model.declared.command.FileArgument.{FileArgument as AnyFile};
+ghost use Rattle.depot_rows.specs.depot_model.About.{about};
+ghost use Rattle.depot_rows.specs.depot_model.Arguments.{in_client_syntax as in_syntax};
+ghost use Rattle.depot_rows.specs.depot_model.Asking.{is_client as client_saved, is_label as label_saved};
+ghost use Rattle.depot_rows.specs.depot_model.Common.{asks_client as client_asked, asks_have as have_asked, common_refusals, first_unknown as first_unknown_in, last_refusals, unknown_name as unknown_in, word_refusal};
+ghost use Rattle.depot_rows.specs.depot_model.Deeds.{Deed};
+ghost use Rattle.depot_rows.specs.depot_model.Fixes.{is_fixing as is_fixing_in};
+ghost use Rattle.depot_rows.specs.depot_model.Refusals.{refusal_row};
+ghost use Rattle.depot_rows.specs.depot_model.Rules.{IsSound};
+ghost use Rattle.depot_rows.specs.depot_model.Shelves.{is_shelved as is_shelved_in};
+ghost use Rattle.depot_rows.specs.depot_model.Step.{refuse_if};
+ghost use Rattle.depot_rows.specs.depot_model.declared.refusal.Refusal.TheVariants as refusals;
 ghost use Rattle.depot_rows.specs.Standing.{HasRows};
 ghost use Rattle.command_core.specs.Refusing.{first_of};
 
 use crate::about::{files_of, need_of, needs_client, patterns_of};
 use crate::rights::may_anywhere;
-use depot_model::{Caller, Command, FileArgument, PatternArgument, Row, WordFault};
-use depot_path::{Name, RevSpec, Wanted};
+use depot_rows::model::{Caller, Command, FileArgument, PatternArgument, Row, WordFault};
+use depot_rows::paths::{Name, RevSpec, Wanted};
+use depot_rows::tables::Tables;
 use held_changes::{is_fixing, is_shelved};
 use reply_rows::{
     bad_path_row, bad_revision_row, denied_anywhere_row, fixed_row, no_client_row,
@@ -31,7 +32,6 @@ use reply_rows::{
 };
 use row_reads::{in_client_syntax, is_client, is_label};
 use std::alloc::{AllocError, Global};
-use table_store::Tables;
 
 /// The row of words that are no command.
 pub(crate) fn word_row(alloc: Global, fault: &WordFault) -> Result<Row, AllocError>

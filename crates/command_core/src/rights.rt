@@ -1,18 +1,18 @@
 //! Rights.
 
 ghost use Rattle.std.specs.Prelude.{◌≡◌, List, IfOk};
-ghost use Rattle.db_records.specs.declared.table.TableId.TheVariants as table_ids;
-ghost use Rattle.table_changes.specs.Changed.{rows_of};
-ghost use Rattle.depot_model.specs.Asking.{may_anywhere as may_in};
-ghost use Rattle.depot_model.specs.Deeds.{Deed};
-ghost use Rattle.depot_model.specs.Rules.{IsSound};
+ghost use Rattle.depot_rows.specs.db_records.declared.table.TableId.TheVariants as table_ids;
+ghost use Rattle.depot_rows.specs.table_changes.Changed.{rows_of};
+ghost use Rattle.depot_rows.specs.depot_model.Asking.{may_anywhere as may_in};
+ghost use Rattle.depot_rows.specs.depot_model.Deeds.{Deed};
+ghost use Rattle.depot_rows.specs.depot_model.Rules.{IsSound};
 ghost use Rattle.depot_rows.specs.Standing.{HasRows};
 
-use depot_model::Caller;
-use protect_table::Level;
+use depot_rows::model::Caller;
+use depot_rows::protections::Level;
+use depot_rows::tables::Tables;
 use row_reads::{protects_of, who_of};
 use std::alloc::{AllocError, Global};
-use table_store::Tables;
 
 /// Whether a caller has a right somewhere, from the tables of groups and protections alone.
 pub(crate) fn may_anywhere(

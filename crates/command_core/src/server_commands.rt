@@ -1,20 +1,20 @@
 //! The server itself: checkpoints, and what only a replica asks.
 
 ghost use Rattle.std.specs.Prelude.{List, IfOk, IsTrue};
-ghost use Rattle.table_changes.specs.Changed.{rows_of};
-ghost use Rattle.depot_model.specs.Commands.{own_step};
-ghost use Rattle.depot_model.specs.Deeds.{Deed};
-ghost use Rattle.depot_model.specs.Rules.{IsSound};
+ghost use Rattle.depot_rows.specs.table_changes.Changed.{rows_of};
+ghost use Rattle.depot_rows.specs.depot_model.Commands.{own_step};
+ghost use Rattle.depot_rows.specs.depot_model.Deeds.{Deed};
+ghost use Rattle.depot_rows.specs.depot_model.Rules.{IsSound};
 ghost use Rattle.depot_runs.specs.Built.{is_server};
 ghost use Rattle.reply_rows.specs.Made.{IsMade};
 ghost use Rattle.command_core.specs.Outcomes.{HasTouched, IsFormed};
 
 use crate::unbuilt::unbuilt;
-use depot_model::{Command, Request};
+use depot_rows::model::{Command, Request};
+use depot_rows::tables::Tables;
 use reply_rows::{Step, usage_row};
 use spec_ops::checkpoint;
 use std::alloc::{AllocError, Global};
-use table_store::Tables;
 
 /// What a command of the server itself does where no refusal holds that is common to all. A session can't pull: only a replica does.
 pub(crate) fn server_step(

@@ -1,25 +1,25 @@
 //! Counters, clients, labels, groups and protections.
 
 ghost use Rattle.std.specs.Prelude.{List, IfOk, IsTrue, ◌≡◌, unwrap_or};
-ghost use Rattle.table_changes.specs.Changed.{rows_of};
-ghost use Rattle.depot_model.specs.Commands.{own_step};
-ghost use Rattle.depot_model.specs.Deeds.{Deed};
-ghost use Rattle.depot_model.specs.Rules.{IsSound};
+ghost use Rattle.depot_rows.specs.table_changes.Changed.{rows_of};
+ghost use Rattle.depot_rows.specs.depot_model.Commands.{own_step};
+ghost use Rattle.depot_rows.specs.depot_model.Deeds.{Deed};
+ghost use Rattle.depot_rows.specs.depot_model.Rules.{IsSound};
 ghost use Rattle.depot_runs.specs.Built.{is_spec};
 ghost use Rattle.reply_rows.specs.Made.{IsMade};
 ghost use Rattle.command_core.specs.Outcomes.{HasTouched, IsFormed};
 
 use crate::input::input_of;
 use crate::unbuilt::unbuilt;
-use depot_model::{Command, Request};
-use depot_path::Name;
+use depot_rows::model::{Command, Request};
+use depot_rows::paths::Name;
+use depot_rows::tables::Tables;
 use reply_rows::Step;
 use spec_ops::{
     client_save, client_show, counter_delete, counter_list, counter_set, counter_show, group_save,
     group_show, label_list, label_save, label_show, protect_save, protect_show,
 };
 use std::alloc::{AllocError, Global};
-use table_store::Tables;
 
 /// The name that is given, or else the caller's client.
 fn client_of<'a>(request: &'a Request, name: &'a Option<Name>) -> &'a Name

@@ -1,22 +1,22 @@
 //! Submits.
 
 ghost use Rattle.std.specs.Prelude.{◌≡◌, List, None, IfOk, IsTrue};
-ghost use Rattle.table_changes.specs.Changed.{rows_of};
-ghost use Rattle.depot_model.specs.Commands.{own_step};
-ghost use Rattle.depot_model.specs.Common.{last_refusals};
-ghost use Rattle.depot_model.specs.Deeds.{Deed};
-ghost use Rattle.depot_model.specs.Rules.{IsSound};
+ghost use Rattle.depot_rows.specs.table_changes.Changed.{rows_of};
+ghost use Rattle.depot_rows.specs.depot_model.Commands.{own_step};
+ghost use Rattle.depot_rows.specs.depot_model.Common.{last_refusals};
+ghost use Rattle.depot_rows.specs.depot_model.Deeds.{Deed};
+ghost use Rattle.depot_rows.specs.depot_model.Rules.{IsSound};
 ghost use Rattle.depot_runs.specs.Built.{is_submit};
 ghost use Rattle.step_stores.specs.Stored.{IsStoring};
 ghost use Rattle.command_core.specs.Outcomes.{HasTouched};
 ghost use Rattle.command_core.specs.Refusing.{first_of};
 
 use crate::unbuilt::unbuilt;
-use depot_model::{Command, Request};
+use depot_rows::model::{Command, Request};
+use depot_rows::tables::Tables;
 use reply_rows::Step;
 use std::alloc::{AllocError, Global};
 use submit_core::{submit_change, submit_default};
-use table_store::Tables;
 
 /// What a submit does where no refusal holds before it: it stores the contents of its files behind those of the archive.
 pub(crate) fn submit_step(

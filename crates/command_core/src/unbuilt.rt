@@ -1,12 +1,12 @@
 //! Commands that aren't built.
 
 ghost use Rattle.std.specs.Prelude.{◌≡◌, [], ◌∷◌, IfOk};
-ghost use Rattle.depot_model.specs.About.{about};
-ghost use Rattle.depot_model.specs.Refusals.{refusal_row};
-ghost use Rattle.depot_model.specs.declared.refusal.Refusal.TheVariants as refusals;
+ghost use Rattle.depot_rows.specs.depot_model.About.{about};
+ghost use Rattle.depot_rows.specs.depot_model.Refusals.{refusal_row};
+ghost use Rattle.depot_rows.specs.depot_model.declared.refusal.Refusal.TheVariants as refusals;
 ghost use Rattle.reply_rows.specs.Made.{told};
 
-use depot_model::Command;
+use depot_rows::model::Command;
 use reply_rows::{Step, unbuilt_row};
 use std::alloc::{AllocError, Global};
 

@@ -2,21 +2,21 @@
 
 ghost use Rattle.std.specs.Prelude.{◌≡◌, ◌&&◌, List, IfOk, option_map};
 ghost use Rattle.std.specs.Option.{option_copied};
-ghost use Rattle.depot_path.specs.Bytes.{same};
-ghost use Rattle.db_records.specs.declared.table.TableId.TheVariants as table_ids;
-ghost use Rattle.table_changes.specs.Changed.{rows_of};
-ghost use Rattle.depot_model.specs.Deeds.{Deed};
-ghost use Rattle.depot_model.specs.Refusals.{refusal_row};
-ghost use Rattle.depot_model.specs.Steps.Opening as model;
+ghost use Rattle.depot_rows.specs.depot_path.Bytes.{same};
+ghost use Rattle.depot_rows.specs.db_records.declared.table.TableId.TheVariants as table_ids;
+ghost use Rattle.depot_rows.specs.table_changes.Changed.{rows_of};
+ghost use Rattle.depot_rows.specs.depot_model.Deeds.{Deed};
+ghost use Rattle.depot_rows.specs.depot_model.Refusals.{refusal_row};
+ghost use Rattle.depot_rows.specs.depot_model.Steps.Opening as model;
 ghost use Rattle.depot_rows.specs.Standing.{HasRows};
 ghost use Rattle.command_parts.specs.Changes.{change_told};
 
-use db_records::{ChangeRecord, Record};
-use depot_model::{Caller, Row};
+use depot_rows::model::{Caller, Row};
+use depot_rows::records::{ChangeRecord, Record};
+use depot_rows::tables::Tables;
 use reply_rows::{no_such_change_row, not_yours_row};
 use revision_reads::change_of;
 use std::alloc::{AllocError, Global};
-use table_store::Tables;
 
 /// Whether a row is of a change of the caller's user and client. It takes no memory.
 pub fn is_own(caller: &Caller, row: &ChangeRecord) -> bool

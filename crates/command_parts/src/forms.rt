@@ -1,15 +1,15 @@
 //! Forms that commands read, and names in them.
 
 ghost use Rattle.std.specs.Prelude.{◌≡◌, ◌≢◌, ◌∷◌, [], true, IfOk};
-ghost use Rattle.depot_path.specs.Name.{is_name as name_test};
-ghost use Rattle.spec_form.specs.declared.fault.FormFaultKind.TheVariants.{Memory};
-ghost use Rattle.depot_model.specs.Refusals.{refusal_row};
-ghost use Rattle.depot_model.specs.declared.refusal.Refusal.TheVariants.{BadForm};
+ghost use Rattle.depot_rows.specs.depot_path.Name.{is_name as name_test};
+ghost use Rattle.depot_rows.specs.spec_form.declared.fault.FormFaultKind.TheVariants.{Memory};
+ghost use Rattle.depot_rows.specs.depot_model.Refusals.{refusal_row};
+ghost use Rattle.depot_rows.specs.depot_model.declared.refusal.Refusal.TheVariants.{BadForm};
 ghost use Rattle.reply_rows.specs.Made.{told};
 
-use depot_path::Name;
+use depot_rows::forms::{FormFault, FormFaultKind};
+use depot_rows::paths::Name;
 use reply_rows::{Step, bad_form_row};
-use spec_form::{FormFault, FormFaultKind};
 use std::alloc::{AllocError, Global};
 
 /// The step of a form that can't be read.

@@ -10,7 +10,7 @@ use Rattle.depot_path.specs.declared.file_spec.FileSpec.{FileSpec}
 use Rattle.depot_path.specs.declared.piece.Piece.{Piece}
 use Rattle.depot_path.specs.declared.revision.Wanted.{Wanted}
 use Rattle.depot_path.specs.declared.revision.Wanted.TheVariants.{Head, One, Range}
-use Rattle.view_map.specs.Specifiers.{same_specifiers}
+use Rattle.depot_model.specs.view_map.Specifiers.{same_specifiers}
 use Rattle.depot_model.specs.Types.{is_type, printed_type, is_printed_type}
 use Rattle.depot_model.specs.WellFormed as formed
 use Rattle.depot_model.specs.declared.command.FileArgument.{FileArgument}

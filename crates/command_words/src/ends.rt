@@ -7,10 +7,10 @@ ghost use Rattle.command_words.specs.Arguments as spec;
 
 use crate::arguments::{Takes, file, no_word};
 use crate::values::{bad_usage, text};
+use depot_model::views::same_specifiers;
 use depot_model::{FileArgument, PatternArgument, WordFault};
 use depot_path::{PathFault, Pattern, Text};
 use std::alloc::Global;
-use view_map::same_specifiers;
 
 /// Where files come from, and where they go.
 #[derive(Drop)]

@@ -1,13 +1,13 @@
 //! The law of two depots that stand in one archive.
 
 ghost use Rattle.std.specs.Prelude.{List, ℕ};
-ghost use Rattle.depot_model.specs.Deeds.{Deed};
-ghost use Rattle.depot_model.specs.Records.{SameRows};
-ghost use Rattle.depot_model.specs.Rules.{IsSound};
+ghost use Rattle.depot_rows.specs.depot_model.Deeds.{Deed};
+ghost use Rattle.depot_rows.specs.depot_model.Records.{SameRows};
+ghost use Rattle.depot_rows.specs.depot_model.Rules.{IsSound};
 ghost use Rattle.depot_rows.specs.Standing.{Stand};
 ghost use Rattle.depots_alike.specs.Contents.{SameContents};
 ghost use Rattle.recovery.specs.Standing.{HasContents};
-ghost use Rattle.table_changes.specs.Changed.{AllRows};
+ghost use Rattle.depot_rows.specs.table_changes.Changed.{AllRows};
 
 /// Two depots for which the same rows stand have the same rows; and where one archive's file has the contents of both at the spots of the same rows,
 /// sound depots with the same rows have the same contents.

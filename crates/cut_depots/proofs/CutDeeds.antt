@@ -4,17 +4,17 @@ use Rattle.std.specs.Prelude.{Contains, IfSome, filter, flat_map, is_none, is_ok
 use Rattle.std.specs.List.{list_all}
 use Rattle.std.specs.Option.{option_flatten}
 use Rattle.std.proofs.lemmas.List.Folds.{list_all-append}
-use Rattle.protect_table.specs.Line.{table_of as protects_of}
-use Rattle.depot_path.specs.Path.{is_path}
-use Rattle.spec_form.specs.Form.{FormValue}
-use Rattle.depot_model.specs.declared.filter.FilterRule.{FilterRule}
-use Rattle.depot_model.specs.Cut.{cut, cut_landing, cut_entry, cut_opening}
-use Rattle.depot_model.specs.Deeds.{Deed, Pend, Open, Land, Landing, Entry, Credit, Opening, Source, Pending, SpecKind, ClientForm, LabelForm, ShelfForm, JobForm, FixForm}
-use Rattle.depot_model.specs.Filter.{is_inside}
-use Rattle.depot_model.specs.Latest.{guard_lines, spec, when}
-use Rattle.depot_model.specs.Numbers.{landings, landing}
-use Rattle.depot_model.specs.Records.{landed_record}
-use Rattle.depot_model.specs.Rules.{LandAlike, NotBoth, IsSpelled, stay_landed, has_paths, entry_paths, opening_paths, path_or_none, has_its_content, have_their_contents}
+use Rattle.depot_rows.specs.protect_table.Line.{table_of as protects_of}
+use Rattle.depot_rows.specs.depot_path.Path.{is_path}
+use Rattle.depot_rows.specs.spec_form.Form.{FormValue}
+use Rattle.depot_rows.specs.depot_model.declared.filter.FilterRule.{FilterRule}
+use Rattle.depot_rows.specs.depot_model.Cut.{cut, cut_landing, cut_entry, cut_opening}
+use Rattle.depot_rows.specs.depot_model.Deeds.{Deed, Pend, Open, Land, Landing, Entry, Credit, Opening, Source, Pending, SpecKind, ClientForm, LabelForm, ShelfForm, JobForm, FixForm}
+use Rattle.depot_rows.specs.depot_model.Filter.{is_inside}
+use Rattle.depot_rows.specs.depot_model.Latest.{guard_lines, spec, when}
+use Rattle.depot_rows.specs.depot_model.Numbers.{landings, landing}
+use Rattle.depot_rows.specs.depot_model.Records.{landed_record}
+use Rattle.depot_rows.specs.depot_model.Rules.{LandAlike, NotBoth, IsSpelled, stay_landed, has_paths, entry_paths, opening_paths, path_or_none, has_its_content, have_their_contents}
 use Rattle.depot_rows.proofs.Cutting.{cut_more, cut_silent, left, pending_cut, landing_cut, guard_cut, spec_cut, shelf_cut, kept_entries}
 use Rattle.depot_rows.proofs.Keys.{left-true, right-true}
 use Rattle.sound_deeds.proofs.Unmoved.{and_true}

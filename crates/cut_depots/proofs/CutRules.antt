@@ -3,22 +3,22 @@ use Rattle.std.proofs.Common.{◌≡◌, ◌≤◌, ◌<◌, ◌⊎◌, ℕ, suc
 use Rattle.std.specs.Prelude.{◌&&◌, not, codes, nat_le, IfSome, IsSome, IsSomeAnd, is_some, option_map}
 use Rattle.std.specs.List.{list_all}
 use Rattle.std.proofs.lemmas.Bool.{true≢false}
-use Rattle.depot_path.specs.Bytes.{same}
-use Rattle.db_records.specs.Record.{key_of}
-use Rattle.db_records.specs.declared.key.Key.{Key}
-use Rattle.db_records.specs.declared.key.Key.TheVariants as keys
-use Rattle.db_records.specs.declared.record.Record.{Record}
-use Rattle.db_records.specs.declared.record.Record.TheVariants as records
-use Rattle.db_records.specs.declared.rows.IntegedRecord.{IntegedRecord}
-use Rattle.db_records.specs.declared.rows.WorkingRecord.{WorkingRecord}
-use Rattle.spec_form.specs.declared.shape.Shape.TheVariants.{Fix as FixShape}
-use Rattle.depot_model.specs.Deeds.{How}
-use Rattle.depot_model.specs.Numerals.{is_numeral}
-use Rattle.depot_model.specs.Fixes.{fix_name}
-use Rattle.depot_model.specs.Records.{into_word}
-use Rattle.depot_model.specs.Rows.{how_word}
-use Rattle.depot_model.specs.Rules.{Rows, KeepRules, IsRow, IsForm, IsFix, IsBase, IsSource, IsCredit, IsCredited, IsPaired, IsSubmitted, IsPendingOf, IsOpenIn, IsMadeIn, HasRev, HasRevs, top_in, number_in, value_in, value_of, change_of, lock_of, is_on_fix, has_fix}
-use Rattle.depot_model.specs.declared.filter.FilterRule.{FilterRule}
+use Rattle.depot_rows.specs.depot_path.Bytes.{same}
+use Rattle.depot_rows.specs.db_records.Record.{key_of}
+use Rattle.depot_rows.specs.db_records.declared.key.Key.{Key}
+use Rattle.depot_rows.specs.db_records.declared.key.Key.TheVariants as keys
+use Rattle.depot_rows.specs.db_records.declared.record.Record.{Record}
+use Rattle.depot_rows.specs.db_records.declared.record.Record.TheVariants as records
+use Rattle.depot_rows.specs.db_records.declared.rows.IntegedRecord.{IntegedRecord}
+use Rattle.depot_rows.specs.db_records.declared.rows.WorkingRecord.{WorkingRecord}
+use Rattle.depot_rows.specs.spec_form.declared.shape.Shape.TheVariants.{Fix as FixShape}
+use Rattle.depot_rows.specs.depot_model.Deeds.{How}
+use Rattle.depot_rows.specs.depot_model.Numerals.{is_numeral}
+use Rattle.depot_rows.specs.depot_model.Fixes.{fix_name}
+use Rattle.depot_rows.specs.depot_model.Records.{into_word}
+use Rattle.depot_rows.specs.depot_model.Rows.{how_word}
+use Rattle.depot_rows.specs.depot_model.Rules.{Rows, KeepRules, IsRow, IsForm, IsFix, IsBase, IsSource, IsCredit, IsCredited, IsPaired, IsSubmitted, IsPendingOf, IsOpenIn, IsMadeIn, HasRev, HasRevs, top_in, number_in, value_in, value_of, change_of, lock_of, is_on_fix, has_fix}
+use Rattle.depot_rows.specs.depot_model.declared.filter.FilterRule.{FilterRule}
 use Rattle.depot_rows.specs.Cut.{is_text_inside, is_left, cut_row, cut_rows}
 use Rattle.depot_rows.proofs.Keys.{left-true, right-true}
 use Rattle.sound_deeds.proofs.Unmoved.{and_true}

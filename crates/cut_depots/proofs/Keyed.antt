@@ -3,24 +3,24 @@ use Rattle.std.proofs.Common.{◌≡◌, ℕ, zero, suc, Bool, true, false, cond
 use Rattle.std.specs.Prelude.{◌==◌, IfSome, if◌then◌else◌, option_map, option_and_then, filter, find, slice_get}
 use Rattle.std.specs.List.{list_any}
 use Rattle.std.specs.Option.{option_or, option_flatten}
-use Rattle.depot_path.specs.Bytes.{same}
-use Rattle.depot_path.specs.Path.{printed}
-use Rattle.protect_table.specs.Words.{words_of}
-use Rattle.db_records.specs.Record.{key_of}
-use Rattle.db_records.specs.declared.key.Key.{Key}
-use Rattle.db_records.specs.declared.key.Key.TheVariants as keys
-use Rattle.db_records.specs.declared.record.Record.{Record}
-use Rattle.db_records.specs.declared.record.Record.TheVariants as records
-use Rattle.db_records.specs.declared.rows.IntegedRecord.{IntegedRecord}
-use Rattle.depot_model.specs.Deeds.{Deed, Pend, Drop, Land, SpecKind, Pending, Landing, Entry}
-use Rattle.depot_model.specs.Latest.{latest, when, users, have, labelled, guard_lines}
-use Rattle.depot_model.specs.Numbers.{pending, pending_said, landing, landings}
-use Rattle.depot_model.specs.Opened.{opened, owed, Resolve}
-use Rattle.depot_model.specs.Records.{record_of, kind_of, form_text, numbered_record, protect_record, integrations, is_at, resolve_record, working_record, rev_record}
-use Rattle.depot_model.specs.Revisions.{Revision, revision, revisions, entries_at}
-use Rattle.depot_model.specs.Steps.Counters.{counter_of}
+use Rattle.depot_rows.specs.depot_path.Bytes.{same}
+use Rattle.depot_rows.specs.depot_path.Path.{printed}
+use Rattle.depot_rows.specs.protect_table.Words.{words_of}
+use Rattle.depot_rows.specs.db_records.Record.{key_of}
+use Rattle.depot_rows.specs.db_records.declared.key.Key.{Key}
+use Rattle.depot_rows.specs.db_records.declared.key.Key.TheVariants as keys
+use Rattle.depot_rows.specs.db_records.declared.record.Record.{Record}
+use Rattle.depot_rows.specs.db_records.declared.record.Record.TheVariants as records
+use Rattle.depot_rows.specs.db_records.declared.rows.IntegedRecord.{IntegedRecord}
+use Rattle.depot_rows.specs.depot_model.Deeds.{Deed, Pend, Drop, Land, SpecKind, Pending, Landing, Entry}
+use Rattle.depot_rows.specs.depot_model.Latest.{latest, when, users, have, labelled, guard_lines}
+use Rattle.depot_rows.specs.depot_model.Numbers.{pending, pending_said, landing, landings}
+use Rattle.depot_rows.specs.depot_model.Opened.{opened, owed, Resolve}
+use Rattle.depot_rows.specs.depot_model.Records.{record_of, kind_of, form_text, numbered_record, protect_record, integrations, is_at, resolve_record, working_record, rev_record}
+use Rattle.depot_rows.specs.depot_model.Revisions.{Revision, revision, revisions, entries_at}
+use Rattle.depot_rows.specs.depot_model.Steps.Counters.{counter_of}
 use Rattle.depot_rows.specs.Effects.{counter_row, group_row, form_row, have_row, label_row}
-use Rattle.depot_rows.proofs.Changes.{change_of}
+use Rattle.depot_rows.proofs.ChangeCounter.{change_of}
 use Rattle.depot_rows.proofs.Keys.{at-is, number-is, same-is}
 use Rattle.depot_rows.proofs.Lists.{found_passes}
 use Rattle.depot_rows.proofs.Locks.{IsOf, opened-is}

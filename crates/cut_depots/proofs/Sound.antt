@@ -1,10 +1,10 @@
 -- A depot that is cut to a filter is sound.
 use Rattle.std.proofs.Common.{List}
-use Rattle.depot_model.specs.declared.filter.FilterRule.{FilterRule}
-use Rattle.depot_model.specs.Cut.{cut}
-use Rattle.depot_model.specs.Deeds.{Deed}
-use Rattle.depot_model.specs.Records.{record_of}
-use Rattle.depot_model.specs.Rules.{IsSound}
+use Rattle.depot_rows.specs.depot_model.declared.filter.FilterRule.{FilterRule}
+use Rattle.depot_rows.specs.depot_model.Cut.{cut}
+use Rattle.depot_rows.specs.depot_model.Deeds.{Deed}
+use Rattle.depot_rows.specs.depot_model.Records.{record_of}
+use Rattle.depot_rows.specs.depot_model.Rules.{IsSound}
 use Rattle.depot_rows.proofs.CutRows.{rows_cut}
 use Rattle.cut_depots.proofs.CutDeeds.{alike_cut, both_cut, stay_cut, lines_cut, forms_cut, paths_cut, contents_cut}
 use Rattle.cut_depots.proofs.CutRules.{rules_cut}

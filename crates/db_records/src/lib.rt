@@ -19,3 +19,6 @@ pub use rows::{
     ProtectRecord, ResolveRecord, RevRecord, WorkingRecord,
 };
 pub use table::TableId;
+
+// What stands below, for the crates above.
+pub use depot_path as paths;

@@ -4,9 +4,9 @@
 
 ghost use Rattle.std.specs.Prelude.{◌≡◌, ◌++◌, ◌∷◌, [], OnOk, OnErr};
 
-use depot_path::{DepotPath, Name, Sequence, Text};
+use depot_rows::forms::Form;
+use depot_rows::paths::{DepotPath, Name, Sequence, Text};
 use depot_rows::{Deed, Held, How, Landing, Opening, Owing, Pending, SpecKind};
-use spec_form::Form;
 use std::alloc::{AllocError, Global};
 use std::marker::Model;
 

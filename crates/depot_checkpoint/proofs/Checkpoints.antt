@@ -8,19 +8,19 @@ use Rattle.outside_api.specs.Disk.{Files}
 use Rattle.checkpoint_file.specs.Checkpoint.{IsCheckpointOf, puts_of}
 use Rattle.checkpoint_file.specs.Generations.{IsNext, IsOfDepot, StandsForEither, of_generation}
 use Rattle.checkpoint_file.proofs.Texts.{next_records}
-use Rattle.db_records.specs.Key.{key_table}
-use Rattle.db_records.specs.Record.{key_of, table_of}
-use Rattle.db_records.specs.Table.{table_number}
-use Rattle.db_records.specs.declared.change.Change.{Change}
-use Rattle.db_records.specs.declared.record.Record.{Record}
-use Rattle.db_records.specs.declared.record.Record.TheVariants.{Counter}
-use Rattle.db_records.specs.declared.table.TableId.TheVariants.{Rev}
-use Rattle.depot_model.specs.Deeds.{Count, Deed}
-use Rattle.depot_model.specs.Latest.{count_of}
-use Rattle.depot_model.specs.Records.{record_of, unplaced}
-use Rattle.depot_model.specs.Rules.{value_of}
-use Rattle.depot_model.specs.Step.{Step, after}
-use Rattle.depot_model.specs.Steps.Checkpoint.{generation}
+use Rattle.depot_rows.specs.db_records.Key.{key_table}
+use Rattle.depot_rows.specs.db_records.Record.{key_of, table_of}
+use Rattle.depot_rows.specs.db_records.Table.{table_number}
+use Rattle.depot_rows.specs.db_records.declared.change.Change.{Change}
+use Rattle.depot_rows.specs.db_records.declared.record.Record.{Record}
+use Rattle.depot_rows.specs.db_records.declared.record.Record.TheVariants.{Counter}
+use Rattle.depot_rows.specs.db_records.declared.table.TableId.TheVariants.{Rev}
+use Rattle.depot_rows.specs.depot_model.Deeds.{Count, Deed}
+use Rattle.depot_rows.specs.depot_model.Latest.{count_of}
+use Rattle.depot_rows.specs.depot_model.Records.{record_of, unplaced}
+use Rattle.depot_rows.specs.depot_model.Rules.{value_of}
+use Rattle.depot_rows.specs.depot_model.Step.{Step, after}
+use Rattle.depot_rows.specs.depot_model.Steps.Checkpoint.{generation}
 use Rattle.depot_rows.specs.Standing.{Stand, row_in}
 use Rattle.disk_journal.specs.Images.{Committed, HasCommitted}
 use Rattle.journal_groups.specs.Groups.{AreRecords}
@@ -31,8 +31,8 @@ use Rattle.row_texts.proofs.Changes.{changes_have_texts, own_change}
 use Rattle.row_texts.specs.Texts.{IsOf64Bits, is_counted}
 use Rattle.sound_form_steps.proofs.Changing.{checkpoint_sound}
 use Rattle.spec_ops.proofs.NextGeneration.{is_last, is_next}
-use Rattle.table_changes.specs.Changed.{AllRows, changed_by, changed_in}
-use Rattle.table_store.specs.Rows.{changed_once}
+use Rattle.depot_rows.specs.table_changes.Changed.{AllRows, changed_by, changed_in}
+use Rattle.depot_rows.specs.table_store.Rows.{changed_once}
 use Rattle.depot_checkpoint.specs.Taking.{StandsBeforeOrAfter, checkpointed, next_generation, told_generation}
 use Rattle.depot_checkpoint.specs.Values.{IsWide}
 

@@ -1,12 +1,12 @@
 -- A checkpoint that is taken with no rights asked (Command-Line Reference, "p4 admin"; Server Administrator Guide, "Backup and recovery").
 use Rattle.std.specs.Prelude.{◌⊎◌, ◌+◌, ℕ, List, Option, Some, None, codes, nat_le, if◌then◌else◌}
 use Rattle.outside_api.specs.Disk.{Files}
-use Rattle.db_records.specs.declared.key.Key.TheVariants as keys
-use Rattle.depot_model.specs.Deeds.{Deed}
-use Rattle.depot_model.specs.Records.{record_of}
-use Rattle.depot_model.specs.Rules.{value_of}
-use Rattle.depot_model.specs.Step.{after}
-use Rattle.depot_model.specs.Steps.Checkpoint.{checkpoint}
+use Rattle.depot_rows.specs.db_records.declared.key.Key.TheVariants as keys
+use Rattle.depot_rows.specs.depot_model.Deeds.{Deed}
+use Rattle.depot_rows.specs.depot_model.Records.{record_of}
+use Rattle.depot_rows.specs.depot_model.Rules.{value_of}
+use Rattle.depot_rows.specs.depot_model.Step.{after}
+use Rattle.depot_rows.specs.depot_model.Steps.Checkpoint.{checkpoint}
 use Rattle.recovery.specs.Standing.{StandFor}
 
 -- the generation that is begun behind this one; behind generation 4,095 there is none

@@ -1,7 +1,7 @@
 -- The values of counters (System Administrator Guide, "Journal files"; that they are of 64 bits is this project's own choice).
 use Rattle.std.specs.Prelude.{◌≤◌}
-use Rattle.db_records.specs.declared.record.Record.{Record}
-use Rattle.db_records.specs.declared.record.Record.TheVariants.{Counter}
+use Rattle.depot_rows.specs.db_records.declared.record.Record.{Record}
+use Rattle.depot_rows.specs.db_records.declared.record.Record.TheVariants.{Counter}
 use Rattle.record_text.specs.Grammar.{largest_wide}
 
 -- a text can say the value of the row, if it is that of a counter

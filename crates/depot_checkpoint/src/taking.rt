@@ -2,7 +2,7 @@
 
 ghost use Rattle.std.specs.Prelude.{◌≡◌, ◌<◌, ◌≤◌, List, None, IfOk, OnOk, Ok, Err};
 ghost use Rattle.checkpoint_file.specs.Generations.{IsNext, IsOfDepot};
-ghost use Rattle.depot_model.specs.Deeds.{Deed};
+ghost use Rattle.depot_rows.specs.depot_model.Deeds.{Deed};
 ghost use Rattle.depot_rows.specs.Standing.{Stand};
 ghost use Rattle.disk_journal.specs.Images.{Committed};
 ghost use Rattle.disk_journal.specs.Stands.{Stands, disk_of, generation_of_journal, nothing};
@@ -11,22 +11,22 @@ ghost use Rattle.outside_api.specs.Disk.{Files, LeavesOnly};
 ghost use Rattle.recovery.specs.Holding.{HasAllRows};
 ghost use Rattle.recovery.specs.Standing.{StandFor};
 ghost use Rattle.row_changes.specs.Differences.{AreDifferences};
-ghost use Rattle.table_changes.specs.Changed.{AllFitIn, rows_of};
+ghost use Rattle.depot_rows.specs.table_changes.Changed.{AllFitIn, rows_of};
 ghost use Rattle.depot_checkpoint.specs.Taking.{StandsBeforeOrAfter, checkpointed, next_generation, told_generation};
 ghost use Rattle.depot_checkpoint.specs.declared.fault.TakingFault.TheVariants as faults;
 
 use crate::fault::TakingFault;
 use crate::values::know_values;
 use checkpoint_file::{CheckpointFault, print_generation, write_generation};
-use db_records::Change;
-use depot_path::Text;
+use depot_rows::changes::change_tables;
+use depot_rows::paths::Text;
+use depot_rows::records::Change;
+use depot_rows::tables::Tables;
 use disk_journal::Journal;
 use outside_api::Disk;
 use row_changes::row_changes;
 use spec_ops::checkpoint;
 use std::alloc::{AllocError, Global};
-use table_changes::change_tables;
-use table_store::Tables;
 
 /// The generation behind which there is none.
 const LAST: u32 = 4095;

@@ -4,7 +4,7 @@ ghost use Rattle.std.specs.Prelude.{◌≤◌, All};
 ghost use Rattle.record_text.specs.Grammar.{largest_wide};
 ghost use Rattle.depot_checkpoint.specs.Values.{IsWide};
 
-use db_records::{Change, Record};
+use depot_rows::records::{Change, Record};
 
 /// A number is no greater than one that a text can say.
 fn know_number(number: u64)

@@ -3,15 +3,15 @@ use Rattle.std.proofs.Common.{◌≡◌, ◌≤◌, ◌<◌, ℕ, ◌+◌, min, 
 use Rattle.std.specs.Prelude.{is_some, IsSome, option_map}
 use Rattle.std.specs.List.{sum_by}
 use Rattle.std.specs.Option.{option_map_or}
-use Rattle.db_records.specs.declared.record.Record.{Record}
-use Rattle.db_records.specs.declared.record.Record.TheVariants.{Change, Rev}
-use Rattle.db_records.specs.declared.rows.ChangeRecord.{ChangeRecord}
-use Rattle.db_records.specs.declared.rows.RevRecord.{RevRecord}
-use Rattle.depot_model.specs.Deeds.{Deed, Landing, Pending}
-use Rattle.depot_model.specs.Numbers.{landing, pending}
-use Rattle.depot_model.specs.Records.{change_record, landed_record, pending_record, rev_record, unplaced}
-use Rattle.depot_model.specs.Revisions.{Revision}
-use Rattle.depot_model.specs.Rules.{NotBoth}
+use Rattle.depot_rows.specs.db_records.declared.record.Record.{Record}
+use Rattle.depot_rows.specs.db_records.declared.record.Record.TheVariants.{Change, Rev}
+use Rattle.depot_rows.specs.db_records.declared.rows.ChangeRecord.{ChangeRecord}
+use Rattle.depot_rows.specs.db_records.declared.rows.RevRecord.{RevRecord}
+use Rattle.depot_rows.specs.depot_model.Deeds.{Deed, Landing, Pending}
+use Rattle.depot_rows.specs.depot_model.Numbers.{landing, pending}
+use Rattle.depot_rows.specs.depot_model.Records.{change_record, landed_record, pending_record, rev_record, unplaced}
+use Rattle.depot_rows.specs.depot_model.Revisions.{Revision}
+use Rattle.depot_rows.specs.depot_model.Rules.{NotBoth}
 use Rattle.depot_figures.specs.Figures.{capped, is_landed, size_of, submitted_row}
 
 abbrev record_in : Option Landing → Option Pending → Option Record

@@ -2,12 +2,12 @@
 use Rattle.std.specs.Prelude.{ℕ, zero, suc, ◌+◌, min, Bool, false, List, count_by, length, Option, Some, None, is_some, codes, if◌then◌else◌}
 use Rattle.std.specs.List.{sum_by}
 use Rattle.std.specs.Option.{option_map_or}
-use Rattle.depot_path.specs.Bytes.{same}
-use Rattle.db_records.specs.declared.rows.ChangeRecord.{ChangeRecord}
-use Rattle.depot_model.specs.Arguments.{submitted}
-use Rattle.depot_model.specs.Deeds.{Deed}
-use Rattle.depot_model.specs.Numbers.{landing, top}
-use Rattle.depot_model.specs.Revisions.{Revision, revision, head, is_live_head}
+use Rattle.depot_rows.specs.depot_path.Bytes.{same}
+use Rattle.depot_rows.specs.db_records.declared.rows.ChangeRecord.{ChangeRecord}
+use Rattle.depot_rows.specs.depot_model.Arguments.{submitted}
+use Rattle.depot_rows.specs.depot_model.Deeds.{Deed}
+use Rattle.depot_rows.specs.depot_model.Numbers.{landing, top}
+use Rattle.depot_rows.specs.depot_model.Revisions.{Revision, revision, head, is_live_head}
 
 -- ---- changes
 

@@ -2,19 +2,19 @@
 
 ghost use Rattle.std.specs.Prelude.{◌≡◌, ◌≤◌, List, IfOk, codes, min, option_map};
 ghost use Rattle.std.specs.Option.{option_copied};
-ghost use Rattle.db_records.specs.declared.table.TableId.TheVariants as table_ids;
-ghost use Rattle.table_changes.specs.Changed.{rows_of};
-ghost use Rattle.depot_model.specs.Deeds.{Deed};
-ghost use Rattle.depot_model.specs.Numbers.{top};
-ghost use Rattle.depot_model.specs.Rules.{IsSound};
+ghost use Rattle.depot_rows.specs.db_records.declared.table.TableId.TheVariants as table_ids;
+ghost use Rattle.depot_rows.specs.table_changes.Changed.{rows_of};
+ghost use Rattle.depot_rows.specs.depot_model.Deeds.{Deed};
+ghost use Rattle.depot_rows.specs.depot_model.Numbers.{top};
+ghost use Rattle.depot_rows.specs.depot_model.Rules.{IsSound};
 ghost use Rattle.depot_rows.specs.Standing.{HasRows};
 ghost use Rattle.depot_figures.specs.Figures as spec;
 
-use db_records::ChangeRecord;
+use depot_rows::records::ChangeRecord;
+use depot_rows::tables::Tables;
 use revision_reads::change_of;
 use row_reads::top_change;
 use std::alloc::{AllocError, Global};
-use table_store::Tables;
 
 /// The greatest number of a change.
 const MOST_CHANGE: u64 = 2_147_483_647;

@@ -2,23 +2,23 @@
 
 ghost use Rattle.std.specs.Prelude.{◌≡◌, ◌+◌, ◌≤◌, List, IfOk, count_by, option_map};
 ghost use Rattle.std.specs.Option.{option_copied, option_map_or};
-ghost use Rattle.db_records.specs.declared.rows.RevRecord.{RevRecord as Revised};
-ghost use Rattle.db_records.specs.declared.table.TableId.TheVariants as table_ids;
-ghost use Rattle.table_changes.specs.Changed.{rows_of};
-ghost use Rattle.depot_model.specs.Arguments.{submitted};
-ghost use Rattle.depot_model.specs.Deeds.{Deed};
+ghost use Rattle.depot_rows.specs.db_records.declared.rows.RevRecord.{RevRecord as Revised};
+ghost use Rattle.depot_rows.specs.db_records.declared.table.TableId.TheVariants as table_ids;
+ghost use Rattle.depot_rows.specs.table_changes.Changed.{rows_of};
+ghost use Rattle.depot_rows.specs.depot_model.Arguments.{submitted};
+ghost use Rattle.depot_rows.specs.depot_model.Deeds.{Deed};
 ghost use Rattle.std.specs.List.{sum_by};
-ghost use Rattle.depot_model.specs.Revisions.{is_live_head as live_head};
-ghost use Rattle.depot_model.specs.Rules.{IsSound};
+ghost use Rattle.depot_rows.specs.depot_model.Revisions.{is_live_head as live_head};
+ghost use Rattle.depot_rows.specs.depot_model.Rules.{IsSound};
 ghost use Rattle.depot_rows.specs.Standing.{HasRows};
 ghost use Rattle.depot_figures.specs.Figures as spec;
 
-use db_records::RevRecord;
-use depot_path::DepotPath;
+use depot_rows::paths::DepotPath;
+use depot_rows::records::RevRecord;
+use depot_rows::tables::Tables;
 use named_files::{Listing, all_files};
 use revision_reads::{head_of, is_live_head, revision_of};
 use std::alloc::{AllocError, Global};
-use table_store::Tables;
 
 /// The figures of files.
 #[derive(Clone, Copy)]

@@ -1,9 +1,9 @@
 -- How the rules read so far go on by one.
 use Rattle.std.proofs.Common.{◌≡◌, inl, inr, ℕ, zero, suc, ◌+◌, ◌<◌, ◌≤◌, List, [], ◌∷◌, ◌++◌, length, drop, get_or, refl, sym, ap, ◌∙◌, append_assoc, arith, Result, Ok, Err}
 use Rattle.std.proofs.lemmas.List.{append-nil}
-use Rattle.depot_path.specs.Answers.{Answers, ◌>>=◌, on_ok}
-use Rattle.depot_path.specs.declared.fault.PathFault.{PathFault}
-use Rattle.depot_path.specs.declared.fault.PathFault.TheVariants.{Memory}
+use Rattle.db_records.specs.depot_path.Answers.{Answers, ◌>>=◌, on_ok}
+use Rattle.db_records.specs.depot_path.declared.fault.PathFault.{PathFault}
+use Rattle.db_records.specs.depot_path.declared.fault.PathFault.TheVariants.{Memory}
 use Rattle.depot_model.specs.declared.filter.FilterRule.{FilterRule}
 use Rattle.depot_model.specs.Filter.{rule_of, filter_of}
 

@@ -1,9 +1,9 @@
 -- Two sessions, each after a saved client, over a server that has every command.
 use Rattle.std.proofs.Common.{ℕ, List, [], ◌∷◌, Option, Some, None, Ok, Err, true, false}
 use Rattle.std.specs.Prelude.{codes}
-use Rattle.depot_path.specs.Pattern.{pattern_of}
-use Rattle.depot_path.specs.Revision.{file_spec_of}
-use Rattle.depot_path.specs.declared.revision.Wanted.TheVariants.{Head}
+use Rattle.db_records.specs.depot_path.Pattern.{pattern_of}
+use Rattle.db_records.specs.depot_path.Revision.{file_spec_of}
+use Rattle.db_records.specs.depot_path.declared.revision.Wanted.TheVariants.{Head}
 use Rattle.depot_model.specs.declared.request.Request.{Request}
 use Rattle.depot_model.specs.declared.request.Caller.{Caller}
 use Rattle.depot_model.specs.declared.request.Content.{Content}

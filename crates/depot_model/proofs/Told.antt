@@ -2,7 +2,7 @@
 use Rattle.std.proofs.Common.{◌≡◌, ℕ, ◌+◌, ◌≤◌, List, [], ◌∷◌, ◌++◌, length, Option, Some, None, false, refl, sym, ap, subst, ◌∙◌, Result, Ok, Err}
 use Rattle.std.specs.Prelude.{option_map, unwrap_or}
 use Rattle.std.proofs.lemmas.List.{append-nil}
-use Rattle.depot_path.specs.Answers.{◌>>=◌, on_ok, on_err}
+use Rattle.db_records.specs.depot_path.Answers.{◌>>=◌, on_ok, on_err}
 use Rattle.protect_table.specs.Line.{table_of, line_of, lines_from, in_line}
 use Rattle.protect_table.specs.Rights.{names, may, may_any}
 use Rattle.protect_table.specs.declared.fault.LineFault.{LineFault}

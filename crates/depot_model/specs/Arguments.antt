@@ -2,13 +2,13 @@
 -- the limit of 10,000 files, are this project's own choice.
 use Rattle.std.specs.Prelude.{ℕ, Bool, true, false, not, ◌&&◌, ◌==◌, nat_lt, List, [], ◌∷◌, ◌++◌, map, filter, codes, length, if◌then◌else◌, Option, Some, None, is_some}
 use Rattle.std.specs.List.{list_any}
-use Rattle.depot_path.specs.Bytes.{same}
+use Rattle.db_records.specs.depot_path.Bytes.{same}
 use Rattle.depot_model.specs.Sorted.{all_inserted}
-use Rattle.depot_path.specs.Fit.{fits}
-use Rattle.depot_path.specs.declared.piece.Piece.{Piece}
-use Rattle.depot_path.specs.declared.piece.Piece.TheVariants.{Byte, Dots}
-use Rattle.depot_path.specs.declared.file_spec.FileSpec.{FileSpec}
-use Rattle.depot_path.specs.declared.revision.Wanted.TheVariants.{Head}
+use Rattle.db_records.specs.depot_path.Fit.{fits}
+use Rattle.db_records.specs.depot_path.declared.piece.Piece.{Piece}
+use Rattle.db_records.specs.depot_path.declared.piece.Piece.TheVariants.{Byte, Dots}
+use Rattle.db_records.specs.depot_path.declared.file_spec.FileSpec.{FileSpec}
+use Rattle.db_records.specs.depot_path.declared.revision.Wanted.TheVariants.{Head}
 use Rattle.view_map.specs.Mapping.{path_in}
 use Rattle.depot_model.specs.declared.request.Caller.{Caller}
 use Rattle.depot_model.specs.declared.command.FileArgument.{FileArgument}

@@ -1,7 +1,7 @@
 -- Who asks, with which rights, and where the caller's client puts files (Command-Line Reference, "p4 protect", "p4 client").
 use Rattle.std.specs.Prelude.{ℕ, Bool, List, [], filter, codes, Some, None, Result, Ok, Err, is_some}
 use Rattle.std.specs.List.{list_any}
-use Rattle.depot_path.specs.Bytes.{same}
+use Rattle.db_records.specs.depot_path.Bytes.{same}
 use Rattle.spec_form.specs.Form.{lines_of}
 use Rattle.view_map.specs.declared.line.ViewLine.{ViewLine}
 use Rattle.view_map.specs.Reading.{view_of}

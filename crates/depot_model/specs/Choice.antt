@@ -2,10 +2,10 @@
 -- client's view shows it ("Views"). A number above the head, and a change that made no revision, pass the file over: this project's own choice.
 use Rattle.std.specs.Prelude.{ℕ, pos, int_le, Bool, false, ◌==◌, nat_le, List, if◌then◌else◌, Option, Some, None}
 use Rattle.std.specs.List.{list_any}
-use Rattle.depot_path.specs.declared.revision.RevSpec.{RevSpec}
-use Rattle.depot_path.specs.declared.revision.RevSpec.TheVariants.{Number, Newest, Have, Zero, Change, Only, Moment, Named}
-use Rattle.depot_path.specs.declared.revision.Wanted.{Wanted}
-use Rattle.depot_path.specs.declared.revision.Wanted.TheVariants.{Head, One, Range}
+use Rattle.db_records.specs.depot_path.declared.revision.RevSpec.{RevSpec}
+use Rattle.db_records.specs.depot_path.declared.revision.RevSpec.TheVariants.{Number, Newest, Have, Zero, Change, Only, Moment, Named}
+use Rattle.db_records.specs.depot_path.declared.revision.Wanted.{Wanted}
+use Rattle.db_records.specs.depot_path.declared.revision.Wanted.TheVariants.{Head, One, Range}
 use Rattle.view_map.specs.Mapping.{mapped}
 use Rattle.view_map.specs.declared.mapped.Mapped.TheVariants.{Nothing, At as MappedAt}
 use Rattle.depot_model.specs.declared.request.Caller.{Caller}

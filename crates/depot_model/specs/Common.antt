@@ -1,9 +1,9 @@
 -- The refusals that are common to all commands. Their order is this project's own choice.
 use Rattle.std.specs.Prelude.{ℕ, Bool, true, false, not, ◌&&◌, ◌||◌, List, [], ◌∷◌, flat_map, codes, if◌then◌else◌, Option, Some, None}
 use Rattle.std.specs.List.{list_any}
-use Rattle.depot_path.specs.declared.revision.RevSpec.TheVariants.{Have, Named}
-use Rattle.depot_path.specs.declared.revision.Wanted.{Wanted}
-use Rattle.depot_path.specs.declared.revision.Wanted.TheVariants.{One}
+use Rattle.db_records.specs.depot_path.declared.revision.RevSpec.TheVariants.{Have, Named}
+use Rattle.db_records.specs.depot_path.declared.revision.Wanted.{Wanted}
+use Rattle.db_records.specs.depot_path.declared.revision.Wanted.TheVariants.{One}
 use Rattle.depot_model.specs.declared.request.Caller.{Caller}
 use Rattle.depot_model.specs.declared.request.WordFault.{WordFault}
 use Rattle.depot_model.specs.declared.request.WordFault.TheVariants as words

@@ -1,12 +1,12 @@
 -- Which files a replica has: patterns with an optional `-`, of which the last that fits a file decides (Server Administrator Guide,
 -- "Filtering metadata during replication"; the form of the patterns is this project's own choice).
 use Rattle.std.specs.Prelude.{ℕ, Bool, false, not, List, [], ◌∷◌, drop, find, reverse, codes, if◌then◌else◌, Option, Some, None, Result, Ok}
-use Rattle.depot_path.specs.Answers.{◌>>=◌, on_ok}
-use Rattle.depot_path.specs.Bytes.{begins_with}
-use Rattle.depot_path.specs.Fit.{fits}
-use Rattle.depot_path.specs.Pattern.{pattern_of}
-use Rattle.depot_path.specs.declared.fault.PathFault.{PathFault}
-use Rattle.depot_path.specs.declared.piece.Piece.{Piece}
+use Rattle.db_records.specs.depot_path.Answers.{◌>>=◌, on_ok}
+use Rattle.db_records.specs.depot_path.Bytes.{begins_with}
+use Rattle.db_records.specs.depot_path.Fit.{fits}
+use Rattle.db_records.specs.depot_path.Pattern.{pattern_of}
+use Rattle.db_records.specs.depot_path.declared.fault.PathFault.{PathFault}
+use Rattle.db_records.specs.depot_path.declared.piece.Piece.{Piece}
 use Rattle.depot_model.specs.declared.filter.FilterRule.{FilterRule}
 
 abbrev pub has_dash : List ℕ → Bool

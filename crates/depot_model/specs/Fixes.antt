@@ -1,7 +1,7 @@
 -- Jobs, and the changes that fix them (Command-Line Reference, "p4 job", "p4 fix"). That a fix is a saved form is this project's own choice.
 use Rattle.std.specs.Prelude.{ℕ, ◌==◌, max, List, [], ◌∷◌, ◌++◌, length, nat_lt, map, filter, filter_map, fold, drop, codes, Option, Some, None, Bool, true, false, decimal}
-use Rattle.depot_path.specs.Bytes.{same}
-use Rattle.depot_path.specs.Digits.{number_of}
+use Rattle.db_records.specs.depot_path.Bytes.{same}
+use Rattle.db_records.specs.depot_path.Digits.{number_of}
 use Rattle.spec_form.specs.Form.{FormValue, with_field}
 use Rattle.spec_form.specs.declared.shape.Shape.TheVariants.{Fix}
 use Rattle.depot_model.specs.Values.{value_of, valued}

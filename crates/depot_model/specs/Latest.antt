@@ -2,7 +2,7 @@
 -- "p4 label", "p4 counter", "p4 client", "p4 group", "p4 protect").
 use Rattle.std.specs.Prelude.{ℕ, Bool, ◌&&◌, List, [], ◌∷◌, if◌then◌else◌, Option, Some, None, unwrap_or, codes}
 use Rattle.std.specs.Option.{option_or, option_flatten, option_map_or}
-use Rattle.depot_path.specs.Bytes.{same}
+use Rattle.db_records.specs.depot_path.Bytes.{same}
 use Rattle.depot_model.specs.Sorted.{inserted}
 use Rattle.spec_form.specs.Form.{FormValue}
 use Rattle.depot_model.specs.Deeds.{Deed, Spec, Guard, Group, Count, Got, Tag, Held, SpecKind, ClientForm, LabelForm, ShelfForm, JobForm, FixForm}

@@ -30,3 +30,9 @@ pub mod Cut
 pub mod Tables
 pub mod WellFormed
 pub mod Rules
+-- what stands below, for the crates above
+pub use Rattle.db_records.specs.depot_path as depot_path
+pub use Rattle.db_records.specs as db_records
+pub use Rattle.spec_form.specs as spec_form
+pub use Rattle.protect_table.specs as protect_table
+pub use Rattle.view_map.specs as view_map

@@ -1,7 +1,7 @@
 -- Opened files, owed resolves, and who holds a file's lock (Command-Line Reference, "p4 opened", "p4 resolve", "p4 lock").
 use Rattle.std.specs.Prelude.{ℕ, Bool, false, ◌&&◌, List, [], ◌∷◌, if◌then◌else◌, Option, Some, None, option_map, option_and_then, is_some}
 use Rattle.std.specs.Option.{option_flatten, option_map_or}
-use Rattle.depot_path.specs.Bytes.{same}
+use Rattle.db_records.specs.depot_path.Bytes.{same}
 use Rattle.depot_model.specs.Deeds.{Deed, Open, Shut, Hold, Free, Owe, Paid, Opening, Owing, How}
 use Rattle.depot_model.specs.Latest.{latest, when, is_held}
 

@@ -2,10 +2,10 @@
 use Rattle.std.specs.Prelude.{ℕ, ◌==◌, pos, int_le, List, filter, Bool, true, false, ◌&&◌, nat_le}
 use Rattle.std.specs.Option.{option_map_or}
 use Rattle.std.specs.List.{range_with_len}
-use Rattle.depot_path.specs.declared.revision.Wanted.{Wanted}
-use Rattle.depot_path.specs.declared.revision.Wanted.TheVariants.{One, Range}
-use Rattle.depot_path.specs.declared.revision.RevSpec.{RevSpec}
-use Rattle.depot_path.specs.declared.revision.RevSpec.TheVariants.{Only, Number, Newest, Change, Moment}
+use Rattle.db_records.specs.depot_path.declared.revision.Wanted.{Wanted}
+use Rattle.db_records.specs.depot_path.declared.revision.Wanted.TheVariants.{One, Range}
+use Rattle.db_records.specs.depot_path.declared.revision.RevSpec.{RevSpec}
+use Rattle.db_records.specs.depot_path.declared.revision.RevSpec.TheVariants.{Only, Number, Newest, Change, Moment}
 use Rattle.depot_model.specs.declared.request.Caller.{Caller}
 use Rattle.depot_model.specs.Deeds.{Deed}
 use Rattle.depot_model.specs.Revisions.{Revision, revision, head}

@@ -1,6 +1,6 @@
 -- The row of each refusal. Codes, names and fields are this project's own choice.
 use Rattle.std.specs.Prelude.{ℕ, ◌==◌, if◌then◌else◌, List, [], ◌∷◌, codes}
-use Rattle.depot_path.specs.Fault.{code_of}
+use Rattle.db_records.specs.depot_path.Fault.{code_of}
 use Rattle.depot_model.specs.declared.reply.Row.{Row}
 use Rattle.depot_model.specs.declared.refusal.Limit.{Limit}
 use Rattle.depot_model.specs.declared.refusal.Limit.TheVariants.{View, Protections, Users, Text, Files, Change, Generation, Shelf, Jobs, Fixes}

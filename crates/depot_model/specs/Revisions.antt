@@ -3,7 +3,7 @@
 use Rattle.std.specs.Prelude.{ℕ, max, zero, suc, ◌+◌, Bool, true, false, ◌&&◌, ◌||◌, nat_le, List, [], ◌∷◌, ◌++◌, length, map, filter, slice_get, if◌then◌else◌, Option, None}
 use Rattle.std.specs.List.{list_any}
 use Rattle.std.specs.Option.{option_map_or}
-use Rattle.depot_path.specs.Bytes.{same}
+use Rattle.db_records.specs.depot_path.Bytes.{same}
 use Rattle.depot_model.specs.Deeds.{Deed, Land, Landing, Entry, Credit, Action, Delete, MoveDelete}
 
 -- an entry with the change that made it

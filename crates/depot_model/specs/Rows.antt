@@ -1,7 +1,7 @@
 -- Rows of replies: named fields, as in the tagged output of p4 (Command-Line Reference, "Global options", `-ztag`). The words of actions are those
 -- of "p4 opened" and "p4 filelog", the words of integrations those of "p4 integrated".
 use Rattle.std.specs.Prelude.{ℕ, ◌==◌, List, [], ◌∷◌, codes, if◌then◌else◌, Option, Some, None, decimal}
-use Rattle.depot_path.specs.Path.{printed}
+use Rattle.db_records.specs.depot_path.Path.{printed}
 use Rattle.depot_model.specs.declared.reply.Field.{Field}
 use Rattle.depot_model.specs.declared.reply.Row.{Row}
 use Rattle.depot_model.specs.Deeds.{Action, Add, Edit, Delete, Branch, Integrate, How, CopyFrom, BranchFrom, DeleteFrom, Ignored, MoveAdd, MoveDelete, MovedFrom}

@@ -2,9 +2,9 @@
 -- a shelved file is a saved form is this project's own choice.
 use Rattle.std.specs.Prelude.{ℕ, ◌/◌, List, [], ◌∷◌, ◌++◌, length, nat_lt, drop, filter, find, codes, if◌then◌else◌, Option, Some, None, Ok, Err, option_and_then, unwrap_or, is_some, Bool, decimal}
 use Rattle.hex.specs.Hex.{encode_lower, decode_of}
-use Rattle.depot_path.specs.Bytes.{same}
-use Rattle.depot_path.specs.Path.{path_of, printed}
-use Rattle.depot_path.specs.Digits.{number_of}
+use Rattle.db_records.specs.depot_path.Bytes.{same}
+use Rattle.db_records.specs.depot_path.Path.{path_of, printed}
+use Rattle.db_records.specs.depot_path.Digits.{number_of}
 use Rattle.spec_form.specs.declared.form.Field.{Field}
 use Rattle.spec_form.specs.Form.{FormValue, lines_of}
 use Rattle.spec_form.specs.declared.shape.Shape.TheVariants.{Shelf}

@@ -2,8 +2,8 @@
 use Rattle.std.specs.Prelude.{ℕ, Bool, List, [], ◌∷◌, if◌then◌else◌}
 use Rattle.std.specs.Ordering.{nat_cmp, is_lt}
 use Rattle.std.specs.Cmp.Lexicographic.{slice_cmp}
-use Rattle.depot_path.specs.Bytes.{same}
-use Rattle.depot_path.specs.Order.{path_cmp}
+use Rattle.db_records.specs.depot_path.Bytes.{same}
+use Rattle.db_records.specs.depot_path.Order.{path_cmp}
 
 abbrev pub inserted : List ℕ → List (List ℕ) → List (List ℕ)
 inserted x [] = x ∷ []

@@ -2,7 +2,7 @@
 -- are the types, and the order in which modifiers are printed, are this project's own choice.
 use Rattle.std.specs.Prelude.{ℕ, ◌+◌, ◌==◌, Bool, not, ◌&&◌, ◌||◌, nat_le, List, ◌++◌, length, filter, take_while, count_by, drop, codes, if◌then◌else◌}
 use Rattle.std.specs.List.{list_all}
-use Rattle.depot_path.specs.Bytes.{same, is_among}
+use Rattle.db_records.specs.depot_path.Bytes.{same, is_among}
 
 abbrev pub base_type : List ℕ → List ℕ
 base_type text = take_while (λ b. not (b == 0x2B)) text

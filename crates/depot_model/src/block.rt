@@ -2,7 +2,7 @@
 
 ghost use Rattle.std.specs.Prelude.{◌≡◌, IfOk};
 
-use depot_path::Text;
+use db_records::paths::Text;
 use std::alloc::{AllocError, Global};
 use std::marker::Model;
 use std::sync::Arc;

@@ -3,7 +3,7 @@
 ghost use Rattle.std.specs.Prelude.{◌≡◌};
 ghost use Rattle.depot_model.specs.About.{about};
 
-use depot_path::{FileSpec, Name, Pattern, Sequence, Text};
+use db_records::paths::{FileSpec, Name, Pattern, Sequence, Text};
 
 /// A file spec as it was given.
 #[derive(Drop)]

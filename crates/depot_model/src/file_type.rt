@@ -2,10 +2,10 @@
 
 ghost use Rattle.std.specs.Prelude.{◌≡◌, ◌==◌, ◌&&◌, ◌<◌, ◌≤◌, codes, count_by, filter, length, not, position, IfOk, IfSome};
 ghost use Rattle.std.specs.List.{list_all, prefix_len};
-ghost use Rattle.depot_path.specs.Bytes.{is_among};
+ghost use Rattle.db_records.specs.depot_path.Bytes.{is_among};
 ghost use Rattle.depot_model.specs.Types as spec;
 
-use depot_path::Text;
+use db_records::paths::Text;
 use std::alloc::{AllocError, Global};
 
 /// The modifiers, in the order in which they are printed.

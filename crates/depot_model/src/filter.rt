@@ -1,10 +1,10 @@
 //! Which files a replica has.
 
 ghost use Rattle.std.specs.Prelude.{◌≡◌};
-ghost use Rattle.depot_path.specs.Answers.{Answers};
+ghost use Rattle.db_records.specs.depot_path.Answers.{Answers};
 ghost use Rattle.depot_model.specs.Filter as spec;
 
-use depot_path::{DepotPath, PathFault, Pattern, Sequence, Text};
+use db_records::paths::{DepotPath, PathFault, Pattern, Sequence, Text};
 use std::alloc::Global;
 use std::marker::Model;
 

@@ -1,7 +1,7 @@
 //! Laws of the definitions.
 
 ghost use Rattle.std.specs.Prelude.{◌≡◌, ◌⊎◌, ◌≤◌, ◌<◌, ℕ, List, [], ◌∷◌, ◌++◌, length, Contains, IsSome, Option, Ok, true, false};
-ghost use Rattle.depot_path.specs.Name.{is_name};
+ghost use Rattle.db_records.specs.depot_path.Name.{is_name};
 ghost use Rattle.protect_table.specs.Line.{table_of, line_of};
 ghost use Rattle.protect_table.specs.Rights.{names};
 ghost use Rattle.protect_table.specs.declared.line.ProtectLine.{ProtectLine};

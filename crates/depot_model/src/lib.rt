@@ -29,3 +29,10 @@ pub use order::{Answer, Place};
 pub use refusal::{Limit, Refusal};
 pub use reply::{Field, Reply, Row};
 pub use request::{Asked, Caller, Content, Request, Session, WordFault};
+
+// What stands below, for the crates above.
+pub use db_records as records;
+pub use db_records::paths;
+pub use protect_table as protections;
+pub use spec_form as forms;
+pub use view_map as views;

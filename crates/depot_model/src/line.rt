@@ -1,6 +1,6 @@
 //! A command line, cut into words.
 
-use depot_path::{Sequence, Text};
+use db_records::paths::{Sequence, Text};
 
 /// A command line of a script.
 #[derive(Drop)]

@@ -1,6 +1,6 @@
 //! The order in which the commands of all sessions were taken.
 
-use depot_path::Text;
+use db_records::paths::Text;
 
 /// The place of a command in the order.
 #[derive(Clone, Copy, PartialEq, Eq)]

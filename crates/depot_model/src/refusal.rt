@@ -1,6 +1,6 @@
 //! Why a command or a file is refused.
 
-use depot_path::{DepotPath, Name, PathFault, Text};
+use db_records::paths::{DepotPath, Name, PathFault, Text};
 
 /// What has a limit.
 #[derive(Clone, Copy, PartialEq, Eq)]

@@ -1,6 +1,6 @@
 //! What a command is answered.
 
-use depot_path::{Sequence, Text};
+use db_records::paths::{Sequence, Text};
 
 /// A named value of a row.
 #[derive(Drop)]

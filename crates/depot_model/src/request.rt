@@ -4,7 +4,7 @@ ghost use Rattle.std.specs.Prelude.{◌≡◌, IfOk};
 
 use crate::block::Block;
 use crate::command::Command;
-use depot_path::{DepotPath, Name, PathFault, Sequence, Text};
+use db_records::paths::{DepotPath, Name, PathFault, Sequence, Text};
 use std::alloc::AllocError;
 
 /// Who asks: the names in the head of a session's script.

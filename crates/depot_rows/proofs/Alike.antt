@@ -2,12 +2,12 @@
 use Rattle.std.proofs.Common.{◌≡◌, ℕ, Bool, true, false, List, Option, Some, None, refl, sym, ap, ◌∙◌}
 use Rattle.std.specs.Prelude.{codes, max, if◌then◌else◌, option_map}
 use Rattle.std.specs.List.{list_any}
-use Rattle.depot_path.specs.Bytes.{same}
-use Rattle.depot_path.specs.Path.{printed}
-use Rattle.db_records.specs.declared.key.Key.{Key}
-use Rattle.db_records.specs.declared.key.Key.TheVariants as keys
-use Rattle.db_records.specs.declared.record.Record.{Record}
-use Rattle.db_records.specs.declared.record.Record.TheVariants as rows
+use Rattle.depot_model.specs.depot_path.Bytes.{same}
+use Rattle.depot_model.specs.depot_path.Path.{printed}
+use Rattle.depot_model.specs.db_records.declared.key.Key.{Key}
+use Rattle.depot_model.specs.db_records.declared.key.Key.TheVariants as keys
+use Rattle.depot_model.specs.db_records.declared.record.Record.{Record}
+use Rattle.depot_model.specs.db_records.declared.record.Record.TheVariants as rows
 use Rattle.depot_model.specs.Records.{is_at, unplaced, numbered_record}
 use Rattle.depot_model.specs.Rules.{Rows, value_of, lock_of, top_in}
 use Rattle.depot_model.specs.Latest.{kind_word}
@@ -17,9 +17,9 @@ use Rattle.depot_rows.specs.Deed.{kind_of, how_of, pending_of}
 use Rattle.depot_rows.specs.Effects.{effect, put_at, raised, counter_row, form_row, have_row, label_row, counted, grouped, guarded, group_row, ended, is_ended, locked, landed, added, or_before, with_lock, with_how, working_row, working_key, owed_key, owed_row, paid_key}
 use Rattle.depot_rows.proofs.Keys.{at-is}
 use Rattle.depot_rows.specs.declared.deed.How.{How}
-use Rattle.spec_form.specs.Printing.{printed_form}
-use Rattle.db_records.specs.Key.{key_table}
-use Rattle.db_records.specs.declared.table.TableId.{TableId}
+use Rattle.depot_model.specs.spec_form.Printing.{printed_form}
+use Rattle.depot_model.specs.db_records.Key.{key_table}
+use Rattle.depot_model.specs.db_records.declared.table.TableId.{TableId}
 use Rattle.depot_rows.specs.declared.deed.Held.{Held}
 use Rattle.depot_rows.specs.declared.deed.Opening.{Opening}
 use Rattle.depot_rows.specs.declared.deed.Landing.{Landing}

@@ -1,9 +1,9 @@
 -- Deeds that commands give, and that may follow.
 use Rattle.std.proofs.Common.{◌≡◌, ◌⊎◌, ◌<◌, ◌≤◌, ℕ, Bool, true, false, List, Option, Some, None, inl, inr, refl, ap, ◌∙◌, arith}
 use Rattle.std.specs.Prelude.{if◌then◌else◌, IsSome, is_some}
-use Rattle.depot_path.specs.Path.{is_path}
-use Rattle.db_records.specs.declared.key.Key.TheVariants as keys
-use Rattle.db_records.specs.declared.record.Record.{Record}
+use Rattle.depot_model.specs.depot_path.Path.{is_path}
+use Rattle.depot_model.specs.db_records.declared.key.Key.TheVariants as keys
+use Rattle.depot_model.specs.db_records.declared.record.Record.{Record}
 use Rattle.depot_model.specs.Deeds as model
 use Rattle.depot_model.specs.Numbers.{pending, landing, top}
 use Rattle.depot_model.specs.Opened.{holder}
@@ -11,7 +11,7 @@ use Rattle.depot_model.specs.Records.{record_of}
 use Rattle.depot_model.specs.Rules.{IsSound, top_in}
 use Rattle.depot_rows.specs.declared.deed.Held.{Held}
 use Rattle.depot_rows.specs.Effects.{IsFree, is_submitted}
-use Rattle.depot_rows.proofs.Changes.{change_of, top_value}
+use Rattle.depot_rows.proofs.ChangeCounter.{change_of, top_value}
 use Rattle.depot_rows.proofs.Locks.{lock_number}
 use Rattle.depot_rows.proofs.Openings.{lock_shown}
 

@@ -6,7 +6,7 @@ use Rattle.std.specs.Option.{option_or, option_flatten}
 use Rattle.std.proofs.lemmas.Bool.{true≢false}
 use Rattle.std.proofs.lemmas.Iterator.Adapters.{option_map_id}
 use Rattle.std.proofs.lemmas.List.{map-append, length-map}
-use Rattle.depot_path.specs.Bytes.{same}
+use Rattle.depot_model.specs.depot_path.Bytes.{same}
 use Rattle.depot_model.specs.declared.filter.FilterRule.{FilterRule}
 use Rattle.depot_model.specs.Cut.{cut, cut_deed, cut_landing, cut_opening, cut_entry}
 use Rattle.depot_model.specs.Deeds.{Deed, Spec, Guard, Group, Count, Pend, Drop, Open, Shut, Hold, Free, Got, Tag, Owe, Paid, Land, Landing, Opening, Owing, How, Entry, SpecKind, ClientForm, LabelForm, ShelfForm, JobForm, FixForm}

@@ -3,8 +3,8 @@ use Rattle.std.proofs.Common.{◌≡◌, ◌+◌, ℕ, suc, Bool, true, false, n
 use Rattle.std.specs.Prelude.{◌&&◌, ◌||◌, ◌==◌, if◌then◌else◌, find, slice_get, filter}
 use Rattle.std.specs.List.{list_any, list_all}
 use Rattle.std.proofs.lemmas.Bool.{true≢false}
-use Rattle.depot_path.specs.Bytes.{same}
-use Rattle.depot_path.specs.Path.{printed, is_path}
+use Rattle.depot_model.specs.depot_path.Bytes.{same}
+use Rattle.depot_model.specs.depot_path.Path.{printed, is_path}
 use Rattle.depot_model.specs.Deeds as model
 use Rattle.depot_model.specs.Rules.{are_distinct}
 use Rattle.depot_model.specs.Revisions.{head}

@@ -2,8 +2,8 @@
 use Rattle.std.proofs.Common.{◌≡◌, ℕ, Bool, true, false, List, [], ◌∷◌, Some, None, refl, sym, ap, subst, ◌∙◌}
 use Rattle.std.specs.Prelude.{◌==◌, if◌then◌else◌, option_map, is_some, IsSome}
 use Rattle.std.specs.Option.{option_or, option_flatten}
-use Rattle.db_records.specs.declared.key.Key.{Key}
-use Rattle.db_records.specs.declared.table.TableId.{TableId}
+use Rattle.depot_model.specs.db_records.declared.key.Key.{Key}
+use Rattle.depot_model.specs.db_records.declared.table.TableId.{TableId}
 use Rattle.depot_model.specs.Deeds as model
 use Rattle.depot_model.specs.Latest.{latest, when}
 use Rattle.depot_model.specs.Numbers.{pending_said, landing}
@@ -22,7 +22,7 @@ use Rattle.depot_rows.proofs.Counters.{count-met}
 use Rattle.depot_rows.proofs.Lists.{got_met, tag_met, spec_met, group_met, guard_met}
 use Rattle.depot_rows.proofs.Openings.{open_met, hold_met, free_met}
 use Rattle.depot_rows.proofs.Resolves.{owe_met, pay_met, shut_met}
-use Rattle.depot_rows.proofs.Changes.{pend_met, drop_met, not_landed}
+use Rattle.depot_rows.proofs.ChangeCounter.{pend_met, drop_met, not_landed}
 use Rattle.depot_rows.proofs.Submitted.{land_met}
 
 some-is : {A : Type 0} {x y : A} → Some x ≡ Some y → x ≡ y

@@ -3,19 +3,19 @@ use Rattle.std.proofs.Common.{◌≡◌, ◌≢◌, ℕ, zero, suc, Bool, true, 
 use Rattle.std.specs.Prelude.{◌&&◌, if◌then◌else◌, option_map, option_and_then, unwrap_or, find}
 use Rattle.std.specs.Option.{option_or}
 use Rattle.std.specs.List.{list_any}
-use Rattle.depot_path.specs.Bytes.{same}
-use Rattle.depot_path.specs.Path.{printed, is_path}
-use Rattle.spec_form.specs.Form.{FormValue}
-use Rattle.spec_form.specs.Printing.{printed_form}
-use Rattle.db_records.specs.declared.key.Key.{Key}
-use Rattle.db_records.specs.declared.key.Key.TheVariants as keys
-use Rattle.db_records.specs.declared.record.Record.{Record}
+use Rattle.depot_model.specs.depot_path.Bytes.{same}
+use Rattle.depot_model.specs.depot_path.Path.{printed, is_path}
+use Rattle.depot_model.specs.spec_form.Form.{FormValue}
+use Rattle.depot_model.specs.spec_form.Printing.{printed_form}
+use Rattle.depot_model.specs.db_records.declared.key.Key.{Key}
+use Rattle.depot_model.specs.db_records.declared.key.Key.TheVariants as keys
+use Rattle.depot_model.specs.db_records.declared.record.Record.{Record}
 use Rattle.depot_model.specs.Deeds.{Deed, Spec, Guard, Group, Got, Tag, SpecKind, ClientForm, LabelForm, ShelfForm, JobForm, FixForm}
 use Rattle.depot_model.specs.Latest.{latest, when, have_said, label_said, spec_said, group_said, kind_word, same_kind}
 use Rattle.depot_model.specs.Records.{record_of, numbered_record, kind_of, kinds}
 use Rattle.depot_rows.specs.Effects.{put_at, have_row, label_row, form_row, group_row, grouped, guarded}
 use Rattle.depot_rows.proofs.Keys.{same-is, same-self, left-true, right-true, put-is}
-use Rattle.depot_rows.proofs.Paths.{at_path-here, at_path-alike}
+use Rattle.depot_rows.proofs.Spelled.{at_path-here, at_path-alike}
 
 -- ---- have lists
 

@@ -2,7 +2,7 @@
 use Rattle.std.proofs.Common.{◌≡◌, ℕ, Bool, true, false, List, [], ◌∷◌, Option, Some, None, refl, ap, sym, ◌∙◌}
 use Rattle.std.specs.Prelude.{◌&&◌, is_some, if◌then◌else◌}
 use Rattle.std.specs.Option.{option_or, option_flatten}
-use Rattle.depot_path.specs.Bytes.{same}
+use Rattle.depot_model.specs.depot_path.Bytes.{same}
 use Rattle.depot_model.specs.Deeds.{Deed, Spec, Guard, Group, Count, Pend, Drop, Open, Shut, Hold, Free, Got, Tag, Owe, Paid, Land, Opening}
 use Rattle.depot_model.specs.Latest.{latest, when, is_held}
 use Rattle.depot_model.specs.Opened.{opened, opening_said, holder, keeps}

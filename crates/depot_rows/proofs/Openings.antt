@@ -3,12 +3,12 @@ use Rattle.std.proofs.Common.{◌≡◌, ◌≢◌, ℕ, Bool, true, false, List
 use Rattle.std.specs.Prelude.{◌&&◌, is_some, if◌then◌else◌, option_map}
 use Rattle.std.specs.Option.{option_or, option_flatten}
 use Rattle.std.proofs.lemmas.Bool.{true≢false}
-use Rattle.depot_path.specs.Bytes.{same}
-use Rattle.depot_path.specs.Path.{printed, is_path}
-use Rattle.db_records.specs.declared.key.Key.{Key}
-use Rattle.db_records.specs.declared.key.Key.TheVariants as keys
-use Rattle.db_records.specs.declared.record.Record.{Record}
-use Rattle.db_records.specs.declared.record.Record.TheVariants as rows
+use Rattle.depot_model.specs.depot_path.Bytes.{same}
+use Rattle.depot_model.specs.depot_path.Path.{printed, is_path}
+use Rattle.depot_model.specs.db_records.declared.key.Key.{Key}
+use Rattle.depot_model.specs.db_records.declared.key.Key.TheVariants as keys
+use Rattle.depot_model.specs.db_records.declared.record.Record.{Record}
+use Rattle.depot_model.specs.db_records.declared.record.Record.TheVariants as rows
 use Rattle.depot_model.specs.Deeds.{Deed, Open, Shut, Hold, Free, Opening}
 use Rattle.depot_model.specs.Latest.{latest, when}
 use Rattle.depot_model.specs.Opened.{opened, opening_said, holder, keeps}
@@ -22,7 +22,7 @@ use Rattle.depot_rows.specs.Deed.{opening_of, held_of}
 use Rattle.depot_rows.specs.Effects.{put_at, changed_at, working_key, working_row, with_lock, locked, ended}
 use Rattle.depot_rows.proofs.Keys.{same-is, same-self, left-true, right-true, put-is}
 use Rattle.depot_model.specs.Records.{at_path}
-use Rattle.depot_rows.proofs.Paths.{at_path-here, at_path-alike}
+use Rattle.depot_rows.proofs.Spelled.{at_path-here, at_path-alike}
 use Rattle.depot_rows.proofs.Locks.{lock_number, lock-keeps, lock-given, lock-unopened, IsOf, opened-is}
 
 -- the row of an opening with a lock

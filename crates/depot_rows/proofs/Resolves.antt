@@ -2,11 +2,11 @@
 use Rattle.std.proofs.Common.{◌≡◌, ◌≢◌, ℕ, Bool, true, false, List, ◌∷◌, Option, Some, None, refl, sym, ap, ◌∙◌}
 use Rattle.std.specs.Prelude.{◌&&◌, if◌then◌else◌, option_map}
 use Rattle.std.proofs.lemmas.Bool.{true≢false}
-use Rattle.depot_path.specs.Bytes.{same}
-use Rattle.depot_path.specs.Path.{printed, is_path}
-use Rattle.db_records.specs.declared.key.Key.{Key}
-use Rattle.db_records.specs.declared.key.Key.TheVariants as keys
-use Rattle.db_records.specs.declared.record.Record.{Record}
+use Rattle.depot_model.specs.depot_path.Bytes.{same}
+use Rattle.depot_model.specs.depot_path.Path.{printed, is_path}
+use Rattle.depot_model.specs.db_records.declared.key.Key.{Key}
+use Rattle.depot_model.specs.db_records.declared.key.Key.TheVariants as keys
+use Rattle.depot_model.specs.db_records.declared.record.Record.{Record}
 use Rattle.depot_model.specs.Deeds.{Deed, Shut, Owe, Paid}
 use Rattle.depot_model.specs.Opened.{owed, paid_by, Resolve}
 use Rattle.depot_model.specs.Records.{record_of, resolve_record, at_path}
@@ -17,7 +17,7 @@ use Rattle.depot_rows.specs.declared.deed.How.{How}
 use Rattle.depot_rows.specs.Deed.{owing_of, held_of, how_of}
 use Rattle.depot_rows.specs.Effects.{put_at, changed_at, owed_key, owed_row, paid_key, with_how, ended}
 use Rattle.depot_rows.proofs.Keys.{same-is, same-self, left-true, right-true, put-is}
-use Rattle.depot_rows.proofs.Paths.{at_path-here, at_path-alike, at_path-nothing}
+use Rattle.depot_rows.proofs.Spelled.{at_path-here, at_path-alike, at_path-nothing}
 use Rattle.depot_rows.proofs.Openings.{shut_working}
 
 -- the row of a resolve of two paths

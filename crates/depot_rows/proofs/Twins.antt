@@ -2,8 +2,8 @@
 use Rattle.std.proofs.Common.{◌≡◌, ◌+◌, ℕ, suc, true, false, List, [], ◌∷◌, length, map, Option, Some, None, refl, sym, ap, subst, ◌∙◌}
 use Rattle.std.specs.Prelude.{option_map, is_some, slice_get}
 use Rattle.std.specs.List.{list_all}
-use Rattle.depot_path.specs.Path.{printed, is_path}
-use Rattle.db_records.specs.declared.key.Key.TheVariants as keys
+use Rattle.depot_model.specs.depot_path.Path.{printed, is_path}
+use Rattle.depot_model.specs.db_records.declared.key.Key.TheVariants as keys
 use Rattle.depot_model.specs.Deeds as model
 use Rattle.depot_model.specs.Records.{record_of, rev_record, unplaced, SameRows}
 use Rattle.depot_model.specs.Revisions.{Revision, revisions, revision, head}
@@ -15,7 +15,7 @@ use Rattle.depot_rows.specs.declared.deed.Entry.{Entry}
 use Rattle.depot_rows.specs.Deed.{IsDeed, IsEntry, AreEntries, IsLanding}
 use Rattle.depot_rows.specs.Effects.{effect, May, Follow, entry_path}
 use Rattle.depot_rows.proofs.Keys.{left-true, right-true}
-use Rattle.depot_rows.proofs.Paths.{at_path-here}
+use Rattle.depot_rows.proofs.Spelled.{at_path-here}
 use Rattle.depot_rows.proofs.Following.{met, stays_apart}
 
 same_length : {A : Type 0} (xs ys : List A) → ((k : ℕ) → is_some (slice_get xs k) ≡ is_some (slice_get ys k)) → length xs ≡ length ys

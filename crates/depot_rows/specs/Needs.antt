@@ -1,7 +1,7 @@
 -- What the rows need of a depot so that a deed does to them what it does to the depot: that a change that is dropped hasn't landed, and that the
 -- paths by which rows are kept are paths. This project's own choice.
 use Rattle.std.specs.Prelude.{◌≡◌, IsTrue, List, None}
-use Rattle.depot_path.specs.Path.{is_path}
+use Rattle.depot_model.specs.depot_path.Path.{is_path}
 use Rattle.depot_model.specs.Deeds as model
 use Rattle.depot_model.specs.Numbers.{landing}
 use Rattle.depot_rows.specs.declared.deed.Deed.{Deed}

@@ -1,11 +1,11 @@
 -- When rows stand for a depot (Helix Core database schema reference, "Tables"). That a depot is the list of its deeds, and that its rows tell
 -- nothing of where a content lies in the archive, is this project's own choice.
 use Rattle.std.specs.Prelude.{◌≡◌, List, Option, option_map}
-use Rattle.db_records.specs.Key.{key_table}
-use Rattle.db_records.specs.declared.key.Key.{Key}
-use Rattle.db_records.specs.declared.record.Record.{Record}
-use Rattle.db_records.specs.declared.table.TableId.{TableId}
-use Rattle.table_store.specs.Rows.{row_at}
+use Rattle.depot_model.specs.db_records.Key.{key_table}
+use Rattle.depot_model.specs.db_records.declared.key.Key.{Key}
+use Rattle.depot_model.specs.db_records.declared.record.Record.{Record}
+use Rattle.depot_model.specs.db_records.declared.table.TableId.{TableId}
+use Rattle.table_changes.specs.table_store.Rows.{row_at}
 use Rattle.table_changes.specs.Changed.{AllRows}
 use Rattle.depot_model.specs.Deeds.{Deed}
 use Rattle.depot_model.specs.Records.{record_of, unplaced}

@@ -1,8 +1,8 @@
 //! What is done in a depot, as a command computes it.
 
-use db_records::Spot;
-use depot_path::{DepotPath, Name, Sequence, Text};
-use spec_form::Form;
+use depot_model::forms::Form;
+use depot_model::paths::{DepotPath, Name, Sequence, Text};
+use depot_model::records::Spot;
 
 /// What a saved form is of.
 #[derive(Clone, Copy, PartialEq, Eq)]

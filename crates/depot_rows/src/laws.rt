@@ -2,14 +2,14 @@
 
 ghost use Rattle.std.specs.List.{list_all};
 ghost use Rattle.std.specs.Prelude.{◌≡◌, ◌⊎◌, ◌<◌, ℕ, List, ◌∷◌, Some, None, IsSome, IsTrue, IsFalse};
-ghost use Rattle.db_records.specs.declared.table.TableId.{TableId};
+ghost use Rattle.depot_model.specs.db_records.declared.table.TableId.{TableId};
 ghost use Rattle.table_changes.specs.Changed.{AllRows};
 ghost use Rattle.depot_model.specs.declared.filter.FilterRule.{FilterRule};
 ghost use Rattle.depot_model.specs.Cut.{cut};
 ghost use Rattle.depot_model.specs.Deeds as model;
-ghost use Rattle.depot_path.specs.Path.{is_path};
-ghost use Rattle.db_records.specs.declared.key.Key.{Key};
-ghost use Rattle.db_records.specs.declared.key.Key.TheVariants as keys;
+ghost use Rattle.depot_model.specs.depot_path.Path.{is_path};
+ghost use Rattle.depot_model.specs.db_records.declared.key.Key.{Key};
+ghost use Rattle.depot_model.specs.db_records.declared.key.Key.TheVariants as keys;
 ghost use Rattle.depot_model.specs.Numbers.{pending, landing, top};
 ghost use Rattle.depot_model.specs.Opened.{holder};
 ghost use Rattle.depot_model.specs.Records.{record_of, SameRows};

@@ -15,3 +15,9 @@ pub use laws::{
     standing_rows_are_those_of_the_depot,
 };
 pub use lines::line_text;
+
+// What stands below, for the crates above.
+pub use depot_model as model;
+pub use depot_model::{forms, paths, protections, records, views};
+pub use table_changes as changes;
+pub use table_changes::tables;

@@ -3,8 +3,8 @@
 ghost use Rattle.std.specs.Prelude.{◌≡◌, ◌++◌, ◌∷◌, IfOk, OnOk};
 ghost use Rattle.depot_model.specs.Rules.{line_text as text_of_line};
 
-use db_records::ProtectRecord;
-use depot_path::Text;
+use depot_model::paths::Text;
+use depot_model::records::ProtectRecord;
 use std::alloc::{AllocError, Global};
 
 /// Adds a word behind a space.

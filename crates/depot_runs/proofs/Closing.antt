@@ -1,12 +1,12 @@
 -- Replies about jobs and fixes.
 use Rattle.std.specs.Fmt.{digits}
-use Rattle.spec_form.specs.Shapes.{fields_of}
+use Rattle.depot_model.specs.spec_form.Shapes.{fields_of}
 use Rattle.std.proofs.Common.{◌≡◌, List, [], ◌∷◌, ◌++◌, Some, None, refl}
 use Rattle.std.specs.Prelude.{codes, decimal}
 use Rattle.depot_model.specs.declared.command.Command.TheVariants.{Add, ChangeSave, ChangeDelete, SubmitChange, JobSave, JobShow, Fix, FixDelete, Fixes}
 use Rattle.depot_model.specs.Places.{Placed}
-use Rattle.spec_form.specs.declared.shape.Shape.TheVariants.{Job as JobShape}
-use Rattle.spec_form.specs.Form.{FormValue}
+use Rattle.depot_model.specs.spec_form.declared.shape.Shape.TheVariants.{Job as JobShape}
+use Rattle.depot_model.specs.spec_form.Form.{FormValue}
 use Rattle.depot_model.proofs.Scene.{whole, ann, file, block, does, with_blocks, with_input, reply, row, client_of_ann}
 use Rattle.depot_runs.specs.Folds.{job_state, fix_state}
 use Rattle.depot_model.specs.Fixes.{fix_form}

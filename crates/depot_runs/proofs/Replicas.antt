@@ -1,6 +1,6 @@
 -- Replies of a replica.
 use Rattle.std.specs.Fmt.{digits}
-use Rattle.spec_form.specs.Shapes.{fields_of}
+use Rattle.depot_model.specs.spec_form.Shapes.{fields_of}
 use Rattle.std.proofs.Common.{◌≡◌, List, [], ◌∷◌, Some, None, refl, Ok, Err, true, false}
 use Rattle.std.specs.Prelude.{codes, decimal, map}
 use Rattle.hex.specs.Hex.{encode_with}

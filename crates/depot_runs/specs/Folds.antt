@@ -3,7 +3,7 @@
 use Rattle.std.specs.Prelude.{◌≡◌, ℕ, Bool, true, false, ◌&&◌, List, [], ◌∷◌, reverse, Option, Some, None, Ok, option_and_then, option_map, is_some, IsTrue, IsFalse, IsSome, filter, not, codes}
 use Rattle.std.specs.Result.{result_ok}
 use Rattle.std.specs.Option.{option_or, option_map_or}
-use Rattle.spec_form.specs.Form.{FormValue}
+use Rattle.depot_model.specs.spec_form.Form.{FormValue}
 use Rattle.depot_model.specs.declared.command.Command.{Command}
 use Rattle.depot_model.specs.declared.command.Command.TheVariants.{JobSave, SubmitChange, Fix, FixDelete, Shelve, Files, FileLog, Print, Describe, Changes}
 use Rattle.depot_model.specs.Deeds.{Deed, SpecKind, ShelfForm, JobForm, FixForm, Land, Spec}
@@ -14,7 +14,7 @@ use Rattle.depot_model.specs.Step.{Step, after}
 use Rattle.depot_runs.specs.Today.{step}
 use Rattle.depot_model.specs.Places.{Placed, done_at, taken}
 use Rattle.std.specs.List.{list_all}
-use Rattle.depot_path.specs.Bytes.{same}
+use Rattle.depot_model.specs.depot_path.Bytes.{same}
 use Rattle.depot_model.specs.declared.request.Request.{Request}
 use Rattle.depot_model.specs.declared.command.FileArgument.{FileArgument}
 use Rattle.depot_model.specs.WellFormed.{is_command}

@@ -4,14 +4,14 @@ use Rattle.std.proofs.Common.{◌≡◌, ℕ, Bool, true, false, List, [], ◌�
 use Rattle.std.specs.Prelude.{◌&&◌, unwrap_or}
 use Rattle.std.specs.List.{list_all}
 use Rattle.std.specs.Option.{option_or, option_flatten}
-use Rattle.depot_path.specs.Bytes.{same}
-use Rattle.depot_model.specs.declared.request.Caller.{Caller}
-use Rattle.depot_model.specs.Asking.{may_at}
-use Rattle.depot_model.specs.Deeds.{Deed, Opening, SpecKind, Spec, Guard, Group, Count, Pend, Drop, Open, Shut, Hold, Free, Got, Tag, Owe, Paid, Land}
-use Rattle.depot_model.specs.Latest.{have, have_said, labelled, latest, spec, when, is_held}
-use Rattle.depot_model.specs.Opened.{opened, opening_said}
-use Rattle.depot_model.specs.Revisions.{revisions, credited}
-use Rattle.depot_model.specs.Step.{after}
+use Rattle.depot_rows.specs.depot_path.Bytes.{same}
+use Rattle.depot_rows.specs.depot_model.declared.request.Caller.{Caller}
+use Rattle.depot_rows.specs.depot_model.Asking.{may_at}
+use Rattle.depot_rows.specs.depot_model.Deeds.{Deed, Opening, SpecKind, Spec, Guard, Group, Count, Pend, Drop, Open, Shut, Hold, Free, Got, Tag, Owe, Paid, Land}
+use Rattle.depot_rows.specs.depot_model.Latest.{have, have_said, labelled, latest, spec, when, is_held}
+use Rattle.depot_rows.specs.depot_model.Opened.{opened, opening_said}
+use Rattle.depot_rows.specs.depot_model.Revisions.{revisions, credited}
+use Rattle.depot_rows.specs.depot_model.Step.{after}
 use Rattle.depot_rows.proofs.Keys.{left-true, right-true}
 use Rattle.row_reads.proofs.Rights.{same_at}
 use Rattle.step_tables.specs.DeedTables.{stays_in}

@@ -1,24 +1,24 @@
 -- What a step asks of a file in depots that tell alike: rights, who has it opened, exclusive types, and the targets of sources.
 use Rattle.std.proofs.Common.{◌≡◌, ℕ, Bool, false, not, List, [], ◌∷◌, Some, None, refl, sym, ap, ◌∙◌}
 use Rattle.std.specs.Prelude.{◌&&◌, ◌||◌, if◌then◌else◌, find, is_some, option_map, unwrap_or}
-use Rattle.depot_path.specs.Bytes.{same}
-use Rattle.depot_path.specs.Fit.{texts, filled}
-use Rattle.depot_path.specs.Path.{printed, is_path}
-use Rattle.view_map.specs.Mapping.{files_at}
-use Rattle.view_map.specs.Specifiers.{answering}
-use Rattle.depot_model.specs.declared.command.FileArgument.{FileArgument}
-use Rattle.depot_model.specs.declared.command.PatternArgument.{PatternArgument}
-use Rattle.depot_model.specs.declared.refusal.Refusal.TheVariants.{Denied, ExclusiveOpen}
-use Rattle.depot_model.specs.declared.request.Caller.{Caller}
-use Rattle.depot_model.specs.Arguments.{in_client_syntax}
-use Rattle.depot_model.specs.Asking.{view}
-use Rattle.depot_model.specs.Deeds.{Deed}
-use Rattle.depot_model.specs.Latest.{keys_of}
-use Rattle.depot_model.specs.Opened.{opened}
-use Rattle.depot_model.specs.Step.{refuse_if}
-use Rattle.depot_model.specs.Steps.Adding.{first_live}
-use Rattle.depot_model.specs.Steps.Opening.{openers, opener_of, exclusive_refusal, is_exclusive, right_refusal}
-use Rattle.depot_model.specs.Steps.Targets.{source_text, target_text, target_at}
+use Rattle.depot_rows.specs.depot_path.Bytes.{same}
+use Rattle.depot_rows.specs.depot_path.Fit.{texts, filled}
+use Rattle.depot_rows.specs.depot_path.Path.{printed, is_path}
+use Rattle.depot_rows.specs.view_map.Mapping.{files_at}
+use Rattle.depot_rows.specs.view_map.Specifiers.{answering}
+use Rattle.depot_rows.specs.depot_model.declared.command.FileArgument.{FileArgument}
+use Rattle.depot_rows.specs.depot_model.declared.command.PatternArgument.{PatternArgument}
+use Rattle.depot_rows.specs.depot_model.declared.refusal.Refusal.TheVariants.{Denied, ExclusiveOpen}
+use Rattle.depot_rows.specs.depot_model.declared.request.Caller.{Caller}
+use Rattle.depot_rows.specs.depot_model.Arguments.{in_client_syntax}
+use Rattle.depot_rows.specs.depot_model.Asking.{view}
+use Rattle.depot_rows.specs.depot_model.Deeds.{Deed}
+use Rattle.depot_rows.specs.depot_model.Latest.{keys_of}
+use Rattle.depot_rows.specs.depot_model.Opened.{opened}
+use Rattle.depot_rows.specs.depot_model.Step.{refuse_if}
+use Rattle.depot_rows.specs.depot_model.Steps.Adding.{first_live}
+use Rattle.depot_rows.specs.depot_model.Steps.Opening.{openers, opener_of, exclusive_refusal, is_exclusive, right_refusal}
+use Rattle.depot_rows.specs.depot_model.Steps.Targets.{source_text, target_text, target_at}
 use Rattle.depots_alike.proofs.Alike.{Alike}
 use Rattle.depots_alike.proofs.Choosing.{may_same, view_same, shown_same, is_live_head_same}
 use Rattle.depots_alike.proofs.Lists.{one_name_list, some_names_rise}

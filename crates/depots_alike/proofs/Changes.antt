@@ -3,43 +3,43 @@ use Rattle.std.proofs.Common.{◌≡◌, ℕ, ◌+◌, Bool, true, false, not, L
 use Rattle.std.specs.Prelude.{◌&&◌, ◌||◌, ◌==◌, nat_le, nat_lt, codes, decimal, if◌then◌else◌, filter, filter_map, flat_map, is_some, is_none, option_map}
 use Rattle.std.specs.List.{list_any, enumerate_from}
 use Rattle.std.specs.Option.{option_map_or}
-use Rattle.depot_path.specs.Bytes.{same}
-use Rattle.depot_path.specs.Fit.{fits}
-use Rattle.depot_path.specs.declared.piece.Piece.{Piece}
-use Rattle.depot_path.specs.declared.revision.Wanted.TheVariants.{Head}
-use Rattle.db_records.specs.declared.key.Key.TheVariants as keys
-use Rattle.db_records.specs.declared.record.Record.TheVariants as records
-use Rattle.spec_form.specs.Form.{FormValue}
-use Rattle.spec_form.specs.Printing.{printed_form}
-use Rattle.spec_form.specs.Places.{field_place}
-use Rattle.spec_form.specs.Reading.{form_of}
-use Rattle.spec_form.specs.declared.shape.Shape.TheVariants.{Job as JobShape}
-use Rattle.depot_model.specs.declared.command.FileArgument.{FileArgument}
-use Rattle.depot_model.specs.declared.refusal.Limit.TheVariants.{Text, Jobs, Fixes}
-use Rattle.depot_model.specs.declared.refusal.Refusal.TheVariants.{BadForm, NoSuchChange, NoSuchJob, OverLimit, NotYours, NotDeletable}
-use Rattle.depot_model.specs.declared.request.Caller.{Caller}
-use Rattle.depot_model.specs.Arguments.{named, paths_of, open_paths, submitted, in_client_syntax}
-use Rattle.depot_model.specs.Asking.{may_list}
-use Rattle.depot_model.specs.Choice.{made_by}
-use Rattle.depot_model.specs.Deeds.{Deed, Spec, Drop, Opening, Landing, JobForm, FixForm}
-use Rattle.depot_model.specs.Fixes.{job, job_name, fix_name, fix_form, fixes_of, has_fix, is_on, closes, closed}
-use Rattle.depot_model.specs.FormRows.{numbered}
-use Rattle.depot_model.specs.Latest.{users}
-use Rattle.depot_model.specs.Numbers.{landing}
-use Rattle.depot_model.specs.Revisions.{Revision, revisions, is_live_head}
-use Rattle.depot_model.specs.Rows.{row, path_field, number_field, text_field, action_word, change_word}
-use Rattle.depot_model.specs.Shelves.{is_of_change}
-use Rattle.depot_model.specs.Sorted.{all_inserted}
-use Rattle.depot_model.specs.Step.{Step, nothing, tells, does, refuses, unless, refuse_if, all_of}
-use Rattle.depot_model.specs.Steps.Changing.{files_of_change, landed_by, delete_refusals, change_delete, listable, show_new, openings_in, show_landed, show_numbered, change_show, default_text}
-use Rattle.depot_model.specs.Steps.Changing as changing
-use Rattle.depot_model.specs.Steps.Groups.{by_name, group_show}
-use Rattle.depot_model.specs.Steps.History.{seen_paths, dirs_of, dirs_after, dirs, directories, no_dir, dir_row}
-use Rattle.depot_model.specs.Steps.Jobs.{is_new, is_status, saved, save_form, job_save, is_change, no_job, distinct, fixed_row, closes_where, fix_job, fix, unfix, unfix_job, fix_delete}
-use Rattle.depot_model.specs.Steps.Opening.{is_of}
-use Rattle.depot_model.specs.Steps.Reverting.{not_open, openers_shown, opened_row, opened_files, show_opened, opened_step}
-use Rattle.depot_model.specs.Steps.Submitting.{openings_of}
-use Rattle.depot_model.specs.Values.{value_of}
+use Rattle.depot_rows.specs.depot_path.Bytes.{same}
+use Rattle.depot_rows.specs.depot_path.Fit.{fits}
+use Rattle.depot_rows.specs.depot_path.declared.piece.Piece.{Piece}
+use Rattle.depot_rows.specs.depot_path.declared.revision.Wanted.TheVariants.{Head}
+use Rattle.depot_rows.specs.db_records.declared.key.Key.TheVariants as keys
+use Rattle.depot_rows.specs.db_records.declared.record.Record.TheVariants as records
+use Rattle.depot_rows.specs.spec_form.Form.{FormValue}
+use Rattle.depot_rows.specs.spec_form.Printing.{printed_form}
+use Rattle.depot_rows.specs.spec_form.Places.{field_place}
+use Rattle.depot_rows.specs.spec_form.Reading.{form_of}
+use Rattle.depot_rows.specs.spec_form.declared.shape.Shape.TheVariants.{Job as JobShape}
+use Rattle.depot_rows.specs.depot_model.declared.command.FileArgument.{FileArgument}
+use Rattle.depot_rows.specs.depot_model.declared.refusal.Limit.TheVariants.{Text, Jobs, Fixes}
+use Rattle.depot_rows.specs.depot_model.declared.refusal.Refusal.TheVariants.{BadForm, NoSuchChange, NoSuchJob, OverLimit, NotYours, NotDeletable}
+use Rattle.depot_rows.specs.depot_model.declared.request.Caller.{Caller}
+use Rattle.depot_rows.specs.depot_model.Arguments.{named, paths_of, open_paths, submitted, in_client_syntax}
+use Rattle.depot_rows.specs.depot_model.Asking.{may_list}
+use Rattle.depot_rows.specs.depot_model.Choice.{made_by}
+use Rattle.depot_rows.specs.depot_model.Deeds.{Deed, Spec, Drop, Opening, Landing, JobForm, FixForm}
+use Rattle.depot_rows.specs.depot_model.Fixes.{job, job_name, fix_name, fix_form, fixes_of, has_fix, is_on, closes, closed}
+use Rattle.depot_rows.specs.depot_model.FormRows.{numbered}
+use Rattle.depot_rows.specs.depot_model.Latest.{users}
+use Rattle.depot_rows.specs.depot_model.Numbers.{landing}
+use Rattle.depot_rows.specs.depot_model.Revisions.{Revision, revisions, is_live_head}
+use Rattle.depot_rows.specs.depot_model.Rows.{row, path_field, number_field, text_field, action_word, change_word}
+use Rattle.depot_rows.specs.depot_model.Shelves.{is_of_change}
+use Rattle.depot_rows.specs.depot_model.Sorted.{all_inserted}
+use Rattle.depot_rows.specs.depot_model.Step.{Step, nothing, tells, does, refuses, unless, refuse_if, all_of}
+use Rattle.depot_rows.specs.depot_model.Steps.Changing.{files_of_change, landed_by, delete_refusals, change_delete, listable, show_new, openings_in, show_landed, show_numbered, change_show, default_text}
+use Rattle.depot_rows.specs.depot_model.Steps.Changing as changing
+use Rattle.depot_rows.specs.depot_model.Steps.Groups.{by_name, group_show}
+use Rattle.depot_rows.specs.depot_model.Steps.History.{seen_paths, dirs_of, dirs_after, dirs, directories, no_dir, dir_row}
+use Rattle.depot_rows.specs.depot_model.Steps.Jobs.{is_new, is_status, saved, save_form, job_save, is_change, no_job, distinct, fixed_row, closes_where, fix_job, fix, unfix, unfix_job, fix_delete}
+use Rattle.depot_rows.specs.depot_model.Steps.Opening.{is_of}
+use Rattle.depot_rows.specs.depot_model.Steps.Reverting.{not_open, openers_shown, opened_row, opened_files, show_opened, opened_step}
+use Rattle.depot_rows.specs.depot_model.Steps.Submitting.{openings_of}
+use Rattle.depot_rows.specs.depot_model.Values.{value_of}
 use Rattle.depots_alike.specs.Contents.{bare, seen}
 use Rattle.depots_alike.proofs.Choosing.{may_list_same, shown_same, named_same, is_live_head_same}
 use Rattle.depots_alike.proofs.Files.{fixes_on_same, last_job_same}

@@ -3,24 +3,24 @@ use Rattle.std.proofs.Common.{◌≡◌, ℕ, ◌+◌, zero, suc, Bool, false, L
 use Rattle.std.specs.Prelude.{◌&&◌, pos, int_le, nat_le, max, codes, if◌then◌else◌, filter, is_some, option_map, slice_get}
 use Rattle.std.specs.List.{list_any}
 use Rattle.std.specs.Option.{option_map_or}
-use Rattle.depot_path.specs.Fit.{fits}
-use Rattle.depot_path.specs.declared.file_spec.FileSpec.{FileSpec}
-use Rattle.depot_path.specs.declared.revision.RevSpec.{RevSpec}
-use Rattle.depot_path.specs.declared.revision.RevSpec.TheVariants.{Number, Newest, Have, Zero, Change, Only, Moment, Named}
-use Rattle.depot_path.specs.declared.revision.Wanted.{Wanted}
-use Rattle.depot_path.specs.declared.revision.Wanted.TheVariants.{Head, One, Range}
-use Rattle.spec_form.specs.Form.{FormValue, lines_of}
-use Rattle.view_map.specs.Mapping.{mapped, path_in}
-use Rattle.view_map.specs.Reading.{view_of}
-use Rattle.view_map.specs.declared.line.ViewLine.{ViewLine}
-use Rattle.view_map.specs.declared.mapped.Mapped.TheVariants.{Nothing, At as MappedAt}
-use Rattle.depot_model.specs.declared.command.FileArgument.{FileArgument}
-use Rattle.depot_model.specs.declared.request.Caller.{Caller}
-use Rattle.depot_model.specs.Arguments.{place, fits_at, names, named, in_client_syntax}
-use Rattle.depot_model.specs.Asking.{view, is_client, is_label, may_at, may_list, to_list}
-use Rattle.depot_model.specs.Choice.{Choice, PassedOver, At, made_by_most, made_by, at_or_above_one, chosen_by, chosen, is_live_choice, shown}
-use Rattle.depot_model.specs.Deeds.{Deed, ClientForm, LabelForm}
-use Rattle.depot_model.specs.Revisions.{Revision, revisions, revision, head, is_live, is_live_at, is_live_head, last_passing}
+use Rattle.depot_rows.specs.depot_path.Fit.{fits}
+use Rattle.depot_rows.specs.depot_path.declared.file_spec.FileSpec.{FileSpec}
+use Rattle.depot_rows.specs.depot_path.declared.revision.RevSpec.{RevSpec}
+use Rattle.depot_rows.specs.depot_path.declared.revision.RevSpec.TheVariants.{Number, Newest, Have, Zero, Change, Only, Moment, Named}
+use Rattle.depot_rows.specs.depot_path.declared.revision.Wanted.{Wanted}
+use Rattle.depot_rows.specs.depot_path.declared.revision.Wanted.TheVariants.{Head, One, Range}
+use Rattle.depot_rows.specs.spec_form.Form.{FormValue, lines_of}
+use Rattle.depot_rows.specs.view_map.Mapping.{mapped, path_in}
+use Rattle.depot_rows.specs.view_map.Reading.{view_of}
+use Rattle.depot_rows.specs.view_map.declared.line.ViewLine.{ViewLine}
+use Rattle.depot_rows.specs.view_map.declared.mapped.Mapped.TheVariants.{Nothing, At as MappedAt}
+use Rattle.depot_rows.specs.depot_model.declared.command.FileArgument.{FileArgument}
+use Rattle.depot_rows.specs.depot_model.declared.request.Caller.{Caller}
+use Rattle.depot_rows.specs.depot_model.Arguments.{place, fits_at, names, named, in_client_syntax}
+use Rattle.depot_rows.specs.depot_model.Asking.{view, is_client, is_label, may_at, may_list, to_list}
+use Rattle.depot_rows.specs.depot_model.Choice.{Choice, PassedOver, At, made_by_most, made_by, at_or_above_one, chosen_by, chosen, is_live_choice, shown}
+use Rattle.depot_rows.specs.depot_model.Deeds.{Deed, ClientForm, LabelForm}
+use Rattle.depot_rows.specs.depot_model.Revisions.{Revision, revisions, revision, head, is_live, is_live_at, is_live_head, last_passing}
 use Rattle.depots_alike.specs.Contents.{seen}
 use Rattle.depots_alike.proofs.Alike.{Alike}
 use Rattle.depots_alike.proofs.Revisions.{get_seen}

@@ -4,19 +4,19 @@ use Rattle.std.specs.Prelude.{◌&&◌, ◌||◌, nat_le, if◌then◌else◌, f
 use Rattle.std.specs.List.{list_any, list_all}
 use Rattle.std.specs.Option.{option_map_or}
 use Rattle.std.proofs.lemmas.Bool.{true≢false}
-use Rattle.depot_path.specs.Bytes.{same}
-use Rattle.depot_path.specs.Path.{printed, is_path}
-use Rattle.db_records.specs.declared.key.Key.TheVariants as keys
-use Rattle.db_records.specs.declared.record.Record.{Record}
-use Rattle.db_records.specs.declared.rows.IntegedRecord.{IntegedRecord}
-use Rattle.depot_model.specs.Deeds.{Deed, Land, Landing, Entry, Credit, How, CopyFrom, BranchFrom, DeleteFrom, Ignored, MovedFrom}
-use Rattle.depot_model.specs.Records.{record_of, integrations, pairs_of, pair_of, into_word, rev_record}
-use Rattle.depot_model.specs.Revisions.{Revision, revisions, revision, entries_at, head, credits_from, has_credit, credited}
-use Rattle.depot_model.specs.Rows.{how_word}
-use Rattle.depot_model.specs.Rules.{IsSound, change_of, has_paths, entry_paths, path_or_none}
+use Rattle.depot_rows.specs.depot_path.Bytes.{same}
+use Rattle.depot_rows.specs.depot_path.Path.{printed, is_path}
+use Rattle.depot_rows.specs.db_records.declared.key.Key.TheVariants as keys
+use Rattle.depot_rows.specs.db_records.declared.record.Record.{Record}
+use Rattle.depot_rows.specs.db_records.declared.rows.IntegedRecord.{IntegedRecord}
+use Rattle.depot_rows.specs.depot_model.Deeds.{Deed, Land, Landing, Entry, Credit, How, CopyFrom, BranchFrom, DeleteFrom, Ignored, MovedFrom}
+use Rattle.depot_rows.specs.depot_model.Records.{record_of, integrations, pairs_of, pair_of, into_word, rev_record}
+use Rattle.depot_rows.specs.depot_model.Revisions.{Revision, revisions, revision, entries_at, head, credits_from, has_credit, credited}
+use Rattle.depot_rows.specs.depot_model.Rows.{how_word}
+use Rattle.depot_rows.specs.depot_model.Rules.{IsSound, change_of, has_paths, entry_paths, path_or_none}
 use Rattle.depot_rows.proofs.Entries.{In}
 use Rattle.depot_rows.proofs.Keys.{same-is, same-self, left-true, right-true}
-use Rattle.depot_rows.proofs.Paths.{at_path-here}
+use Rattle.depot_rows.proofs.Spelled.{at_path-here}
 use Rattle.depots_alike.specs.Contents.{seen}
 use Rattle.depots_alike.proofs.Integrations.{is_same, one_same, self_same, integrations_same}
 use Rattle.depots_alike.proofs.Ordered.{has_by}

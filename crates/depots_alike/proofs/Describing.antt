@@ -2,25 +2,25 @@
 use Rattle.std.proofs.Common.{◌≡◌, ℕ, ◌+◌, suc, Bool, true, false, not, List, [], ◌∷◌, ◌++◌, length, map, Option, Some, None, Ok, Err, refl, sym, ap, ◌∙◌}
 use Rattle.std.specs.Prelude.{◌==◌, nat_lt, codes, if◌then◌else◌, filter, filter_map, find, flat_map, is_none, option_map, option_and_then, unwrap_or}
 use Rattle.std.specs.List.{enumerate_from}
-use Rattle.spec_form.specs.Form.{FormValue, lines_of}
-use Rattle.spec_form.specs.Places.{field_place}
-use Rattle.spec_form.specs.Reading.{form_of}
-use Rattle.spec_form.specs.declared.shape.Shape.TheVariants.{Change as ChangeShape}
-use Rattle.depot_path.specs.Path.{printed}
-use Rattle.depot_model.specs.declared.refusal.Limit.TheVariants.{Text, Change, Files}
-use Rattle.depot_model.specs.declared.refusal.Refusal.TheVariants.{BadForm, NotOpen, OverLimit, NoSuchChange}
-use Rattle.depot_model.specs.declared.request.Caller.{Caller}
-use Rattle.depot_model.specs.declared.request.Request.{Request}
-use Rattle.depot_model.specs.Asking.{may_list}
-use Rattle.depot_model.specs.Deeds.{Deed, Open, Pend, Opening, Pending, Landing}
-use Rattle.depot_model.specs.Numbers.{landing}
-use Rattle.depot_model.specs.Revisions.{Revision, revisions}
-use Rattle.depot_model.specs.Rows.{row, number_field, text_field}
-use Rattle.depot_model.specs.Step.{Step, tells, does, refuses, unless, refuse_if}
-use Rattle.depot_model.specs.Steps.Changing.{form_number, form_text, has_number, bad_lines, listed_paths, not_open, moved_to, change_form, change_save, files_of_change}
-use Rattle.depot_model.specs.Steps.History.{numbered_from, describe_fields, change_fields, made_in, landed_files, describe_landed, describe_pending, describe}
-use Rattle.depot_model.specs.Steps.Listing.{Numbered}
-use Rattle.depot_model.specs.Steps.Opening.{change_refusal}
+use Rattle.depot_rows.specs.spec_form.Form.{FormValue, lines_of}
+use Rattle.depot_rows.specs.spec_form.Places.{field_place}
+use Rattle.depot_rows.specs.spec_form.Reading.{form_of}
+use Rattle.depot_rows.specs.spec_form.declared.shape.Shape.TheVariants.{Change as ChangeShape}
+use Rattle.depot_rows.specs.depot_path.Path.{printed}
+use Rattle.depot_rows.specs.depot_model.declared.refusal.Limit.TheVariants.{Text, Change, Files}
+use Rattle.depot_rows.specs.depot_model.declared.refusal.Refusal.TheVariants.{BadForm, NotOpen, OverLimit, NoSuchChange}
+use Rattle.depot_rows.specs.depot_model.declared.request.Caller.{Caller}
+use Rattle.depot_rows.specs.depot_model.declared.request.Request.{Request}
+use Rattle.depot_rows.specs.depot_model.Asking.{may_list}
+use Rattle.depot_rows.specs.depot_model.Deeds.{Deed, Open, Pend, Opening, Pending, Landing}
+use Rattle.depot_rows.specs.depot_model.Numbers.{landing}
+use Rattle.depot_rows.specs.depot_model.Revisions.{Revision, revisions}
+use Rattle.depot_rows.specs.depot_model.Rows.{row, number_field, text_field}
+use Rattle.depot_rows.specs.depot_model.Step.{Step, tells, does, refuses, unless, refuse_if}
+use Rattle.depot_rows.specs.depot_model.Steps.Changing.{form_number, form_text, has_number, bad_lines, listed_paths, not_open, moved_to, change_form, change_save, files_of_change}
+use Rattle.depot_rows.specs.depot_model.Steps.History.{numbered_from, describe_fields, change_fields, made_in, landed_files, describe_landed, describe_pending, describe}
+use Rattle.depot_rows.specs.depot_model.Steps.Listing.{Numbered}
+use Rattle.depot_rows.specs.depot_model.Steps.Opening.{change_refusal}
 use Rattle.depots_alike.specs.Contents.{bare, seen}
 use Rattle.depots_alike.proofs.Changes.{files_of_change_same}
 use Rattle.depots_alike.proofs.Choosing.{may_list_same}

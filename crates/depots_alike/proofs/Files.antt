@@ -1,30 +1,30 @@
 -- Commands on files: files, print, fstat, sync, tag, labelsync, add, edit, delete, opened, and lists of forms.
 use Rattle.std.proofs.Common.{◌≡◌, ℕ, Bool, false, List, [], ◌∷◌, length, map, Option, Some, None, refl, sym, ap, ◌∙◌}
 use Rattle.std.specs.Prelude.{nat_lt, codes, if◌then◌else◌, filter, filter_map, is_some, is_none, fold, max, option_map, unwrap_or}
-use Rattle.depot_path.specs.Path.{printed}
-use Rattle.depot_path.specs.declared.revision.Wanted.TheVariants.{Head}
-use Rattle.view_map.specs.Mapping.{files_at}
-use Rattle.depot_model.specs.declared.command.FileArgument.{FileArgument}
-use Rattle.depot_model.specs.declared.refusal.Refusal.TheVariants.{NotInView, AlreadyOpen, Exists}
-use Rattle.depot_model.specs.declared.request.Caller.{Caller}
-use Rattle.depot_model.specs.Arguments.{named, had, submitted, no_file, in_client_syntax, within_files}
-use Rattle.depot_model.specs.Asking.{to_open, to_read, view}
-use Rattle.depot_model.specs.Choice.{Choice, chosen, PassedOver, At}
-use Rattle.depot_model.specs.Deeds.{Deed, Open, Opening, Action, Add, Edit, Delete, LabelForm, JobForm, FixForm}
-use Rattle.depot_model.specs.Fixes.{fixes_on, is_on, last_job, job_number, is_fixing}
-use Rattle.depot_model.specs.Shelves.{is_of_change}
-use Rattle.depot_model.specs.Latest.{have}
-use Rattle.depot_model.specs.Revisions.{Revision, revision}
-use Rattle.depot_model.specs.Step.{Step, nothing, tells, does, refuses, unless, refuse_if}
-use Rattle.depot_model.specs.Steps.Adding.{spelled, files_to_add, opening, add_file, add}
-use Rattle.depot_model.specs.Steps.Editing.{had_type, new_type, next_opening, reopened, open_file, open_had, edit, delete}
-use Rattle.depot_model.specs.Steps.Editing as editing
-use Rattle.depot_model.specs.Steps.History.{print_row, print_chosen, print, stat_row}
-use Rattle.depot_model.specs.Steps.Jobs.{jobs, job_row, fixes, is_wanted, fix_row}
-use Rattle.depot_model.specs.Steps.Labels.{labels}
-use Rattle.depot_model.specs.Steps.Labels as label_steps
-use Rattle.depot_model.specs.Steps.Listing.{Numbered, numbered, chosen_revision, listed, tells_revision, tells_file, files}
-use Rattle.depot_model.specs.Steps.Opening.{exclusive_refusal, right_refusal, opening_row}
+use Rattle.depot_rows.specs.depot_path.Path.{printed}
+use Rattle.depot_rows.specs.depot_path.declared.revision.Wanted.TheVariants.{Head}
+use Rattle.depot_rows.specs.view_map.Mapping.{files_at}
+use Rattle.depot_rows.specs.depot_model.declared.command.FileArgument.{FileArgument}
+use Rattle.depot_rows.specs.depot_model.declared.refusal.Refusal.TheVariants.{NotInView, AlreadyOpen, Exists}
+use Rattle.depot_rows.specs.depot_model.declared.request.Caller.{Caller}
+use Rattle.depot_rows.specs.depot_model.Arguments.{named, had, submitted, no_file, in_client_syntax, within_files}
+use Rattle.depot_rows.specs.depot_model.Asking.{to_open, to_read, view}
+use Rattle.depot_rows.specs.depot_model.Choice.{Choice, chosen, PassedOver, At}
+use Rattle.depot_rows.specs.depot_model.Deeds.{Deed, Open, Opening, Action, Add, Edit, Delete, LabelForm, JobForm, FixForm}
+use Rattle.depot_rows.specs.depot_model.Fixes.{fixes_on, is_on, last_job, job_number, is_fixing}
+use Rattle.depot_rows.specs.depot_model.Shelves.{is_of_change}
+use Rattle.depot_rows.specs.depot_model.Latest.{have}
+use Rattle.depot_rows.specs.depot_model.Revisions.{Revision, revision}
+use Rattle.depot_rows.specs.depot_model.Step.{Step, nothing, tells, does, refuses, unless, refuse_if}
+use Rattle.depot_rows.specs.depot_model.Steps.Adding.{spelled, files_to_add, opening, add_file, add}
+use Rattle.depot_rows.specs.depot_model.Steps.Editing.{had_type, new_type, next_opening, reopened, open_file, open_had, edit, delete}
+use Rattle.depot_rows.specs.depot_model.Steps.Editing as editing
+use Rattle.depot_rows.specs.depot_model.Steps.History.{print_row, print_chosen, print, stat_row}
+use Rattle.depot_rows.specs.depot_model.Steps.Jobs.{jobs, job_row, fixes, is_wanted, fix_row}
+use Rattle.depot_rows.specs.depot_model.Steps.Labels.{labels}
+use Rattle.depot_rows.specs.depot_model.Steps.Labels as label_steps
+use Rattle.depot_rows.specs.depot_model.Steps.Listing.{Numbered, numbered, chosen_revision, listed, tells_revision, tells_file, files}
+use Rattle.depot_rows.specs.depot_model.Steps.Opening.{exclusive_refusal, right_refusal, opening_row}
 use Rattle.depots_alike.specs.Contents.{seen}
 use Rattle.depots_alike.proofs.Choosing.{view_same, chosen_same, shown_same, named_same, is_live_head_same}
 use Rattle.depots_alike.proofs.Names.{spec_names_same}

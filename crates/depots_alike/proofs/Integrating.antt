@@ -2,22 +2,22 @@
 use Rattle.std.proofs.Common.{◌≡◌, ℕ, false, not, List, [], ◌∷◌, Option, Some, None, refl, sym, ap, ◌∙◌}
 use Rattle.std.specs.Prelude.{codes, if◌then◌else◌, filter, is_some, unwrap_or}
 use Rattle.std.specs.List.{last_or}
-use Rattle.depot_path.specs.Path.{printed}
-use Rattle.depot_path.specs.declared.revision.Wanted.{Wanted}
-use Rattle.depot_path.specs.declared.revision.Wanted.TheVariants.{Head}
-use Rattle.depot_model.specs.declared.command.FileArgument.{FileArgument}
-use Rattle.depot_model.specs.declared.command.PatternArgument.{PatternArgument}
-use Rattle.depot_model.specs.declared.refusal.Refusal.TheVariants.{NotInView, AlreadyOpen, AllIntegrated}
-use Rattle.depot_model.specs.declared.request.Caller.{Caller}
-use Rattle.depot_model.specs.Arguments.{named, submitted, within_files}
-use Rattle.depot_model.specs.Asking.{to_open, to_read}
-use Rattle.depot_model.specs.Choice.{PassedOver, At}
-use Rattle.depot_model.specs.Deeds.{Deed, Open, Got, Owe, Paid, Source, Action, Delete, Branch, Integrate, BranchFrom, DeleteFrom}
-use Rattle.depot_model.specs.Revisions.{Revision, revision, head}
-use Rattle.depot_model.specs.Step.{Step, nothing, does, refuses, unless, refuse_if}
-use Rattle.depot_model.specs.Steps.Integrating.{uncredited, type_at, opening, owing, integrate_row, integrate_live, integrate_deleted, integrate_revs, new_type, integrate_to, integrate_chosen, integrate_file, integrate_all, integrate}
-use Rattle.depot_model.specs.Steps.Opening.{exclusive_refusal, held}
-use Rattle.depot_model.specs.Steps.Targets.{target_text}
+use Rattle.depot_rows.specs.depot_path.Path.{printed}
+use Rattle.depot_rows.specs.depot_path.declared.revision.Wanted.{Wanted}
+use Rattle.depot_rows.specs.depot_path.declared.revision.Wanted.TheVariants.{Head}
+use Rattle.depot_rows.specs.depot_model.declared.command.FileArgument.{FileArgument}
+use Rattle.depot_rows.specs.depot_model.declared.command.PatternArgument.{PatternArgument}
+use Rattle.depot_rows.specs.depot_model.declared.refusal.Refusal.TheVariants.{NotInView, AlreadyOpen, AllIntegrated}
+use Rattle.depot_rows.specs.depot_model.declared.request.Caller.{Caller}
+use Rattle.depot_rows.specs.depot_model.Arguments.{named, submitted, within_files}
+use Rattle.depot_rows.specs.depot_model.Asking.{to_open, to_read}
+use Rattle.depot_rows.specs.depot_model.Choice.{PassedOver, At}
+use Rattle.depot_rows.specs.depot_model.Deeds.{Deed, Open, Got, Owe, Paid, Source, Action, Delete, Branch, Integrate, BranchFrom, DeleteFrom}
+use Rattle.depot_rows.specs.depot_model.Revisions.{Revision, revision, head}
+use Rattle.depot_rows.specs.depot_model.Step.{Step, nothing, does, refuses, unless, refuse_if}
+use Rattle.depot_rows.specs.depot_model.Steps.Integrating.{uncredited, type_at, opening, owing, integrate_row, integrate_live, integrate_deleted, integrate_revs, new_type, integrate_to, integrate_chosen, integrate_file, integrate_all, integrate}
+use Rattle.depot_rows.specs.depot_model.Steps.Opening.{exclusive_refusal, held}
+use Rattle.depot_rows.specs.depot_model.Steps.Targets.{target_text}
 use Rattle.step_tables.proofs.Opening.{integrate_file_stays}
 use Rattle.depots_alike.proofs.Alike.{Alike, alike_of}
 use Rattle.depots_alike.proofs.Asked.{right_same, exclusive_same, target_text_same, target_at_same}

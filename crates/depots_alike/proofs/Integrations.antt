@@ -5,16 +5,16 @@ use Rattle.std.specs.List.{list_any}
 use Rattle.std.specs.Ordering.{is_lt, is_eq}
 use Rattle.std.specs.declared.cmp.Ordering.{Ordering}
 use Rattle.std.proofs.lemmas.Cmp.{on_total}
-use Rattle.db_records.specs.Key.{key_cmp}
-use Rattle.db_records.specs.KeyLaws.{keys_total}
-use Rattle.db_records.specs.Record.{key_of}
-use Rattle.db_records.specs.declared.key.Key.{Key}
-use Rattle.db_records.specs.declared.key.Key.TheVariants as keys
-use Rattle.db_records.specs.declared.record.Record.TheVariants.{Integed}
-use Rattle.db_records.specs.declared.rows.IntegedRecord.{IntegedRecord}
-use Rattle.depot_model.specs.Deeds.{Deed}
-use Rattle.depot_model.specs.Records.{record_of, integrations, is_at}
-use Rattle.depot_model.specs.Steps.History.{integed_inserted, in_key_order}
+use Rattle.depot_rows.specs.db_records.Key.{key_cmp}
+use Rattle.depot_rows.specs.db_records.KeyLaws.{keys_total}
+use Rattle.depot_rows.specs.db_records.Record.{key_of}
+use Rattle.depot_rows.specs.db_records.declared.key.Key.{Key}
+use Rattle.depot_rows.specs.db_records.declared.key.Key.TheVariants as keys
+use Rattle.depot_rows.specs.db_records.declared.record.Record.TheVariants.{Integed}
+use Rattle.depot_rows.specs.db_records.declared.rows.IntegedRecord.{IntegedRecord}
+use Rattle.depot_rows.specs.depot_model.Deeds.{Deed}
+use Rattle.depot_rows.specs.depot_model.Records.{record_of, integrations, is_at}
+use Rattle.depot_rows.specs.depot_model.Steps.History.{integed_inserted, in_key_order}
 use Rattle.depot_rows.proofs.Keys.{at-is, at-self}
 use Rattle.depots_alike.proofs.Ordered.{IsOrder, has_by, Rise, put, put_rises, has_put}
 use Rattle.depots_alike.proofs.Twins.{Twins}

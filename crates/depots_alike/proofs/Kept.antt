@@ -4,21 +4,21 @@ use Rattle.std.specs.Prelude.{◌||◌, codes, decimal, if◌then◌else◌, is_
 use Rattle.std.specs.List.{list_all}
 use Rattle.std.specs.Option.{option_or}
 use Rattle.std.proofs.lemmas.Bool.{true≢false}
-use Rattle.depot_path.specs.Bytes.{same}
-use Rattle.depot_path.specs.Bytes.{is_digit}
-use Rattle.depot_path.specs.Digits.{is_digits}
-use Rattle.depot_path.specs.Path.{printed, is_path}
-use Rattle.depot_path.specs.declared.fault.PathFault.{PathFault}
-use Rattle.depot_path.proofs.Paths.{prints_path}
-use Rattle.spec_form.specs.Form.{FormValue}
-use Rattle.spec_form.specs.declared.shape.Shape.TheVariants.{Shelf as ShelfShape}
-use Rattle.depot_model.specs.Arguments.{paths_of}
-use Rattle.depot_model.specs.Deeds.{Deed, Spec, ShelfForm}
-use Rattle.depot_model.specs.Latest.{latest, when, spec, spec_said}
-use Rattle.depot_model.specs.Numerals.{is_numeral}
-use Rattle.depot_model.specs.Rules.{IsSound, has_paths}
-use Rattle.depot_model.specs.Shelves.{shelf_name, paths_in, is_of_change, is_kept, kept, shelf_paths, kept_paths, is_shelved}
-use Rattle.depot_model.specs.Values.{value_of}
+use Rattle.depot_rows.specs.depot_path.Bytes.{same}
+use Rattle.depot_rows.specs.depot_path.Bytes.{is_digit}
+use Rattle.depot_rows.specs.depot_path.Digits.{is_digits}
+use Rattle.depot_rows.specs.depot_path.Path.{printed, is_path}
+use Rattle.depot_rows.specs.depot_path.declared.fault.PathFault.{PathFault}
+use Rattle.depot_rows.proofs.depot_path.Paths.{prints_path}
+use Rattle.depot_rows.specs.spec_form.Form.{FormValue}
+use Rattle.depot_rows.specs.spec_form.declared.shape.Shape.TheVariants.{Shelf as ShelfShape}
+use Rattle.depot_rows.specs.depot_model.Arguments.{paths_of}
+use Rattle.depot_rows.specs.depot_model.Deeds.{Deed, Spec, ShelfForm}
+use Rattle.depot_rows.specs.depot_model.Latest.{latest, when, spec, spec_said}
+use Rattle.depot_rows.specs.depot_model.Numerals.{is_numeral}
+use Rattle.depot_rows.specs.depot_model.Rules.{IsSound, has_paths}
+use Rattle.depot_rows.specs.depot_model.Shelves.{shelf_name, paths_in, is_of_change, is_kept, kept, shelf_paths, kept_paths, is_shelved}
+use Rattle.depot_rows.specs.depot_model.Values.{value_of}
 use Rattle.depot_rows.proofs.Keys.{same-self, left-true, right-true}
 use Rattle.sound_deeds.proofs.Read.{spelled_reads, value_is}
 use Rattle.sound_deeds.proofs.Decimals.{decimal_digits}

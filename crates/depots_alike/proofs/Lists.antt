@@ -6,11 +6,11 @@ use Rattle.std.specs.Ordering.{is_lt, is_eq, nat_cmp}
 use Rattle.std.specs.declared.cmp.Ordering.TheVariants.{Equal}
 use Rattle.std.specs.Cmp.Lexicographic.{slice_cmp, texts_ties}
 use Rattle.std.proofs.lemmas.Cmp.{nat_list_cmp_total, on_total}
-use Rattle.depot_path.specs.Bytes.{same}
-use Rattle.depot_path.specs.Order.{path_cmp}
-use Rattle.depot_path.specs.Path.{path_of, printed, is_path}
-use Rattle.depot_path.proofs.Paths.{prints_path}
-use Rattle.depot_model.specs.Sorted.{inserted, path_inserted, all_inserted}
+use Rattle.depot_rows.specs.depot_path.Bytes.{same}
+use Rattle.depot_rows.specs.depot_path.Order.{path_cmp}
+use Rattle.depot_rows.specs.depot_path.Path.{path_of, printed, is_path}
+use Rattle.depot_rows.proofs.depot_path.Paths.{prints_path}
+use Rattle.depot_rows.specs.depot_model.Sorted.{inserted, path_inserted, all_inserted}
 use Rattle.depot_rows.proofs.Keys.{same-is, same-self, left-true, right-true}
 use Rattle.depots_alike.proofs.Ordered.{IsOrder, Rise, one_list, put, put_rises, has_put, filter_rises, has_filter as has_what_passes}
 

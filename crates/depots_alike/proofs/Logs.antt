@@ -3,20 +3,20 @@ use Rattle.std.proofs.Common.{◌≡◌, ℕ, ◌+◌, Bool, Ok, Err, List, [], 
 use Rattle.std.specs.Prelude.{◌&&◌, ◌==◌, codes, decimal, filter, flat_map, option_map, false}
 use Rattle.std.specs.List.{enumerate_from, take-map}
 use Rattle.std.proofs.lemmas.List.{map-append, reverse-append}
-use Rattle.depot_path.specs.Bytes.{same}
-use Rattle.depot_path.specs.Path.{path_of, printed}
-use Rattle.db_records.specs.declared.rows.IntegedRecord.{IntegedRecord}
-use Rattle.depot_model.specs.declared.command.FileArgument.{FileArgument}
-use Rattle.depot_model.specs.declared.reply.Field.{Field}
-use Rattle.depot_model.specs.declared.request.Caller.{Caller}
-use Rattle.depot_model.specs.Arguments.{named, submitted, no_file}
-use Rattle.depot_model.specs.Deeds.{Deed}
-use Rattle.depot_model.specs.Records.{digest, integrations}
-use Rattle.depot_model.specs.Revisions.{Revision, revisions}
-use Rattle.depot_model.specs.Rows.{row, path_field, number_field, text_field, action_word, if_any}
-use Rattle.depot_model.specs.Step.{Step, nothing, tells}
-use Rattle.depot_model.specs.Steps.History.{may_list_text, integrated_row, records_of, integrated, record_fields, log_fields, numbered_from, up_to, log_file, filelog}
-use Rattle.depot_model.specs.Steps.Listing.{Numbered, chosen_revision, listed}
+use Rattle.depot_rows.specs.depot_path.Bytes.{same}
+use Rattle.depot_rows.specs.depot_path.Path.{path_of, printed}
+use Rattle.depot_rows.specs.db_records.declared.rows.IntegedRecord.{IntegedRecord}
+use Rattle.depot_rows.specs.depot_model.declared.command.FileArgument.{FileArgument}
+use Rattle.depot_rows.specs.depot_model.declared.reply.Field.{Field}
+use Rattle.depot_rows.specs.depot_model.declared.request.Caller.{Caller}
+use Rattle.depot_rows.specs.depot_model.Arguments.{named, submitted, no_file}
+use Rattle.depot_rows.specs.depot_model.Deeds.{Deed}
+use Rattle.depot_rows.specs.depot_model.Records.{digest, integrations}
+use Rattle.depot_rows.specs.depot_model.Revisions.{Revision, revisions}
+use Rattle.depot_rows.specs.depot_model.Rows.{row, path_field, number_field, text_field, action_word, if_any}
+use Rattle.depot_rows.specs.depot_model.Step.{Step, nothing, tells}
+use Rattle.depot_rows.specs.depot_model.Steps.History.{may_list_text, integrated_row, records_of, integrated, record_fields, log_fields, numbered_from, up_to, log_file, filelog}
+use Rattle.depot_rows.specs.depot_model.Steps.Listing.{Numbered, chosen_revision, listed}
 use Rattle.depots_alike.specs.Contents.{seen}
 use Rattle.depots_alike.proofs.Describing.{numbers_seen}
 use Rattle.depots_alike.proofs.Files.{seen_number, listed_same, named_submitted, chosen_revision_same}

@@ -1,29 +1,29 @@
 -- Commands on files: fstat, sync, tag, labelsync.
 use Rattle.std.proofs.Common.{◌≡◌, ℕ, ◌+◌, Bool, true, false, not, List, [], ◌∷◌, ◌++◌, length, Option, Some, None, refl, sym, ap, ◌∙◌}
 use Rattle.std.specs.Prelude.{◌&&◌, ◌==◌, nat_le, nat_lt, codes, if◌then◌else◌, is_some, option_map, option_and_then}
-use Rattle.view_map.specs.Mapping.{path_in}
-use Rattle.depot_path.specs.declared.revision.Wanted.{Wanted}
-use Rattle.spec_form.specs.declared.shape.Shape.TheVariants.{Label}
-use Rattle.depot_model.specs.declared.command.FileArgument.{FileArgument}
-use Rattle.depot_model.specs.declared.command.Labelling.{Labelling}
-use Rattle.depot_model.specs.declared.command.Labelling.TheVariants.{Adding, Exact, Removing}
-use Rattle.depot_model.specs.declared.refusal.Refusal.TheVariants.{LabelLocked, NoSuchLabel}
-use Rattle.depot_model.specs.declared.request.Caller.{Caller}
-use Rattle.depot_model.specs.Arguments.{named, submitted, no_file, within_files}
-use Rattle.depot_model.specs.Asking.{to_open, to_read}
-use Rattle.depot_model.specs.Choice.{Choice, chosen, PassedOver, At}
-use Rattle.depot_model.specs.Deeds.{Deed, Spec, Opening, Owe, LabelForm}
-use Rattle.depot_model.specs.Latest.{have}
-use Rattle.depot_model.specs.Opened.{Resolve}
-use Rattle.depot_model.specs.Revisions.{Revision, revision, is_live_at}
-use Rattle.depot_model.specs.Rows.{row, path_field, number_field, text_field, if_any, action_word}
-use Rattle.depot_model.specs.Step.{Step, nothing, tells, does, unless, refuse_if, both}
-use Rattle.depot_model.specs.Steps.History.{stat_row, stat_file, fstat}
-use Rattle.depot_model.specs.Steps.Listing.{Numbered, chosen_revision, listed}
-use Rattle.depot_model.specs.Steps.Opening.{held}
-use Rattle.depot_model.specs.Steps.Syncing.{size_of, sync_row, wanted_rev, sync_word, changes_to, sync_have, is_owed, sync_opened, sync_to, sync_file, shows_alone, sync}
-use Rattle.depot_model.specs.Steps.Tagging.{tag_to, tag_file, live_choice, or_labelled, made_label, tagged_rev, tag_files, tag, or_have, synced_rev, labelsync}
-use Rattle.depot_model.specs.Values.{valued}
+use Rattle.depot_rows.specs.view_map.Mapping.{path_in}
+use Rattle.depot_rows.specs.depot_path.declared.revision.Wanted.{Wanted}
+use Rattle.depot_rows.specs.spec_form.declared.shape.Shape.TheVariants.{Label}
+use Rattle.depot_rows.specs.depot_model.declared.command.FileArgument.{FileArgument}
+use Rattle.depot_rows.specs.depot_model.declared.command.Labelling.{Labelling}
+use Rattle.depot_rows.specs.depot_model.declared.command.Labelling.TheVariants.{Adding, Exact, Removing}
+use Rattle.depot_rows.specs.depot_model.declared.refusal.Refusal.TheVariants.{LabelLocked, NoSuchLabel}
+use Rattle.depot_rows.specs.depot_model.declared.request.Caller.{Caller}
+use Rattle.depot_rows.specs.depot_model.Arguments.{named, submitted, no_file, within_files}
+use Rattle.depot_rows.specs.depot_model.Asking.{to_open, to_read}
+use Rattle.depot_rows.specs.depot_model.Choice.{Choice, chosen, PassedOver, At}
+use Rattle.depot_rows.specs.depot_model.Deeds.{Deed, Spec, Opening, Owe, LabelForm}
+use Rattle.depot_rows.specs.depot_model.Latest.{have}
+use Rattle.depot_rows.specs.depot_model.Opened.{Resolve}
+use Rattle.depot_rows.specs.depot_model.Revisions.{Revision, revision, is_live_at}
+use Rattle.depot_rows.specs.depot_model.Rows.{row, path_field, number_field, text_field, if_any, action_word}
+use Rattle.depot_rows.specs.depot_model.Step.{Step, nothing, tells, does, unless, refuse_if, both}
+use Rattle.depot_rows.specs.depot_model.Steps.History.{stat_row, stat_file, fstat}
+use Rattle.depot_rows.specs.depot_model.Steps.Listing.{Numbered, chosen_revision, listed}
+use Rattle.depot_rows.specs.depot_model.Steps.Opening.{held}
+use Rattle.depot_rows.specs.depot_model.Steps.Syncing.{size_of, sync_row, wanted_rev, sync_word, changes_to, sync_have, is_owed, sync_opened, sync_to, sync_file, shows_alone, sync}
+use Rattle.depot_rows.specs.depot_model.Steps.Tagging.{tag_to, tag_file, live_choice, or_labelled, made_label, tagged_rev, tag_files, tag, or_have, synced_rev, labelsync}
+use Rattle.depot_rows.specs.depot_model.Values.{valued}
 use Rattle.depots_alike.specs.Contents.{seen}
 use Rattle.depots_alike.proofs.Choosing.{view_same, chosen_same, shown_same, is_live_same, is_label_same}
 use Rattle.depots_alike.proofs.Files.{seen_number, listed_same, named_submitted, chosen_revision_same}

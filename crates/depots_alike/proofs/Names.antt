@@ -3,16 +3,16 @@ use Rattle.std.proofs.Common.{◌≡◌, ℕ, Bool, true, false, List, [], ◌�
 use Rattle.std.specs.Prelude.{◌&&◌, ◌||◌, if◌then◌else◌, codes, filter, filter_map, is_some, option_map}
 use Rattle.std.specs.Option.{option_or, option_map_or, option_flatten}
 use Rattle.std.proofs.lemmas.Bool.{true≢false}
-use Rattle.depot_path.specs.Bytes.{same}
-use Rattle.depot_model.specs.Arguments.{paths_of, open_paths}
-use Rattle.depot_model.specs.Deeds.{Deed, Open, Shut, Spec, Count, SpecKind}
-use Rattle.depot_model.specs.Latest.{latest, when, keys_of, spec, spec_name, same_kind, count_name, count_said}
-use Rattle.depot_model.specs.Numbers.{top}
-use Rattle.depot_model.specs.Opened.{opened, opening_said}
-use Rattle.depot_model.specs.Sorted.{inserted}
-use Rattle.depot_model.specs.Step.{tells}
-use Rattle.depot_model.specs.Steps.Counters.{counter_of, counter_row, counters, above_zero}
-use Rattle.depot_model.specs.Steps.Opening.{openers, opener_of}
+use Rattle.depot_rows.specs.depot_path.Bytes.{same}
+use Rattle.depot_rows.specs.depot_model.Arguments.{paths_of, open_paths}
+use Rattle.depot_rows.specs.depot_model.Deeds.{Deed, Open, Shut, Spec, Count, SpecKind}
+use Rattle.depot_rows.specs.depot_model.Latest.{latest, when, keys_of, spec, spec_name, same_kind, count_name, count_said}
+use Rattle.depot_rows.specs.depot_model.Numbers.{top}
+use Rattle.depot_rows.specs.depot_model.Opened.{opened, opening_said}
+use Rattle.depot_rows.specs.depot_model.Sorted.{inserted}
+use Rattle.depot_rows.specs.depot_model.Step.{tells}
+use Rattle.depot_rows.specs.depot_model.Steps.Counters.{counter_of, counter_row, counters, above_zero}
+use Rattle.depot_rows.specs.depot_model.Steps.Opening.{openers, opener_of}
 use Rattle.depots_alike.proofs.Lists.{has, NamesRise, one_name_list, some_names_rise, has_inserted, inserted_rises, has_filter}
 use Rattle.depots_alike.proofs.Paths.{same_turned, or_false, only_test, not_opened}
 use Rattle.depots_alike.proofs.Searches.{spec_same, counter_same}

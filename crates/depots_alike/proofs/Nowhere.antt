@@ -5,13 +5,13 @@ use Rattle.std.specs.List.{list_all}
 use Rattle.std.specs.Option.{option_or, option_flatten}
 use Rattle.std.proofs.lemmas.Bool.{true≢false}
 use Rattle.std.proofs.lemmas.List.Folds.{list_all-append}
-use Rattle.depot_path.specs.Bytes.{same}
-use Rattle.depot_path.specs.Path.{is_path}
-use Rattle.depot_model.specs.Deeds.{Deed, Open, Shut, Got, Tag, Land, Owe, Paid, Entry}
-use Rattle.depot_model.specs.Latest.{latest, when, have, have_said, labelled, label_said}
-use Rattle.depot_model.specs.Opened.{opened, opening_said, owed, paid_by}
-use Rattle.depot_model.specs.Revisions.{revisions, entries_at}
-use Rattle.depot_model.specs.Rules.{has_paths, entry_paths}
+use Rattle.depot_rows.specs.depot_path.Bytes.{same}
+use Rattle.depot_rows.specs.depot_path.Path.{is_path}
+use Rattle.depot_rows.specs.depot_model.Deeds.{Deed, Open, Shut, Got, Tag, Land, Owe, Paid, Entry}
+use Rattle.depot_rows.specs.depot_model.Latest.{latest, when, have, have_said, labelled, label_said}
+use Rattle.depot_rows.specs.depot_model.Opened.{opened, opening_said, owed, paid_by}
+use Rattle.depot_rows.specs.depot_model.Revisions.{revisions, entries_at}
+use Rattle.depot_rows.specs.depot_model.Rules.{has_paths, entry_paths}
 use Rattle.depot_rows.proofs.Keys.{same-is, left-true, right-true}
 
 -- what no deed with paths says isn't said

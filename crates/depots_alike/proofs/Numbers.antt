@@ -8,17 +8,17 @@ use Rattle.std.specs.Cmp.{IsTotalOrder}
 use Rattle.std.specs.declared.cmp.Ordering.TheVariants.{Less, Equal, Greater}
 use Rattle.std.proofs.lemmas.Bool.{true≢false, eqb-true, eq-eqb}
 use Rattle.std.proofs.lemmas.Cmp.{nat_cmp_total}
-use Rattle.depot_model.specs.declared.command.FileArgument.{FileArgument}
-use Rattle.depot_model.specs.declared.refusal.Refusal.TheVariants.{NoSuchFile}
-use Rattle.depot_model.specs.declared.request.Caller.{Caller}
-use Rattle.depot_model.specs.Arguments.{named, not_in, submitted}
-use Rattle.depot_model.specs.Deeds.{Deed, Pend, Drop, Land, Landing}
-use Rattle.depot_model.specs.Latest.{latest, when}
-use Rattle.depot_model.specs.Numbers.{pending, pending_said, landing}
-use Rattle.depot_model.specs.Refusals.{refusal_row}
-use Rattle.depot_model.specs.Revisions.{Revision, revision}
-use Rattle.depot_model.specs.Step.{tells}
-use Rattle.depot_model.specs.Steps.Changes.{Listed, number_inserted, numbers, listed_pending, listed_landing, is_listable, listed_submitted, listed, change_at, made_of, made_over, is_made, passes, change_row, at_most, missing, changes}
+use Rattle.depot_rows.specs.depot_model.declared.command.FileArgument.{FileArgument}
+use Rattle.depot_rows.specs.depot_model.declared.refusal.Refusal.TheVariants.{NoSuchFile}
+use Rattle.depot_rows.specs.depot_model.declared.request.Caller.{Caller}
+use Rattle.depot_rows.specs.depot_model.Arguments.{named, not_in, submitted}
+use Rattle.depot_rows.specs.depot_model.Deeds.{Deed, Pend, Drop, Land, Landing}
+use Rattle.depot_rows.specs.depot_model.Latest.{latest, when}
+use Rattle.depot_rows.specs.depot_model.Numbers.{pending, pending_said, landing}
+use Rattle.depot_rows.specs.depot_model.Refusals.{refusal_row}
+use Rattle.depot_rows.specs.depot_model.Revisions.{Revision, revision}
+use Rattle.depot_rows.specs.depot_model.Step.{tells}
+use Rattle.depot_rows.specs.depot_model.Steps.Changes.{Listed, number_inserted, numbers, listed_pending, listed_landing, is_listable, listed_submitted, listed, change_at, made_of, made_over, is_made, passes, change_row, at_most, missing, changes}
 use Rattle.depots_alike.specs.Contents.{bare, seen}
 use Rattle.depots_alike.proofs.Alike.{alike_of}
 use Rattle.depots_alike.proofs.Changes.{files_of_change_same}

@@ -5,14 +5,14 @@ use Rattle.std.specs.List.{list_all}
 use Rattle.std.specs.Option.{option_or, option_flatten}
 use Rattle.std.proofs.lemmas.Bool.{true≢false}
 use Rattle.std.proofs.lemmas.List.Folds.{list_all-append}
-use Rattle.depot_path.specs.Bytes.{same}
-use Rattle.depot_path.specs.Path.{is_path}
-use Rattle.depot_model.specs.Arguments.{paths_of, landed_paths, got_paths, open_paths, submitted, had, opened_by}
-use Rattle.depot_model.specs.Deeds.{Deed, Open, Shut, Got, Land, Entry, Landing}
-use Rattle.depot_model.specs.Latest.{latest, when, have, have_said}
-use Rattle.depot_model.specs.Opened.{opened, opening_said}
-use Rattle.depot_model.specs.Revisions.{Revision, revisions, entries_at}
-use Rattle.depot_model.specs.Rules.{has_paths, entry_paths}
+use Rattle.depot_rows.specs.depot_path.Bytes.{same}
+use Rattle.depot_rows.specs.depot_path.Path.{is_path}
+use Rattle.depot_rows.specs.depot_model.Arguments.{paths_of, landed_paths, got_paths, open_paths, submitted, had, opened_by}
+use Rattle.depot_rows.specs.depot_model.Deeds.{Deed, Open, Shut, Got, Land, Entry, Landing}
+use Rattle.depot_rows.specs.depot_model.Latest.{latest, when, have, have_said}
+use Rattle.depot_rows.specs.depot_model.Opened.{opened, opening_said}
+use Rattle.depot_rows.specs.depot_model.Revisions.{Revision, revisions, entries_at}
+use Rattle.depot_rows.specs.depot_model.Rules.{has_paths, entry_paths}
 use Rattle.depot_rows.proofs.Keys.{same-is, same-self, left-true, right-true}
 use Rattle.depots_alike.proofs.Lists.{has, PathsRise, one_path_list, some_paths_rise, has_all_inserted, all_inserted_rises, has_filter}
 use Rattle.depots_alike.proofs.Searches.{have_same, opened_same, head_same}

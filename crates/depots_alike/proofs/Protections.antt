@@ -4,24 +4,24 @@ use Rattle.std.specs.Prelude.{is_ok, slice_get, option_and_then, nat_lt, if◌th
 use Rattle.std.specs.List.{enumerate_from, join_with_byte}
 use Rattle.std.proofs.lemmas.Option.{slice_get_within}
 use Rattle.std.proofs.lemmas.Bool.Decides.{nat_tests}
-use Rattle.depot_path.specs.Answers.{◌>>=◌, on_ok, on_err}
-use Rattle.protect_table.specs.Line.{required, read_word, name_of, last_word, pattern_in, make_line, line_of_words, line_of, in_line, lines_from}
-use Rattle.protect_table.specs.Mode.{mode_of, grantee_of}
-use Rattle.protect_table.specs.Words.{words_of}
-use Rattle.protect_table.specs.declared.fault.LineFault.{LineFault}
-use Rattle.protect_table.specs.declared.fault.LineFault.TheVariants.{BadMode, BadGrantee, BadPath}
-use Rattle.protect_table.specs.declared.fault.ProtectFault.{ProtectFault}
-use Rattle.protect_table.specs.declared.line.ProtectLine.{ProtectLine}
-use Rattle.db_records.specs.declared.key.Key.TheVariants as keys
-use Rattle.db_records.specs.declared.record.Record.{Record}
-use Rattle.db_records.specs.declared.record.Record.TheVariants as records
-use Rattle.depot_model.specs.Deeds.{Deed}
-use Rattle.depot_model.specs.Latest.{guard_lines}
-use Rattle.depot_model.specs.Records.{record_of, protect_record}
-use Rattle.depot_model.specs.Rows.{row}
-use Rattle.depot_model.specs.Rules.{IsSound}
-use Rattle.depot_model.specs.Step.{tells}
-use Rattle.depot_model.specs.Steps.Protections.{kept_line, numbered, protect_show}
+use Rattle.depot_rows.specs.depot_path.Answers.{◌>>=◌, on_ok, on_err}
+use Rattle.depot_rows.specs.protect_table.Line.{required, read_word, name_of, last_word, pattern_in, make_line, line_of_words, line_of, in_line, lines_from}
+use Rattle.depot_rows.specs.protect_table.Mode.{mode_of, grantee_of}
+use Rattle.depot_rows.specs.protect_table.Words.{words_of}
+use Rattle.depot_rows.specs.protect_table.declared.fault.LineFault.{LineFault}
+use Rattle.depot_rows.specs.protect_table.declared.fault.LineFault.TheVariants.{BadMode, BadGrantee, BadPath}
+use Rattle.depot_rows.specs.protect_table.declared.fault.ProtectFault.{ProtectFault}
+use Rattle.depot_rows.specs.protect_table.declared.line.ProtectLine.{ProtectLine}
+use Rattle.depot_rows.specs.db_records.declared.key.Key.TheVariants as keys
+use Rattle.depot_rows.specs.db_records.declared.record.Record.{Record}
+use Rattle.depot_rows.specs.db_records.declared.record.Record.TheVariants as records
+use Rattle.depot_rows.specs.depot_model.Deeds.{Deed}
+use Rattle.depot_rows.specs.depot_model.Latest.{guard_lines}
+use Rattle.depot_rows.specs.depot_model.Records.{record_of, protect_record}
+use Rattle.depot_rows.specs.depot_model.Rows.{row}
+use Rattle.depot_rows.specs.depot_model.Rules.{IsSound}
+use Rattle.depot_rows.specs.depot_model.Step.{tells}
+use Rattle.depot_rows.specs.depot_model.Steps.Protections.{kept_line, numbered, protect_show}
 use Rattle.depots_alike.proofs.Revisions.{one_by_one}
 use Rattle.depots_alike.proofs.Twins.{Twins}
 

@@ -4,19 +4,19 @@ use Rattle.std.specs.Prelude.{if◌then◌else◌, ◌&&◌, ◌==◌, codes, Co
 use Rattle.std.specs.List.{list_all}
 use Rattle.std.proofs.lemmas.Bool.{true≢false}
 use Rattle.std.proofs.lemmas.List.Folds.{list_all-append}
-use Rattle.depot_path.specs.Bytes.{same}
-use Rattle.depot_path.specs.Path.{printed, is_path}
-use Rattle.db_records.specs.declared.key.Key.TheVariants as keys
-use Rattle.db_records.specs.declared.record.Record.{Record}
-use Rattle.db_records.specs.declared.record.Record.TheVariants as records
-use Rattle.depot_model.specs.Deeds.{Deed, Land, Landing, Pending, Entry, Credit}
-use Rattle.depot_model.specs.Numbers.{landings, landing, pending}
-use Rattle.depot_model.specs.Records.{record_of, rev_record, pending_record, landed_record}
-use Rattle.depot_model.specs.Revisions.{Revision, revisions, revision, entries_at}
-use Rattle.depot_model.specs.Rules.{IsSound, IsSubmitted, IsRow, has_paths, entry_paths, path_or_none, change_of}
-use Rattle.depot_model.specs.Steps.Submitting.{content_at}
+use Rattle.depot_rows.specs.depot_path.Bytes.{same}
+use Rattle.depot_rows.specs.depot_path.Path.{printed, is_path}
+use Rattle.depot_rows.specs.db_records.declared.key.Key.TheVariants as keys
+use Rattle.depot_rows.specs.db_records.declared.record.Record.{Record}
+use Rattle.depot_rows.specs.db_records.declared.record.Record.TheVariants as records
+use Rattle.depot_rows.specs.depot_model.Deeds.{Deed, Land, Landing, Pending, Entry, Credit}
+use Rattle.depot_rows.specs.depot_model.Numbers.{landings, landing, pending}
+use Rattle.depot_rows.specs.depot_model.Records.{record_of, rev_record, pending_record, landed_record}
+use Rattle.depot_rows.specs.depot_model.Revisions.{Revision, revisions, revision, entries_at}
+use Rattle.depot_rows.specs.depot_model.Rules.{IsSound, IsSubmitted, IsRow, has_paths, entry_paths, path_or_none, change_of}
+use Rattle.depot_rows.specs.depot_model.Steps.Submitting.{content_at}
 use Rattle.depot_rows.proofs.Keys.{number-is, same-is, left-true, right-true}
-use Rattle.depot_rows.proofs.Paths.{at_path-here}
+use Rattle.depot_rows.proofs.Spelled.{at_path-here}
 use Rattle.depots_alike.specs.Contents.{bare, seen}
 use Rattle.depots_alike.proofs.Nowhere.{no_revisions}
 use Rattle.depots_alike.proofs.Searches.{path_in, path_back, action_in, action_back, moved_back, landing_in, by_path}

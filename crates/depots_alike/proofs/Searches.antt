@@ -2,28 +2,28 @@
 use Rattle.std.proofs.Common.{◌≡◌, ℕ, suc, Bool, true, false, List, [], ◌∷◌, length, Option, Some, None, Ok, Err, refl, sym, ap, ◌∙◌}
 use Rattle.std.specs.Prelude.{◌&&◌, ◌==◌, codes, if◌then◌else◌, find, unwrap_or, option_map, option_and_then, is_some, IfSome, IsSome, slice_get}
 use Rattle.std.specs.Option.{option_map_or}
-use Rattle.depot_path.specs.Bytes.{same}
-use Rattle.depot_path.specs.Path.{is_path, printed, path_of}
-use Rattle.depot_path.proofs.Paths.{prints_path}
-use Rattle.db_records.specs.declared.key.Key.TheVariants as keys
-use Rattle.db_records.specs.declared.record.Record.{Record}
-use Rattle.db_records.specs.declared.record.Record.TheVariants as rows
-use Rattle.spec_form.specs.Form.{FormValue}
-use Rattle.spec_form.specs.Printing.{printed_form}
-use Rattle.spec_form.specs.Reading.{form_of}
-use Rattle.depot_model.specs.Deeds.{Deed, Opening, Source, Action, Add, Edit, Delete, Branch, Integrate, MoveAdd, MoveDelete, Pending, Landing, SpecKind, ClientForm, LabelForm, ShelfForm, JobForm, FixForm, How, CopyFrom, BranchFrom, DeleteFrom, Ignored, MovedFrom}
-use Rattle.depot_model.specs.Latest.{have, labelled, spec, kind_word, count_of}
-use Rattle.depot_model.specs.Numbers.{pending, landing, top}
-use Rattle.depot_model.specs.Opened.{opened, holder, owed, Resolve}
-use Rattle.depot_model.specs.Records.{record_of, working_record, resolve_record, printed_or_empty, rev_record, numbered_record, pending_record, landed_record, shape_of}
-use Rattle.depot_model.specs.Revisions.{Revision, revisions, revision, head}
-use Rattle.depot_model.specs.Rows.{action_word, how_word}
-use Rattle.depot_model.specs.Rules.{IsSound, IsSpelled, lock_of}
-use Rattle.depot_model.specs.Steps.Counters.{counter_of, above_zero}
+use Rattle.depot_rows.specs.depot_path.Bytes.{same}
+use Rattle.depot_rows.specs.depot_path.Path.{is_path, printed, path_of}
+use Rattle.depot_rows.proofs.depot_path.Paths.{prints_path}
+use Rattle.depot_rows.specs.db_records.declared.key.Key.TheVariants as keys
+use Rattle.depot_rows.specs.db_records.declared.record.Record.{Record}
+use Rattle.depot_rows.specs.db_records.declared.record.Record.TheVariants as rows
+use Rattle.depot_rows.specs.spec_form.Form.{FormValue}
+use Rattle.depot_rows.specs.spec_form.Printing.{printed_form}
+use Rattle.depot_rows.specs.spec_form.Reading.{form_of}
+use Rattle.depot_rows.specs.depot_model.Deeds.{Deed, Opening, Source, Action, Add, Edit, Delete, Branch, Integrate, MoveAdd, MoveDelete, Pending, Landing, SpecKind, ClientForm, LabelForm, ShelfForm, JobForm, FixForm, How, CopyFrom, BranchFrom, DeleteFrom, Ignored, MovedFrom}
+use Rattle.depot_rows.specs.depot_model.Latest.{have, labelled, spec, kind_word, count_of}
+use Rattle.depot_rows.specs.depot_model.Numbers.{pending, landing, top}
+use Rattle.depot_rows.specs.depot_model.Opened.{opened, holder, owed, Resolve}
+use Rattle.depot_rows.specs.depot_model.Records.{record_of, working_record, resolve_record, printed_or_empty, rev_record, numbered_record, pending_record, landed_record, shape_of}
+use Rattle.depot_rows.specs.depot_model.Revisions.{Revision, revisions, revision, head}
+use Rattle.depot_rows.specs.depot_model.Rows.{action_word, how_word}
+use Rattle.depot_rows.specs.depot_model.Rules.{IsSound, IsSpelled, lock_of}
+use Rattle.depot_rows.specs.depot_model.Steps.Counters.{counter_of, above_zero}
 use Rattle.depot_rows.proofs.Keys.{same-is, same-self, number-is}
 use Rattle.depot_rows.proofs.Locks.{lock_number, lock-unopened}
 use Rattle.depot_rows.proofs.Openings.{lock_shown}
-use Rattle.depot_rows.proofs.Paths.{at_path-here}
+use Rattle.depot_rows.proofs.Spelled.{at_path-here}
 use Rattle.sound_deeds.proofs.Files.{ArePaths, are_paths}
 use Rattle.sound_deeds.proofs.Read.{spelled_reads}
 use Rattle.sound_deeds.proofs.Tables.{IsOwed, owed_is}

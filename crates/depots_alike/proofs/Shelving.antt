@@ -3,26 +3,26 @@ use Rattle.std.proofs.Common.{◌≡◌, ℕ, Bool, true, false, not, List, [], 
 use Rattle.std.specs.Prelude.{◌&&◌, ◌==◌, codes, decimal, if◌then◌else◌, filter, flat_map, is_some, is_none, option_and_then, unwrap_or}
 use Rattle.std.specs.List.{enumerate_from}
 use Rattle.std.specs.Option.{option_map_or, option_or}
-use Rattle.depot_path.specs.Path.{printed}
-use Rattle.depot_path.specs.declared.revision.Wanted.TheVariants.{Head}
-use Rattle.spec_form.specs.Form.{FormValue}
-use Rattle.view_map.specs.Mapping.{path_in}
-use Rattle.depot_model.specs.declared.command.FileArgument.{FileArgument}
-use Rattle.depot_model.specs.declared.refusal.Refusal.TheVariants.{NotInView, AlreadyOpen, NoContent, AlreadyShelved, NotShelvable, NoShelf}
-use Rattle.depot_model.specs.declared.request.Caller.{Caller}
-use Rattle.depot_model.specs.declared.request.Request.{Request}
-use Rattle.depot_model.specs.Arguments.{named, opened_by, within_files, no_file}
-use Rattle.depot_model.specs.Asking.{to_open}
-use Rattle.depot_model.specs.Deeds.{Deed, Spec, Open, Opening, Pending, Source, ShelfForm}
-use Rattle.depot_model.specs.Opened.{opened}
-use Rattle.depot_model.specs.Revisions.{is_live_action}
-use Rattle.depot_model.specs.Rows.{row, path_field, number_field, text_field}
-use Rattle.depot_model.specs.Shelves.{shelf_name, kept_paths, kept_form, gone_form, kept_block, kept_opening}
-use Rattle.depot_model.specs.Step.{Step, nothing, tells, does, refuses, unless, refuse_if}
-use Rattle.depot_model.specs.Steps.Opening.{opening_row}
-use Rattle.depot_model.specs.Steps.Reverting.{not_open, is_selected}
-use Rattle.depot_model.specs.Steps.Shelving.{block_given, is_shelvable, shelved_row, shelve_opening, shelve_file, opened_in, within_forms, shelve, listable, shelf_refusal, unkeep, shelve_delete, from_fields, unshelve_opening, unshelve_file, unshelve, fields_of_kept, shelved_fields, describe_kept, describe_shelved}
-use Rattle.depot_model.specs.Steps.Submitting.{block_at, source_content, block_of, moved_content, own_content, is_moved_in, content_of, lacks_content}
+use Rattle.depot_rows.specs.depot_path.Path.{printed}
+use Rattle.depot_rows.specs.depot_path.declared.revision.Wanted.TheVariants.{Head}
+use Rattle.depot_rows.specs.spec_form.Form.{FormValue}
+use Rattle.depot_rows.specs.view_map.Mapping.{path_in}
+use Rattle.depot_rows.specs.depot_model.declared.command.FileArgument.{FileArgument}
+use Rattle.depot_rows.specs.depot_model.declared.refusal.Refusal.TheVariants.{NotInView, AlreadyOpen, NoContent, AlreadyShelved, NotShelvable, NoShelf}
+use Rattle.depot_rows.specs.depot_model.declared.request.Caller.{Caller}
+use Rattle.depot_rows.specs.depot_model.declared.request.Request.{Request}
+use Rattle.depot_rows.specs.depot_model.Arguments.{named, opened_by, within_files, no_file}
+use Rattle.depot_rows.specs.depot_model.Asking.{to_open}
+use Rattle.depot_rows.specs.depot_model.Deeds.{Deed, Spec, Open, Opening, Pending, Source, ShelfForm}
+use Rattle.depot_rows.specs.depot_model.Opened.{opened}
+use Rattle.depot_rows.specs.depot_model.Revisions.{is_live_action}
+use Rattle.depot_rows.specs.depot_model.Rows.{row, path_field, number_field, text_field}
+use Rattle.depot_rows.specs.depot_model.Shelves.{shelf_name, kept_paths, kept_form, gone_form, kept_block, kept_opening}
+use Rattle.depot_rows.specs.depot_model.Step.{Step, nothing, tells, does, refuses, unless, refuse_if}
+use Rattle.depot_rows.specs.depot_model.Steps.Opening.{opening_row}
+use Rattle.depot_rows.specs.depot_model.Steps.Reverting.{not_open, is_selected}
+use Rattle.depot_rows.specs.depot_model.Steps.Shelving.{block_given, is_shelvable, shelved_row, shelve_opening, shelve_file, opened_in, within_forms, shelve, listable, shelf_refusal, unkeep, shelve_delete, from_fields, unshelve_opening, unshelve_file, unshelve, fields_of_kept, shelved_fields, describe_kept, describe_shelved}
+use Rattle.depot_rows.specs.depot_model.Steps.Submitting.{block_at, source_content, block_of, moved_content, own_content, is_moved_in, content_of, lacks_content}
 use Rattle.depots_alike.proofs.Choosing.{may_list_same, view_same, shown_same, named_same}
 use Rattle.depots_alike.proofs.Kept.{kept_same, kept_paths_same}
 use Rattle.depots_alike.proofs.Paths.{opened_by_same}

@@ -1,36 +1,36 @@
 -- Commands of sound depots with the same rows and contents: what they do and tell.
 use Rattle.std.proofs.Common.{◌≡◌, ℕ, ◌+◌, Bool, true, false, not, List, [], ◌∷◌, ◌++◌, Option, Some, None, Ok, Err, refl, ap, ◌∙◌}
 use Rattle.std.specs.Prelude.{◌&&◌, ◌==◌, nat_le, codes, if◌then◌else◌, filter, flat_map, is_some, option_and_then, unwrap_or}
-use Rattle.depot_path.specs.Name.{is_name}
-use Rattle.spec_form.specs.Form.{FormValue}
-use Rattle.spec_form.specs.Reading.{form_of}
-use Rattle.spec_form.specs.declared.shape.Shape.TheVariants.{Label}
-use Rattle.view_map.specs.Mapping.{path_in, files_at}
-use Rattle.depot_model.specs.declared.command.FileArgument.{FileArgument}
-use Rattle.depot_model.specs.declared.refusal.Refusal.{Refusal}
-use Rattle.depot_model.specs.declared.refusal.Refusal.TheVariants.{NotInView, NoSuchChange, NotYours, OverLimit, NoSuchJob, BadForm, LabelLocked}
-use Rattle.depot_model.specs.declared.refusal.Limit.TheVariants.{Generation}
-use Rattle.depot_model.specs.declared.request.Caller.{Caller}
-use Rattle.depot_model.specs.Arguments.{over, over_all, named, had, opened_by, no_file, in_client_syntax, is_in, within_files}
-use Rattle.depot_model.specs.Asking.{to_open, to_write}
-use Rattle.depot_model.specs.Deeds.{Deed, Spec, Count, Opening, Pending, Hold, Free, Open, Shut, ClientForm, LabelForm, JobForm}
-use Rattle.depot_model.specs.FormRows.{form_fields}
-use Rattle.depot_model.specs.Opened.{partner, named_back, is_moved_with}
-use Rattle.depot_model.specs.Latest.{when}
-use Rattle.depot_model.specs.Rows.{row, path_field, number_field, text_field, if_any}
-use Rattle.depot_model.specs.Sorted.{all_inserted}
-use Rattle.depot_model.specs.Step.{Step, nothing, tells, does, refuses, unless, refuse_if, all_of, both}
-use Rattle.depot_model.specs.Steps.Adding.{spelled}
-use Rattle.depot_model.specs.Steps.Checkpoint.{checkpoint}
-use Rattle.depot_model.specs.Steps.Clients.{client_show, client_row}
-use Rattle.depot_model.specs.Steps.Counters.{counter_show, counter_row}
-use Rattle.depot_model.specs.Steps.Jobs.{job_show}
-use Rattle.depot_model.specs.Steps.Labels.{label_show, label_row, label_save, is_locked, is_locked_form}
-use Rattle.depot_model.specs.Steps.Listing.{files}
-use Rattle.depot_model.specs.Steps.Opening.{held, is_of, change_refusal, named_change_refusal, reopened_change_refusal}
-use Rattle.depot_model.specs.Steps.Placing.{told, tell_place, where_is, have_row, have_step, place_row}
-use Rattle.depot_model.specs.Steps.Reverting.{is_selected, selected, not_open, have_field, shut, other_end, both_ends, revert_file, revert_files, revert_named, revert_over, revert, moved, reopen_row, reopen_opening, reopen_file, reopen, is_held_by, lock_refusal, lock_file, lock, unlock_file, unlock}
-use Rattle.depot_model.specs.Values.{value_of}
+use Rattle.depot_rows.specs.depot_path.Name.{is_name}
+use Rattle.depot_rows.specs.spec_form.Form.{FormValue}
+use Rattle.depot_rows.specs.spec_form.Reading.{form_of}
+use Rattle.depot_rows.specs.spec_form.declared.shape.Shape.TheVariants.{Label}
+use Rattle.depot_rows.specs.view_map.Mapping.{path_in, files_at}
+use Rattle.depot_rows.specs.depot_model.declared.command.FileArgument.{FileArgument}
+use Rattle.depot_rows.specs.depot_model.declared.refusal.Refusal.{Refusal}
+use Rattle.depot_rows.specs.depot_model.declared.refusal.Refusal.TheVariants.{NotInView, NoSuchChange, NotYours, OverLimit, NoSuchJob, BadForm, LabelLocked}
+use Rattle.depot_rows.specs.depot_model.declared.refusal.Limit.TheVariants.{Generation}
+use Rattle.depot_rows.specs.depot_model.declared.request.Caller.{Caller}
+use Rattle.depot_rows.specs.depot_model.Arguments.{over, over_all, named, had, opened_by, no_file, in_client_syntax, is_in, within_files}
+use Rattle.depot_rows.specs.depot_model.Asking.{to_open, to_write}
+use Rattle.depot_rows.specs.depot_model.Deeds.{Deed, Spec, Count, Opening, Pending, Hold, Free, Open, Shut, ClientForm, LabelForm, JobForm}
+use Rattle.depot_rows.specs.depot_model.FormRows.{form_fields}
+use Rattle.depot_rows.specs.depot_model.Opened.{partner, named_back, is_moved_with}
+use Rattle.depot_rows.specs.depot_model.Latest.{when}
+use Rattle.depot_rows.specs.depot_model.Rows.{row, path_field, number_field, text_field, if_any}
+use Rattle.depot_rows.specs.depot_model.Sorted.{all_inserted}
+use Rattle.depot_rows.specs.depot_model.Step.{Step, nothing, tells, does, refuses, unless, refuse_if, all_of, both}
+use Rattle.depot_rows.specs.depot_model.Steps.Adding.{spelled}
+use Rattle.depot_rows.specs.depot_model.Steps.Checkpoint.{checkpoint}
+use Rattle.depot_rows.specs.depot_model.Steps.Clients.{client_show, client_row}
+use Rattle.depot_rows.specs.depot_model.Steps.Counters.{counter_show, counter_row}
+use Rattle.depot_rows.specs.depot_model.Steps.Jobs.{job_show}
+use Rattle.depot_rows.specs.depot_model.Steps.Labels.{label_show, label_row, label_save, is_locked, is_locked_form}
+use Rattle.depot_rows.specs.depot_model.Steps.Listing.{files}
+use Rattle.depot_rows.specs.depot_model.Steps.Opening.{held, is_of, change_refusal, named_change_refusal, reopened_change_refusal}
+use Rattle.depot_rows.specs.depot_model.Steps.Placing.{told, tell_place, where_is, have_row, have_step, place_row}
+use Rattle.depot_rows.specs.depot_model.Steps.Reverting.{is_selected, selected, not_open, have_field, shut, other_end, both_ends, revert_file, revert_files, revert_named, revert_over, revert, moved, reopen_row, reopen_opening, reopen_file, reopen, is_held_by, lock_refusal, lock_file, lock, unlock_file, unlock}
+use Rattle.depot_rows.specs.depot_model.Values.{value_of}
 use Rattle.depots_alike.proofs.Choosing.{view_same, may_same, may_list_same, named_same}
 use Rattle.depots_alike.proofs.Paths.{had_same, opened_by_same}
 use Rattle.depots_alike.proofs.Searches.{have_same, opened_same, holder_same, spec_same, counter_same, journal_same, pending_same}

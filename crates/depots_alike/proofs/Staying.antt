@@ -1,9 +1,9 @@
 -- Depots with the same rows and contents have the same contents after the same deeds.
 use Rattle.std.proofs.Common.{◌≡◌, ℕ, zero, suc, List, [], ◌∷◌, ◌++◌, map, Option, refl, sym, ap, ◌∙◌}
 use Rattle.std.specs.Prelude.{option_and_then, slice_get}
-use Rattle.depot_model.specs.Deeds.{Deed, Land}
-use Rattle.depot_model.specs.Revisions.{Revision, revisions, entries_at}
-use Rattle.depot_model.specs.Step.{after}
+use Rattle.depot_rows.specs.depot_model.Deeds.{Deed, Land}
+use Rattle.depot_rows.specs.depot_model.Revisions.{Revision, revisions, entries_at}
+use Rattle.depot_rows.specs.depot_model.Step.{after}
 use Rattle.depots_alike.specs.Contents.{SameContents, seen}
 use Rattle.depots_alike.proofs.Revisions.{revisions_same}
 use Rattle.depots_alike.proofs.Twins.{Twins}

@@ -4,25 +4,25 @@ use Rattle.std.specs.Prelude.{◌&&◌, ◌||◌, ◌==◌, nat_lt, codes, if◌
 use Rattle.std.specs.List.{list_any, list_all}
 use Rattle.std.specs.Option.{option_map_or}
 use Rattle.std.proofs.lemmas.Bool.{true≢false}
-use Rattle.depot_path.specs.Bytes.{same}
-use Rattle.depot_path.specs.Path.{is_path}
-use Rattle.spec_form.specs.Form.{FormValue}
-use Rattle.depot_model.specs.declared.refusal.Limit.TheVariants.{Text, Change, Files}
-use Rattle.depot_model.specs.declared.refusal.Refusal.{Refusal}
-use Rattle.depot_model.specs.declared.refusal.Refusal.TheVariants.{Stale, MustResolve, InMove, NoContent, EmptyChange, OverLimit, Locked}
-use Rattle.depot_model.specs.declared.request.Caller.{Caller}
-use Rattle.depot_model.specs.declared.request.Request.{Request}
-use Rattle.depot_model.specs.Arguments.{paths_of}
-use Rattle.depot_model.specs.Asking.{to_write}
-use Rattle.depot_model.specs.Deeds.{Deed, Owe, Paid, Shut, Land, Drop, Got, Opening, Pending}
-use Rattle.depot_model.specs.Fixes.{closing, renumbers_where, fixed_job}
-use Rattle.depot_model.specs.Numbers.{pending}
-use Rattle.depot_model.specs.Opened.{owed, paid_by}
-use Rattle.depot_model.specs.Revisions.{is_live_action}
-use Rattle.depot_model.specs.Rows.{row, path_field, number_field, text_field, action_word}
-use Rattle.depot_model.specs.Rules.{has_paths}
-use Rattle.depot_model.specs.Step.{unless, refuse_if}
-use Rattle.depot_model.specs.Steps.Submitting.{owed_from, resolves_of, is_unpaid, credit_of, lock_refusal, is_in_change, move_refusal, file_refusals, landing_number, move_credits, entry_of, landing_of, got_and_shut, dropped, file_row, landed, submit, submit_default, submit_change}
+use Rattle.depot_rows.specs.depot_path.Bytes.{same}
+use Rattle.depot_rows.specs.depot_path.Path.{is_path}
+use Rattle.depot_rows.specs.spec_form.Form.{FormValue}
+use Rattle.depot_rows.specs.depot_model.declared.refusal.Limit.TheVariants.{Text, Change, Files}
+use Rattle.depot_rows.specs.depot_model.declared.refusal.Refusal.{Refusal}
+use Rattle.depot_rows.specs.depot_model.declared.refusal.Refusal.TheVariants.{Stale, MustResolve, InMove, NoContent, EmptyChange, OverLimit, Locked}
+use Rattle.depot_rows.specs.depot_model.declared.request.Caller.{Caller}
+use Rattle.depot_rows.specs.depot_model.declared.request.Request.{Request}
+use Rattle.depot_rows.specs.depot_model.Arguments.{paths_of}
+use Rattle.depot_rows.specs.depot_model.Asking.{to_write}
+use Rattle.depot_rows.specs.depot_model.Deeds.{Deed, Owe, Paid, Shut, Land, Drop, Got, Opening, Pending}
+use Rattle.depot_rows.specs.depot_model.Fixes.{closing, renumbers_where, fixed_job}
+use Rattle.depot_rows.specs.depot_model.Numbers.{pending}
+use Rattle.depot_rows.specs.depot_model.Opened.{owed, paid_by}
+use Rattle.depot_rows.specs.depot_model.Revisions.{is_live_action}
+use Rattle.depot_rows.specs.depot_model.Rows.{row, path_field, number_field, text_field, action_word}
+use Rattle.depot_rows.specs.depot_model.Rules.{has_paths}
+use Rattle.depot_rows.specs.depot_model.Step.{unless, refuse_if}
+use Rattle.depot_rows.specs.depot_model.Steps.Submitting.{owed_from, resolves_of, is_unpaid, credit_of, lock_refusal, is_in_change, move_refusal, file_refusals, landing_number, move_credits, entry_of, landing_of, got_and_shut, dropped, file_row, landed, submit, submit_default, submit_change}
 use Rattle.depot_rows.proofs.Keys.{right-true}
 use Rattle.depots_alike.proofs.Changes.{openings_same, fixes_of_same, closes_same}
 use Rattle.depots_alike.proofs.Lists.{has, one_path_list, some_paths_rise, has_filter, has_all_inserted}

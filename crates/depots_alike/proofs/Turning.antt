@@ -3,27 +3,27 @@ use Rattle.std.proofs.Common.{◌≡◌, ℕ, true, false, List, [], ◌∷◌, 
 use Rattle.std.specs.Prelude.{codes, if◌then◌else◌, filter, is_some, is_none, option_and_then, unwrap_or}
 use Rattle.std.specs.List.{list_all}
 use Rattle.std.specs.Cmp.Derive.{both_true}
-use Rattle.depot_path.specs.Bytes.{same}
-use Rattle.depot_path.specs.Path.{printed}
-use Rattle.depot_path.specs.declared.revision.Wanted.TheVariants.{Head}
-use Rattle.depot_model.specs.declared.command.FileArgument.{FileArgument}
-use Rattle.depot_model.specs.declared.command.PatternArgument.{PatternArgument}
-use Rattle.depot_model.specs.declared.command.Taking.{Taking}
-use Rattle.depot_model.specs.declared.command.Taking.TheVariants.{Theirs, Yours}
-use Rattle.depot_model.specs.declared.refusal.Refusal.TheVariants.{NotInView, AlreadyOpen, Exists}
-use Rattle.depot_model.specs.declared.request.Caller.{Caller}
-use Rattle.depot_model.specs.Arguments.{named, opened_by, within_files}
-use Rattle.depot_model.specs.Asking.{to_open}
-use Rattle.depot_model.specs.Deeds.{Deed, Spec, Guard, Group, Count, Pend, Drop, Open, Shut, Hold, Free, Got, Tag, Owe, Paid, Land, Opening, Owing, Action, Add, Edit, Delete, Branch, Integrate, MoveAdd, MoveDelete}
-use Rattle.depot_model.specs.Latest.{when}
-use Rattle.depot_model.specs.Opened.{partner, is_moved_with, Resolve}
-use Rattle.depot_model.specs.Rows.{row, path_field, number_field, text_field, action_word}
-use Rattle.depot_model.specs.Step.{Step, nothing, does, refuses, unless, refuse_if, both, after, in_turn}
-use Rattle.depot_model.specs.Steps.Moving.{opening_at, shut, move_added, move_edited, renamed, move_again, move_deeds, target_action, move_row, movable_refusal, move_to, move_opening, move_file, move_all, move}
-use Rattle.depot_model.specs.Steps.Resolving.{held_of, source_at, how_of, paid, own_deeds, other_deeds, resolve_row, resolve_one, resolve_next, resolve_opened, owings, resolve_file, resolve}
-use Rattle.depot_model.specs.Steps.Reverting.{not_open}
-use Rattle.depot_model.specs.Steps.Submitting.{is_unpaid}
-use Rattle.depot_model.specs.Steps.Targets.{target_text}
+use Rattle.depot_rows.specs.depot_path.Bytes.{same}
+use Rattle.depot_rows.specs.depot_path.Path.{printed}
+use Rattle.depot_rows.specs.depot_path.declared.revision.Wanted.TheVariants.{Head}
+use Rattle.depot_rows.specs.depot_model.declared.command.FileArgument.{FileArgument}
+use Rattle.depot_rows.specs.depot_model.declared.command.PatternArgument.{PatternArgument}
+use Rattle.depot_rows.specs.depot_model.declared.command.Taking.{Taking}
+use Rattle.depot_rows.specs.depot_model.declared.command.Taking.TheVariants.{Theirs, Yours}
+use Rattle.depot_rows.specs.depot_model.declared.refusal.Refusal.TheVariants.{NotInView, AlreadyOpen, Exists}
+use Rattle.depot_rows.specs.depot_model.declared.request.Caller.{Caller}
+use Rattle.depot_rows.specs.depot_model.Arguments.{named, opened_by, within_files}
+use Rattle.depot_rows.specs.depot_model.Asking.{to_open}
+use Rattle.depot_rows.specs.depot_model.Deeds.{Deed, Spec, Guard, Group, Count, Pend, Drop, Open, Shut, Hold, Free, Got, Tag, Owe, Paid, Land, Opening, Owing, Action, Add, Edit, Delete, Branch, Integrate, MoveAdd, MoveDelete}
+use Rattle.depot_rows.specs.depot_model.Latest.{when}
+use Rattle.depot_rows.specs.depot_model.Opened.{partner, is_moved_with, Resolve}
+use Rattle.depot_rows.specs.depot_model.Rows.{row, path_field, number_field, text_field, action_word}
+use Rattle.depot_rows.specs.depot_model.Step.{Step, nothing, does, refuses, unless, refuse_if, both, after, in_turn}
+use Rattle.depot_rows.specs.depot_model.Steps.Moving.{opening_at, shut, move_added, move_edited, renamed, move_again, move_deeds, target_action, move_row, movable_refusal, move_to, move_opening, move_file, move_all, move}
+use Rattle.depot_rows.specs.depot_model.Steps.Resolving.{held_of, source_at, how_of, paid, own_deeds, other_deeds, resolve_row, resolve_one, resolve_next, resolve_opened, owings, resolve_file, resolve}
+use Rattle.depot_rows.specs.depot_model.Steps.Reverting.{not_open}
+use Rattle.depot_rows.specs.depot_model.Steps.Submitting.{is_unpaid}
+use Rattle.depot_rows.specs.depot_model.Steps.Targets.{target_text}
 use Rattle.depot_rows.proofs.Keys.{left-true, right-true}
 use Rattle.step_tables.specs.DeedTables.{stays_in}
 use Rattle.step_tables.proofs.Opening.{move_file_stays, resolve_opened_stays}

@@ -1,8 +1,8 @@
 -- Two sound depots with the same rows and contents.
 use Rattle.std.proofs.Common.{List, sym}
-use Rattle.depot_model.specs.Deeds.{Deed}
-use Rattle.depot_model.specs.Records.{SameRows}
-use Rattle.depot_model.specs.Rules.{IsSound}
+use Rattle.depot_rows.specs.depot_model.Deeds.{Deed}
+use Rattle.depot_rows.specs.depot_model.Records.{SameRows}
+use Rattle.depot_rows.specs.depot_model.Rules.{IsSound}
 use Rattle.depots_alike.specs.Contents.{SameContents}
 
 pub record Twins (d e : List Deed) : Type 0 where

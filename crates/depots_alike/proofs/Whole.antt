@@ -1,22 +1,22 @@
 -- The step of a request over two sound depots with the same rows and contents.
 use Rattle.std.proofs.Common.{◌≡◌, Bool, not, List, [], ◌∷◌, ◌++◌, Result, Ok, Err, refl, subst}
 use Rattle.std.specs.Prelude.{◌&&◌, ◌||◌, codes, if◌then◌else◌, flat_map, unwrap_or}
-use Rattle.depot_path.specs.declared.revision.RevSpec.TheVariants.{Named}
-use Rattle.depot_path.specs.declared.revision.Wanted.{Wanted}
-use Rattle.depot_path.specs.declared.revision.Wanted.TheVariants.{One}
-use Rattle.depot_model.specs.declared.command.Command.{Command}
-use Rattle.depot_model.specs.declared.command.Command.TheVariants.{ProtectShow, SubmitDefault, SubmitChange, ChangeDelete, Shelve, ShelveDelete, Unshelve, DescribeShelved, GroupShow, Opened, ChangeShow, ChangeSave, Describe, JobSave, Fix, FixDelete, Dirs, CounterShow, CounterSet, CounterDelete, Counters, ClientShow, ClientSave, LabelShow, LabelSave, GroupSave, ProtectSave, Where, Add, Edit, Delete, Revert, Reopen, Lock, Unlock, Sync, Have, Tag, LabelSync, Labels, Files, Print, FileStat, Checkpoint, Pull, JobShow, Jobs, Fixes, Integrated, FileLog, Changes, Move, Resolve, Integrate}
-use Rattle.depot_model.specs.declared.command.FileArgument.{FileArgument}
-use Rattle.depot_model.specs.declared.refusal.Refusal.TheVariants.{Denied, NoClient, Unbuilt, Shelved, Fixed}
-use Rattle.depot_model.specs.declared.request.Caller.{Caller}
-use Rattle.depot_model.specs.declared.request.Request.{Request}
-use Rattle.depot_model.specs.declared.request.WordFault.{WordFault}
-use Rattle.depot_model.specs.About.{About, about}
-use Rattle.depot_model.specs.Commands.{own_step, whole_step, built_step, step_of}
-use Rattle.depot_model.specs.Common.{common_refusals, unknown_name, first_unknown, asks_client, last_refusals, word_refusal}
-use Rattle.depot_model.specs.Deeds.{Deed}
-use Rattle.depot_model.specs.Records.{SameRows}
-use Rattle.depot_model.specs.Step.{Step, refuses, refuse_if, unless, after}
+use Rattle.depot_rows.specs.depot_path.declared.revision.RevSpec.TheVariants.{Named}
+use Rattle.depot_rows.specs.depot_path.declared.revision.Wanted.{Wanted}
+use Rattle.depot_rows.specs.depot_path.declared.revision.Wanted.TheVariants.{One}
+use Rattle.depot_rows.specs.depot_model.declared.command.Command.{Command}
+use Rattle.depot_rows.specs.depot_model.declared.command.Command.TheVariants.{ProtectShow, SubmitDefault, SubmitChange, ChangeDelete, Shelve, ShelveDelete, Unshelve, DescribeShelved, GroupShow, Opened, ChangeShow, ChangeSave, Describe, JobSave, Fix, FixDelete, Dirs, CounterShow, CounterSet, CounterDelete, Counters, ClientShow, ClientSave, LabelShow, LabelSave, GroupSave, ProtectSave, Where, Add, Edit, Delete, Revert, Reopen, Lock, Unlock, Sync, Have, Tag, LabelSync, Labels, Files, Print, FileStat, Checkpoint, Pull, JobShow, Jobs, Fixes, Integrated, FileLog, Changes, Move, Resolve, Integrate}
+use Rattle.depot_rows.specs.depot_model.declared.command.FileArgument.{FileArgument}
+use Rattle.depot_rows.specs.depot_model.declared.refusal.Refusal.TheVariants.{Denied, NoClient, Unbuilt, Shelved, Fixed}
+use Rattle.depot_rows.specs.depot_model.declared.request.Caller.{Caller}
+use Rattle.depot_rows.specs.depot_model.declared.request.Request.{Request}
+use Rattle.depot_rows.specs.depot_model.declared.request.WordFault.{WordFault}
+use Rattle.depot_rows.specs.depot_model.About.{About, about}
+use Rattle.depot_rows.specs.depot_model.Commands.{own_step, whole_step, built_step, step_of}
+use Rattle.depot_rows.specs.depot_model.Common.{common_refusals, unknown_name, first_unknown, asks_client, last_refusals, word_refusal}
+use Rattle.depot_rows.specs.depot_model.Deeds.{Deed}
+use Rattle.depot_rows.specs.depot_model.Records.{SameRows}
+use Rattle.depot_rows.specs.depot_model.Step.{Step, refuses, refuse_if, unless, after}
 use Rattle.depot_rows.specs.declared.deed.Deed.{Deed as Done}
 use Rattle.depot_rows.specs.Effects.{Follow}
 use Rattle.depot_rows.proofs.Twins.{rows_same}

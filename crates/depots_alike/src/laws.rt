@@ -1,13 +1,13 @@
 //! The law of two depots with the same rows and contents.
 
 ghost use Rattle.std.specs.Prelude.{◌≡◌, Bool, List};
-ghost use Rattle.depot_model.specs.declared.command.Command.{Command};
-ghost use Rattle.depot_model.specs.declared.request.Request.{Request};
-ghost use Rattle.depot_model.specs.Commands.{step_of};
-ghost use Rattle.depot_model.specs.Deeds.{Deed};
-ghost use Rattle.depot_model.specs.Records.{SameRows};
-ghost use Rattle.depot_model.specs.Rules.{IsSound};
-ghost use Rattle.depot_model.specs.Step.{after};
+ghost use Rattle.depot_rows.specs.depot_model.declared.command.Command.{Command};
+ghost use Rattle.depot_rows.specs.depot_model.declared.request.Request.{Request};
+ghost use Rattle.depot_rows.specs.depot_model.Commands.{step_of};
+ghost use Rattle.depot_rows.specs.depot_model.Deeds.{Deed};
+ghost use Rattle.depot_rows.specs.depot_model.Records.{SameRows};
+ghost use Rattle.depot_rows.specs.depot_model.Rules.{IsSound};
+ghost use Rattle.depot_rows.specs.depot_model.Step.{after};
 ghost use Rattle.depot_rows.specs.declared.deed.Deed.{Deed as Done};
 ghost use Rattle.depot_rows.specs.Effects.{Follow};
 ghost use Rattle.depots_alike.specs.Contents.{SameContents};

@@ -8,7 +8,7 @@ ghost use Rattle.disk_journal.specs.Text.{IsGroup};
 ghost use Rattle.disk_journal.specs.Older.{SameBefore};
 
 use db_records::Change;
-use depot_path::Text;
+use db_records::paths::Text;
 use journal_groups::print_group;
 use outside_api::{Disk, DiskFault, write_through};
 use std::alloc::{AllocError, Global};

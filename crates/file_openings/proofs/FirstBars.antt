@@ -3,22 +3,22 @@ use Rattle.std.proofs.Common.{◌≡◌, ℕ, Bool, true, false, cond, List, [],
 use Rattle.std.specs.Prelude.{◌&&◌, ◌||◌, codes, filter, filter_map, find, if◌then◌else◌, IfSome, IsSome, is_some, map, not, option_and_then, option_map}
 use Rattle.std.specs.List.{cons_option}
 use Rattle.std.proofs.lemmas.Bool.{true≢false}
-use Rattle.depot_path.specs.Bytes.{same}
-use Rattle.depot_path.specs.Name.{is_name}
-use Rattle.depot_path.specs.Path.{path_of, printed}
-use Rattle.depot_path.specs.declared.name.NameFault.{NameFault}
-use Rattle.depot_path.specs.declared.name.NameFault.TheVariants.{NotAName}
-use Rattle.db_records.specs.declared.key.Key.TheVariants as keys
-use Rattle.db_records.specs.declared.record.Record.{Record}
-use Rattle.db_records.specs.declared.record.Record.TheVariants as records
-use Rattle.db_records.specs.declared.rows.WorkingRecord.{WorkingRecord}
-use Rattle.depot_model.specs.Deeds.{ClientForm, Deed, Opening}
-use Rattle.depot_model.specs.Latest.{keys_of}
-use Rattle.depot_model.specs.Opened.{opened}
-use Rattle.depot_model.specs.Records.{form_text, is_holder, printed_or_empty, record_of, working_record}
-use Rattle.depot_model.specs.Rows.{action_word}
-use Rattle.depot_model.specs.Rules.{IsClient, IsForm, IsRow, IsSound, Rows}
-use Rattle.depot_model.specs.Steps.Opening.{bars, barred_by, is_exclusive, opener_of}
+use Rattle.depot_rows.specs.depot_path.Bytes.{same}
+use Rattle.depot_rows.specs.depot_path.Name.{is_name}
+use Rattle.depot_rows.specs.depot_path.Path.{path_of, printed}
+use Rattle.depot_rows.specs.depot_path.declared.name.NameFault.{NameFault}
+use Rattle.depot_rows.specs.depot_path.declared.name.NameFault.TheVariants.{NotAName}
+use Rattle.depot_rows.specs.db_records.declared.key.Key.TheVariants as keys
+use Rattle.depot_rows.specs.db_records.declared.record.Record.{Record}
+use Rattle.depot_rows.specs.db_records.declared.record.Record.TheVariants as records
+use Rattle.depot_rows.specs.db_records.declared.rows.WorkingRecord.{WorkingRecord}
+use Rattle.depot_rows.specs.depot_model.Deeds.{ClientForm, Deed, Opening}
+use Rattle.depot_rows.specs.depot_model.Latest.{keys_of}
+use Rattle.depot_rows.specs.depot_model.Opened.{opened}
+use Rattle.depot_rows.specs.depot_model.Records.{form_text, is_holder, printed_or_empty, record_of, working_record}
+use Rattle.depot_rows.specs.depot_model.Rows.{action_word}
+use Rattle.depot_rows.specs.depot_model.Rules.{IsClient, IsForm, IsRow, IsSound, Rows}
+use Rattle.depot_rows.specs.depot_model.Steps.Opening.{bars, barred_by, is_exclusive, opener_of}
 use Rattle.depot_rows.proofs.Locks.{opened-is}
 use Rattle.row_reads.proofs.FoundRows.{at_own_path}
 use Rattle.file_openings.specs.Barring.{bars_row, client_in, name_in_text}

@@ -11,10 +11,10 @@ use Rattle.std.specs.declared.cmp.Ordering.TheVariants.{Less, Equal, Greater}
 use Rattle.std.proofs.lemmas.Bool.{true≢false}
 use Rattle.std.proofs.lemmas.Cmp.{nat_list_cmp_total}
 use Rattle.std.proofs.lemmas.Map.Text.{is_eq-slice_cmp}
-use Rattle.depot_path.specs.Bytes.{same}
-use Rattle.depot_model.specs.Deeds.{Deed}
-use Rattle.depot_model.specs.Latest.{keys_of}
-use Rattle.depot_model.specs.Sorted.{inserted}
+use Rattle.depot_rows.specs.depot_path.Bytes.{same}
+use Rattle.depot_rows.specs.depot_model.Deeds.{Deed}
+use Rattle.depot_rows.specs.depot_model.Latest.{keys_of}
+use Rattle.depot_rows.specs.depot_model.Sorted.{inserted}
 use Rattle.depot_rows.proofs.Keys.{same-is}
 
 order : IsTotalOrder (slice_cmp nat_cmp)

@@ -2,7 +2,7 @@
 use Rattle.std.proofs.Common.{◌≡◌, ℕ, ◌+◌, suc, Bool, true, false, cond, List, [], ◌∷◌, length, refl, sym, ap, ◌∙◌, arith}
 use Rattle.std.specs.Prelude.{◌==◌, drop, if◌then◌else◌, not, take}
 use Rattle.std.specs.List.{prefix_len}
-use Rattle.depot_model.specs.Types.{modifiers}
+use Rattle.depot_rows.specs.depot_model.Types.{modifiers}
 use Rattle.file_openings.specs.Plus.{behind_plus}
 
 abbrev front : List ℕ → ℕ

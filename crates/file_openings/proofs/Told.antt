@@ -9,27 +9,27 @@ use Rattle.std.specs.declared.cmp.Ordering.{Ordering}
 use Rattle.std.specs.declared.cmp.Ordering.TheVariants.{Less, Equal, Greater}
 use Rattle.std.proofs.lemmas.Bool.{true≢false, false≢true}
 use Rattle.std.proofs.lemmas.Map.Text.{is_eq-slice_cmp}
-use Rattle.depot_path.specs.Bytes.{same}
-use Rattle.depot_path.specs.Path.{path_of, printed}
-use Rattle.db_records.proofs.Order.{keys_equal}
-use Rattle.db_records.specs.Key.{key_cmp, key_table}
-use Rattle.db_records.specs.Record.{key_of}
-use Rattle.db_records.specs.declared.key.Key.{Key}
-use Rattle.db_records.specs.declared.key.Key.TheVariants as keys
-use Rattle.db_records.specs.declared.record.Record.{Record}
-use Rattle.db_records.specs.declared.table.TableId.{TableId}
-use Rattle.db_records.specs.declared.table.TableId.TheVariants as tables
-use Rattle.table_store.specs.Rows.{AllAbove, AllOfTable, IsRising, TableRows, row_at}
-use Rattle.table_store.proofs.Order.{turned_less}
+use Rattle.depot_rows.specs.depot_path.Bytes.{same}
+use Rattle.depot_rows.specs.depot_path.Path.{path_of, printed}
+use Rattle.depot_rows.proofs.db_records.Order.{keys_equal}
+use Rattle.depot_rows.specs.db_records.Key.{key_cmp, key_table}
+use Rattle.depot_rows.specs.db_records.Record.{key_of}
+use Rattle.depot_rows.specs.db_records.declared.key.Key.{Key}
+use Rattle.depot_rows.specs.db_records.declared.key.Key.TheVariants as keys
+use Rattle.depot_rows.specs.db_records.declared.record.Record.{Record}
+use Rattle.depot_rows.specs.db_records.declared.table.TableId.{TableId}
+use Rattle.depot_rows.specs.db_records.declared.table.TableId.TheVariants as tables
+use Rattle.depot_rows.specs.table_store.Rows.{AllAbove, AllOfTable, IsRising, TableRows, row_at}
+use Rattle.depot_rows.proofs.table_store.Order.{turned_less}
 use Rattle.row_ranges.specs.Ranges.{has_row, is_in}
 use Rattle.row_ranges.specs.declared.range.KeyRange.TheVariants.{OpenedFiles}
-use Rattle.depot_model.specs.Deeds.{Deed, Opening}
-use Rattle.depot_model.specs.Deeds as deeds
-use Rattle.depot_model.specs.Latest.{is_held, keys_of, latest, when}
-use Rattle.depot_model.specs.Opened.{opened, opening_said}
-use Rattle.depot_model.specs.Records.{record_of, working_record}
-use Rattle.depot_model.specs.Sorted.{inserted}
-use Rattle.depot_model.specs.Steps.Opening.{opener_of}
+use Rattle.depot_rows.specs.depot_model.Deeds.{Deed, Opening}
+use Rattle.depot_rows.specs.depot_model.Deeds as deeds
+use Rattle.depot_rows.specs.depot_model.Latest.{is_held, keys_of, latest, when}
+use Rattle.depot_rows.specs.depot_model.Opened.{opened, opening_said}
+use Rattle.depot_rows.specs.depot_model.Records.{record_of, working_record}
+use Rattle.depot_rows.specs.depot_model.Sorted.{inserted}
+use Rattle.depot_rows.specs.depot_model.Steps.Opening.{opener_of}
 use Rattle.depot_rows.proofs.Keys.{same-is, same-self}
 use Rattle.depot_rows.proofs.Locks.{opened-is}
 use Rattle.depot_rows.specs.Standing.{unplaced_at}

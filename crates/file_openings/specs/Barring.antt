@@ -1,11 +1,11 @@
 -- Which client keeps a client from opening a file, as the rows of its openings have it (Command-Line Reference, "File types" on `+l`). That a
 -- client whose name is none is passed over is this project's own choice; no sound depot has one.
 use Rattle.std.specs.Prelude.{ℕ, Bool, not, ◌&&◌, ◌||◌, List, find, Option, Some, None, Ok, Err, option_and_then}
-use Rattle.depot_path.specs.Bytes.{same}
-use Rattle.depot_path.specs.Name.{name_of}
-use Rattle.db_records.specs.declared.record.Record.{Record}
-use Rattle.db_records.specs.declared.rows.WorkingRecord.{WorkingRecord}
-use Rattle.depot_model.specs.Steps.Opening.{is_exclusive}
+use Rattle.depot_rows.specs.depot_path.Bytes.{same}
+use Rattle.depot_rows.specs.depot_path.Name.{name_of}
+use Rattle.depot_rows.specs.db_records.declared.record.Record.{Record}
+use Rattle.depot_rows.specs.db_records.declared.rows.WorkingRecord.{WorkingRecord}
+use Rattle.depot_rows.specs.depot_model.Steps.Opening.{is_exclusive}
 use Rattle.file_openings.specs.Openings.{workings}
 
 -- another client has the file opened, where the type of its opening or the new one is exclusive

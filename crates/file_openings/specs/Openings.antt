@@ -1,12 +1,12 @@
 -- The openings of a file, by the names of clients (Command-Line Reference, "p4 opened", option -a; Helix Core database schema reference,
 -- "db.working").
 use Rattle.std.specs.Prelude.{ℕ, List, [], ◌∷◌, filter_map, Option, Some, None, option_and_then}
-use Rattle.db_records.specs.declared.record.Record.{Record}
-use Rattle.db_records.specs.declared.record.Record.TheVariants.{Working}
-use Rattle.db_records.specs.declared.rows.WorkingRecord.{WorkingRecord}
-use Rattle.depot_model.specs.Deeds.{Deed, Opening}
-use Rattle.depot_model.specs.Opened.{opened}
-use Rattle.depot_model.specs.Steps.Opening.{openers}
+use Rattle.depot_rows.specs.db_records.declared.record.Record.{Record}
+use Rattle.depot_rows.specs.db_records.declared.record.Record.TheVariants.{Working}
+use Rattle.depot_rows.specs.db_records.declared.rows.WorkingRecord.{WorkingRecord}
+use Rattle.depot_rows.specs.depot_model.Deeds.{Deed, Opening}
+use Rattle.depot_rows.specs.depot_model.Opened.{opened}
+use Rattle.depot_rows.specs.depot_model.Steps.Opening.{openers}
 
 abbrev pub openings : List Deed → List ℕ → List Opening
 openings d path = filter_map (λ client. opened d client path) (openers d path)

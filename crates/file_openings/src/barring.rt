@@ -1,23 +1,23 @@
 //! Who keeps a client from opening a file.
 
 ghost use Rattle.std.specs.Prelude.{◌≡◌, ℕ, List, IfOk, Ok, filter};
-ghost use Rattle.depot_path.specs.Path.{path_of, printed};
-ghost use Rattle.db_records.specs.declared.table.TableId.TheVariants as table_ids;
+ghost use Rattle.depot_rows.specs.depot_path.Path.{path_of, printed};
+ghost use Rattle.depot_rows.specs.db_records.declared.table.TableId.TheVariants as table_ids;
 ghost use Rattle.row_ranges.specs.Ranges.{has_row, range_table};
-ghost use Rattle.table_changes.specs.Changed.{rows_of};
-ghost use Rattle.depot_model.specs.Deeds.{Deed};
-ghost use Rattle.depot_model.specs.Rules.{IsSound};
-ghost use Rattle.depot_model.specs.Steps.Opening as model;
+ghost use Rattle.depot_rows.specs.table_changes.Changed.{rows_of};
+ghost use Rattle.depot_rows.specs.depot_model.Deeds.{Deed};
+ghost use Rattle.depot_rows.specs.depot_model.Rules.{IsSound};
+ghost use Rattle.depot_rows.specs.depot_model.Steps.Opening as model;
 ghost use Rattle.depot_rows.specs.Standing.{HasRows};
 ghost use Rattle.file_openings.specs.Barring.{barring_in, bars_row, name_in_text};
 
 use crate::exclusive::is_exclusive;
 use crate::openings::{openings_of, rows_are_openings};
-use db_records::{Record, WorkingRecord};
-use depot_path::{DepotPath, Name, NameFault, Text};
+use depot_rows::paths::{DepotPath, Name, NameFault, Text};
+use depot_rows::records::{Record, WorkingRecord};
+use depot_rows::tables::Tables;
 use row_ranges::{KeyRange, rows_in};
 use std::alloc::{AllocError, Global};
-use table_store::Tables;
 
 /// Whether a row is of an opening by another client that keeps this one from opening the file, with a type that is exclusive or one that isn't.
 fn bars(client: &Name, exclusive: bool, row: &WorkingRecord) -> bool

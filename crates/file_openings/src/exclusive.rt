@@ -1,8 +1,8 @@
 //! Files that one client alone may have open.
 
 ghost use Rattle.std.specs.Prelude.{◌≡◌};
-ghost use Rattle.depot_model.specs.Steps.Opening as model;
-ghost use Rattle.depot_model.specs.Types.{modifiers as modifiers_of};
+ghost use Rattle.depot_rows.specs.depot_model.Steps.Opening as model;
+ghost use Rattle.depot_rows.specs.depot_model.Types.{modifiers as modifiers_of};
 ghost use Rattle.file_openings.specs.Plus.{behind_plus as text_behind};
 
 /// What stands behind the first `+` of a text, nothing where it has none.

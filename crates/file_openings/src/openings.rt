@@ -1,20 +1,20 @@
 //! The openings of a file.
 
 ghost use Rattle.std.specs.Prelude.{◌≡◌, ℕ, List, IfOk, Ok, filter, map};
-ghost use Rattle.depot_path.specs.Path.{path_of, printed};
-ghost use Rattle.db_records.specs.declared.table.TableId.TheVariants as table_ids;
+ghost use Rattle.depot_rows.specs.depot_path.Path.{path_of, printed};
+ghost use Rattle.depot_rows.specs.db_records.declared.table.TableId.TheVariants as table_ids;
 ghost use Rattle.row_ranges.specs.Ranges.{has_row};
-ghost use Rattle.table_changes.specs.Changed.{rows_of};
-ghost use Rattle.depot_model.specs.Deeds.{Deed};
-ghost use Rattle.depot_model.specs.Records.{working_record};
+ghost use Rattle.depot_rows.specs.table_changes.Changed.{rows_of};
+ghost use Rattle.depot_rows.specs.depot_model.Deeds.{Deed};
+ghost use Rattle.depot_rows.specs.depot_model.Records.{working_record};
 ghost use Rattle.depot_rows.specs.Standing.{HasRows};
 ghost use Rattle.file_openings.specs.Openings.{openings};
 
-use db_records::TableId;
-use depot_path::DepotPath;
+use depot_rows::paths::DepotPath;
+use depot_rows::records::TableId;
+use depot_rows::tables::Tables;
 use row_ranges::KeyRange;
 use std::alloc::{AllocError, Global};
-use table_store::Tables;
 
 /// The range of the rows of a file's openings. The one error is want of memory.
 pub fn openings_of(alloc: Global, path: &DepotPath) -> Result<KeyRange, AllocError>

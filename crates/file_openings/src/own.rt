@@ -2,20 +2,20 @@
 
 ghost use Rattle.std.specs.Prelude.{◌≡◌, List, IfOk, Ok, option_map};
 ghost use Rattle.std.specs.Option.{option_copied};
-ghost use Rattle.depot_path.specs.Path.{path_of, printed};
-ghost use Rattle.db_records.specs.declared.key.Key.TheVariants as keys;
-ghost use Rattle.db_records.specs.declared.table.TableId.TheVariants as table_ids;
-ghost use Rattle.table_changes.specs.Changed.{rows_of};
-ghost use Rattle.depot_model.specs.Deeds.{Deed};
-ghost use Rattle.depot_model.specs.Opened.{opened};
-ghost use Rattle.depot_model.specs.Records.{working_record};
+ghost use Rattle.depot_rows.specs.depot_path.Path.{path_of, printed};
+ghost use Rattle.depot_rows.specs.db_records.declared.key.Key.TheVariants as keys;
+ghost use Rattle.depot_rows.specs.db_records.declared.table.TableId.TheVariants as table_ids;
+ghost use Rattle.depot_rows.specs.table_changes.Changed.{rows_of};
+ghost use Rattle.depot_rows.specs.depot_model.Deeds.{Deed};
+ghost use Rattle.depot_rows.specs.depot_model.Opened.{opened};
+ghost use Rattle.depot_rows.specs.depot_model.Records.{working_record};
 ghost use Rattle.depot_rows.specs.Standing.{HasRows};
 ghost use Rattle.file_openings.specs.Openings.{working_of};
 
-use db_records::{Key, Record, TableId, WorkingRecord};
-use depot_path::{DepotPath, Name, Text};
+use depot_rows::paths::{DepotPath, Name, Text};
+use depot_rows::records::{Key, Record, TableId, WorkingRecord};
+use depot_rows::tables::Tables;
 use std::alloc::{AllocError, Global};
-use table_store::Tables;
 
 /// The key of a client's opening of a file.
 fn opening_key(alloc: Global, client: &Name, path: &DepotPath) -> Result<Key, AllocError>

@@ -1,8 +1,8 @@
 -- The loop over arguments does the same where each names the same files.
 use Rattle.std.proofs.Common.{◌≡◌, ℕ, List, [], ◌∷◌, ◌++◌, refl, ap, ◌∙◌}
-use Rattle.depot_model.specs.declared.command.FileArgument.{FileArgument}
-use Rattle.depot_model.specs.Arguments.{each_or, not_in, over}
-use Rattle.depot_model.specs.Step.{Step as ModelStep, both}
+use Rattle.depot_rows.specs.depot_model.declared.command.FileArgument.{FileArgument}
+use Rattle.depot_rows.specs.depot_model.Arguments.{each_or, not_in, over}
+use Rattle.depot_rows.specs.depot_model.Step.{Step as ModelStep, both}
 
 -- each argument names the same files
 abbrev pub AllAlike : (FileArgument → List (List ℕ)) → (FileArgument → List (List ℕ)) → List FileArgument → Type 0

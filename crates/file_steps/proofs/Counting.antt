@@ -6,21 +6,21 @@ use Rattle.std.specs.declared.cmp.Ordering.{Ordering}
 use Rattle.std.specs.declared.cmp.Ordering.TheVariants.{Less, Equal, Greater}
 use Rattle.std.proofs.lemmas.List.{take_all, take_more, drop_all, reverse-append, take-append-drop}
 use Rattle.std.proofs.lemmas.Bool.Decides.{nat_tests}
-use Rattle.depot_path.specs.Bytes.{same}
-use Rattle.depot_path.specs.Order.{path_cmp}
-use Rattle.depot_path.specs.OrderLaws.{paths_ties}
-use Rattle.depot_model.specs.Arguments.{changed_paths, paths_of, within_files}
-use Rattle.depot_model.specs.Deeds as model
-use Rattle.depot_model.specs.Sorted.{all_inserted, is_before, path_inserted}
-use Rattle.depot_model.specs.Refusals.{refusal_row}
-use Rattle.depot_model.specs.Step.{Step as ModelStep, refuses}
-use Rattle.depot_model.specs.declared.refusal.Limit.TheVariants.{Files}
-use Rattle.depot_model.specs.declared.refusal.Refusal.TheVariants.{OverLimit}
+use Rattle.depot_rows.specs.depot_path.Bytes.{same}
+use Rattle.depot_rows.specs.depot_path.Order.{path_cmp}
+use Rattle.depot_rows.specs.depot_path.OrderLaws.{paths_ties}
+use Rattle.depot_rows.specs.depot_model.Arguments.{changed_paths, paths_of, within_files}
+use Rattle.depot_rows.specs.depot_model.Deeds as model
+use Rattle.depot_rows.specs.depot_model.Sorted.{all_inserted, is_before, path_inserted}
+use Rattle.depot_rows.specs.depot_model.Refusals.{refusal_row}
+use Rattle.depot_rows.specs.depot_model.Step.{Step as ModelStep, refuses}
+use Rattle.depot_rows.specs.depot_model.declared.refusal.Limit.TheVariants.{Files}
+use Rattle.depot_rows.specs.depot_model.declared.refusal.Refusal.TheVariants.{OverLimit}
 use Rattle.reply_rows.specs.declared.step.Step.{Step}
 use Rattle.reply_rows.specs.Made.{IsMade, told}
 use Rattle.reply_rows.proofs.Joined.{made_refusal}
-use Rattle.depot_model.specs.declared.reply.Row.{Row}
-use Rattle.table_changes.specs.Changed.{AllRows}
+use Rattle.depot_rows.specs.depot_model.declared.reply.Row.{Row}
+use Rattle.depot_rows.specs.table_changes.Changed.{AllRows}
 use Rattle.depot_rows.specs.Deed.{IsDeed}
 use Rattle.depot_rows.specs.Effects.{Follow}
 use Rattle.depot_rows.specs.declared.deed.Deed.{Deed}

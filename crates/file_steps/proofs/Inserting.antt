@@ -8,11 +8,11 @@ use Rattle.std.specs.declared.cmp.Ordering.{Ordering}
 use Rattle.std.specs.declared.cmp.Ordering.TheVariants.{Less, Equal, Greater}
 use Rattle.std.proofs.lemmas.List.Folds.{list_any-append}
 use Rattle.std.proofs.lemmas.Slice.Eq.{bytes_eq-Decides}
-use Rattle.depot_path.specs.Bytes.{same}
-use Rattle.depot_path.specs.Order.{path_cmp}
-use Rattle.depot_path.specs.OrderLaws.{paths_ties}
-use Rattle.depot_model.specs.Arguments.{is_in}
-use Rattle.depot_model.specs.Sorted.{all_inserted, is_before, path_inserted}
+use Rattle.depot_rows.specs.depot_path.Bytes.{same}
+use Rattle.depot_rows.specs.depot_path.Order.{path_cmp}
+use Rattle.depot_rows.specs.depot_path.OrderLaws.{paths_ties}
+use Rattle.depot_rows.specs.depot_model.Arguments.{is_in}
+use Rattle.depot_rows.specs.depot_model.Sorted.{all_inserted, is_before, path_inserted}
 use Rattle.file_steps.proofs.Counting.{placed}
 
 -- a key is inserted where a path is

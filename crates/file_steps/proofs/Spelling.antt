@@ -3,11 +3,11 @@ use Rattle.std.proofs.Common.{◌≡◌, ℕ, Bool, true, false, List, [], ◌�
 use Rattle.std.specs.Prelude.{◌&&◌, ◌||◌, filter, not, if◌then◌else◌}
 use Rattle.std.specs.List.{list_all, list_any}
 use Rattle.std.proofs.lemmas.List.Folds.{list_any-append}
-use Rattle.depot_path.specs.Bytes.{same}
-use Rattle.depot_model.specs.declared.command.FileArgument.{FileArgument}
-use Rattle.depot_model.specs.Arguments.{each_or, is_in, not_in, over}
-use Rattle.depot_model.specs.Step.{Step as ModelStep, all_of, both, nothing}
-use Rattle.depot_model.specs.WellFormed.{spells_path}
+use Rattle.depot_rows.specs.depot_path.Bytes.{same}
+use Rattle.depot_rows.specs.depot_model.declared.command.FileArgument.{FileArgument}
+use Rattle.depot_rows.specs.depot_model.Arguments.{each_or, is_in, not_in, over}
+use Rattle.depot_rows.specs.depot_model.Step.{Step as ModelStep, all_of, both, nothing}
+use Rattle.depot_rows.specs.depot_model.WellFormed.{spells_path}
 use Rattle.reply_rows.proofs.Joined.{both_assoc}
 use Rattle.file_steps.proofs.Going.{files_next}
 

@@ -1,18 +1,18 @@
 //! What is done with a file.
 
 ghost use Rattle.std.specs.Prelude.{◌≡◌, ℕ, List, filter, IfOk};
-ghost use Rattle.table_changes.specs.Changed.{AllRows, rows_of};
-ghost use Rattle.depot_model.specs.declared.command.FileArgument.{FileArgument as Argument};
-ghost use Rattle.depot_model.specs.Deeds.{Deed};
-ghost use Rattle.depot_model.specs.Step.{Step as ModelStep, after};
+ghost use Rattle.depot_rows.specs.table_changes.Changed.{AllRows, rows_of};
+ghost use Rattle.depot_rows.specs.depot_model.declared.command.FileArgument.{FileArgument as Argument};
+ghost use Rattle.depot_rows.specs.depot_model.Deeds.{Deed};
+ghost use Rattle.depot_rows.specs.depot_model.Step.{Step as ModelStep, after};
 ghost use Rattle.reply_rows.specs.Made.{IsMade};
 
 use crate::sets::FileSet;
-use depot_model::FileArgument;
-use depot_path::{DepotPath, Sequence};
+use depot_rows::model::FileArgument;
+use depot_rows::paths::{DepotPath, Sequence};
+use depot_rows::tables::Tables;
 use reply_rows::Step;
 use std::alloc::{AllocError, Global};
-use table_store::Tables;
 
 /// What a command does with a file that an argument names. It reads the tables alone of which `reads` speaks; where they have the rows of a depot,
 /// it does what the model says of that depot, and its deeds may follow those of the files before. The one error is want of memory.

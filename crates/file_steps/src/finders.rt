@@ -1,19 +1,19 @@
 //! Files that arguments spell.
 
 ghost use Rattle.std.specs.Prelude.{◌≡◌, ℕ, List, true, IfOk};
-ghost use Rattle.table_changes.specs.Changed.{AllRows, rows_of};
-ghost use Rattle.depot_model.specs.declared.command.FileArgument.{FileArgument as Argument};
-ghost use Rattle.depot_model.specs.declared.reply.Row.{Row as ReplyRow};
-ghost use Rattle.depot_model.specs.Deeds.{Deed};
-ghost use Rattle.depot_model.specs.Step.{tells};
-ghost use Rattle.depot_model.specs.WellFormed.{spells_path};
+ghost use Rattle.depot_rows.specs.table_changes.Changed.{AllRows, rows_of};
+ghost use Rattle.depot_rows.specs.depot_model.declared.command.FileArgument.{FileArgument as Argument};
+ghost use Rattle.depot_rows.specs.depot_model.declared.reply.Row.{Row as ReplyRow};
+ghost use Rattle.depot_rows.specs.depot_model.Deeds.{Deed};
+ghost use Rattle.depot_rows.specs.depot_model.Step.{tells};
+ghost use Rattle.depot_rows.specs.depot_model.WellFormed.{spells_path};
 ghost use Rattle.reply_rows.specs.Made.{IsMade};
 
-use depot_model::FileArgument;
-use depot_path::{DepotPath, Sequence};
+use depot_rows::model::FileArgument;
+use depot_rows::paths::{DepotPath, Sequence};
+use depot_rows::tables::Tables;
 use reply_rows::Step;
 use std::alloc::{AllocError, Global};
-use table_store::Tables;
 
 /// Finds the files that arguments without wildcards spell, whether they are there or not, as those of `add` and `where`. Each call is of the tables
 /// alone that the finder reads; where they have the rows of a depot, and the argument spells a path, it gives what the model says of that depot. The

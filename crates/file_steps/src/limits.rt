@@ -2,17 +2,17 @@
 
 ghost use Rattle.std.specs.Prelude.{◌≡◌, ◌≤◌, List, IfOk, IfSome, OnOk, None, insert, length, nat_lt, reverse};
 ghost use Rattle.std.specs.Option.{option_copied, option_to_list};
-ghost use Rattle.table_changes.specs.Changed.{AllRows};
-ghost use Rattle.depot_model.specs.Arguments.{within_files as within_files_in};
-ghost use Rattle.depot_model.specs.Deeds.{Deed as ModelDeed};
-ghost use Rattle.depot_model.specs.Sorted.{all_inserted, path_inserted};
-ghost use Rattle.depot_model.specs.Step.{Step as ModelStep};
+ghost use Rattle.depot_rows.specs.table_changes.Changed.{AllRows};
+ghost use Rattle.depot_rows.specs.depot_model.Arguments.{within_files as within_files_in};
+ghost use Rattle.depot_rows.specs.depot_model.Deeds.{Deed as ModelDeed};
+ghost use Rattle.depot_rows.specs.depot_model.Sorted.{all_inserted, path_inserted};
+ghost use Rattle.depot_rows.specs.depot_model.Step.{Step as ModelStep};
 ghost use Rattle.reply_rows.specs.Made.{IsMade};
 ghost use Rattle.file_steps.specs.Limits.{changed_by, files_changed};
 
-use depot_model::Limit;
-use depot_path::DepotPath;
 use depot_rows::Deed;
+use depot_rows::model::Limit;
+use depot_rows::paths::DepotPath;
 use reply_rows::{Step, limit_row};
 use std::alloc::{AllocError, Global};
 use std::cmp::Ordering;

@@ -2,20 +2,20 @@
 
 ghost use Rattle.std.specs.Prelude.{◌≡◌, Bool, List, [], ◌∷◌, ◌++◌, filter, flat_map, not, if◌then◌else◌, IfOk, OnOk};
 ghost use Rattle.std.specs.List.{list_any};
-ghost use Rattle.table_changes.specs.Changed.{rows_of};
-ghost use Rattle.depot_model.specs.Arguments.{each_or, everything, not_in, over as over_in, over_all as over_all_in};
-ghost use Rattle.depot_model.specs.Deeds.{Deed};
-ghost use Rattle.depot_model.specs.Step.{Step as ModelStep, all_of, both, nothing, tells};
+ghost use Rattle.depot_rows.specs.table_changes.Changed.{rows_of};
+ghost use Rattle.depot_rows.specs.depot_model.Arguments.{each_or, everything, not_in, over as over_in, over_all as over_all_in};
+ghost use Rattle.depot_rows.specs.depot_model.Deeds.{Deed};
+ghost use Rattle.depot_rows.specs.depot_model.Step.{Step as ModelStep, all_of, both, nothing, tells};
 ghost use Rattle.reply_rows.specs.Made.{IsMade};
 ghost use Rattle.file_steps.specs.Goes.{Goes};
 
 use crate::acts::{FileAct, Placeless, WalkAct};
 use crate::sets::FileSet;
-use depot_model::FileArgument;
-use depot_path::{DepotPath, FileSpec, Sequence, Text};
+use depot_rows::model::FileArgument;
+use depot_rows::paths::{DepotPath, FileSpec, Sequence, Text};
+use depot_rows::tables::Tables;
 use reply_rows::Step;
 use std::alloc::{AllocError, Global};
-use table_store::Tables;
 
 /// Whether one of the arguments names a file.
 fn is_taken<S: FileSet>(

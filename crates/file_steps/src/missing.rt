@@ -1,13 +1,13 @@
 //! Arguments that name no file.
 
 ghost use Rattle.std.specs.Prelude.{List, IfOk};
-ghost use Rattle.table_changes.specs.Changed.{AllRows};
-ghost use Rattle.depot_model.specs.Arguments.{no_file as no_file_in};
-ghost use Rattle.depot_model.specs.Deeds.{Deed};
-ghost use Rattle.depot_model.specs.Steps.Reverting.{not_open as not_open_in};
+ghost use Rattle.depot_rows.specs.table_changes.Changed.{AllRows};
+ghost use Rattle.depot_rows.specs.depot_model.Arguments.{no_file as no_file_in};
+ghost use Rattle.depot_rows.specs.depot_model.Deeds.{Deed};
+ghost use Rattle.depot_rows.specs.depot_model.Steps.Reverting.{not_open as not_open_in};
 ghost use Rattle.reply_rows.specs.Made.{IsMade};
 
-use depot_model::FileArgument;
+use depot_rows::model::FileArgument;
 use reply_rows::{Step, no_such_file_row, not_open_row};
 use std::alloc::{AllocError, Global};
 

@@ -1,10 +1,10 @@
 //! Sets of files.
 
 ghost use Rattle.std.specs.Prelude.{◌≡◌, [], IfOk, OnOk, OnErr};
-ghost use Rattle.depot_model.specs.Arguments.{is_in};
-ghost use Rattle.depot_model.specs.Sorted.{all_inserted, path_inserted};
+ghost use Rattle.depot_rows.specs.depot_model.Arguments.{is_in};
+ghost use Rattle.depot_rows.specs.depot_model.Sorted.{all_inserted, path_inserted};
 
-use depot_path::{DepotPath, Sequence};
+use depot_rows::paths::{DepotPath, Sequence};
 use std::alloc::{AllocError, Global};
 use std::collections::BTreeSet;
 use std::marker::Model;

@@ -2,22 +2,22 @@
 
 ghost use Rattle.std.specs.Prelude.{◌≡◌, ◌++◌, ℕ, List, [], true, if◌then◌else◌, IfOk, OnOk};
 ghost use Rattle.std.specs.List.{list_all};
-ghost use Rattle.table_changes.specs.Changed.{rows_of};
-ghost use Rattle.depot_model.specs.Arguments.{each_or, is_in, not_in, over as over_in};
-ghost use Rattle.depot_model.specs.Deeds.{Deed};
-ghost use Rattle.depot_model.specs.Step.{Step as ModelStep, all_of, both, nothing, tells};
-ghost use Rattle.depot_model.specs.WellFormed.{spells_path};
+ghost use Rattle.depot_rows.specs.table_changes.Changed.{rows_of};
+ghost use Rattle.depot_rows.specs.depot_model.Arguments.{each_or, is_in, not_in, over as over_in};
+ghost use Rattle.depot_rows.specs.depot_model.Deeds.{Deed};
+ghost use Rattle.depot_rows.specs.depot_model.Step.{Step as ModelStep, all_of, both, nothing, tells};
+ghost use Rattle.depot_rows.specs.depot_model.WellFormed.{spells_path};
 ghost use Rattle.reply_rows.specs.Made.{IsMade};
 ghost use Rattle.file_steps.specs.Goes.{Goes};
 
 use crate::acts::FileAct;
 use crate::finders::FileFinder;
 use crate::paths::PathSet;
-use depot_model::FileArgument;
-use depot_path::{DepotPath, Sequence};
+use depot_rows::model::FileArgument;
+use depot_rows::paths::{DepotPath, Sequence};
+use depot_rows::tables::Tables;
 use reply_rows::Step;
 use std::alloc::{AllocError, Global};
-use table_store::Tables;
 
 /// Adds files to those that were taken.
 fn take(taken: &mut PathSet, paths: Sequence<DepotPath>) -> Result<(), AllocError>

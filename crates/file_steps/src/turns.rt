@@ -1,16 +1,16 @@
 //! Files one after another, each over the depot that those before it left.
 
 ghost use Rattle.std.specs.Prelude.{◌≡◌, ℕ, List, IfOk, OnOk};
-ghost use Rattle.table_changes.specs.Changed.{AllRows, rows_of};
-ghost use Rattle.depot_model.specs.Deeds.{Deed};
-ghost use Rattle.depot_model.specs.Step.{Step as ModelStep, after, both, in_turn as in_turn_in};
+ghost use Rattle.depot_rows.specs.table_changes.Changed.{AllRows, rows_of};
+ghost use Rattle.depot_rows.specs.depot_model.Deeds.{Deed};
+ghost use Rattle.depot_rows.specs.depot_model.Step.{Step as ModelStep, after, both, in_turn as in_turn_in};
 ghost use Rattle.reply_rows.specs.Made.{IsMade};
 ghost use Rattle.file_steps.specs.Goes.{Goes};
 
-use depot_path::DepotPath;
+use depot_rows::paths::DepotPath;
+use depot_rows::tables::Tables;
 use reply_rows::Step;
 use std::alloc::{AllocError, Global};
-use table_store::Tables;
 
 /// What a command does with files one after another, where it keeps what it did with those before. The tables stay those of the depot before
 /// all of them. The one error is want of memory.

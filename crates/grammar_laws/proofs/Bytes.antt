@@ -4,9 +4,9 @@ use Rattle.std.specs.Prelude.{◌==◌, ◌||◌, not, nat_le, codes, decimal, i
 use Rattle.std.specs.Fmt.{digits, digits_onto, digit_glyph}
 use Rattle.std.specs.List.{list_any}
 use Rattle.std.proofs.lemmas.Bool.Decides.{nat_tests}
-use Rattle.depot_path.specs.Bytes.{is_control, is_digit}
-use Rattle.depot_path.specs.Name.{is_name, is_barred}
-use Rattle.depot_path.specs.Path.{is_path, printed, escaped}
+use Rattle.depot_rows.specs.depot_path.Bytes.{is_control, is_digit}
+use Rattle.depot_rows.specs.depot_path.Name.{is_name, is_barred}
+use Rattle.depot_rows.specs.depot_path.Path.{is_path, printed, escaped}
 use Rattle.depot_rows.proofs.Keys.{left-true, right-true, number-is, number-self}
 use Rattle.sound_deeds.proofs.Decimals.{decimal_digits, digits_without}
 use Rattle.wire_text.specs.Parts.{IsFree}

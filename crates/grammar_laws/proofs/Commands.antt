@@ -1,8 +1,8 @@
 -- The words of every well-formed command that its texts spell read to it.
 use Rattle.std.proofs.Common.{◌≡◌, Bool, Some, None, Ok}
-use Rattle.depot_model.specs.declared.command.Command.{Command}
-use Rattle.depot_model.specs.declared.command.Command.TheVariants as commands
-use Rattle.depot_model.specs.declared.line.Line.{Line}
+use Rattle.depot_rows.specs.depot_model.declared.command.Command.{Command}
+use Rattle.depot_rows.specs.depot_model.declared.command.Command.TheVariants as commands
+use Rattle.depot_rows.specs.depot_model.declared.line.Line.{Line}
 use Rattle.depot_rows.proofs.Keys.{left-true, right-true}
 use Rattle.command_words.proofs.FormedLines.{is_formed}
 use Rattle.command_words.specs.Reading.{command_of}

@@ -2,9 +2,9 @@
 use Rattle.std.proofs.Common.{◌≡◌, [], ◌∷◌, Some, None, refl, true}
 use Rattle.std.specs.Prelude.{codes}
 use Rattle.std.specs.Fmt.{digits}
-use Rattle.depot_model.specs.declared.command.Command.TheVariants as commands
-use Rattle.depot_model.specs.declared.command.Labelling.TheVariants.{Adding}
-use Rattle.depot_model.specs.declared.line.Line.TheVariants.{Words, Bad}
+use Rattle.depot_rows.specs.depot_model.declared.command.Command.TheVariants as commands
+use Rattle.depot_rows.specs.depot_model.declared.command.Labelling.TheVariants.{Adding}
+use Rattle.depot_rows.specs.depot_model.declared.line.Line.TheVariants.{Words, Bad}
 use Rattle.wire_text.specs.declared.entry.Entry.{Entry}
 use Rattle.wire_text.specs.declared.entry.Entry.TheVariants.{Put, Clear, Command}
 use Rattle.wire_text.specs.declared.head.Head.{Head}

@@ -1,15 +1,15 @@
 -- The words of each command whose arguments are files read to it.
 use Rattle.std.proofs.Common.{◌≡◌, ℕ, Bool, true, false, List, [], ◌∷◌, Option, Some, None, Ok, refl}
 use Rattle.std.specs.Prelude.{codes}
-use Rattle.depot_path.specs.Name.{is_name}
-use Rattle.depot_model.specs.WellFormed.{is_type_or_none, answer_one_another}
-use Rattle.depot_model.specs.declared.command.Command.TheVariants as commands
-use Rattle.depot_model.specs.declared.command.FileArgument.{FileArgument}
-use Rattle.depot_model.specs.declared.command.PatternArgument.{PatternArgument}
-use Rattle.depot_model.specs.declared.command.Labelling.{Labelling}
-use Rattle.depot_model.specs.declared.command.Labelling.TheVariants.{Exact, Adding, Removing}
-use Rattle.depot_model.specs.declared.command.Taking.{Taking}
-use Rattle.depot_model.specs.declared.command.Taking.TheVariants.{Theirs, Yours}
+use Rattle.depot_rows.specs.depot_path.Name.{is_name}
+use Rattle.depot_rows.specs.depot_model.WellFormed.{is_type_or_none, answer_one_another}
+use Rattle.depot_rows.specs.depot_model.declared.command.Command.TheVariants as commands
+use Rattle.depot_rows.specs.depot_model.declared.command.FileArgument.{FileArgument}
+use Rattle.depot_rows.specs.depot_model.declared.command.PatternArgument.{PatternArgument}
+use Rattle.depot_rows.specs.depot_model.declared.command.Labelling.{Labelling}
+use Rattle.depot_rows.specs.depot_model.declared.command.Labelling.TheVariants.{Exact, Adding, Removing}
+use Rattle.depot_rows.specs.depot_model.declared.command.Taking.{Taking}
+use Rattle.depot_rows.specs.depot_model.declared.command.Taking.TheVariants.{Theirs, Yours}
 use Rattle.command_words.specs.Fields as fields
 use Rattle.command_words.specs.FileForms as forms
 use Rattle.command_words.specs.Options.{Given, invocation}

@@ -3,23 +3,23 @@ use Rattle.std.proofs.Common.{◌≡◌, ℕ, zero, suc, Bool, true, false, List
 use Rattle.std.specs.Prelude.{◌&&◌, ◌||◌, not, nat_lt, codes, if◌then◌else◌}
 use Rattle.std.proofs.lemmas.Bool.Decides.{nat_tests}
 use Rattle.std.specs.List.{position, list_any}
-use Rattle.depot_path.specs.Answers.{◌>>=◌, on_err}
-use Rattle.depot_path.specs.Bytes.{is_among}
-use Rattle.depot_path.specs.Path.{begins_with_slashes, has_empty_component, has_dot_component, is_text, first_fault, unless}
-use Rattle.depot_path.specs.Pattern.{pattern_of, has_bad_percent, pieces}
-use Rattle.depot_path.specs.Revision.{file_spec_of, marked, spec_of}
-use Rattle.depot_path.specs.declared.fault.PathFault.{PathFault}
-use Rattle.depot_path.specs.declared.fault.PathFault.TheVariants.{NoSlashes, EmptyPart, BadEscape, BadByte, TooLong, Dots, BadRange}
-use Rattle.depot_path.specs.declared.file_spec.FileSpec.{FileSpec}
-use Rattle.depot_path.specs.declared.piece.Piece.{Piece}
-use Rattle.depot_path.specs.declared.revision.Wanted.{Wanted}
-use Rattle.depot_path.specs.declared.revision.Wanted.TheVariants.{Head, One, Range}
-use Rattle.depot_model.specs.WellFormed.{answer_one_another}
-use Rattle.depot_model.specs.declared.command.Command.{Command}
-use Rattle.depot_model.specs.declared.command.FileArgument.{FileArgument}
-use Rattle.depot_model.specs.declared.command.PatternArgument.{PatternArgument}
-use Rattle.depot_model.specs.declared.request.WordFault.{WordFault}
-use Rattle.depot_model.specs.declared.request.WordFault.TheVariants.{BadUsage, BadPath, BadRevision}
+use Rattle.depot_rows.specs.depot_path.Answers.{◌>>=◌, on_err}
+use Rattle.depot_rows.specs.depot_path.Bytes.{is_among}
+use Rattle.depot_rows.specs.depot_path.Path.{begins_with_slashes, has_empty_component, has_dot_component, is_text, first_fault, unless}
+use Rattle.depot_rows.specs.depot_path.Pattern.{pattern_of, has_bad_percent, pieces}
+use Rattle.depot_rows.specs.depot_path.Revision.{file_spec_of, marked, spec_of}
+use Rattle.depot_rows.specs.depot_path.declared.fault.PathFault.{PathFault}
+use Rattle.depot_rows.specs.depot_path.declared.fault.PathFault.TheVariants.{NoSlashes, EmptyPart, BadEscape, BadByte, TooLong, Dots, BadRange}
+use Rattle.depot_rows.specs.depot_path.declared.file_spec.FileSpec.{FileSpec}
+use Rattle.depot_rows.specs.depot_path.declared.piece.Piece.{Piece}
+use Rattle.depot_rows.specs.depot_path.declared.revision.Wanted.{Wanted}
+use Rattle.depot_rows.specs.depot_path.declared.revision.Wanted.TheVariants.{Head, One, Range}
+use Rattle.depot_rows.specs.depot_model.WellFormed.{answer_one_another}
+use Rattle.depot_rows.specs.depot_model.declared.command.Command.{Command}
+use Rattle.depot_rows.specs.depot_model.declared.command.FileArgument.{FileArgument}
+use Rattle.depot_rows.specs.depot_model.declared.command.PatternArgument.{PatternArgument}
+use Rattle.depot_rows.specs.depot_model.declared.request.WordFault.{WordFault}
+use Rattle.depot_rows.specs.depot_model.declared.request.WordFault.TheVariants.{BadUsage, BadPath, BadRevision}
 use Rattle.depot_rows.proofs.Keys.{left-true, right-true}
 use Rattle.command_words.specs.Arguments as spec
 use Rattle.command_words.specs.Fields as fields

@@ -3,13 +3,13 @@ use Rattle.std.proofs.Common.{◌≡◌, ℕ, ◌<◌, ◌≤◌, ◌^◌, Bool,
 use Rattle.std.specs.Prelude.{◌&&◌, ◌||◌, not, nat_le, codes, decimal, option_map, if◌then◌else◌}
 use Rattle.std.specs.List.{list_all}
 use Rattle.std.proofs.lemmas.Bool.Decides.{nat_tests}
-use Rattle.depot_path.specs.Answers.{◌>>=◌}
-use Rattle.depot_path.specs.Bytes.{same, is_digit}
-use Rattle.depot_path.specs.Digits.{number_of, is_digits, is_number as fits}
-use Rattle.depot_path.specs.Name.{is_name}
-use Rattle.depot_model.specs.Types.{is_type, printed_type, is_printed_type}
-use Rattle.depot_model.specs.WellFormed.{is_type_or_none, is_free}
-use Rattle.depot_model.specs.declared.request.WordFault.TheVariants.{BadUsage, BadNumber}
+use Rattle.depot_rows.specs.depot_path.Answers.{◌>>=◌}
+use Rattle.depot_rows.specs.depot_path.Bytes.{same, is_digit}
+use Rattle.depot_rows.specs.depot_path.Digits.{number_of, is_digits, is_number as fits}
+use Rattle.depot_rows.specs.depot_path.Name.{is_name}
+use Rattle.depot_rows.specs.depot_model.Types.{is_type, printed_type, is_printed_type}
+use Rattle.depot_rows.specs.depot_model.WellFormed.{is_type_or_none, is_free}
+use Rattle.depot_rows.specs.depot_model.declared.request.WordFault.TheVariants.{BadUsage, BadNumber}
 use Rattle.depot_rows.proofs.Keys.{left-true, right-true, same-is}
 use Rattle.sound_deeds.proofs.Decimals.{written, number_decimal, decimal_digits}
 use Rattle.command_words.proofs.Giving.{both}

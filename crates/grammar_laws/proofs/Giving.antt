@@ -2,18 +2,18 @@
 use Rattle.std.proofs.Common.{◌≡◌, ℕ, ◌≤◌, Bool, true, false, List, [], ◌∷◌, ◌++◌, Some, Result, Ok, Err, refl, sym, ap, ◌∙◌, arith}
 use Rattle.std.specs.Prelude.{◌&&◌, not, nat_le}
 use Rattle.std.proofs.lemmas.Bool.Decides.{nat_tests}
-use Rattle.depot_path.specs.Answers.{◌>>=◌, on_err}
-use Rattle.depot_path.specs.Digits.{number_of, is_digits, is_number as fits}
-use Rattle.depot_path.specs.Pattern.{pattern_of}
-use Rattle.depot_path.specs.Revision.{file_spec_of}
-use Rattle.depot_path.specs.declared.fault.PathFault.{PathFault}
-use Rattle.depot_path.specs.declared.file_spec.FileSpec.{FileSpec}
-use Rattle.depot_path.specs.declared.piece.Piece.{Piece}
-use Rattle.view_map.specs.Specifiers.{same_specifiers}
-use Rattle.depot_model.specs.declared.command.FileArgument.{FileArgument}
-use Rattle.depot_model.specs.declared.command.PatternArgument.{PatternArgument}
-use Rattle.depot_model.specs.declared.request.WordFault.{WordFault}
-use Rattle.depot_model.specs.declared.request.WordFault.TheVariants.{BadUsage, BadPath, BadNumber}
+use Rattle.depot_rows.specs.depot_path.Answers.{◌>>=◌, on_err}
+use Rattle.depot_rows.specs.depot_path.Digits.{number_of, is_digits, is_number as fits}
+use Rattle.depot_rows.specs.depot_path.Pattern.{pattern_of}
+use Rattle.depot_rows.specs.depot_path.Revision.{file_spec_of}
+use Rattle.depot_rows.specs.depot_path.declared.fault.PathFault.{PathFault}
+use Rattle.depot_rows.specs.depot_path.declared.file_spec.FileSpec.{FileSpec}
+use Rattle.depot_rows.specs.depot_path.declared.piece.Piece.{Piece}
+use Rattle.depot_rows.specs.view_map.Specifiers.{same_specifiers}
+use Rattle.depot_rows.specs.depot_model.declared.command.FileArgument.{FileArgument}
+use Rattle.depot_rows.specs.depot_model.declared.command.PatternArgument.{PatternArgument}
+use Rattle.depot_rows.specs.depot_model.declared.request.WordFault.{WordFault}
+use Rattle.depot_rows.specs.depot_model.declared.request.WordFault.TheVariants.{BadUsage, BadPath, BadNumber}
 use Rattle.depot_rows.proofs.Keys.{right-true}
 use Rattle.command_words.specs.Arguments as spec
 use Rattle.command_words.specs.Options.{Invocation, State, Ready, Waiting, given, invocation, is_option, next_kind, after_option, parted}

@@ -2,8 +2,8 @@
 use Rattle.std.proofs.Common.{◌≡◌, ℕ, Bool, true, List, [], ◌∷◌, ◌++◌, Some, None, refl, ap, ◌∙◌}
 use Rattle.std.specs.Prelude.{◌==◌, codes, option_map, if◌then◌else◌}
 use Rattle.std.specs.List.{list_all, onto_first}
-use Rattle.depot_path.specs.Name.{is_name, is_barred}
-use Rattle.depot_model.specs.declared.request.Caller.{Caller}
+use Rattle.depot_rows.specs.depot_path.Name.{is_name, is_barred}
+use Rattle.depot_rows.specs.depot_model.declared.request.Caller.{Caller}
 use Rattle.depot_rows.proofs.Keys.{left-true, right-true}
 use Rattle.wire_text.specs.Head.{head_of, head_of_parts, are_names}
 use Rattle.wire_text.specs.Parts.{parted, IsFree}

@@ -4,14 +4,14 @@ use Rattle.std.specs.Prelude.{◌==◌, ◌&&◌, ◌||◌, not, nat_le, codes, 
 use Rattle.std.specs.List.{list_any, list_all}
 use Rattle.std.proofs.lemmas.Bool.Decides.{nat_tests}
 use Rattle.std.proofs.lemmas.List.Folds.{list_any-append}
-use Rattle.depot_path.specs.Bytes.{is_control}
-use Rattle.depot_path.specs.Digits.{number_of, is_digits}
-use Rattle.depot_path.specs.Path.{is_path, printed}
-use Rattle.depot_path.specs.Utf8.{is_utf8}
-use Rattle.depot_path.proofs.Paths.{prints_path}
-use Rattle.spec_form.proofs.Utf8.{ascii-cons, utf8_both}
-use Rattle.depot_model.specs.declared.line.Line.{Line}
-use Rattle.depot_model.specs.declared.line.Line.TheVariants.{Words, Bad}
+use Rattle.depot_rows.specs.depot_path.Bytes.{is_control}
+use Rattle.depot_rows.specs.depot_path.Digits.{number_of, is_digits}
+use Rattle.depot_rows.specs.depot_path.Path.{is_path, printed}
+use Rattle.depot_rows.specs.depot_path.Utf8.{is_utf8}
+use Rattle.depot_rows.proofs.depot_path.Paths.{prints_path}
+use Rattle.depot_rows.proofs.spec_form.Utf8.{ascii-cons, utf8_both}
+use Rattle.depot_rows.specs.depot_model.declared.line.Line.{Line}
+use Rattle.depot_rows.specs.depot_model.declared.line.Line.TheVariants.{Words, Bad}
 use Rattle.depot_rows.proofs.Keys.{left-true, right-true}
 use Rattle.sound_deeds.proofs.Decimals.{written, number_decimal}
 use Rattle.command_words.proofs.Giving.{both}

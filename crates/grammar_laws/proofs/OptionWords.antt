@@ -2,11 +2,11 @@
 use Rattle.std.proofs.Common.{◌≡◌, ℕ, Bool, true, false, List, [], ◌∷◌, ◌++◌, Result, Ok, Err, refl, sym, ap, ◌∙◌, append_assoc}
 use Rattle.std.specs.Prelude.{◌&&◌, not, map, flat_map, if◌then◌else◌}
 use Rattle.std.proofs.lemmas.List.{append-nil}
-use Rattle.depot_path.specs.Answers.{◌>>=◌}
-use Rattle.depot_model.specs.declared.command.Command.{Command}
-use Rattle.depot_model.specs.declared.line.Line.TheVariants.{Words}
-use Rattle.depot_model.specs.declared.request.WordFault.{WordFault}
-use Rattle.depot_model.specs.declared.request.WordFault.TheVariants.{UnknownCommand}
+use Rattle.depot_rows.specs.depot_path.Answers.{◌>>=◌}
+use Rattle.depot_rows.specs.depot_model.declared.command.Command.{Command}
+use Rattle.depot_rows.specs.depot_model.declared.line.Line.TheVariants.{Words}
+use Rattle.depot_rows.specs.depot_model.declared.request.WordFault.{WordFault}
+use Rattle.depot_rows.specs.depot_model.declared.request.WordFault.TheVariants.{UnknownCommand}
 use Rattle.depot_rows.proofs.Keys.{left-true, right-true}
 use Rattle.command_words.specs.Choice.{form_of}
 use Rattle.command_words.specs.Options.{Given, Invocation, State, Ready, Waiting, given, invocation, is_option, next_kind, after_option, parted}

@@ -3,9 +3,9 @@ use Rattle.std.proofs.Common.{◌≡◌, ℕ, Bool, true, false, List, [], ◌�
 use Rattle.std.specs.Prelude.{◌==◌, ◌&&◌, nat_le, codes, is_ok, option_map, if◌then◌else◌}
 use Rattle.std.specs.List.{onto_first}
 use Rattle.std.specs.Option.{option_map_or}
-use Rattle.depot_path.specs.Bytes.{same}
-use Rattle.depot_path.specs.Name.{is_name}
-use Rattle.depot_model.specs.Filter.{filter_of}
+use Rattle.depot_rows.specs.depot_path.Bytes.{same}
+use Rattle.depot_rows.specs.depot_path.Name.{is_name}
+use Rattle.depot_rows.specs.depot_model.Filter.{filter_of}
 use Rattle.depot_rows.proofs.Keys.{number-is, same-is}
 use Rattle.wire_text.specs.Head.{head_of, head_of_parts, session_head, replica_head}
 use Rattle.wire_text.specs.Parts.{parted}

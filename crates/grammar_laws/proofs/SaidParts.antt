@@ -4,11 +4,11 @@ use Rattle.std.specs.Prelude.{◌==◌, codes, nat_le, nat_lt, is_some, IfOk, If
 use Rattle.std.specs.Option.{option_to_list, option_map_or}
 use Rattle.std.proofs.lemmas.Bool.Decides.{nat_tests}
 use Rattle.std.proofs.lemmas.List.{length-take}
-use Rattle.depot_path.specs.Bytes.{same}
-use Rattle.depot_path.specs.Digits.{number_of, is_digits}
-use Rattle.depot_path.specs.Path.{is_path, path_fault, unescaped, unless}
-use Rattle.depot_path.specs.declared.fault.PathFault.{PathFault}
-use Rattle.depot_path.proofs.Paths.{reads_path}
+use Rattle.depot_rows.specs.depot_path.Bytes.{same}
+use Rattle.depot_rows.specs.depot_path.Digits.{number_of, is_digits}
+use Rattle.depot_rows.specs.depot_path.Path.{is_path, path_fault, unescaped, unless}
+use Rattle.depot_rows.specs.depot_path.declared.fault.PathFault.{PathFault}
+use Rattle.depot_rows.proofs.depot_path.Paths.{reads_path}
 use Rattle.depot_rows.proofs.Keys.{number-self}
 use Rattle.command_words.proofs.Giving.{both}
 use Rattle.wire_text.specs.LineKind.{length_of, block_kind, file_kind, clear_kind, input_kind, kind_by_word, kind_of, is_skipped, is_within, path_in, path_within}

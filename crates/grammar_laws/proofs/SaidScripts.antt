@@ -4,9 +4,9 @@ use Rattle.std.proofs.lemmas.Bool.Decides.{nat_tests}
 use Rattle.std.specs.Prelude.{◌==◌, ◌&&◌, not, nat_le, nat_lt, codes, is_ok, option_map, if◌then◌else◌}
 use Rattle.std.specs.List.{list_all, onto_first}
 use Rattle.std.specs.Option.{option_map_or}
-use Rattle.depot_path.specs.Bytes.{same, is_among}
-use Rattle.depot_path.specs.Name.{is_name}
-use Rattle.depot_model.specs.Filter.{filter_of}
+use Rattle.depot_rows.specs.depot_path.Bytes.{same, is_among}
+use Rattle.depot_rows.specs.depot_path.Name.{is_name}
+use Rattle.depot_rows.specs.depot_model.Filter.{filter_of}
 use Rattle.command_words.proofs.Giving.{both}
 use Rattle.wire_text.specs.Head.{head_of, head_of_parts, session_head, replica_head, client_of}
 use Rattle.wire_text.specs.Parts.{parted, upto, past, is_in, IsFree}

@@ -5,10 +5,10 @@ use Rattle.std.specs.List.{list_any, list_all}
 use Rattle.std.proofs.lemmas.List.{drop_all, drop_at}
 use Rattle.std.proofs.lemmas.Bool.Decides.{nat_tests}
 use Rattle.std.proofs.lemmas.List.Folds.{list_any-append}
-use Rattle.depot_path.specs.Bytes.{is_among, is_control}
-use Rattle.depot_path.specs.Utf8.{is_utf8}
-use Rattle.spec_form.proofs.Utf8.{utf8_front, utf8_rest, ascii-cons}
-use Rattle.depot_model.specs.declared.line.Line.TheVariants.{Words, Bad}
+use Rattle.depot_rows.specs.depot_path.Bytes.{is_among, is_control}
+use Rattle.depot_rows.specs.depot_path.Utf8.{is_utf8}
+use Rattle.depot_rows.proofs.spec_form.Utf8.{utf8_front, utf8_rest, ascii-cons}
+use Rattle.depot_rows.specs.depot_model.declared.line.Line.TheVariants.{Words, Bad}
 use Rattle.depot_rows.proofs.Keys.{left-true, right-true, number-is}
 use Rattle.command_words.proofs.Giving.{both}
 use Rattle.wire_text.specs.Parts.{upto, past, is_in, IsFree}

@@ -4,8 +4,8 @@ use Rattle.std.specs.Prelude.{nat_le, codes, decimal, flat_map, is_some}
 use Rattle.std.specs.List.{list_all}
 use Rattle.std.proofs.lemmas.Bool.Decides.{nat_tests}
 use Rattle.std.specs.Option.{option_map_or}
-use Rattle.depot_path.specs.Path.{is_path, printed}
-use Rattle.depot_model.specs.declared.line.Line.{Line}
+use Rattle.depot_rows.specs.depot_path.Path.{is_path, printed}
+use Rattle.depot_rows.specs.depot_model.declared.line.Line.{Line}
 use Rattle.depot_rows.proofs.Keys.{left-true, right-true, number-is}
 use Rattle.wire_text.specs.Head.{client_of}
 use Rattle.wire_text.specs.LineKind.{is_within}

@@ -1,16 +1,16 @@
 -- Each command that words give is spelled by the texts of its arguments.
 use Rattle.std.proofs.Common.{◌≡◌, ℕ, ◌≤◌, Bool, true, false, List, [], ◌∷◌, Option, Some, None, Result, Ok, Err}
 use Rattle.std.specs.Prelude.{codes, IfSome, if◌then◌else◌}
-use Rattle.depot_path.specs.Answers.{◌>>=◌}
-use Rattle.depot_path.specs.Bytes.{same}
-use Rattle.depot_model.specs.declared.command.Command.{Command}
-use Rattle.depot_model.specs.declared.command.Command.TheVariants as commands
-use Rattle.depot_model.specs.declared.command.Labelling.TheVariants.{Exact, Adding, Removing}
-use Rattle.depot_model.specs.declared.command.Taking.TheVariants.{Theirs, Yours}
-use Rattle.depot_model.specs.declared.line.Line.{Line}
-use Rattle.depot_model.specs.declared.line.Line.TheVariants.{Words, Bad}
-use Rattle.depot_model.specs.declared.request.WordFault.{WordFault}
-use Rattle.depot_model.specs.declared.request.WordFault.TheVariants.{BadUsage}
+use Rattle.depot_rows.specs.depot_path.Answers.{◌>>=◌}
+use Rattle.depot_rows.specs.depot_path.Bytes.{same}
+use Rattle.depot_rows.specs.depot_model.declared.command.Command.{Command}
+use Rattle.depot_rows.specs.depot_model.declared.command.Command.TheVariants as commands
+use Rattle.depot_rows.specs.depot_model.declared.command.Labelling.TheVariants.{Exact, Adding, Removing}
+use Rattle.depot_rows.specs.depot_model.declared.command.Taking.TheVariants.{Theirs, Yours}
+use Rattle.depot_rows.specs.depot_model.declared.line.Line.{Line}
+use Rattle.depot_rows.specs.depot_model.declared.line.Line.TheVariants.{Words, Bad}
+use Rattle.depot_rows.specs.depot_model.declared.request.WordFault.{WordFault}
+use Rattle.depot_rows.specs.depot_model.declared.request.WordFault.TheVariants.{BadUsage}
 use Rattle.command_words.specs.Arguments as arguments
 use Rattle.command_words.specs.Choice.{form_in, form_of, suits, input_fits}
 use Rattle.command_words.specs.Fields as fields

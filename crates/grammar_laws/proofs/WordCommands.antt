@@ -1,10 +1,10 @@
 -- The words of each other command read to it.
 use Rattle.std.proofs.Common.{◌≡◌, ℕ, ◌≤◌, true, false, List, [], ◌∷◌, Option, Some, None, Result, Ok, refl, ap}
 use Rattle.std.specs.Prelude.{not, codes, decimal}
-use Rattle.depot_path.specs.Name.{is_name}
-use Rattle.depot_model.specs.WellFormed.{is_free}
-use Rattle.depot_model.specs.declared.command.Command.TheVariants as commands
-use Rattle.depot_model.specs.declared.request.WordFault.{WordFault}
+use Rattle.depot_rows.specs.depot_path.Name.{is_name}
+use Rattle.depot_rows.specs.depot_model.WellFormed.{is_free}
+use Rattle.depot_rows.specs.depot_model.declared.command.Command.TheVariants as commands
+use Rattle.depot_rows.specs.depot_model.declared.request.WordFault.{WordFault}
 use Rattle.command_words.specs.Arguments.{at_most_one, exactly_one, wanted}
 use Rattle.command_words.specs.Options.{is_option}
 use Rattle.command_words.specs.Table.{table}

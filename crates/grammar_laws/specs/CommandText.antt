@@ -2,19 +2,19 @@
 -- may be given in several ways this is one of them: options stand in the order of the reference, and numbers have no leading zeros.
 use Rattle.std.specs.Prelude.{◌≡◌, ◌≤◌, ℕ, Bool, true, false, not, ◌&&◌, List, [], ◌∷◌, ◌++◌, map, flat_map, codes, decimal, option_map, Option, Some, None, Ok}
 use Rattle.std.specs.List.{list_any}
-use Rattle.depot_path.specs.Pattern.{pattern_of}
-use Rattle.depot_path.specs.Revision.{file_spec_of}
-use Rattle.depot_path.specs.declared.file_spec.FileSpec.{FileSpec}
-use Rattle.depot_model.specs.declared.command.Command.{Command}
-use Rattle.depot_model.specs.declared.command.Command.TheVariants as commands
-use Rattle.depot_model.specs.declared.command.FileArgument.{FileArgument}
-use Rattle.depot_model.specs.declared.command.PatternArgument.{PatternArgument}
-use Rattle.depot_model.specs.declared.command.Labelling.{Labelling}
-use Rattle.depot_model.specs.declared.command.Labelling.TheVariants.{Exact, Adding, Removing}
-use Rattle.depot_model.specs.declared.command.Taking.{Taking}
-use Rattle.depot_model.specs.declared.command.Taking.TheVariants.{Theirs, Yours}
-use Rattle.depot_model.specs.declared.line.Line.{Line}
-use Rattle.depot_model.specs.declared.line.Line.TheVariants.{Words}
+use Rattle.depot_rows.specs.depot_path.Pattern.{pattern_of}
+use Rattle.depot_rows.specs.depot_path.Revision.{file_spec_of}
+use Rattle.depot_rows.specs.depot_path.declared.file_spec.FileSpec.{FileSpec}
+use Rattle.depot_rows.specs.depot_model.declared.command.Command.{Command}
+use Rattle.depot_rows.specs.depot_model.declared.command.Command.TheVariants as commands
+use Rattle.depot_rows.specs.depot_model.declared.command.FileArgument.{FileArgument}
+use Rattle.depot_rows.specs.depot_model.declared.command.PatternArgument.{PatternArgument}
+use Rattle.depot_rows.specs.depot_model.declared.command.Labelling.{Labelling}
+use Rattle.depot_rows.specs.depot_model.declared.command.Labelling.TheVariants.{Exact, Adding, Removing}
+use Rattle.depot_rows.specs.depot_model.declared.command.Taking.{Taking}
+use Rattle.depot_rows.specs.depot_model.declared.command.Taking.TheVariants.{Theirs, Yours}
+use Rattle.depot_rows.specs.depot_model.declared.line.Line.{Line}
+use Rattle.depot_rows.specs.depot_model.declared.line.Line.TheVariants.{Words}
 use Rattle.command_words.specs.Arguments.{has_revision, is_range, spells_path, is_dots}
 use Rattle.command_words.specs.Options.{is_option}
 use Rattle.command_words.specs.Reading.{command_of}

@@ -4,14 +4,14 @@
 use Rattle.std.specs.Prelude.{◌≡◌, ◌≤◌, ℕ, Bool, true, not, ◌&&◌, ◌==◌, nat_le, List, [], ◌∷◌, ◌++◌, length, flat_map, codes, decimal, is_ok, Option, Some, None}
 use Rattle.std.specs.List.{list_all, list_any}
 use Rattle.std.specs.Option.{option_map_or}
-use Rattle.depot_path.specs.Bytes.{is_among, is_control}
-use Rattle.depot_path.specs.Name.{is_name}
-use Rattle.depot_path.specs.Path.{is_path, printed}
-use Rattle.depot_path.specs.Utf8.{is_utf8}
-use Rattle.depot_model.specs.Filter.{filter_of}
-use Rattle.depot_model.specs.declared.line.Line.{Line}
-use Rattle.depot_model.specs.declared.line.Line.TheVariants.{Words, Bad}
-use Rattle.depot_model.specs.declared.request.Caller.{Caller}
+use Rattle.depot_rows.specs.depot_path.Bytes.{is_among, is_control}
+use Rattle.depot_rows.specs.depot_path.Name.{is_name}
+use Rattle.depot_rows.specs.depot_path.Path.{is_path, printed}
+use Rattle.depot_rows.specs.depot_path.Utf8.{is_utf8}
+use Rattle.depot_rows.specs.depot_model.Filter.{filter_of}
+use Rattle.depot_rows.specs.depot_model.declared.line.Line.{Line}
+use Rattle.depot_rows.specs.depot_model.declared.line.Line.TheVariants.{Words, Bad}
+use Rattle.depot_rows.specs.depot_model.declared.request.Caller.{Caller}
 use Rattle.wire_text.specs.Head.{client_of}
 use Rattle.wire_text.specs.LineKind.{is_within}
 use Rattle.wire_text.specs.Script.{is_short, number_after, max_script, script_of}

@@ -6,12 +6,12 @@ use Rattle.std.specs.Ordering.{is_eq, is_gt, is_lt}
 use Rattle.std.specs.declared.cmp.Ordering.{Ordering}
 use Rattle.std.specs.declared.cmp.Ordering.TheVariants.{Less, Equal, Greater}
 use Rattle.std.proofs.lemmas.Bool.{false≢true, true≢false}
-use Rattle.db_records.specs.Key.{key_cmp}
-use Rattle.db_records.specs.Record.{key_of}
-use Rattle.db_records.specs.declared.key.Key.{Key}
-use Rattle.db_records.specs.declared.record.Record.{Record}
-use Rattle.table_store.specs.Rows.{AllAbove, AllBelow, IsRising, is_below, row_at, rows_from}
-use Rattle.table_store.proofs.Order.{AllAbove-lower, AllAbove-tied, AllBelow-append, AllBelow-higher, AllBelow-tied, IsRising-left, IsRising-right, before_row, below_by_last, row_at-below, row_at-gap, row_at-here, rows_from-above}
+use Rattle.depot_rows.specs.db_records.Key.{key_cmp}
+use Rattle.depot_rows.specs.db_records.Record.{key_of}
+use Rattle.depot_rows.specs.db_records.declared.key.Key.{Key}
+use Rattle.depot_rows.specs.db_records.declared.record.Record.{Record}
+use Rattle.depot_rows.specs.table_store.Rows.{AllAbove, AllBelow, IsRising, is_below, row_at, rows_from}
+use Rattle.depot_rows.proofs.table_store.Order.{AllAbove-lower, AllAbove-tied, AllBelow-append, AllBelow-higher, AllBelow-tied, IsRising-left, IsRising-right, before_row, below_by_last, row_at-below, row_at-gap, row_at-here, rows_from-above}
 use Rattle.have_sync.specs.Places.{EndsWith, at_key, has_passed, is_next_below}
 
 -- a row more is passed

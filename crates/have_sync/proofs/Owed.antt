@@ -1,14 +1,14 @@
 -- What the row of an owed resolve says is what the depot says.
 use Rattle.std.proofs.Common.{◌≡◌, ℕ, Bool, false, List, Option, Some, None, refl, ap, ◌∙◌}
 use Rattle.std.specs.Prelude.{nat_le, option_map}
-use Rattle.db_records.specs.declared.record.Record.{Record}
-use Rattle.db_records.specs.declared.record.Record.TheVariants as records
-use Rattle.db_records.specs.declared.rows.ResolveRecord.{ResolveRecord}
-use Rattle.depot_model.specs.declared.request.Caller.{Caller}
-use Rattle.depot_model.specs.Deeds.{Deed}
-use Rattle.depot_model.specs.Opened.{Resolve, owed}
-use Rattle.depot_model.specs.Records.{resolve_record}
-use Rattle.depot_model.specs.Steps.Syncing.{is_owed}
+use Rattle.depot_rows.specs.db_records.declared.record.Record.{Record}
+use Rattle.depot_rows.specs.db_records.declared.record.Record.TheVariants as records
+use Rattle.depot_rows.specs.db_records.declared.rows.ResolveRecord.{ResolveRecord}
+use Rattle.depot_rows.specs.depot_model.declared.request.Caller.{Caller}
+use Rattle.depot_rows.specs.depot_model.Deeds.{Deed}
+use Rattle.depot_rows.specs.depot_model.Opened.{Resolve, owed}
+use Rattle.depot_rows.specs.depot_model.Records.{resolve_record}
+use Rattle.depot_rows.specs.depot_model.Steps.Syncing.{is_owed}
 use Rattle.have_sync.specs.Syncing.{reaches}
 
 -- in any row

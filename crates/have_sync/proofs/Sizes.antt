@@ -4,13 +4,13 @@ use Rattle.std.specs.Prelude.{option_and_then, option_map}
 use Rattle.hex.specs.Hex.{encode_upper, encode_with}
 use Rattle.md5.specs.Md5.{md5}
 use Rattle.md5.proofs.StandardFacts.{length-md5}
-use Rattle.db_records.specs.declared.record.Record.{Record}
-use Rattle.db_records.specs.declared.record.Record.TheVariants.{Rev}
-use Rattle.db_records.specs.declared.rows.RevRecord.{RevRecord}
-use Rattle.depot_model.specs.Deeds.{Deed}
-use Rattle.depot_model.specs.Records.{digest, rev_record, unplaced}
-use Rattle.depot_model.specs.Revisions.{Revision, revision}
-use Rattle.depot_model.specs.Steps.Syncing.{size_of}
+use Rattle.depot_rows.specs.db_records.declared.record.Record.{Record}
+use Rattle.depot_rows.specs.db_records.declared.record.Record.TheVariants.{Rev}
+use Rattle.depot_rows.specs.db_records.declared.rows.RevRecord.{RevRecord}
+use Rattle.depot_rows.specs.depot_model.Deeds.{Deed}
+use Rattle.depot_rows.specs.depot_model.Records.{digest, rev_record, unplaced}
+use Rattle.depot_rows.specs.depot_model.Revisions.{Revision, revision}
+use Rattle.depot_rows.specs.depot_model.Steps.Syncing.{size_of}
 use Rattle.have_sync.specs.Syncing.{size_in, sized}
 
 -- the size in any row

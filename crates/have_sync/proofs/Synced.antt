@@ -3,27 +3,27 @@ use Rattle.std.proofs.Common.{◌≡◌, ◌<◌, ◌≤◌, ℕ, Bool, true, fa
 use Rattle.std.specs.Prelude.{◌==◌, ◌&&◌, nat_lt, not, if◌then◌else◌, is_some, option_map}
 use Rattle.std.specs.List.{list_any}
 use Rattle.std.proofs.lemmas.Bool.Decides.{nat_tests}
-use Rattle.depot_path.specs.Path.{is_path}
-use Rattle.depot_path.specs.declared.revision.Wanted.{Wanted}
-use Rattle.db_records.specs.declared.record.Record.{Record}
-use Rattle.db_records.specs.declared.record.Record.TheVariants.{Working}
-use Rattle.db_records.specs.declared.rows.WorkingRecord.{WorkingRecord}
-use Rattle.table_changes.specs.Changed.{AllRows}
-use Rattle.view_map.specs.Mapping.{mapped}
-use Rattle.view_map.specs.declared.line.ViewLine.{ViewLine}
-use Rattle.view_map.specs.declared.mapped.Mapped.{Mapped}
-use Rattle.view_map.specs.declared.mapped.Mapped.TheVariants.{Nothing, At as MappedAt}
-use Rattle.depot_model.specs.declared.command.FileArgument.{FileArgument}
-use Rattle.depot_model.specs.declared.request.Caller.{Caller}
-use Rattle.depot_model.specs.Asking.{view}
-use Rattle.depot_model.specs.Choice.{At, chosen, is_live_choice, shown}
-use Rattle.depot_model.specs.Deeds.{Deed, Got, Opening, Owe}
-use Rattle.depot_model.specs.Opened.{opened}
-use Rattle.depot_model.specs.Records.{working_record}
-use Rattle.depot_model.specs.Revisions.{is_live_at}
-use Rattle.depot_model.specs.Step.{Step as ModelStep, nothing}
-use Rattle.depot_model.specs.Steps.Opening.{held}
-use Rattle.depot_model.specs.Steps.Syncing.{is_owed, size_of, sync_have, sync_opened, sync_row, sync_to, wanted_rev}
+use Rattle.depot_rows.specs.depot_path.Path.{is_path}
+use Rattle.depot_rows.specs.depot_path.declared.revision.Wanted.{Wanted}
+use Rattle.depot_rows.specs.db_records.declared.record.Record.{Record}
+use Rattle.depot_rows.specs.db_records.declared.record.Record.TheVariants.{Working}
+use Rattle.depot_rows.specs.db_records.declared.rows.WorkingRecord.{WorkingRecord}
+use Rattle.depot_rows.specs.table_changes.Changed.{AllRows}
+use Rattle.depot_rows.specs.view_map.Mapping.{mapped}
+use Rattle.depot_rows.specs.view_map.declared.line.ViewLine.{ViewLine}
+use Rattle.depot_rows.specs.view_map.declared.mapped.Mapped.{Mapped}
+use Rattle.depot_rows.specs.view_map.declared.mapped.Mapped.TheVariants.{Nothing, At as MappedAt}
+use Rattle.depot_rows.specs.depot_model.declared.command.FileArgument.{FileArgument}
+use Rattle.depot_rows.specs.depot_model.declared.request.Caller.{Caller}
+use Rattle.depot_rows.specs.depot_model.Asking.{view}
+use Rattle.depot_rows.specs.depot_model.Choice.{At, chosen, is_live_choice, shown}
+use Rattle.depot_rows.specs.depot_model.Deeds.{Deed, Got, Opening, Owe}
+use Rattle.depot_rows.specs.depot_model.Opened.{opened}
+use Rattle.depot_rows.specs.depot_model.Records.{working_record}
+use Rattle.depot_rows.specs.depot_model.Revisions.{is_live_at}
+use Rattle.depot_rows.specs.depot_model.Step.{Step as ModelStep, nothing}
+use Rattle.depot_rows.specs.depot_model.Steps.Opening.{held}
+use Rattle.depot_rows.specs.depot_model.Steps.Syncing.{is_owed, size_of, sync_have, sync_opened, sync_row, sync_to, wanted_rev}
 use Rattle.depot_rows.specs.Effects.{Follow}
 use Rattle.depot_rows.specs.declared.deed.Deed.TheVariants as dones
 use Rattle.depot_rows.specs.declared.deed.Held.{Held}

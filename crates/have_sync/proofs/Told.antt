@@ -1,16 +1,16 @@
 -- The files that `where` tells are those of the model.
 use Rattle.std.proofs.Common.{◌≡◌, ℕ, List, [], ◌∷◌, Option, Some, None}
 use Rattle.std.specs.Prelude.{◌&&◌, filter, is_some, if◌then◌else◌}
-use Rattle.view_map.specs.Mapping.{files_at, path_in}
-use Rattle.protect_table.specs.Rights.{may}
-use Rattle.depot_model.specs.declared.command.FileArgument.{FileArgument}
-use Rattle.depot_model.specs.declared.request.Caller.{Caller}
-use Rattle.depot_model.specs.Arguments.{in_client_syntax}
-use Rattle.depot_model.specs.Deeds.{Deed}
-use Rattle.depot_model.specs.Sorted.{all_inserted}
-use Rattle.depot_model.specs.Steps.Adding.{spelled}
-use Rattle.depot_model.specs.Step.{Step as ModelStep, nothing, tells}
-use Rattle.depot_model.specs.Steps.Placing.{place_row, told}
+use Rattle.depot_rows.specs.view_map.Mapping.{files_at, path_in}
+use Rattle.depot_rows.specs.protect_table.Rights.{may}
+use Rattle.depot_rows.specs.depot_model.declared.command.FileArgument.{FileArgument}
+use Rattle.depot_rows.specs.depot_model.declared.request.Caller.{Caller}
+use Rattle.depot_rows.specs.depot_model.Arguments.{in_client_syntax}
+use Rattle.depot_rows.specs.depot_model.Deeds.{Deed}
+use Rattle.depot_rows.specs.depot_model.Sorted.{all_inserted}
+use Rattle.depot_rows.specs.depot_model.Steps.Adding.{spelled}
+use Rattle.depot_rows.specs.depot_model.Step.{Step as ModelStep, nothing, tells}
+use Rattle.depot_rows.specs.depot_model.Steps.Placing.{place_row, told}
 use Rattle.named_files.specs.Asked.{IsAsker}
 use Rattle.named_files.specs.declared.asker.Asker.{Asker}
 use Rattle.have_sync.specs.Placing.{is_told, spelled_files}

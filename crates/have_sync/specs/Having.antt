@@ -1,11 +1,11 @@
 -- What `have` shows of a file, and what it reads. This project's own choice.
 use Rattle.std.specs.Prelude.{ℕ, List, [], ◌∷◌, ◌++◌, codes, Option}
-use Rattle.db_records.specs.declared.table.TableId.TheVariants as table_ids
-use Rattle.table_changes.specs.Changed.{AllRows}
-use Rattle.depot_model.specs.declared.reply.Row.{Row}
-use Rattle.depot_model.specs.declared.request.Caller.{Caller}
-use Rattle.depot_model.specs.Deeds.{Deed}
-use Rattle.depot_model.specs.Rows.{row, path_field, number_field, if_any}
+use Rattle.depot_rows.specs.db_records.declared.table.TableId.TheVariants as table_ids
+use Rattle.depot_rows.specs.table_changes.Changed.{AllRows}
+use Rattle.depot_rows.specs.depot_model.declared.reply.Row.{Row}
+use Rattle.depot_rows.specs.depot_model.declared.request.Caller.{Caller}
+use Rattle.depot_rows.specs.depot_model.Deeds.{Deed}
+use Rattle.depot_rows.specs.depot_model.Rows.{row, path_field, number_field, if_any}
 use Rattle.depot_rows.specs.Standing.{HasRows}
 use Rattle.named_files.specs.Asked.{IsAsker}
 use Rattle.named_files.specs.declared.asker.Asker.{Asker}

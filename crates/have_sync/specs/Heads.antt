@@ -1,8 +1,8 @@
 -- The row of the newest revision of a file. This project's own choice.
 use Rattle.std.specs.Prelude.{◌≡◌, ℕ, Bool, true, false, List}
-use Rattle.depot_path.specs.Bytes.{same}
-use Rattle.db_records.specs.declared.record.Record.{Record}
-use Rattle.db_records.specs.declared.record.Record.TheVariants.{Rev}
+use Rattle.depot_rows.specs.depot_path.Bytes.{same}
+use Rattle.depot_rows.specs.db_records.declared.record.Record.{Record}
+use Rattle.depot_rows.specs.db_records.declared.record.Record.TheVariants.{Rev}
 use Rattle.named_files.specs.HeadRows.{IsHead}
 
 -- a row is of a revision of the file with that text

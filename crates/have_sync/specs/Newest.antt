@@ -1,13 +1,13 @@
 -- The newest revision of a file, by its row, and the places in which look-ups go on. This project's own choice.
 use Rattle.std.specs.Prelude.{◌≡◌, ℕ, Bool, true, false, List, map}
 use Rattle.std.specs.List.{All}
-use Rattle.depot_path.specs.declared.revision.Wanted.{Wanted}
-use Rattle.depot_path.specs.declared.revision.Wanted.TheVariants.{Head}
-use Rattle.db_records.specs.declared.record.Record.{Record}
-use Rattle.db_records.specs.declared.record.Record.TheVariants.{Rev}
-use Rattle.db_records.specs.declared.table.TableId.TheVariants as table_ids
-use Rattle.db_records.specs.Record.{is_live}
-use Rattle.table_changes.specs.Changed.{AllRows}
+use Rattle.depot_rows.specs.depot_path.declared.revision.Wanted.{Wanted}
+use Rattle.depot_rows.specs.depot_path.declared.revision.Wanted.TheVariants.{Head}
+use Rattle.depot_rows.specs.db_records.declared.record.Record.{Record}
+use Rattle.depot_rows.specs.db_records.declared.record.Record.TheVariants.{Rev}
+use Rattle.depot_rows.specs.db_records.declared.table.TableId.TheVariants as table_ids
+use Rattle.depot_rows.specs.db_records.Record.{is_live}
+use Rattle.depot_rows.specs.table_changes.Changed.{AllRows}
 use Rattle.named_files.specs.HeadRows.{IsHead}
 use Rattle.named_files.specs.declared.listing.Listing.{Listing}
 use Rattle.named_files.specs.declared.listing.Listing.TheVariants.{Submitted}

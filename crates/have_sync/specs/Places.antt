@@ -1,9 +1,9 @@
 -- A place in a table, between rows, from which look-ups go on. This project's own choice.
 use Rattle.std.specs.Prelude.{◌≡◌, Bool, true, false, not, List, [], ◌∷◌, ◌++◌, if◌then◌else◌, Option, Some, None}
 use Rattle.std.specs.Option.{option_copied, option_to_list}
-use Rattle.db_records.specs.declared.key.Key.{Key}
-use Rattle.db_records.specs.declared.record.Record.{Record}
-use Rattle.table_store.specs.Rows.{AllBelow, is_above, is_at, is_below}
+use Rattle.depot_rows.specs.db_records.declared.key.Key.{Key}
+use Rattle.depot_rows.specs.db_records.declared.record.Record.{Record}
+use Rattle.depot_rows.specs.table_store.Rows.{AllBelow, is_above, is_at, is_below}
 use Rattle.have_sync.specs.declared.place.Place.{Place}
 
 -- the rows behind it

@@ -1,10 +1,10 @@
 -- The files that `where` tells, by who asks. This project's own choice.
 use Rattle.std.specs.Prelude.{ℕ, Bool, ◌&&◌, List, [], ◌∷◌, is_some, if◌then◌else◌}
-use Rattle.view_map.specs.Mapping.{files_at, path_in}
-use Rattle.protect_table.specs.Rights.{may}
-use Rattle.depot_model.specs.declared.command.FileArgument.{FileArgument}
-use Rattle.depot_model.specs.Arguments.{in_client_syntax}
-use Rattle.depot_model.specs.Sorted.{all_inserted}
+use Rattle.depot_rows.specs.view_map.Mapping.{files_at, path_in}
+use Rattle.depot_rows.specs.protect_table.Rights.{may}
+use Rattle.depot_rows.specs.depot_model.declared.command.FileArgument.{FileArgument}
+use Rattle.depot_rows.specs.depot_model.Arguments.{in_client_syntax}
+use Rattle.depot_rows.specs.depot_model.Sorted.{all_inserted}
 use Rattle.named_files.specs.declared.asker.Asker.{Asker}
 
 abbrev pub is_told : Asker → List ℕ → Bool

@@ -1,16 +1,16 @@
 -- What `sync` does with a file, by what rows say of it, and what it reads. This project's own choice.
 use Rattle.std.specs.Prelude.{ℕ, nat_le, Bool, false, ◌==◌, ◌+◌, List, [], ◌∷◌, ◌++◌, codes, if◌then◌else◌, Option, Some, None}
-use Rattle.db_records.specs.declared.rows.ResolveRecord.{ResolveRecord}
-use Rattle.db_records.specs.declared.rows.RevRecord.{RevRecord}
-use Rattle.db_records.specs.declared.table.TableId.TheVariants as table_ids
-use Rattle.table_changes.specs.Changed.{AllRows}
-use Rattle.depot_model.specs.declared.reply.Row.{Row}
-use Rattle.depot_model.specs.declared.request.Caller.{Caller}
-use Rattle.depot_model.specs.Deeds.{Deed, Owe}
-use Rattle.depot_model.specs.Rows.{row, path_field, number_field, text_field, if_any}
-use Rattle.depot_model.specs.Step.{Step, does}
-use Rattle.depot_model.specs.Steps.Opening.{held}
-use Rattle.depot_model.specs.Steps.Syncing.{changes_to, size_of, sync_row}
+use Rattle.depot_rows.specs.db_records.declared.rows.ResolveRecord.{ResolveRecord}
+use Rattle.depot_rows.specs.db_records.declared.rows.RevRecord.{RevRecord}
+use Rattle.depot_rows.specs.db_records.declared.table.TableId.TheVariants as table_ids
+use Rattle.depot_rows.specs.table_changes.Changed.{AllRows}
+use Rattle.depot_rows.specs.depot_model.declared.reply.Row.{Row}
+use Rattle.depot_rows.specs.depot_model.declared.request.Caller.{Caller}
+use Rattle.depot_rows.specs.depot_model.Deeds.{Deed, Owe}
+use Rattle.depot_rows.specs.depot_model.Rows.{row, path_field, number_field, text_field, if_any}
+use Rattle.depot_rows.specs.depot_model.Step.{Step, does}
+use Rattle.depot_rows.specs.depot_model.Steps.Opening.{held}
+use Rattle.depot_rows.specs.depot_model.Steps.Syncing.{changes_to, size_of, sync_row}
 use Rattle.depot_rows.specs.Standing.{HasRows}
 use Rattle.named_files.specs.Sets.{ShownReads}
 use Rattle.named_files.specs.declared.asker.Asker.{Asker}

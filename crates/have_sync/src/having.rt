@@ -1,24 +1,24 @@
 //! `have` (Command-Line Reference, "p4 have").
 
 ghost use Rattle.std.specs.Prelude.{◌≡◌, List, IfOk};
-ghost use Rattle.db_records.specs.declared.table.TableId.TheVariants as table_ids;
-ghost use Rattle.depot_model.specs.Deeds.{Deed};
-ghost use Rattle.depot_model.specs.Rules.{IsSound};
-ghost use Rattle.depot_model.specs.Steps.Placing as model;
+ghost use Rattle.depot_rows.specs.db_records.declared.table.TableId.TheVariants as table_ids;
+ghost use Rattle.depot_rows.specs.depot_model.Deeds.{Deed};
+ghost use Rattle.depot_rows.specs.depot_model.Rules.{IsSound};
+ghost use Rattle.depot_rows.specs.depot_model.Steps.Placing as model;
 ghost use Rattle.depot_rows.specs.Standing.{HasRows};
 ghost use Rattle.reply_rows.specs.Made.{IsMade};
-ghost use Rattle.table_changes.specs.Changed.{rows_of};
+ghost use Rattle.depot_rows.specs.table_changes.Changed.{rows_of};
 ghost use Rattle.named_files.specs.Asked.{IsAsker};
 ghost use Rattle.have_sync.specs.Having.{have_row_of};
 
-use depot_model::{Caller, FileArgument, Row};
-use depot_path::{ClientPath, DepotPath};
+use depot_rows::model::{Caller, FileArgument, Row};
+use depot_rows::paths::{ClientPath, DepotPath};
+use depot_rows::tables::Tables;
 use file_steps::{FileAct, over_all};
 use named_files::{Asker, ListedFiles, Listing};
 use reply_rows::{RowBuilder, Step};
 use row_reads::have_of;
 use std::alloc::{AllocError, Global};
-use table_store::Tables;
 
 /// What `have` shows of a file.
 #[derive(Drop)]
@@ -47,8 +47,8 @@ fn have_row(
 
 impl<'a> FileAct for Having<'a> {
     ghost use Rattle.std.specs.Prelude.{◌∷◌, []};
-    ghost use Rattle.depot_model.specs.Step.{tells};
-    ghost use Rattle.depot_model.specs.Steps.Placing.{have_row as row_of_file};
+    ghost use Rattle.depot_rows.specs.depot_model.Step.{tells};
+    ghost use Rattle.depot_rows.specs.depot_model.Steps.Placing.{have_row as row_of_file};
     ghost use Rattle.have_sync.specs.Having.{Reads};
 
     ghost reads = { λ having rows d. Reads having.caller.now having.asker.now rows d };

@@ -3,12 +3,12 @@
 
 ghost use Rattle.std.specs.Prelude.{◌≡◌, [], List, map, IfSome};
 ghost use Rattle.std.specs.List.{All};
-ghost use Rattle.db_records.specs.declared.record.Record.{Record as Row};
+ghost use Rattle.depot_rows.specs.db_records.declared.record.Record.{Record as Row};
 ghost use Rattle.named_files.specs.HeadRows.{IsHead};
 ghost use Rattle.have_sync.specs.Heads.{IsHeadOf, is_of as of_test};
 
-use db_records::Record;
-use depot_path::Text;
+use depot_rows::paths::Text;
+use depot_rows::records::Record;
 use std::alloc::Global;
 
 /// Rows of newest revisions, and how many of them were passed.

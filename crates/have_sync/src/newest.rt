@@ -3,14 +3,14 @@
 ghost use Rattle.std.specs.Prelude.{◌≡◌, List, map, IfOk, Ok};
 ghost use Rattle.std.specs.List.{All};
 ghost use Rattle.std.specs.Option.{option_copied};
-ghost use Rattle.depot_path.specs.Path.{path_of, printed};
-ghost use Rattle.db_records.specs.declared.key.Key.TheVariants as keys;
-ghost use Rattle.db_records.specs.declared.table.TableId.TheVariants as table_ids;
-ghost use Rattle.table_changes.specs.Changed.{AllRows, rows_of};
-ghost use Rattle.depot_model.specs.Deeds.{Deed};
-ghost use Rattle.depot_model.specs.Latest.{have};
-ghost use Rattle.depot_model.specs.Revisions.{head, is_live_at as live_at};
-ghost use Rattle.depot_model.specs.Rules.{IsSound};
+ghost use Rattle.depot_rows.specs.depot_path.Path.{path_of, printed};
+ghost use Rattle.depot_rows.specs.db_records.declared.key.Key.TheVariants as keys;
+ghost use Rattle.depot_rows.specs.db_records.declared.table.TableId.TheVariants as table_ids;
+ghost use Rattle.depot_rows.specs.table_changes.Changed.{AllRows, rows_of};
+ghost use Rattle.depot_rows.specs.depot_model.Deeds.{Deed};
+ghost use Rattle.depot_rows.specs.depot_model.Latest.{have};
+ghost use Rattle.depot_rows.specs.depot_model.Revisions.{head, is_live_at as live_at};
+ghost use Rattle.depot_rows.specs.depot_model.Rules.{IsSound};
 ghost use Rattle.depot_rows.specs.Standing.{HasRows};
 ghost use Rattle.row_reads.specs.Found.{have_in};
 ghost use Rattle.named_files.specs.HeadRows.{IsHead};
@@ -18,11 +18,11 @@ ghost use Rattle.have_sync.specs.Newest.{AreOf, Tells};
 
 use crate::heads::Heads;
 use crate::place::Place;
-use db_records::{Key, Record, TableId};
-use depot_path::{DepotPath, Name, Text};
+use depot_rows::paths::{DepotPath, Name, Text};
+use depot_rows::records::{Key, Record, TableId};
+use depot_rows::tables::Tables;
 use revision_reads::{head_of, is_live_at};
 use std::alloc::{AllocError, Global};
-use table_store::Tables;
 
 /// The newest revision of a file, 0 where it has none, and whether it isn't deleted there.
 #[derive(Clone, Copy)]

@@ -3,12 +3,12 @@
 
 ghost use Rattle.std.specs.Prelude.{◌≡◌, ◌++◌, [], None, false, true};
 ghost use Rattle.std.specs.Option.{option_copied, option_to_list};
-ghost use Rattle.db_records.specs.declared.key.Key.{Key as KeyValue};
-ghost use Rattle.table_store.specs.Rows.{IsRising, row_at};
+ghost use Rattle.depot_rows.specs.db_records.declared.key.Key.{Key as KeyValue};
+ghost use Rattle.depot_rows.specs.table_store.Rows.{IsRising, row_at};
 ghost use Rattle.have_sync.specs.Places.{IsPlace, StandsBy, at_key, has_passed, is_next_below};
 
-use db_records::{Key, Record};
-use table_store::{Version, Walk};
+use depot_rows::records::{Key, Record};
+use depot_rows::tables::{Version, Walk};
 
 /// How many rows are passed before the tree of the table is searched.
 const FEW: u32 = 16;

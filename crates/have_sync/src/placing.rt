@@ -2,26 +2,26 @@
 
 ghost use Rattle.std.specs.Prelude.{◌≡◌, ◌∷◌, ◌++◌, [], List, filter, true, if◌then◌else◌, IfOk, OnOk, Some};
 ghost use Rattle.std.specs.List.{list_all};
-ghost use Rattle.db_records.specs.declared.table.TableId.TheVariants as table_ids;
-ghost use Rattle.depot_model.specs.Deeds.{Deed};
-ghost use Rattle.depot_model.specs.Rules.{IsSound};
-ghost use Rattle.depot_model.specs.Steps.Placing as model;
-ghost use Rattle.depot_model.specs.WellFormed.{spells_path};
+ghost use Rattle.depot_rows.specs.db_records.declared.table.TableId.TheVariants as table_ids;
+ghost use Rattle.depot_rows.specs.depot_model.Deeds.{Deed};
+ghost use Rattle.depot_rows.specs.depot_model.Rules.{IsSound};
+ghost use Rattle.depot_rows.specs.depot_model.Steps.Placing as model;
+ghost use Rattle.depot_rows.specs.depot_model.WellFormed.{spells_path};
 ghost use Rattle.depot_rows.specs.Standing.{HasRows};
 ghost use Rattle.reply_rows.specs.Made.{IsMade};
-ghost use Rattle.table_changes.specs.Changed.{rows_of};
+ghost use Rattle.depot_rows.specs.table_changes.Changed.{rows_of};
 ghost use Rattle.named_files.specs.Asked.{IsAsker};
 ghost use Rattle.have_sync.specs.Placing.{is_told as told_test, spelled_files as files_spelled};
 
-use depot_model::{Caller, FileArgument, Row};
-use depot_path::{ClientPath, DepotPath, Sequence};
+use depot_rows::model::{Caller, FileArgument, Row};
+use depot_rows::paths::{ClientPath, DepotPath, Sequence};
+use depot_rows::protections::Level;
+use depot_rows::tables::Tables;
 use file_steps::{FileAct, FileFinder, in_path_order, over_found};
 use named_files::{Asker, spelled_path};
-use protect_table::Level;
 use reply_rows::{RowBuilder, Step, not_in_view_row};
 use row_reads::in_client_syntax;
 use std::alloc::{AllocError, Global};
-use table_store::Tables;
 
 /// The files that `where` tells.
 #[derive(Drop)]
@@ -110,9 +110,9 @@ fn spelled_files(
 
 impl<'a> FileFinder for ToldFiles<'a> {
     ghost use Rattle.std.specs.Prelude.{◌∷◌, []};
-    ghost use Rattle.depot_model.specs.Refusals.{refusal_row};
-    ghost use Rattle.depot_model.specs.Steps.Placing.{told};
-    ghost use Rattle.depot_model.specs.declared.refusal.Refusal.TheVariants as refusals;
+    ghost use Rattle.depot_rows.specs.depot_model.Refusals.{refusal_row};
+    ghost use Rattle.depot_rows.specs.depot_model.Steps.Placing.{told};
+    ghost use Rattle.depot_rows.specs.depot_model.declared.refusal.Refusal.TheVariants as refusals;
     ghost use Rattle.named_files.specs.Asked.{IsAsker};
 
     ghost reads = { λ finder rows d. IsAsker d finder.caller.now finder.asker.now };
@@ -146,7 +146,7 @@ impl<'a> FileFinder for ToldFiles<'a> {
 }
 
 impl<'a> FileAct for Placing<'a> {
-    ghost use Rattle.depot_model.specs.Steps.Placing.{tell_place};
+    ghost use Rattle.depot_rows.specs.depot_model.Steps.Placing.{tell_place};
     ghost use Rattle.named_files.specs.Asked.{IsAsker};
 
     ghost reads = { λ placing rows d. IsAsker d placing.caller.now placing.asker.now };

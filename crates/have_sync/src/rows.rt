@@ -2,24 +2,24 @@
 
 ghost use Rattle.std.specs.Prelude.{◌≡◌, ◌++◌, List, IfOk, None, codes};
 ghost use Rattle.std.specs.Option.{option_copied};
-ghost use Rattle.db_records.specs.declared.table.TableId.TheVariants as table_ids;
-ghost use Rattle.table_changes.specs.Changed.{rows_of};
-ghost use Rattle.depot_model.specs.declared.request.Caller.{Caller};
-ghost use Rattle.depot_model.specs.Deeds.{Deed};
-ghost use Rattle.depot_model.specs.Rows.{if_any, number_field as field_of_number, path_field as field_of_path};
-ghost use Rattle.depot_model.specs.Steps.Syncing as model;
+ghost use Rattle.depot_rows.specs.db_records.declared.table.TableId.TheVariants as table_ids;
+ghost use Rattle.depot_rows.specs.table_changes.Changed.{rows_of};
+ghost use Rattle.depot_rows.specs.depot_model.declared.request.Caller.{Caller};
+ghost use Rattle.depot_rows.specs.depot_model.Deeds.{Deed};
+ghost use Rattle.depot_rows.specs.depot_model.Rows.{if_any, number_field as field_of_number, path_field as field_of_path};
+ghost use Rattle.depot_rows.specs.depot_model.Steps.Syncing as model;
 ghost use Rattle.depot_rows.specs.Standing.{HasRows};
 ghost use Rattle.named_files.specs.Asked.{IsAsker};
 ghost use Rattle.have_sync.specs.Syncing.{changed_row as row_of_change, size_in as size_in_row, sync_row_of};
 
-use db_records::RevRecord;
-use depot_model::Row;
-use depot_path::{ClientPath, DepotPath};
+use depot_rows::model::Row;
+use depot_rows::paths::{ClientPath, DepotPath};
+use depot_rows::records::RevRecord;
+use depot_rows::tables::Tables;
 use named_files::Asker;
 use reply_rows::RowBuilder;
 use revision_reads::revision_of;
 use std::alloc::{AllocError, Global};
-use table_store::Tables;
 
 /// With the place of a file in the client workspace, if it has one.
 fn with_place(row: RowBuilder, place: &Option<ClientPath>) -> Result<RowBuilder, AllocError>

@@ -2,15 +2,15 @@
 
 ghost use Rattle.std.specs.Prelude.{◌≡◌, ◌<◌, ◌&&◌, List, IfOk, is_some};
 ghost use Rattle.std.specs.Option.{option_copied};
-ghost use Rattle.db_records.specs.declared.table.TableId.TheVariants as table_ids;
-ghost use Rattle.table_changes.specs.Changed.{AllRows, rows_of};
-ghost use Rattle.depot_model.specs.Choice as choices;
-ghost use Rattle.depot_model.specs.Choice.{chosen, shown as shown_in};
-ghost use Rattle.depot_model.specs.Deeds.{Deed, Opening};
-ghost use Rattle.depot_model.specs.Revisions.{head, is_live_at as live_at};
-ghost use Rattle.depot_model.specs.Rules.{IsSound};
-ghost use Rattle.depot_model.specs.Step.{Step as ModelStep};
-ghost use Rattle.depot_model.specs.Steps.Syncing as model;
+ghost use Rattle.depot_rows.specs.db_records.declared.table.TableId.TheVariants as table_ids;
+ghost use Rattle.depot_rows.specs.table_changes.Changed.{AllRows, rows_of};
+ghost use Rattle.depot_rows.specs.depot_model.Choice as choices;
+ghost use Rattle.depot_rows.specs.depot_model.Choice.{chosen, shown as shown_in};
+ghost use Rattle.depot_rows.specs.depot_model.Deeds.{Deed, Opening};
+ghost use Rattle.depot_rows.specs.depot_model.Revisions.{head, is_live_at as live_at};
+ghost use Rattle.depot_rows.specs.depot_model.Rules.{IsSound};
+ghost use Rattle.depot_rows.specs.depot_model.Step.{Step as ModelStep};
+ghost use Rattle.depot_rows.specs.depot_model.Steps.Syncing as model;
 ghost use Rattle.depot_rows.specs.Standing.{HasRows};
 ghost use Rattle.reply_rows.specs.Made.{IsMade};
 ghost use Rattle.have_sync.specs.Newest.{AreOf, asks_for_none, is_submitted as submitted_test};
@@ -18,20 +18,20 @@ ghost use Rattle.have_sync.specs.Syncing.{Reads, get_step, owe_step, reaches as 
 
 use crate::newest::{Places, places_of};
 use crate::rows::{changed_row, shown_row};
-use db_records::ResolveRecord;
 use deed_list::Deeds;
-use depot_model::{Caller, FileArgument};
-use depot_path::{DepotPath, Name, Sequence, Wanted};
 use depot_rows::Owing;
+use depot_rows::model::{Caller, FileArgument};
+use depot_rows::paths::{DepotPath, Name, Sequence, Wanted};
+use depot_rows::protections::Level;
+use depot_rows::records::ResolveRecord;
+use depot_rows::tables::Tables;
 use file_openings::opening_of;
 use file_steps::{FileSet, WalkAct, walk_over_all, within_files};
 use named_files::{Asker, HeadedFiles, Listing, ShownFiles};
 use opening_reads::{held, owed_of};
-use protect_table::Level;
 use reply_rows::{Step, denied_row};
 use revision_reads::{Chosen, chosen_of, is_live_at, shown_by};
 use std::alloc::{AllocError, Global};
-use table_store::Tables;
 
 /// What `sync` does with a file.
 #[derive(Drop)]
@@ -379,7 +379,7 @@ fn asks_heads(argument: &FileArgument, listing: &Listing) -> bool
 }
 
 impl<'a> WalkAct<'a, ShownFiles<'a>> for Syncing<'a> {
-    ghost use Rattle.depot_model.specs.Steps.Syncing.{sync_file as step_of_file};
+    ghost use Rattle.depot_rows.specs.depot_model.Steps.Syncing.{sync_file as step_of_file};
     ghost use Rattle.have_sync.specs.Newest.{AreOf};
     ghost use Rattle.have_sync.specs.Syncing.{Reads};
 

@@ -4,19 +4,19 @@ use Rattle.std.specs.Prelude.{◌&&◌, ◌||◌, codes, decimal, filter, filter
 use Rattle.std.specs.List.{cons_option, list_all, list_any}
 use Rattle.std.specs.Option.{option_map_or}
 use Rattle.std.proofs.lemmas.Bool.{true≢false}
-use Rattle.depot_path.specs.Bytes.{same}
-use Rattle.depot_path.specs.Digits.{is_digits}
-use Rattle.depot_path.specs.Path.{printed, is_path}
-use Rattle.spec_form.specs.Form.{FormValue}
-use Rattle.spec_form.specs.declared.shape.Shape.TheVariants.{Shelf as ShelfShape}
-use Rattle.depot_model.specs.Arguments.{paths_of}
-use Rattle.depot_model.specs.Deeds.{Deed, ShelfForm, FixForm}
-use Rattle.depot_model.specs.Fixes.{is_on, is_fixing}
-use Rattle.depot_model.specs.Latest.{keys_of, spec, spec_name, spec_said, when}
-use Rattle.depot_model.specs.Numerals.{is_numeral}
-use Rattle.depot_model.specs.Rules.{IsSound}
-use Rattle.depot_model.specs.Shelves.{is_kept, is_of_change, is_shelved, kept, kept_paths, shelf_name, shelf_paths}
-use Rattle.depot_model.specs.Values.{value_of}
+use Rattle.depot_rows.specs.depot_path.Bytes.{same}
+use Rattle.depot_rows.specs.depot_path.Digits.{is_digits}
+use Rattle.depot_rows.specs.depot_path.Path.{printed, is_path}
+use Rattle.depot_rows.specs.spec_form.Form.{FormValue}
+use Rattle.depot_rows.specs.spec_form.declared.shape.Shape.TheVariants.{Shelf as ShelfShape}
+use Rattle.depot_rows.specs.depot_model.Arguments.{paths_of}
+use Rattle.depot_rows.specs.depot_model.Deeds.{Deed, ShelfForm, FixForm}
+use Rattle.depot_rows.specs.depot_model.Fixes.{is_on, is_fixing}
+use Rattle.depot_rows.specs.depot_model.Latest.{keys_of, spec, spec_name, spec_said, when}
+use Rattle.depot_rows.specs.depot_model.Numerals.{is_numeral}
+use Rattle.depot_rows.specs.depot_model.Rules.{IsSound}
+use Rattle.depot_rows.specs.depot_model.Shelves.{is_kept, is_of_change, is_shelved, kept, kept_paths, shelf_name, shelf_paths}
+use Rattle.depot_rows.specs.depot_model.Values.{value_of}
 use Rattle.depot_rows.proofs.Keys.{same-self, left-true, right-true}
 use Rattle.sound_deeds.proofs.Decimals.{decimal_digits}
 use Rattle.sound_deeds.proofs.Read.{spelled_reads, value_is}

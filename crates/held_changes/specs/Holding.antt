@@ -1,11 +1,11 @@
 -- The forms that hold a change: they are of it, and in a state. This project's own choice.
 use Rattle.std.specs.Prelude.{ℕ, Bool, false, ◌&&◌, List, codes, decimal}
 use Rattle.std.specs.Option.{option_map_or}
-use Rattle.depot_path.specs.Bytes.{same}
-use Rattle.spec_form.specs.Form.{FormValue}
-use Rattle.depot_model.specs.Deeds.{Deed, SpecKind}
-use Rattle.depot_model.specs.Latest.{spec}
-use Rattle.depot_model.specs.Values.{value_of}
+use Rattle.depot_rows.specs.depot_path.Bytes.{same}
+use Rattle.depot_rows.specs.spec_form.Form.{FormValue}
+use Rattle.depot_rows.specs.depot_model.Deeds.{Deed, SpecKind}
+use Rattle.depot_rows.specs.depot_model.Latest.{spec}
+use Rattle.depot_rows.specs.depot_model.Values.{value_of}
 
 abbrev pub holds : List ℕ → List ℕ → FormValue → Bool
 holds state change form = same (value_of form (codes "State")) state && same (value_of form (codes "Change")) change

@@ -3,24 +3,24 @@
 ghost use Rattle.std.specs.Prelude.{◌≡◌, List, false, IfOk, decimal};
 ghost use Rattle.std.specs.List.{list_any};
 ghost use Rattle.std.specs.Option.{option_copied, option_map_or};
-ghost use Rattle.db_records.specs.declared.table.TableId.TheVariants as table_ids;
-ghost use Rattle.table_changes.specs.Changed.{rows_of};
-ghost use Rattle.depot_model.specs.Deeds.{Deed};
-ghost use Rattle.depot_model.specs.Fixes.{is_fixing as is_fixing_in};
-ghost use Rattle.depot_model.specs.Latest.{keys_of, spec, spec_name};
-ghost use Rattle.depot_model.specs.Rules.{IsSound};
-ghost use Rattle.depot_model.specs.Shelves.{is_shelved as is_shelved_in};
+ghost use Rattle.depot_rows.specs.db_records.declared.table.TableId.TheVariants as table_ids;
+ghost use Rattle.depot_rows.specs.table_changes.Changed.{rows_of};
+ghost use Rattle.depot_rows.specs.depot_model.Deeds.{Deed};
+ghost use Rattle.depot_rows.specs.depot_model.Fixes.{is_fixing as is_fixing_in};
+ghost use Rattle.depot_rows.specs.depot_model.Latest.{keys_of, spec, spec_name};
+ghost use Rattle.depot_rows.specs.depot_model.Rules.{IsSound};
+ghost use Rattle.depot_rows.specs.depot_model.Shelves.{is_shelved as is_shelved_in};
 ghost use Rattle.depot_rows.specs.Deed.{kind_of};
 ghost use Rattle.depot_rows.specs.Standing.{HasRows};
 ghost use Rattle.held_changes.specs.Holding.{holds, is_held};
 
-use depot_path::Text;
 use depot_rows::SpecKind;
+use depot_rows::forms::Form;
+use depot_rows::paths::Text;
+use depot_rows::tables::Tables;
 use itoa::Buffer;
 use row_reads::{form_names, form_value, saved_form};
-use spec_form::Form;
 use std::alloc::{AllocError, Global};
-use table_store::Tables;
 
 /// Whether a form is in a state and of a change.
 fn is_in_state(form: &Form, state: &[u8], change: &[u8]) -> bool

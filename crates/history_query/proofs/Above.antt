@@ -6,27 +6,27 @@ use Rattle.std.specs.Option.{option_to_list}
 use Rattle.std.proofs.lemmas.Bool.{eqb-true, false≢true}
 use Rattle.std.proofs.lemmas.Grind.{flat_map-append}
 use Rattle.std.proofs.lemmas.List.{drop_all, take-append-drop, take_more}
-use Rattle.depot_path.proofs.Rows.{begins_literal}
-use Rattle.depot_path.specs.Bytes.{begins_with}
-use Rattle.depot_path.specs.Fit.{fits}
-use Rattle.depot_path.specs.Path.{escaped, is_path, printed}
-use Rattle.depot_path.specs.Pattern.{literal}
-use Rattle.depot_path.specs.declared.piece.Piece.{Piece}
-use Rattle.depot_path.specs.declared.revision.Wanted.TheVariants.{Head}
-use Rattle.view_map.specs.Carry.{client_path, is_exclusion}
-use Rattle.view_map.specs.Mapping.{after_deciding, at_path, given_by, hidden_by_some, mapped, path_in, taken_by_some, unhidden}
-use Rattle.view_map.specs.declared.line.ViewLine.{ViewLine}
-use Rattle.view_map.specs.declared.mapped.Mapped.{Mapped}
-use Rattle.view_map.specs.declared.mapped.Mapped.TheVariants.{Nothing, At as MappedAt}
-use Rattle.view_map.proofs.BothWays.{is_carried}
-use Rattle.depot_model.specs.declared.request.Caller.{Caller}
-use Rattle.depot_model.specs.Arguments.{in_client_syntax, submitted}
-use Rattle.depot_model.specs.Asking.{may_list, view}
-use Rattle.depot_model.specs.Choice.{chosen, is_live_choice, shown}
-use Rattle.depot_model.specs.Deeds.{Deed}
-use Rattle.depot_model.specs.Revisions.{is_live_head}
-use Rattle.depot_model.specs.Rules.{IsSound}
-use Rattle.depot_model.specs.Steps.History.{directories, fronts, seen_paths}
+use Rattle.depot_rows.proofs.depot_path.Rows.{begins_literal}
+use Rattle.depot_rows.specs.depot_path.Bytes.{begins_with}
+use Rattle.depot_rows.specs.depot_path.Fit.{fits}
+use Rattle.depot_rows.specs.depot_path.Path.{escaped, is_path, printed}
+use Rattle.depot_rows.specs.depot_path.Pattern.{literal}
+use Rattle.depot_rows.specs.depot_path.declared.piece.Piece.{Piece}
+use Rattle.depot_rows.specs.depot_path.declared.revision.Wanted.TheVariants.{Head}
+use Rattle.depot_rows.specs.view_map.Carry.{client_path, is_exclusion}
+use Rattle.depot_rows.specs.view_map.Mapping.{after_deciding, at_path, given_by, hidden_by_some, mapped, path_in, taken_by_some, unhidden}
+use Rattle.depot_rows.specs.view_map.declared.line.ViewLine.{ViewLine}
+use Rattle.depot_rows.specs.view_map.declared.mapped.Mapped.{Mapped}
+use Rattle.depot_rows.specs.view_map.declared.mapped.Mapped.TheVariants.{Nothing, At as MappedAt}
+use Rattle.depot_rows.proofs.view_map.BothWays.{is_carried}
+use Rattle.depot_rows.specs.depot_model.declared.request.Caller.{Caller}
+use Rattle.depot_rows.specs.depot_model.Arguments.{in_client_syntax, submitted}
+use Rattle.depot_rows.specs.depot_model.Asking.{may_list, view}
+use Rattle.depot_rows.specs.depot_model.Choice.{chosen, is_live_choice, shown}
+use Rattle.depot_rows.specs.depot_model.Deeds.{Deed}
+use Rattle.depot_rows.specs.depot_model.Revisions.{is_live_head}
+use Rattle.depot_rows.specs.depot_model.Rules.{IsSound}
+use Rattle.depot_rows.specs.depot_model.Steps.History.{directories, fronts, seen_paths}
 use Rattle.depot_rows.proofs.Keys.{left-true, right-true, same-is}
 use Rattle.named_files.specs.Asked.{IsAsker, begins_at, is_begun}
 use Rattle.named_files.specs.declared.asker.Asker.{Asker}

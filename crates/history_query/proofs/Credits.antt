@@ -5,31 +5,31 @@ use Rattle.std.specs.Ordering.{is_eq, is_lt}
 use Rattle.std.specs.declared.cmp.Ordering.{Ordering}
 use Rattle.std.specs.declared.cmp.Ordering.TheVariants.{Less, Equal, Greater}
 use Rattle.std.proofs.lemmas.Bool.{true≢false}
-use Rattle.depot_path.specs.Bytes.{same}
-use Rattle.depot_path.specs.Path.{path_of, printed}
-use Rattle.depot_path.specs.declared.fault.PathFault.{PathFault}
-use Rattle.db_records.proofs.Order.{keys_equal}
-use Rattle.db_records.specs.Key.{key_cmp, key_table}
-use Rattle.db_records.specs.Record.{key_of}
-use Rattle.db_records.specs.declared.key.Key.{Key}
-use Rattle.db_records.specs.declared.key.Key.TheVariants as keys
-use Rattle.db_records.specs.declared.record.Record.{Record}
-use Rattle.db_records.specs.declared.record.Record.TheVariants as records
-use Rattle.db_records.specs.declared.rows.IntegedRecord.{IntegedRecord}
-use Rattle.db_records.specs.declared.table.TableId.{TableId}
-use Rattle.db_records.specs.declared.table.TableId.TheVariants as tables
-use Rattle.protect_table.specs.Rights.{may}
-use Rattle.table_store.specs.Rows.{AllAbove, AllOfTable, IsRising, TableRows, is_at, row_at}
-use Rattle.table_store.proofs.Order.{AllAbove-lower, AllAbove-tied, turned_less}
+use Rattle.depot_rows.specs.depot_path.Bytes.{same}
+use Rattle.depot_rows.specs.depot_path.Path.{path_of, printed}
+use Rattle.depot_rows.specs.depot_path.declared.fault.PathFault.{PathFault}
+use Rattle.depot_rows.proofs.db_records.Order.{keys_equal}
+use Rattle.depot_rows.specs.db_records.Key.{key_cmp, key_table}
+use Rattle.depot_rows.specs.db_records.Record.{key_of}
+use Rattle.depot_rows.specs.db_records.declared.key.Key.{Key}
+use Rattle.depot_rows.specs.db_records.declared.key.Key.TheVariants as keys
+use Rattle.depot_rows.specs.db_records.declared.record.Record.{Record}
+use Rattle.depot_rows.specs.db_records.declared.record.Record.TheVariants as records
+use Rattle.depot_rows.specs.db_records.declared.rows.IntegedRecord.{IntegedRecord}
+use Rattle.depot_rows.specs.db_records.declared.table.TableId.{TableId}
+use Rattle.depot_rows.specs.db_records.declared.table.TableId.TheVariants as tables
+use Rattle.depot_rows.specs.protect_table.Rights.{may}
+use Rattle.depot_rows.specs.table_store.Rows.{AllAbove, AllOfTable, IsRising, TableRows, is_at, row_at}
+use Rattle.depot_rows.proofs.table_store.Order.{AllAbove-lower, AllAbove-tied, turned_less}
 use Rattle.row_ranges.specs.Ranges.{has_row}
 use Rattle.row_ranges.specs.declared.range.KeyRange.TheVariants.{Integrations}
-use Rattle.depot_model.specs.declared.reply.Row.{Row}
-use Rattle.depot_model.specs.declared.request.Caller.{Caller}
-use Rattle.depot_model.specs.Asking.{may_list}
-use Rattle.depot_model.specs.Deeds.{Deed}
-use Rattle.depot_model.specs.Records.{integrations, record_of}
-use Rattle.depot_model.specs.Records as model
-use Rattle.depot_model.specs.Steps.History.{in_key_order, integed_inserted, integrated_row, may_list_text, records_of}
+use Rattle.depot_rows.specs.depot_model.declared.reply.Row.{Row}
+use Rattle.depot_rows.specs.depot_model.declared.request.Caller.{Caller}
+use Rattle.depot_rows.specs.depot_model.Asking.{may_list}
+use Rattle.depot_rows.specs.depot_model.Deeds.{Deed}
+use Rattle.depot_rows.specs.depot_model.Records.{integrations, record_of}
+use Rattle.depot_rows.specs.depot_model.Records as model
+use Rattle.depot_rows.specs.depot_model.Steps.History.{in_key_order, integed_inserted, integrated_row, may_list_text, records_of}
 use Rattle.reply_rows.proofs.Bare.{AreBare}
 use Rattle.depot_rows.proofs.Keys.{same-is, same-self}
 use Rattle.depot_rows.specs.Standing.{unplaced_at}

@@ -8,13 +8,13 @@ use Rattle.std.specs.Ordering.{is_eq, is_lt, match_ordering, nat_cmp, ordering_r
 use Rattle.std.specs.declared.cmp.Ordering.{Ordering}
 use Rattle.std.specs.declared.cmp.Ordering.TheVariants.{Less, Equal, Greater}
 use Rattle.std.proofs.lemmas.Bool.{false≢true}
-use Rattle.depot_path.specs.Bytes.{same}
-use Rattle.depot_path.specs.Fit.{fits}
-use Rattle.depot_path.specs.Order.{path_cmp}
-use Rattle.depot_path.specs.OrderLaws.{paths_ties, paths_total}
-use Rattle.depot_path.specs.Path.{printed}
-use Rattle.depot_path.specs.declared.piece.Piece.{Piece}
-use Rattle.depot_model.specs.Sorted.{all_inserted, path_inserted}
+use Rattle.depot_rows.specs.depot_path.Bytes.{same}
+use Rattle.depot_rows.specs.depot_path.Fit.{fits}
+use Rattle.depot_rows.specs.depot_path.Order.{path_cmp}
+use Rattle.depot_rows.specs.depot_path.OrderLaws.{paths_ties, paths_total}
+use Rattle.depot_rows.specs.depot_path.Path.{printed}
+use Rattle.depot_rows.specs.depot_path.declared.piece.Piece.{Piece}
+use Rattle.depot_rows.specs.depot_model.Sorted.{all_inserted, path_inserted}
 use Rattle.depot_rows.proofs.Keys.{same-is, same-self}
 use Rattle.history_query.specs.Directories.{all_fitting, fitting_inserted, text_inserted}
 

@@ -2,20 +2,20 @@
 use Rattle.std.proofs.Common.{◌≡◌, ℕ, ◌+◌, List, [], ◌∷◌, ◌++◌, Option, Some, None, refl, ap, ◌∙◌, map}
 use Rattle.std.specs.Prelude.{IsTrue, codes, decimal, flat_map, length, option_map}
 use Rattle.std.specs.List.{enumerate_from}
-use Rattle.depot_path.specs.Path.{is_path, printed}
-use Rattle.depot_path.proofs.Paths.{prints_path}
-use Rattle.db_records.specs.declared.rows.IntegedRecord.{IntegedRecord}
-use Rattle.db_records.specs.declared.rows.RevRecord.{RevRecord}
-use Rattle.depot_model.specs.declared.reply.Field.{Field}
-use Rattle.depot_model.specs.declared.request.Caller.{Caller}
-use Rattle.depot_model.specs.Deeds.{Deed}
-use Rattle.depot_model.specs.Records.{digest, printed_or_empty}
-use Rattle.depot_model.specs.Revisions.{revision}
-use Rattle.depot_model.specs.Rows.{if_any, number_field, path_field, row, text_field, action_word}
-use Rattle.depot_model.specs.Rules.{IsSound}
-use Rattle.depot_model.specs.Step.{nothing, tells}
-use Rattle.depot_model.specs.Steps.History.{log_fields, records_of, up_to}
-use Rattle.depot_model.specs.Steps.Listing.{Numbered}
+use Rattle.depot_rows.specs.depot_path.Path.{is_path, printed}
+use Rattle.depot_rows.proofs.depot_path.Paths.{prints_path}
+use Rattle.depot_rows.specs.db_records.declared.rows.IntegedRecord.{IntegedRecord}
+use Rattle.depot_rows.specs.db_records.declared.rows.RevRecord.{RevRecord}
+use Rattle.depot_rows.specs.depot_model.declared.reply.Field.{Field}
+use Rattle.depot_rows.specs.depot_model.declared.request.Caller.{Caller}
+use Rattle.depot_rows.specs.depot_model.Deeds.{Deed}
+use Rattle.depot_rows.specs.depot_model.Records.{digest, printed_or_empty}
+use Rattle.depot_rows.specs.depot_model.Revisions.{revision}
+use Rattle.depot_rows.specs.depot_model.Rows.{if_any, number_field, path_field, row, text_field, action_word}
+use Rattle.depot_rows.specs.depot_model.Rules.{IsSound}
+use Rattle.depot_rows.specs.depot_model.Step.{nothing, tells}
+use Rattle.depot_rows.specs.depot_model.Steps.History.{log_fields, records_of, up_to}
+use Rattle.depot_rows.specs.depot_model.Steps.Listing.{Numbered}
 use Rattle.reply_rows.proofs.Bare.{AreBare}
 use Rattle.revision_reads.proofs.Downwards.{AreRevisions, made_up_to}
 use Rattle.revision_reads.proofs.Landed.{change_row}

@@ -4,20 +4,20 @@ use Rattle.std.specs.Prelude.{codes, length, option_and_then, option_map}
 use Rattle.hex.specs.Hex.{encode_upper, encode_with}
 use Rattle.md5.specs.Md5.{md5}
 use Rattle.md5.proofs.StandardFacts.{length-md5}
-use Rattle.depot_path.specs.Path.{printed}
-use Rattle.db_records.specs.declared.key.Key.TheVariants as keys
-use Rattle.db_records.specs.declared.record.Record.TheVariants.{Rev}
-use Rattle.db_records.specs.declared.rows.RevRecord.{RevRecord}
-use Rattle.table_changes.specs.Changed.{AllRows}
-use Rattle.depot_model.specs.Choice.{Choice, PassedOver, At}
-use Rattle.depot_model.specs.Deeds.{Deed}
-use Rattle.depot_model.specs.Records.{digest}
-use Rattle.depot_model.specs.Revisions.{Revision, revision}
-use Rattle.depot_model.specs.Rows.{path_field, number_field, text_field, if_any, action_word}
-use Rattle.depot_model.specs.Step.{Step as ModelStep, nothing, tells}
-use Rattle.depot_model.specs.Steps.History.{print_row}
-use Rattle.depot_model.specs.Steps.Listing.{Numbered, numbered}
-use Rattle.depot_model.specs.Steps.Submitting.{content_at}
+use Rattle.depot_rows.specs.depot_path.Path.{printed}
+use Rattle.depot_rows.specs.db_records.declared.key.Key.TheVariants as keys
+use Rattle.depot_rows.specs.db_records.declared.record.Record.TheVariants.{Rev}
+use Rattle.depot_rows.specs.db_records.declared.rows.RevRecord.{RevRecord}
+use Rattle.depot_rows.specs.table_changes.Changed.{AllRows}
+use Rattle.depot_rows.specs.depot_model.Choice.{Choice, PassedOver, At}
+use Rattle.depot_rows.specs.depot_model.Deeds.{Deed}
+use Rattle.depot_rows.specs.depot_model.Records.{digest}
+use Rattle.depot_rows.specs.depot_model.Revisions.{Revision, revision}
+use Rattle.depot_rows.specs.depot_model.Rows.{path_field, number_field, text_field, if_any, action_word}
+use Rattle.depot_rows.specs.depot_model.Step.{Step as ModelStep, nothing, tells}
+use Rattle.depot_rows.specs.depot_model.Steps.History.{print_row}
+use Rattle.depot_rows.specs.depot_model.Steps.Listing.{Numbered, numbered}
+use Rattle.depot_rows.specs.depot_model.Steps.Submitting.{content_at}
 use Rattle.depot_rows.specs.Standing.{row_in}
 use Rattle.reply_rows.specs.Made.{IsMade, StandAt, contents_of, waiting}
 use Rattle.reply_rows.proofs.Bare.{tells_made}

@@ -1,7 +1,7 @@
 -- Lists of fields, put together one after another.
 use Rattle.std.proofs.Common.{◌≡◌, ℕ, suc, ◌+◌, ◌-◌, ◌≤◌, List, [], ◌∷◌, ◌++◌, length, take, drop, get_or, refl, ap, ◌∙◌, append_assoc, arith}
 use Rattle.std.proofs.lemmas.List.{take_all}
-use Rattle.depot_model.specs.declared.reply.Field.{Field}
+use Rattle.depot_rows.specs.depot_model.declared.reply.Field.{Field}
 
 -- more behind a list that is another one with something behind it
 pub joined_on : (old ys zs made : List Field) → made ≡ old ++ ys → made ++ zs ≡ old ++ (ys ++ zs)

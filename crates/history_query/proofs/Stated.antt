@@ -1,20 +1,20 @@
 -- What rows say of a file is what `fstat` tells.
 use Rattle.std.proofs.Common.{◌≡◌, ℕ, List, [], ◌∷◌, ◌++◌, Option, Some, None, refl, ap}
 use Rattle.std.specs.Prelude.{◌==◌, codes, if◌then◌else◌, option_map}
-use Rattle.view_map.specs.Mapping.{path_in}
-use Rattle.db_records.specs.declared.record.Record.TheVariants.{Working}
-use Rattle.db_records.specs.declared.rows.WorkingRecord.{WorkingRecord}
-use Rattle.depot_model.specs.declared.request.Caller.{Caller}
-use Rattle.depot_model.specs.declared.reply.Field.{Field}
-use Rattle.depot_model.specs.Asking.{view}
-use Rattle.depot_model.specs.Deeds.{Deed, Opening}
-use Rattle.depot_model.specs.Latest.{have}
-use Rattle.depot_model.specs.Opened.{opened}
-use Rattle.depot_model.specs.Records.{working_record}
-use Rattle.depot_model.specs.Rows.{row, path_field, number_field, text_field, if_any, action_word}
-use Rattle.depot_model.specs.Step.{nothing, tells}
-use Rattle.depot_model.specs.Steps.History.{stat_row}
-use Rattle.depot_model.specs.Steps.Listing.{Numbered}
+use Rattle.depot_rows.specs.view_map.Mapping.{path_in}
+use Rattle.depot_rows.specs.db_records.declared.record.Record.TheVariants.{Working}
+use Rattle.depot_rows.specs.db_records.declared.rows.WorkingRecord.{WorkingRecord}
+use Rattle.depot_rows.specs.depot_model.declared.request.Caller.{Caller}
+use Rattle.depot_rows.specs.depot_model.declared.reply.Field.{Field}
+use Rattle.depot_rows.specs.depot_model.Asking.{view}
+use Rattle.depot_rows.specs.depot_model.Deeds.{Deed, Opening}
+use Rattle.depot_rows.specs.depot_model.Latest.{have}
+use Rattle.depot_rows.specs.depot_model.Opened.{opened}
+use Rattle.depot_rows.specs.depot_model.Records.{working_record}
+use Rattle.depot_rows.specs.depot_model.Rows.{row, path_field, number_field, text_field, if_any, action_word}
+use Rattle.depot_rows.specs.depot_model.Step.{nothing, tells}
+use Rattle.depot_rows.specs.depot_model.Steps.History.{stat_row}
+use Rattle.depot_rows.specs.depot_model.Steps.Listing.{Numbered}
 use Rattle.reply_rows.proofs.Bare.{AreBare}
 use Rattle.history_query.specs.Stating.{stats_told}
 use Rattle.history_query.specs.Telling.{revision_records}

@@ -7,14 +7,14 @@ use Rattle.std.specs.Ordering.{is_eq, match_ordering, nat_cmp}
 use Rattle.std.specs.declared.cmp.Ordering.{Ordering}
 use Rattle.std.specs.declared.cmp.Ordering.TheVariants.{Less, Equal, Greater}
 use Rattle.std.proofs.lemmas.List.Folds.{list_any-append}
-use Rattle.depot_path.specs.Bytes.{same}
-use Rattle.depot_path.specs.OrderLaws.{paths_ties}
-use Rattle.depot_path.specs.Path.{printed}
-use Rattle.depot_model.specs.declared.command.FileArgument.{FileArgument}
-use Rattle.depot_model.specs.declared.reply.Row.{Row}
-use Rattle.depot_model.specs.declared.request.Caller.{Caller}
-use Rattle.depot_model.specs.Deeds.{Deed}
-use Rattle.depot_model.specs.Steps.History.{dir_row, dirs_after, dirs_of, no_dir}
+use Rattle.depot_rows.specs.depot_path.Bytes.{same}
+use Rattle.depot_rows.specs.depot_path.OrderLaws.{paths_ties}
+use Rattle.depot_rows.specs.depot_path.Path.{printed}
+use Rattle.depot_rows.specs.depot_model.declared.command.FileArgument.{FileArgument}
+use Rattle.depot_rows.specs.depot_model.declared.reply.Row.{Row}
+use Rattle.depot_rows.specs.depot_model.declared.request.Caller.{Caller}
+use Rattle.depot_rows.specs.depot_model.Deeds.{Deed}
+use Rattle.depot_rows.specs.depot_model.Steps.History.{dir_row, dirs_after, dirs_of, no_dir}
 use Rattle.depot_rows.proofs.Keys.{same-is}
 use Rattle.reply_rows.proofs.Bare.{AreBare}
 use Rattle.history_query.specs.Directories.{missing_rows, new_rows, taken_after, text_inserted, text_row, told_after}

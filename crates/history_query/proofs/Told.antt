@@ -1,20 +1,20 @@
 -- What the rows of a chosen revision and of its change say is what the model tells.
 use Rattle.std.proofs.Common.{◌≡◌, ℕ, Bool, true, false, List, [], ◌∷◌, Option, Some, None, refl, ap, ◌∙◌}
 use Rattle.std.specs.Prelude.{IsTrue, ◌&&◌, not, bytes_eq, codes, if◌then◌else◌, option_map}
-use Rattle.depot_path.specs.Path.{is_path}
-use Rattle.depot_path.proofs.Paths.{prints_path}
-use Rattle.db_records.specs.declared.record.Record.{Record}
-use Rattle.db_records.specs.declared.record.Record.TheVariants.{Change}
-use Rattle.db_records.specs.declared.rows.ChangeRecord.{ChangeRecord}
-use Rattle.db_records.specs.declared.rows.RevRecord.{RevRecord}
-use Rattle.depot_model.specs.Choice.{Choice, PassedOver, At}
-use Rattle.depot_model.specs.Deeds.{Deed, Action, Add, Edit, Delete, Branch, Integrate, MoveAdd, MoveDelete}
-use Rattle.depot_model.specs.Records.{change_record, rev_record}
-use Rattle.depot_model.specs.Revisions.{Revision, revision, is_live_action}
-use Rattle.depot_model.specs.Rows.{action_word}
-use Rattle.depot_model.specs.Rules.{IsSound}
-use Rattle.depot_model.specs.Step.{nothing, tells}
-use Rattle.depot_model.specs.Steps.Listing.{Numbered, file_row, numbered, tells_revision}
+use Rattle.depot_rows.specs.depot_path.Path.{is_path}
+use Rattle.depot_rows.proofs.depot_path.Paths.{prints_path}
+use Rattle.depot_rows.specs.db_records.declared.record.Record.{Record}
+use Rattle.depot_rows.specs.db_records.declared.record.Record.TheVariants.{Change}
+use Rattle.depot_rows.specs.db_records.declared.rows.ChangeRecord.{ChangeRecord}
+use Rattle.depot_rows.specs.db_records.declared.rows.RevRecord.{RevRecord}
+use Rattle.depot_rows.specs.depot_model.Choice.{Choice, PassedOver, At}
+use Rattle.depot_rows.specs.depot_model.Deeds.{Deed, Action, Add, Edit, Delete, Branch, Integrate, MoveAdd, MoveDelete}
+use Rattle.depot_rows.specs.depot_model.Records.{change_record, rev_record}
+use Rattle.depot_rows.specs.depot_model.Revisions.{Revision, revision, is_live_action}
+use Rattle.depot_rows.specs.depot_model.Rows.{action_word}
+use Rattle.depot_rows.specs.depot_model.Rules.{IsSound}
+use Rattle.depot_rows.specs.depot_model.Step.{nothing, tells}
+use Rattle.depot_rows.specs.depot_model.Steps.Listing.{Numbered, file_row, numbered, tells_revision}
 use Rattle.reply_rows.proofs.Bare.{AreBare}
 use Rattle.revision_reads.proofs.Landed.{change_row}
 use Rattle.revision_reads.specs.History.{numbered_record, seen}

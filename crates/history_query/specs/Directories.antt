@@ -5,23 +5,23 @@ use Rattle.std.specs.Cmp.Lexicographic.{slice_cmp}
 use Rattle.std.specs.List.{list_any}
 use Rattle.std.specs.Option.{option_to_list}
 use Rattle.std.specs.Ordering.{nat_cmp}
-use Rattle.depot_path.specs.Bytes.{same}
-use Rattle.depot_path.specs.Fit.{fits}
-use Rattle.depot_path.specs.Path.{printed}
-use Rattle.depot_path.specs.declared.piece.Piece.{Piece}
-use Rattle.depot_path.specs.declared.revision.Wanted.TheVariants.{Head}
-use Rattle.depot_model.specs.declared.command.FileArgument.{FileArgument}
-use Rattle.depot_model.specs.declared.refusal.Refusal.TheVariants.{NoSuchFile}
-use Rattle.depot_model.specs.declared.reply.Row.{Row}
-use Rattle.depot_model.specs.declared.request.Caller.{Caller}
-use Rattle.depot_model.specs.Arguments.{in_client_syntax}
-use Rattle.depot_model.specs.Asking.{may_list}
-use Rattle.depot_model.specs.Choice.{shown}
-use Rattle.depot_model.specs.Deeds.{Deed}
-use Rattle.depot_model.specs.Refusals.{refusal_row}
-use Rattle.depot_model.specs.Revisions.{is_live_head}
-use Rattle.depot_model.specs.Rows.{row, text_field}
-use Rattle.depot_model.specs.Steps.History.{directories, dirs_of}
+use Rattle.depot_rows.specs.depot_path.Bytes.{same}
+use Rattle.depot_rows.specs.depot_path.Fit.{fits}
+use Rattle.depot_rows.specs.depot_path.Path.{printed}
+use Rattle.depot_rows.specs.depot_path.declared.piece.Piece.{Piece}
+use Rattle.depot_rows.specs.depot_path.declared.revision.Wanted.TheVariants.{Head}
+use Rattle.depot_rows.specs.depot_model.declared.command.FileArgument.{FileArgument}
+use Rattle.depot_rows.specs.depot_model.declared.refusal.Refusal.TheVariants.{NoSuchFile}
+use Rattle.depot_rows.specs.depot_model.declared.reply.Row.{Row}
+use Rattle.depot_rows.specs.depot_model.declared.request.Caller.{Caller}
+use Rattle.depot_rows.specs.depot_model.Arguments.{in_client_syntax}
+use Rattle.depot_rows.specs.depot_model.Asking.{may_list}
+use Rattle.depot_rows.specs.depot_model.Choice.{shown}
+use Rattle.depot_rows.specs.depot_model.Deeds.{Deed}
+use Rattle.depot_rows.specs.depot_model.Refusals.{refusal_row}
+use Rattle.depot_rows.specs.depot_model.Revisions.{is_live_head}
+use Rattle.depot_rows.specs.depot_model.Rows.{row, text_field}
+use Rattle.depot_rows.specs.depot_model.Steps.History.{directories, dirs_of}
 use Rattle.named_files.specs.Asked.{is_begun}
 use Rattle.named_files.specs.declared.asker.Asker.{Asker}
 

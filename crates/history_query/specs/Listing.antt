@@ -1,10 +1,10 @@
 -- The row of a revision, as the rows of the tables have it (Command-Line Reference, "p4 files").
 use Rattle.std.specs.Prelude.{ℕ, Bool, not, ◌&&◌, List, [], ◌∷◌, codes, if◌then◌else◌, Option, Some, None}
-use Rattle.db_records.specs.Record.{is_live}
-use Rattle.db_records.specs.declared.record.Record.{Record}
-use Rattle.db_records.specs.declared.record.Record.TheVariants.{Change, Rev}
-use Rattle.depot_model.specs.declared.reply.Row.{Row}
-use Rattle.depot_model.specs.Rows.{row, path_field, number_field, text_field}
+use Rattle.depot_rows.specs.db_records.Record.{is_live}
+use Rattle.depot_rows.specs.db_records.declared.record.Record.{Record}
+use Rattle.depot_rows.specs.db_records.declared.record.Record.TheVariants.{Change, Rev}
+use Rattle.depot_rows.specs.depot_model.declared.reply.Row.{Row}
+use Rattle.depot_rows.specs.depot_model.Rows.{row, path_field, number_field, text_field}
 
 abbrev pub file_row_of : List ℕ → Record → Record → Row
 file_row_of path (Rev r) (Change c) = row (

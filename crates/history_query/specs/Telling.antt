@@ -1,11 +1,11 @@
 -- What the rows of a revision and of its change say (Command-Line Reference, "p4 files"; Helix Core database schema reference, "db.rev",
 -- "db.change").
 use Rattle.std.specs.Prelude.{List, None, Option, Some, option_map}
-use Rattle.db_records.specs.declared.record.Record.{Record}
-use Rattle.db_records.specs.declared.record.Record.TheVariants.{Change, Rev}
-use Rattle.depot_model.specs.Deeds.{Deed}
-use Rattle.depot_model.specs.Records.{change_record, landed_record}
-use Rattle.depot_model.specs.Steps.Listing.{Numbered}
+use Rattle.depot_rows.specs.db_records.declared.record.Record.{Record}
+use Rattle.depot_rows.specs.db_records.declared.record.Record.TheVariants.{Change, Rev}
+use Rattle.depot_rows.specs.depot_model.Deeds.{Deed}
+use Rattle.depot_rows.specs.depot_model.Records.{change_record, landed_record}
+use Rattle.depot_rows.specs.depot_model.Steps.Listing.{Numbered}
 use Rattle.revision_reads.specs.History.{numbered_record, seen}
 use Rattle.history_query.specs.declared.telling.Told.{Told}
 

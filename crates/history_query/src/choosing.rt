@@ -1,20 +1,20 @@
 //! What a command does with the submitted files of which its arguments choose a revision.
 
 ghost use Rattle.std.specs.Prelude.{List, [], IfOk};
-ghost use Rattle.table_changes.specs.Changed.{rows_of};
-ghost use Rattle.depot_model.specs.Arguments.{no_file as told_without, over as over_in};
-ghost use Rattle.depot_model.specs.Deeds.{Deed};
-ghost use Rattle.depot_model.specs.Steps.Listing.{listed};
+ghost use Rattle.depot_rows.specs.table_changes.Changed.{rows_of};
+ghost use Rattle.depot_rows.specs.depot_model.Arguments.{no_file as told_without, over as over_in};
+ghost use Rattle.depot_rows.specs.depot_model.Deeds.{Deed};
+ghost use Rattle.depot_rows.specs.depot_model.Steps.Listing.{listed};
 ghost use Rattle.named_files.specs.Asked.{IsAsker};
 ghost use Rattle.reply_rows.specs.Made.{IsMade};
 ghost use Rattle.history_query.specs.Choosing.{ChoiceReads};
 
-use depot_model::{Caller, FileArgument};
+use depot_rows::model::{Caller, FileArgument};
+use depot_rows::tables::Tables;
 use file_steps::{FileAct, over};
 use named_files::{Asker, ChosenFiles, Listing};
 use reply_rows::Step;
 use std::alloc::{AllocError, Global};
-use table_store::Tables;
 
 /// Does so by argument, and then by path, with each file once.
 pub(crate) fn over_chosen<A: FileAct>(

@@ -2,25 +2,25 @@
 
 ghost use Rattle.std.specs.Prelude.{◌≡◌, ◌∷◌, ◌++◌, [], ℕ, List, IfOk, OnOk, Ok, Some, filter, map, if◌then◌else◌};
 ghost use Rattle.std.specs.Option.{option_copied};
-ghost use Rattle.depot_path.specs.Path.{path_of, printed};
-ghost use Rattle.db_records.specs.declared.table.TableId.TheVariants as table_ids;
+ghost use Rattle.depot_rows.specs.depot_path.Path.{path_of, printed};
+ghost use Rattle.depot_rows.specs.db_records.declared.table.TableId.TheVariants as table_ids;
 ghost use Rattle.row_ranges.specs.Ranges.{has_row, range_table};
-ghost use Rattle.table_changes.specs.Changed.{rows_of};
-ghost use Rattle.depot_model.specs.declared.request.Caller.{Caller as Asking};
-ghost use Rattle.depot_model.specs.Deeds.{Deed};
-ghost use Rattle.depot_model.specs.Steps.History.{records_of as records_in};
+ghost use Rattle.depot_rows.specs.table_changes.Changed.{rows_of};
+ghost use Rattle.depot_rows.specs.depot_model.declared.request.Caller.{Caller as Asking};
+ghost use Rattle.depot_rows.specs.depot_model.Deeds.{Deed};
+ghost use Rattle.depot_rows.specs.depot_model.Steps.History.{records_of as records_in};
 ghost use Rattle.depot_rows.specs.Standing.{HasRows};
 ghost use Rattle.named_files.specs.Asked.{IsAsker};
 ghost use Rattle.named_files.specs.declared.asker.Asker.{Asker as Asks};
 ghost use Rattle.history_query.specs.Crediting.{integed_in, listed_by, listed_in, may_list_in, records_listed_in};
 
-use db_records::{IntegedRecord, Record, TableId};
-use depot_path::{DepotPath, PathFault, Text};
+use depot_rows::paths::{DepotPath, PathFault, Text};
+use depot_rows::protections::Level;
+use depot_rows::records::{IntegedRecord, Record, TableId};
+use depot_rows::tables::Tables;
 use named_files::Asker;
-use protect_table::Level;
 use row_ranges::{KeyRange, rows_in};
 use std::alloc::{AllocError, Global};
-use table_store::Tables;
 
 /// Whether the asker may list the file whose path a text spells.
 pub(crate) fn may_list(alloc: Global, asker: &Asker, text: &Text) -> Result<bool, AllocError>

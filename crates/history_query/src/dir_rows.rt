@@ -2,12 +2,12 @@
 
 ghost use Rattle.std.specs.Prelude.{◌≡◌, ◌++◌, ◌∷◌, [], not, List, IfOk, OnOk, if◌then◌else◌};
 ghost use Rattle.std.specs.List.{list_any};
-ghost use Rattle.depot_path.specs.Bytes.{same};
-ghost use Rattle.db_records.specs.declared.table.TableId.TheVariants as table_ids;
-ghost use Rattle.table_changes.specs.Changed.{rows_of};
-ghost use Rattle.depot_model.specs.Deeds.{Deed};
-ghost use Rattle.depot_model.specs.Rules.{IsSound};
-ghost use Rattle.depot_model.specs.Steps.History as model;
+ghost use Rattle.depot_rows.specs.depot_path.Bytes.{same};
+ghost use Rattle.depot_rows.specs.db_records.declared.table.TableId.TheVariants as table_ids;
+ghost use Rattle.depot_rows.specs.table_changes.Changed.{rows_of};
+ghost use Rattle.depot_rows.specs.depot_model.Deeds.{Deed};
+ghost use Rattle.depot_rows.specs.depot_model.Rules.{IsSound};
+ghost use Rattle.depot_rows.specs.depot_model.Steps.History as model;
 ghost use Rattle.depot_rows.specs.Standing.{HasRows};
 ghost use Rattle.named_files.specs.Asked.{IsAsker};
 ghost use Rattle.reply_rows.specs.Made.{IsMade};
@@ -15,12 +15,12 @@ ghost use Rattle.history_query.specs.Directories.{missing_rows, new_rows, taken_
 
 use crate::directories::directories;
 use crate::texts::TextSet;
-use depot_model::{Caller, FileArgument, Row};
-use depot_path::{Sequence, Text};
+use depot_rows::model::{Caller, FileArgument, Row};
+use depot_rows::paths::{Sequence, Text};
+use depot_rows::tables::Tables;
 use named_files::Asker;
 use reply_rows::{RowBuilder, Step, no_such_file_row};
 use std::alloc::{AllocError, Global};
-use table_store::Tables;
 
 /// The row of a directory, as it is printed.
 fn dir_row(alloc: Global, directory: &Text) -> Result<Row, AllocError>

@@ -2,31 +2,31 @@
 
 ghost use Rattle.std.specs.Prelude.{◌≡◌, ◌<◌, ◌==◌, ◌&&◌, [], List, IfOk, OnOk, Some, flat_map, if◌then◌else◌, length, map, slice_index, take};
 ghost use Rattle.std.specs.Option.{option_to_list};
-ghost use Rattle.db_records.specs.declared.table.TableId.TheVariants as table_ids;
-ghost use Rattle.depot_path.specs.Path.{printed};
-ghost use Rattle.table_changes.specs.Changed.{rows_of};
-ghost use Rattle.depot_path.specs.declared.revision.Wanted.TheVariants.{Head};
-ghost use Rattle.depot_model.specs.declared.request.Caller.{Caller as Asking};
-ghost use Rattle.depot_model.specs.Arguments.{in_client_syntax as client_syntax};
-ghost use Rattle.depot_model.specs.Asking.{may_list};
-ghost use Rattle.depot_model.specs.Choice.{shown};
-ghost use Rattle.depot_model.specs.Deeds.{Deed};
-ghost use Rattle.depot_model.specs.Revisions.{is_live_head as live_head};
-ghost use Rattle.depot_model.specs.Rules.{IsSound};
-ghost use Rattle.depot_model.specs.Steps.History as model;
+ghost use Rattle.depot_rows.specs.db_records.declared.table.TableId.TheVariants as table_ids;
+ghost use Rattle.depot_rows.specs.depot_path.Path.{printed};
+ghost use Rattle.depot_rows.specs.table_changes.Changed.{rows_of};
+ghost use Rattle.depot_rows.specs.depot_path.declared.revision.Wanted.TheVariants.{Head};
+ghost use Rattle.depot_rows.specs.depot_model.declared.request.Caller.{Caller as Asking};
+ghost use Rattle.depot_rows.specs.depot_model.Arguments.{in_client_syntax as client_syntax};
+ghost use Rattle.depot_rows.specs.depot_model.Asking.{may_list};
+ghost use Rattle.depot_rows.specs.depot_model.Choice.{shown};
+ghost use Rattle.depot_rows.specs.depot_model.Deeds.{Deed};
+ghost use Rattle.depot_rows.specs.depot_model.Revisions.{is_live_head as live_head};
+ghost use Rattle.depot_rows.specs.depot_model.Rules.{IsSound};
+ghost use Rattle.depot_rows.specs.depot_model.Steps.History as model;
 ghost use Rattle.depot_rows.specs.Standing.{HasRows};
 ghost use Rattle.named_files.specs.Asked.{IsAsker};
 ghost use Rattle.history_query.specs.Directories.{all_directories, all_fitting, begun_directories, fitting_inserted};
 
 use crate::texts::TextSet;
-use depot_model::Caller;
-use depot_path::{DepotPath, Pattern, Sequence, Text, Wanted, print_bytes};
+use depot_rows::model::Caller;
+use depot_rows::paths::{DepotPath, Pattern, Sequence, Text, Wanted, print_bytes};
+use depot_rows::protections::Level;
+use depot_rows::tables::Tables;
 use named_files::{Asker, Listing, begun_candidates};
-use protect_table::Level;
 use revision_reads::{is_live_head, shown_by};
 use row_reads::in_client_syntax;
 use std::alloc::{AllocError, Global};
-use table_store::Tables;
 
 /// Adds a directory, if it fits the pattern.
 fn add_fitting(

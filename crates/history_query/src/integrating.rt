@@ -3,29 +3,29 @@
 ghost use Rattle.std.specs.Prelude.{◌≡◌, ◌++◌, ◌∷◌, [], true, List, IfOk, OnOk, Some, filter, if◌then◌else◌, map};
 ghost use Rattle.std.specs.List.{list_all};
 ghost use Rattle.std.specs.Option.{option_copied};
-ghost use Rattle.db_records.specs.declared.table.TableId.TheVariants as table_ids;
+ghost use Rattle.depot_rows.specs.db_records.declared.table.TableId.TheVariants as table_ids;
 ghost use Rattle.row_ranges.specs.Ranges.{has_row, range_table};
-ghost use Rattle.table_changes.specs.Changed.{rows_of};
-ghost use Rattle.depot_model.specs.declared.request.Caller.{Caller as Asking};
-ghost use Rattle.depot_model.specs.Deeds.{Deed};
-ghost use Rattle.depot_model.specs.Rules.{IsSound};
-ghost use Rattle.depot_model.specs.Steps.History as model;
-ghost use Rattle.depot_model.specs.WellFormed.{asks_head};
+ghost use Rattle.depot_rows.specs.table_changes.Changed.{rows_of};
+ghost use Rattle.depot_rows.specs.depot_model.declared.request.Caller.{Caller as Asking};
+ghost use Rattle.depot_rows.specs.depot_model.Deeds.{Deed};
+ghost use Rattle.depot_rows.specs.depot_model.Rules.{IsSound};
+ghost use Rattle.depot_rows.specs.depot_model.Steps.History as model;
+ghost use Rattle.depot_rows.specs.depot_model.WellFormed.{asks_head};
 ghost use Rattle.depot_rows.specs.Standing.{HasRows};
 ghost use Rattle.named_files.specs.Asked.{IsAsker};
 ghost use Rattle.reply_rows.specs.Made.{IsMade, told as told_rows};
 ghost use Rattle.history_query.specs.Crediting.{integed_in, rows_told_in, told_by};
 
 use crate::crediting::{as_integed, may_list, range_of, rows_are_records};
-use db_records::{IntegedRecord, Record};
-use depot_model::{Caller, FileArgument, Row};
-use depot_path::{DepotPath, Sequence};
+use depot_rows::model::{Caller, FileArgument, Row};
+use depot_rows::paths::{DepotPath, Sequence};
+use depot_rows::records::{IntegedRecord, Record};
+use depot_rows::tables::Tables;
 use file_steps::{FileAct, over};
 use named_files::{Asker, HeadFiles, Listing};
 use reply_rows::{RowBuilder, Step};
 use row_ranges::{KeyRange, rows_in};
 use std::alloc::{AllocError, Global};
-use table_store::Tables;
 
 /// What `integrated` tells of a file.
 #[derive(Drop)]
@@ -146,8 +146,8 @@ fn tell_records(
 
 impl<'a> FileAct for Credited<'a> {
     ghost use Rattle.std.specs.Prelude.{map};
-    ghost use Rattle.depot_model.specs.Step.{tells};
-    ghost use Rattle.depot_model.specs.Steps.History.{integrated_row as row_of_record, records_of as records_in};
+    ghost use Rattle.depot_rows.specs.depot_model.Step.{tells};
+    ghost use Rattle.depot_rows.specs.depot_model.Steps.History.{integrated_row as row_of_record, records_of as records_in};
     ghost use Rattle.history_query.specs.Crediting.{RecordReads};
 
     ghost reads = { λ credited rows d. RecordReads credited.caller.now credited.asker.now rows d };

@@ -1,12 +1,12 @@
 //! `files` (Command-Line Reference, "p4 files").
 
 ghost use Rattle.std.specs.Prelude.{◌≡◌, ◌&&◌, not, bytes_eq, codes, List, IfOk, option_map};
-ghost use Rattle.db_records.specs.declared.record.Record.TheVariants.{Change, Rev};
-ghost use Rattle.db_records.specs.declared.table.TableId.TheVariants as table_ids;
-ghost use Rattle.table_changes.specs.Changed.{rows_of};
-ghost use Rattle.depot_model.specs.Deeds.{Deed};
-ghost use Rattle.depot_model.specs.Rules.{IsSound};
-ghost use Rattle.depot_model.specs.Steps.Listing as model;
+ghost use Rattle.depot_rows.specs.db_records.declared.record.Record.TheVariants.{Change, Rev};
+ghost use Rattle.depot_rows.specs.db_records.declared.table.TableId.TheVariants as table_ids;
+ghost use Rattle.depot_rows.specs.table_changes.Changed.{rows_of};
+ghost use Rattle.depot_rows.specs.depot_model.Deeds.{Deed};
+ghost use Rattle.depot_rows.specs.depot_model.Rules.{IsSound};
+ghost use Rattle.depot_rows.specs.depot_model.Steps.Listing as model;
 ghost use Rattle.depot_rows.specs.Standing.{HasRows};
 ghost use Rattle.named_files.specs.Asked.{IsAsker};
 ghost use Rattle.reply_rows.specs.Made.{IsMade, told as told_rows};
@@ -16,14 +16,14 @@ ghost use Rattle.history_query.specs.Telling.{told_records};
 
 use crate::choosing::over_chosen;
 use crate::telling::{Told, told_of};
-use db_records::{ChangeRecord, RevRecord};
-use depot_model::{Caller, FileArgument, Row};
-use depot_path::DepotPath;
+use depot_rows::model::{Caller, FileArgument, Row};
+use depot_rows::paths::DepotPath;
+use depot_rows::records::{ChangeRecord, RevRecord};
+use depot_rows::tables::Tables;
 use file_steps::FileAct;
 use named_files::Asker;
 use reply_rows::{RowBuilder, Step};
 use std::alloc::{AllocError, Global};
-use table_store::Tables;
 
 /// What `files` tells of a file.
 #[derive(Drop)]
@@ -83,7 +83,7 @@ fn tell_file(
 }
 
 impl<'a> FileAct for Listed<'a> {
-    ghost use Rattle.depot_model.specs.Steps.Listing.{tells_file};
+    ghost use Rattle.depot_rows.specs.depot_model.Steps.Listing.{tells_file};
     ghost use Rattle.history_query.specs.Choosing.{ChoiceReads as Reads};
 
     ghost reads = { λ listed rows d. Reads rows d };

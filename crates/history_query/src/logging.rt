@@ -2,14 +2,14 @@
 
 ghost use Rattle.std.specs.Prelude.{◌≡◌, ◌∷◌, ◌++◌, [], List, IfOk, codes, decimal, map, option_map};
 ghost use Rattle.std.specs.Option.{option_copied};
-ghost use Rattle.db_records.specs.declared.record.Record.TheVariants.{Change};
-ghost use Rattle.db_records.specs.declared.table.TableId.TheVariants as table_ids;
-ghost use Rattle.table_changes.specs.Changed.{rows_of};
-ghost use Rattle.depot_model.specs.declared.request.Caller.{Caller as Asking};
-ghost use Rattle.depot_model.specs.Deeds.{Deed};
-ghost use Rattle.depot_model.specs.Rows.{number_field as field_of_number, text_field as field_of_text};
-ghost use Rattle.depot_model.specs.Rules.{IsSound};
-ghost use Rattle.depot_model.specs.Steps.History as model;
+ghost use Rattle.depot_rows.specs.db_records.declared.record.Record.TheVariants.{Change};
+ghost use Rattle.depot_rows.specs.db_records.declared.table.TableId.TheVariants as table_ids;
+ghost use Rattle.depot_rows.specs.table_changes.Changed.{rows_of};
+ghost use Rattle.depot_rows.specs.depot_model.declared.request.Caller.{Caller as Asking};
+ghost use Rattle.depot_rows.specs.depot_model.Deeds.{Deed};
+ghost use Rattle.depot_rows.specs.depot_model.Rows.{number_field as field_of_number, text_field as field_of_text};
+ghost use Rattle.depot_rows.specs.depot_model.Rules.{IsSound};
+ghost use Rattle.depot_rows.specs.depot_model.Steps.History as model;
 ghost use Rattle.depot_rows.specs.Standing.{HasRows};
 ghost use Rattle.named_files.specs.Asked.{IsAsker};
 ghost use Rattle.reply_rows.specs.Made.{IsMade, told as told_rows};
@@ -19,16 +19,16 @@ ghost use Rattle.history_query.specs.Logging.{LogReads, credit_fields, digest_fi
 
 use crate::choosing::over_chosen;
 use crate::crediting::{range_of, records_of, rows_are_records};
-use db_records::{ChangeRecord, IntegedRecord, RevRecord};
-use depot_model::{Caller, FileArgument, Row};
-use depot_path::{DepotPath, Text};
+use depot_rows::model::{Caller, FileArgument, Row};
+use depot_rows::paths::{DepotPath, Text};
+use depot_rows::records::{ChangeRecord, IntegedRecord, RevRecord};
+use depot_rows::tables::Tables;
 use file_steps::FileAct;
 use itoa::Buffer;
 use named_files::Asker;
 use reply_rows::{RowBuilder, Step};
 use revision_reads::{change_of, chosen_revision, revisions_up_to};
 use std::alloc::{AllocError, Global};
-use table_store::Tables;
 
 /// What `filelog` tells of a file.
 #[derive(Drop)]
@@ -374,7 +374,7 @@ fn tell_chosen(
 }
 
 impl<'a> FileAct for Logged<'a> {
-    ghost use Rattle.depot_model.specs.Steps.History.{log_file};
+    ghost use Rattle.depot_rows.specs.depot_model.Steps.History.{log_file};
     ghost use Rattle.history_query.specs.Logging.{LogReads as Reads};
 
     ghost reads = { λ logged rows d. Reads logged.caller.now logged.asker.now rows d };

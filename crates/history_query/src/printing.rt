@@ -2,14 +2,14 @@
 
 ghost use Rattle.std.specs.Prelude.{◌≡◌, ◌∷◌, ◌++◌, [], List, IfOk, OnOk};
 ghost use Rattle.std.specs.Option.{option_copied};
-ghost use Rattle.depot_path.specs.Path.{printed};
-ghost use Rattle.db_records.specs.declared.table.TableId.TheVariants as table_ids;
-ghost use Rattle.table_changes.specs.Changed.{rows_of};
-ghost use Rattle.depot_model.specs.Deeds.{Deed};
-ghost use Rattle.depot_model.specs.Refusals.{refusal_row};
-ghost use Rattle.depot_model.specs.Rules.{IsSound};
-ghost use Rattle.depot_model.specs.Steps.History as model;
-ghost use Rattle.depot_model.specs.declared.refusal.Refusal.TheVariants as refusals;
+ghost use Rattle.depot_rows.specs.depot_path.Path.{printed};
+ghost use Rattle.depot_rows.specs.db_records.declared.table.TableId.TheVariants as table_ids;
+ghost use Rattle.depot_rows.specs.table_changes.Changed.{rows_of};
+ghost use Rattle.depot_rows.specs.depot_model.Deeds.{Deed};
+ghost use Rattle.depot_rows.specs.depot_model.Refusals.{refusal_row};
+ghost use Rattle.depot_rows.specs.depot_model.Rules.{IsSound};
+ghost use Rattle.depot_rows.specs.depot_model.Steps.History as model;
+ghost use Rattle.depot_rows.specs.depot_model.declared.refusal.Refusal.TheVariants as refusals;
 ghost use Rattle.depot_rows.specs.Standing.{HasRows};
 ghost use Rattle.named_files.specs.Asked.{IsAsker};
 ghost use Rattle.reply_rows.specs.Made.{IsMade, told as told_rows};
@@ -17,16 +17,16 @@ ghost use Rattle.history_query.specs.Choosing.{ChoiceReads};
 ghost use Rattle.history_query.specs.Printing.{awaited, length_fields, print_row_of, prints, spots as spots_in};
 
 use crate::choosing::over_chosen;
-use db_records::{RevRecord, Spot};
-use depot_model::{Caller, FileArgument, Row};
-use depot_path::{DepotPath, Sequence, Text};
+use depot_rows::model::{Caller, FileArgument, Row};
+use depot_rows::paths::{DepotPath, Sequence, Text};
+use depot_rows::protections::Level;
+use depot_rows::records::{RevRecord, Spot};
+use depot_rows::tables::Tables;
 use file_steps::FileAct;
 use named_files::Asker;
-use protect_table::Level;
 use reply_rows::{RowBuilder, Step, denied_row};
 use revision_reads::stored_choice;
 use std::alloc::{AllocError, Global};
-use table_store::Tables;
 
 /// What `print` tells of a file.
 #[derive(Drop)]
@@ -118,10 +118,10 @@ fn deny(alloc: Global, path: &DepotPath) -> Result<Step, AllocError>
 }
 
 impl<'a> FileAct for Printed<'a> {
-    ghost use Rattle.depot_model.specs.Step.{unless};
-    ghost use Rattle.depot_model.specs.Asking.{to_read};
-    ghost use Rattle.depot_model.specs.Steps.History.{print_chosen};
-    ghost use Rattle.depot_model.specs.Steps.Opening.{right_refusal};
+    ghost use Rattle.depot_rows.specs.depot_model.Step.{unless};
+    ghost use Rattle.depot_rows.specs.depot_model.Asking.{to_read};
+    ghost use Rattle.depot_rows.specs.depot_model.Steps.History.{print_chosen};
+    ghost use Rattle.depot_rows.specs.depot_model.Steps.Opening.{right_refusal};
     ghost use Rattle.history_query.specs.Printing.{PrintReads};
 
     ghost reads = { λ printed rows d. PrintReads printed.caller.now printed.asker.now rows d };

@@ -2,13 +2,13 @@
 
 ghost use Rattle.std.specs.Prelude.{◌≡◌, ◌++◌, List, IfOk, codes, option_map};
 ghost use Rattle.std.specs.Option.{option_copied};
-ghost use Rattle.db_records.specs.declared.record.Record.TheVariants.{Change, Rev};
-ghost use Rattle.db_records.specs.declared.table.TableId.TheVariants as table_ids;
-ghost use Rattle.table_changes.specs.Changed.{rows_of};
-ghost use Rattle.depot_model.specs.Deeds.{Deed};
-ghost use Rattle.depot_model.specs.Rows.{if_any, path_field as field_of_path, text_field as field_of_text};
-ghost use Rattle.depot_model.specs.Rules.{IsSound};
-ghost use Rattle.depot_model.specs.Steps.History as model;
+ghost use Rattle.depot_rows.specs.db_records.declared.record.Record.TheVariants.{Change, Rev};
+ghost use Rattle.depot_rows.specs.db_records.declared.table.TableId.TheVariants as table_ids;
+ghost use Rattle.depot_rows.specs.table_changes.Changed.{rows_of};
+ghost use Rattle.depot_rows.specs.depot_model.Deeds.{Deed};
+ghost use Rattle.depot_rows.specs.depot_model.Rows.{if_any, path_field as field_of_path, text_field as field_of_text};
+ghost use Rattle.depot_rows.specs.depot_model.Rules.{IsSound};
+ghost use Rattle.depot_rows.specs.depot_model.Steps.History as model;
 ghost use Rattle.depot_rows.specs.Standing.{HasRows};
 ghost use Rattle.named_files.specs.Asked.{IsAsker};
 ghost use Rattle.reply_rows.specs.Made.{IsMade, told as told_rows};
@@ -18,16 +18,16 @@ ghost use Rattle.history_query.specs.Telling.{told_records};
 
 use crate::choosing::over_chosen;
 use crate::telling::{Told, told_of};
-use db_records::{ChangeRecord, RevRecord, WorkingRecord};
-use depot_model::{Caller, FileArgument, Row};
-use depot_path::{ClientPath, DepotPath};
+use depot_rows::model::{Caller, FileArgument, Row};
+use depot_rows::paths::{ClientPath, DepotPath};
+use depot_rows::records::{ChangeRecord, RevRecord, WorkingRecord};
+use depot_rows::tables::Tables;
 use file_openings::opening_of;
 use file_steps::FileAct;
 use named_files::Asker;
 use reply_rows::{RowBuilder, Step};
 use row_reads::have_of;
 use std::alloc::{AllocError, Global};
-use table_store::Tables;
 
 /// What `fstat` tells of a file.
 #[derive(Drop)]
@@ -132,7 +132,7 @@ fn stat_file(
 }
 
 impl<'a> FileAct for Stated<'a> {
-    ghost use Rattle.depot_model.specs.Steps.History.{stat_file as step_of_file};
+    ghost use Rattle.depot_rows.specs.depot_model.Steps.History.{stat_file as step_of_file};
     ghost use Rattle.history_query.specs.Stating.{StatReads};
 
     ghost reads = { λ stated rows d. StatReads stated.caller.now stated.asker.now rows d };

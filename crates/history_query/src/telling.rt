@@ -2,23 +2,23 @@
 
 ghost use Rattle.std.specs.Prelude.{◌≡◌, List, IfOk, option_map};
 ghost use Rattle.std.specs.Option.{option_copied};
-ghost use Rattle.db_records.specs.declared.table.TableId.TheVariants as table_ids;
-ghost use Rattle.db_records.specs.declared.record.Record.TheVariants.{Change};
-ghost use Rattle.table_changes.specs.Changed.{rows_of};
-ghost use Rattle.depot_model.specs.Choice.{chosen};
-ghost use Rattle.depot_model.specs.Deeds.{Deed};
-ghost use Rattle.depot_model.specs.Steps.Listing.{numbered};
+ghost use Rattle.depot_rows.specs.db_records.declared.table.TableId.TheVariants as table_ids;
+ghost use Rattle.depot_rows.specs.db_records.declared.record.Record.TheVariants.{Change};
+ghost use Rattle.depot_rows.specs.table_changes.Changed.{rows_of};
+ghost use Rattle.depot_rows.specs.depot_model.Choice.{chosen};
+ghost use Rattle.depot_rows.specs.depot_model.Deeds.{Deed};
+ghost use Rattle.depot_rows.specs.depot_model.Steps.Listing.{numbered};
 ghost use Rattle.depot_rows.specs.Standing.{HasRows};
 ghost use Rattle.revision_reads.specs.History.{seen};
 ghost use Rattle.history_query.specs.Choosing.{ChoiceReads};
 ghost use Rattle.history_query.specs.Telling.{revision_records, told_records, with_landed};
 
-use db_records::{ChangeRecord, RevRecord};
-use depot_model::Caller;
-use depot_path::{DepotPath, Wanted};
+use depot_rows::model::Caller;
+use depot_rows::paths::{DepotPath, Wanted};
+use depot_rows::records::{ChangeRecord, RevRecord};
+use depot_rows::tables::Tables;
 use revision_reads::{change_of, chosen_revision};
 use std::alloc::{AllocError, Global};
-use table_store::Tables;
 
 /// The row of a revision and that of the change that made it.
 #[derive(Drop)]

@@ -2,10 +2,10 @@
 
 ghost use Rattle.std.specs.Prelude.{◌≡◌, [], IfOk, OnOk};
 ghost use Rattle.std.specs.List.{list_any};
-ghost use Rattle.depot_path.specs.Bytes.{same};
+ghost use Rattle.depot_rows.specs.depot_path.Bytes.{same};
 ghost use Rattle.history_query.specs.Directories.{text_inserted};
 
-use depot_path::{Sequence, Text};
+use depot_rows::paths::{Sequence, Text};
 use std::alloc::{AllocError, Global};
 use std::collections::BTreeSet;
 use std::marker::Model;

@@ -5,29 +5,29 @@ use Rattle.std.specs.List.{list_any}
 use Rattle.std.specs.Option.{option_map_or, option_to_list}
 use Rattle.std.proofs.lemmas.Bool.{true≢false}
 use Rattle.std.proofs.lemmas.Bool.Decides.{nat_tests}
-use Rattle.depot_path.specs.Bytes.{same}
-use Rattle.depot_path.specs.Path.{is_path, printed}
-use Rattle.db_records.specs.Key.{key_table}
-use Rattle.db_records.specs.Record.{key_of}
-use Rattle.db_records.specs.declared.key.Key.{Key}
-use Rattle.db_records.specs.declared.key.Key.TheVariants as keys
-use Rattle.db_records.specs.declared.record.Record.{Record}
-use Rattle.db_records.specs.declared.record.Record.TheVariants as records
-use Rattle.db_records.specs.declared.rows.IntegedRecord.{IntegedRecord}
-use Rattle.db_records.specs.declared.table.TableId.{TableId}
-use Rattle.db_records.specs.declared.table.TableId.TheVariants as tables
-use Rattle.table_store.specs.Rows.{AllOfTable, IsRising, TableRows, is_at, row_at}
+use Rattle.depot_rows.specs.depot_path.Bytes.{same}
+use Rattle.depot_rows.specs.depot_path.Path.{is_path, printed}
+use Rattle.depot_rows.specs.db_records.Key.{key_table}
+use Rattle.depot_rows.specs.db_records.Record.{key_of}
+use Rattle.depot_rows.specs.db_records.declared.key.Key.{Key}
+use Rattle.depot_rows.specs.db_records.declared.key.Key.TheVariants as keys
+use Rattle.depot_rows.specs.db_records.declared.record.Record.{Record}
+use Rattle.depot_rows.specs.db_records.declared.record.Record.TheVariants as records
+use Rattle.depot_rows.specs.db_records.declared.rows.IntegedRecord.{IntegedRecord}
+use Rattle.depot_rows.specs.db_records.declared.table.TableId.{TableId}
+use Rattle.depot_rows.specs.db_records.declared.table.TableId.TheVariants as tables
+use Rattle.depot_rows.specs.table_store.Rows.{AllOfTable, IsRising, TableRows, is_at, row_at}
 use Rattle.row_ranges.specs.Ranges.{has_row}
 use Rattle.row_ranges.specs.declared.range.KeyRange.TheVariants.{Integrations}
-use Rattle.depot_model.specs.Deeds.{Credit, Deed, How}
-use Rattle.depot_model.specs.Records.{integrations, into_word, record_of, rev_record}
-use Rattle.depot_model.specs.Records as model
-use Rattle.depot_model.specs.Revisions.{Revision, credited, credits_from, has_credit, revision, revisions}
-use Rattle.depot_model.specs.Rows.{how_word}
-use Rattle.depot_model.specs.Rules.{IsCredit, IsCredited, IsMadeIn, IsPaired, IsRow, IsSound}
+use Rattle.depot_rows.specs.depot_model.Deeds.{Credit, Deed, How}
+use Rattle.depot_rows.specs.depot_model.Records.{integrations, into_word, record_of, rev_record}
+use Rattle.depot_rows.specs.depot_model.Records as model
+use Rattle.depot_rows.specs.depot_model.Revisions.{Revision, credited, credits_from, has_credit, revision, revisions}
+use Rattle.depot_rows.specs.depot_model.Rows.{how_word}
+use Rattle.depot_rows.specs.depot_model.Rules.{IsCredit, IsCredited, IsMadeIn, IsPaired, IsRow, IsSound}
 use Rattle.depot_rows.proofs.Entries.{In}
 use Rattle.depot_rows.proofs.Keys.{at-is, left-true, right-true, same-is, same-self}
-use Rattle.depot_rows.proofs.Paths.{at_path-here}
+use Rattle.depot_rows.proofs.Spelled.{at_path-here}
 use Rattle.depot_rows.specs.Standing.{unplaced_at}
 use Rattle.sound_landing.proofs.Listed.{found_in}
 use Rattle.sound_landing.proofs.NewPairs.{of_key, own_row}

@@ -1,18 +1,18 @@
 -- What `resolve` does with a file by its row is what the model does.
 use Rattle.std.proofs.Common.{◌≡◌, ℕ, List, [], Option, Some, None, map, refl, sym, ap, subst, ◌∙◌}
 use Rattle.std.specs.Prelude.{filter, option_map}
-use Rattle.db_records.specs.declared.record.Record.{Record}
-use Rattle.db_records.specs.declared.record.Record.TheVariants.{Working}
-use Rattle.db_records.specs.declared.rows.WorkingRecord.{WorkingRecord}
-use Rattle.depot_model.specs.declared.command.Taking.{Taking}
-use Rattle.depot_model.specs.declared.request.Caller.{Caller}
-use Rattle.depot_model.specs.Deeds.{Deed, Opening, Owing}
-use Rattle.depot_model.specs.Opened.{opened, Resolve}
-use Rattle.depot_model.specs.Records.{working_record}
-use Rattle.depot_model.specs.Rules.{IsSound}
-use Rattle.depot_model.specs.Step.{Step, nothing}
-use Rattle.depot_model.specs.Steps.Resolving.{owings, resolve_next, resolve_opened}
-use Rattle.depot_model.specs.Steps.Submitting.{is_unpaid, resolves_of}
+use Rattle.depot_rows.specs.db_records.declared.record.Record.{Record}
+use Rattle.depot_rows.specs.db_records.declared.record.Record.TheVariants.{Working}
+use Rattle.depot_rows.specs.db_records.declared.rows.WorkingRecord.{WorkingRecord}
+use Rattle.depot_rows.specs.depot_model.declared.command.Taking.{Taking}
+use Rattle.depot_rows.specs.depot_model.declared.request.Caller.{Caller}
+use Rattle.depot_rows.specs.depot_model.Deeds.{Deed, Opening, Owing}
+use Rattle.depot_rows.specs.depot_model.Opened.{opened, Resolve}
+use Rattle.depot_rows.specs.depot_model.Records.{working_record}
+use Rattle.depot_rows.specs.depot_model.Rules.{IsSound}
+use Rattle.depot_rows.specs.depot_model.Step.{Step, nothing}
+use Rattle.depot_rows.specs.depot_model.Steps.Resolving.{owings, resolve_next, resolve_opened}
+use Rattle.depot_rows.specs.depot_model.Steps.Submitting.{is_unpaid, resolves_of}
 use Rattle.opening_reads.proofs.OwingRows.{owings_of_file}
 use Rattle.integ_records.specs.Turns.{turns}
 use Rattle.integ_records.proofs.Turning.{turned}

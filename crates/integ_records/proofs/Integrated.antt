@@ -2,25 +2,25 @@
 use Rattle.std.proofs.Common.{◌≡◌, ℕ, Bool, true, false, List, [], ◌∷◌, Option, Some, None, length, refl, arith}
 use Rattle.std.specs.Prelude.{◌&&◌, ◌==◌, if◌then◌else◌, is_some, not, unwrap_or}
 use Rattle.std.specs.List.{last_or, list_all}
-use Rattle.depot_path.specs.Bytes.{same}
-use Rattle.depot_path.specs.Path.{printed}
-use Rattle.depot_path.specs.declared.revision.Wanted.{Wanted}
-use Rattle.depot_path.specs.declared.revision.Wanted.TheVariants.{Head}
-use Rattle.depot_model.specs.declared.command.FileArgument.{FileArgument}
-use Rattle.depot_model.specs.declared.command.PatternArgument.{PatternArgument}
-use Rattle.depot_model.specs.declared.refusal.Refusal.{Refusal}
-use Rattle.depot_model.specs.declared.refusal.Refusal.TheVariants.{AllIntegrated, AlreadyOpen, NotInView}
-use Rattle.depot_model.specs.declared.request.Caller.{Caller}
-use Rattle.depot_model.specs.Asking.{to_open, to_read}
-use Rattle.depot_model.specs.Choice.{At, Choice, PassedOver, chosen, shown}
-use Rattle.depot_model.specs.Deeds as model
-use Rattle.depot_model.specs.Deeds.{Deed, Got, Open, Owe, Paid}
-use Rattle.depot_model.specs.Opened.{opened}
-use Rattle.depot_model.specs.Revisions.{head, is_live_at, is_live_head}
-use Rattle.depot_model.specs.Step.{Step as ModelStep, does, in_turn, refuse_if, refuses, unless}
-use Rattle.depot_model.specs.Steps.Integrating.{integrate_all, integrate_chosen, integrate_deleted, integrate_file, integrate_live, integrate_revs, integrate_row, integrate_to, new_type, opening, owing, type_at, uncredited}
-use Rattle.depot_model.specs.Steps.Opening.{exclusive_refusal, held, right_refusal}
-use Rattle.depot_model.specs.Steps.Targets.{target_at, target_text}
+use Rattle.depot_rows.specs.depot_path.Bytes.{same}
+use Rattle.depot_rows.specs.depot_path.Path.{printed}
+use Rattle.depot_rows.specs.depot_path.declared.revision.Wanted.{Wanted}
+use Rattle.depot_rows.specs.depot_path.declared.revision.Wanted.TheVariants.{Head}
+use Rattle.depot_rows.specs.depot_model.declared.command.FileArgument.{FileArgument}
+use Rattle.depot_rows.specs.depot_model.declared.command.PatternArgument.{PatternArgument}
+use Rattle.depot_rows.specs.depot_model.declared.refusal.Refusal.{Refusal}
+use Rattle.depot_rows.specs.depot_model.declared.refusal.Refusal.TheVariants.{AllIntegrated, AlreadyOpen, NotInView}
+use Rattle.depot_rows.specs.depot_model.declared.request.Caller.{Caller}
+use Rattle.depot_rows.specs.depot_model.Asking.{to_open, to_read}
+use Rattle.depot_rows.specs.depot_model.Choice.{At, Choice, PassedOver, chosen, shown}
+use Rattle.depot_rows.specs.depot_model.Deeds as model
+use Rattle.depot_rows.specs.depot_model.Deeds.{Deed, Got, Open, Owe, Paid}
+use Rattle.depot_rows.specs.depot_model.Opened.{opened}
+use Rattle.depot_rows.specs.depot_model.Revisions.{head, is_live_at, is_live_head}
+use Rattle.depot_rows.specs.depot_model.Step.{Step as ModelStep, does, in_turn, refuse_if, refuses, unless}
+use Rattle.depot_rows.specs.depot_model.Steps.Integrating.{integrate_all, integrate_chosen, integrate_deleted, integrate_file, integrate_live, integrate_revs, integrate_row, integrate_to, new_type, opening, owing, type_at, uncredited}
+use Rattle.depot_rows.specs.depot_model.Steps.Opening.{exclusive_refusal, held, right_refusal}
+use Rattle.depot_rows.specs.depot_model.Steps.Targets.{target_at, target_text}
 use Rattle.depot_rows.proofs.Keys.{number-is, same-self}
 use Rattle.opening_reads.specs.OwnOpenings.{is_of}
 use Rattle.integ_records.specs.Integrates.{integrates_at}

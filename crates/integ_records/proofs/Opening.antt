@@ -2,15 +2,15 @@
 use Rattle.std.proofs.Common.{◌≡◌, ℕ, Bool, true, false, List, [], ◌∷◌, Option, Some, None, refl, ap, ◌∙◌}
 use Rattle.std.specs.Prelude.{if◌then◌else◌, unwrap_or}
 use Rattle.std.specs.List.{last_or}
-use Rattle.depot_path.specs.Path.{is_path}
-use Rattle.depot_model.specs.declared.refusal.Refusal.TheVariants.{AllIntegrated}
-use Rattle.depot_model.specs.declared.request.Caller.{Caller}
-use Rattle.depot_model.specs.Deeds as model
-use Rattle.depot_model.specs.Deeds.{Deed, Got, Open, Owe, Paid, Opening, Source}
-use Rattle.depot_model.specs.Revisions.{head, is_live_at, is_live_head}
-use Rattle.depot_model.specs.Step.{does, refuses}
-use Rattle.depot_model.specs.Steps.Integrating.{integrate_revs, integrate_row, new_type, opening, owing, type_at}
-use Rattle.depot_model.specs.Steps.Opening.{held}
+use Rattle.depot_rows.specs.depot_path.Path.{is_path}
+use Rattle.depot_rows.specs.depot_model.declared.refusal.Refusal.TheVariants.{AllIntegrated}
+use Rattle.depot_rows.specs.depot_model.declared.request.Caller.{Caller}
+use Rattle.depot_rows.specs.depot_model.Deeds as model
+use Rattle.depot_rows.specs.depot_model.Deeds.{Deed, Got, Open, Owe, Paid, Opening, Source}
+use Rattle.depot_rows.specs.depot_model.Revisions.{head, is_live_at, is_live_head}
+use Rattle.depot_rows.specs.depot_model.Step.{does, refuses}
+use Rattle.depot_rows.specs.depot_model.Steps.Integrating.{integrate_revs, integrate_row, new_type, opening, owing, type_at}
+use Rattle.depot_rows.specs.depot_model.Steps.Opening.{held}
 use Rattle.depot_rows.specs.Deed.{how_of, opening_of}
 use Rattle.depot_rows.specs.Effects.{Follow}
 use Rattle.depot_rows.specs.declared.deed.Deed.TheVariants as dones

@@ -2,16 +2,16 @@
 use Rattle.std.proofs.Common.{◌≡◌, ◌<◌, ℕ, Bool, true, false, List, [], ◌∷◌, length, map, Option, Some, None, inl, inr, refl, sym, ap, ◌∙◌, arith}
 use Rattle.std.specs.Prelude.{◌&&◌, if◌then◌else◌, is_none}
 use Rattle.std.specs.Option.{option_flatten, option_map_or, option_or}
-use Rattle.depot_path.specs.Bytes.{same}
-use Rattle.depot_model.specs.declared.command.Taking.{Taking}
-use Rattle.depot_model.specs.declared.command.Taking.TheVariants.{Theirs, Yours}
-use Rattle.depot_model.specs.declared.request.Caller.{Caller}
-use Rattle.depot_model.specs.Deeds.{Deed, Open, Shut, Got, Opening, Owing}
-use Rattle.depot_model.specs.Latest.{latest, when}
-use Rattle.depot_model.specs.Opened.{opened, opening_said}
-use Rattle.depot_model.specs.Revisions.{Revision, is_live, is_live_at, revision_in, revisions}
-use Rattle.depot_model.specs.Step.{Step, after, both, does, nothing}
-use Rattle.depot_model.specs.Steps.Resolving.{held_of, how_of, other_deeds, own_deeds, paid, resolve_next, resolve_one, resolve_opened, resolve_row, source_at}
+use Rattle.depot_rows.specs.depot_path.Bytes.{same}
+use Rattle.depot_rows.specs.depot_model.declared.command.Taking.{Taking}
+use Rattle.depot_rows.specs.depot_model.declared.command.Taking.TheVariants.{Theirs, Yours}
+use Rattle.depot_rows.specs.depot_model.declared.request.Caller.{Caller}
+use Rattle.depot_rows.specs.depot_model.Deeds.{Deed, Open, Shut, Got, Opening, Owing}
+use Rattle.depot_rows.specs.depot_model.Latest.{latest, when}
+use Rattle.depot_rows.specs.depot_model.Opened.{opened, opening_said}
+use Rattle.depot_rows.specs.depot_model.Revisions.{Revision, is_live, is_live_at, revision_in, revisions}
+use Rattle.depot_rows.specs.depot_model.Step.{Step, after, both, does, nothing}
+use Rattle.depot_rows.specs.depot_model.Steps.Resolving.{held_of, how_of, other_deeds, own_deeds, paid, resolve_next, resolve_one, resolve_opened, resolve_row, source_at}
 use Rattle.depot_rows.specs.Deed.{owing_of}
 use Rattle.depot_rows.specs.declared.deed.Owing.{Owing as OwingSaid}
 use Rattle.depot_rows.proofs.Entries.{In}

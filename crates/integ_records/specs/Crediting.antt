@@ -2,10 +2,10 @@
 -- "db.integed").
 use Rattle.std.specs.Prelude.{ℕ, Bool, ◌&&◌, nat_le, List, flat_map, if◌then◌else◌, Option, Some, None, option_and_then}
 use Rattle.std.specs.Option.{option_to_list}
-use Rattle.depot_path.specs.Bytes.{same}
-use Rattle.db_records.specs.declared.record.Record.{Record}
-use Rattle.db_records.specs.declared.record.Record.TheVariants.{Integed}
-use Rattle.db_records.specs.declared.rows.IntegedRecord.{IntegedRecord}
+use Rattle.depot_rows.specs.depot_path.Bytes.{same}
+use Rattle.depot_rows.specs.db_records.declared.record.Record.{Record}
+use Rattle.depot_rows.specs.db_records.declared.record.Record.TheVariants.{Integed}
+use Rattle.depot_rows.specs.db_records.declared.rows.IntegedRecord.{IntegedRecord}
 use Rattle.integ_records.specs.declared.crediting.Span.{Span}
 
 abbrev pub is_within : ℕ → Span → Bool

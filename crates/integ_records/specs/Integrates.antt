@@ -1,20 +1,20 @@
 -- What `integrate` does with a source and its target, test by test, and with the files that its argument names. This project's own choice.
 use Rattle.std.specs.Prelude.{ℕ, false, not, List, [], ◌∷◌, Option, None, is_some, unwrap_or}
 use Rattle.std.specs.List.{last_or}
-use Rattle.depot_path.specs.Path.{printed}
-use Rattle.depot_path.specs.declared.revision.Wanted.{Wanted}
-use Rattle.depot_path.specs.declared.revision.Wanted.TheVariants.{Head}
-use Rattle.depot_model.specs.declared.command.FileArgument.{FileArgument}
-use Rattle.depot_model.specs.declared.command.PatternArgument.{PatternArgument}
-use Rattle.depot_model.specs.declared.refusal.Refusal.TheVariants.{AlreadyOpen, NotInView}
-use Rattle.depot_model.specs.declared.request.Caller.{Caller}
-use Rattle.depot_model.specs.Arguments.{named, submitted}
-use Rattle.depot_model.specs.Choice.{Choice, PassedOver, At, shown}
-use Rattle.depot_model.specs.Deeds.{Deed}
-use Rattle.depot_model.specs.Opened.{opened}
-use Rattle.depot_model.specs.Step.{Step, nothing, refuse_if, unless}
-use Rattle.depot_model.specs.Steps.Integrating.{integrate_all, integrate_chosen, integrate_revs, new_type, uncredited}
-use Rattle.depot_model.specs.Steps.Opening.{exclusive_refusal}
+use Rattle.depot_rows.specs.depot_path.Path.{printed}
+use Rattle.depot_rows.specs.depot_path.declared.revision.Wanted.{Wanted}
+use Rattle.depot_rows.specs.depot_path.declared.revision.Wanted.TheVariants.{Head}
+use Rattle.depot_rows.specs.depot_model.declared.command.FileArgument.{FileArgument}
+use Rattle.depot_rows.specs.depot_model.declared.command.PatternArgument.{PatternArgument}
+use Rattle.depot_rows.specs.depot_model.declared.refusal.Refusal.TheVariants.{AlreadyOpen, NotInView}
+use Rattle.depot_rows.specs.depot_model.declared.request.Caller.{Caller}
+use Rattle.depot_rows.specs.depot_model.Arguments.{named, submitted}
+use Rattle.depot_rows.specs.depot_model.Choice.{Choice, PassedOver, At, shown}
+use Rattle.depot_rows.specs.depot_model.Deeds.{Deed}
+use Rattle.depot_rows.specs.depot_model.Opened.{opened}
+use Rattle.depot_rows.specs.depot_model.Step.{Step, nothing, refuse_if, unless}
+use Rattle.depot_rows.specs.depot_model.Steps.Integrating.{integrate_all, integrate_chosen, integrate_revs, new_type, uncredited}
+use Rattle.depot_rows.specs.depot_model.Steps.Opening.{exclusive_refusal}
 
 -- unless another client has the target opened alone
 abbrev pub integrates_closed : List Deed → List Deed → Caller → Option ℕ → Wanted → List ℕ → List ℕ → Step

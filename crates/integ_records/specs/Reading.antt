@@ -1,9 +1,9 @@
 -- What `integrate` reads. This project's own choice.
 use Rattle.std.specs.Prelude.{List}
-use Rattle.db_records.specs.declared.table.TableId.TheVariants as table_ids
-use Rattle.table_changes.specs.Changed.{AllRows}
-use Rattle.depot_model.specs.declared.request.Caller.{Caller}
-use Rattle.depot_model.specs.Deeds.{Deed}
+use Rattle.depot_rows.specs.db_records.declared.table.TableId.TheVariants as table_ids
+use Rattle.depot_rows.specs.table_changes.Changed.{AllRows}
+use Rattle.depot_rows.specs.depot_model.declared.request.Caller.{Caller}
+use Rattle.depot_rows.specs.depot_model.Deeds.{Deed}
 use Rattle.depot_rows.specs.Standing.{HasRows}
 use Rattle.named_files.specs.Sets.{ShownReads}
 use Rattle.named_files.specs.declared.asker.Asker.{Asker}

@@ -1,17 +1,17 @@
 -- The owed resolves of a file one after another, by the opening that each leaves, and what is read for them. This project's own choice.
 use Rattle.std.specs.Prelude.{◌≡◌, ◌++◌, Bool, List, [], ◌∷◌, Option, Some, None, if◌then◌else◌}
-use Rattle.depot_path.specs.Bytes.{same}
-use Rattle.db_records.specs.declared.table.TableId.TheVariants as table_ids
-use Rattle.table_changes.specs.Changed.{AllRows}
-use Rattle.depot_model.specs.declared.command.Taking.{Taking}
-use Rattle.depot_model.specs.declared.command.Taking.TheVariants.{Theirs, Yours}
-use Rattle.depot_model.specs.declared.request.Caller.{Caller}
-use Rattle.depot_model.specs.Deeds.{Deed, Opening, Owing}
-use Rattle.depot_model.specs.Latest.{when}
-use Rattle.depot_model.specs.Revisions.{is_live_at}
-use Rattle.depot_model.specs.Rules.{IsSound}
-use Rattle.depot_model.specs.Step.{Step, both, nothing}
-use Rattle.depot_model.specs.Steps.Resolving.{resolve_one, source_at}
+use Rattle.depot_rows.specs.depot_path.Bytes.{same}
+use Rattle.depot_rows.specs.db_records.declared.table.TableId.TheVariants as table_ids
+use Rattle.depot_rows.specs.table_changes.Changed.{AllRows}
+use Rattle.depot_rows.specs.depot_model.declared.command.Taking.{Taking}
+use Rattle.depot_rows.specs.depot_model.declared.command.Taking.TheVariants.{Theirs, Yours}
+use Rattle.depot_rows.specs.depot_model.declared.request.Caller.{Caller}
+use Rattle.depot_rows.specs.depot_model.Deeds.{Deed, Opening, Owing}
+use Rattle.depot_rows.specs.depot_model.Latest.{when}
+use Rattle.depot_rows.specs.depot_model.Revisions.{is_live_at}
+use Rattle.depot_rows.specs.depot_model.Rules.{IsSound}
+use Rattle.depot_rows.specs.depot_model.Step.{Step, both, nothing}
+use Rattle.depot_rows.specs.depot_model.Steps.Resolving.{resolve_one, source_at}
 use Rattle.depot_rows.specs.Effects.{Follow}
 use Rattle.depot_rows.specs.Standing.{HasRows}
 use Rattle.depot_rows.specs.declared.deed.Deed.{Deed as Done}

@@ -1,14 +1,14 @@
 -- What `integrate` does with a target, by which revisions are left to integrate and which of the two files are live (Command-Line Reference,
 -- "p4 integrate").
 use Rattle.std.specs.Prelude.{ℕ, Bool, true, false, List, [], ◌∷◌, Option, Some, None}
-use Rattle.depot_model.specs.declared.refusal.Refusal.TheVariants.{AllIntegrated}
-use Rattle.depot_model.specs.declared.request.Caller.{Caller}
-use Rattle.depot_model.specs.Deeds as model
-use Rattle.depot_model.specs.Deeds.{Deed, Action, How, Source, Open, Got, Owe, Paid, BranchFrom, DeleteFrom}
-use Rattle.depot_model.specs.Revisions.{head, is_live_at, is_live_head}
-use Rattle.depot_model.specs.Step.{Step, does, refuses}
-use Rattle.depot_model.specs.Steps.Integrating.{integrate_row, opening, owing}
-use Rattle.depot_model.specs.Steps.Opening.{held}
+use Rattle.depot_rows.specs.depot_model.declared.refusal.Refusal.TheVariants.{AllIntegrated}
+use Rattle.depot_rows.specs.depot_model.declared.request.Caller.{Caller}
+use Rattle.depot_rows.specs.depot_model.Deeds as model
+use Rattle.depot_rows.specs.depot_model.Deeds.{Deed, Action, How, Source, Open, Got, Owe, Paid, BranchFrom, DeleteFrom}
+use Rattle.depot_rows.specs.depot_model.Revisions.{head, is_live_at, is_live_head}
+use Rattle.depot_rows.specs.depot_model.Step.{Step, does, refuses}
+use Rattle.depot_rows.specs.depot_model.Steps.Integrating.{integrate_row, opening, owing}
+use Rattle.depot_rows.specs.depot_model.Steps.Opening.{held}
 use Rattle.integ_records.specs.declared.crediting.Span.{Span}
 use Rattle.integ_records.specs.declared.opened_targets.Way.{Way}
 use Rattle.integ_records.specs.declared.opened_targets.Way.TheVariants.{Integrate, Branch, Delete}

@@ -2,7 +2,7 @@
 
 ghost use Rattle.std.specs.Prelude.{◌≡◌, IfOk};
 
-use depot_path::DepotPath;
+use depot_rows::paths::DepotPath;
 use depot_rows::{Opening, Owing, Source};
 use std::alloc::AllocError;
 

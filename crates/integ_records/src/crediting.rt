@@ -3,21 +3,21 @@
 ghost use Rattle.std.specs.Prelude.{◌≡◌, ◌++◌, ℕ, List, IfOk, IsTrue, OnOk, filter, option_and_then};
 ghost use Rattle.std.specs.List.{list_any};
 ghost use Rattle.std.specs.Option.{option_copied, option_to_list};
-ghost use Rattle.depot_path.specs.Path.{is_path, printed};
-ghost use Rattle.db_records.specs.declared.table.TableId.TheVariants as table_ids;
+ghost use Rattle.depot_rows.specs.depot_path.Path.{is_path, printed};
+ghost use Rattle.depot_rows.specs.db_records.declared.table.TableId.TheVariants as table_ids;
 ghost use Rattle.row_ranges.specs.Ranges.{has_row, range_table};
-ghost use Rattle.table_changes.specs.Changed.{rows_of};
-ghost use Rattle.depot_model.specs.Deeds.{Deed};
-ghost use Rattle.depot_model.specs.Revisions.{credited};
-ghost use Rattle.depot_model.specs.Rules.{IsSound};
+ghost use Rattle.depot_rows.specs.table_changes.Changed.{rows_of};
+ghost use Rattle.depot_rows.specs.depot_model.Deeds.{Deed};
+ghost use Rattle.depot_rows.specs.depot_model.Revisions.{credited};
+ghost use Rattle.depot_rows.specs.depot_model.Rules.{IsSound};
 ghost use Rattle.depot_rows.specs.Standing.{HasRows};
 ghost use Rattle.integ_records.specs.Crediting.{is_within, record_in, span_in, span_of_row, span_of_rows};
 
-use db_records::{IntegedRecord, Record, TableId};
-use depot_path::{DepotPath, Sequence};
+use depot_rows::paths::{DepotPath, Sequence};
+use depot_rows::records::{IntegedRecord, Record, TableId};
+use depot_rows::tables::Tables;
 use row_ranges::{KeyRange, rows_in};
 use std::alloc::{AllocError, Global};
-use table_store::Tables;
 
 /// Revisions of a file from one number up to another.
 #[derive(Clone, Copy)]

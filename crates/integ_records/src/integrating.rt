@@ -1,17 +1,17 @@
 //! `integrate` (Command-Line Reference, "p4 integrate").
 
 ghost use Rattle.std.specs.Prelude.{◌≡◌, false, is_some, List, IfOk};
-ghost use Rattle.db_records.specs.declared.table.TableId.TheVariants as table_ids;
-ghost use Rattle.table_changes.specs.Changed.{AllRows, rows_of};
-ghost use Rattle.depot_path.specs.Path.{printed};
-ghost use Rattle.depot_path.specs.declared.revision.Wanted.TheVariants.{Head as HeadWanted};
-ghost use Rattle.depot_model.specs.declared.refusal.Refusal.TheVariants as refusals;
-ghost use Rattle.depot_model.specs.Arguments.{named, submitted, within_files as within_files_in};
-ghost use Rattle.depot_model.specs.Choice.{chosen, shown as shown_in};
-ghost use Rattle.depot_model.specs.Deeds.{Deed};
-ghost use Rattle.depot_model.specs.Rules.{IsSound};
-ghost use Rattle.depot_model.specs.Step.{refuses};
-ghost use Rattle.depot_model.specs.Steps.Integrating as model;
+ghost use Rattle.depot_rows.specs.db_records.declared.table.TableId.TheVariants as table_ids;
+ghost use Rattle.depot_rows.specs.table_changes.Changed.{AllRows, rows_of};
+ghost use Rattle.depot_rows.specs.depot_path.Path.{printed};
+ghost use Rattle.depot_rows.specs.depot_path.declared.revision.Wanted.TheVariants.{Head as HeadWanted};
+ghost use Rattle.depot_rows.specs.depot_model.declared.refusal.Refusal.TheVariants as refusals;
+ghost use Rattle.depot_rows.specs.depot_model.Arguments.{named, submitted, within_files as within_files_in};
+ghost use Rattle.depot_rows.specs.depot_model.Choice.{chosen, shown as shown_in};
+ghost use Rattle.depot_rows.specs.depot_model.Deeds.{Deed};
+ghost use Rattle.depot_rows.specs.depot_model.Rules.{IsSound};
+ghost use Rattle.depot_rows.specs.depot_model.Step.{refuses};
+ghost use Rattle.depot_rows.specs.depot_model.Steps.Integrating as model;
 ghost use Rattle.depot_rows.specs.Standing.{HasRows};
 ghost use Rattle.named_files.specs.declared.listing.Listing.TheVariants.{Submitted};
 ghost use Rattle.named_files.specs.Sets.{ShownReads};
@@ -22,17 +22,17 @@ ghost use Rattle.integ_records.specs.Reading.{Reads, ReadsOwn};
 use crate::opened_targets::{Pair, integrate_ends, new_type};
 use crate::uncredited::{ends_wanted, last_of};
 use command_parts::named_change_refusal;
-use depot_model::{Caller, FileArgument, PatternArgument};
-use depot_path::{DepotPath, Sequence, Text, Wanted, print_bytes};
+use depot_rows::model::{Caller, FileArgument, PatternArgument};
+use depot_rows::paths::{DepotPath, Sequence, Text, Wanted, print_bytes};
+use depot_rows::protections::Level;
+use depot_rows::tables::Tables;
 use file_steps::{TurnAct, in_turn, named_by, no_file, within_files};
 use named_files::{Asker, Listing, ShownFiles};
 use opened_files::{exclusive_refusal, right_refusal, unseen_row};
 use opening_reads::OwnOpenings;
-use protect_table::Level;
 use reply_rows::{Step, already_open_row, not_in_view_row};
 use revision_reads::{Chosen, chosen_of, shown_in_view, target_at, target_text};
 use std::alloc::{AllocError, Global};
-use table_store::Tables;
 
 /// What `integrate` does with its files.
 #[derive(Drop)]
@@ -265,7 +265,7 @@ impl<'a> Integrating<'a> {
 }
 
 impl<'a> TurnAct for IntegratingInTurn<'a> {
-    ghost use Rattle.depot_model.specs.Steps.Integrating.{integrate_file};
+    ghost use Rattle.depot_rows.specs.depot_model.Steps.Integrating.{integrate_file};
     ghost use Rattle.integ_records.specs.Reading.{ReadsOwn};
 
     ghost stands = { λ act rows d e. ReadsOwn act.integrating.now.caller.now act.integrating.now.asker.now act.own rows d e };

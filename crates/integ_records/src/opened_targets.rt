@@ -1,14 +1,14 @@
 //! The targets that `integrate` opens (Command-Line Reference, "p4 integrate").
 
 ghost use Rattle.std.specs.Prelude.{◌≡◌, ◌∷◌, [], List, IfOk, Some, None, option_map};
-ghost use Rattle.db_records.specs.declared.table.TableId.TheVariants as table_ids;
-ghost use Rattle.table_changes.specs.Changed.{AllRows, rows_of};
-ghost use Rattle.depot_model.specs.declared.refusal.Refusal.TheVariants as refusals;
-ghost use Rattle.depot_model.specs.Deeds.{Deed};
-ghost use Rattle.depot_model.specs.Revisions.{head};
-ghost use Rattle.depot_model.specs.Rules.{IsSound};
-ghost use Rattle.depot_model.specs.Step.{refuses};
-ghost use Rattle.depot_model.specs.Steps.Integrating as model;
+ghost use Rattle.depot_rows.specs.db_records.declared.table.TableId.TheVariants as table_ids;
+ghost use Rattle.depot_rows.specs.table_changes.Changed.{AllRows, rows_of};
+ghost use Rattle.depot_rows.specs.depot_model.declared.refusal.Refusal.TheVariants as refusals;
+ghost use Rattle.depot_rows.specs.depot_model.Deeds.{Deed};
+ghost use Rattle.depot_rows.specs.depot_model.Revisions.{head};
+ghost use Rattle.depot_rows.specs.depot_model.Rules.{IsSound};
+ghost use Rattle.depot_rows.specs.depot_model.Step.{refuses};
+ghost use Rattle.depot_rows.specs.depot_model.Steps.Integrating as model;
 ghost use Rattle.depot_rows.specs.Deed.{action_of, how_of, opening_of as opening_of_deed, source_of};
 ghost use Rattle.depot_rows.specs.Standing.{HasRows};
 ghost use Rattle.depot_rows.specs.declared.deed.Deed.TheVariants as done_deeds;
@@ -18,16 +18,16 @@ ghost use Rattle.std.specs.Option.{option_copied};
 ghost use Rattle.integ_records.specs.Ways.{by_ends, paid_step, way_in, way_step};
 
 use crate::crediting::Span;
-use db_records::RevRecord;
-use depot_model::{Caller, Row};
-use depot_path::{DepotPath, Name, Text};
+use depot_rows::model::{Caller, Row};
+use depot_rows::paths::{DepotPath, Name, Text};
+use depot_rows::records::RevRecord;
+use depot_rows::tables::Tables;
 use depot_rows::{Action, Held, How, Opening, Owing, Source};
 use opened_files::action_word;
 use opening_reads::held;
 use reply_rows::{RowBuilder, Step, all_integrated_row};
 use revision_reads::{head_of, is_live_at, is_live_head, revision_of};
 use std::alloc::{AllocError, Global};
-use table_store::Tables;
 
 /// What is done with a target.
 #[derive(Clone, Copy)]

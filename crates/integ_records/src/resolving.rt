@@ -2,35 +2,35 @@
 
 ghost use Rattle.std.specs.Prelude.{◌≡◌, List, IfOk, Some, false, filter, map, true};
 ghost use Rattle.std.specs.List.{list_all};
-ghost use Rattle.db_records.specs.declared.record.Record.TheVariants as records;
-ghost use Rattle.db_records.specs.declared.table.TableId.TheVariants as table_ids;
-ghost use Rattle.table_changes.specs.Changed.{rows_of};
-ghost use Rattle.depot_model.specs.Arguments.{named, opened_by, over_all as over_all_in};
-ghost use Rattle.depot_model.specs.Deeds.{Deed, Opening as ModelOpening};
-ghost use Rattle.depot_model.specs.Opened.{Resolve, opened};
-ghost use Rattle.depot_model.specs.Records.{working_record};
-ghost use Rattle.depot_model.specs.Rules.{IsSound};
-ghost use Rattle.depot_model.specs.Steps.Resolving as model;
-ghost use Rattle.depot_model.specs.Steps.Reverting.{not_open};
-ghost use Rattle.depot_model.specs.Steps.Submitting.{is_unpaid, resolves_of};
-ghost use Rattle.depot_model.specs.WellFormed.{asks_head};
+ghost use Rattle.depot_rows.specs.db_records.declared.record.Record.TheVariants as records;
+ghost use Rattle.depot_rows.specs.db_records.declared.table.TableId.TheVariants as table_ids;
+ghost use Rattle.depot_rows.specs.table_changes.Changed.{rows_of};
+ghost use Rattle.depot_rows.specs.depot_model.Arguments.{named, opened_by, over_all as over_all_in};
+ghost use Rattle.depot_rows.specs.depot_model.Deeds.{Deed, Opening as ModelOpening};
+ghost use Rattle.depot_rows.specs.depot_model.Opened.{Resolve, opened};
+ghost use Rattle.depot_rows.specs.depot_model.Records.{working_record};
+ghost use Rattle.depot_rows.specs.depot_model.Rules.{IsSound};
+ghost use Rattle.depot_rows.specs.depot_model.Steps.Resolving as model;
+ghost use Rattle.depot_rows.specs.depot_model.Steps.Reverting.{not_open};
+ghost use Rattle.depot_rows.specs.depot_model.Steps.Submitting.{is_unpaid, resolves_of};
+ghost use Rattle.depot_rows.specs.depot_model.WellFormed.{asks_head};
 ghost use Rattle.depot_rows.specs.Standing.{HasRows};
 ghost use Rattle.reply_rows.specs.Made.{IsMade};
 ghost use Rattle.integ_records.specs.Turns.{Reads, turns as turns_said};
 
 use crate::turns::turns;
-use db_records::WorkingRecord;
-use depot_model::{Caller, FileArgument, Taking};
-use depot_path::{DepotPath, Name};
+use depot_rows::model::{Caller, FileArgument, Taking};
+use depot_rows::paths::{DepotPath, Name};
+use depot_rows::protections::Level;
+use depot_rows::records::WorkingRecord;
+use depot_rows::tables::Tables;
 use file_openings::opening_of;
 use file_steps::{FileAct, over_all, within_files};
 use named_files::{Asker, HeadFiles, Listing};
 use opened_files::right_refusal;
 use opening_reads::{opening_in, owed_resolves};
-use protect_table::Level;
 use reply_rows::Step;
 use std::alloc::{AllocError, Global};
-use table_store::Tables;
 
 /// What `resolve` does with a file.
 #[derive(Drop)]
@@ -87,7 +87,7 @@ fn resolve_permitted(
 }
 
 impl<'a> FileAct for Resolving<'a> {
-    ghost use Rattle.depot_model.specs.Steps.Resolving.{resolve_file as step_of_file};
+    ghost use Rattle.depot_rows.specs.depot_model.Steps.Resolving.{resolve_file as step_of_file};
     ghost use Rattle.integ_records.specs.Turns.{Reads};
 
     ghost reads = { λ resolving rows d. Reads resolving.caller.now resolving.asker.now rows d };

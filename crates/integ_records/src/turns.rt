@@ -1,17 +1,17 @@
 //! The owed resolves of a file one after another (Command-Line Reference, "p4 resolve").
 
 ghost use Rattle.std.specs.Prelude.{◌≡◌, List, IfOk, OnOk, [], ◌∷◌, Some, map, true};
-ghost use Rattle.depot_path.specs.Bytes.{same};
-ghost use Rattle.db_records.specs.declared.table.TableId.TheVariants as table_ids;
-ghost use Rattle.table_changes.specs.Changed.{rows_of};
-ghost use Rattle.depot_model.specs.declared.command.Taking.TheVariants as takings;
-ghost use Rattle.depot_model.specs.Deeds as deeds_of;
-ghost use Rattle.depot_model.specs.Deeds.{Deed};
-ghost use Rattle.depot_model.specs.Latest.{when};
-ghost use Rattle.depot_model.specs.Revisions.{is_live_at as live_at};
-ghost use Rattle.depot_model.specs.Rows.{how_word};
-ghost use Rattle.depot_model.specs.Step.{Step as ModelStep, both};
-ghost use Rattle.depot_model.specs.Steps.Resolving as model;
+ghost use Rattle.depot_rows.specs.depot_path.Bytes.{same};
+ghost use Rattle.depot_rows.specs.db_records.declared.table.TableId.TheVariants as table_ids;
+ghost use Rattle.depot_rows.specs.table_changes.Changed.{rows_of};
+ghost use Rattle.depot_rows.specs.depot_model.declared.command.Taking.TheVariants as takings;
+ghost use Rattle.depot_rows.specs.depot_model.Deeds as deeds_of;
+ghost use Rattle.depot_rows.specs.depot_model.Deeds.{Deed};
+ghost use Rattle.depot_rows.specs.depot_model.Latest.{when};
+ghost use Rattle.depot_rows.specs.depot_model.Revisions.{is_live_at as live_at};
+ghost use Rattle.depot_rows.specs.depot_model.Rows.{how_word};
+ghost use Rattle.depot_rows.specs.depot_model.Step.{Step as ModelStep, both};
+ghost use Rattle.depot_rows.specs.depot_model.Steps.Resolving as model;
 ghost use Rattle.depot_rows.specs.Deed.{how_of as how_of_code, opening_of as opening_of_deed, owing_of};
 ghost use Rattle.depot_rows.specs.Standing.{HasRows};
 ghost use Rattle.reply_rows.specs.Made.{IsMade, does as does_so};
@@ -19,13 +19,13 @@ ghost use Rattle.integ_records.specs.Turns.{Adds, IsTurned, left, left_other, le
 
 use crate::based::{own_path, rebase, source_of};
 use deed_list::Deeds;
-use depot_model::{Row, Taking};
+use depot_rows::model::{Row, Taking};
+use depot_rows::tables::Tables;
 use depot_rows::{How, Opening, Owing, Source};
 use opening_reads::{held, own_opening};
 use reply_rows::{RowBuilder, Step};
 use revision_reads::is_live_at;
 use std::alloc::{AllocError, Global};
-use table_store::Tables;
 
 /// How a resolve is paid.
 fn how_of(taking: Taking) -> How

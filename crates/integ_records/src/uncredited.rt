@@ -2,20 +2,20 @@
 
 ghost use Rattle.std.specs.Prelude.{◌≡◌, List, IfOk, Some, filter, if◌then◌else◌, not};
 ghost use Rattle.std.specs.List.{list_any};
-ghost use Rattle.table_changes.specs.Changed.{rows_of};
-ghost use Rattle.depot_model.specs.Deeds.{Deed};
-ghost use Rattle.depot_model.specs.Steps.Integrating as model;
+ghost use Rattle.depot_rows.specs.table_changes.Changed.{rows_of};
+ghost use Rattle.depot_rows.specs.depot_model.Deeds.{Deed};
+ghost use Rattle.depot_rows.specs.depot_model.Steps.Integrating as model;
 ghost use Rattle.integ_records.specs.Crediting.{is_within};
 ghost use Rattle.integ_records.specs.Ends.{ends_of, last_in, widened as widened_by};
 ghost use Rattle.integ_records.specs.Reading.{Reads};
 
 use crate::crediting::{Span, credits_of, is_in};
-use depot_model::Caller;
-use depot_path::{DepotPath, Wanted};
+use depot_rows::model::Caller;
+use depot_rows::paths::{DepotPath, Wanted};
+use depot_rows::tables::Tables;
 use named_files::Asker;
 use revision_reads::in_range;
 use std::alloc::{AllocError, Global};
-use table_store::Tables;
 
 /// The ends of revisions with a further one behind them.
 fn widened(ends: Option<Span>, rev: u32) -> Span

@@ -2,12 +2,12 @@
 use Rattle.std.proofs.Common.{◌≡◌, ◌⊎◌, inl, inr, ℕ, List, Result, Ok, Err, refl, ◌∙◌}
 use Rattle.std.specs.Fmt.{digits}
 use Rattle.std.specs.Prelude.{codes}
-use Rattle.depot_path.specs.Answers.{Answers}
-use Rattle.spec_form.specs.Form.{FormValue}
-use Rattle.spec_form.specs.Reading.{form_of, no_memory}
-use Rattle.spec_form.specs.Shapes.{fields_of}
-use Rattle.spec_form.specs.declared.shape.Shape.TheVariants.{Fix}
-use Rattle.depot_model.specs.Fixes.{fix_form}
+use Rattle.depot_rows.specs.depot_path.Answers.{Answers}
+use Rattle.depot_rows.specs.spec_form.Form.{FormValue}
+use Rattle.depot_rows.specs.spec_form.Reading.{form_of, no_memory}
+use Rattle.depot_rows.specs.spec_form.Shapes.{fields_of}
+use Rattle.depot_rows.specs.spec_form.declared.shape.Shape.TheVariants.{Fix}
+use Rattle.depot_rows.specs.depot_model.Fixes.{fix_form}
 
 abbrev blank_text : List ℕ
 blank_text = codes "Job: job\nChange: 1\nUser: user\nState: on\n"

@@ -3,18 +3,18 @@ use Rattle.std.proofs.Common.{◌≡◌, ◌≤◌, ◌<◌, ◌+◌, ℕ, Bool,
 use Rattle.std.specs.Prelude.{◌||◌, codes, filter, is_some, map, min, nat_lt, not, option_map, if◌then◌else◌}
 use Rattle.std.specs.Borrow.{Bor}
 use Rattle.std.specs.Option.{option_copied, option_map_or}
-use Rattle.spec_form.specs.Form.{FormValue}
+use Rattle.depot_rows.specs.spec_form.Form.{FormValue}
 use Rattle.std.proofs.lemmas.Bool.Decides.{nat_tests}
-use Rattle.db_records.specs.declared.record.Record.{Record}
-use Rattle.db_records.specs.declared.record.Record.TheVariants.{Change}
-use Rattle.db_records.specs.declared.rows.ChangeRecord.{ChangeRecord}
-use Rattle.depot_model.specs.Deeds.{Deed, FixForm, Landing, Pending}
-use Rattle.depot_model.specs.Fixes.{fix_name, fixes_of, has_fix, is_on}
-use Rattle.depot_model.specs.Latest.{spec}
-use Rattle.depot_model.specs.Numbers.{landing, pending}
-use Rattle.depot_model.specs.Records.{change_record, landed_record, pending_record}
-use Rattle.depot_model.specs.Rules.{NotBoth}
-use Rattle.depot_model.specs.Steps.Jobs.{distinct, fixes_then, is_change}
+use Rattle.depot_rows.specs.db_records.declared.record.Record.{Record}
+use Rattle.depot_rows.specs.db_records.declared.record.Record.TheVariants.{Change}
+use Rattle.depot_rows.specs.db_records.declared.rows.ChangeRecord.{ChangeRecord}
+use Rattle.depot_rows.specs.depot_model.Deeds.{Deed, FixForm, Landing, Pending}
+use Rattle.depot_rows.specs.depot_model.Fixes.{fix_name, fixes_of, has_fix, is_on}
+use Rattle.depot_rows.specs.depot_model.Latest.{spec}
+use Rattle.depot_rows.specs.depot_model.Numbers.{landing, pending}
+use Rattle.depot_rows.specs.depot_model.Records.{change_record, landed_record, pending_record}
+use Rattle.depot_rows.specs.depot_model.Rules.{NotBoth}
+use Rattle.depot_rows.specs.depot_model.Steps.Jobs.{distinct, fixes_then, is_change}
 use Rattle.depot_rows.specs.Effects.{is_submitted}
 
 pub some_there : (row : Option (Bor ChangeRecord)) → is_some row ≡ is_some (option_map Change (option_copied row))

@@ -3,8 +3,8 @@ use Rattle.std.proofs.Common.{◌≡◌, ◌+◌, ◌<◌, ℕ, Bool, true, fals
 use Rattle.std.specs.Prelude.{◌||◌, if◌then◌else◌}
 use Rattle.std.specs.List.{list_any}
 use Rattle.std.proofs.lemmas.List.Folds.{list_any-append}
-use Rattle.depot_path.specs.Bytes.{same}
-use Rattle.depot_model.specs.Steps.Jobs.{distinct, distinct_after}
+use Rattle.depot_rows.specs.depot_path.Bytes.{same}
+use Rattle.depot_rows.specs.depot_model.Steps.Jobs.{distinct, distinct_after}
 use Rattle.depot_rows.proofs.Keys.{same-is}
 use Rattle.job_ops.specs.Distinct.{once}
 

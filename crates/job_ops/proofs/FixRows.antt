@@ -3,16 +3,16 @@ use Rattle.std.proofs.Common.{◌≡◌, ℕ, Bool, true, false, List, [], ◌�
 use Rattle.std.specs.Prelude.{◌&&◌, if◌then◌else◌, codes, decimal, option_map}
 use Rattle.std.specs.List.{cons_option, filter_map}
 use Rattle.std.specs.Option.{option_map_or}
-use Rattle.depot_path.specs.Answers.{Answers}
-use Rattle.depot_path.specs.Bytes.{same}
-use Rattle.spec_form.specs.Form.{FormValue, changed_if, has_single, is_value, with_field, with_line}
-use Rattle.spec_form.specs.declared.fault.ValueFault.TheVariants.{Memory}
-use Rattle.depot_model.specs.Deeds.{Deed, FixForm}
-use Rattle.depot_model.specs.Fixes.{fixes_of, fixes_on, is_on}
-use Rattle.depot_model.specs.Latest.{keys_of, spec, spec_name}
-use Rattle.depot_model.specs.Shelves.{is_of_change}
-use Rattle.depot_model.specs.Steps.Jobs.{is_wanted}
-use Rattle.depot_model.specs.Values.{value_of}
+use Rattle.depot_rows.specs.depot_path.Answers.{Answers}
+use Rattle.depot_rows.specs.depot_path.Bytes.{same}
+use Rattle.depot_rows.specs.spec_form.Form.{FormValue, changed_if, has_single, is_value, with_field, with_line}
+use Rattle.depot_rows.specs.spec_form.declared.fault.ValueFault.TheVariants.{Memory}
+use Rattle.depot_rows.specs.depot_model.Deeds.{Deed, FixForm}
+use Rattle.depot_rows.specs.depot_model.Fixes.{fixes_of, fixes_on, is_on}
+use Rattle.depot_rows.specs.depot_model.Latest.{keys_of, spec, spec_name}
+use Rattle.depot_rows.specs.depot_model.Shelves.{is_of_change}
+use Rattle.depot_rows.specs.depot_model.Steps.Jobs.{is_wanted}
+use Rattle.depot_rows.specs.depot_model.Values.{value_of}
 use Rattle.job_ops.specs.Fixes.{fixes_among, is_asked}
 
 filtered_twice : {A : Type 0} (f g : A → Bool) (xs : List A) → filter (λ x. f x && g x) xs ≡ filter g (filter f xs)

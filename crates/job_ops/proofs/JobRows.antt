@@ -3,17 +3,17 @@ use Rattle.std.proofs.Common.{◌≡◌, ℕ, List, [], ◌∷◌, ◌++◌, map
 use Rattle.std.specs.Prelude.{filter, filter_map, option_map}
 use Rattle.std.specs.List.{cons_option}
 use Rattle.std.specs.Option.{option_to_list}
-use Rattle.spec_form.specs.Form.{FormValue}
-use Rattle.table_changes.specs.Changed.{AllRows}
-use Rattle.depot_model.specs.declared.reply.Row.{Row}
-use Rattle.depot_model.specs.declared.request.Caller.{Caller}
-use Rattle.depot_model.specs.declared.refusal.Refusal.TheVariants.{NoSuchJob}
-use Rattle.depot_model.specs.Deeds.{Deed}
-use Rattle.depot_model.specs.Fixes.{fixes_on, job, job_names}
-use Rattle.depot_model.specs.FormRows.{form_fields}
-use Rattle.depot_model.specs.Rows.{row}
-use Rattle.depot_model.specs.Step.{Step as ModelStep, refuses, tells}
-use Rattle.depot_model.specs.Steps.Jobs.{fix_row, fixes, is_wanted, job_row, job_show, jobs}
+use Rattle.depot_rows.specs.spec_form.Form.{FormValue}
+use Rattle.depot_rows.specs.table_changes.Changed.{AllRows}
+use Rattle.depot_rows.specs.depot_model.declared.reply.Row.{Row}
+use Rattle.depot_rows.specs.depot_model.declared.request.Caller.{Caller}
+use Rattle.depot_rows.specs.depot_model.declared.refusal.Refusal.TheVariants.{NoSuchJob}
+use Rattle.depot_rows.specs.depot_model.Deeds.{Deed}
+use Rattle.depot_rows.specs.depot_model.Fixes.{fixes_on, job, job_names}
+use Rattle.depot_rows.specs.depot_model.FormRows.{form_fields}
+use Rattle.depot_rows.specs.depot_model.Rows.{row}
+use Rattle.depot_rows.specs.depot_model.Step.{Step as ModelStep, refuses, tells}
+use Rattle.depot_rows.specs.depot_model.Steps.Jobs.{fix_row, fixes, is_wanted, job_row, job_show, jobs}
 use Rattle.reply_rows.specs.declared.step.Step.{Step}
 use Rattle.reply_rows.specs.Made.{IsMade, told}
 use Rattle.reply_rows.proofs.Bare.{AreBare, refusal_bare, tells_made}

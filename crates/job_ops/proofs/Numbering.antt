@@ -4,18 +4,18 @@ use Rattle.std.specs.Prelude.{◌&&◌, codes, fold, max, min, nat_le, option_ma
 use Rattle.std.proofs.lemmas.Bool.Decides.{nat_tests}
 use Rattle.std.proofs.lemmas.List.{drop_all}
 use Rattle.std.proofs.lemmas.List.Sums.{fold-append}
-use Rattle.depot_path.specs.Digits.{up_to}
-use Rattle.depot_model.specs.Deeds.{Deed}
-use Rattle.depot_model.specs.Fixes.{job_name, job_number, last_job}
-use Rattle.depot_model.specs.Refusals.{refusal_row}
-use Rattle.depot_model.specs.Step.{refuse_if}
-use Rattle.depot_model.specs.Steps.Jobs.{is_new, saved_name}
-use Rattle.depot_model.specs.Values.{value_of}
-use Rattle.depot_model.specs.declared.refusal.Limit.TheVariants.{Jobs}
-use Rattle.depot_model.specs.declared.refusal.Refusal.{Refusal}
-use Rattle.depot_model.specs.declared.refusal.Refusal.TheVariants.{OverLimit}
+use Rattle.depot_rows.specs.depot_path.Digits.{up_to}
+use Rattle.depot_rows.specs.depot_model.Deeds.{Deed}
+use Rattle.depot_rows.specs.depot_model.Fixes.{job_name, job_number, last_job}
+use Rattle.depot_rows.specs.depot_model.Refusals.{refusal_row}
+use Rattle.depot_rows.specs.depot_model.Step.{refuse_if}
+use Rattle.depot_rows.specs.depot_model.Steps.Jobs.{is_new, saved_name}
+use Rattle.depot_rows.specs.depot_model.Values.{value_of}
+use Rattle.depot_rows.specs.depot_model.declared.refusal.Limit.TheVariants.{Jobs}
+use Rattle.depot_rows.specs.depot_model.declared.refusal.Refusal.{Refusal}
+use Rattle.depot_rows.specs.depot_model.declared.refusal.Refusal.TheVariants.{OverLimit}
 use Rattle.reply_rows.specs.Refusing.{first_of}
-use Rattle.spec_form.specs.Form.{FormValue}
+use Rattle.depot_rows.specs.spec_form.Form.{FormValue}
 use Rattle.job_ops.specs.Refusals.{name_refusal, number_refusal, save_refusals, status_refusal, text_refusal}
 
 below : (x : ℕ) → nat_le x 999999 ≡ true → x ≡ min 999999 x

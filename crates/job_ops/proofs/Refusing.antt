@@ -2,9 +2,9 @@
 use Rattle.std.proofs.Common.{◌≡◌, Bool, true, false, List, [], ◌∷◌, ◌++◌, Option, Some, None, refl, sym, ap, ◌∙◌, length, ◌≤◌, ◌<◌, ◌-◌, get_or, take, drop, arith}
 use Rattle.std.specs.Prelude.{is_some, map, option_map}
 use Rattle.std.proofs.lemmas.List.{take_all}
-use Rattle.depot_model.specs.declared.reply.Row.{Row}
-use Rattle.depot_model.specs.declared.refusal.Refusal.{Refusal}
-use Rattle.depot_model.specs.Refusals.{refusal_row}
+use Rattle.depot_rows.specs.depot_model.declared.reply.Row.{Row}
+use Rattle.depot_rows.specs.depot_model.declared.refusal.Refusal.{Refusal}
+use Rattle.depot_rows.specs.depot_model.Refusals.{refusal_row}
 use Rattle.reply_rows.specs.Refusing.{first_of}
 
 -- the first one holds

@@ -2,17 +2,17 @@
 use Rattle.std.proofs.Common.{◌≡◌, ◌+◌, ◌<◌, ℕ, Bool, true, false, List, [], ◌∷◌, ◌++◌, length, take, drop, get_or, Option, Some, None, refl, sym, ap, subst, ◌∙◌, add-one, drop-cons, append-nil}
 use Rattle.std.specs.Prelude.{codes, if◌then◌else◌, is_some}
 use Rattle.std.proofs.lemmas.List.{take_more}
-use Rattle.table_changes.specs.Changed.{AllRows}
-use Rattle.spec_form.specs.Form.{FormValue, with_field}
-use Rattle.depot_model.specs.declared.request.Caller.{Caller}
-use Rattle.depot_model.specs.declared.reply.Row.{Row}
-use Rattle.depot_model.specs.Deeds as model
-use Rattle.depot_model.specs.Deeds.{Deed, FixForm}
-use Rattle.depot_model.specs.Fixes.{closes, fix_form, fix_name, is_on}
-use Rattle.depot_model.specs.Latest.{spec}
-use Rattle.depot_model.specs.Numbers.{landing}
-use Rattle.depot_model.specs.Step.{Step as ModelStep, after, all_of, both, does, nothing}
-use Rattle.depot_model.specs.Steps.Jobs.{closes_where, fix_job, fixed_row, unfix, unfix_job}
+use Rattle.depot_rows.specs.table_changes.Changed.{AllRows}
+use Rattle.depot_rows.specs.spec_form.Form.{FormValue, with_field}
+use Rattle.depot_rows.specs.depot_model.declared.request.Caller.{Caller}
+use Rattle.depot_rows.specs.depot_model.declared.reply.Row.{Row}
+use Rattle.depot_rows.specs.depot_model.Deeds as model
+use Rattle.depot_rows.specs.depot_model.Deeds.{Deed, FixForm}
+use Rattle.depot_rows.specs.depot_model.Fixes.{closes, fix_form, fix_name, is_on}
+use Rattle.depot_rows.specs.depot_model.Latest.{spec}
+use Rattle.depot_rows.specs.depot_model.Numbers.{landing}
+use Rattle.depot_rows.specs.depot_model.Step.{Step as ModelStep, after, all_of, both, does, nothing}
+use Rattle.depot_rows.specs.depot_model.Steps.Jobs.{closes_where, fix_job, fixed_row, unfix, unfix_job}
 use Rattle.depot_rows.specs.Effects.{Follow}
 use Rattle.depot_rows.specs.declared.deed.Deed.{Deed as Done}
 use Rattle.depot_rows.specs.declared.deed.Deed.TheVariants as dones

@@ -1,12 +1,12 @@
 -- Deeds behind others, and deeds that save forms.
 use Rattle.std.proofs.Common.{◌≡◌, ℕ, List, [], ◌∷◌, ◌++◌, Some, Option, None, refl, ap, ◌∙◌, append_assoc}
-use Rattle.depot_model.specs.Deeds as model
-use Rattle.depot_model.specs.Deeds.{Deed}
-use Rattle.depot_model.specs.Fixes.{closed, closes, job}
-use Rattle.spec_form.specs.Form.{FormValue}
+use Rattle.depot_rows.specs.depot_model.Deeds as model
+use Rattle.depot_rows.specs.depot_model.Deeds.{Deed}
+use Rattle.depot_rows.specs.depot_model.Fixes.{closed, closes, job}
+use Rattle.depot_rows.specs.spec_form.Form.{FormValue}
 use Rattle.depot_rows.specs.Deed.{IsDeed, deed_of}
 use Rattle.depot_rows.specs.Effects.{Follow, May}
-use Rattle.depot_model.specs.Records.{record_of}
+use Rattle.depot_rows.specs.depot_model.Records.{record_of}
 use Rattle.depot_rows.specs.declared.deed.Deed.{Deed as Done}
 use Rattle.depot_rows.specs.declared.deed.Deed.TheVariants.{Spec, Guard, Group, Count, Pend, Drop, Open, Shut, Hold, Free, Got, Tag, Owe, Paid, Land}
 use Rattle.sound_landing.specs.Following.{AreTold}

@@ -2,12 +2,12 @@
 use Rattle.std.specs.Prelude.{ℕ, Bool, true, ◌&&◌, List, codes, filter, Option}
 use Rattle.std.specs.List.{filter_map}
 use Rattle.std.specs.Option.{option_map_or}
-use Rattle.depot_path.specs.Bytes.{same}
-use Rattle.spec_form.specs.Form.{FormValue}
-use Rattle.depot_model.specs.Deeds.{Deed, FixForm}
-use Rattle.depot_model.specs.Fixes.{is_on}
-use Rattle.depot_model.specs.Latest.{spec}
-use Rattle.depot_model.specs.Values.{value_of}
+use Rattle.depot_rows.specs.depot_path.Bytes.{same}
+use Rattle.depot_rows.specs.spec_form.Form.{FormValue}
+use Rattle.depot_rows.specs.depot_model.Deeds.{Deed, FixForm}
+use Rattle.depot_rows.specs.depot_model.Fixes.{is_on}
+use Rattle.depot_rows.specs.depot_model.Latest.{spec}
+use Rattle.depot_rows.specs.depot_model.Values.{value_of}
 
 -- a fix that is on, of the change with these digits and of this job, as far as they are asked for
 abbrev pub is_asked : Option (List ℕ) → Option (List ℕ) → FormValue → Bool

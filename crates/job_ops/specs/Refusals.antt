@@ -1,16 +1,16 @@
 -- By what the forms of jobs and the fixes of a change are refused, in order (Command-Line Reference, "p4 job", "p4 fix").
 use Rattle.std.specs.Prelude.{ℕ, not, ◌&&◌, nat_le, nat_lt, is_none, List, [], ◌∷◌, ◌++◌, length, map, codes, Option}
-use Rattle.spec_form.specs.Form.{FormValue}
-use Rattle.spec_form.specs.Places.{field_place}
-use Rattle.spec_form.specs.Printing.{printed_form}
-use Rattle.depot_model.specs.declared.refusal.Refusal.{Refusal}
-use Rattle.depot_model.specs.declared.refusal.Refusal.TheVariants.{BadForm, NoSuchChange, NoSuchJob, OverLimit}
-use Rattle.depot_model.specs.declared.refusal.Limit.TheVariants.{Text, Jobs, Fixes}
-use Rattle.depot_model.specs.Deeds.{Deed}
-use Rattle.depot_model.specs.Fixes.{job, last_job}
-use Rattle.depot_model.specs.Step.{refuse_if}
-use Rattle.depot_model.specs.Steps.Jobs.{fixes_then, is_change, is_new, is_status, no_job}
-use Rattle.depot_model.specs.Values.{value_of}
+use Rattle.depot_rows.specs.spec_form.Form.{FormValue}
+use Rattle.depot_rows.specs.spec_form.Places.{field_place}
+use Rattle.depot_rows.specs.spec_form.Printing.{printed_form}
+use Rattle.depot_rows.specs.depot_model.declared.refusal.Refusal.{Refusal}
+use Rattle.depot_rows.specs.depot_model.declared.refusal.Refusal.TheVariants.{BadForm, NoSuchChange, NoSuchJob, OverLimit}
+use Rattle.depot_rows.specs.depot_model.declared.refusal.Limit.TheVariants.{Text, Jobs, Fixes}
+use Rattle.depot_rows.specs.depot_model.Deeds.{Deed}
+use Rattle.depot_rows.specs.depot_model.Fixes.{job, last_job}
+use Rattle.depot_rows.specs.depot_model.Step.{refuse_if}
+use Rattle.depot_rows.specs.depot_model.Steps.Jobs.{fixes_then, is_change, is_new, is_status, no_job}
+use Rattle.depot_rows.specs.depot_model.Values.{value_of}
 
 -- a form
 abbrev pub status_refusal : List ℕ → FormValue → Option Refusal

@@ -1,24 +1,24 @@
 //! Forms of jobs and fixes with another value, and jobs that are closed.
 
 ghost use Rattle.std.specs.Prelude.{◌≡◌, ◌++◌, ◌∷◌, [], List, IfOk, OnOk, decimal};
-ghost use Rattle.db_records.specs.declared.table.TableId.TheVariants as table_ids;
-ghost use Rattle.depot_model.specs.Deeds.{Deed};
-ghost use Rattle.depot_model.specs.Fixes as model;
-ghost use Rattle.depot_model.specs.Rules.{IsSound};
+ghost use Rattle.depot_rows.specs.db_records.declared.table.TableId.TheVariants as table_ids;
+ghost use Rattle.depot_rows.specs.depot_model.Deeds.{Deed};
+ghost use Rattle.depot_rows.specs.depot_model.Fixes as model;
+ghost use Rattle.depot_rows.specs.depot_model.Rules.{IsSound};
 ghost use Rattle.depot_rows.specs.Standing.{HasRows};
 ghost use Rattle.depot_rows.specs.declared.deed.Deed.TheVariants as dones;
-ghost use Rattle.spec_form.specs.Form.{with_field};
+ghost use Rattle.depot_rows.specs.spec_form.Form.{with_field};
 ghost use Rattle.job_ops.specs.Telling.{Tells};
-ghost use Rattle.table_changes.specs.Changed.{rows_of};
+ghost use Rattle.depot_rows.specs.table_changes.Changed.{rows_of};
 
 use deed_list::Deeds;
-use depot_path::Text;
 use depot_rows::SpecKind;
+use depot_rows::forms::Form;
+use depot_rows::paths::Text;
+use depot_rows::tables::Tables;
 use itoa::Buffer;
 use row_reads::saved_form;
-use spec_form::Form;
 use std::alloc::{AllocError, Global};
-use table_store::Tables;
 
 /// A number in decimal digits. The one error, here and below, is want of memory.
 pub(crate) fn digits(alloc: Global, number: u32) -> Result<Text, AllocError>

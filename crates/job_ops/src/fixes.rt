@@ -3,27 +3,27 @@
 ghost use Rattle.std.specs.List.{cons_option, filter_map};
 ghost use Rattle.std.specs.Option.{option_map_or};
 ghost use Rattle.std.specs.Prelude.{◌≡◌, ◌++◌, [], true, List, IfOk, OnOk, decimal, filter, map, option_map};
-ghost use Rattle.depot_path.specs.Bytes.{same};
-ghost use Rattle.db_records.specs.declared.table.TableId.TheVariants as table_ids;
-ghost use Rattle.depot_model.specs.Deeds.{Deed, FixForm};
-ghost use Rattle.depot_model.specs.Fixes as model;
-ghost use Rattle.depot_model.specs.Latest.{spec};
-ghost use Rattle.depot_model.specs.Rules.{IsSound};
-ghost use Rattle.depot_model.specs.Steps.Jobs as steps;
+ghost use Rattle.depot_rows.specs.depot_path.Bytes.{same};
+ghost use Rattle.depot_rows.specs.db_records.declared.table.TableId.TheVariants as table_ids;
+ghost use Rattle.depot_rows.specs.depot_model.Deeds.{Deed, FixForm};
+ghost use Rattle.depot_rows.specs.depot_model.Fixes as model;
+ghost use Rattle.depot_rows.specs.depot_model.Latest.{spec};
+ghost use Rattle.depot_rows.specs.depot_model.Rules.{IsSound};
+ghost use Rattle.depot_rows.specs.depot_model.Steps.Jobs as steps;
 ghost use Rattle.depot_rows.specs.Standing.{HasRows};
 ghost use Rattle.job_ops.specs.Fixes.{fixes_among, is_asked as is_asked_in};
 ghost use Rattle.reply_rows.specs.Made.{IsMade};
-ghost use Rattle.table_changes.specs.Changed.{rows_of};
+ghost use Rattle.depot_rows.specs.table_changes.Changed.{rows_of};
 
 use crate::closing::digits;
-use depot_model::Row;
-use depot_path::{Sequence, Text};
 use depot_rows::SpecKind;
+use depot_rows::forms::Form;
+use depot_rows::model::Row;
+use depot_rows::paths::{Sequence, Text};
+use depot_rows::tables::Tables;
 use reply_rows::{Step, push_values, row_of};
 use row_reads::{form_names, form_value, saved_form};
-use spec_form::Form;
 use std::alloc::{AllocError, Global};
-use table_store::Tables;
 
 /// Whether a fix is on.
 pub(crate) fn is_on(form: &Form) -> bool

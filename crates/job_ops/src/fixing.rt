@@ -1,14 +1,14 @@
 //! `fix -c` (Command-Line Reference, "p4 fix").
 
 ghost use Rattle.std.specs.Prelude.{◌≡◌, ◌∷◌, [], List, IfOk, OnOk, codes, is_some};
-ghost use Rattle.db_records.specs.declared.table.TableId.TheVariants as table_ids;
-ghost use Rattle.table_changes.specs.Changed.{rows_of};
-ghost use Rattle.depot_model.specs.Deeds.{Deed};
-ghost use Rattle.depot_model.specs.Fixes.{fix_form as form_of_fix};
-ghost use Rattle.depot_model.specs.Numbers.{landing};
-ghost use Rattle.depot_model.specs.Rules.{IsSound};
-ghost use Rattle.depot_model.specs.Step.{all_of};
-ghost use Rattle.depot_model.specs.Steps.Jobs as model;
+ghost use Rattle.depot_rows.specs.db_records.declared.table.TableId.TheVariants as table_ids;
+ghost use Rattle.depot_rows.specs.table_changes.Changed.{rows_of};
+ghost use Rattle.depot_rows.specs.depot_model.Deeds.{Deed};
+ghost use Rattle.depot_rows.specs.depot_model.Fixes.{fix_form as form_of_fix};
+ghost use Rattle.depot_rows.specs.depot_model.Numbers.{landing};
+ghost use Rattle.depot_rows.specs.depot_model.Rules.{IsSound};
+ghost use Rattle.depot_rows.specs.depot_model.Step.{all_of};
+ghost use Rattle.depot_rows.specs.depot_model.Steps.Jobs as model;
 ghost use Rattle.depot_rows.specs.Standing.{HasRows};
 ghost use Rattle.job_ops.specs.Telling.{Tells};
 ghost use Rattle.reply_rows.specs.Made.{IsMade};
@@ -16,13 +16,13 @@ ghost use Rattle.reply_rows.specs.Made.{IsMade};
 use crate::closing::{close, digits, fix_name, with};
 use crate::refusals::{distinct, fix_refusal, is_landed};
 use deed_list::Deeds;
-use depot_model::{Caller, Row};
-use depot_path::Text;
 use depot_rows::SpecKind;
+use depot_rows::forms::{Form, Shape};
+use depot_rows::model::{Caller, Row};
+use depot_rows::paths::Text;
+use depot_rows::tables::Tables;
 use reply_rows::{RowBuilder, Step};
-use spec_form::{Form, Shape};
 use std::alloc::{AllocError, Global};
-use table_store::Tables;
 
 /// A form of a fix that is on, which other values are put into.
 fn blank_form(alloc: Global) -> Result<Form, AllocError>

@@ -3,25 +3,25 @@
 ghost use Rattle.std.specs.List.{join_with_byte};
 ghost use Rattle.std.specs.Option.{option_copied, option_to_list};
 ghost use Rattle.std.specs.Prelude.{◌≡◌, ◌++◌, List, Some, IfOk, OnOk, filter_map, map, option_map};
-ghost use Rattle.db_records.specs.declared.table.TableId.TheVariants as table_ids;
-ghost use Rattle.depot_model.specs.Deeds.{Deed};
-ghost use Rattle.depot_model.specs.Fixes.{job};
-ghost use Rattle.depot_model.specs.Rules.{IsSound};
-ghost use Rattle.depot_model.specs.Steps.Jobs as model;
-ghost use Rattle.depot_model.specs.declared.request.Caller.{Caller as AnyCaller};
+ghost use Rattle.depot_rows.specs.db_records.declared.table.TableId.TheVariants as table_ids;
+ghost use Rattle.depot_rows.specs.depot_model.Deeds.{Deed};
+ghost use Rattle.depot_rows.specs.depot_model.Fixes.{job};
+ghost use Rattle.depot_rows.specs.depot_model.Rules.{IsSound};
+ghost use Rattle.depot_rows.specs.depot_model.Steps.Jobs as model;
+ghost use Rattle.depot_rows.specs.depot_model.declared.request.Caller.{Caller as AnyCaller};
 ghost use Rattle.depot_rows.specs.Standing.{HasRows};
 ghost use Rattle.job_ops.specs.Showing.{shown};
 ghost use Rattle.reply_rows.specs.Made.{IsMade};
-ghost use Rattle.table_changes.specs.Changed.{rows_of};
+ghost use Rattle.depot_rows.specs.table_changes.Changed.{rows_of};
 
-use depot_model::{Caller, Row};
-use depot_path::{Sequence, Text};
 use depot_rows::SpecKind;
+use depot_rows::forms::Form;
+use depot_rows::model::{Caller, Row};
+use depot_rows::paths::{Sequence, Text};
+use depot_rows::tables::Tables;
 use reply_rows::{RowBuilder, Step, form_fields, no_such_job_row, push_values, row_of, text_field};
 use row_reads::{form_names, saved_form};
-use spec_form::Form;
 use std::alloc::{AllocError, Global};
-use table_store::Tables;
 
 /// The row of a job that is to be saved.
 fn new_row(alloc: Global, caller: &Caller) -> Result<Row, AllocError>

@@ -1,15 +1,15 @@
 //! `job -i` (Command-Line Reference, "p4 job").
 
 ghost use Rattle.std.specs.Prelude.{◌≡◌, ◌&&◌, List, true, false, IfOk, ◌∷◌, [], codes, drop, fold, is_some, map, max, min, nat_le, option_map};
-ghost use Rattle.db_records.specs.declared.table.TableId.TheVariants as table_ids;
-ghost use Rattle.table_changes.specs.Changed.{AllRows, rows_of};
-ghost use Rattle.depot_model.specs.Deeds.{Deed};
-ghost use Rattle.depot_model.specs.Fixes as jobs;
-ghost use Rattle.depot_model.specs.Refusals.{refusal_row};
-ghost use Rattle.depot_model.specs.Rows.{row as row_with, text_field as field_of_text};
-ghost use Rattle.depot_model.specs.Rules.{IsSound};
-ghost use Rattle.depot_model.specs.Steps.Jobs as model;
-ghost use Rattle.depot_model.specs.Values.{value_of};
+ghost use Rattle.depot_rows.specs.db_records.declared.table.TableId.TheVariants as table_ids;
+ghost use Rattle.depot_rows.specs.table_changes.Changed.{AllRows, rows_of};
+ghost use Rattle.depot_rows.specs.depot_model.Deeds.{Deed};
+ghost use Rattle.depot_rows.specs.depot_model.Fixes as jobs;
+ghost use Rattle.depot_rows.specs.depot_model.Refusals.{refusal_row};
+ghost use Rattle.depot_rows.specs.depot_model.Rows.{row as row_with, text_field as field_of_text};
+ghost use Rattle.depot_rows.specs.depot_model.Rules.{IsSound};
+ghost use Rattle.depot_rows.specs.depot_model.Steps.Jobs as model;
+ghost use Rattle.depot_rows.specs.depot_model.Values.{value_of};
 ghost use Rattle.depot_rows.specs.Standing.{HasRows};
 ghost use Rattle.reply_rows.specs.Made.{IsMade};
 ghost use Rattle.reply_rows.specs.Refusing.{first_of};
@@ -17,15 +17,15 @@ ghost use Rattle.job_ops.specs.Refusals as refusals;
 
 use crate::closing::with;
 use command_parts::unread;
-use depot_model::{Limit, Row};
-use depot_path::{Text, value_up_to};
 use depot_rows::SpecKind;
+use depot_rows::forms::{Form, Shape, field_place};
+use depot_rows::model::{Limit, Row};
+use depot_rows::paths::{Text, value_up_to};
+use depot_rows::tables::Tables;
 use itoa::Buffer;
 use reply_rows::{RowBuilder, Step, bad_form_row, limit_row, no_such_job_row};
 use row_reads::{form_names, form_value, saved_form};
-use spec_form::{Form, Shape, field_place};
 use std::alloc::{AllocError, Global};
-use table_store::Tables;
 
 /// Whether a job's name asks for the next number.
 fn is_new(name: &[u8]) -> bool

@@ -1,13 +1,13 @@
 //! `fix -d -c` (Command-Line Reference, "p4 fix").
 
 ghost use Rattle.std.specs.Prelude.{◌≡◌, ◌∷◌, [], List, IfOk, codes};
-ghost use Rattle.db_records.specs.declared.table.TableId.TheVariants as table_ids;
-ghost use Rattle.table_changes.specs.Changed.{AllRows, rows_of};
-ghost use Rattle.depot_model.specs.Deeds.{Deed};
-ghost use Rattle.depot_model.specs.Fixes.{fix_name as name_of_fix};
-ghost use Rattle.depot_model.specs.Rules.{IsSound};
-ghost use Rattle.depot_model.specs.Step.{all_of};
-ghost use Rattle.depot_model.specs.Steps.Jobs as model;
+ghost use Rattle.depot_rows.specs.db_records.declared.table.TableId.TheVariants as table_ids;
+ghost use Rattle.depot_rows.specs.table_changes.Changed.{AllRows, rows_of};
+ghost use Rattle.depot_rows.specs.depot_model.Deeds.{Deed};
+ghost use Rattle.depot_rows.specs.depot_model.Fixes.{fix_name as name_of_fix};
+ghost use Rattle.depot_rows.specs.depot_model.Rules.{IsSound};
+ghost use Rattle.depot_rows.specs.depot_model.Step.{all_of};
+ghost use Rattle.depot_rows.specs.depot_model.Steps.Jobs as model;
 ghost use Rattle.depot_rows.specs.Standing.{HasRows};
 ghost use Rattle.reply_rows.specs.Made.{IsMade};
 
@@ -15,13 +15,13 @@ use crate::closing::{fix_name, with};
 use crate::fixes::is_on;
 use crate::fixing::fixed_row;
 use crate::refusals::{distinct, named_refusal};
-use depot_path::Text;
 use depot_rows::SpecKind;
+use depot_rows::forms::Form;
+use depot_rows::paths::Text;
+use depot_rows::tables::Tables;
 use reply_rows::Step;
 use row_reads::saved_form;
-use spec_form::Form;
 use std::alloc::{AllocError, Global};
-use table_store::Tables;
 
 /// The step that takes a fix off.
 fn unfix(

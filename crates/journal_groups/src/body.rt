@@ -6,7 +6,7 @@ ghost use Rattle.journal_groups.specs.Reading.{window_at};
 ghost use Rattle.journal_groups.specs.Reader.{HasReadOne, HasReadAll};
 
 use db_records::Change;
-use depot_path::Sequence;
+use db_records::paths::Sequence;
 use record_text::{Part, RecordFault, read_record};
 use std::alloc::Global;
 

@@ -11,7 +11,7 @@ use crate::body::Body;
 use crate::fault::GroupFault;
 use crate::mark::head_of;
 use db_records::Change;
-use depot_path::{Sequence, Text};
+use db_records::paths::{Sequence, Text};
 use itoa::Buffer;
 use record_text::{RecordFault, append_record};
 use std::alloc::{AllocError, Global};

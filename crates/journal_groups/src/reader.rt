@@ -13,7 +13,7 @@ use crate::fault::GroupFault;
 use crate::group::fault_at;
 use crate::mark::{head_of, mark_of};
 use db_records::Change;
-use depot_path::{Sequence, Text};
+use db_records::paths::{Sequence, Text};
 use record_text::RecordFault;
 use std::alloc::{AllocError, Global};
 use std::marker::Model;

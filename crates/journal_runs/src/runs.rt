@@ -9,7 +9,7 @@ ghost use Rattle.journal_runs.specs.Runs.{IsAfterFault, next_group, StandsAfter,
 
 use crate::landing::Landing;
 use db_records::Change;
-use depot_path::Sequence;
+use db_records::paths::Sequence;
 use disk_journal::{Journal, Prepared, Receipt};
 use outside_api::{Disk, DiskFault};
 use std::alloc::{AllocError, Global};

@@ -2,17 +2,17 @@
 use Rattle.std.proofs.Common.{◌≡◌, ℕ, zero, suc, Bool, true, false, List, [], ◌∷◌, Some, None, refl, sym, ap, subst, ◌∙◌}
 use Rattle.std.specs.Prelude.{◌==◌, if◌then◌else◌}
 use Rattle.std.specs.List.{list_all}
-use Rattle.depot_model.specs.declared.command.FileArgument.{FileArgument}
-use Rattle.depot_model.specs.declared.reply.Row.{Row}
-use Rattle.depot_model.specs.declared.request.Caller.{Caller}
-use Rattle.depot_model.specs.Arguments.{named, no_file, submitted}
-use Rattle.depot_model.specs.Asking.{to_open}
-use Rattle.depot_model.specs.Deeds.{Deed, Tag}
-use Rattle.depot_model.specs.Latest.{labelled}
-use Rattle.depot_model.specs.Records.{record_of}
-use Rattle.depot_model.specs.Step.{Step as ModelStep, does, nothing}
-use Rattle.depot_model.specs.Steps.Opening.{right_refusal}
-use Rattle.depot_model.specs.Steps.Tagging.{tag_file, tag_files, tag_to, tagged_rev}
+use Rattle.depot_rows.specs.depot_model.declared.command.FileArgument.{FileArgument}
+use Rattle.depot_rows.specs.depot_model.declared.reply.Row.{Row}
+use Rattle.depot_rows.specs.depot_model.declared.request.Caller.{Caller}
+use Rattle.depot_rows.specs.depot_model.Arguments.{named, no_file, submitted}
+use Rattle.depot_rows.specs.depot_model.Asking.{to_open}
+use Rattle.depot_rows.specs.depot_model.Deeds.{Deed, Tag}
+use Rattle.depot_rows.specs.depot_model.Latest.{labelled}
+use Rattle.depot_rows.specs.depot_model.Records.{record_of}
+use Rattle.depot_rows.specs.depot_model.Step.{Step as ModelStep, does, nothing}
+use Rattle.depot_rows.specs.depot_model.Steps.Opening.{right_refusal}
+use Rattle.depot_rows.specs.depot_model.Steps.Tagging.{tag_file, tag_files, tag_to, tagged_rev}
 use Rattle.depot_rows.specs.Deed.{IsDeed}
 use Rattle.depot_rows.specs.Effects.{Follow, May}
 use Rattle.depot_rows.specs.declared.deed.Deed.{Deed as Done}

@@ -1,20 +1,20 @@
 -- The form of a label alone, and the steps that make a label and tag files.
 use Rattle.std.proofs.Common.{◌≡◌, ◌⊎◌, ℕ, Bool, true, false, List, [], ◌∷◌, ◌++◌, Result, Ok, Err, inl, inr, refl, sym, ap, subst, ◌∙◌, append-nil}
 use Rattle.std.specs.Prelude.{codes, if◌then◌else◌}
-use Rattle.depot_path.specs.Answers.{Answers}
-use Rattle.depot_path.specs.Name.{is_name}
-use Rattle.spec_form.specs.Form.{FormValue}
-use Rattle.spec_form.specs.Printing.{printed_form}
-use Rattle.spec_form.specs.Reading.{form_of, no_memory}
-use Rattle.spec_form.specs.Shapes.{fields_of}
-use Rattle.spec_form.specs.declared.fault.FormFault.{FormFault}
-use Rattle.spec_form.specs.declared.shape.Shape.TheVariants.{Label}
-use Rattle.table_changes.specs.Changed.{AllRows}
-use Rattle.depot_model.specs.Asking.{is_label}
-use Rattle.depot_model.specs.Deeds.{Deed, Spec, LabelForm}
-use Rattle.depot_model.specs.Step.{Step as ModelStep, after, both}
-use Rattle.depot_model.specs.Steps.Tagging.{made_label}
-use Rattle.depot_model.specs.Values.{valued}
+use Rattle.depot_rows.specs.depot_path.Answers.{Answers}
+use Rattle.depot_rows.specs.depot_path.Name.{is_name}
+use Rattle.depot_rows.specs.spec_form.Form.{FormValue}
+use Rattle.depot_rows.specs.spec_form.Printing.{printed_form}
+use Rattle.depot_rows.specs.spec_form.Reading.{form_of, no_memory}
+use Rattle.depot_rows.specs.spec_form.Shapes.{fields_of}
+use Rattle.depot_rows.specs.spec_form.declared.fault.FormFault.{FormFault}
+use Rattle.depot_rows.specs.spec_form.declared.shape.Shape.TheVariants.{Label}
+use Rattle.depot_rows.specs.table_changes.Changed.{AllRows}
+use Rattle.depot_rows.specs.depot_model.Asking.{is_label}
+use Rattle.depot_rows.specs.depot_model.Deeds.{Deed, Spec, LabelForm}
+use Rattle.depot_rows.specs.depot_model.Step.{Step as ModelStep, after, both}
+use Rattle.depot_rows.specs.depot_model.Steps.Tagging.{made_label}
+use Rattle.depot_rows.specs.depot_model.Values.{valued}
 use Rattle.reply_rows.specs.Made.{IsMade, told}
 use Rattle.reply_rows.specs.declared.step.Step.{Step}
 use Rattle.reply_rows.proofs.Bare.{made_of, tells_made}

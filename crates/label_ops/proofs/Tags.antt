@@ -2,20 +2,20 @@
 use Rattle.std.proofs.Common.{◌≡◌, ℕ, zero, suc, Bool, true, false, List, [], ◌∷◌, refl, sym, ap, subst, ◌∙◌, arith}
 use Rattle.std.specs.Prelude.{◌==◌, ◌&&◌, codes, if◌then◌else◌}
 use Rattle.std.proofs.lemmas.Bool.Decides.{nat_tests}
-use Rattle.depot_path.specs.Path.{is_path}
-use Rattle.depot_path.specs.declared.revision.Wanted.{Wanted}
-use Rattle.depot_path.specs.declared.revision.Wanted.TheVariants.{Head, One, Range}
-use Rattle.depot_model.specs.declared.command.FileArgument.{FileArgument}
-use Rattle.depot_model.specs.declared.command.Labelling.{Labelling}
-use Rattle.depot_model.specs.declared.command.Labelling.TheVariants.{Exact, Adding, Removing}
-use Rattle.depot_model.specs.declared.request.Caller.{Caller}
-use Rattle.depot_model.specs.Arguments.{named, no_file, over, over_all, submitted, within_files}
-use Rattle.depot_model.specs.Choice.{Choice, PassedOver, At, chosen}
-use Rattle.depot_model.specs.Deeds.{Deed, Tag}
-use Rattle.depot_model.specs.Latest.{have}
-use Rattle.depot_model.specs.Revisions.{is_live_at}
-use Rattle.depot_model.specs.Step.{Step as ModelStep, does, nothing}
-use Rattle.depot_model.specs.Steps.Tagging.{live_choice, synced_rev, tag_file, tag_files, tag_row, tag_to}
+use Rattle.depot_rows.specs.depot_path.Path.{is_path}
+use Rattle.depot_rows.specs.depot_path.declared.revision.Wanted.{Wanted}
+use Rattle.depot_rows.specs.depot_path.declared.revision.Wanted.TheVariants.{Head, One, Range}
+use Rattle.depot_rows.specs.depot_model.declared.command.FileArgument.{FileArgument}
+use Rattle.depot_rows.specs.depot_model.declared.command.Labelling.{Labelling}
+use Rattle.depot_rows.specs.depot_model.declared.command.Labelling.TheVariants.{Exact, Adding, Removing}
+use Rattle.depot_rows.specs.depot_model.declared.request.Caller.{Caller}
+use Rattle.depot_rows.specs.depot_model.Arguments.{named, no_file, over, over_all, submitted, within_files}
+use Rattle.depot_rows.specs.depot_model.Choice.{Choice, PassedOver, At, chosen}
+use Rattle.depot_rows.specs.depot_model.Deeds.{Deed, Tag}
+use Rattle.depot_rows.specs.depot_model.Latest.{have}
+use Rattle.depot_rows.specs.depot_model.Revisions.{is_live_at}
+use Rattle.depot_rows.specs.depot_model.Step.{Step as ModelStep, does, nothing}
+use Rattle.depot_rows.specs.depot_model.Steps.Tagging.{live_choice, synced_rev, tag_file, tag_files, tag_row, tag_to}
 use Rattle.depot_rows.proofs.Keys.{number-is, number-self}
 use Rattle.depot_rows.specs.Effects.{Follow}
 use Rattle.depot_rows.specs.declared.deed.Deed.TheVariants as dones

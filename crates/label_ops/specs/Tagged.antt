@@ -1,23 +1,23 @@
 -- The revision of a file that a label is to have, as `tag` and `labelsync` choose it, and the step of a file whose revision in a label becomes
 -- another one (Command-Line Reference, "p4 tag", "p4 labelsync").
 use Rattle.std.specs.Prelude.{ℕ, Bool, true, false, ◌==◌, List, [], ◌∷◌, codes, if◌then◌else◌}
-use Rattle.depot_path.specs.declared.revision.Wanted.{Wanted}
-use Rattle.depot_path.specs.declared.revision.Wanted.TheVariants.{Head, One, Range}
-use Rattle.spec_form.specs.declared.shape.Shape.TheVariants.{Label}
-use Rattle.depot_model.specs.declared.command.FileArgument.{FileArgument}
-use Rattle.depot_model.specs.declared.command.Labelling.{Labelling}
-use Rattle.depot_model.specs.declared.command.Labelling.TheVariants.{Exact, Adding, Removing}
-use Rattle.depot_model.specs.declared.request.Caller.{Caller}
-use Rattle.depot_model.specs.Arguments.{named, no_file, over_all, submitted, within_files}
-use Rattle.depot_model.specs.Choice.{Choice, PassedOver, At}
-use Rattle.depot_model.specs.Deeds.{Deed, Tag}
-use Rattle.depot_model.specs.Revisions.{is_live_at}
-use Rattle.depot_model.specs.Step.{Step, both, does}
-use Rattle.depot_model.specs.Values.{valued}
+use Rattle.depot_rows.specs.depot_path.declared.revision.Wanted.{Wanted}
+use Rattle.depot_rows.specs.depot_path.declared.revision.Wanted.TheVariants.{Head, One, Range}
+use Rattle.depot_rows.specs.spec_form.declared.shape.Shape.TheVariants.{Label}
+use Rattle.depot_rows.specs.depot_model.declared.command.FileArgument.{FileArgument}
+use Rattle.depot_rows.specs.depot_model.declared.command.Labelling.{Labelling}
+use Rattle.depot_rows.specs.depot_model.declared.command.Labelling.TheVariants.{Exact, Adding, Removing}
+use Rattle.depot_rows.specs.depot_model.declared.request.Caller.{Caller}
+use Rattle.depot_rows.specs.depot_model.Arguments.{named, no_file, over_all, submitted, within_files}
+use Rattle.depot_rows.specs.depot_model.Choice.{Choice, PassedOver, At}
+use Rattle.depot_rows.specs.depot_model.Deeds.{Deed, Tag}
+use Rattle.depot_rows.specs.depot_model.Revisions.{is_live_at}
+use Rattle.depot_rows.specs.depot_model.Step.{Step, both, does}
+use Rattle.depot_rows.specs.depot_model.Values.{valued}
 use Rattle.depot_rows.specs.declared.deed.Deed.TheVariants as dones
 use Rattle.depot_rows.specs.declared.deed.SpecKind.TheVariants as kinds
 use Rattle.reply_rows.specs.declared.step.Step.{Step as MadeStep}
-use Rattle.depot_model.specs.Steps.Tagging.{live_choice, made_label, or_have, or_labelled, tag_file, tag_files, tag_row}
+use Rattle.depot_rows.specs.depot_model.Steps.Tagging.{live_choice, made_label, or_have, or_labelled, tag_file, tag_files, tag_row}
 
 -- what an argument asks for, where the have revision stands for none
 abbrev pub asked : Bool → Wanted → Wanted

@@ -1,11 +1,11 @@
 //! `labelsync` (Command-Line Reference, "p4 labelsync").
 
 ghost use Rattle.std.specs.Prelude.{List, IfOk};
-ghost use Rattle.db_records.specs.declared.table.TableId.TheVariants as table_ids;
-ghost use Rattle.table_changes.specs.Changed.{rows_of};
-ghost use Rattle.depot_model.specs.Deeds.{Deed};
-ghost use Rattle.depot_model.specs.Rules.{IsSound};
-ghost use Rattle.depot_model.specs.Steps.Tagging as model;
+ghost use Rattle.depot_rows.specs.db_records.declared.table.TableId.TheVariants as table_ids;
+ghost use Rattle.depot_rows.specs.table_changes.Changed.{rows_of};
+ghost use Rattle.depot_rows.specs.depot_model.Deeds.{Deed};
+ghost use Rattle.depot_rows.specs.depot_model.Rules.{IsSound};
+ghost use Rattle.depot_rows.specs.depot_model.Steps.Tagging as model;
 ghost use Rattle.depot_rows.specs.Standing.{HasRows};
 ghost use Rattle.named_files.specs.declared.listing.Listing.TheVariants.{Submitted};
 ghost use Rattle.named_files.specs.Sets.{ShownReads};
@@ -13,14 +13,14 @@ ghost use Rattle.reply_rows.specs.Made.{IsMade};
 ghost use Rattle.label_ops.specs.Tagged.{synced};
 
 use crate::taking::Taking;
-use depot_model::{Caller, FileArgument, Labelling};
-use depot_path::Name;
+use depot_rows::model::{Caller, FileArgument, Labelling};
+use depot_rows::paths::Name;
+use depot_rows::tables::Tables;
 use file_steps::{over_all, within_files};
 use named_files::{Asker, Listing, ShownFiles};
 use reply_rows::{Step, label_locked_row, no_such_label_row};
 use row_reads::{is_label, is_locked_label};
 use std::alloc::{AllocError, Global};
-use table_store::Tables;
 
 /// What `labelsync` does with files, where the label isn't refused.
 fn sync_files(

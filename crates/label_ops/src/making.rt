@@ -1,23 +1,23 @@
 //! Labels that a command makes.
 
 ghost use Rattle.std.specs.Prelude.{◌≡◌, ◌∷◌, ◌++◌, [], List, IfOk, codes};
-ghost use Rattle.db_records.specs.declared.table.TableId.TheVariants as table_ids;
-ghost use Rattle.table_changes.specs.Changed.{rows_of};
-ghost use Rattle.spec_form.specs.declared.shape.Shape.TheVariants as shapes;
-ghost use Rattle.depot_model.specs.Deeds.{Deed};
-ghost use Rattle.depot_model.specs.Steps.Tagging.{made_label};
-ghost use Rattle.depot_model.specs.Values.{valued};
+ghost use Rattle.depot_rows.specs.db_records.declared.table.TableId.TheVariants as table_ids;
+ghost use Rattle.depot_rows.specs.table_changes.Changed.{rows_of};
+ghost use Rattle.depot_rows.specs.spec_form.declared.shape.Shape.TheVariants as shapes;
+ghost use Rattle.depot_rows.specs.depot_model.Deeds.{Deed};
+ghost use Rattle.depot_rows.specs.depot_model.Steps.Tagging.{made_label};
+ghost use Rattle.depot_rows.specs.depot_model.Values.{valued};
 ghost use Rattle.depot_rows.specs.Standing.{HasRows};
 ghost use Rattle.reply_rows.specs.Made.{IsMade};
 ghost use Rattle.label_ops.specs.Tagged.{saved_label};
 
-use depot_path::{Name, Text};
 use depot_rows::SpecKind;
+use depot_rows::forms::{Form, Shape};
+use depot_rows::paths::{Name, Text};
+use depot_rows::tables::Tables;
 use reply_rows::Step;
 use row_reads::is_label;
-use spec_form::{Form, Shape};
 use std::alloc::{AllocError, Global};
-use table_store::Tables;
 
 /// The text of the form of a label without further fields.
 fn label_text(alloc: Global, label: &[u8]) -> Result<Text, AllocError>

@@ -1,12 +1,12 @@
 //! What `tag` and `labelsync` do with a file.
 
 ghost use Rattle.std.specs.Prelude.{◌≡◌, ◌==◌, ◌&&◌, List, IfOk, if◌then◌else◌};
-ghost use Rattle.db_records.specs.declared.table.TableId.TheVariants as table_ids;
-ghost use Rattle.table_changes.specs.Changed.{AllRows, rows_of};
-ghost use Rattle.depot_model.specs.Choice.{chosen};
-ghost use Rattle.depot_model.specs.Deeds.{Deed};
-ghost use Rattle.depot_model.specs.Latest.{labelled};
-ghost use Rattle.depot_model.specs.Steps.Tagging as model;
+ghost use Rattle.depot_rows.specs.db_records.declared.table.TableId.TheVariants as table_ids;
+ghost use Rattle.depot_rows.specs.table_changes.Changed.{AllRows, rows_of};
+ghost use Rattle.depot_rows.specs.depot_model.Choice.{chosen};
+ghost use Rattle.depot_rows.specs.depot_model.Deeds.{Deed};
+ghost use Rattle.depot_rows.specs.depot_model.Latest.{labelled};
+ghost use Rattle.depot_rows.specs.depot_model.Steps.Tagging as model;
 ghost use Rattle.depot_rows.specs.Standing.{HasRows};
 ghost use Rattle.named_files.specs.declared.listing.Listing.TheVariants.{Submitted};
 ghost use Rattle.named_files.specs.Sets.{ShownReads};
@@ -14,16 +14,16 @@ ghost use Rattle.reply_rows.specs.Made.{IsMade};
 ghost use Rattle.revision_reads.specs.Choice.{choice_of};
 ghost use Rattle.label_ops.specs.Tagged.{asked, is_head, labelling_of as labelling_by, live_at_choice, rev_by, tag_step, told_rev as rev_told, word_of as word_between};
 
-use depot_model::{Caller, FileArgument, Labelling, Row};
-use depot_path::{DepotPath, Name, Wanted};
+use depot_rows::model::{Caller, FileArgument, Labelling, Row};
+use depot_rows::paths::{DepotPath, Name, Wanted};
+use depot_rows::protections::Level;
+use depot_rows::tables::Tables;
 use file_steps::FileAct;
 use named_files::Asker;
-use protect_table::Level;
 use reply_rows::{RowBuilder, Step, denied_row};
 use revision_reads::{Chosen, chosen_of, is_live_at};
 use row_reads::{have_of, label_of};
 use std::alloc::{AllocError, Global};
-use table_store::Tables;
 
 /// What is done with a file that a label takes or loses.
 #[derive(Drop)]

@@ -2,7 +2,7 @@
 
 ghost use Rattle.std.specs.Prelude.{◌≡◌, IfOk, Ok};
 
-use depot_path::{DepotPath, Name, Text};
+use depot_model::paths::{DepotPath, Name, Text};
 use std::alloc::{AllocError, Global};
 use std::test::Fail;
 

@@ -1,6 +1,6 @@
 //! Journals read by a reader of groups, at once and byte by byte.
 
-use depot_path::Text;
+use depot_model::paths::Text;
 use journal_groups::{GroupFault, GroupReader};
 use std::alloc::Global;
 use std::test::Fail;

@@ -1,6 +1,6 @@
 //! A link that loses what it brings.
 
-use depot_path::Text;
+use depot_model::paths::Text;
 use memory_world::{Loss, LossyLink, MemoryLink};
 use outside_api::{Failed, Fetched, Link};
 use std::test::Fail;

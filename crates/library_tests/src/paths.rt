@@ -1,7 +1,7 @@
 //! Paths, patterns and revisions with ample memory.
 
 use crate::fixtures::{given, name, path, texts};
-use depot_path::{FileSpec, Pattern, RevSpec, Sequence, Wanted};
+use depot_model::paths::{FileSpec, Pattern, RevSpec, Sequence, Wanted};
 use std::alloc::Global;
 use std::cmp::Ordering;
 use std::collections::HashMap;

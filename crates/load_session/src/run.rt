@@ -8,8 +8,8 @@ ghost use Rattle.load_script.specs.Script.{script_of};
 ghost use Rattle.load_session.specs.Loading.{IsAskedBy, IsLoaded, IsReadLoad, load_session as session_of};
 
 use crate::streams::{NoReplies, ScriptBytes};
+use depot_model::paths::{Sequence, Text};
 use depot_model::{Place, Session};
-use depot_path::{Sequence, Text};
 use load_script::load_script;
 use outside_api::{Clock, Gate};
 use session_loop::{ReadSession, SessionRun, Taker, read_session, run_session};

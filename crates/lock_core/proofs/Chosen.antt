@@ -3,7 +3,7 @@ use Rattle.std.proofs.Common.{◌≡◌, ◌<◌, ◌^◌, ℕ, Bool, List, [], 
 use Rattle.std.specs.Prelude.{◌%◌, ◌||◌, filter, slice_get}
 use Rattle.std.specs.List.{range_with_len}
 use Rattle.std.proofs.Math.Path.{fun_ext}
-use Rattle.depot_model.specs.Deeds.{Deed}
+use Rattle.depot_rows.specs.depot_model.Deeds.{Deed}
 use Rattle.lock_machine.specs.Draws.{chosen}
 use Rattle.lock_machine.specs.Machine.{State}
 use Rattle.lock_core.specs.Core.{Shows, may_wait, wait_at}

@@ -4,9 +4,9 @@ use Rattle.std.specs.Prelude.{slice_get, ◌&&◌, ◌||◌}
 use Rattle.std.specs.List.{list_any}
 use Rattle.std.proofs.lemmas.Bool.{lt-ltb}
 use Rattle.std.proofs.lemmas.List.{reverse-append, map-append}
-use Rattle.depot_model.specs.Deeds.{Deed}
-use Rattle.depot_model.specs.Tables as model_need
-use Rattle.depot_model.specs.declared.request.Request.{Request}
+use Rattle.depot_rows.specs.depot_model.Deeds.{Deed}
+use Rattle.depot_rows.specs.depot_model.Tables as model_need
+use Rattle.depot_rows.specs.depot_model.declared.request.Request.{Request}
 use Rattle.lock_core.specs.Core.{wait_in, wait_at, may_wait, is_waiting, is_working, AreShown, Shows}
 use Rattle.lock_machine.specs.Machine.{journal, Seen, Commit, State, owns_seen, has_judged, owns_at, owns_by, owns, next_lock, may_work, may_go, may_party, is_enabled, is_unfinished}
 use Rattle.lock_machine.specs.Machine as model

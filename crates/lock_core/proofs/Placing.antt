@@ -4,8 +4,8 @@ use Rattle.std.specs.Prelude.{slice_get, suc, ◌&&◌, ◌||◌, option_map}
 use Rattle.std.specs.List.{list_any}
 use Rattle.std.proofs.lemmas.List.{drop-append-le}
 use Rattle.std.proofs.lemmas.List.Folds.{list_any-append}
-use Rattle.depot_model.specs.Tables as sets
-use Rattle.depot_model.specs.Tables.{needs_of, is_in}
+use Rattle.depot_rows.specs.depot_model.Tables as sets
+use Rattle.depot_rows.specs.depot_model.Tables.{needs_of, is_in}
 use Rattle.lock_machine.specs.Machine.{Seen, Commit, is_owned, is_touched, is_stale}
 use Rattle.lock_machine.specs.Machine as model
 use Rattle.lock_machine.specs.Orderly.{AllLast, IsAtHand, AtHand}

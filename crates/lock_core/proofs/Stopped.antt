@@ -1,9 +1,9 @@
 -- A party that takes no further command is one of the machine's that gave up those that it hasn't begun.
 use Rattle.std.proofs.Common.{◌≡◌, ℕ, List, [], Option, Some, None, set, refl, sym, ap, subst}
 use Rattle.std.specs.Prelude.{slice_get}
-use Rattle.depot_model.specs.Deeds.{Deed}
+use Rattle.depot_rows.specs.depot_model.Deeds.{Deed}
 use Rattle.depot_rows.specs.Standing.{Stand}
-use Rattle.table_changes.specs.Changed.{rows_of}
+use Rattle.depot_rows.specs.table_changes.Changed.{rows_of}
 use Rattle.lock_machine.specs.Machine.{State, stops, stopped}
 use Rattle.lock_machine.specs.Machine as model
 use Rattle.lock_machine.specs.Runs.{IsRun, depot_after}

@@ -2,13 +2,13 @@
 use Rattle.std.proofs.Common.{◌≡◌, ◌<◌, ℕ, true, false, cond, List, [], ◌∷◌, ◌++◌, length, map, set, Option, Some, None, OnErr, Result, Ok, Err, Vec, Global, refl, sym, ap, subst, ◌∙◌, append-nil}
 use Rattle.std.specs.Prelude.{IfOk, slice_get}
 use Rattle.std.proofs.lemmas.Option.{slice_get_within}
-use Rattle.table_changes.specs.Changed.{AllRows, rows_of}
-use Rattle.depot_model.specs.Deeds.{Deed}
-use Rattle.depot_model.specs.Tables.{needs_of}
-use Rattle.depot_model.specs.WellFormed.{asks_rightly, is_command}
-use Rattle.depot_model.specs.declared.command.Command.{Command}
-use Rattle.depot_model.specs.declared.request.Request.{Request}
-use Rattle.depot_model.specs.declared.request.WordFault.{WordFault}
+use Rattle.depot_rows.specs.table_changes.Changed.{AllRows, rows_of}
+use Rattle.depot_rows.specs.depot_model.Deeds.{Deed}
+use Rattle.depot_rows.specs.depot_model.Tables.{needs_of}
+use Rattle.depot_rows.specs.depot_model.WellFormed.{asks_rightly, is_command}
+use Rattle.depot_rows.specs.depot_model.declared.command.Command.{Command}
+use Rattle.depot_rows.specs.depot_model.declared.request.Request.{Request}
+use Rattle.depot_rows.specs.depot_model.declared.request.WordFault.{WordFault}
 use Rattle.depot_rows.specs.Standing.{Stand}
 use Rattle.command_core.specs.Outcomes.{HasNeeded, IsFormed, IsFormedBy, IsOutcome}
 use Rattle.command_core.specs.declared.outcome.Outcome.{Outcome}

@@ -4,8 +4,8 @@ use Rattle.std.proofs.lemmas.List.{reverse-append}
 use Rattle.std.specs.Option.{option_to_list}
 use Rattle.std.specs.Prelude.{IsSome}
 use Rattle.std.proofs.Common.{◌⊎◌, inl, inr, ◌+◌, ◌<◌, zero, suc, length, ◌↔◌, arith}
-use Rattle.depot_model.specs.Tables.{needs_of}
-use Rattle.depot_model.specs.declared.request.Request.{Request}
+use Rattle.depot_rows.specs.depot_model.Tables.{needs_of}
+use Rattle.depot_rows.specs.depot_model.declared.request.Request.{Request}
 use Rattle.lock_machine.specs.Machine.{Commit, begun, moved, worked}
 use Rattle.lock_machine.specs.Machine as model
 use Rattle.lock_core.specs.Core.{AllProper, AllProperIn, all_items}

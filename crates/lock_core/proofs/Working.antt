@@ -6,8 +6,8 @@ use Rattle.std.proofs.lemmas.Bool.{lt-ltb, ltb-true}
 use Rattle.std.proofs.lemmas.List.{drop_all, map-append}
 use Rattle.std.proofs.lemmas.List.Folds.{list_any-append}
 use Rattle.std.proofs.lemmas.Option.{slice_get_cases}
-use Rattle.depot_model.specs.Tables as sets
-use Rattle.depot_model.specs.Tables.{needs_of}
+use Rattle.depot_rows.specs.depot_model.Tables as sets
+use Rattle.depot_rows.specs.depot_model.Tables.{needs_of}
 use Rattle.lock_machine.specs.Machine.{Seen, Commit, is_owned, is_touched, is_stale}
 use Rattle.lock_machine.specs.Machine as model
 use Rattle.lock_machine.specs.declared.stage.Stage.TheVariants.{Gathering, Judged}

@@ -1,9 +1,9 @@
 -- What the end of a commit leaves. This project's own choice.
 use Rattle.std.specs.Prelude.{◌≡◌, ℕ, List, map, Option, Some, None, option_map}
-use Rattle.table_changes.specs.Changed.{changed_by, rows_of}
-use Rattle.depot_model.specs.Deeds.{Deed}
-use Rattle.depot_model.specs.Tables.{needs_of}
-use Rattle.depot_model.specs.declared.request.Request.{Request}
+use Rattle.depot_rows.specs.table_changes.Changed.{changed_by, rows_of}
+use Rattle.depot_rows.specs.depot_model.Deeds.{Deed}
+use Rattle.depot_rows.specs.depot_model.Tables.{needs_of}
+use Rattle.depot_rows.specs.depot_model.declared.request.Request.{Request}
 use Rattle.command_core.specs.declared.outcome.Outcome.{Outcome}
 use Rattle.lock_machine.specs.Machine.{State, event}
 use Rattle.lock_machine.specs.Machine as model

@@ -1,10 +1,10 @@
 -- How a party of the code stands for one of the machine. This project's own choice.
 use Rattle.std.specs.Prelude.{◌≡◌, Bool, true, false, ℕ, IsTrue, List, [], ◌∷◌, map, reverse, Option, Some, None}
-use Rattle.table_changes.specs.Changed.{AllRows}
-use Rattle.depot_model.specs.Deeds.{Deed}
-use Rattle.depot_model.specs.Rules.{IsSound}
-use Rattle.depot_model.specs.Tables.{needs_of}
-use Rattle.depot_model.specs.declared.request.Request.{Request}
+use Rattle.depot_rows.specs.table_changes.Changed.{AllRows}
+use Rattle.depot_rows.specs.depot_model.Deeds.{Deed}
+use Rattle.depot_rows.specs.depot_model.Rules.{IsSound}
+use Rattle.depot_rows.specs.depot_model.Tables.{needs_of}
+use Rattle.depot_rows.specs.depot_model.declared.request.Request.{Request}
 use Rattle.sound_requests.specs.Asked.{is_typed}
 use Rattle.command_core.specs.Outcomes.{HasNeeded, IsFormedBy, IsOutcome}
 use Rattle.command_core.specs.declared.outcome.Outcome.{Outcome}

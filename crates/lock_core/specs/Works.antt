@@ -1,11 +1,11 @@
 -- How a command at hand in the code stands for one of the machine, and what becomes of it. This project's own choice.
 use Rattle.std.specs.Prelude.{◌≡◌, ℕ, ◌+◌, ◌==◌, nat_lt, Bool, true, false, not, ◌&&◌, ◌||◌, List, [], ◌∷◌, length, map, take, drop, if◌then◌else◌, Option, Some, None}
 use Rattle.std.specs.List.{list_any}
-use Rattle.db_records.specs.Record.{table_of}
-use Rattle.db_records.specs.Table.{table_number}
-use Rattle.db_records.specs.declared.change.Change.{Change}
-use Rattle.table_changes.specs.Changed.{AllRows, changed_by, rows_of}
-use Rattle.depot_model.specs.Tables.{is_in, needs_of}
+use Rattle.depot_rows.specs.db_records.Record.{table_of}
+use Rattle.depot_rows.specs.db_records.Table.{table_number}
+use Rattle.depot_rows.specs.db_records.declared.change.Change.{Change}
+use Rattle.depot_rows.specs.table_changes.Changed.{AllRows, changed_by, rows_of}
+use Rattle.depot_rows.specs.depot_model.Tables.{is_in, needs_of}
 use Rattle.lock_machine.specs.Machine.{journal, Seen, Commit, has_judged, is_stale}
 use Rattle.lock_machine.specs.Machine as model
 use Rattle.lock_machine.specs.declared.stage.Stage.{Stage}

@@ -1,17 +1,17 @@
 //! The turns of a party.
 
 ghost use Rattle.std.specs.Prelude.{◌≡◌, List, None, true, IfOk, OnErr};
-ghost use Rattle.table_changes.specs.Changed.{rows_of};
-ghost use Rattle.depot_model.specs.Tables.{needs_of};
+ghost use Rattle.depot_rows.specs.table_changes.Changed.{rows_of};
+ghost use Rattle.depot_rows.specs.depot_model.Tables.{needs_of};
 ghost use Rattle.lock_machine.specs.Machine.{Commit, Party as ModelParty, moved};
 ghost use Rattle.lock_core.specs.Parties.{IsShown, IsTurnOf, holds, is_judged, waits};
 
 use crate::party::{Party, Wait};
 use crate::turn::Turn;
+use depot_rows::tables::Tables;
 use lock_machine::Stage;
 use std::alloc::{AllocError, Global};
 use std::mem::replace;
-use table_store::Tables;
 
 impl Party {
     /// Whether it owns a lock.

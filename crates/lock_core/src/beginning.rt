@@ -1,8 +1,8 @@
 //! The parties before their first turns.
 
 ghost use Rattle.std.specs.Prelude.{◌≡◌, IfOk, IsTrue, List, vec_len};
-ghost use Rattle.table_changes.specs.Changed.{rows_of};
-ghost use Rattle.depot_model.specs.Deeds.{Deed};
+ghost use Rattle.depot_rows.specs.table_changes.Changed.{rows_of};
+ghost use Rattle.depot_rows.specs.depot_model.Deeds.{Deed};
 ghost use Rattle.depot_rows.specs.Standing.{Stand};
 ghost use Rattle.sound_requests.specs.Asked.{is_typed};
 ghost use Rattle.lock_machine.specs.Machine.{Commit};
@@ -14,11 +14,11 @@ use crate::machine::LockCore;
 use crate::party::Party;
 use crate::work::Work;
 use command_needs::request_needs;
-use depot_model::Request;
+use depot_rows::model::Request;
+use depot_rows::tables::Tables;
 use lock_machine::Stage;
 use sound_requests::requests_are_typed;
 use std::alloc::{AllocError, Global};
-use table_store::Tables;
 
 /// A command that isn't begun.
 fn fresh_work(alloc: Global, request: Request) -> Result<Work, AllocError>

@@ -1,7 +1,7 @@
 //! Whose turn a number draws.
 
 ghost use Rattle.std.specs.Prelude.{◌≡◌, ◌<◌, ◌^◌, ◌||◌, List, length, slice_get};
-ghost use Rattle.depot_model.specs.Deeds.{Deed};
+ghost use Rattle.depot_rows.specs.depot_model.Deeds.{Deed};
 ghost use Rattle.lock_machine.specs.Draws.{chosen};
 ghost use Rattle.lock_machine.specs.Machine.{State};
 ghost use Rattle.lock_core.specs.Core.{Shows, may_wait, wait_at};

@@ -1,7 +1,7 @@
 //! All parties of a run.
 
 use crate::party::Party;
-use table_store::Tables;
+use depot_rows::tables::Tables;
 
 /// The parties of a run, counted from 0, and the tables of its depot after the places so far.
 #[derive(Drop)]

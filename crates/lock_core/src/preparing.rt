@@ -1,10 +1,10 @@
 //! What a command is answered, and the room for its commit.
 
 ghost use Rattle.std.specs.Prelude.{◌≡◌, ℕ, List, Some, IfOk, IsSomeAnd, OnOk, OnErr};
-ghost use Rattle.table_changes.specs.Changed.{AllFitIn, rows_of};
-ghost use Rattle.depot_model.specs.Deeds.{Deed};
-ghost use Rattle.depot_model.specs.Rules.{IsSound};
-ghost use Rattle.depot_model.specs.Tables.{is_in};
+ghost use Rattle.depot_rows.specs.table_changes.Changed.{AllFitIn, rows_of};
+ghost use Rattle.depot_rows.specs.depot_model.Deeds.{Deed};
+ghost use Rattle.depot_rows.specs.depot_model.Rules.{IsSound};
+ghost use Rattle.depot_rows.specs.depot_model.Tables.{is_in};
 ghost use Rattle.command_core.specs.Outcomes.{HasNeeded, IsFormedBy, IsOutcome};
 ghost use Rattle.lock_core.specs.Works.{IsRoomOf, is_changed};
 ghost use Rattle.lock_core.specs.declared.work.Room.{Room as AnyRoom};
@@ -12,10 +12,10 @@ ghost use Rattle.lock_core.specs.declared.work.Room.{Room as AnyRoom};
 use crate::work::{Room, Work};
 use command_core::{Outcome, evaluate};
 use command_needs::is_among;
-use db_records::Change;
+use depot_rows::changes::change_tables;
+use depot_rows::records::Change;
+use depot_rows::tables::Tables;
 use std::alloc::{AllocError, Global};
-use table_changes::change_tables;
-use table_store::Tables;
 
 /// The numbers of the tables of which some row changes.
 fn changed_tables(alloc: Global, changes: &[Change]) -> Result<Vec<u32>, AllocError>

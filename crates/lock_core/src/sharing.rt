@@ -3,18 +3,18 @@
 ghost use Rattle.std.specs.Prelude.{◌≡◌, IfOk, List, slice_get};
 ghost use Rattle.std.specs.Option.{option_copied};
 ghost use Rattle.command_core.specs.declared.outcome.Outcome.{Outcome as AnyOutcome};
-ghost use Rattle.depot_model.specs.Deeds.{Deed};
-ghost use Rattle.depot_model.specs.declared.request.Request.{Request as ModelRequest};
+ghost use Rattle.depot_rows.specs.depot_model.Deeds.{Deed};
+ghost use Rattle.depot_rows.specs.depot_model.declared.request.Request.{Request as ModelRequest};
 ghost use Rattle.lock_core.specs.Core.{IsReady};
 ghost use Rattle.lock_core.specs.Finished.{room_at};
 ghost use Rattle.lock_machine.specs.Machine.{State};
-ghost use Rattle.table_changes.specs.Changed.{changed_by, rows_of};
+ghost use Rattle.depot_rows.specs.table_changes.Changed.{changed_by, rows_of};
 
 use crate::machine::LockCore;
 use crate::work::Room;
+use depot_rows::changes::change_tables;
+use depot_rows::tables::Tables;
 use std::alloc::{AllocError, Global};
-use table_changes::change_tables;
-use table_store::Tables;
 
 /// The same tables, shared. The one error is want of memory.
 pub fn share_tables(alloc: Global, tables: &Tables) -> Result<Tables, AllocError>

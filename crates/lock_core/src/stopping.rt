@@ -2,13 +2,13 @@
 
 ghost use Rattle.std.specs.Prelude.{◌≡◌, List, Some, slice_get};
 ghost use Rattle.std.specs.Option.{option_copied};
-ghost use Rattle.depot_model.specs.Deeds.{Deed};
-ghost use Rattle.depot_model.specs.declared.request.Request.{Request as ModelRequest};
+ghost use Rattle.depot_rows.specs.depot_model.Deeds.{Deed};
+ghost use Rattle.depot_rows.specs.depot_model.declared.request.Request.{Request as ModelRequest};
 ghost use Rattle.lock_machine.specs.Machine.{State, stopped};
 ghost use Rattle.lock_core.specs.Core.{IsCommit, Shows, request_in};
 
 use crate::machine::LockCore;
-use depot_model::Request;
+use depot_rows::model::Request;
 
 impl LockCore {
     /// The request of the command that a party has at hand, where there is one.

@@ -2,8 +2,8 @@
 
 ghost use Rattle.std.specs.Prelude.{◌≡◌, not, IfOk, OnErr, List};
 ghost use Rattle.std.specs.List.{list_any};
-ghost use Rattle.depot_model.specs.Deeds.{Deed};
-ghost use Rattle.depot_model.specs.declared.request.Request.{Request as ModelRequest};
+ghost use Rattle.depot_rows.specs.depot_model.Deeds.{Deed};
+ghost use Rattle.depot_rows.specs.depot_model.declared.request.Request.{Request as ModelRequest};
 ghost use Rattle.lock_machine.specs.Machine.{State, is_enabled, is_unfinished};
 ghost use Rattle.lock_core.specs.Core.{IsAsBefore, IsCommit, IsTurn, Shows, is_working, may_wait, wait_at};
 ghost use Rattle.lock_core.specs.Parties.{holds};
@@ -11,8 +11,8 @@ ghost use Rattle.lock_core.specs.Parties.{holds};
 use crate::machine::LockCore;
 use crate::party::{Party, Wait};
 use crate::turn::Turn;
+use depot_rows::tables::Tables;
 use std::alloc::{AllocError, Global};
-use table_store::Tables;
 
 /// Whether one of these parties owns a lock.
 fn any_owns(parties: &[Party], lock: u32) -> bool

@@ -1,9 +1,9 @@
 //! The command that a party has at hand.
 
 use command_needs::Need;
-use depot_model::Request;
+use depot_rows::model::Request;
+use depot_rows::tables::Tables;
 use lock_machine::Stage;
-use table_store::Tables;
 
 /// What a commit puts in.
 #[derive(Drop)]

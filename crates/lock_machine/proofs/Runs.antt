@@ -3,9 +3,9 @@ use Rattle.std.proofs.Common.{◌≡◌, ℕ, zero, suc, Bool, true, false, cond
 use Rattle.std.specs.Prelude.{slice_get}
 use Rattle.std.specs.List.{list_any}
 use Rattle.std.proofs.lemmas.List.{map-append}
-use Rattle.db_records.specs.Key.{key_table}
-use Rattle.db_records.specs.Table.{table_number}
-use Rattle.db_records.specs.declared.key.Key.{Key}
+use Rattle.depot_model.specs.db_records.Key.{key_table}
+use Rattle.depot_model.specs.db_records.Table.{table_number}
+use Rattle.depot_model.specs.db_records.declared.key.Key.{Key}
 use Rattle.depot_runs.specs.Today.{step}
 use Rattle.depot_model.specs.Deeds.{Deed}
 use Rattle.depot_model.specs.Places.{Placed, done_at, taken}

@@ -1,8 +1,8 @@
 -- The depot behind the places of the machine's order, and what a party sees of it. This project's own choice.
 use Rattle.std.specs.Prelude.{◌≡◌, ◌≢◌, ℕ, true, false, List, [], ◌∷◌, map, take, slice_get, Option, Some, None}
-use Rattle.db_records.specs.Key.{key_table}
-use Rattle.db_records.specs.Table.{table_number}
-use Rattle.db_records.specs.declared.key.Key.{Key}
+use Rattle.depot_model.specs.db_records.Key.{key_table}
+use Rattle.depot_model.specs.db_records.Table.{table_number}
+use Rattle.depot_model.specs.db_records.declared.key.Key.{Key}
 use Rattle.depot_runs.specs.Today.{step}
 use Rattle.depot_model.specs.Deeds.{Deed}
 use Rattle.depot_model.specs.Places.{done_at, taken}

@@ -1,13 +1,13 @@
 -- Seats of lanes that announce a place, and the tables that it changes.
 use Rattle.std.proofs.Common.{◌≡◌, ◌≤◌, ◌||◌, ℕ, ◌+◌, Bool, true, false, List, [], ◌∷◌, ◌++◌, length, sym, ap, ◌∙◌, subst, arith}
 use mathlib.Core.List.{IsPrefix}
-use Rattle.db_records.specs.Table.{table_number}
-use Rattle.db_records.specs.declared.table.TableId.{TableId}
+use Rattle.depot_model.specs.db_records.Table.{table_number}
+use Rattle.depot_model.specs.db_records.declared.table.TableId.{TableId}
 use Rattle.order_words.specs.Lanes.{has_lane, is_among, last_touch}
 use Rattle.order_words.specs.Seats.{Run, LaneState}
 use Rattle.order_words.proofs.Touches.{last_touch_touched}
 use Rattle.table_changes.specs.Changed.{AllRows, changed_by}
-use Rattle.table_store.specs.Rows.{TableRows}
+use Rattle.table_changes.specs.table_store.Rows.{TableRows}
 use Rattle.locked_tables.specs.Known.{at_rest}
 use Rattle.locked_tables.specs.Taken.{TouchesItsTables, lanes_of, rows_after}
 use Rattle.locked_tables.specs.Held.{OnlyChange}

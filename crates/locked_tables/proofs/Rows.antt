@@ -2,14 +2,14 @@
 use Rattle.std.proofs.Common.{◌≡◌, ◌≤◌, ◌==◌, ℕ, zero, suc, Bool, true, false, List, [], ◌∷◌, ◌++◌, length, if◌then◌else◌, refl, sym, ap, ◌∙◌, subst, arith}
 use mathlib.Core.List.{IsPrefix}
 use Rattle.std.specs.List.{AllByRecursion}
-use Rattle.db_records.specs.Table.{table_number}
-use Rattle.db_records.specs.Record.{table_of}
-use Rattle.db_records.specs.declared.change.Change.{Change}
-use Rattle.db_records.specs.declared.record.Record.{Record}
-use Rattle.db_records.specs.declared.table.TableId.{TableId}
+use Rattle.depot_model.specs.db_records.Table.{table_number}
+use Rattle.depot_model.specs.db_records.Record.{table_of}
+use Rattle.depot_model.specs.db_records.declared.change.Change.{Change}
+use Rattle.depot_model.specs.db_records.declared.record.Record.{Record}
+use Rattle.depot_model.specs.db_records.declared.table.TableId.{TableId}
 use Rattle.order_words.specs.Lanes.{has_lane, last_touch, last_with_first}
 use Rattle.order_words.proofs.Touches.{last_touch_within}
-use Rattle.table_store.specs.Rows.{changed_once}
+use Rattle.table_changes.specs.table_store.Rows.{changed_once}
 use Rattle.table_changes.specs.Changed.{AllRows, changed_in, changed_by}
 use Rattle.locked_tables.specs.Taken.{TouchesItsTables, changes_of, lanes_of, rows_after, rows_behind}
 use Rattle.locked_tables.specs.declared.taken.Taken.{Taken}

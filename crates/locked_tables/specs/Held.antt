@@ -2,12 +2,12 @@
 use Rattle.std.specs.Prelude.{◌≡◌, ℕ, zero, suc, true, false, List, [], ◌∷◌, Option, Some, None, IfSome}
 use Rattle.std.specs.List.{AllByRecursion}
 use Rattle.std.specs.Sync.Mutex.{mutex_guard_value}
-use Rattle.db_records.specs.Table.{table_number}
-use Rattle.db_records.specs.declared.change.Change.{Change}
-use Rattle.db_records.specs.declared.table.TableId.{TableId}
+use Rattle.depot_model.specs.db_records.Table.{table_number}
+use Rattle.depot_model.specs.db_records.declared.change.Change.{Change}
+use Rattle.depot_model.specs.db_records.declared.table.TableId.{TableId}
 use Rattle.order_words.specs.Lanes.{has_lane, is_among}
 use Rattle.table_changes.specs.Changed.{AllRows, changed_by}
-use Rattle.table_store.specs.Rows.{TableRows}
+use Rattle.table_changes.specs.table_store.Rows.{TableRows}
 use Rattle.locked_tables.specs.Known.{IsStill, TableKnown}
 use Rattle.locked_tables.specs.Taken.{rows_after}
 use Rattle.locked_tables.specs.declared.held_table.HeldTable.{HeldTable}

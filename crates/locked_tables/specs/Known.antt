@@ -1,6 +1,6 @@
 -- What is known behind each lock. This project's own choice.
 use Rattle.std.specs.Prelude.{◌≡◌, ◌<◌, ℕ, ◌-◌, true, List, [], ◌∷◌, ◌++◌}
-use Rattle.db_records.specs.declared.table.TableId.{TableId}
+use Rattle.depot_model.specs.db_records.declared.table.TableId.{TableId}
 use Rattle.order_words.specs.Lanes.{last_touch}
 use Rattle.order_words.specs.Seats.{Run, LaneState, fresh_lane}
 use Rattle.table_changes.specs.Changed.{AllRows}

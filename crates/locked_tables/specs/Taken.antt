@@ -1,8 +1,8 @@
 -- The entries of the order, and the rows that they leave in the tables. This project's own choice.
 use Rattle.std.specs.Prelude.{◌≡◌, ℕ, ◌+◌, ◌++◌, false, List, [], ◌∷◌, if◌then◌else◌}
-use Rattle.db_records.specs.Table.{table_number}
-use Rattle.db_records.specs.declared.change.Change.{Change}
-use Rattle.db_records.specs.declared.table.TableId.{TableId}
+use Rattle.depot_model.specs.db_records.Table.{table_number}
+use Rattle.depot_model.specs.db_records.declared.change.Change.{Change}
+use Rattle.depot_model.specs.db_records.declared.table.TableId.{TableId}
 use Rattle.depot_model.specs.declared.order.Place.{Place}
 use Rattle.order_words.specs.Lanes.{has_lane}
 use Rattle.table_changes.specs.Changed.{AllRows, changed_by}

@@ -3,7 +3,7 @@
 use crate::locked_table::LockedTable;
 use crate::naming::Naming;
 use std::sync::MutexGuard;
-use table_store::Version;
+use table_changes::tables::Version;
 
 /// A table whose lock is taken. A command that changes the table prepares the next version before
 /// it is given its place.

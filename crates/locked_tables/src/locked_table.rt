@@ -1,6 +1,6 @@
 //! What lies behind the lock of a table.
 ghost use Rattle.std.specs.Prelude.{◌≡◌, [], IfOk};
-ghost use Rattle.db_records.specs.Table.{table_number};
+ghost use Rattle.depot_model.specs.db_records.Table.{table_number};
 ghost use Rattle.order_words.specs.Seats.{fresh_lane};
 ghost use Rattle.locked_tables.specs.Taken.{rows_after};
 
@@ -8,11 +8,11 @@ use crate::naming::Naming;
 use crate::peek::Peek;
 use crate::taken::Taken;
 use crate::words::OrderWords;
-use db_records::TableId;
+use depot_model::records::TableId;
 use order_words::LaneSeat;
 use std::alloc::AllocError;
 use std::marker::{Model, PhantomData};
-use table_store::Version;
+use table_changes::tables::Version;
 
 /// A version of a table, with the seat of the table's lane. Contracts see which table it is, and a
 /// beginning of the order: the version is the table after these places, which are all that touch
@@ -26,7 +26,7 @@ pub struct LockedTable<N: Naming> {
 
 impl<N: Naming> Model for LockedTable<N> {
     ghost use Rattle.std.specs.Prelude.{◌≡◌};
-    ghost use Rattle.db_records.specs.Table.{table_number};
+    ghost use Rattle.depot_model.specs.db_records.Table.{table_number};
     ghost use Rattle.locked_tables.specs.Known.{TableKnown, at_rest};
     ghost use Rattle.locked_tables.specs.Taken.{rows_after};
 

@@ -1,15 +1,15 @@
 //! A table that was seen under its lock, which was given back at once.
 ghost use Rattle.std.specs.Prelude.{◌≡◌};
-ghost use Rattle.db_records.specs.Table.{table_number};
+ghost use Rattle.depot_model.specs.db_records.Table.{table_number};
 ghost use Rattle.order_words.specs.Lanes.{last_touch};
 ghost use Rattle.locked_tables.specs.Taken.{lanes_of, rows_after};
 
 use crate::naming::Naming;
 use crate::taken::Taken;
-use db_records::TableId;
+use depot_model::records::TableId;
 use order_words::Note;
 use std::marker::{Model, PhantomData};
-use table_store::Version;
+use table_changes::tables::Version;
 
 /// What the holder of the lock showed: the version, the word of the table's lane, and a note of
 /// the order up to there. Contracts see which table it is, and the beginning of the order for
@@ -24,7 +24,7 @@ pub struct Peek<N: Naming> {
 
 impl<N: Naming> Model for Peek<N> {
     ghost use Rattle.std.specs.Prelude.{◌≡◌};
-    ghost use Rattle.db_records.specs.Table.{table_number};
+    ghost use Rattle.depot_model.specs.db_records.Table.{table_number};
     ghost use Rattle.order_words.specs.Lanes.{last_touch};
     ghost use Rattle.locked_tables.specs.Known.{TableKnown};
     ghost use Rattle.locked_tables.specs.Taken.{lanes_of, rows_after};

@@ -1,7 +1,7 @@
 //! What lies behind the lock of the order.
 ghost use Rattle.std.specs.Prelude.{◌≡◌, ◌<◌, ℕ, [], ◌∷◌, map, OnOk, IsTrue};
 ghost use mathlib.Core.List.{IsPrefix};
-ghost use Rattle.db_records.specs.declared.table.TableId.{TableId};
+ghost use Rattle.depot_model.specs.db_records.declared.table.TableId.{TableId};
 ghost use Rattle.table_changes.specs.Changed.{changed_by};
 ghost use Rattle.order_words.specs.Lanes.{has_lane, is_among};
 ghost use Rattle.locked_tables.specs.Held.{AllHaveLearnt, AllNext, AllStill, OnlyChange, lanes_next};

@@ -1,7 +1,7 @@
 //! The locks of all tables.
 ghost use Rattle.std.specs.Prelude.{◌≡◌, None, IfOk};
 ghost use Rattle.std.specs.List.{AllByRecursion};
-ghost use Rattle.db_records.specs.declared.table.TableId.{TableId as AnyTable};
+ghost use Rattle.depot_model.specs.db_records.declared.table.TableId.{TableId as AnyTable};
 ghost use Rattle.table_changes.specs.Changed.{rows_of};
 ghost use Rattle.locked_tables.specs.Held.{table_held};
 ghost use Rattle.locked_tables.specs.Known.{IsSeatOfTable};
@@ -12,11 +12,11 @@ use crate::naming::Naming;
 use crate::peek::Peek;
 use crate::taken::Taken;
 use crate::words::OrderWords;
-use db_records::TableId;
+use depot_model::records::TableId;
 use order_words::LaneSeat;
 use std::alloc::{AllocError, Global};
 use std::sync::{Mutex, Wait};
-use table_store::Tables;
+use table_changes::tables::Tables;
 
 /// The lock of each table, in the order of the tables' numbers. Who takes several takes them in
 /// that order.

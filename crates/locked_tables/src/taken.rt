@@ -1,8 +1,8 @@
 //! An entry of the order.
 
-use db_records::{Change, Spot};
+use depot_model::paths::Sequence;
+use depot_model::records::{Change, Spot};
 use depot_model::{Place, Request};
-use depot_path::Sequence;
 use order_words::Entry;
 
 /// A command that was given its place, with what it did.

@@ -12,7 +12,7 @@ use Rattle.std.proofs.lemmas.Bool.{true≢false, false≢true}
 use Rattle.std.proofs.lemmas.Bool.Decides.{Decides-eqb}
 use Rattle.std.proofs.lemmas.Cmp.{nat_list_cmp_total}
 use Rattle.std.proofs.lemmas.List.Sorted.{ranks_by, sorted_far}
-use Rattle.depot_path.specs.Bytes.{begins_with}
+use Rattle.depot_rows.specs.depot_path.Bytes.{begins_with}
 use Rattle.named_files.specs.Beginnings.{AreApart, AreBehind, begins_with_one}
 use Rattle.named_files.proofs.Walking.{number_is, starts, text_cmp, text_is}
 

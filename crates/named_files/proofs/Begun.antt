@@ -2,14 +2,14 @@
 use Rattle.std.proofs.Common.{◌≡◌, ℕ, Bool, true, false, List, Option, Some, None}
 use Rattle.std.specs.Prelude.{if◌then◌else◌}
 use Rattle.std.proofs.lemmas.Bool.{false≢true}
-use Rattle.depot_path.proofs.Rows.{begins_literal}
-use Rattle.depot_path.specs.Bytes.{begins_with}
-use Rattle.depot_path.specs.Fit.{fits}
-use Rattle.depot_path.specs.Path.{printed}
-use Rattle.depot_path.specs.Pattern.{literal}
-use Rattle.depot_path.specs.declared.piece.Piece.{Piece}
-use Rattle.view_map.specs.Mapping.{path_in}
-use Rattle.depot_model.specs.Arguments.{fits_at, in_client_syntax}
+use Rattle.depot_rows.proofs.depot_path.Rows.{begins_literal}
+use Rattle.depot_rows.specs.depot_path.Bytes.{begins_with}
+use Rattle.depot_rows.specs.depot_path.Fit.{fits}
+use Rattle.depot_rows.specs.depot_path.Path.{printed}
+use Rattle.depot_rows.specs.depot_path.Pattern.{literal}
+use Rattle.depot_rows.specs.depot_path.declared.piece.Piece.{Piece}
+use Rattle.depot_rows.specs.view_map.Mapping.{path_in}
+use Rattle.depot_rows.specs.depot_model.Arguments.{fits_at, in_client_syntax}
 use Rattle.named_files.specs.Asked.{begins_at, is_begun, is_placed}
 use Rattle.named_files.specs.declared.asker.Asker.{Asker}
 

@@ -8,16 +8,16 @@ use Rattle.std.specs.declared.cmp.Ordering.{Ordering}
 use Rattle.std.specs.declared.cmp.Ordering.TheVariants.{Less, Equal, Greater}
 use Rattle.std.proofs.lemmas.Bool.{true≢false, false≢true}
 use Rattle.std.proofs.lemmas.List.Elements.{All-nil, All-cons, All-append, All-weaker}
-use Rattle.depot_path.specs.Bytes.{same, begins_with}
-use Rattle.db_records.specs.declared.key.Key.{Key}
-use Rattle.db_records.specs.declared.key.Key.TheVariants as keys
-use Rattle.db_records.specs.declared.record.Record.{Record}
-use Rattle.db_records.specs.declared.record.Record.TheVariants as records
-use Rattle.db_records.specs.declared.rows.RevRecord.{RevRecord}
-use Rattle.db_records.specs.Key.{key_cmp}
-use Rattle.db_records.specs.Record.{key_of}
-use Rattle.table_store.specs.Rows.{is_at, row_at, AllAbove, IsRising}
-use Rattle.table_store.proofs.Order.{AllAbove-lower, greater_trans, row_at-gap, turned_greater, turned_less}
+use Rattle.depot_rows.specs.depot_path.Bytes.{same, begins_with}
+use Rattle.depot_rows.specs.db_records.declared.key.Key.{Key}
+use Rattle.depot_rows.specs.db_records.declared.key.Key.TheVariants as keys
+use Rattle.depot_rows.specs.db_records.declared.record.Record.{Record}
+use Rattle.depot_rows.specs.db_records.declared.record.Record.TheVariants as records
+use Rattle.depot_rows.specs.db_records.declared.rows.RevRecord.{RevRecord}
+use Rattle.depot_rows.specs.db_records.Key.{key_cmp}
+use Rattle.depot_rows.specs.db_records.Record.{key_of}
+use Rattle.depot_rows.specs.table_store.Rows.{is_at, row_at, AllAbove, IsRising}
+use Rattle.depot_rows.proofs.table_store.Order.{AllAbove-lower, greater_trans, row_at-gap, turned_greater, turned_less}
 use Rattle.depot_rows.proofs.Keys.{at-is, at-self, same-self}
 use Rattle.named_files.specs.HeadRows.{IsHead, are_of_one_file, ended, heads_after, heads_in_front, heads_in_turn}
 use Rattle.named_files.specs.Listed.{is_in_front}

@@ -2,16 +2,16 @@
 use Rattle.std.proofs.Common.{◌≡◌, ℕ, Bool, true, false, List, [], ◌∷◌, refl, sym, ap, ◌∙◌}
 use Rattle.std.specs.Prelude.{filter, is_some}
 use Rattle.std.specs.List.{list_all}
-use Rattle.depot_path.specs.declared.file_spec.FileSpec.{FileSpec}
-use Rattle.depot_path.specs.declared.revision.Wanted.{Wanted}
-use Rattle.depot_path.specs.declared.revision.Wanted.TheVariants.{Head, One, Range}
-use Rattle.depot_model.specs.declared.command.FileArgument.{FileArgument}
-use Rattle.depot_model.specs.declared.request.Caller.{Caller}
-use Rattle.depot_model.specs.Arguments.{everything, named, names, over, over_all, submitted}
-use Rattle.depot_model.specs.Deeds.{Deed}
-use Rattle.depot_model.specs.Step.{Step as ModelStep}
-use Rattle.depot_model.specs.Steps.Listing.{chosen_revision, listed}
-use Rattle.depot_model.specs.WellFormed.{asks_head}
+use Rattle.depot_rows.specs.depot_path.declared.file_spec.FileSpec.{FileSpec}
+use Rattle.depot_rows.specs.depot_path.declared.revision.Wanted.{Wanted}
+use Rattle.depot_rows.specs.depot_path.declared.revision.Wanted.TheVariants.{Head, One, Range}
+use Rattle.depot_rows.specs.depot_model.declared.command.FileArgument.{FileArgument}
+use Rattle.depot_rows.specs.depot_model.declared.request.Caller.{Caller}
+use Rattle.depot_rows.specs.depot_model.Arguments.{everything, named, names, over, over_all, submitted}
+use Rattle.depot_rows.specs.depot_model.Deeds.{Deed}
+use Rattle.depot_rows.specs.depot_model.Step.{Step as ModelStep}
+use Rattle.depot_rows.specs.depot_model.Steps.Listing.{chosen_revision, listed}
+use Rattle.depot_rows.specs.depot_model.WellFormed.{asks_head}
 use Rattle.depot_rows.proofs.Keys.{left-true, right-true}
 use Rattle.file_steps.proofs.Alike.{AllAlike, over_alike}
 use Rattle.named_files.specs.Sets.{at_head, is_listed}

@@ -2,11 +2,11 @@
 use Rattle.std.proofs.Common.{◌≡◌, ℕ, Bool, true, false, List, [], ◌∷◌, ◌++◌, refl, sym, ap, subst, ◌∙◌}
 use Rattle.std.specs.Prelude.{◌||◌, filter, if◌then◌else◌}
 use Rattle.std.specs.declared.cmp.Ordering.TheVariants.{Less}
-use Rattle.depot_path.specs.Order.{path_cmp}
-use Rattle.depot_path.specs.Path.{printed}
-use Rattle.db_records.specs.declared.record.Record.{Record}
-use Rattle.db_records.specs.declared.table.TableId.{TableId}
-use Rattle.table_store.specs.Rows.{AllOfTable, IsRising, TableRows}
+use Rattle.depot_rows.specs.depot_path.Order.{path_cmp}
+use Rattle.depot_rows.specs.depot_path.Path.{printed}
+use Rattle.depot_rows.specs.db_records.declared.record.Record.{Record}
+use Rattle.depot_rows.specs.db_records.declared.table.TableId.{TableId}
+use Rattle.depot_rows.specs.table_store.Rows.{AllOfTable, IsRising, TableRows}
 use Rattle.named_files.specs.Beginnings.{AreApart, AreBehind, has_one, in_turn}
 use Rattle.named_files.specs.Listed.{has_beginning, listed, listing_table}
 use Rattle.named_files.specs.declared.listing.Listing.{Listing}

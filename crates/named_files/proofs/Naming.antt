@@ -3,18 +3,18 @@ use Rattle.std.proofs.Common.{◌≡◌, ℕ, Bool, true, false, List, Option, S
 use Rattle.std.specs.Prelude.{◌&&◌, if◌then◌else◌}
 use Rattle.std.specs.List.{list_any}
 use Rattle.std.proofs.lemmas.Bool.{false≢true}
-use Rattle.depot_path.specs.Fit.{fits}
-use Rattle.depot_path.specs.declared.file_spec.FileSpec.{FileSpec}
-use Rattle.view_map.specs.Mapping.{path_in, at_path, after_deciding, mapped}
-use Rattle.view_map.specs.declared.line.ViewLine.{ViewLine}
-use Rattle.view_map.specs.declared.mapped.Mapped.{Mapped}
-use Rattle.view_map.specs.declared.mapped.Mapped.TheVariants.{Nothing, At as MappedAt}
-use Rattle.protect_table.specs.Rights.{may}
-use Rattle.depot_model.specs.declared.request.Caller.{Caller}
-use Rattle.depot_model.specs.Arguments.{fits_at, in_client_syntax, names}
-use Rattle.depot_model.specs.Asking.{may_list, view}
-use Rattle.depot_model.specs.Choice.{chosen, is_live_choice, shown}
-use Rattle.depot_model.specs.Deeds.{Deed}
+use Rattle.depot_rows.specs.depot_path.Fit.{fits}
+use Rattle.depot_rows.specs.depot_path.declared.file_spec.FileSpec.{FileSpec}
+use Rattle.depot_rows.specs.view_map.Mapping.{path_in, at_path, after_deciding, mapped}
+use Rattle.depot_rows.specs.view_map.declared.line.ViewLine.{ViewLine}
+use Rattle.depot_rows.specs.view_map.declared.mapped.Mapped.{Mapped}
+use Rattle.depot_rows.specs.view_map.declared.mapped.Mapped.TheVariants.{Nothing, At as MappedAt}
+use Rattle.depot_rows.specs.protect_table.Rights.{may}
+use Rattle.depot_rows.specs.depot_model.declared.request.Caller.{Caller}
+use Rattle.depot_rows.specs.depot_model.Arguments.{fits_at, in_client_syntax, names}
+use Rattle.depot_rows.specs.depot_model.Asking.{may_list, view}
+use Rattle.depot_rows.specs.depot_model.Choice.{chosen, is_live_choice, shown}
+use Rattle.depot_rows.specs.depot_model.Deeds.{Deed}
 use Rattle.depot_rows.proofs.Keys.{right-true}
 use Rattle.revision_reads.specs.Shown.{shown_in}
 use Rattle.named_files.specs.Asked.{IsAsker, is_named, is_placed, is_shown}

@@ -12,28 +12,28 @@ use Rattle.std.proofs.lemmas.Bool.Decides.{nat_tests}
 use Rattle.std.proofs.lemmas.Cmp.{nat_list_cmp_total}
 use Rattle.std.proofs.lemmas.List.Folds.{list_any-append}
 use Rattle.std.proofs.lemmas.Map.Text.{is_eq-slice_cmp}
-use Rattle.depot_path.specs.Bytes.{begins_with, same}
-use Rattle.depot_path.specs.Order.{path_cmp}
-use Rattle.depot_path.specs.Path.{printed, is_path}
-use Rattle.depot_path.proofs.Paths.{prints_path}
-use Rattle.db_records.specs.Key.{key_table}
-use Rattle.db_records.specs.declared.key.Key.{Key}
-use Rattle.db_records.specs.declared.key.Key.TheVariants as keys
-use Rattle.db_records.specs.declared.record.Record.{Record}
-use Rattle.db_records.specs.declared.record.Record.TheVariants as records
-use Rattle.db_records.specs.declared.rows.WorkingRecord.{WorkingRecord}
-use Rattle.db_records.specs.declared.table.TableId.{TableId}
-use Rattle.db_records.specs.declared.table.TableId.TheVariants as tables
-use Rattle.table_store.specs.Rows.{AllAbove, AllOfTable, IsRising, TableRows}
+use Rattle.depot_rows.specs.depot_path.Bytes.{begins_with, same}
+use Rattle.depot_rows.specs.depot_path.Order.{path_cmp}
+use Rattle.depot_rows.specs.depot_path.Path.{printed, is_path}
+use Rattle.depot_rows.proofs.depot_path.Paths.{prints_path}
+use Rattle.depot_rows.specs.db_records.Key.{key_table}
+use Rattle.depot_rows.specs.db_records.declared.key.Key.{Key}
+use Rattle.depot_rows.specs.db_records.declared.key.Key.TheVariants as keys
+use Rattle.depot_rows.specs.db_records.declared.record.Record.{Record}
+use Rattle.depot_rows.specs.db_records.declared.record.Record.TheVariants as records
+use Rattle.depot_rows.specs.db_records.declared.rows.WorkingRecord.{WorkingRecord}
+use Rattle.depot_rows.specs.db_records.declared.table.TableId.{TableId}
+use Rattle.depot_rows.specs.db_records.declared.table.TableId.TheVariants as tables
+use Rattle.depot_rows.specs.table_store.Rows.{AllAbove, AllOfTable, IsRising, TableRows}
 use Rattle.row_ranges.specs.Ranges.{has_row}
 use Rattle.row_ranges.specs.declared.range.KeyRange.TheVariants.{OpenedFiles}
-use Rattle.depot_model.specs.Arguments.{open_paths, paths_of}
-use Rattle.depot_model.specs.Deeds.{Deed, Opening}
-use Rattle.depot_model.specs.Opened.{opened}
-use Rattle.depot_model.specs.Records.{record_of, working_record}
-use Rattle.depot_model.specs.Rules.{IsSound}
-use Rattle.depot_model.specs.Steps.Opening.{openers, opener_of}
-use Rattle.depot_model.specs.Latest.{keys_of}
+use Rattle.depot_rows.specs.depot_model.Arguments.{open_paths, paths_of}
+use Rattle.depot_rows.specs.depot_model.Deeds.{Deed, Opening}
+use Rattle.depot_rows.specs.depot_model.Opened.{opened}
+use Rattle.depot_rows.specs.depot_model.Records.{record_of, working_record}
+use Rattle.depot_rows.specs.depot_model.Rules.{IsSound}
+use Rattle.depot_rows.specs.depot_model.Steps.Opening.{openers, opener_of}
+use Rattle.depot_rows.specs.depot_model.Latest.{keys_of}
 use Rattle.depot_rows.proofs.Keys.{same-is, same-self}
 use Rattle.depot_rows.specs.Standing.{unplaced_at}
 use Rattle.row_reads.proofs.GroupsListed.{kept_of, kept_rise}

@@ -7,21 +7,21 @@ use Rattle.std.specs.declared.cmp.Ordering.{Ordering}
 use Rattle.std.specs.declared.cmp.Ordering.TheVariants.{Less, Equal, Greater}
 use Rattle.std.proofs.lemmas.List.Folds.{list_any-append}
 use Rattle.std.proofs.lemmas.Bool.{false≢true}
-use Rattle.depot_path.specs.Bytes.{same}
-use Rattle.depot_path.specs.Order.{path_cmp}
-use Rattle.depot_path.specs.Path.{path_of, path_fault, printed, is_path, unescaped, unless}
-use Rattle.depot_path.specs.declared.fault.PathFault.{PathFault}
-use Rattle.depot_path.proofs.Paths.{prints_path, reads_path}
-use Rattle.db_records.specs.declared.key.Key.{Key}
-use Rattle.db_records.specs.declared.key.Key.TheVariants as keys
-use Rattle.db_records.specs.declared.record.Record.{Record}
-use Rattle.db_records.specs.declared.record.Record.TheVariants as records
-use Rattle.db_records.specs.declared.rows.HaveRecord.{HaveRecord}
-use Rattle.db_records.specs.declared.rows.WorkingRecord.{WorkingRecord}
-use Rattle.db_records.specs.declared.rows.RevRecord.{RevRecord}
-use Rattle.db_records.specs.Key.{key_cmp}
-use Rattle.db_records.specs.Record.{key_of, table_of}
-use Rattle.table_store.specs.Rows.{is_at, row_at, AllAbove, AllOfTable, IsRising}
+use Rattle.depot_rows.specs.depot_path.Bytes.{same}
+use Rattle.depot_rows.specs.depot_path.Order.{path_cmp}
+use Rattle.depot_rows.specs.depot_path.Path.{path_of, path_fault, printed, is_path, unescaped, unless}
+use Rattle.depot_rows.specs.depot_path.declared.fault.PathFault.{PathFault}
+use Rattle.depot_rows.proofs.depot_path.Paths.{prints_path, reads_path}
+use Rattle.depot_rows.specs.db_records.declared.key.Key.{Key}
+use Rattle.depot_rows.specs.db_records.declared.key.Key.TheVariants as keys
+use Rattle.depot_rows.specs.db_records.declared.record.Record.{Record}
+use Rattle.depot_rows.specs.db_records.declared.record.Record.TheVariants as records
+use Rattle.depot_rows.specs.db_records.declared.rows.HaveRecord.{HaveRecord}
+use Rattle.depot_rows.specs.db_records.declared.rows.WorkingRecord.{WorkingRecord}
+use Rattle.depot_rows.specs.db_records.declared.rows.RevRecord.{RevRecord}
+use Rattle.depot_rows.specs.db_records.Key.{key_cmp}
+use Rattle.depot_rows.specs.db_records.Record.{key_of, table_of}
+use Rattle.depot_rows.specs.table_store.Rows.{is_at, row_at, AllAbove, AllOfTable, IsRising}
 use Rattle.depot_rows.proofs.Keys.{at-is, at-self, number-is, same-is, same-self}
 use Rattle.named_files.specs.Listed.{listed, listed_text, listing_table, path_in_text, paths_in}
 use Rattle.named_files.specs.declared.listing.Listing.{Listing}

@@ -1,16 +1,16 @@
 -- Which opened files an argument names.
 use Rattle.std.proofs.Common.{◌≡◌, ℕ, Bool, true, false, List, [], ◌∷◌, Option, Some, None, refl}
 use Rattle.std.specs.Prelude.{◌&&◌, filter, if◌then◌else◌, option_map}
-use Rattle.depot_model.specs.declared.command.FileArgument.{FileArgument}
-use Rattle.depot_model.specs.declared.refusal.Refusal.TheVariants.{NotOpen}
-use Rattle.depot_model.specs.declared.request.Caller.{Caller}
-use Rattle.depot_model.specs.Arguments.{names, opened_by, over}
-use Rattle.depot_model.specs.Deeds.{Deed, Opening}
-use Rattle.depot_model.specs.Opened.{opened}
-use Rattle.depot_model.specs.Records.{working_record}
-use Rattle.depot_model.specs.Refusals.{refusal_row}
-use Rattle.depot_model.specs.Step.{Step as ModelStep, tells}
-use Rattle.depot_model.specs.Steps.Reverting.{is_selected, not_open, selected}
+use Rattle.depot_rows.specs.depot_model.declared.command.FileArgument.{FileArgument}
+use Rattle.depot_rows.specs.depot_model.declared.refusal.Refusal.TheVariants.{NotOpen}
+use Rattle.depot_rows.specs.depot_model.declared.request.Caller.{Caller}
+use Rattle.depot_rows.specs.depot_model.Arguments.{names, opened_by, over}
+use Rattle.depot_rows.specs.depot_model.Deeds.{Deed, Opening}
+use Rattle.depot_rows.specs.depot_model.Opened.{opened}
+use Rattle.depot_rows.specs.depot_model.Records.{working_record}
+use Rattle.depot_rows.specs.depot_model.Refusals.{refusal_row}
+use Rattle.depot_rows.specs.depot_model.Step.{Step as ModelStep, tells}
+use Rattle.depot_rows.specs.depot_model.Steps.Reverting.{is_selected, not_open, selected}
 use Rattle.named_files.specs.Sets.{is_chosen, selected_in}
 
 pub row_selected : (d : List Deed) (change : Option ℕ) (o : Option Opening) → selected_in change (option_map (working_record d) o) ≡ is_selected change o

@@ -4,25 +4,25 @@ use Rattle.std.specs.Prelude.{◌&&◌, ◌||◌, ◌==◌, not, filter, flat_ma
 use Rattle.std.specs.List.{list_all, list_any}
 use Rattle.std.specs.Option.{option_or, option_flatten}
 use Rattle.std.proofs.lemmas.Bool.{true≢false, false≢true}
-use Rattle.depot_path.specs.Bytes.{same}
-use Rattle.depot_path.specs.Path.{printed, is_path}
-use Rattle.db_records.specs.Key.{key_table}
-use Rattle.db_records.specs.declared.key.Key.{Key}
-use Rattle.db_records.specs.declared.record.Record.{Record}
-use Rattle.db_records.specs.declared.record.Record.TheVariants as records
-use Rattle.db_records.specs.declared.table.TableId.{TableId}
-use Rattle.table_store.specs.Rows.{row_at, AllOfTable, IsRising, TableRows}
-use Rattle.depot_model.specs.Arguments.{paths_of, got_paths, open_paths, landed_paths, had, opened_by, submitted}
-use Rattle.depot_model.specs.Deeds.{Deed, Got, Open, Shut, Land, Held, Opening, Landing, Entry, Credit}
-use Rattle.depot_model.specs.Latest.{have, have_said, is_held, latest, when}
-use Rattle.depot_model.specs.Opened.{opened, opening_said}
-use Rattle.depot_model.specs.Records.{record_of, unplaced, numbered_record, working_record, rev_record}
-use Rattle.depot_model.specs.Revisions.{Revision, revision, revisions, entries_at}
-use Rattle.depot_model.specs.Rules.{IsSound, has_paths, entry_paths, path_or_none}
-use Rattle.depot_model.specs.Sorted.{all_inserted, path_inserted}
+use Rattle.depot_rows.specs.depot_path.Bytes.{same}
+use Rattle.depot_rows.specs.depot_path.Path.{printed, is_path}
+use Rattle.depot_rows.specs.db_records.Key.{key_table}
+use Rattle.depot_rows.specs.db_records.declared.key.Key.{Key}
+use Rattle.depot_rows.specs.db_records.declared.record.Record.{Record}
+use Rattle.depot_rows.specs.db_records.declared.record.Record.TheVariants as records
+use Rattle.depot_rows.specs.db_records.declared.table.TableId.{TableId}
+use Rattle.depot_rows.specs.table_store.Rows.{row_at, AllOfTable, IsRising, TableRows}
+use Rattle.depot_rows.specs.depot_model.Arguments.{paths_of, got_paths, open_paths, landed_paths, had, opened_by, submitted}
+use Rattle.depot_rows.specs.depot_model.Deeds.{Deed, Got, Open, Shut, Land, Held, Opening, Landing, Entry, Credit}
+use Rattle.depot_rows.specs.depot_model.Latest.{have, have_said, is_held, latest, when}
+use Rattle.depot_rows.specs.depot_model.Opened.{opened, opening_said}
+use Rattle.depot_rows.specs.depot_model.Records.{record_of, unplaced, numbered_record, working_record, rev_record}
+use Rattle.depot_rows.specs.depot_model.Revisions.{Revision, revision, revisions, entries_at}
+use Rattle.depot_rows.specs.depot_model.Rules.{IsSound, has_paths, entry_paths, path_or_none}
+use Rattle.depot_rows.specs.depot_model.Sorted.{all_inserted, path_inserted}
 use Rattle.depot_rows.specs.Standing.{unplaced_at}
 use Rattle.depot_rows.proofs.Keys.{left-true, right-true, same-is, same-self}
-use Rattle.depot_rows.proofs.Paths.{at_path-here}
+use Rattle.depot_rows.proofs.Spelled.{at_path-here}
 use Rattle.named_files.specs.Listed.{files_of, listed, listing_table}
 use Rattle.named_files.specs.declared.listing.Listing.{Listing}
 use Rattle.named_files.specs.declared.listing.Listing.TheVariants.{Had, OpenedBy, Submitted}

@@ -1,10 +1,10 @@
 -- The rows that a set reads are those for which every choice of a revision asks.
 use Rattle.std.proofs.Common.{◌≡◌, List, Option, Some, None, refl}
 use Rattle.std.specs.Prelude.{is_some, option_map}
-use Rattle.depot_path.specs.declared.revision.Wanted.{Wanted}
-use Rattle.table_changes.specs.Changed.{AllRows}
-use Rattle.depot_model.specs.declared.request.Caller.{Caller}
-use Rattle.depot_model.specs.Deeds.{Deed}
+use Rattle.depot_rows.specs.depot_path.declared.revision.Wanted.{Wanted}
+use Rattle.depot_rows.specs.table_changes.Changed.{AllRows}
+use Rattle.depot_rows.specs.depot_model.declared.request.Caller.{Caller}
+use Rattle.depot_rows.specs.depot_model.Deeds.{Deed}
 use Rattle.revision_reads.proofs.Wanting.{wanted_had}
 use Rattle.revision_reads.specs.Choice.{HaveRows, wanted_tables}
 use Rattle.named_files.specs.Sets.{ShownReads}

@@ -1,12 +1,12 @@
 -- The files that any client has opened, as the rows of opened files have them: a row a client, in the order of paths (Command-Line Reference,
 -- "p4 opened", option -a; Helix Core database schema reference, "db.working").
 use Rattle.std.specs.Prelude.{ℕ, Bool, false, List, [], ◌∷◌, ◌++◌, filter, flat_map, if◌then◌else◌, length, nat_lt, Option, Some, None}
-use Rattle.depot_path.specs.Bytes.{same}
-use Rattle.db_records.specs.declared.record.Record.{Record}
-use Rattle.db_records.specs.declared.record.Record.TheVariants.{Working}
-use Rattle.depot_model.specs.Arguments.{open_paths, paths_of}
-use Rattle.depot_model.specs.Deeds.{Deed}
-use Rattle.depot_model.specs.Steps.Opening.{openers}
+use Rattle.depot_rows.specs.depot_path.Bytes.{same}
+use Rattle.depot_rows.specs.db_records.declared.record.Record.{Record}
+use Rattle.depot_rows.specs.db_records.declared.record.Record.TheVariants.{Working}
+use Rattle.depot_rows.specs.depot_model.Arguments.{open_paths, paths_of}
+use Rattle.depot_rows.specs.depot_model.Deeds.{Deed}
+use Rattle.depot_rows.specs.depot_model.Steps.Opening.{openers}
 use Rattle.named_files.specs.Listed.{is_in_front, path_in_text}
 use Rattle.named_files.specs.declared.listing.Listing.{Listing}
 

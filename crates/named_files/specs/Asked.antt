@@ -1,17 +1,17 @@
 -- Who asks, and which files an argument names by the rights and the view alone.
 use Rattle.std.specs.Prelude.{◌≡◌, ℕ, Bool, ◌&&◌, List, if◌then◌else◌, Option, Some, None, false}
-use Rattle.depot_path.specs.Bytes.{begins_with}
-use Rattle.depot_path.specs.Fit.{fits}
-use Rattle.depot_path.specs.Path.{printed}
-use Rattle.depot_path.specs.Pattern.{literal}
-use Rattle.depot_path.specs.declared.piece.Piece.{Piece}
-use Rattle.depot_path.specs.declared.revision.Wanted.{Wanted}
-use Rattle.view_map.specs.Mapping.{mapped, path_in}
-use Rattle.protect_table.specs.Rights.{may}
-use Rattle.depot_model.specs.declared.request.Caller.{Caller}
-use Rattle.depot_model.specs.Arguments.{fits_at, in_client_syntax}
-use Rattle.depot_model.specs.Asking.{protects, who_of, view}
-use Rattle.depot_model.specs.Deeds.{Deed}
+use Rattle.depot_rows.specs.depot_path.Bytes.{begins_with}
+use Rattle.depot_rows.specs.depot_path.Fit.{fits}
+use Rattle.depot_rows.specs.depot_path.Path.{printed}
+use Rattle.depot_rows.specs.depot_path.Pattern.{literal}
+use Rattle.depot_rows.specs.depot_path.declared.piece.Piece.{Piece}
+use Rattle.depot_rows.specs.depot_path.declared.revision.Wanted.{Wanted}
+use Rattle.depot_rows.specs.view_map.Mapping.{mapped, path_in}
+use Rattle.depot_rows.specs.protect_table.Rights.{may}
+use Rattle.depot_rows.specs.depot_model.declared.request.Caller.{Caller}
+use Rattle.depot_rows.specs.depot_model.Arguments.{fits_at, in_client_syntax}
+use Rattle.depot_rows.specs.depot_model.Asking.{protects, who_of, view}
+use Rattle.depot_rows.specs.depot_model.Deeds.{Deed}
 use Rattle.revision_reads.specs.Shown.{shown_in}
 use Rattle.named_files.specs.declared.asker.Asker.{Asker}
 

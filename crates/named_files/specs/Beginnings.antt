@@ -5,8 +5,8 @@ use Rattle.std.specs.List.{list_any}
 use Rattle.std.specs.Cmp.Lexicographic.{slice_cmp}
 use Rattle.std.specs.Ordering.{nat_cmp}
 use Rattle.std.specs.declared.cmp.Ordering.TheVariants.{Less}
-use Rattle.depot_path.specs.Bytes.{begins_with}
-use Rattle.depot_path.specs.Path.{printed}
+use Rattle.depot_rows.specs.depot_path.Bytes.{begins_with}
+use Rattle.depot_rows.specs.depot_path.Path.{printed}
 use Rattle.named_files.specs.Listed.{has_beginning}
 
 -- a text begins with one of them

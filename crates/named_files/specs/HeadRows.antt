@@ -2,11 +2,11 @@
 -- database schema reference, "db.rev"). That they are taken in such a walk is this project's own choice.
 use Rattle.std.specs.Prelude.{◌≡◌, ℕ, suc, Bool, false, List, [], ◌∷◌, ◌++◌, filter, flat_map, if◌then◌else◌, Option, Some, None}
 use Rattle.std.specs.Option.{option_to_list}
-use Rattle.depot_path.specs.Bytes.{same}
-use Rattle.db_records.specs.declared.key.Key.TheVariants as keys
-use Rattle.db_records.specs.declared.record.Record.{Record}
-use Rattle.db_records.specs.declared.record.Record.TheVariants.{Rev}
-use Rattle.table_store.specs.Rows.{row_at}
+use Rattle.depot_rows.specs.depot_path.Bytes.{same}
+use Rattle.depot_rows.specs.db_records.declared.key.Key.TheVariants as keys
+use Rattle.depot_rows.specs.db_records.declared.record.Record.{Record}
+use Rattle.depot_rows.specs.db_records.declared.record.Record.TheVariants.{Rev}
+use Rattle.depot_rows.specs.table_store.Rows.{row_at}
 use Rattle.named_files.specs.Listed.{is_in_front}
 use Rattle.named_files.specs.declared.listing.Listing.{Listing}
 

@@ -2,10 +2,10 @@
 
 ghost use Rattle.std.specs.Prelude.{◌≡◌, ◌++◌, ℕ, List, IfOk, OnOk, filter, flat_map};
 ghost use Rattle.std.specs.Option.{option_copied};
-ghost use Rattle.db_records.specs.declared.table.TableId.TheVariants as table_ids;
-ghost use Rattle.table_changes.specs.Changed.{rows_of};
-ghost use Rattle.depot_model.specs.Deeds.{Deed};
-ghost use Rattle.depot_model.specs.Rules.{IsSound};
+ghost use Rattle.depot_rows.specs.db_records.declared.table.TableId.TheVariants as table_ids;
+ghost use Rattle.depot_rows.specs.table_changes.Changed.{rows_of};
+ghost use Rattle.depot_rows.specs.depot_model.Deeds.{Deed};
+ghost use Rattle.depot_rows.specs.depot_model.Rules.{IsSound};
 ghost use Rattle.depot_rows.specs.Standing.{HasRows};
 ghost use Rattle.named_files.specs.Anywhere.{is_last as last_test, new_text, next_last, opened_anywhere, paths_in_front, paths_in_turn};
 ghost use Rattle.named_files.specs.Beginnings.{AreApart, has_one};
@@ -15,13 +15,13 @@ use crate::asker::Asker;
 use crate::beginning::beginnings_of;
 use crate::front::rows_in;
 use crate::listing::{Listing, read_path};
-use db_records::{Record, TableId};
-use depot_model::{Caller, FileArgument};
-use depot_path::{DepotPath, Name, Sequence, Text};
+use depot_rows::model::{Caller, FileArgument};
+use depot_rows::paths::{DepotPath, Name, Sequence, Text};
+use depot_rows::records::{Record, TableId};
+use depot_rows::tables::Tables;
 use file_steps::{FileSet, not_open};
 use reply_rows::Step;
 use std::alloc::{AllocError, Global};
-use table_store::Tables;
 
 /// The files that any client has opened, of which the arguments of a caller name some.
 #[derive(Drop)]
@@ -131,9 +131,9 @@ fn anywhere_below(
 
 impl<'a> FileSet for OpenedAnywhere<'a> {
     ghost use Rattle.std.specs.Prelude.{◌∷◌, [], true};
-    ghost use Rattle.depot_model.specs.Arguments.{names as names_file};
-    ghost use Rattle.depot_model.specs.Refusals.{refusal_row};
-    ghost use Rattle.depot_model.specs.declared.refusal.Refusal.TheVariants as refusals;
+    ghost use Rattle.depot_rows.specs.depot_model.Arguments.{names as names_file};
+    ghost use Rattle.depot_rows.specs.depot_model.Refusals.{refusal_row};
+    ghost use Rattle.depot_rows.specs.depot_model.declared.refusal.Refusal.TheVariants as refusals;
     ghost use Rattle.named_files.specs.declared.listing.Listing.TheVariants.{OpenedBy};
     ghost use Rattle.named_files.specs.Anywhere.{opened_anywhere};
     ghost use Rattle.named_files.specs.Sets.{Reads};

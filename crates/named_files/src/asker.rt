@@ -1,23 +1,23 @@
 //! Who asks, with the rights and the view.
 
 ghost use Rattle.std.specs.Prelude.{◌≡◌, List, [], IfOk};
-ghost use Rattle.db_records.specs.declared.table.TableId.TheVariants as table_ids;
-ghost use Rattle.depot_model.specs.Asking.{view as view_in};
-ghost use Rattle.depot_model.specs.Deeds.{Deed};
-ghost use Rattle.depot_model.specs.Rules.{IsSound};
+ghost use Rattle.depot_rows.specs.db_records.declared.table.TableId.TheVariants as table_ids;
+ghost use Rattle.depot_rows.specs.depot_model.Asking.{view as view_in};
+ghost use Rattle.depot_rows.specs.depot_model.Deeds.{Deed};
+ghost use Rattle.depot_rows.specs.depot_model.Rules.{IsSound};
 ghost use Rattle.depot_rows.specs.Standing.{HasRows};
-ghost use Rattle.protect_table.specs.Rights.{may as may_at};
-ghost use Rattle.table_changes.specs.Changed.{rows_of};
-ghost use Rattle.view_map.specs.Mapping.{path_in};
+ghost use Rattle.depot_rows.specs.protect_table.Rights.{may as may_at};
+ghost use Rattle.depot_rows.specs.table_changes.Changed.{rows_of};
+ghost use Rattle.depot_rows.specs.view_map.Mapping.{path_in};
 ghost use Rattle.named_files.specs.Asked.{IsAsker, is_named, is_placed};
 
-use depot_model::Caller;
-use depot_path::{ClientPath, DepotPath, Name, Pattern};
-use protect_table::{Level, Protects, Who};
+use depot_rows::model::Caller;
+use depot_rows::paths::{ClientPath, DepotPath, Name, Pattern};
+use depot_rows::protections::{Level, Protects, Who};
+use depot_rows::tables::Tables;
+use depot_rows::views::{Mapped, View};
 use row_reads::{in_client_syntax, protects_of, view_of, who_of};
 use std::alloc::{AllocError, Global};
-use table_store::Tables;
-use view_map::{Mapped, View};
 
 /// Who asks: the client, the rights and the view.
 #[derive(Drop)]

@@ -5,7 +5,7 @@ ghost use Rattle.named_files.specs.Asked.{is_begun, is_placed};
 ghost use Rattle.named_files.specs.Beginnings.{AreApart, begins_with_one, has_one};
 
 use crate::asker::Asker;
-use depot_path::{Pattern, Sequence, Text};
+use depot_rows::paths::{Pattern, Sequence, Text};
 use row_reads::in_client_syntax;
 use std::alloc::{AllocError, Global};
 

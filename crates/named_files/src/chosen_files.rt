@@ -8,14 +8,14 @@ use crate::choosing::candidates;
 use crate::listed_files::missing_of;
 use crate::listing::Listing;
 use crate::shown_files::is_shown;
-use db_records::RevRecord;
-use depot_model::{Caller, FileArgument};
-use depot_path::{DepotPath, Sequence};
+use depot_rows::model::{Caller, FileArgument};
+use depot_rows::paths::{DepotPath, Sequence};
+use depot_rows::records::RevRecord;
+use depot_rows::tables::Tables;
 use file_steps::FileSet;
 use reply_rows::Step;
 use revision_reads::chosen_revision;
 use std::alloc::{AllocError, Global};
-use table_store::Tables;
 
 /// The files of a list of which the arguments of a caller name some, as those of [`ShownFiles`](crate::ShownFiles), and choose a revision: one
 /// that isn't passed over (Command-Line Reference, "p4 files").

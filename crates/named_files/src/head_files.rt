@@ -5,12 +5,12 @@ use crate::choosing::candidates;
 use crate::listed_files::missing_of;
 use crate::listing::Listing;
 use crate::shown_files::is_shown;
-use depot_model::{Caller, FileArgument};
-use depot_path::{DepotPath, Sequence, Wanted};
+use depot_rows::model::{Caller, FileArgument};
+use depot_rows::paths::{DepotPath, Sequence, Wanted};
+use depot_rows::tables::Tables;
 use file_steps::FileSet;
 use reply_rows::Step;
 use std::alloc::{AllocError, Global};
-use table_store::Tables;
 
 /// The files of a list of which the arguments of a caller name some: one in client syntax those that the client shows there at their heads,
 /// whichever revision it asks for.
@@ -23,7 +23,7 @@ pub struct HeadFiles<'a> {
 
 impl<'a> FileSet for HeadFiles<'a> {
     ghost use Rattle.std.specs.Prelude.{false};
-    ghost use Rattle.depot_model.specs.Arguments.{names as names_file};
+    ghost use Rattle.depot_rows.specs.depot_model.Arguments.{names as names_file};
     ghost use Rattle.named_files.specs.Listed.{files_of};
     ghost use Rattle.named_files.specs.Sets.{HeadReads, at_head, rows_without as without};
 

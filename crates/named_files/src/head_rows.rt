@@ -3,10 +3,10 @@
 ghost use Rattle.std.specs.Prelude.{◌≡◌, ◌++◌, ℕ, Bool, List, filter, map, true, IfOk, OnOk};
 ghost use Rattle.std.specs.List.{All};
 ghost use Rattle.std.specs.Option.{option_copied, option_to_list};
-ghost use Rattle.depot_model.specs.Deeds.{Deed};
-ghost use Rattle.depot_model.specs.Rules.{IsSound};
+ghost use Rattle.depot_rows.specs.depot_model.Deeds.{Deed};
+ghost use Rattle.depot_rows.specs.depot_model.Rules.{IsSound};
 ghost use Rattle.depot_rows.specs.Standing.{HasRows};
-ghost use Rattle.table_changes.specs.Changed.{rows_of};
+ghost use Rattle.depot_rows.specs.table_changes.Changed.{rows_of};
 ghost use Rattle.named_files.specs.Asked.{is_placed};
 ghost use Rattle.named_files.specs.Beginnings.{in_turn};
 ghost use Rattle.named_files.specs.HeadRows.{IsHead, are_of_one_file as one_file_test, ended, heads_in_front, heads_in_turn};
@@ -17,10 +17,10 @@ use crate::beginning::beginnings_of;
 use crate::choosing::{add_row, files_join, rows_list_files};
 use crate::front::rows_in;
 use crate::listing::Listing;
-use db_records::Record;
-use depot_path::{DepotPath, Pattern, Sequence, Text};
+use depot_rows::paths::{DepotPath, Pattern, Sequence, Text};
+use depot_rows::records::Record;
+use depot_rows::tables::Tables;
 use std::alloc::{AllocError, Global};
-use table_store::Tables;
 
 /// Files of a list, and rows of newest revisions, as the walk that found the files saw them.
 #[derive(Drop)]

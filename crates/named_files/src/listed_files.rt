@@ -1,21 +1,21 @@
 //! The files of a list, as arguments name them.
 
 ghost use Rattle.std.specs.Prelude.{List, IfOk};
-ghost use Rattle.table_changes.specs.Changed.{AllRows};
-ghost use Rattle.depot_model.specs.Deeds.{Deed};
-ghost use Rattle.depot_model.specs.Step.{tells};
+ghost use Rattle.depot_rows.specs.table_changes.Changed.{AllRows};
+ghost use Rattle.depot_rows.specs.depot_model.Deeds.{Deed};
+ghost use Rattle.depot_rows.specs.depot_model.Step.{tells};
 ghost use Rattle.reply_rows.specs.Made.{IsMade};
 ghost use Rattle.named_files.specs.Sets.{rows_without as told_without};
 
 use crate::asker::Asker;
 use crate::choosing::candidates;
 use crate::listing::Listing;
-use depot_model::{Caller, FileArgument};
-use depot_path::{DepotPath, Sequence};
+use depot_rows::model::{Caller, FileArgument};
+use depot_rows::paths::{DepotPath, Sequence};
+use depot_rows::tables::Tables;
 use file_steps::{FileSet, no_file, not_open};
 use reply_rows::Step;
 use std::alloc::{AllocError, Global};
-use table_store::Tables;
 
 /// The files of a list of which the arguments of a caller name some, wherever the client's view puts them.
 #[derive(Drop)]
@@ -51,7 +51,7 @@ pub(crate) fn missing_of(
 
 impl<'a> FileSet for ListedFiles<'a> {
     ghost use Rattle.std.specs.Prelude.{true};
-    ghost use Rattle.depot_model.specs.Arguments.{names as names_file};
+    ghost use Rattle.depot_rows.specs.depot_model.Arguments.{names as names_file};
     ghost use Rattle.named_files.specs.Listed.{files_of};
     ghost use Rattle.named_files.specs.Sets.{Reads, rows_without as without};
 

@@ -3,11 +3,11 @@
 ghost use Rattle.std.specs.Prelude.{◌≡◌, IfOk, if◌then◌else◌, Some, None, ◌==◌, ◌++◌, OnOk};
 ghost use Rattle.std.specs.Option.{option_copied};
 ghost use Rattle.std.specs.Option.{option_to_list};
-ghost use Rattle.depot_path.specs.Bytes.{same};
+ghost use Rattle.depot_rows.specs.depot_path.Bytes.{same};
 ghost use Rattle.named_files.specs.Listed.{front_key, front_text as text_in_front, listed_text as text_listed, listing_table, path_in_text};
 
-use db_records::{Key, Record, TableId};
-use depot_path::{DepotPath, Name, PathFault, Sequence, Text};
+use depot_rows::paths::{DepotPath, Name, PathFault, Sequence, Text};
+use depot_rows::records::{Key, Record, TableId};
 use std::alloc::{AllocError, Global};
 
 /// A list of files, as a table has it.

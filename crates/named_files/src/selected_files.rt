@@ -6,14 +6,14 @@ ghost use Rattle.named_files.specs.Sets.{selected_in};
 use crate::asker::Asker;
 use crate::choosing::candidates;
 use crate::listing::Listing;
-use db_records::Record;
-use depot_model::{Caller, FileArgument};
-use depot_path::{DepotPath, Sequence};
+use depot_rows::model::{Caller, FileArgument};
+use depot_rows::paths::{DepotPath, Sequence};
+use depot_rows::records::Record;
+use depot_rows::tables::Tables;
 use file_steps::{FileSet, not_open};
 use reply_rows::Step;
 use row_reads::opened_of;
 use std::alloc::{AllocError, Global};
-use table_store::Tables;
 
 /// The files that the client of a caller has opened, in a change where one is given, of which the arguments of the caller name some.
 #[derive(Drop)]
@@ -38,9 +38,9 @@ fn is_selected(change: Option<u32>, row: &Option<Record>) -> bool
 
 impl<'a> FileSet for SelectedFiles<'a> {
     ghost use Rattle.std.specs.Prelude.{◌∷◌, []};
-    ghost use Rattle.depot_model.specs.Arguments.{opened_by};
-    ghost use Rattle.depot_model.specs.Refusals.{refusal_row};
-    ghost use Rattle.depot_model.specs.declared.refusal.Refusal.TheVariants as refusals;
+    ghost use Rattle.depot_rows.specs.depot_model.Arguments.{opened_by};
+    ghost use Rattle.depot_rows.specs.depot_model.Refusals.{refusal_row};
+    ghost use Rattle.depot_rows.specs.depot_model.declared.refusal.Refusal.TheVariants as refusals;
     ghost use Rattle.named_files.specs.declared.listing.Listing.TheVariants.{OpenedBy};
     ghost use Rattle.named_files.specs.Sets.{Reads, is_chosen};
 

@@ -2,11 +2,11 @@
 
 ghost use Rattle.std.specs.Prelude.{◌≡◌, List, false, filter, map, IfOk};
 ghost use Rattle.std.specs.List.{All};
-ghost use Rattle.db_records.specs.declared.table.TableId.TheVariants as table_ids;
-ghost use Rattle.table_changes.specs.Changed.{rows_of};
-ghost use Rattle.depot_model.specs.Arguments.{names as names_file};
-ghost use Rattle.depot_model.specs.Deeds.{Deed};
-ghost use Rattle.depot_model.specs.Rules.{IsSound};
+ghost use Rattle.depot_rows.specs.db_records.declared.table.TableId.TheVariants as table_ids;
+ghost use Rattle.depot_rows.specs.table_changes.Changed.{rows_of};
+ghost use Rattle.depot_rows.specs.depot_model.Arguments.{names as names_file};
+ghost use Rattle.depot_rows.specs.depot_model.Deeds.{Deed};
+ghost use Rattle.depot_rows.specs.depot_model.Rules.{IsSound};
 ghost use Rattle.depot_rows.specs.Standing.{HasRows};
 ghost use Rattle.revision_reads.specs.Choice.{HaveRows, wanted_tables};
 ghost use Rattle.named_files.specs.Asked.{is_shown as shown_test, is_shown_at as shown_at_test};
@@ -19,15 +19,15 @@ use crate::choosing::candidates;
 use crate::head_rows::{HeadedFiles, headed_candidates};
 use crate::listed_files::missing_of;
 use crate::listing::Listing;
-use depot_model::{Caller, FileArgument};
-use depot_path::{DepotPath, Pattern, Sequence, Wanted};
+use depot_rows::model::{Caller, FileArgument};
+use depot_rows::paths::{DepotPath, Pattern, Sequence, Wanted};
+use depot_rows::protections::Level;
+use depot_rows::tables::Tables;
 use file_steps::FileSet;
-use protect_table::Level;
 use reply_rows::Step;
 use revision_reads::shown_by;
 use row_reads::in_client_syntax;
 use std::alloc::{AllocError, Global};
-use table_store::Tables;
 
 /// The files of a list of which the arguments of a caller name some: one in client syntax those that the client shows there at the revisions
 /// for which it asks.

@@ -1,11 +1,11 @@
 //! The paths that arguments spell.
 
 ghost use Rattle.std.specs.Prelude.{◌≡◌, Some, None, IfOk, if◌then◌else◌};
-ghost use Rattle.depot_model.specs.Steps.Adding.{spelled};
-ghost use Rattle.depot_model.specs.WellFormed.{spells_path};
+ghost use Rattle.depot_rows.specs.depot_model.Steps.Adding.{spelled};
+ghost use Rattle.depot_rows.specs.depot_model.WellFormed.{spells_path};
 
-use depot_model::FileArgument;
-use depot_path::DepotPath;
+use depot_rows::model::FileArgument;
+use depot_rows::paths::DepotPath;
 use std::alloc::{AllocError, Global};
 
 /// The path that an argument without wildcards spells, None exactly where it spells none. The one error is want of memory.

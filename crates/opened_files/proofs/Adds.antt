@@ -2,21 +2,21 @@
 use Rattle.std.proofs.Common.{◌≡◌, ℕ, Bool, true, false, List, [], ◌∷◌, Option, Some, None, refl, sym, ap, ◌∙◌}
 use Rattle.std.specs.Prelude.{is_none, is_some, unwrap_or, if◌then◌else◌}
 use Rattle.std.specs.Option.{option_to_list}
-use Rattle.depot_path.specs.Path.{printed}
-use Rattle.depot_path.specs.declared.revision.Wanted.TheVariants.{Head}
-use Rattle.view_map.specs.Mapping.{files_at}
-use Rattle.depot_model.specs.declared.command.FileArgument.{FileArgument}
-use Rattle.depot_model.specs.declared.refusal.Refusal.{Refusal}
-use Rattle.depot_model.specs.declared.refusal.Refusal.TheVariants.{AlreadyOpen, Exists, NotInView}
-use Rattle.depot_model.specs.declared.request.Caller.{Caller}
-use Rattle.depot_model.specs.Arguments.{in_client_syntax}
-use Rattle.depot_model.specs.Choice.{shown}
-use Rattle.depot_model.specs.Deeds.{Deed, Opening, Add}
-use Rattle.depot_model.specs.Opened.{opened}
-use Rattle.depot_model.specs.Revisions.{head, is_live_head}
-use Rattle.depot_model.specs.Step.{Step as ModelStep, refuse_if, unless}
-use Rattle.depot_model.specs.Steps.Adding.{add_file, files_to_add, first_live, opening, spelled}
-use Rattle.depot_model.specs.Steps.Opening.{exclusive_refusal, right_refusal}
+use Rattle.depot_rows.specs.depot_path.Path.{printed}
+use Rattle.depot_rows.specs.depot_path.declared.revision.Wanted.TheVariants.{Head}
+use Rattle.depot_rows.specs.view_map.Mapping.{files_at}
+use Rattle.depot_rows.specs.depot_model.declared.command.FileArgument.{FileArgument}
+use Rattle.depot_rows.specs.depot_model.declared.refusal.Refusal.{Refusal}
+use Rattle.depot_rows.specs.depot_model.declared.refusal.Refusal.TheVariants.{AlreadyOpen, Exists, NotInView}
+use Rattle.depot_rows.specs.depot_model.declared.request.Caller.{Caller}
+use Rattle.depot_rows.specs.depot_model.Arguments.{in_client_syntax}
+use Rattle.depot_rows.specs.depot_model.Choice.{shown}
+use Rattle.depot_rows.specs.depot_model.Deeds.{Deed, Opening, Add}
+use Rattle.depot_rows.specs.depot_model.Opened.{opened}
+use Rattle.depot_rows.specs.depot_model.Revisions.{head, is_live_head}
+use Rattle.depot_rows.specs.depot_model.Step.{Step as ModelStep, refuse_if, unless}
+use Rattle.depot_rows.specs.depot_model.Steps.Adding.{add_file, files_to_add, first_live, opening, spelled}
+use Rattle.depot_rows.specs.depot_model.Steps.Opening.{exclusive_refusal, right_refusal}
 use Rattle.named_files.specs.Asked.{IsAsker}
 use Rattle.named_files.specs.declared.asker.Asker.{Asker}
 use Rattle.opened_files.specs.Adds.{adds_permitted, new_refusal, spelled_file}

@@ -1,27 +1,27 @@
 -- What deeds on the files of a client leave: rights, views and revisions.
 use Rattle.std.proofs.Common.{◌≡◌, ℕ, Bool, true, List, [], ◌∷◌, Option, Some, None, refl, sym, ap, subst, ◌∙◌}
 use Rattle.std.specs.Prelude.{if◌then◌else◌, find, not, unwrap_or}
-use Rattle.depot_path.specs.Fit.{filled, texts}
-use Rattle.depot_path.specs.Path.{is_path}
-use Rattle.depot_path.specs.declared.file_spec.FileSpec.{FileSpec}
-use Rattle.depot_path.specs.declared.revision.Wanted.{Wanted}
-use Rattle.depot_path.specs.declared.revision.Wanted.TheVariants.{Head}
-use Rattle.view_map.specs.Mapping.{files_at}
-use Rattle.view_map.specs.Specifiers.{answering}
-use Rattle.view_map.specs.declared.line.ViewLine.{ViewLine}
-use Rattle.protect_table.specs.declared.line.ProtectLine.{ProtectLine}
-use Rattle.protect_table.specs.declared.who.Who.{Who}
-use Rattle.depot_model.specs.declared.command.FileArgument.{FileArgument}
-use Rattle.depot_model.specs.declared.command.PatternArgument.{PatternArgument}
-use Rattle.depot_model.specs.declared.request.Caller.{Caller}
-use Rattle.depot_model.specs.Arguments.{in_client_syntax}
-use Rattle.depot_model.specs.Asking.{protects, view, who_of}
-use Rattle.depot_model.specs.Choice.{shown}
-use Rattle.depot_model.specs.Deeds.{Deed}
-use Rattle.depot_model.specs.Revisions.{head, is_live_head}
-use Rattle.depot_model.specs.Steps.Adding.{first_live}
-use Rattle.depot_model.specs.Steps.Targets.{source_text, target_at, target_text}
-use Rattle.depot_model.specs.WellFormed.{asks_head}
+use Rattle.depot_rows.specs.depot_path.Fit.{filled, texts}
+use Rattle.depot_rows.specs.depot_path.Path.{is_path}
+use Rattle.depot_rows.specs.depot_path.declared.file_spec.FileSpec.{FileSpec}
+use Rattle.depot_rows.specs.depot_path.declared.revision.Wanted.{Wanted}
+use Rattle.depot_rows.specs.depot_path.declared.revision.Wanted.TheVariants.{Head}
+use Rattle.depot_rows.specs.view_map.Mapping.{files_at}
+use Rattle.depot_rows.specs.view_map.Specifiers.{answering}
+use Rattle.depot_rows.specs.view_map.declared.line.ViewLine.{ViewLine}
+use Rattle.depot_rows.specs.protect_table.declared.line.ProtectLine.{ProtectLine}
+use Rattle.depot_rows.specs.protect_table.declared.who.Who.{Who}
+use Rattle.depot_rows.specs.depot_model.declared.command.FileArgument.{FileArgument}
+use Rattle.depot_rows.specs.depot_model.declared.command.PatternArgument.{PatternArgument}
+use Rattle.depot_rows.specs.depot_model.declared.request.Caller.{Caller}
+use Rattle.depot_rows.specs.depot_model.Arguments.{in_client_syntax}
+use Rattle.depot_rows.specs.depot_model.Asking.{protects, view, who_of}
+use Rattle.depot_rows.specs.depot_model.Choice.{shown}
+use Rattle.depot_rows.specs.depot_model.Deeds.{Deed}
+use Rattle.depot_rows.specs.depot_model.Revisions.{head, is_live_head}
+use Rattle.depot_rows.specs.depot_model.Steps.Adding.{first_live}
+use Rattle.depot_rows.specs.depot_model.Steps.Targets.{source_text, target_at, target_text}
+use Rattle.depot_rows.specs.depot_model.WellFormed.{asks_head}
 use Rattle.named_files.specs.Asked.{IsAsker}
 use Rattle.named_files.specs.declared.asker.Asker.{Asker}
 use Rattle.named_files.proofs.Heads.{at_own_head}

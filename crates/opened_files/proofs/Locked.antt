@@ -1,14 +1,14 @@
 -- What a lock of a file does by who has its lock.
 use Rattle.std.proofs.Common.{◌≡◌, ℕ, Bool, true, false, List, [], ◌∷◌, Option, Some, None, inl, inr, refl, sym, ap, subst, ◌∙◌}
 use Rattle.std.specs.Prelude.{if◌then◌else◌}
-use Rattle.depot_path.specs.Bytes.{same}
-use Rattle.depot_path.specs.Path.{is_path}
-use Rattle.depot_model.specs.declared.request.Caller.{Caller}
-use Rattle.depot_model.specs.Deeds.{Deed, Free, Hold}
-use Rattle.depot_model.specs.Opened.{holder}
-use Rattle.depot_model.specs.Step.{refuses}
-use Rattle.depot_model.specs.declared.refusal.Refusal.TheVariants.{Locked}
-use Rattle.depot_model.specs.Steps.Opening.{held}
+use Rattle.depot_rows.specs.depot_path.Bytes.{same}
+use Rattle.depot_rows.specs.depot_path.Path.{is_path}
+use Rattle.depot_rows.specs.depot_model.declared.request.Caller.{Caller}
+use Rattle.depot_rows.specs.depot_model.Deeds.{Deed, Free, Hold}
+use Rattle.depot_rows.specs.depot_model.Opened.{holder}
+use Rattle.depot_rows.specs.depot_model.Step.{refuses}
+use Rattle.depot_rows.specs.depot_model.declared.refusal.Refusal.TheVariants.{Locked}
+use Rattle.depot_rows.specs.depot_model.Steps.Opening.{held}
 use Rattle.depot_rows.specs.Effects.{Follow}
 use Rattle.depot_rows.specs.declared.deed.Deed.TheVariants as dones
 use Rattle.depot_rows.specs.declared.deed.Held.{Held}

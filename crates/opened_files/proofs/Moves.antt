@@ -4,26 +4,26 @@ use Rattle.std.specs.Prelude.{◌==◌, ◌&&◌, length, if◌then◌else◌, i
 use Rattle.std.specs.List.{list_all}
 use Rattle.std.specs.Option.{option_or}
 use Rattle.std.proofs.lemmas.Bool.{true≢false}
-use Rattle.depot_path.specs.Bytes.{same}
-use Rattle.depot_path.specs.Path.{is_path, printed}
-use Rattle.depot_path.specs.declared.revision.Wanted.TheVariants.{Head}
-use Rattle.depot_model.specs.declared.command.FileArgument.{FileArgument}
-use Rattle.depot_model.specs.declared.command.PatternArgument.{PatternArgument}
-use Rattle.depot_model.specs.declared.refusal.Refusal.{Refusal}
-use Rattle.depot_model.specs.declared.refusal.Refusal.TheVariants.{AlreadyOpen, Exists, NotInView}
-use Rattle.depot_model.specs.declared.reply.Row.{Row}
-use Rattle.depot_model.specs.declared.request.Caller.{Caller}
-use Rattle.depot_model.specs.Asking.{to_open}
-use Rattle.depot_model.specs.Choice.{shown}
-use Rattle.depot_model.specs.Deeds.{Deed, Open, Shut, Opening, Action, Add, Edit, Delete, Branch, Integrate, MoveAdd, MoveDelete}
-use Rattle.depot_model.specs.Latest.{when}
-use Rattle.depot_model.specs.Opened.{is_moved_with, named_back, opened, partner}
-use Rattle.depot_model.specs.Refusals.{refusal_row}
-use Rattle.depot_model.specs.Revisions.{head, is_live_head}
-use Rattle.depot_model.specs.Step.{Step as ModelStep, in_turn, refuse_if, unless}
-use Rattle.depot_model.specs.Steps.Moving.{move_added, move_again, move_all, move_deeds, move_edited, move_file, move_opening, move_to, movable_refusal, opening_at, renamed, shut}
-use Rattle.depot_model.specs.Steps.Opening.{exclusive_refusal, right_refusal}
-use Rattle.depot_model.specs.Steps.Targets.{target_at, target_text}
+use Rattle.depot_rows.specs.depot_path.Bytes.{same}
+use Rattle.depot_rows.specs.depot_path.Path.{is_path, printed}
+use Rattle.depot_rows.specs.depot_path.declared.revision.Wanted.TheVariants.{Head}
+use Rattle.depot_rows.specs.depot_model.declared.command.FileArgument.{FileArgument}
+use Rattle.depot_rows.specs.depot_model.declared.command.PatternArgument.{PatternArgument}
+use Rattle.depot_rows.specs.depot_model.declared.refusal.Refusal.{Refusal}
+use Rattle.depot_rows.specs.depot_model.declared.refusal.Refusal.TheVariants.{AlreadyOpen, Exists, NotInView}
+use Rattle.depot_rows.specs.depot_model.declared.reply.Row.{Row}
+use Rattle.depot_rows.specs.depot_model.declared.request.Caller.{Caller}
+use Rattle.depot_rows.specs.depot_model.Asking.{to_open}
+use Rattle.depot_rows.specs.depot_model.Choice.{shown}
+use Rattle.depot_rows.specs.depot_model.Deeds.{Deed, Open, Shut, Opening, Action, Add, Edit, Delete, Branch, Integrate, MoveAdd, MoveDelete}
+use Rattle.depot_rows.specs.depot_model.Latest.{when}
+use Rattle.depot_rows.specs.depot_model.Opened.{is_moved_with, named_back, opened, partner}
+use Rattle.depot_rows.specs.depot_model.Refusals.{refusal_row}
+use Rattle.depot_rows.specs.depot_model.Revisions.{head, is_live_head}
+use Rattle.depot_rows.specs.depot_model.Step.{Step as ModelStep, in_turn, refuse_if, unless}
+use Rattle.depot_rows.specs.depot_model.Steps.Moving.{move_added, move_again, move_all, move_deeds, move_edited, move_file, move_opening, move_to, movable_refusal, opening_at, renamed, shut}
+use Rattle.depot_rows.specs.depot_model.Steps.Opening.{exclusive_refusal, right_refusal}
+use Rattle.depot_rows.specs.depot_model.Steps.Targets.{target_at, target_text}
 use Rattle.depot_rows.specs.Deed.{action_of, held_of, opening_of}
 use Rattle.depot_rows.specs.Effects.{Follow}
 use Rattle.depot_rows.specs.declared.deed.Deed.{Deed as Done}

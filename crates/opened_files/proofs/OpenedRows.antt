@@ -2,16 +2,16 @@
 use Rattle.std.proofs.Common.{◌≡◌, ℕ, Bool, true, false, List, [], ◌∷◌, ◌++◌, Option, Some, None, refl, sym, ap, ◌∙◌}
 use Rattle.std.specs.Prelude.{codes, filter, filter_map, if◌then◌else◌, map}
 use Rattle.std.specs.List.{cons_option}
-use Rattle.depot_path.specs.Bytes.{same}
-use Rattle.db_records.specs.declared.rows.WorkingRecord.{WorkingRecord}
-use Rattle.depot_model.specs.declared.request.Caller.{Caller}
-use Rattle.depot_model.specs.declared.reply.Row.{Row}
-use Rattle.depot_model.specs.Deeds.{Deed, Opening}
-use Rattle.depot_model.specs.Opened.{holder, opened}
-use Rattle.depot_model.specs.Records.{working_record}
-use Rattle.depot_model.specs.Rows.{action_word, change_word, number_field, path_field, row, text_field}
-use Rattle.depot_model.specs.Steps.Opening.{openers}
-use Rattle.depot_model.specs.Steps.Reverting.{opened_row, openers_shown}
+use Rattle.depot_rows.specs.depot_path.Bytes.{same}
+use Rattle.depot_rows.specs.db_records.declared.rows.WorkingRecord.{WorkingRecord}
+use Rattle.depot_rows.specs.depot_model.declared.request.Caller.{Caller}
+use Rattle.depot_rows.specs.depot_model.declared.reply.Row.{Row}
+use Rattle.depot_rows.specs.depot_model.Deeds.{Deed, Opening}
+use Rattle.depot_rows.specs.depot_model.Opened.{holder, opened}
+use Rattle.depot_rows.specs.depot_model.Records.{working_record}
+use Rattle.depot_rows.specs.depot_model.Rows.{action_word, change_word, number_field, path_field, row, text_field}
+use Rattle.depot_rows.specs.depot_model.Steps.Opening.{openers}
+use Rattle.depot_rows.specs.depot_model.Steps.Reverting.{opened_row, openers_shown}
 use Rattle.depot_rows.proofs.Locks.{opened-is}
 use Rattle.reply_rows.proofs.Bare.{AreBare}
 use Rattle.file_openings.specs.Openings.{openings, workings}

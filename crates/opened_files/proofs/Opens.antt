@@ -1,24 +1,24 @@
 -- What `edit` and `delete` do with a file, by what was found of it, is what the model does.
 use Rattle.std.proofs.Common.{◌≡◌, ℕ, List, [], ◌∷◌, Option, Some, None, refl, sym, ap, ◌∙◌}
 use Rattle.std.specs.Prelude.{codes, is_none, option_map, unwrap_or}
-use Rattle.depot_path.specs.Path.{printed}
-use Rattle.depot_path.specs.declared.revision.Wanted.TheVariants.{Head}
-use Rattle.db_records.specs.declared.record.Record.{Record}
-use Rattle.db_records.specs.declared.record.Record.TheVariants.{Rev, Working}
-use Rattle.db_records.specs.declared.rows.RevRecord.{RevRecord}
-use Rattle.db_records.specs.declared.rows.WorkingRecord.{WorkingRecord}
-use Rattle.depot_model.specs.declared.refusal.Refusal.{Refusal}
-use Rattle.depot_model.specs.declared.refusal.Refusal.TheVariants.{NotInView}
-use Rattle.depot_model.specs.declared.request.Caller.{Caller}
-use Rattle.depot_model.specs.Choice.{shown}
-use Rattle.depot_model.specs.Deeds.{Action, Deed, Opening}
-use Rattle.depot_model.specs.Opened.{opened}
-use Rattle.depot_model.specs.Records.{rev_record, unplaced, working_record}
-use Rattle.depot_model.specs.Revisions.{Revision}
-use Rattle.depot_model.specs.Rules.{IsSound}
-use Rattle.depot_model.specs.Step.{Step as ModelStep, refuse_if, unless}
-use Rattle.depot_model.specs.Steps.Editing.{had_type, new_type, next_opening, open_file, opening, reopened}
-use Rattle.depot_model.specs.Steps.Opening.{exclusive_refusal, right_refusal}
+use Rattle.depot_rows.specs.depot_path.Path.{printed}
+use Rattle.depot_rows.specs.depot_path.declared.revision.Wanted.TheVariants.{Head}
+use Rattle.depot_rows.specs.db_records.declared.record.Record.{Record}
+use Rattle.depot_rows.specs.db_records.declared.record.Record.TheVariants.{Rev, Working}
+use Rattle.depot_rows.specs.db_records.declared.rows.RevRecord.{RevRecord}
+use Rattle.depot_rows.specs.db_records.declared.rows.WorkingRecord.{WorkingRecord}
+use Rattle.depot_rows.specs.depot_model.declared.refusal.Refusal.{Refusal}
+use Rattle.depot_rows.specs.depot_model.declared.refusal.Refusal.TheVariants.{NotInView}
+use Rattle.depot_rows.specs.depot_model.declared.request.Caller.{Caller}
+use Rattle.depot_rows.specs.depot_model.Choice.{shown}
+use Rattle.depot_rows.specs.depot_model.Deeds.{Action, Deed, Opening}
+use Rattle.depot_rows.specs.depot_model.Opened.{opened}
+use Rattle.depot_rows.specs.depot_model.Records.{rev_record, unplaced, working_record}
+use Rattle.depot_rows.specs.depot_model.Revisions.{Revision}
+use Rattle.depot_rows.specs.depot_model.Rules.{IsSound}
+use Rattle.depot_rows.specs.depot_model.Step.{Step as ModelStep, refuse_if, unless}
+use Rattle.depot_rows.specs.depot_model.Steps.Editing.{had_type, new_type, next_opening, open_file, opening, reopened}
+use Rattle.depot_rows.specs.depot_model.Steps.Opening.{exclusive_refusal, right_refusal}
 use Rattle.depot_rows.specs.Deed.{opening_of}
 use Rattle.opening_reads.specs.Read.{opening_in_row}
 use Rattle.opening_reads.proofs.Opens.{row_opens}

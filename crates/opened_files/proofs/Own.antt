@@ -4,14 +4,14 @@ use Rattle.std.specs.Prelude.{◌&&◌, ◌||◌, filter, if◌then◌else◌, i
 use Rattle.std.specs.List.{list_any}
 use Rattle.std.proofs.lemmas.Bool.{false≢true}
 use Rattle.std.proofs.lemmas.Bool.Decides.{nat_tests}
-use Rattle.depot_path.specs.Bytes.{same}
-use Rattle.depot_model.specs.declared.request.Caller.{Caller}
-use Rattle.depot_model.specs.Arguments.{open_paths, opened_by, paths_of}
-use Rattle.depot_model.specs.Deeds.{Deed, Opening}
-use Rattle.depot_model.specs.Latest.{keys_of}
-use Rattle.depot_model.specs.Opened.{opened}
-use Rattle.depot_model.specs.Steps.Opening.{opener_of, openers}
-use Rattle.depot_model.specs.Steps.Reverting.{opened_files, openers_shown}
+use Rattle.depot_rows.specs.depot_path.Bytes.{same}
+use Rattle.depot_rows.specs.depot_model.declared.request.Caller.{Caller}
+use Rattle.depot_rows.specs.depot_model.Arguments.{open_paths, opened_by, paths_of}
+use Rattle.depot_rows.specs.depot_model.Deeds.{Deed, Opening}
+use Rattle.depot_rows.specs.depot_model.Latest.{keys_of}
+use Rattle.depot_rows.specs.depot_model.Opened.{opened}
+use Rattle.depot_rows.specs.depot_model.Steps.Opening.{opener_of, openers}
+use Rattle.depot_rows.specs.depot_model.Steps.Reverting.{opened_files, openers_shown}
 use Rattle.depot_rows.proofs.Keys.{same-is}
 use Rattle.file_openings.proofs.Told.{named}
 

@@ -4,17 +4,17 @@ use Rattle.std.specs.Prelude.{◌||◌, filter, flat_map, if◌then◌else◌, o
 use Rattle.std.specs.Option.{option_to_list}
 use Rattle.std.proofs.lemmas.List.{take_all}
 use Rattle.std.proofs.lemmas.List.Folds.{list_any-append}
-use Rattle.depot_path.specs.Bytes.{same}
-use Rattle.table_changes.specs.Changed.{AllRows}
-use Rattle.depot_model.specs.declared.command.FileArgument.{FileArgument}
-use Rattle.depot_model.specs.declared.request.Caller.{Caller}
-use Rattle.depot_model.specs.Arguments.{is_in, names, opened_by}
-use Rattle.depot_model.specs.Asking.{may_at}
-use Rattle.depot_model.specs.Deeds.{Deed, Opening}
-use Rattle.depot_model.specs.Opened.{opened, partner}
-use Rattle.depot_model.specs.Sorted.{path_inserted}
-use Rattle.depot_model.specs.Step.{Step as ModelStep, after, both, nothing}
-use Rattle.depot_model.specs.Steps.Reverting.{both_ends, is_selected, not_open, other_end, revert_file, revert_files, revert_named, revert_over, selected}
+use Rattle.depot_rows.specs.depot_path.Bytes.{same}
+use Rattle.depot_rows.specs.table_changes.Changed.{AllRows}
+use Rattle.depot_rows.specs.depot_model.declared.command.FileArgument.{FileArgument}
+use Rattle.depot_rows.specs.depot_model.declared.request.Caller.{Caller}
+use Rattle.depot_rows.specs.depot_model.Arguments.{is_in, names, opened_by}
+use Rattle.depot_rows.specs.depot_model.Asking.{may_at}
+use Rattle.depot_rows.specs.depot_model.Deeds.{Deed, Opening}
+use Rattle.depot_rows.specs.depot_model.Opened.{opened, partner}
+use Rattle.depot_rows.specs.depot_model.Sorted.{path_inserted}
+use Rattle.depot_rows.specs.depot_model.Step.{Step as ModelStep, after, both, nothing}
+use Rattle.depot_rows.specs.depot_model.Steps.Reverting.{both_ends, is_selected, not_open, other_end, revert_file, revert_files, revert_named, revert_over, selected}
 use Rattle.reply_rows.specs.declared.step.Step.{Step}
 use Rattle.reply_rows.specs.Made.{IsMade}
 use Rattle.reply_rows.proofs.Joined.{both_assoc, both_nothing, made_on, then_on}

@@ -1,24 +1,24 @@
 -- What `add` does with a file once it is known that the caller may open it, where the view shows it, and whether it is there; and what is read for it.
 -- This project's own choice.
 use Rattle.std.specs.Prelude.{ℕ, Bool, List, [], ◌∷◌, Option, Some, None, is_none, is_some, if◌then◌else◌}
-use Rattle.depot_path.specs.Path.{printed}
-use Rattle.depot_path.specs.declared.revision.Wanted.TheVariants.{Head}
-use Rattle.db_records.specs.declared.table.TableId.TheVariants as table_ids
-use Rattle.table_changes.specs.Changed.{AllRows}
-use Rattle.view_map.specs.Mapping.{files_at}
-use Rattle.depot_model.specs.declared.command.FileArgument.{FileArgument}
-use Rattle.depot_model.specs.declared.request.Caller.{Caller}
-use Rattle.depot_model.specs.declared.refusal.Refusal.{Refusal}
-use Rattle.depot_model.specs.declared.refusal.Refusal.TheVariants.{AlreadyOpen, Exists, NotInView}
-use Rattle.depot_model.specs.Arguments.{in_client_syntax}
-use Rattle.depot_model.specs.Choice.{shown}
-use Rattle.depot_model.specs.Deeds.{Deed}
-use Rattle.depot_model.specs.Opened.{opened}
-use Rattle.depot_model.specs.Revisions.{is_live_head}
-use Rattle.depot_model.specs.Rules.{IsSound}
-use Rattle.depot_model.specs.Step.{Step, refuse_if, unless}
-use Rattle.depot_model.specs.Steps.Adding.{first_live, opening}
-use Rattle.depot_model.specs.Steps.Opening.{exclusive_refusal}
+use Rattle.depot_rows.specs.depot_path.Path.{printed}
+use Rattle.depot_rows.specs.depot_path.declared.revision.Wanted.TheVariants.{Head}
+use Rattle.depot_rows.specs.db_records.declared.table.TableId.TheVariants as table_ids
+use Rattle.depot_rows.specs.table_changes.Changed.{AllRows}
+use Rattle.depot_rows.specs.view_map.Mapping.{files_at}
+use Rattle.depot_rows.specs.depot_model.declared.command.FileArgument.{FileArgument}
+use Rattle.depot_rows.specs.depot_model.declared.request.Caller.{Caller}
+use Rattle.depot_rows.specs.depot_model.declared.refusal.Refusal.{Refusal}
+use Rattle.depot_rows.specs.depot_model.declared.refusal.Refusal.TheVariants.{AlreadyOpen, Exists, NotInView}
+use Rattle.depot_rows.specs.depot_model.Arguments.{in_client_syntax}
+use Rattle.depot_rows.specs.depot_model.Choice.{shown}
+use Rattle.depot_rows.specs.depot_model.Deeds.{Deed}
+use Rattle.depot_rows.specs.depot_model.Opened.{opened}
+use Rattle.depot_rows.specs.depot_model.Revisions.{is_live_head}
+use Rattle.depot_rows.specs.depot_model.Rules.{IsSound}
+use Rattle.depot_rows.specs.depot_model.Step.{Step, refuse_if, unless}
+use Rattle.depot_rows.specs.depot_model.Steps.Adding.{first_live, opening}
+use Rattle.depot_rows.specs.depot_model.Steps.Opening.{exclusive_refusal}
 use Rattle.depot_rows.specs.Standing.{HasRows}
 use Rattle.named_files.specs.Asked.{IsAsker}
 use Rattle.named_files.specs.declared.asker.Asker.{Asker}

@@ -1,18 +1,18 @@
 -- What a lock does to a file by who has its lock, and after which depots. This project's own choice.
 use Rattle.std.specs.Prelude.{◌≡◌, ◌⊎◌, ℕ, Bool, not, List, [], ◌∷◌, codes, Option, Some, None, if◌then◌else◌}
-use Rattle.depot_path.specs.Bytes.{same}
-use Rattle.depot_path.specs.Path.{printed}
-use Rattle.db_records.specs.declared.table.TableId.TheVariants as table_ids
-use Rattle.table_changes.specs.Changed.{AllRows}
-use Rattle.depot_model.specs.declared.request.Caller.{Caller}
-use Rattle.depot_model.specs.declared.refusal.Refusal.TheVariants.{Denied}
-use Rattle.depot_model.specs.Deeds.{Deed, Free, Hold}
-use Rattle.depot_model.specs.Opened.{holder}
-use Rattle.depot_model.specs.Rows.{row, path_field, text_field}
-use Rattle.depot_model.specs.Step.{Step, does, nothing, unless, refuse_if}
-use Rattle.depot_model.specs.Rules.{IsSound}
-use Rattle.depot_model.specs.Steps.Opening.{held}
-use Rattle.depot_model.specs.Steps.Reverting.{is_held_by, lock_refusal}
+use Rattle.depot_rows.specs.depot_path.Bytes.{same}
+use Rattle.depot_rows.specs.depot_path.Path.{printed}
+use Rattle.depot_rows.specs.db_records.declared.table.TableId.TheVariants as table_ids
+use Rattle.depot_rows.specs.table_changes.Changed.{AllRows}
+use Rattle.depot_rows.specs.depot_model.declared.request.Caller.{Caller}
+use Rattle.depot_rows.specs.depot_model.declared.refusal.Refusal.TheVariants.{Denied}
+use Rattle.depot_rows.specs.depot_model.Deeds.{Deed, Free, Hold}
+use Rattle.depot_rows.specs.depot_model.Opened.{holder}
+use Rattle.depot_rows.specs.depot_model.Rows.{row, path_field, text_field}
+use Rattle.depot_rows.specs.depot_model.Step.{Step, does, nothing, unless, refuse_if}
+use Rattle.depot_rows.specs.depot_model.Rules.{IsSound}
+use Rattle.depot_rows.specs.depot_model.Steps.Opening.{held}
+use Rattle.depot_rows.specs.depot_model.Steps.Reverting.{is_held_by, lock_refusal}
 use Rattle.depot_rows.specs.Standing.{HasRows}
 use Rattle.named_files.specs.Asked.{IsAsker}
 use Rattle.named_files.specs.declared.asker.Asker.{Asker}

@@ -1,21 +1,21 @@
 -- What `edit` and `delete` do with a file once it is known that the caller may open it, where the view shows it, and what is to be opened; and what
 -- is read for it. This project's own choice.
 use Rattle.std.specs.Prelude.{ℕ, false, List, [], ◌∷◌, codes, Option, Some, None, is_none}
-use Rattle.depot_path.specs.Path.{printed}
-use Rattle.depot_path.specs.declared.revision.Wanted.TheVariants.{Head}
-use Rattle.db_records.specs.declared.rows.RevRecord.{RevRecord}
-use Rattle.db_records.specs.declared.table.TableId.TheVariants as table_ids
-use Rattle.table_changes.specs.Changed.{AllRows}
-use Rattle.depot_model.specs.declared.command.FileArgument.{FileArgument}
-use Rattle.depot_model.specs.declared.request.Caller.{Caller}
-use Rattle.depot_model.specs.declared.refusal.Refusal.TheVariants.{AlreadyOpen, NotInView}
-use Rattle.depot_model.specs.Arguments.{had, named, no_file, over}
-use Rattle.depot_model.specs.Choice.{shown}
-use Rattle.depot_model.specs.Deeds.{Action, Deed, Open, Opening}
-use Rattle.depot_model.specs.Rules.{IsSound}
-use Rattle.depot_model.specs.Step.{Step, does, refuses, refuse_if, unless}
-use Rattle.depot_model.specs.Steps.Editing.{new_type, next_opening, open_file}
-use Rattle.depot_model.specs.Steps.Opening.{exclusive_refusal, opening_row}
+use Rattle.depot_rows.specs.depot_path.Path.{printed}
+use Rattle.depot_rows.specs.depot_path.declared.revision.Wanted.TheVariants.{Head}
+use Rattle.depot_rows.specs.db_records.declared.rows.RevRecord.{RevRecord}
+use Rattle.depot_rows.specs.db_records.declared.table.TableId.TheVariants as table_ids
+use Rattle.depot_rows.specs.table_changes.Changed.{AllRows}
+use Rattle.depot_rows.specs.depot_model.declared.command.FileArgument.{FileArgument}
+use Rattle.depot_rows.specs.depot_model.declared.request.Caller.{Caller}
+use Rattle.depot_rows.specs.depot_model.declared.refusal.Refusal.TheVariants.{AlreadyOpen, NotInView}
+use Rattle.depot_rows.specs.depot_model.Arguments.{had, named, no_file, over}
+use Rattle.depot_rows.specs.depot_model.Choice.{shown}
+use Rattle.depot_rows.specs.depot_model.Deeds.{Action, Deed, Open, Opening}
+use Rattle.depot_rows.specs.depot_model.Rules.{IsSound}
+use Rattle.depot_rows.specs.depot_model.Step.{Step, does, refuses, refuse_if, unless}
+use Rattle.depot_rows.specs.depot_model.Steps.Editing.{new_type, next_opening, open_file}
+use Rattle.depot_rows.specs.depot_model.Steps.Opening.{exclusive_refusal, opening_row}
 use Rattle.depot_rows.specs.Standing.{HasRows}
 use Rattle.named_files.specs.Asked.{IsAsker}
 use Rattle.named_files.specs.declared.asker.Asker.{Asker}

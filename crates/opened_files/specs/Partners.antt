@@ -1,7 +1,7 @@
 -- The two ends of a move, as their openings name each other (Command-Line Reference, "p4 move").
 use Rattle.std.specs.Prelude.{ℕ, List, Option, option_and_then, option_map}
-use Rattle.depot_model.specs.Deeds.{Deed, Opening}
-use Rattle.depot_model.specs.Opened.{opened, partner}
+use Rattle.depot_rows.specs.depot_model.Deeds.{Deed, Opening}
+use Rattle.depot_rows.specs.depot_model.Opened.{opened, partner}
 
 -- the other end that a client's opening of a file names
 abbrev pub end_named : List Deed → List ℕ → List ℕ → Option (List ℕ)

@@ -1,9 +1,9 @@
 -- The row of an opening, as its row in the table has it (Command-Line Reference, "p4 opened"; Helix Core database schema reference, "db.working").
 use Rattle.std.specs.Prelude.{ℕ, Bool, ◌||◌, List, [], ◌∷◌, codes}
-use Rattle.db_records.specs.declared.rows.WorkingRecord.{WorkingRecord}
-use Rattle.depot_path.specs.Bytes.{same}
-use Rattle.depot_model.specs.declared.reply.Row.{Row}
-use Rattle.depot_model.specs.Rows.{row, text_field, number_field, change_word}
+use Rattle.depot_rows.specs.db_records.declared.rows.WorkingRecord.{WorkingRecord}
+use Rattle.depot_rows.specs.depot_path.Bytes.{same}
+use Rattle.depot_rows.specs.depot_model.declared.reply.Row.{Row}
+use Rattle.depot_rows.specs.depot_model.Rows.{row, text_field, number_field, change_word}
 
 abbrev pub row_of_working : WorkingRecord → Row
 row_of_working r = row (

@@ -1,15 +1,15 @@
 -- Locks of one client let no other client lock a file. This project's own choice.
 use Rattle.std.specs.Prelude.{refl, ℕ, Bool, true, false, not, List, [], ◌∷◌, Option, Some, None, if◌then◌else◌, is_some}
 use Rattle.std.proofs.Common.{inl, inr}
-use Rattle.depot_path.specs.Bytes.{same}
-use Rattle.depot_model.specs.declared.request.Caller.{Caller}
-use Rattle.depot_model.specs.declared.refusal.Refusal.TheVariants.{Locked}
-use Rattle.depot_model.specs.Asking.{may_at}
-use Rattle.depot_model.specs.Deeds.{Deed, Hold}
-use Rattle.depot_model.specs.Opened.{holder, opened}
-use Rattle.depot_model.specs.Step.{Step as ModelStep, after, refuse_if, unless}
-use Rattle.depot_model.specs.Steps.Opening.{held}
-use Rattle.depot_model.specs.Steps.Reverting.{lock_file}
+use Rattle.depot_rows.specs.depot_path.Bytes.{same}
+use Rattle.depot_rows.specs.depot_model.declared.request.Caller.{Caller}
+use Rattle.depot_rows.specs.depot_model.declared.refusal.Refusal.TheVariants.{Locked}
+use Rattle.depot_rows.specs.depot_model.Asking.{may_at}
+use Rattle.depot_rows.specs.depot_model.Deeds.{Deed, Hold}
+use Rattle.depot_rows.specs.depot_model.Opened.{holder, opened}
+use Rattle.depot_rows.specs.depot_model.Step.{Step as ModelStep, after, refuse_if, unless}
+use Rattle.depot_rows.specs.depot_model.Steps.Opening.{held}
+use Rattle.depot_rows.specs.depot_model.Steps.Reverting.{lock_file}
 use Rattle.opened_files.specs.Locks.{NoOther, StaysFree, hold_step, locking}
 
 -- the step, unless a client that isn't the caller's has the lock

@@ -1,10 +1,10 @@
 //! The row of a file with which something was done.
 
 ghost use Rattle.std.specs.Prelude.{◌≡◌, ◌∷◌, [], IfOk, codes};
-ghost use Rattle.depot_model.specs.Rows.{path_field as field_of_path, row as row_with, text_field as field_of_text};
+ghost use Rattle.depot_rows.specs.depot_model.Rows.{path_field as field_of_path, row as row_with, text_field as field_of_text};
 
-use depot_model::Row;
-use depot_path::DepotPath;
+use depot_rows::model::Row;
+use depot_rows::paths::DepotPath;
 use reply_rows::RowBuilder;
 use std::alloc::{AllocError, Global};
 

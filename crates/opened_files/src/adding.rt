@@ -3,19 +3,19 @@
 ghost use Rattle.std.specs.Prelude.{◌≡◌, [], List, IfOk, None, Some, codes, option_map, true, unwrap_or};
 ghost use Rattle.std.specs.List.{list_all};
 ghost use Rattle.std.specs.Option.{option_to_list};
-ghost use Rattle.db_records.specs.declared.table.TableId.TheVariants as table_ids;
-ghost use Rattle.table_changes.specs.Changed.{rows_of};
-ghost use Rattle.depot_model.specs.Arguments as arguments_of;
-ghost use Rattle.depot_model.specs.Deeds.{Deed};
-ghost use Rattle.depot_model.specs.Refusals.{refusal_row};
-ghost use Rattle.depot_model.specs.Revisions.{is_live_head as live_head};
-ghost use Rattle.depot_model.specs.Rules.{IsSound};
-ghost use Rattle.depot_model.specs.Step.{refuses};
-ghost use Rattle.depot_model.specs.Steps.Adding as model;
-ghost use Rattle.depot_model.specs.Steps.Opening.{exclusive_refusal as exclusive_refusal_in};
-ghost use Rattle.depot_model.specs.WellFormed.{spells_path};
-ghost use Rattle.depot_model.specs.declared.refusal.Refusal.TheVariants as refusals;
-ghost use Rattle.depot_path.specs.Path.{printed};
+ghost use Rattle.depot_rows.specs.db_records.declared.table.TableId.TheVariants as table_ids;
+ghost use Rattle.depot_rows.specs.table_changes.Changed.{rows_of};
+ghost use Rattle.depot_rows.specs.depot_model.Arguments as arguments_of;
+ghost use Rattle.depot_rows.specs.depot_model.Deeds.{Deed};
+ghost use Rattle.depot_rows.specs.depot_model.Refusals.{refusal_row};
+ghost use Rattle.depot_rows.specs.depot_model.Revisions.{is_live_head as live_head};
+ghost use Rattle.depot_rows.specs.depot_model.Rules.{IsSound};
+ghost use Rattle.depot_rows.specs.depot_model.Step.{refuses};
+ghost use Rattle.depot_rows.specs.depot_model.Steps.Adding as model;
+ghost use Rattle.depot_rows.specs.depot_model.Steps.Opening.{exclusive_refusal as exclusive_refusal_in};
+ghost use Rattle.depot_rows.specs.depot_model.WellFormed.{spells_path};
+ghost use Rattle.depot_rows.specs.depot_model.declared.refusal.Refusal.TheVariants as refusals;
+ghost use Rattle.depot_rows.specs.depot_path.Path.{printed};
 ghost use Rattle.depot_rows.specs.Standing.{HasRows};
 ghost use Rattle.reply_rows.specs.Made.{IsMade};
 ghost use Rattle.opened_files.specs.Adds.{Reads, adds_permitted, adds_shown, new_refusal as new_refusal_by, spelled_file as file_spelled};
@@ -24,18 +24,18 @@ ghost use Rattle.opened_files.specs.Opens.{open_step};
 use crate::editing::open_file;
 use crate::refusing::{exclusive_refusal, right_refusal, unseen_row};
 use command_parts::named_change_refusal;
-use depot_model::{Caller, FileArgument, Row};
-use depot_path::{ClientPath, DepotPath, Name, Sequence, Text, Wanted};
+use depot_rows::model::{Caller, FileArgument, Row};
+use depot_rows::paths::{ClientPath, DepotPath, Name, Sequence, Text, Wanted};
+use depot_rows::protections::Level;
+use depot_rows::tables::Tables;
 use depot_rows::{Action, Opening};
 use file_steps::{FileAct, FileFinder, over_found, within_files};
 use named_files::{Asker, spelled_path};
 use opening_reads::is_opened_by;
-use protect_table::Level;
 use reply_rows::{Step, already_open_row, exists_row, not_in_view_row};
 use revision_reads::{file_at, head_of, is_live_head, shown_in_view};
 use row_reads::in_client_syntax;
 use std::alloc::{AllocError, Global};
-use table_store::Tables;
 
 /// The files that `add` takes.
 #[derive(Drop)]
@@ -84,10 +84,10 @@ fn in_list(alloc: Global, file: Option<DepotPath>) -> Result<Sequence<DepotPath>
 
 impl<'a> FileFinder for FilesToAdd<'a> {
     ghost use Rattle.std.specs.Prelude.{◌∷◌, []};
-    ghost use Rattle.depot_path.specs.Path.{printed};
-    ghost use Rattle.depot_model.specs.Refusals.{refusal_row};
-    ghost use Rattle.depot_model.specs.Steps.Adding.{files_to_add, spelled};
-    ghost use Rattle.depot_model.specs.declared.refusal.Refusal.TheVariants as refusals;
+    ghost use Rattle.depot_rows.specs.depot_path.Path.{printed};
+    ghost use Rattle.depot_rows.specs.depot_model.Refusals.{refusal_row};
+    ghost use Rattle.depot_rows.specs.depot_model.Steps.Adding.{files_to_add, spelled};
+    ghost use Rattle.depot_rows.specs.depot_model.declared.refusal.Refusal.TheVariants as refusals;
     ghost use Rattle.opened_files.specs.Adds.{Reads};
 
     ghost reads = { λ finder rows d. Reads finder.caller.now finder.asker.now rows d };
@@ -271,7 +271,7 @@ impl<'a> Adding<'a> {
 }
 
 impl<'a> FileAct for Adding<'a> {
-    ghost use Rattle.depot_model.specs.Steps.Adding.{add_file};
+    ghost use Rattle.depot_rows.specs.depot_model.Steps.Adding.{add_file};
     ghost use Rattle.opened_files.specs.Adds.{Reads};
 
     ghost reads = { λ act rows d. Reads act.caller.now act.asker.now rows d };

@@ -2,7 +2,7 @@
 
 ghost use Rattle.std.specs.Prelude.{◌≡◌, IfOk};
 
-use depot_path::{DepotPath, Name, Text};
+use depot_rows::paths::{DepotPath, Name, Text};
 use std::alloc::AllocError;
 
 /// A copy of a name. The one error, here and below, is want of memory.

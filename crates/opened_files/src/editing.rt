@@ -2,16 +2,16 @@
 
 ghost use Rattle.std.specs.Prelude.{◌≡◌, ℕ, true, List, Option, IfOk, Some, None, option_map};
 ghost use Rattle.std.specs.List.{list_all};
-ghost use Rattle.db_records.specs.declared.record.Record.TheVariants as records;
-ghost use Rattle.db_records.specs.declared.table.TableId.TheVariants as table_ids;
-ghost use Rattle.table_changes.specs.Changed.{AllRows, rows_of};
-ghost use Rattle.depot_model.specs.Arguments.{within_files as within_files_in};
-ghost use Rattle.depot_model.specs.Deeds.{Deed};
-ghost use Rattle.depot_model.specs.Opened.{opened};
-ghost use Rattle.depot_model.specs.Records.{working_record};
-ghost use Rattle.depot_model.specs.Rules.{IsSound};
-ghost use Rattle.depot_model.specs.Steps.Editing as model;
-ghost use Rattle.depot_model.specs.WellFormed.{asks_head};
+ghost use Rattle.depot_rows.specs.db_records.declared.record.Record.TheVariants as records;
+ghost use Rattle.depot_rows.specs.db_records.declared.table.TableId.TheVariants as table_ids;
+ghost use Rattle.depot_rows.specs.table_changes.Changed.{AllRows, rows_of};
+ghost use Rattle.depot_rows.specs.depot_model.Arguments.{within_files as within_files_in};
+ghost use Rattle.depot_rows.specs.depot_model.Deeds.{Deed};
+ghost use Rattle.depot_rows.specs.depot_model.Opened.{opened};
+ghost use Rattle.depot_rows.specs.depot_model.Records.{working_record};
+ghost use Rattle.depot_rows.specs.depot_model.Rules.{IsSound};
+ghost use Rattle.depot_rows.specs.depot_model.Steps.Editing as model;
+ghost use Rattle.depot_rows.specs.depot_model.WellFormed.{asks_head};
 ghost use Rattle.depot_rows.specs.Deed.{action_of, opening_of as opening_of_deed};
 ghost use Rattle.depot_rows.specs.Standing.{HasRows};
 ghost use Rattle.opening_reads.specs.Read.{opening_in_row};
@@ -23,20 +23,20 @@ use crate::had::first_type;
 use crate::opening_rows::opening_row;
 use crate::refusing::{exclusive_refusal, right_refusal, unseen_row};
 use command_parts::named_change_refusal;
-use db_records::WorkingRecord;
-use depot_model::{Caller, FileArgument};
-use depot_path::{ClientPath, DepotPath, Name, Text, Wanted};
+use depot_rows::model::{Caller, FileArgument};
+use depot_rows::paths::{ClientPath, DepotPath, Name, Text, Wanted};
+use depot_rows::protections::Level;
+use depot_rows::records::WorkingRecord;
+use depot_rows::tables::Tables;
 use depot_rows::{Action, Opening};
 use file_openings::opening_of;
 use file_steps::{FileAct, over, within_files};
 use named_files::{Asker, HeadFiles, Listing};
 use opening_reads::opening_in;
-use protect_table::Level;
 use reply_rows::{Step, already_open_row};
 use revision_reads::shown_of;
 use row_reads::have_of;
 use std::alloc::{AllocError, Global};
-use table_store::Tables;
 
 /// What `edit` and `delete` do with a file.
 #[derive(Drop)]
@@ -298,7 +298,7 @@ impl<'a> OpeningHad<'a> {
 }
 
 impl<'a> FileAct for OpeningHad<'a> {
-    ghost use Rattle.depot_model.specs.Steps.Editing.{open_file as step_of_file};
+    ghost use Rattle.depot_rows.specs.depot_model.Steps.Editing.{open_file as step_of_file};
     ghost use Rattle.depot_rows.specs.Deed.{action_of};
     ghost use Rattle.opened_files.specs.Opens.{Reads};
 

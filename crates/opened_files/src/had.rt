@@ -2,21 +2,21 @@
 
 ghost use Rattle.std.specs.Prelude.{◌≡◌, List, IfOk, codes, option_map, unwrap_or};
 ghost use Rattle.std.specs.Option.{option_copied};
-ghost use Rattle.db_records.specs.declared.table.TableId.TheVariants as table_ids;
-ghost use Rattle.table_changes.specs.Changed.{rows_of};
-ghost use Rattle.depot_model.specs.Deeds.{Deed};
-ghost use Rattle.depot_model.specs.Steps.Editing as model;
+ghost use Rattle.depot_rows.specs.db_records.declared.table.TableId.TheVariants as table_ids;
+ghost use Rattle.depot_rows.specs.table_changes.Changed.{rows_of};
+ghost use Rattle.depot_rows.specs.depot_model.Deeds.{Deed};
+ghost use Rattle.depot_rows.specs.depot_model.Steps.Editing as model;
 ghost use Rattle.depot_rows.specs.Standing.{HasRows};
 ghost use Rattle.opened_files.specs.Opens.{type_in};
 
 use crate::copies::own_text;
-use db_records::RevRecord;
-use depot_model::Caller;
-use depot_path::{DepotPath, Text};
+use depot_rows::model::Caller;
+use depot_rows::paths::{DepotPath, Text};
+use depot_rows::records::RevRecord;
+use depot_rows::tables::Tables;
 use revision_reads::revision_of;
 use row_reads::have_of;
 use std::alloc::{AllocError, Global};
-use table_store::Tables;
 
 /// The type of a revision, `text` where there is none.
 fn type_of(alloc: Global, row: Option<&RevRecord>) -> Result<Text, AllocError>

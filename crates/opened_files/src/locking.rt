@@ -2,27 +2,27 @@
 
 ghost use Rattle.std.specs.Prelude.{◌≡◌, List, IfOk};
 ghost use Rattle.std.specs.Option.{option_copied};
-ghost use Rattle.db_records.specs.declared.table.TableId.TheVariants as table_ids;
-ghost use Rattle.table_changes.specs.Changed.{AllRows, rows_of};
-ghost use Rattle.depot_model.specs.Deeds.{Deed};
-ghost use Rattle.depot_model.specs.Opened.{holder};
-ghost use Rattle.depot_model.specs.Rules.{IsSound};
-ghost use Rattle.depot_model.specs.Steps.Reverting as model;
+ghost use Rattle.depot_rows.specs.db_records.declared.table.TableId.TheVariants as table_ids;
+ghost use Rattle.depot_rows.specs.table_changes.Changed.{AllRows, rows_of};
+ghost use Rattle.depot_rows.specs.depot_model.Deeds.{Deed};
+ghost use Rattle.depot_rows.specs.depot_model.Opened.{holder};
+ghost use Rattle.depot_rows.specs.depot_model.Rules.{IsSound};
+ghost use Rattle.depot_rows.specs.depot_model.Steps.Reverting as model;
 ghost use Rattle.depot_rows.specs.Standing.{HasRows};
 ghost use Rattle.reply_rows.specs.Made.{IsMade};
 ghost use Rattle.opened_files.specs.Locks.{NoOther, Reads, hold_step, locking as locking_by, other_of as other_in};
 
 use crate::action_rows::action_row;
-use depot_model::{Caller, FileArgument};
-use depot_path::{DepotPath, Name};
+use depot_rows::model::{Caller, FileArgument};
+use depot_rows::paths::{DepotPath, Name};
+use depot_rows::protections::Level;
+use depot_rows::tables::Tables;
 use file_steps::{FileAct, over, within_files};
 use named_files::{Asker, SelectedFiles};
 use opening_reads::held;
-use protect_table::Level;
 use reply_rows::{Step, denied_row, locked_row};
 use revision_reads::holder_of;
 use std::alloc::{AllocError, Global};
-use table_store::Tables;
 
 /// What `lock` does with a file.
 #[derive(Drop)]
@@ -89,7 +89,7 @@ fn lock_file(
 }
 
 impl<'a> FileAct for Locking<'a> {
-    ghost use Rattle.depot_model.specs.Steps.Reverting.{lock_file as step_of_file};
+    ghost use Rattle.depot_rows.specs.depot_model.Steps.Reverting.{lock_file as step_of_file};
     ghost use Rattle.opened_files.specs.Locks.{Reads, StaysFree};
     ghost use Rattle.opened_files.specs.Staying.{lock_stays};
 

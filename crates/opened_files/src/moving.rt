@@ -1,16 +1,16 @@
 //! `move` (Command-Line Reference, "p4 move", "p4 rename").
 
 ghost use Rattle.std.specs.Prelude.{◌≡◌, ◌++◌, ℕ, true, false, List, IfOk, OnOk, Some, option_map};
-ghost use Rattle.db_records.specs.declared.table.TableId.TheVariants as table_ids;
-ghost use Rattle.table_changes.specs.Changed.{AllRows, rows_of};
-ghost use Rattle.depot_model.specs.Arguments.{named as named_in, opened_by, within_files as within_files_in};
-ghost use Rattle.depot_model.specs.Deeds.{Deed as ModelDeed};
-ghost use Rattle.depot_model.specs.Opened.{partner};
-ghost use Rattle.depot_model.specs.Refusals.{refusal_row};
-ghost use Rattle.depot_model.specs.Revisions.{head};
-ghost use Rattle.depot_model.specs.Rules.{IsSound};
-ghost use Rattle.depot_model.specs.Steps.Moving as model;
-ghost use Rattle.depot_model.specs.WellFormed.{asks_head};
+ghost use Rattle.depot_rows.specs.db_records.declared.table.TableId.TheVariants as table_ids;
+ghost use Rattle.depot_rows.specs.table_changes.Changed.{AllRows, rows_of};
+ghost use Rattle.depot_rows.specs.depot_model.Arguments.{named as named_in, opened_by, within_files as within_files_in};
+ghost use Rattle.depot_rows.specs.depot_model.Deeds.{Deed as ModelDeed};
+ghost use Rattle.depot_rows.specs.depot_model.Opened.{partner};
+ghost use Rattle.depot_rows.specs.depot_model.Refusals.{refusal_row};
+ghost use Rattle.depot_rows.specs.depot_model.Revisions.{head};
+ghost use Rattle.depot_rows.specs.depot_model.Rules.{IsSound};
+ghost use Rattle.depot_rows.specs.depot_model.Steps.Moving as model;
+ghost use Rattle.depot_rows.specs.depot_model.WellFormed.{asks_head};
 ghost use Rattle.depot_rows.specs.Deed.{action_of, opening_of as opening_of_deed};
 ghost use Rattle.depot_rows.specs.Effects.{Follow};
 ghost use Rattle.depot_rows.specs.Standing.{HasRows};
@@ -27,17 +27,17 @@ use crate::partners::is_end;
 use crate::refusing::{right_refusal, unseen_row};
 use command_parts::named_change_refusal;
 use deed_list::Deeds;
-use depot_model::{Caller, FileArgument, PatternArgument, Row};
-use depot_path::{DepotPath, Sequence, Text, Wanted, print_bytes};
+use depot_rows::model::{Caller, FileArgument, PatternArgument, Row};
+use depot_rows::paths::{DepotPath, Sequence, Text, Wanted, print_bytes};
+use depot_rows::protections::Level;
+use depot_rows::tables::Tables;
 use depot_rows::{Action, Opening, Source};
 use file_steps::{TurnAct, in_turn, named_by, not_open, within_files};
 use named_files::{Asker, HeadFiles, Listing};
 use opening_reads::{OwnOpenings, held, own_opening};
-use protect_table::Level;
 use reply_rows::{RowBuilder, Step, not_in_view_row, not_movable_row};
 use revision_reads::{head_of, shown_in_view, target_at as file_of_target, target_text};
 use std::alloc::{AllocError, Global};
-use table_store::Tables;
 
 /// What `move` is asked.
 #[derive(Drop)]
@@ -645,7 +645,7 @@ impl<'a> Moving<'a> {
 }
 
 impl<'a> TurnAct for MovingInTurn<'a> {
-    ghost use Rattle.depot_model.specs.Steps.Moving.{move_file};
+    ghost use Rattle.depot_rows.specs.depot_model.Steps.Moving.{move_file};
     ghost use Rattle.opened_files.specs.Moves.{ReadsOwn};
 
     ghost stands = { λ act rows d e. ReadsOwn act.moving.now.caller.now act.moving.now.asker.now act.moving.now.from.now act.own rows d e };

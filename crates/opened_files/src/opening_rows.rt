@@ -2,12 +2,12 @@
 
 ghost use Rattle.std.specs.Prelude.{◌≡◌, ◌++◌, IfOk, codes};
 ghost use Rattle.std.specs.Option.{option_copied};
-ghost use Rattle.depot_model.specs.Rows.{action_word as word_of_action, if_any, path_field as field_of_path};
-ghost use Rattle.depot_model.specs.Steps.Opening as model;
+ghost use Rattle.depot_rows.specs.depot_model.Rows.{action_word as word_of_action, if_any, path_field as field_of_path};
+ghost use Rattle.depot_rows.specs.depot_model.Steps.Opening as model;
 ghost use Rattle.depot_rows.specs.Deed.{action_of, opening_of as opening_of_deed};
 
-use depot_model::Row;
-use depot_path::ClientPath;
+use depot_rows::model::Row;
+use depot_rows::paths::ClientPath;
 use depot_rows::{Action, Opening};
 use reply_rows::RowBuilder;
 use std::alloc::{AllocError, Global};

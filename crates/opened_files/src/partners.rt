@@ -2,19 +2,19 @@
 
 ghost use Rattle.std.specs.Prelude.{◌≡◌, false, List, IfOk};
 ghost use Rattle.std.specs.Option.{option_map_or};
-ghost use Rattle.depot_path.specs.Bytes.{same};
-ghost use Rattle.db_records.specs.declared.table.TableId.TheVariants as table_ids;
-ghost use Rattle.table_changes.specs.Changed.{rows_of};
-ghost use Rattle.depot_model.specs.Deeds.{Deed};
-ghost use Rattle.depot_model.specs.Rules.{IsSound};
+ghost use Rattle.depot_rows.specs.depot_path.Bytes.{same};
+ghost use Rattle.depot_rows.specs.db_records.declared.table.TableId.TheVariants as table_ids;
+ghost use Rattle.depot_rows.specs.table_changes.Changed.{rows_of};
+ghost use Rattle.depot_rows.specs.depot_model.Deeds.{Deed};
+ghost use Rattle.depot_rows.specs.depot_model.Rules.{IsSound};
 ghost use Rattle.depot_rows.specs.Standing.{HasRows};
 ghost use Rattle.opened_files.specs.Partners.{end_named, partner_path};
 
-use depot_path::{DepotPath, Name};
+use depot_rows::paths::{DepotPath, Name};
+use depot_rows::tables::Tables;
 use file_openings::opening_of;
 use opening_reads::path_in;
 use std::alloc::{AllocError, Global};
-use table_store::Tables;
 
 /// The file at the other end of a move, as a client's opening of a file names it.
 fn named_end(

@@ -1,26 +1,26 @@
 //! What the commands that open files refuse alike.
 
 ghost use Rattle.std.specs.Prelude.{◌≡◌, List, IfOk, option_map};
-ghost use Rattle.depot_path.specs.Path.{printed};
-ghost use Rattle.db_records.specs.declared.table.TableId.TheVariants as table_ids;
-ghost use Rattle.table_changes.specs.Changed.{rows_of};
-ghost use Rattle.depot_model.specs.declared.refusal.Refusal.TheVariants as refusals;
-ghost use Rattle.depot_model.specs.declared.request.Caller.{Caller as AnyCaller};
-ghost use Rattle.depot_model.specs.Deeds.{Deed};
-ghost use Rattle.depot_model.specs.Refusals.{refusal_row};
-ghost use Rattle.depot_model.specs.Rules.{IsSound};
-ghost use Rattle.depot_model.specs.Steps.Opening as model;
+ghost use Rattle.depot_rows.specs.depot_path.Path.{printed};
+ghost use Rattle.depot_rows.specs.db_records.declared.table.TableId.TheVariants as table_ids;
+ghost use Rattle.depot_rows.specs.table_changes.Changed.{rows_of};
+ghost use Rattle.depot_rows.specs.depot_model.declared.refusal.Refusal.TheVariants as refusals;
+ghost use Rattle.depot_rows.specs.depot_model.declared.request.Caller.{Caller as AnyCaller};
+ghost use Rattle.depot_rows.specs.depot_model.Deeds.{Deed};
+ghost use Rattle.depot_rows.specs.depot_model.Refusals.{refusal_row};
+ghost use Rattle.depot_rows.specs.depot_model.Rules.{IsSound};
+ghost use Rattle.depot_rows.specs.depot_model.Steps.Opening as model;
 ghost use Rattle.depot_rows.specs.Standing.{HasRows};
 ghost use Rattle.named_files.specs.Asked.{IsAsker};
 
-use depot_model::Row;
-use depot_path::{DepotPath, Name, Text};
+use depot_rows::model::Row;
+use depot_rows::paths::{DepotPath, Name, Text};
+use depot_rows::protections::Level;
+use depot_rows::tables::Tables;
 use file_openings::barred_by;
 use named_files::Asker;
-use protect_table::Level;
 use reply_rows::{denied_row, exclusive_open_row, not_in_view_row};
 use std::alloc::{AllocError, Global};
-use table_store::Tables;
 
 /// The row that refuses a file at which the asker lacks a right. The one error, here and below, is want of memory.
 pub fn right_refusal(

@@ -1,12 +1,12 @@
 //! `reopen` (Command-Line Reference, "p4 reopen").
 
 ghost use Rattle.std.specs.Prelude.{◌≡◌, [], List, IfOk, None};
-ghost use Rattle.db_records.specs.declared.table.TableId.TheVariants as table_ids;
-ghost use Rattle.table_changes.specs.Changed.{AllRows, rows_of};
-ghost use Rattle.depot_model.specs.Arguments as arguments_of;
-ghost use Rattle.depot_model.specs.Deeds.{Deed};
-ghost use Rattle.depot_model.specs.Rules.{IsSound};
-ghost use Rattle.depot_model.specs.Steps.Reverting as model;
+ghost use Rattle.depot_rows.specs.db_records.declared.table.TableId.TheVariants as table_ids;
+ghost use Rattle.depot_rows.specs.table_changes.Changed.{AllRows, rows_of};
+ghost use Rattle.depot_rows.specs.depot_model.Arguments as arguments_of;
+ghost use Rattle.depot_rows.specs.depot_model.Deeds.{Deed};
+ghost use Rattle.depot_rows.specs.depot_model.Rules.{IsSound};
+ghost use Rattle.depot_rows.specs.depot_model.Steps.Reverting as model;
 ghost use Rattle.depot_rows.specs.Deed.{opening_of as opening_of_deed};
 ghost use Rattle.depot_rows.specs.Standing.{HasRows};
 ghost use Rattle.reply_rows.specs.Made.{IsMade};
@@ -15,18 +15,18 @@ ghost use Rattle.opened_files.specs.Locks.{Reads};
 ghost use Rattle.opened_files.specs.Reopened.{open_step, reopening as reopening_by};
 
 use command_parts::reopened_change_refusal;
-use db_records::WorkingRecord;
-use depot_model::{Caller, FileArgument, Row};
-use depot_path::{DepotPath, Name, Text};
 use depot_rows::Opening;
+use depot_rows::model::{Caller, FileArgument, Row};
+use depot_rows::paths::{DepotPath, Name, Text};
+use depot_rows::protections::Level;
+use depot_rows::records::WorkingRecord;
+use depot_rows::tables::Tables;
 use file_openings::opening_of;
 use file_steps::{FileAct, over, within_files};
 use named_files::{Asker, SelectedFiles};
 use opening_reads::reopened_in;
-use protect_table::Level;
 use reply_rows::{RowBuilder, Step, denied_row};
 use std::alloc::{AllocError, Global};
-use table_store::Tables;
 
 /// What `reopen` does with a file.
 #[derive(Drop)]
@@ -91,7 +91,7 @@ fn reopen_file(
 }
 
 impl<'a> FileAct for Reopening<'a> {
-    ghost use Rattle.depot_model.specs.Steps.Reverting.{reopen_file as step_of_file};
+    ghost use Rattle.depot_rows.specs.depot_model.Steps.Reverting.{reopen_file as step_of_file};
     ghost use Rattle.opened_files.specs.Locks.{Reads};
 
     ghost reads = { λ reopening rows d. Reads reopening.caller.now reopening.asker.now rows d };

@@ -2,13 +2,13 @@
 
 ghost use Rattle.std.specs.Prelude.{◌≡◌, ℕ, [], ◌∷◌, ◌++◌, List, IfOk, OnOk, flat_map, if◌then◌else◌};
 ghost use Rattle.std.specs.Option.{option_to_list};
-ghost use Rattle.db_records.specs.declared.table.TableId.TheVariants as table_ids;
-ghost use Rattle.table_changes.specs.Changed.{rows_of};
-ghost use Rattle.depot_model.specs.Arguments.{is_in};
-ghost use Rattle.depot_model.specs.Deeds.{Deed};
-ghost use Rattle.depot_model.specs.Rules.{IsSound};
-ghost use Rattle.depot_model.specs.Step.{Step as ModelStep, all_of, both, nothing};
-ghost use Rattle.depot_model.specs.Steps.Reverting as model;
+ghost use Rattle.depot_rows.specs.db_records.declared.table.TableId.TheVariants as table_ids;
+ghost use Rattle.depot_rows.specs.table_changes.Changed.{rows_of};
+ghost use Rattle.depot_rows.specs.depot_model.Arguments.{is_in};
+ghost use Rattle.depot_rows.specs.depot_model.Deeds.{Deed};
+ghost use Rattle.depot_rows.specs.depot_model.Rules.{IsSound};
+ghost use Rattle.depot_rows.specs.depot_model.Step.{Step as ModelStep, all_of, both, nothing};
+ghost use Rattle.depot_rows.specs.depot_model.Steps.Reverting as model;
 ghost use Rattle.depot_rows.specs.Standing.{HasRows};
 ghost use Rattle.reply_rows.specs.Made.{IsMade};
 ghost use Rattle.opened_files.specs.Reverts.{AreAlike, IsReverted, Reads, shut_row as row_of_shut};
@@ -16,16 +16,16 @@ ghost use Rattle.opened_files.specs.Reverts.{AreAlike, IsReverted, Reads, shut_r
 use crate::copies::own_path;
 use crate::partners::partner_of;
 use crate::refusing::right_refusal;
-use depot_model::{Caller, FileArgument, Row};
-use depot_path::DepotPath;
+use depot_rows::model::{Caller, FileArgument, Row};
+use depot_rows::paths::DepotPath;
+use depot_rows::protections::Level;
+use depot_rows::tables::Tables;
 use file_steps::{PathSet, named_by, not_open, within_files};
 use named_files::{Asker, SelectedFiles};
 use opening_reads::held;
-use protect_table::Level;
 use reply_rows::{RowBuilder, Step};
 use row_reads::have_of;
 use std::alloc::{AllocError, Global};
-use table_store::Tables;
 
 /// With the revision that the client has, if it has one.
 fn with_have(row: RowBuilder, have: u32) -> Result<RowBuilder, AllocError>

@@ -1,29 +1,29 @@
 //! `opened` (Command-Line Reference, "p4 opened").
 
 ghost use Rattle.std.specs.Prelude.{◌≡◌, ◌∷◌, [], ◌++◌, List, IfOk, OnOk, filter, map, true, false, if◌then◌else◌};
-ghost use Rattle.db_records.specs.declared.table.TableId.TheVariants as table_ids;
+ghost use Rattle.depot_rows.specs.db_records.declared.table.TableId.TheVariants as table_ids;
 ghost use Rattle.row_ranges.specs.Ranges.{has_row, range_table};
-ghost use Rattle.table_changes.specs.Changed.{rows_of};
-ghost use Rattle.depot_model.specs.Deeds.{Deed};
-ghost use Rattle.depot_model.specs.Records.{working_record};
-ghost use Rattle.depot_model.specs.Rules.{IsSound};
-ghost use Rattle.depot_model.specs.Steps.Reverting as model;
+ghost use Rattle.depot_rows.specs.table_changes.Changed.{rows_of};
+ghost use Rattle.depot_rows.specs.depot_model.Deeds.{Deed};
+ghost use Rattle.depot_rows.specs.depot_model.Records.{working_record};
+ghost use Rattle.depot_rows.specs.depot_model.Rules.{IsSound};
+ghost use Rattle.depot_rows.specs.depot_model.Steps.Reverting as model;
 ghost use Rattle.depot_rows.specs.Standing.{HasRows};
 ghost use Rattle.reply_rows.specs.Made.{IsMade, told};
 ghost use Rattle.file_openings.specs.Openings.{openings, workings};
 ghost use Rattle.named_files.specs.Asked.{IsAsker};
 ghost use Rattle.opened_files.specs.Shown.{is_shown as shown_to, row_of_working};
 
-use db_records::{Record, WorkingRecord};
-use depot_model::{Caller, FileArgument, Row};
-use depot_path::{DepotPath, Name, Sequence};
+use depot_rows::model::{Caller, FileArgument, Row};
+use depot_rows::paths::{DepotPath, Name, Sequence};
+use depot_rows::records::{Record, WorkingRecord};
+use depot_rows::tables::Tables;
 use file_openings::{openings_of, rows_are_openings};
 use file_steps::{FileAct, over_all};
 use named_files::{Asker, ListedFiles, Listing, OpenedAnywhere};
 use reply_rows::{RowBuilder, Step};
 use row_ranges::{KeyRange, rows_in};
 use std::alloc::{AllocError, Global};
-use table_store::Tables;
 
 /// What `opened` shows of a file.
 #[derive(Drop)]
@@ -109,8 +109,8 @@ fn show(
 }
 
 impl<'a> FileAct for Showing<'a> {
-    ghost use Rattle.db_records.specs.declared.table.TableId.TheVariants as table_ids;
-    ghost use Rattle.depot_model.specs.Steps.Reverting.{show_opened};
+    ghost use Rattle.depot_rows.specs.db_records.declared.table.TableId.TheVariants as table_ids;
+    ghost use Rattle.depot_rows.specs.depot_model.Steps.Reverting.{show_opened};
     ghost use Rattle.depot_rows.specs.Standing.{HasRows};
 
     ghost reads = { λ showing rows d. HasRows rows d table_ids.Working };

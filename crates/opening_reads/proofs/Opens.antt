@@ -2,19 +2,19 @@
 use Rattle.std.proofs.Common.{◌≡◌, ℕ, Bool, true, Option, Some, None, List, [], Result, Ok, Err, refl, sym, ap, subst}
 use Rattle.std.specs.Prelude.{option_map, unwrap_or, ◌&&◌, ◌++◌, if◌then◌else◌}
 use Rattle.std.specs.List.{list_all}
-use Rattle.depot_path.specs.Path.{printed, is_path}
-use Rattle.depot_path.specs.declared.fault.PathFault.{PathFault}
-use Rattle.depot_path.proofs.Paths.{prints_path}
-use Rattle.depot_model.specs.Deeds as model
-use Rattle.depot_model.specs.Deeds.{Deed, Open, Opening, Source, Action}
-use Rattle.depot_model.specs.Opened.{opened}
-use Rattle.db_records.specs.declared.record.Record.{Record}
-use Rattle.db_records.specs.declared.record.Record.TheVariants as records
-use Rattle.db_records.specs.declared.rows.WorkingRecord.{WorkingRecord}
-use Rattle.depot_model.specs.Records.{working_record, printed_or_empty, is_holder}
-use Rattle.depot_model.specs.Rows.{action_word}
-use Rattle.depot_model.specs.Rules.{IsSound, opening_paths, path_or_none}
-use Rattle.depot_model.specs.Steps.Reverting.{moved}
+use Rattle.depot_rows.specs.depot_path.Path.{printed, is_path}
+use Rattle.depot_rows.specs.depot_path.declared.fault.PathFault.{PathFault}
+use Rattle.depot_rows.proofs.depot_path.Paths.{prints_path}
+use Rattle.depot_rows.specs.depot_model.Deeds as model
+use Rattle.depot_rows.specs.depot_model.Deeds.{Deed, Open, Opening, Source, Action}
+use Rattle.depot_rows.specs.depot_model.Opened.{opened}
+use Rattle.depot_rows.specs.db_records.declared.record.Record.{Record}
+use Rattle.depot_rows.specs.db_records.declared.record.Record.TheVariants as records
+use Rattle.depot_rows.specs.db_records.declared.rows.WorkingRecord.{WorkingRecord}
+use Rattle.depot_rows.specs.depot_model.Records.{working_record, printed_or_empty, is_holder}
+use Rattle.depot_rows.specs.depot_model.Rows.{action_word}
+use Rattle.depot_rows.specs.depot_model.Rules.{IsSound, opening_paths, path_or_none}
+use Rattle.depot_rows.specs.depot_model.Steps.Reverting.{moved}
 use Rattle.depot_rows.specs.Deed.{action_of, opening_of, source_of}
 use Rattle.depot_rows.proofs.CutPairs.{opening_paths_are}
 use Rattle.depot_rows.proofs.Keys.{left-true, right-true}

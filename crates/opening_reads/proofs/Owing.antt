@@ -1,13 +1,13 @@
 -- What the row of an owed resolve says is what the depot says.
 use Rattle.std.proofs.Common.{◌≡◌, ℕ, List, Option, Some, None, Ok, refl, sym, ap, ◌∙◌}
 use Rattle.std.specs.Prelude.{option_map}
-use Rattle.depot_path.specs.Path.{path_of, printed}
-use Rattle.db_records.specs.declared.key.Key.TheVariants as keys
-use Rattle.db_records.specs.declared.record.Record.{Record}
-use Rattle.db_records.specs.declared.record.Record.TheVariants as records
-use Rattle.depot_model.specs.Deeds.{Deed}
-use Rattle.depot_model.specs.Opened.{Resolve, owed}
-use Rattle.depot_model.specs.Records.{at_path, record_of, resolve_record, unplaced}
+use Rattle.depot_rows.specs.depot_path.Path.{path_of, printed}
+use Rattle.depot_rows.specs.db_records.declared.key.Key.TheVariants as keys
+use Rattle.depot_rows.specs.db_records.declared.record.Record.{Record}
+use Rattle.depot_rows.specs.db_records.declared.record.Record.TheVariants as records
+use Rattle.depot_rows.specs.depot_model.Deeds.{Deed}
+use Rattle.depot_rows.specs.depot_model.Opened.{Resolve, owed}
+use Rattle.depot_rows.specs.depot_model.Records.{at_path, record_of, resolve_record, unplaced}
 use Rattle.row_reads.proofs.FoundRows.{at_own_path}
 use Rattle.opening_reads.specs.Owed.{resolve_of}
 

@@ -2,13 +2,13 @@
 use Rattle.std.proofs.Common.{◌≡◌, ℕ, Bool, true, false, List, [], ◌∷◌, map, Option, Some, None, inl, inr, refl, sym, ap, ◌∙◌}
 use Rattle.std.specs.Prelude.{if◌then◌else◌, filter, option_map}
 use Rattle.std.specs.List.{filter_map, cons_option, list_all}
-use Rattle.depot_path.specs.Path.{printed, is_path}
-use Rattle.depot_model.specs.Arguments.{paths_of}
-use Rattle.depot_model.specs.Deeds.{Deed, Opening, Owing}
-use Rattle.depot_model.specs.Opened.{opened, owed, Resolve}
-use Rattle.depot_model.specs.Records.{resolve_record}
-use Rattle.depot_model.specs.Rules.{has_paths}
-use Rattle.depot_model.specs.Steps.Submitting.{is_unpaid, owed_from, resolves_of}
+use Rattle.depot_rows.specs.depot_path.Path.{printed, is_path}
+use Rattle.depot_rows.specs.depot_model.Arguments.{paths_of}
+use Rattle.depot_rows.specs.depot_model.Deeds.{Deed, Opening, Owing}
+use Rattle.depot_rows.specs.depot_model.Opened.{opened, owed, Resolve}
+use Rattle.depot_rows.specs.depot_model.Records.{resolve_record}
+use Rattle.depot_rows.specs.depot_model.Rules.{has_paths}
+use Rattle.depot_rows.specs.depot_model.Steps.Submitting.{is_unpaid, owed_from, resolves_of}
 use Rattle.depot_rows.specs.Deed.{owing_of}
 use Rattle.depot_rows.specs.declared.deed.Owing.{Owing as OwingSaid}
 use Rattle.depot_rows.proofs.Entries.{In}

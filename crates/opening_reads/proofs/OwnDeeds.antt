@@ -7,16 +7,16 @@ use Rattle.std.specs.Option.{option_flatten, option_map_or, option_or}
 use Rattle.std.specs.Ordering.{is_lt, nat_cmp}
 use Rattle.std.specs.Cmp.Lexicographic.{slice_cmp}
 use Rattle.std.proofs.lemmas.Bool.{false≢true}
-use Rattle.depot_path.specs.Bytes.{same}
-use Rattle.depot_path.specs.Order.{path_cmp}
-use Rattle.depot_path.specs.OrderLaws.{paths_ties}
-use Rattle.depot_model.specs.declared.refusal.Refusal.TheVariants.{ExclusiveOpen}
-use Rattle.depot_model.specs.Deeds.{Deed, Spec, Guard, Group, Count, Pend, Drop, Open, Shut, Hold, Free, Got, Tag, Owe, Paid, Land, Opening, Held, Owing, How}
-use Rattle.depot_model.specs.Latest.{keys_of, latest, when}
-use Rattle.depot_model.specs.Opened.{opened, opening_said}
-use Rattle.depot_model.specs.Sorted.{inserted}
-use Rattle.depot_model.specs.Step.{after}
-use Rattle.depot_model.specs.Steps.Opening.{barred_by, bars, exclusive_refusal, is_exclusive, opener_of}
+use Rattle.depot_rows.specs.depot_path.Bytes.{same}
+use Rattle.depot_rows.specs.depot_path.Order.{path_cmp}
+use Rattle.depot_rows.specs.depot_path.OrderLaws.{paths_ties}
+use Rattle.depot_rows.specs.depot_model.declared.refusal.Refusal.TheVariants.{ExclusiveOpen}
+use Rattle.depot_rows.specs.depot_model.Deeds.{Deed, Spec, Guard, Group, Count, Pend, Drop, Open, Shut, Hold, Free, Got, Tag, Owe, Paid, Land, Opening, Held, Owing, How}
+use Rattle.depot_rows.specs.depot_model.Latest.{keys_of, latest, when}
+use Rattle.depot_rows.specs.depot_model.Opened.{opened, opening_said}
+use Rattle.depot_rows.specs.depot_model.Sorted.{inserted}
+use Rattle.depot_rows.specs.depot_model.Step.{after}
+use Rattle.depot_rows.specs.depot_model.Steps.Opening.{barred_by, bars, exclusive_refusal, is_exclusive, opener_of}
 use Rattle.depot_rows.specs.Deed.{IsDeed, opening_of}
 use Rattle.depot_rows.specs.Effects.{Follow}
 use Rattle.depot_rows.specs.declared.deed.Deed.{Deed as Done}

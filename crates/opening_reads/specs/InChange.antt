@@ -1,9 +1,9 @@
 -- The openings of a client in a change, 0 for the default one (Command-Line Reference, "p4 opened", "p4 submit").
 use Rattle.std.specs.Prelude.{ℕ, Bool, ◌==◌, List, [], ◌∷◌, filter, filter_map, if◌then◌else◌, Option, Some, None}
-use Rattle.db_records.specs.declared.rows.WorkingRecord.{WorkingRecord}
-use Rattle.depot_model.specs.Arguments.{opened_by}
-use Rattle.depot_model.specs.Deeds.{Deed, Opening}
-use Rattle.depot_model.specs.Opened.{opened}
+use Rattle.depot_rows.specs.db_records.declared.rows.WorkingRecord.{WorkingRecord}
+use Rattle.depot_rows.specs.depot_model.Arguments.{opened_by}
+use Rattle.depot_rows.specs.depot_model.Deeds.{Deed, Opening}
+use Rattle.depot_rows.specs.depot_model.Opened.{opened}
 use Rattle.depot_rows.specs.declared.deed.Opening.{Opening as DeedOpening}
 use Rattle.opening_reads.specs.Read.{opening_in_row}
 

@@ -1,8 +1,8 @@
 -- Resolves as rows have them (Helix Core database schema reference, "db.resolve").
 use Rattle.std.specs.Prelude.{ℕ, Bool, false, ◌==◌, List, length, if◌then◌else◌, Option, Some, None, option_map}
-use Rattle.db_records.specs.declared.record.Record.{Record}
-use Rattle.db_records.specs.declared.record.Record.TheVariants.{Resolve}
-use Rattle.db_records.specs.declared.rows.ResolveRecord.{ResolveRecord}
+use Rattle.depot_rows.specs.db_records.declared.record.Record.{Record}
+use Rattle.depot_rows.specs.db_records.declared.record.Record.TheVariants.{Resolve}
+use Rattle.depot_rows.specs.db_records.declared.rows.ResolveRecord.{ResolveRecord}
 use Rattle.depot_rows.specs.declared.deed.Owing.{Owing}
 use Rattle.opening_reads.specs.Read.{path_in_text}
 

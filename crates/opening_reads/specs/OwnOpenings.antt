@@ -2,10 +2,10 @@
 use Rattle.std.specs.Prelude.{◌≡◌, ℕ, Bool, true, false, List, ◌++◌, Option, Some, None, option_map}
 use Rattle.std.specs.BTreeMap.{BTreeMap, Updates, get}
 use Rattle.std.specs.List.{list_all}
-use Rattle.depot_path.specs.Bytes.{same}
-use Rattle.depot_path.specs.Order.{path_cmp}
-use Rattle.depot_model.specs.Deeds.{Deed, Open, Shut, Got, Owe, Paid, Opening}
-use Rattle.depot_model.specs.Opened.{opened}
+use Rattle.depot_rows.specs.depot_path.Bytes.{same}
+use Rattle.depot_rows.specs.depot_path.Order.{path_cmp}
+use Rattle.depot_rows.specs.depot_model.Deeds.{Deed, Open, Shut, Got, Owe, Paid, Opening}
+use Rattle.depot_rows.specs.depot_model.Opened.{opened}
 use Rattle.depot_rows.specs.Deed.{opening_of}
 use Rattle.depot_rows.specs.declared.deed.Deed.{Deed as Done}
 use Rattle.depot_rows.specs.declared.deed.Deed.TheVariants as dones

@@ -1,8 +1,8 @@
 -- Openings, as rows have them. This project's own choice.
 use Rattle.std.specs.Prelude.{ℕ, List, codes, if◌then◌else◌, Option, Some, None, Ok, Err, unwrap_or, option_map}
-use Rattle.depot_path.specs.Bytes.{same}
-use Rattle.depot_path.specs.Path.{path_of}
-use Rattle.db_records.specs.declared.rows.WorkingRecord.{WorkingRecord}
+use Rattle.depot_rows.specs.depot_path.Bytes.{same}
+use Rattle.depot_rows.specs.depot_path.Path.{path_of}
+use Rattle.depot_rows.specs.db_records.declared.rows.WorkingRecord.{WorkingRecord}
 use Rattle.depot_rows.specs.declared.deed.Action.{Action}
 use Rattle.depot_rows.specs.declared.deed.Action.TheVariants as actions
 use Rattle.depot_rows.specs.declared.deed.Opening.{Opening}

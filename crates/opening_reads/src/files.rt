@@ -2,8 +2,8 @@
 
 ghost use Rattle.std.specs.Prelude.{◌≡◌, IfOk};
 
-use depot_path::{DepotPath, Name};
 use depot_rows::Held;
+use depot_rows::paths::{DepotPath, Name};
 use std::alloc::AllocError;
 
 /// A file of a client. The one error is want of memory.

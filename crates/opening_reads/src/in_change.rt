@@ -2,23 +2,23 @@
 
 ghost use Rattle.std.specs.Prelude.{◌≡◌, ◌++◌, List, IfOk, OnOk, filter, filter_map, map};
 ghost use Rattle.std.specs.Option.{option_copied, option_to_list};
-ghost use Rattle.db_records.specs.declared.table.TableId.TheVariants as table_ids;
-ghost use Rattle.table_changes.specs.Changed.{rows_of};
-ghost use Rattle.depot_model.specs.Deeds.{Deed};
-ghost use Rattle.depot_model.specs.Opened.{opened};
-ghost use Rattle.depot_model.specs.Rules.{IsSound};
+ghost use Rattle.depot_rows.specs.db_records.declared.table.TableId.TheVariants as table_ids;
+ghost use Rattle.depot_rows.specs.table_changes.Changed.{rows_of};
+ghost use Rattle.depot_rows.specs.depot_model.Deeds.{Deed};
+ghost use Rattle.depot_rows.specs.depot_model.Opened.{opened};
+ghost use Rattle.depot_rows.specs.depot_model.Rules.{IsSound};
 ghost use Rattle.depot_rows.specs.Deed.{opening_of as opening_of_deed};
 ghost use Rattle.depot_rows.specs.Standing.{HasRows};
 ghost use Rattle.opening_reads.specs.InChange.{is_in, opened_in, opening_in_change};
 
 use crate::reading::opening_in;
-use db_records::WorkingRecord;
-use depot_path::{DepotPath, Name, Sequence};
 use depot_rows::Opening;
+use depot_rows::paths::{DepotPath, Name, Sequence};
+use depot_rows::records::WorkingRecord;
+use depot_rows::tables::Tables;
 use file_openings::opening_of;
 use named_files::{Listing, all_files};
 use std::alloc::{AllocError, Global};
-use table_store::Tables;
 
 /// Adds the opening of a row, where there is one of the change.
 fn push_opening(

@@ -3,25 +3,25 @@
 ghost use Rattle.std.specs.Prelude.{◌≡◌, ℕ, List, true, Some, None, IfOk, OnOk, is_some, option_map};
 ghost use Rattle.std.specs.BTreeMap.{Updates};
 ghost use Rattle.std.specs.List.{list_all};
-ghost use Rattle.db_records.specs.declared.table.TableId.TheVariants as table_ids;
-ghost use Rattle.depot_path.specs.Order.{path_cmp};
-ghost use Rattle.table_changes.specs.Changed.{rows_of};
-ghost use Rattle.depot_model.specs.Deeds.{Deed as ModelDeed};
-ghost use Rattle.depot_model.specs.Opened.{opened};
-ghost use Rattle.depot_model.specs.Rules.{IsSound};
-ghost use Rattle.depot_model.specs.Step.{after as after_deeds};
+ghost use Rattle.depot_rows.specs.db_records.declared.table.TableId.TheVariants as table_ids;
+ghost use Rattle.depot_rows.specs.depot_path.Order.{path_cmp};
+ghost use Rattle.depot_rows.specs.table_changes.Changed.{rows_of};
+ghost use Rattle.depot_rows.specs.depot_model.Deeds.{Deed as ModelDeed};
+ghost use Rattle.depot_rows.specs.depot_model.Opened.{opened};
+ghost use Rattle.depot_rows.specs.depot_model.Rules.{IsSound};
+ghost use Rattle.depot_rows.specs.depot_model.Step.{after as after_deeds};
 ghost use Rattle.depot_rows.specs.Deed.{opening_of as opening_of_deed};
 ghost use Rattle.depot_rows.specs.Effects.{Follow};
 ghost use Rattle.depot_rows.specs.Standing.{HasRows};
 ghost use Rattle.opening_reads.specs.OwnOpenings.{BecomesBy, IsOwn, is_of};
 
 use crate::reading::opening_in;
-use depot_path::{DepotPath, Name, Text};
+use depot_rows::paths::{DepotPath, Name, Text};
+use depot_rows::tables::Tables;
 use depot_rows::{Deed, Opening, Source};
 use file_openings::opening_of;
 use std::alloc::{AllocError, Global};
 use std::collections::BTreeMap;
-use table_store::Tables;
 
 /// What a client has opened after the deeds that a command has made for it so far. The tables stay those of the depot before the command; what
 /// the deeds changed of the client's openings stands here. What it costs follows the files that were opened and shut.

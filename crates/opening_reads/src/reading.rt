@@ -1,18 +1,18 @@
 //! Openings, as rows have them.
 
 ghost use Rattle.std.specs.Prelude.{◌≡◌, ℕ, IfOk, List, Option, Some, None, unwrap_or};
-ghost use Rattle.db_records.specs.declared.record.Record.TheVariants as records;
-ghost use Rattle.db_records.specs.declared.rows.WorkingRecord.{WorkingRecord as AnyRow};
-ghost use Rattle.depot_model.specs.Deeds.{Deed, Opening as ModelOpening};
-ghost use Rattle.depot_model.specs.Opened.{opened};
-ghost use Rattle.depot_model.specs.Records.{working_record};
-ghost use Rattle.depot_model.specs.Rules.{IsSound};
-ghost use Rattle.depot_model.specs.Steps.Reverting.{moved};
+ghost use Rattle.depot_rows.specs.db_records.declared.record.Record.TheVariants as records;
+ghost use Rattle.depot_rows.specs.db_records.declared.rows.WorkingRecord.{WorkingRecord as AnyRow};
+ghost use Rattle.depot_rows.specs.depot_model.Deeds.{Deed, Opening as ModelOpening};
+ghost use Rattle.depot_rows.specs.depot_model.Opened.{opened};
+ghost use Rattle.depot_rows.specs.depot_model.Records.{working_record};
+ghost use Rattle.depot_rows.specs.depot_model.Rules.{IsSound};
+ghost use Rattle.depot_rows.specs.depot_model.Steps.Reverting.{moved};
 ghost use Rattle.depot_rows.specs.Deed.{opening_of};
 ghost use Rattle.opening_reads.specs.Read.{opening_in_row, path_in_text, source_in_row, word_action};
 
-use db_records::WorkingRecord;
-use depot_path::{DepotPath, Name, PathFault, Text};
+use depot_rows::paths::{DepotPath, Name, PathFault, Text};
+use depot_rows::records::WorkingRecord;
 use depot_rows::{Action, Opening, Source};
 use std::alloc::{AllocError, Global};
 

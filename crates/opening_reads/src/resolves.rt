@@ -2,27 +2,27 @@
 
 ghost use Rattle.std.specs.List.{cons_option, filter_map, list_any};
 ghost use Rattle.std.specs.Prelude.{◌≡◌, ◌++◌, IfOk, List, OnOk, Some, [], filter, map};
-ghost use Rattle.db_records.specs.declared.table.TableId.TheVariants as table_ids;
-ghost use Rattle.depot_path.specs.Path.{printed};
-ghost use Rattle.depot_model.specs.Deeds.{Deed, Opening};
-ghost use Rattle.depot_model.specs.Opened.{Resolve, opened};
-ghost use Rattle.depot_model.specs.Records.{resolve_record};
-ghost use Rattle.depot_model.specs.Rules.{IsSound};
-ghost use Rattle.depot_model.specs.Steps.Submitting.{is_unpaid as unpaid, resolves_of};
+ghost use Rattle.depot_rows.specs.db_records.declared.table.TableId.TheVariants as table_ids;
+ghost use Rattle.depot_rows.specs.depot_path.Path.{printed};
+ghost use Rattle.depot_rows.specs.depot_model.Deeds.{Deed, Opening};
+ghost use Rattle.depot_rows.specs.depot_model.Opened.{Resolve, opened};
+ghost use Rattle.depot_rows.specs.depot_model.Records.{resolve_record};
+ghost use Rattle.depot_rows.specs.depot_model.Rules.{IsSound};
+ghost use Rattle.depot_rows.specs.depot_model.Steps.Submitting.{is_unpaid as unpaid, resolves_of};
 ghost use Rattle.depot_rows.specs.Deed.{owing_of};
 ghost use Rattle.depot_rows.specs.Standing.{HasRows};
 ghost use Rattle.row_ranges.specs.Ranges.{has_row, range_table};
 ghost use Rattle.row_ranges.specs.declared.range.KeyRange.TheVariants as ranges;
 ghost use Rattle.opening_reads.specs.Owed.{is_unpaid_row, owing_in_row, owing_of_row};
-ghost use Rattle.table_changes.specs.Changed.{rows_of};
+ghost use Rattle.depot_rows.specs.table_changes.Changed.{rows_of};
 
 use crate::reading::path_in;
-use db_records::{Record, ResolveRecord, TableId};
-use depot_path::{DepotPath, Name, Sequence, Text};
 use depot_rows::Owing;
+use depot_rows::paths::{DepotPath, Name, Sequence, Text};
+use depot_rows::records::{Record, ResolveRecord, TableId};
+use depot_rows::tables::Tables;
 use row_ranges::{KeyRange, rows_in};
 use std::alloc::{AllocError, Global};
-use table_store::Tables;
 
 /// The rows of a sound depot tell the resolves of an opened file, in the order of the files that they come from.
 pub fn rows_tell_resolves(tables: &Tables)

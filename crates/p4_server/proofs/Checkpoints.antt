@@ -7,7 +7,7 @@ use Rattle.depot_checkpoint.specs.Taking.{StandsBeforeOrAfter, checkpointed, nex
 use Rattle.depot_checkpoint.specs.declared.fault.TakingFault.{TakingFault}
 use Rattle.depot_checkpoint.specs.declared.fault.TakingFault.TheVariants as taking_faults
 use Rattle.depot_checkpoint.proofs.Checkpoints.{stands_before}
-use Rattle.depot_model.specs.Deeds.{Deed}
+use Rattle.depot_rows.specs.depot_model.Deeds.{Deed}
 use Rattle.depot_rows.specs.Standing.{Stand}
 use Rattle.disk_journal.specs.Images.{Committed, generation_of}
 use Rattle.disk_journal.specs.Stands.{disk_of, generation_of_journal}
@@ -16,7 +16,7 @@ use Rattle.recovery.specs.Holding.{Hold}
 use Rattle.recovery.specs.Opening.{IsOpen, HasSynced, LooksOnly}
 use Rattle.recovery.specs.Standing.{StandFor}
 use Rattle.recovery.specs.declared.open.Opened.{Opened}
-use Rattle.table_changes.specs.Changed.{rows_of}
+use Rattle.depot_rows.specs.table_changes.Changed.{rows_of}
 use Rattle.p4_server.specs.declared.ended.Ended.{Ended}
 use Rattle.p4_server.specs.declared.ended.Cause.TheVariants as causes
 use Rattle.p4_server.specs.Checkpoint.{Checkpoints, IsInDoubt, IsLine, IsPlaced, IsTaken, IsUntaken}

@@ -1,15 +1,15 @@
 -- The contents of files that are opened, and the pairs that are kept.
 use Rattle.std.proofs.Common.{◌≡◌, ℕ, List, refl, sym, subst}
 use Rattle.outside_api.specs.Disk.{Files}
-use Rattle.db_records.specs.declared.table.TableId.TheVariants.{Rev}
-use Rattle.depot_model.specs.Deeds.{Deed}
-use Rattle.table_changes.specs.Changed.{AllRows}
+use Rattle.depot_rows.specs.db_records.declared.table.TableId.TheVariants.{Rev}
+use Rattle.depot_rows.specs.depot_model.Deeds.{Deed}
+use Rattle.depot_rows.specs.table_changes.Changed.{AllRows}
 use Rattle.recovery.specs.Holding.{Hold}
 use Rattle.recovery.specs.Rules.{DeletesAreUnplaced}
 use Rattle.recovery.specs.Standing.{StandFor}
 use Rattle.recovery.proofs.Held.{rows_once}
-use Rattle.serial_depot.specs.Holding.{HasItsContents, StandsWith}
-use Rattle.serial_depot.proofs.Contents.{contents_alike}
+use Rattle.session_turns.specs.serial_depot.Holding.{HasItsContents, StandsWith}
+use Rattle.session_turns.proofs.serial_depot.Contents.{contents_alike}
 
 -- files that stand for a depot have its contents at the spots of the rows that were read of them
 pub contents_opened : (journal archive image : Files) (rows : AllRows) (d : List Deed) → StandFor d journal archive → Hold journal rows → image 0 ≡ archive 0 → HasItsContents rows d image

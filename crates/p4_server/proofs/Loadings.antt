@@ -4,20 +4,20 @@ use Rattle.std.proofs.lemmas.Bool.Decides.{Decides-eqb}
 use Rattle.outside_api.specs.Count.{HasRisen}
 use Rattle.outside_api.specs.Disk.{Files}
 use Rattle.archive_file.specs.Archive as archives
-use Rattle.depot_model.specs.Deeds.{Deed}
-use Rattle.depot_model.specs.Places.{Placed}
-use Rattle.depot_model.specs.declared.order.Place.{Place}
-use Rattle.depot_model.specs.declared.request.Session.{Session}
+use Rattle.depot_rows.specs.depot_model.Deeds.{Deed}
+use Rattle.depot_rows.specs.depot_model.Places.{Placed}
+use Rattle.depot_rows.specs.depot_model.declared.order.Place.{Place}
+use Rattle.depot_rows.specs.depot_model.declared.request.Session.{Session}
 use Rattle.depot_runs.specs.Run.{placed}
 use Rattle.disk_journal.specs.Stands.{disk_of}
 use Rattle.load_script.specs.Script.{script_of}
 use Rattle.load_script.specs.declared.lines.LoadFigures.{LoadFigures}
 use Rattle.load_session.specs.Loading.{IsAskedBy, IsLoaded, load_session, numbers_from}
 use Rattle.load_session.proofs.Whole.{load_scripts_whole}
-use Rattle.serial_depot.specs.Running.{HasRun}
-use Rattle.serial_depot.specs.declared.depot.SerialDepot.{SerialDepot}
+use Rattle.session_turns.specs.serial_depot.Running.{HasRun}
+use Rattle.session_turns.specs.serial_depot.declared.depot.SerialDepot.{SerialDepot}
 use Rattle.session_loop.specs.Served.{AreCaused}
-use Rattle.table_changes.specs.Changed.{AllRows, rows_of}
+use Rattle.depot_rows.specs.table_changes.Changed.{AllRows, rows_of}
 use Rattle.depot_rows.specs.Standing.{Stand}
 use Rattle.wire_text.specs.declared.script.ScriptEnd.{ScriptEnd}
 use Rattle.wire_text.specs.declared.script.ScriptEnd.TheVariants.{Whole, Fault, ReadFault}

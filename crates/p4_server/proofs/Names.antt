@@ -5,8 +5,8 @@ use Rattle.std.specs.Option.{option_and_then}
 use Rattle.std.proofs.lemmas.List.Folds.{list_any_at}
 use Rattle.std.proofs.lemmas.List.Kept.{AllPairs-cons}
 use Rattle.std.proofs.lemmas.Slice.Eq.{bytes_eq-Decides}
-use Rattle.depot_path.specs.Bytes.{same}
-use Rattle.depot_model.specs.Rules.{are_distinct}
+use Rattle.depot_rows.specs.depot_path.Bytes.{same}
+use Rattle.depot_rows.specs.depot_model.Rules.{are_distinct}
 use Rattle.p4_server.specs.Parties.{AreDifferent}
 use Rattle.p4_server.specs.Words.{Job, Said, asked, asked_by, init, dump, checkpoint, load, schedule, said_from, job_of_words, job_with, seed_given, count_given, are_party_names}
 use Rattle.p4_server.specs.declared.words.Coming.TheVariants.{Anything}

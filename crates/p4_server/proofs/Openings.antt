@@ -1,12 +1,12 @@
 -- What the faults of opening lead to.
 use Rattle.std.proofs.Common.{◌≡◌, ◌≢◌, ◌⊎◌, ℕ, List, length, Option, refl, sym, ◌∙◌, inl, inr, ⊎_elim, arith}
 use Rattle.outside_api.specs.Disk.{Files, LeavesOnly, NoMore}
-use Rattle.depot_model.specs.Deeds.{Deed}
+use Rattle.depot_rows.specs.depot_model.Deeds.{Deed}
 use Rattle.recovery.specs.Damage.{IsDamage}
 use Rattle.recovery.specs.Faults.{SaysNothing, Tells}
 use Rattle.recovery.specs.Looking.{AreCauses}
 use Rattle.disk_journal.specs.Stands.{disk_of}
-use Rattle.table_changes.specs.Changed.{rows_of}
+use Rattle.depot_rows.specs.table_changes.Changed.{rows_of}
 use Rattle.recovery.specs.Contents.{HoldWhole}
 use Rattle.recovery.specs.Opening.{HasSynced, LooksOnly}
 use Rattle.recovery.specs.Standing.{StandFor}

@@ -7,8 +7,8 @@ use Rattle.std.proofs.lemmas.Option.{slice_get_within, slice_get_read}
 use Rattle.outside_api.specs.Count.{HasRisen}
 use Rattle.outside_api.specs.Disk.{Files}
 use Rattle.outside_api.specs.Told.{extended}
-use Rattle.depot_model.specs.declared.order.Place.{Place}
-use Rattle.depot_model.specs.declared.request.Session.{Session}
+use Rattle.depot_rows.specs.depot_model.declared.order.Place.{Place}
+use Rattle.depot_rows.specs.depot_model.declared.request.Session.{Session}
 use Rattle.wire_text.specs.declared.script.ScriptEnd.{ScriptEnd}
 use Rattle.wire_text.specs.declared.script.ScriptEnd.TheVariants as scripts
 use Rattle.wire_text.specs.Giving.{GotFront}

@@ -1,27 +1,27 @@
 -- A depot in files that is opened, asked and closed.
 use Rattle.std.proofs.Common.{◌≡◌, ◌≤◌, ℕ, Bool, true, List, [], length, Option, refl, sym, subst, ◌∙◌, ◌⊎◌, inl, inr, arith}
 use Rattle.outside_api.specs.Count.{HasRisen}
-use Rattle.depot_model.specs.declared.order.Place.{Place}
+use Rattle.depot_rows.specs.depot_model.declared.order.Place.{Place}
 use Rattle.session_loop.specs.Served.{AreCaused}
 use Rattle.archive_file.specs.Archive as archives
 use Rattle.outside_api.specs.Disk.{Files}
-use Rattle.depot_model.specs.Deeds.{Deed}
-use Rattle.depot_model.specs.Places.{Placed}
+use Rattle.depot_rows.specs.depot_model.Deeds.{Deed}
+use Rattle.depot_rows.specs.depot_model.Places.{Placed}
 use Rattle.depot_rows.specs.Standing.{Stand}
 use Rattle.disk_journal.specs.Images.{Committed, HasCommitted}
 use Rattle.disk_journal.specs.Stands.{nothing, disk_of}
-use Rattle.db_records.specs.declared.table.TableId.TheVariants.{Rev}
-use Rattle.table_changes.specs.Changed.{rows_of}
+use Rattle.depot_rows.specs.db_records.declared.table.TableId.TheVariants.{Rev}
+use Rattle.depot_rows.specs.table_changes.Changed.{rows_of}
 use Rattle.recovery.specs.Holding.{Hold, spots_end}
 use Rattle.recovery.specs.Opening.{IsOpen, HasSynced}
 use Rattle.recovery.specs.Rules.{DeletesAreUnplaced}
 use Rattle.recovery.specs.Standing.{StandFor}
 use Rattle.recovery.specs.declared.open.Opened.{Opened}
-use Rattle.serial_depot.specs.Holding.{generation_in, AllHaveContents, KeepContents, StandsWith}
-use Rattle.serial_depot.specs.Running.{CanTake, HasRun}
-use Rattle.serial_depot.specs.declared.depot.SerialDepot.{SerialDepot}
-use Rattle.serial_depot.proofs.Kept.{kept_leads, kept_now}
-use Rattle.serial_depot.proofs.Places.{kept_whole}
+use Rattle.session_turns.specs.serial_depot.Holding.{generation_in, AllHaveContents, KeepContents, StandsWith}
+use Rattle.session_turns.specs.serial_depot.Running.{CanTake, HasRun}
+use Rattle.session_turns.specs.serial_depot.declared.depot.SerialDepot.{SerialDepot}
+use Rattle.session_turns.proofs.serial_depot.Kept.{kept_leads, kept_now}
+use Rattle.session_turns.proofs.serial_depot.Places.{kept_whole}
 use Rattle.p4_server.specs.declared.ended.Ended.{Ended}
 use Rattle.p4_server.specs.declared.ended.PartyEnd.{PartyEnd}
 use Rattle.p4_server.specs.declared.ended.Cause.{Cause}

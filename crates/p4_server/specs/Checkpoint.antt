@@ -4,7 +4,7 @@ use Rattle.std.specs.Prelude.{◌≡◌, ◌⊎◌, ℕ, Bool, true, false, List
 use Rattle.outside_api.specs.Count.{HasRisen}
 use Rattle.outside_api.specs.Disk.{Files}
 use Rattle.outside_api.specs.Told.{extended}
-use Rattle.depot_model.specs.Deeds.{Deed}
+use Rattle.depot_rows.specs.depot_model.Deeds.{Deed}
 use Rattle.disk_journal.specs.Images.{generation_of}
 use Rattle.recovery.specs.Standing.{StandFor}
 use Rattle.depot_checkpoint.specs.Taking.{StandsBeforeOrAfter, checkpointed, next_generation}

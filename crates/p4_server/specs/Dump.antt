@@ -3,12 +3,12 @@ use Rattle.std.specs.Prelude.{◌≡◌, ◌⊎◌, ℕ, List, Option}
 use Rattle.outside_api.specs.Count.{HasRisen}
 use Rattle.outside_api.specs.Disk.{Files, LeavesOnly, NoMore}
 use Rattle.outside_api.specs.Told.{extended}
-use Rattle.db_records.specs.Table.{all_tables}
-use Rattle.depot_model.specs.Deeds.{Deed}
+use Rattle.depot_rows.specs.db_records.Table.{all_tables}
+use Rattle.depot_rows.specs.depot_model.Deeds.{Deed}
 use Rattle.depot_rows.specs.Standing.{Stand}
 use Rattle.recovery.specs.Contents.{HoldWhole}
 use Rattle.recovery.specs.Holding.{Hold}
-use Rattle.table_changes.specs.Changed.{AllRows}
+use Rattle.depot_rows.specs.table_changes.Changed.{AllRows}
 use Rattle.wire_text.specs.Giving.{GotFront}
 use Rattle.p4_server.specs.declared.ended.Ended.{Ended}
 use Rattle.p4_server.specs.declared.ended.Cause.TheVariants as causes

@@ -2,10 +2,10 @@
 use Rattle.std.specs.Prelude.{◌≢◌, ◌⊎◌, ℕ, List, length}
 use Rattle.outside_api.specs.Count.{HasRisen}
 use Rattle.outside_api.specs.Disk.{Files, NoMore}
-use Rattle.depot_model.specs.Deeds.{Deed}
+use Rattle.depot_rows.specs.depot_model.Deeds.{Deed}
 use Rattle.depot_runs.specs.Kept.{IsKept}
-use Rattle.depot_model.specs.Places.{Placed}
-use Rattle.table_changes.specs.Changed.{AllRows}
+use Rattle.depot_rows.specs.depot_model.Places.{Placed}
+use Rattle.depot_rows.specs.table_changes.Changed.{AllRows}
 use Rattle.recovery.specs.Contents.{HoldWhole}
 use Rattle.recovery.specs.Looking.{OnlyReads}
 use Rattle.recovery.specs.Opening.{HasSynced, LooksOnly}

@@ -2,13 +2,13 @@
 use Rattle.std.specs.Prelude.{◌≡◌, ◌≤◌, ℕ, ◌+◌, Bool, true, false, List, length, map, slice_get, Option, Some, None, IfSome}
 use Rattle.outside_api.specs.Count.{HasRisen}
 use Rattle.outside_api.specs.Disk.{Files}
-use Rattle.depot_model.specs.Deeds.{Deed}
-use Rattle.depot_model.specs.Places.{Placed}
+use Rattle.depot_rows.specs.depot_model.Deeds.{Deed}
+use Rattle.depot_rows.specs.depot_model.Places.{Placed}
 use Rattle.depot_runs.specs.Run.{placed}
-use Rattle.depot_model.specs.declared.order.Place.{Place}
-use Rattle.depot_model.specs.declared.request.Session.{Session}
-use Rattle.depot_model.specs.Order.{IsOrder}
-use Rattle.replica_turns.specs.Going.{IsReplicaOutput}
+use Rattle.depot_rows.specs.depot_model.declared.order.Place.{Place}
+use Rattle.depot_rows.specs.depot_model.declared.request.Session.{Session}
+use Rattle.depot_rows.specs.depot_model.Order.{IsOrder}
+use Rattle.session_turns.specs.replica_turns.Going.{IsReplicaOutput}
 use Rattle.session_loop.specs.declared.reading.ReadSession.{ReadSession}
 use Rattle.session_loop.specs.declared.reading.ReplicaScript.{ReplicaScript}
 use Rattle.session_loop.specs.Reading.{IsReadSession}

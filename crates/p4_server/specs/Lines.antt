@@ -1,7 +1,7 @@
 -- The lines that tell the order and the ends.
 use Rattle.std.specs.Prelude.{ℕ, List, [], ◌++◌, Option, Some, None, codes, decimal, if◌then◌else◌}
 use Rattle.std.specs.List.{flat_map}
-use Rattle.depot_model.specs.declared.order.Place.{Place}
+use Rattle.depot_rows.specs.depot_model.declared.order.Place.{Place}
 use Rattle.recovery.specs.declared.fault.DepotDisk.{DepotDisk}
 use Rattle.recovery.specs.declared.fault.DepotDisk.TheVariants.{Journal, Archive}
 use Rattle.wire_text.specs.declared.fault.ScriptFaultKind.{ScriptFaultKind}

@@ -5,10 +5,10 @@ use Rattle.outside_api.specs.Count.{HasRisen}
 use Rattle.outside_api.specs.Disk.{Files}
 use Rattle.outside_api.specs.Told.{extended}
 use Rattle.depot_figures.specs.Figures.{bytes_in, changes_in, live_files_in}
-use Rattle.depot_model.specs.Deeds.{Deed}
-use Rattle.depot_model.specs.Order.{IsOrder}
-use Rattle.depot_model.specs.Places.{Placed, taken}
-use Rattle.depot_model.specs.declared.order.Place.{Place}
+use Rattle.depot_rows.specs.depot_model.Deeds.{Deed}
+use Rattle.depot_rows.specs.depot_model.Order.{IsOrder}
+use Rattle.depot_rows.specs.depot_model.Places.{Placed, taken}
+use Rattle.depot_rows.specs.depot_model.declared.order.Place.{Place}
 use Rattle.depot_runs.specs.Run.{placed}
 use Rattle.depot_runs.specs.Today.{step}
 use Rattle.load_script.specs.Lines.{lines_of}

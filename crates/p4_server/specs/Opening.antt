@@ -1,7 +1,7 @@
 -- What a run promises whose files weren't opened.
 use Rattle.std.specs.Prelude.{◌≡◌, ◌≢◌, ◌⊎◌, ℕ, List, length, Option}
 use Rattle.outside_api.specs.Disk.{Files, LeavesOnly, NoMore}
-use Rattle.depot_model.specs.Deeds.{Deed}
+use Rattle.depot_rows.specs.depot_model.Deeds.{Deed}
 use Rattle.recovery.specs.Damage.{IsDamage}
 use Rattle.recovery.specs.declared.fault.DepotDisk.{DepotDisk}
 use Rattle.recovery.specs.declared.fault.OpenFault.{OpenFault}

@@ -1,6 +1,6 @@
 -- The parties of a run before their first turns: what came by the doors of their names, and what was read of their scripts.
 use Rattle.std.specs.Prelude.{◌≡◌, ◌≢◌, ◌≤◌, ℕ, List, length, slice_get, All, AllPairs, Option, Some}
-use Rattle.depot_model.specs.declared.request.Session.{Session}
+use Rattle.depot_rows.specs.depot_model.declared.request.Session.{Session}
 use Rattle.session_loop.specs.Asking.{AreWellFormed, commands_of, replica_commands}
 use Rattle.session_loop.specs.Reading.{IsAsked}
 use Rattle.session_loop.specs.declared.reading.ReplicaScript.{ReplicaScript}

@@ -2,7 +2,7 @@
 use Rattle.std.specs.Prelude.{◌≡◌, ◌⊎◌, ℕ, Bool, List, [], Option}
 use Rattle.outside_api.specs.Count.{HasRisen}
 use Rattle.outside_api.specs.Told.{extended}
-use Rattle.depot_model.specs.declared.order.Place.{Place}
+use Rattle.depot_rows.specs.depot_model.declared.order.Place.{Place}
 use Rattle.wire_text.specs.Giving.{GotFront}
 use Rattle.p4_server.specs.declared.ended.Ended.{Ended}
 use Rattle.p4_server.specs.declared.ended.PartyEnd.{PartyEnd}

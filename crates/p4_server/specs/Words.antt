@@ -4,10 +4,10 @@ use Rattle.std.specs.Borrow.{Bor}
 use Rattle.std.specs.List.{list_all}
 use Rattle.std.specs.Option.{option_and_then, option_map}
 use Rattle.std.specs.Str.{bytes_eq}
-use Rattle.depot_path.specs.Bytes.{begins_with}
-use Rattle.depot_path.specs.Digits.{is_number, number_of}
-use Rattle.depot_path.specs.Name.{is_name}
-use Rattle.depot_model.specs.Rules.{are_distinct}
+use Rattle.depot_rows.specs.depot_path.Bytes.{begins_with}
+use Rattle.depot_rows.specs.depot_path.Digits.{is_number, number_of}
+use Rattle.depot_rows.specs.depot_path.Name.{is_name}
+use Rattle.depot_rows.specs.depot_model.Rules.{are_distinct}
 use Rattle.p4_server.specs.declared.words.Coming.{Coming}
 use Rattle.p4_server.specs.declared.words.Coming.TheVariants.{Anything, Value, Plain}
 use Rattle.p4_server.specs.declared.words.Setting.{Setting}

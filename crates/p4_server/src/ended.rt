@@ -3,8 +3,8 @@
 ghost use Rattle.std.specs.Prelude.{◌≡◌, ◌≤◌, ◌<◌, ◌+◌, ◌∷◌, List, drop, length, IfOk};
 ghost use Rattle.p4_server.specs.Ends.{status_of, is_failed as failed_test, is_faulty as faulty_test, has_fault_place, has_failed_party, has_faulty_party, ends_cause, party_end, ended_parties};
 
-use depot_model::Place;
-use depot_path::Sequence;
+use depot_rows::model::Place;
+use depot_rows::paths::Sequence;
 use recovery::DepotDisk;
 use session_loop::SessionRun;
 use std::alloc::{AllocError, Global};

@@ -4,8 +4,8 @@ ghost use Rattle.std.specs.Prelude.{◌≡◌, ◌++◌, OnOk, IfOk, decimal};
 ghost use Rattle.p4_server.specs.Lines.{faulted_line, placed_line, place_line, place_lines, end_line, end_lines, fault_code, fault_line, run_lines};
 
 use crate::ended::{Cause, PartyCause, PartyEnd};
-use depot_model::Place;
-use depot_path::Text;
+use depot_rows::model::Place;
+use depot_rows::paths::Text;
 use itoa::Buffer;
 use std::alloc::{AllocError, Global};
 use wire_text::ScriptFaultKind;

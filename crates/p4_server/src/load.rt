@@ -1,9 +1,9 @@
 //! The mode `load`: the run of a script that is made, and the figures of the depot after it.
 
 ghost use Rattle.std.specs.Prelude.{◌≡◌, List, [], IfOk};
-ghost use Rattle.depot_model.specs.Deeds.{Deed};
+ghost use Rattle.depot_rows.specs.depot_model.Deeds.{Deed};
 ghost use Rattle.depot_rows.specs.Standing.{Stand};
-ghost use Rattle.table_changes.specs.Changed.{rows_of};
+ghost use Rattle.depot_rows.specs.table_changes.Changed.{rows_of};
 ghost use Rattle.load_script.specs.Lines.{lines_of};
 ghost use Rattle.p4_server.specs.Ends.{status_of};
 ghost use Rattle.p4_server.specs.Load.{GivesFigures, IsFigured, IsLoadTold, Loads, LoadsFiles, end_cause, figures_in, load_cause};
@@ -12,15 +12,15 @@ use crate::ended::{Cause, Ended, any_fault, status_code};
 use crate::opening::end_unopened;
 use crate::telling::{end_alone, give_cause};
 use depot_figures::{file_figures, landed_changes};
-use depot_model::Place;
-use depot_path::{Sequence, Text};
+use depot_rows::model::Place;
+use depot_rows::paths::{Sequence, Text};
+use depot_rows::tables::Tables;
 use load_script::{LoadFigures, load_lines};
 use load_session::{LoadRun, run_load};
 use outside_api::{Clock, Disk, Gate, Sink};
 use recovery::{MakeFault, Opened, make_files, open_files};
-use serial_depot::{Closed, SerialDepot};
+use session_turns::depots::{Closed, SerialDepot};
 use std::alloc::{AllocError, Global};
-use table_store::Tables;
 use wire_text::{ScriptEnd, give_all};
 
 /// The figures of the depot of these tables.

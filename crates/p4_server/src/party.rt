@@ -4,19 +4,19 @@ ghost use Rattle.std.specs.Prelude.{◌≡◌, ◌≤◌, ◌⊎◌, ◌∷◌, 
 ghost use Rattle.outside_api.specs.Count.{HasRisen};
 ghost use Rattle.archive_file.specs.Archive.{disk_of as archive_disk_of};
 ghost use Rattle.disk_journal.specs.Stands.{disk_of};
-ghost use Rattle.depot_model.specs.Deeds.{Deed};
-ghost use Rattle.serial_depot.specs.Running.{CanTake, HasRun};
+ghost use Rattle.depot_rows.specs.depot_model.Deeds.{Deed};
+ghost use Rattle.session_turns.specs.serial_depot.Running.{CanTake, HasRun};
 ghost use Rattle.session_loop.specs.Served.{AreCaused};
 ghost use Rattle.p4_server.specs.declared.party.NotRun.{NotRun};
 ghost use Rattle.p4_server.specs.Headline.{AreEnds, IsRunFrom};
 ghost use Rattle.p4_server.specs.Parties.{AreDifferent, AreFew, AreFormed, AreRead, CanBeTold, HaveCome, OnlyTheseCome, parties_of};
 ghost use Rattle.p4_server.specs.Words.{words_of};
 
-use depot_model::{Place, Session};
-use depot_path::Sequence;
+use depot_rows::model::{Place, Session};
+use depot_rows::paths::Sequence;
 use outside_api::{Clock, Disk, Doors, Gate, Sink, Source};
-use serial_depot::SerialDepot;
 use session_loop::{ReadSession, ReplicaScript, SessionRun, read_session};
+use session_turns::depots::SerialDepot;
 use session_turns::{Ran, run_sessions};
 use std::alloc::{AllocError, Global};
 use wire_text::ScriptEnd;

@@ -1,15 +1,15 @@
 //! The rows of all tables as text.
 
 ghost use Rattle.std.specs.Prelude.{◌≡◌, ◌≤◌};
-ghost use Rattle.db_records.specs.Table.{all_tables};
+ghost use Rattle.depot_rows.specs.db_records.Table.{all_tables};
 ghost use Rattle.p4_server.specs.Rows.{row_text, rows_text, tables_text, Prints};
-ghost use Rattle.table_store.specs.Tables.{version_of};
+ghost use Rattle.depot_rows.specs.table_store.Tables.{version_of};
 
-use db_records::{Op, Record, TableId};
+use depot_rows::records::{Op, Record, TableId};
+use depot_rows::tables::{Tables, Version};
 use outside_api::Sink;
 use record_text::print_record;
 use std::alloc::Global;
-use table_store::{Tables, Version};
 use wire_text::give_all;
 
 /// Why not all rows are printed.

@@ -16,12 +16,12 @@ use crate::lines::lines;
 use crate::opening::end_unopened;
 use crate::party::{NotRun, PartiesRun, run_parties};
 use crate::telling::end_alone;
-use depot_model::Place;
-use depot_path::{Sequence, Text};
+use depot_rows::model::Place;
+use depot_rows::paths::{Sequence, Text};
 use outside_api::{Clock, Disk, Doors, Gate, Sink};
 use recovery::{Opened, open_files};
-use serial_depot::{Closed, SerialDepot};
 use session_loop::SessionRun;
+use session_turns::depots::{Closed, SerialDepot};
 use std::alloc::{AllocError, Global};
 use wire_text::{ScriptEnd, give_all};
 

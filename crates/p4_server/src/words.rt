@@ -3,13 +3,13 @@
 ghost use Rattle.std.specs.Prelude.{◌≡◌, true, ◌∷◌, [], ◌≤◌, ◌&&◌, nat_le, ℕ, List, Some, None, IfOk, IfSome, IfNone, OnOk, drop, length, map, if◌then◌else◌};
 ghost use Rattle.std.specs.List.{list_all, list_any};
 ghost use Rattle.std.specs.Option.{option_and_then, option_map};
-ghost use Rattle.depot_model.specs.Rules.{are_distinct as distinct_test};
-ghost use Rattle.depot_path.specs.Bytes.{begins_with, same};
-ghost use Rattle.depot_path.specs.Name.{is_name as name_test};
+ghost use Rattle.depot_rows.specs.depot_model.Rules.{are_distinct as distinct_test};
+ghost use Rattle.depot_rows.specs.depot_path.Bytes.{begins_with, same};
+ghost use Rattle.depot_rows.specs.depot_path.Name.{is_name as name_test};
 ghost use Rattle.p4_server.specs.Words as spec;
 ghost use Rattle.p4_server.specs.Words.{words_of, HasParties, job_of, job_alone, job_with_names, job_of_words, asked, asked_by, said_from, read_from};
 
-use depot_path::{is_name, number_up_to};
+use depot_rows::paths::{is_name, number_up_to};
 use std::alloc::{AllocError, Global};
 
 /// What the program is to do.

@@ -6,7 +6,7 @@ use Rattle.std.proofs.lemmas.Fmt.{decimal_digit, decimal_step, decimal_by_steps}
 use Rattle.record_text.specs.declared.fault.Part.TheVariants.{Field}
 use Rattle.record_text.specs.Reading.{Done, Begins}
 use Rattle.record_text.specs.Machine.{Step, Next, Last, Refuse, step_then, run}
-use Rattle.depot_path.specs.Bytes.{is_digit}
+use Rattle.db_records.specs.depot_path.Bytes.{is_digit}
 use Rattle.record_text.specs.Spelling.{spelled_number, number_step, number_at}
 use Rattle.record_text.proofs.Runs.{Steps, reads_run}
 use Rattle.record_text.specs.Reading.{Reads}

@@ -3,7 +3,7 @@
 -- Administrator Guide, "Journal files"). That a number has no leading zero is this project's own choice.
 use Rattle.std.specs.Prelude.{ℕ, suc, ◌+◌, ◌-◌, ◌*◌, ◌==◌, Bool, ◌&&◌, nat_le, nat_lt, List, [], ◌∷◌, ◌++◌, Option, Some, None, if◌then◌else◌}
 use Rattle.std.specs.Fmt.{decimal}
-use Rattle.depot_path.specs.Bytes.{is_digit}
+use Rattle.db_records.specs.depot_path.Bytes.{is_digit}
 use Rattle.record_text.specs.declared.fault.Part.TheVariants.{Field}
 use Rattle.record_text.specs.Reading.{Reading}
 use Rattle.record_text.specs.Machine.{Step, Next, Last, Refuse, run}

@@ -11,8 +11,8 @@ use crate::layout::Layout;
 use crate::tables::with_fields;
 use crate::text::moves;
 use crate::word::Word;
+use db_records::paths::Text;
 use db_records::{Op, Record, RevRecord, WorkingRecord};
-use depot_path::Text;
 use itoa::Buffer;
 use std::alloc::{AllocError, Global};
 

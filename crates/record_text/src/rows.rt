@@ -10,11 +10,11 @@ use crate::layout::Layout;
 use crate::number::{count_of, line_of, wide_of};
 use crate::tables::with_fields;
 use crate::text::{action_of, move_of, text_of};
+use db_records::paths::Text;
 use db_records::{
     ChangeRecord, CounterRecord, DomainRecord, GroupRecord, HaveRecord, IntegedRecord, LabelRecord,
     ProtectRecord, Record, ResolveRecord, RevRecord, WorkingRecord,
 };
-use depot_path::Text;
 use std::alloc::Global;
 
 /// The byte that ends each field but the last.

@@ -10,7 +10,7 @@ ghost use Rattle.record_text.specs.Answers.{Gives};
 
 use crate::fault::{Part, RecordFault};
 use crate::word::{Word, word_of};
-use depot_path::Text;
+use db_records::paths::Text;
 use std::alloc::Global;
 
 /// One of the two actions of moves.

@@ -1,6 +1,6 @@
 -- The puts of a checkpoint are those of its text.
 use Rattle.std.proofs.Common.{◌≡◌, ℕ, List, ◌++◌, Option, Some, sym, ap, subst}
-use Rattle.db_records.specs.declared.change.Change.{Change}
+use Rattle.depot_rows.specs.db_records.declared.change.Change.{Change}
 use Rattle.journal_groups.specs.Groups.{IsGroup, group_text, mark, open_byte}
 use Rattle.journal_groups.specs.Causes.{BeginsWanted, group}
 use Rattle.recovery.specs.Pieces.{IsFirst}

@@ -2,10 +2,10 @@
 use Rattle.std.proofs.Common.{◌≡◌, ℕ, zero, suc, ◌≢◌, ◌+◌, ◌*◌, List, [], ◌∷◌, ◌++◌, length, replicate, Err, refl, sym, ap, subst, ◌∙◌, arith}
 use Rattle.std.proofs.lemmas.Bool.Decides.{nat_tests}
 use Rattle.outside_api.specs.Disk.{Files}
-use Rattle.db_records.specs.declared.table.TableId.TheVariants as tables
+use Rattle.depot_rows.specs.db_records.declared.table.TableId.TheVariants as tables
 use Rattle.disk_journal.specs.Images.{Committed, HasCommitted, IsTail, IsAtRest, generation_of}
 use Rattle.disk_journal.specs.Text.{AreGroups, blocks}
-use Rattle.table_changes.specs.Changed.{AllRows}
+use Rattle.depot_rows.specs.table_changes.Changed.{AllRows}
 use Rattle.recovery.specs.declared.fault.DepotDisk.TheVariants.{Journal, Archive}
 use Rattle.recovery.specs.declared.fault.OpenFault.{OpenFault}
 use Rattle.recovery.specs.declared.fault.OpenFault.TheVariants.{Unmade, Damaged, DiskFault, Memory}

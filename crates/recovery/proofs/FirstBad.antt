@@ -1,7 +1,7 @@
 -- The first change with which changes are no longer good, and its place.
 use Rattle.std.proofs.Common.{◌≡◌, ℕ, zero, suc, ◌+◌, ◌-◌, ◌<◌, ◌≤◌, List, [], ◌∷◌, ◌++◌, length, take, drop, get_or, Err, refl, sym, ap, subst, ◌∙◌, arith, length-append}
 use Rattle.std.proofs.lemmas.List.{take_more, take-append-drop, get_or-drop}
-use Rattle.db_records.specs.declared.change.Change.{Change}
+use Rattle.depot_rows.specs.db_records.declared.change.Change.{Change}
 use Rattle.journal_groups.specs.Groups.{body_of, change_text}
 use Rattle.journal_groups.proofs.Texts.{body_joined}
 use Rattle.recovery.specs.Faults.{IfDamaged, Tells}

@@ -1,8 +1,8 @@
 -- Changes one after another.
 use Rattle.std.proofs.Common.{◌≡◌, ℕ, ◌+◌, ◌<◌, List, [], ◌∷◌, ◌++◌, length, take, drop, get_or, refl, sym, ◌∙◌, ap, subst, append_assoc}
 use Rattle.std.proofs.lemmas.List.{take_more, take-append-drop}
-use Rattle.db_records.specs.declared.change.Change.{Change}
-use Rattle.table_changes.specs.Changed.{AllRows, FitsIn, AllFitIn, changed_in, changed_by}
+use Rattle.depot_rows.specs.db_records.declared.change.Change.{Change}
+use Rattle.depot_rows.specs.table_changes.Changed.{AllRows, FitsIn, AllFitIn, changed_in, changed_by}
 use Rattle.recovery.specs.Holding.{joined}
 
 pub changed_joined : (rows : AllRows) (xs ys : List Change) → changed_by rows (xs ++ ys) ≡ changed_by (changed_by rows xs) ys

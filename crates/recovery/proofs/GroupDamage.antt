@@ -1,11 +1,11 @@
 -- Where the text of a checkpoint or of a journal is damaged.
 use Rattle.std.proofs.Common.{◌≡◌, inl, inr, ◌⊎◌, ℕ, ◌+◌, ◌-◌, ◌≤◌, List, [], ◌∷◌, ◌++◌, length, Some, refl, sym, ap, subst, ◌∙◌, arith, length-append}
 use Rattle.outside_api.specs.Disk.{Files}
-use Rattle.db_records.specs.declared.change.Change.{Change}
+use Rattle.depot_rows.specs.db_records.declared.change.Change.{Change}
 use Rattle.journal_groups.specs.Groups.{GroupBegins, body_of, head_of, group_text, groups_text, mark, open_byte}
 use Rattle.journal_groups.specs.Causes.{GroupGoesOn, GroupStopsAt, GoesOn, in_mark, in_group, BeginsWanted, group, StopsAt}
 use Rattle.journal_groups.specs.Reader.{BeginsAt}
-use Rattle.table_changes.specs.Changed.{AllRows, AllFitIn, changed_by}
+use Rattle.depot_rows.specs.table_changes.Changed.{AllRows, AllFitIn, changed_by}
 use Rattle.recovery.specs.Damage.{IsCheckpointDamage, IsJournalDamage}
 use Rattle.recovery.specs.Holding.{ArePuts, joined}
 use Rattle.recovery.specs.Pieces.{IsBadRecord, IsFirst, IsBadPlace, IsTextDamage, IsUnreadable, HasCome, text_left}

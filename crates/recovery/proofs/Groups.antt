@@ -1,7 +1,7 @@
 -- The groups at the front of a text, and the text behind them.
 use Rattle.std.proofs.Common.{◌≡◌, ◌≢◌, inl, inr, ℕ, suc, ◌+◌, ◌<◌, ◌^◌, List, [], ◌∷◌, ◌++◌, length, Option, Some, None, refl, sym, ◌∙◌, ap, subst, arith, append_assoc}
 use Rattle.std.specs.List.{AllByRecursion}
-use Rattle.db_records.specs.declared.change.Change.{Change}
+use Rattle.depot_rows.specs.db_records.declared.change.Change.{Change}
 use Rattle.record_text.specs.Reading.{Done, Ends}
 use Rattle.journal_groups.specs.Groups.{IsGroup, group_text, groups_text, mark, open_byte}
 use Rattle.journal_groups.specs.Reading.{next_at}

@@ -3,15 +3,15 @@ use Rattle.std.proofs.Common.{◌≡◌, ℕ, suc, ◌+◌, ◌*◌, ◌≤◌, 
 use Rattle.std.proofs.lemmas.List.{length-replicate}
 use Rattle.std.specs.List.{AllByRecursion}
 use Rattle.outside_api.specs.Disk.{Files}
-use Rattle.db_records.specs.declared.change.Change.{Change}
-use Rattle.db_records.specs.declared.table.TableId.{TableId}
+use Rattle.depot_rows.specs.db_records.declared.change.Change.{Change}
+use Rattle.depot_rows.specs.db_records.declared.table.TableId.{TableId}
 use Rattle.journal_groups.specs.Groups.{IsGroup, group_text, groups_text, body_of, mark, open_byte}
 use Rattle.journal_groups.specs.Committed.{HasGroups}
 use Rattle.journal_groups.proofs.Committed.{groups_are}
 use Rattle.disk_journal.specs.Images.{Begins, IsRoot, IsAtRest}
 use Rattle.disk_journal.specs.Text as texts
 use Rattle.disk_journal.specs.Text.{blocks, AreGroupsFrom}
-use Rattle.table_changes.specs.Changed.{AllRows, AllFitIn, changed_by, no_rows}
+use Rattle.depot_rows.specs.table_changes.Changed.{AllRows, AllFitIn, changed_by, no_rows}
 use Rattle.recovery.specs.Holding.{Hold, HasAllRows, group_texts, joined}
 use Rattle.recovery.specs.Reading.{IsCheckpoint}
 use Rattle.recovery.proofs.Fits.{changed_joined, fits_joined, fits_front, fits_behind}

@@ -3,11 +3,11 @@ use Rattle.std.proofs.Common.{◌≡◌, ℕ, suc, ◌+◌, ◌<◌, ◌≤◌, 
 use Rattle.std.specs.List.{AllByRecursion}
 use Rattle.std.proofs.lemmas.List.{append-nil}
 use Rattle.outside_api.specs.Disk.{Files}
-use Rattle.db_records.specs.declared.change.Change.{Change}
+use Rattle.depot_rows.specs.db_records.declared.change.Change.{Change}
 use Rattle.journal_groups.specs.Groups.{IsGroup, group_text, groups_text, mark, open_byte}
 use Rattle.journal_groups.specs.Causes.{BeginsWanted}
 use Rattle.journal_groups.specs.Committed.{HasGroups}
-use Rattle.table_changes.specs.Changed.{AllRows, AllFitIn, changed_by}
+use Rattle.depot_rows.specs.table_changes.Changed.{AllRows, AllFitIn, changed_by}
 use Rattle.recovery.specs.Holding.{joined}
 use Rattle.recovery.specs.Pieces.{IsFirst, KnowsEnd, HasCome, text_left}
 use Rattle.recovery.specs.Reading.{SoFar}

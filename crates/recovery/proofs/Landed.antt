@@ -2,11 +2,11 @@
 use Rattle.std.proofs.Common.{◌≡◌, ℕ, zero, suc, Bool, true, false, List, [], ◌∷◌, ◌++◌, Some, refl, IsTrue}
 use Rattle.std.specs.Prelude.{◌&&◌, map, slice_get, if◌then◌else◌}
 use Rattle.std.specs.List.{AllByRecursion, list_all, filter}
-use Rattle.depot_path.specs.Bytes.{same}
-use Rattle.depot_model.specs.Deeds.{Deed, Landing, Entry, Land}
-use Rattle.depot_model.specs.Numbers.{landings}
-use Rattle.depot_model.specs.Revisions.{Revision, revisions, revision, entries_at}
-use Rattle.depot_model.specs.Rules.{has_its_content, have_their_contents}
+use Rattle.depot_rows.specs.depot_path.Bytes.{same}
+use Rattle.depot_rows.specs.depot_model.Deeds.{Deed, Landing, Entry, Land}
+use Rattle.depot_rows.specs.depot_model.Numbers.{landings}
+use Rattle.depot_rows.specs.depot_model.Revisions.{Revision, revisions, revision, entries_at}
+use Rattle.depot_rows.specs.depot_model.Rules.{has_its_content, have_their_contents}
 
 first_true : (a b : Bool) → (a && b) ≡ true → a ≡ true
 first_true true b e = refl

@@ -3,12 +3,12 @@ use Rattle.std.proofs.Common.{◌≡◌, inl, inr, ℕ, zero, suc, ◌+◌, ◌*
 use Rattle.std.specs.Result.{IsErrAnd}
 use Rattle.outside_api.specs.Disk.{Files, After, Elapses, Follows, LeavesOnly, NoMore, Same}
 use Rattle.outside_api.specs.Moments.{started, goes_on, then, weaker}
-use Rattle.db_records.specs.declared.change.Change.{Change}
+use Rattle.depot_rows.specs.db_records.declared.change.Change.{Change}
 use Rattle.journal_groups.specs.Groups.{group_text}
 use Rattle.disk_journal.specs.Images.{Begins, IsAtRest, IsRoot}
 use Rattle.disk_journal.specs.Made.{made, HasFirstFiles, IsBeingMade, SameOthers}
-use Rattle.table_changes.specs.Changed.{no_rows}
-use Rattle.depot_model.specs.Rules.{IsSound}
+use Rattle.depot_rows.specs.table_changes.Changed.{no_rows}
+use Rattle.depot_rows.specs.depot_model.Rules.{IsSound}
 use Rattle.recovery.specs.Holding.{Hold}
 use Rattle.recovery.specs.Making.{HoldsNoRow, IsBare, IsEmptyButRoot, IsMaking}
 use Rattle.recovery.specs.Opening.{LooksOnly}

@@ -3,14 +3,14 @@ use Rattle.std.proofs.Common.{◌≡◌, ◌↔◌, ℕ, zero, suc, ◌+◌, ◌
 use Rattle.std.specs.List.{AllByRecursion}
 use Rattle.std.specs.Ordering.{is_lt}
 use Rattle.std.proofs.lemmas.List.{take_more, take-append-drop}
-use Rattle.db_records.specs.declared.change.Change.{Change}
-use Rattle.db_records.specs.declared.change.Op.TheVariants.{Put}
-use Rattle.db_records.specs.declared.record.Record.{Record}
-use Rattle.db_records.specs.Key.{key_cmp}
-use Rattle.db_records.specs.Record.{key_of}
-use Rattle.table_store.specs.Rows.{AllBelow, IsRising}
-use Rattle.table_store.proofs.Order.{turned_less, AllAbove-append, before_row, IsRising-left}
-use Rattle.table_store.proofs.Place.{below_where_last_is}
+use Rattle.depot_rows.specs.db_records.declared.change.Change.{Change}
+use Rattle.depot_rows.specs.db_records.declared.change.Op.TheVariants.{Put}
+use Rattle.depot_rows.specs.db_records.declared.record.Record.{Record}
+use Rattle.depot_rows.specs.db_records.Key.{key_cmp}
+use Rattle.depot_rows.specs.db_records.Record.{key_of}
+use Rattle.depot_rows.specs.table_store.Rows.{AllBelow, IsRising}
+use Rattle.depot_rows.proofs.table_store.Order.{turned_less, AllAbove-append, before_row, IsRising-left}
+use Rattle.depot_rows.proofs.table_store.Place.{below_where_last_is}
 use Rattle.recovery.specs.Holding.{ArePuts, rows_put}
 
 rising_more : (rows : List Record) (row : Record) → IsRising rows → AllBelow (key_of row) rows → IsRising (rows ++ row ∷ [])

@@ -3,18 +3,18 @@ use Rattle.std.proofs.Common.{◌≡◌, Bool, true, false, List, [], ◌∷◌,
 use Rattle.std.specs.Prelude.{◌==◌, if◌then◌else◌}
 use Rattle.std.specs.List.{AllByRecursion}
 use Rattle.std.specs.declared.cmp.Ordering.TheVariants.{Less}
-use Rattle.db_records.specs.declared.change.Change.{Change}
-use Rattle.db_records.specs.declared.change.Op.{Op}
-use Rattle.db_records.specs.declared.change.Op.TheVariants.{Put}
-use Rattle.db_records.specs.declared.key.Key.{Key}
-use Rattle.db_records.specs.declared.table.TableId.{TableId}
-use Rattle.db_records.specs.Key.{key_cmp}
-use Rattle.db_records.specs.Record.{key_of, table_of}
-use Rattle.db_records.specs.Table.{table_number}
-use Rattle.table_store.specs.Rows.{AllAbove, AllBelow, FitsAt, IsRising, changed_once, row_at}
-use Rattle.table_store.proofs.Order.{turned_greater, AllBelow-append, row_at-below}
-use Rattle.table_store.proofs.Place.{row_behind}
-use Rattle.table_changes.specs.Changed.{AllRows, FitsIn, AllFitIn, changed_in, no_rows}
+use Rattle.depot_rows.specs.db_records.declared.change.Change.{Change}
+use Rattle.depot_rows.specs.db_records.declared.change.Op.{Op}
+use Rattle.depot_rows.specs.db_records.declared.change.Op.TheVariants.{Put}
+use Rattle.depot_rows.specs.db_records.declared.key.Key.{Key}
+use Rattle.depot_rows.specs.db_records.declared.table.TableId.{TableId}
+use Rattle.depot_rows.specs.db_records.Key.{key_cmp}
+use Rattle.depot_rows.specs.db_records.Record.{key_of, table_of}
+use Rattle.depot_rows.specs.db_records.Table.{table_number}
+use Rattle.depot_rows.specs.table_store.Rows.{AllAbove, AllBelow, FitsAt, IsRising, changed_once, row_at}
+use Rattle.depot_rows.proofs.table_store.Order.{turned_greater, AllBelow-append, row_at-below}
+use Rattle.depot_rows.proofs.table_store.Place.{row_behind}
+use Rattle.depot_rows.specs.table_changes.Changed.{AllRows, FitsIn, AllFitIn, changed_in, no_rows}
 use Rattle.recovery.specs.Holding.{ArePuts, rows_put}
 
 -- all rows are below a key

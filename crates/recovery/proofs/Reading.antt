@@ -1,7 +1,7 @@
 -- What a piece more of a file adds to what was read of it.
 use Rattle.std.proofs.Common.{◌≡◌, inl, inr, ℕ, ◌+◌, ◌-◌, ◌≤◌, List, [], ◌∷◌, ◌++◌, length, take, drop, Option, Some, None, sym, ◌∙◌, ap, subst, arith, append_assoc, length-append, length-drop}
 use Rattle.std.proofs.lemmas.List.{append-nil, take-append-drop, take-append-le, length-take-le, drop-drop}
-use Rattle.db_records.specs.declared.change.Change.{Change}
+use Rattle.depot_rows.specs.db_records.declared.change.Change.{Change}
 use Rattle.journal_groups.specs.Groups.{group_text, mark, open_byte}
 use Rattle.journal_groups.specs.Causes.{StopsAt, GoesOn}
 use Rattle.journal_groups.specs.Reader.{State, HasTaken}

@@ -2,10 +2,10 @@
 use Rattle.std.proofs.Common.{◌≡◌, ℕ, ◌∙◌, ap}
 use Rattle.outside_api.specs.Disk.{Files, Elapses, NoMore, Same}
 use Rattle.outside_api.specs.Moments.{started, goes_on, then, weaker}
-use Rattle.db_records.specs.declared.table.TableId.{TableId}
-use Rattle.db_records.specs.declared.table.TableId.TheVariants.{Rev}
+use Rattle.depot_rows.specs.db_records.declared.table.TableId.{TableId}
+use Rattle.depot_rows.specs.db_records.declared.table.TableId.TheVariants.{Rev}
 use Rattle.disk_journal.specs.Images.{Committed}
-use Rattle.table_changes.specs.Changed.{AllRows}
+use Rattle.depot_rows.specs.table_changes.Changed.{AllRows}
 use Rattle.recovery.specs.Holding.{HasAllRows, spots_end}
 use Rattle.recovery.specs.Looking.{OnlyReads}
 use Rattle.recovery.specs.Opening.{HasSynced, LooksOnly}

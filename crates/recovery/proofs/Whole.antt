@@ -2,30 +2,30 @@
 use Rattle.std.proofs.Common.{◌≡◌, ℕ, Bool, true, false, List, [], ◌∷◌, ◌++◌, Option, Some, None, Result, Ok, Err, refl, sym, ◌∙◌, ap, subst, append_assoc, IsTrue}
 use Rattle.std.specs.Prelude.{◌&&◌, ◌==◌, not, codes, option_map, if◌then◌else◌, bytes_eq, is_some, is_none}
 use Rattle.outside_api.specs.Disk.{Files}
-use Rattle.db_records.proofs.Order.{keys_equal}
-use Rattle.db_records.specs.Record.{key_of, table_of, is_live}
-use Rattle.db_records.specs.Table.{table_number}
-use Rattle.db_records.specs.declared.change.Change.{Change}
-use Rattle.db_records.specs.declared.key.Key.TheVariants as keys
-use Rattle.db_records.specs.declared.record.Record.{Record}
-use Rattle.db_records.specs.declared.record.Record.TheVariants.{Rev}
-use Rattle.db_records.specs.declared.rows.RevRecord.{RevRecord}
-use Rattle.db_records.specs.declared.table.TableId.{TableId}
-use Rattle.db_records.specs.declared.table.TableId.TheVariants as tables
-use Rattle.depot_path.specs.Bytes.{same}
-use Rattle.depot_path.specs.Path.{path_of, printed}
-use Rattle.depot_path.specs.declared.fault.PathFault.{PathFault}
-use Rattle.table_store.specs.Rows.{IsRising, row_at, changed_once}
-use Rattle.table_store.proofs.Order.{changed_once_rises, before_row, IsRising-right, row_at-here}
-use Rattle.table_changes.specs.Changed.{AllRows, changed_by, changed_in, no_rows}
-use Rattle.depot_model.specs.Deeds.{Deed, Action, Add, Edit, Delete, Branch, Integrate, MoveAdd, MoveDelete}
-use Rattle.depot_model.specs.Revisions.{Revision, revision, is_live_action}
-use Rattle.depot_model.specs.Records.{at_path, record_of, rev_record, unplaced, digest}
-use Rattle.depot_model.specs.Rows.{action_word}
-use Rattle.depot_model.specs.Rules.{KeepRules, Rows, value_of}
+use Rattle.depot_rows.proofs.db_records.Order.{keys_equal}
+use Rattle.depot_rows.specs.db_records.Record.{key_of, table_of, is_live}
+use Rattle.depot_rows.specs.db_records.Table.{table_number}
+use Rattle.depot_rows.specs.db_records.declared.change.Change.{Change}
+use Rattle.depot_rows.specs.db_records.declared.key.Key.TheVariants as keys
+use Rattle.depot_rows.specs.db_records.declared.record.Record.{Record}
+use Rattle.depot_rows.specs.db_records.declared.record.Record.TheVariants.{Rev}
+use Rattle.depot_rows.specs.db_records.declared.rows.RevRecord.{RevRecord}
+use Rattle.depot_rows.specs.db_records.declared.table.TableId.{TableId}
+use Rattle.depot_rows.specs.db_records.declared.table.TableId.TheVariants as tables
+use Rattle.depot_rows.specs.depot_path.Bytes.{same}
+use Rattle.depot_rows.specs.depot_path.Path.{path_of, printed}
+use Rattle.depot_rows.specs.depot_path.declared.fault.PathFault.{PathFault}
+use Rattle.depot_rows.specs.table_store.Rows.{IsRising, row_at, changed_once}
+use Rattle.depot_rows.proofs.table_store.Order.{changed_once_rises, before_row, IsRising-right, row_at-here}
+use Rattle.depot_rows.specs.table_changes.Changed.{AllRows, changed_by, changed_in, no_rows}
+use Rattle.depot_rows.specs.depot_model.Deeds.{Deed, Action, Add, Edit, Delete, Branch, Integrate, MoveAdd, MoveDelete}
+use Rattle.depot_rows.specs.depot_model.Revisions.{Revision, revision, is_live_action}
+use Rattle.depot_rows.specs.depot_model.Records.{at_path, record_of, rev_record, unplaced, digest}
+use Rattle.depot_rows.specs.depot_model.Rows.{action_word}
+use Rattle.depot_rows.specs.depot_model.Rules.{KeepRules, Rows, value_of}
 use Rattle.depot_rows.proofs.Keys.{same-is}
 use Rattle.depot_rows.specs.Standing.{unplaced_at}
-use Rattle.db_records.specs.Key.{key_table}
+use Rattle.depot_rows.specs.db_records.Key.{key_table}
 use Rattle.recovery.specs.Holding.{joined}
 use Rattle.recovery.specs.Contents.{HasDigested, IsWhole, AreWhole, HoldWhole}
 use Rattle.recovery.specs.Rules.{KeepTheirRules}

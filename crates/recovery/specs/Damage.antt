@@ -2,13 +2,13 @@
 use Rattle.std.specs.Prelude.{◌≡◌, ◌⊎◌, ℕ, ◌+◌, ◌-◌, ◌*◌, ◌<◌, ◌≤◌, List, ◌++◌, length, take}
 use Rattle.std.specs.List.{AllByRecursion}
 use Rattle.outside_api.specs.Disk.{Files}
-use Rattle.db_records.specs.declared.change.Change.{Change}
-use Rattle.db_records.specs.declared.table.TableId.TheVariants as tables
+use Rattle.depot_rows.specs.db_records.declared.change.Change.{Change}
+use Rattle.depot_rows.specs.db_records.declared.table.TableId.TheVariants as tables
 use Rattle.disk_journal.specs.Images.{Committed, HasCommitted, Begins, IsRoot}
 use Rattle.disk_journal.specs.Text.{blocks}
 use Rattle.journal_groups.specs.Groups.{GroupBegins, IsGroup, group_text, groups_text}
 use Rattle.journal_groups.specs.Causes.{GroupGoesOn, GroupStopsAt}
-use Rattle.table_changes.specs.Changed.{AllRows, AllFitIn, changed_by, no_rows}
+use Rattle.depot_rows.specs.table_changes.Changed.{AllRows, AllFitIn, changed_by, no_rows}
 use Rattle.recovery.specs.Contents.{IsSpotDamage}
 use Rattle.recovery.specs.Holding.{ArePuts, HasAllRows, Hold, joined}
 use Rattle.recovery.specs.Pieces.{AreAllGood, IsBadRecord, IsTextDamage}

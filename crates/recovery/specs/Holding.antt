@@ -2,16 +2,16 @@
 use Rattle.std.specs.Prelude.{◌≡◌, ◌≤◌, ℕ, suc, ◌+◌, ◌++◌, List, [], ◌∷◌, length, map, flat_map, max}
 use Rattle.std.specs.List.{AllByRecursion}
 use Rattle.outside_api.specs.Disk.{Files}
-use Rattle.db_records.specs.declared.change.Change.{Change}
-use Rattle.db_records.specs.declared.change.Op.TheVariants.{Put}
-use Rattle.db_records.specs.declared.record.Record.{Record}
-use Rattle.db_records.specs.declared.record.Record.TheVariants.{Rev}
-use Rattle.db_records.specs.declared.table.TableId.{TableId}
-use Rattle.db_records.specs.declared.table.TableId.TheVariants as tables
+use Rattle.depot_rows.specs.db_records.declared.change.Change.{Change}
+use Rattle.depot_rows.specs.db_records.declared.change.Op.TheVariants.{Put}
+use Rattle.depot_rows.specs.db_records.declared.record.Record.{Record}
+use Rattle.depot_rows.specs.db_records.declared.record.Record.TheVariants.{Rev}
+use Rattle.depot_rows.specs.db_records.declared.table.TableId.{TableId}
+use Rattle.depot_rows.specs.db_records.declared.table.TableId.TheVariants as tables
 use Rattle.journal_groups.specs.Groups.{group_text, IsGroup}
 use Rattle.disk_journal.specs.Images.{Committed, HasCommitted}
-use Rattle.table_store.specs.Rows.{IsRising}
-use Rattle.table_changes.specs.Changed.{AllRows, AllFitIn, changed_by, no_rows}
+use Rattle.depot_rows.specs.table_store.Rows.{IsRising}
+use Rattle.depot_rows.specs.table_changes.Changed.{AllRows, AllFitIn, changed_by, no_rows}
 
 -- the texts of groups, numbered from this number on
 abbrev pub group_texts : ℕ → List (List Change) → List (List ℕ)

@@ -1,10 +1,10 @@
 -- What the journal's disk may have while the files of an empty depot are made. That the root is written last is this project's own choice.
 use Rattle.std.specs.Prelude.{◌≡◌, ◌⊎◌, ◌<◌, ℕ, []}
 use Rattle.outside_api.specs.Disk.{Files}
-use Rattle.db_records.specs.declared.table.TableId.{TableId}
+use Rattle.depot_rows.specs.db_records.declared.table.TableId.{TableId}
 use Rattle.disk_journal.specs.Images.{IsRoot}
 use Rattle.disk_journal.specs.Made.{HasFirstFiles, SameOthers}
-use Rattle.table_changes.specs.Changed.{AllRows}
+use Rattle.depot_rows.specs.table_changes.Changed.{AllRows}
 use Rattle.recovery.specs.Holding.{Hold}
 use Rattle.recovery.specs.Standing.{StandFor}
 

@@ -1,12 +1,12 @@
 -- What opening answers (System Administrator Guide, "Backup and recovery"; what is checked is this project's own choice).
 use Rattle.std.specs.Prelude.{◌≡◌, ◌⊎◌, ℕ, Result, Ok, Err}
 use Rattle.outside_api.specs.Disk.{Files, LeavesOnly, NoMore, Same}
-use Rattle.db_records.specs.declared.table.TableId.TheVariants.{Rev}
+use Rattle.depot_rows.specs.db_records.declared.table.TableId.TheVariants.{Rev}
 use Rattle.disk_journal.specs.Images.{Committed}
 use Rattle.disk_journal.specs.Stands.{Stands, nothing, disk_of}
 use Rattle.archive_file.specs.Archive.{used_of}
 use Rattle.archive_file.specs.Archive as archives
-use Rattle.table_changes.specs.Changed.{rows_of}
+use Rattle.depot_rows.specs.table_changes.Changed.{rows_of}
 use Rattle.recovery.specs.Faults.{SaysNothing}
 use Rattle.recovery.specs.Contents.{AreWhole}
 use Rattle.recovery.specs.Holding.{HasAllRows, spots_end}

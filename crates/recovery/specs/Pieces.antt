@@ -1,7 +1,7 @@
 -- The groups of a file that is read in pieces.
 use Rattle.std.specs.Prelude.{◌≡◌, ◌≢◌, ◌⊎◌, ℕ, ◌+◌, ◌-◌, ◌<◌, ◌^◌, List, [], ◌∷◌, ◌++◌, length, drop, Option, Some, None}
 use Rattle.outside_api.specs.Disk.{Files}
-use Rattle.db_records.specs.declared.change.Change.{Change}
+use Rattle.depot_rows.specs.db_records.declared.change.Change.{Change}
 use Rattle.journal_groups.specs.Groups.{IsGroup, body_of, group_text, mark, open_byte}
 use Rattle.journal_groups.specs.Causes.{GoesOn, StopsAt}
 use Rattle.journal_groups.specs.Reader.{State, BeginsAt, HasRecords}

@@ -2,12 +2,12 @@
 use Rattle.std.specs.Prelude.{◌≡◌, ◌<◌, ◌≤◌, ◌+◌, ◌*◌, ◌^◌, ℕ, List, ◌++◌, length}
 use Rattle.std.specs.List.{AllByRecursion}
 use Rattle.outside_api.specs.Disk.{Files}
-use Rattle.db_records.specs.declared.change.Change.{Change}
+use Rattle.depot_rows.specs.db_records.declared.change.Change.{Change}
 use Rattle.disk_journal.specs.Images.{Committed, Begins, IsAtRest}
 use Rattle.disk_journal.specs.Text.{AreGroups, blocks}
 use Rattle.journal_groups.specs.Committed.{HasGroups}
 use Rattle.journal_groups.specs.Groups.{IsGroup, group_text, groups_text}
-use Rattle.table_changes.specs.Changed.{AllRows, AllFitIn, changed_by, no_rows, rows_of}
+use Rattle.depot_rows.specs.table_changes.Changed.{AllRows, AllFitIn, changed_by, no_rows, rows_of}
 use Rattle.recovery.specs.Holding.{ArePuts, HasAllRows, joined}
 use Rattle.recovery.specs.Pieces.{KnowsEnd, text_left}
 use Rattle.recovery.specs.declared.pieces.FileGroups.{FileGroups}

@@ -2,14 +2,14 @@
 -- deleted revision has it at 0, that a counter tells the generation, and which place is told, is this project's own choice.
 use Rattle.std.specs.Prelude.{◌≡◌, ◌+◌, ◌*◌, ℕ, IsFalse, List, codes}
 use Rattle.std.specs.List.{AllByRecursion}
-use Rattle.db_records.specs.Key.{key_table}
-use Rattle.db_records.specs.Record.{is_live}
-use Rattle.db_records.specs.declared.key.Key.TheVariants as keys
-use Rattle.db_records.specs.declared.record.Record.{Record}
-use Rattle.db_records.specs.declared.record.Record.TheVariants.{Rev as RevRow}
-use Rattle.db_records.specs.declared.table.TableId.TheVariants.{Counter, Rev}
-use Rattle.table_changes.specs.Changed.{AllRows}
-use Rattle.depot_model.specs.Rules.{KeepRules, value_of}
+use Rattle.depot_rows.specs.db_records.Key.{key_table}
+use Rattle.depot_rows.specs.db_records.Record.{is_live}
+use Rattle.depot_rows.specs.db_records.declared.key.Key.TheVariants as keys
+use Rattle.depot_rows.specs.db_records.declared.record.Record.{Record}
+use Rattle.depot_rows.specs.db_records.declared.record.Record.TheVariants.{Rev as RevRow}
+use Rattle.depot_rows.specs.db_records.declared.table.TableId.TheVariants.{Counter, Rev}
+use Rattle.depot_rows.specs.table_changes.Changed.{AllRows}
+use Rattle.depot_rows.specs.depot_model.Rules.{KeepRules, value_of}
 use Rattle.depot_rows.specs.Standing.{unplaced_at}
 use Rattle.recovery.specs.declared.fault.DepotDisk.TheVariants.{Journal}
 use Rattle.recovery.specs.declared.fault.OpenFault.{OpenFault}

@@ -4,9 +4,9 @@ ghost use Rattle.std.specs.Prelude.{◌≡◌, ◌≢◌, ◌≤◌, ◌<◌, �
 ghost use Rattle.std.specs.Result.{IfErr};
 ghost use Rattle.md5.specs.Md5.{Holds};
 ghost use Rattle.outside_api.specs.Disk.{Files};
-ghost use Rattle.db_records.specs.declared.table.TableId.TheVariants.{Rev};
-ghost use Rattle.depot_model.specs.Records.{digest};
-ghost use Rattle.table_changes.specs.Changed.{rows_of};
+ghost use Rattle.depot_rows.specs.db_records.declared.table.TableId.TheVariants.{Rev};
+ghost use Rattle.depot_rows.specs.depot_model.Records.{digest};
+ghost use Rattle.depot_rows.specs.table_changes.Changed.{rows_of};
 ghost use Rattle.recovery.specs.Contents.{HasDigested, IsWhole, AreWhole, IsBadAt, IsSpotDamage, bytes_at};
 ghost use Rattle.recovery.specs.Faults.{IsReadOrSaysNothing, IsOfArchive, IfDamaged, SaysNothing};
 ghost use Rattle.recovery.specs.Holding.{spot_end, spots_end};
@@ -16,13 +16,13 @@ ghost use Rattle.recovery.specs.declared.fault.OpenFault.TheVariants.{Damaged, D
 
 use crate::fault::{DepotDisk, OpenFault};
 use crate::spots::{end_within, revisions};
-use db_records::{Record, RevRecord};
-use depot_path::Text;
+use depot_rows::paths::Text;
+use depot_rows::records::{Record, RevRecord};
+use depot_rows::tables::Tables;
 use hex::encode_upper;
 use md5::{Digest, Md5};
 use outside_api::{Disk, fill};
 use std::alloc::{AllocError, Global};
-use table_store::Tables;
 
 /// The file of the archive's disk.
 const CONTENTS: u32 = 0;

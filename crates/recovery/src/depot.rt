@@ -3,8 +3,8 @@
 ghost use Rattle.std.specs.Prelude.{◌≡◌, length, IfOk, Err};
 ghost use Rattle.std.specs.Result.{IfErr};
 ghost use Rattle.outside_api.specs.Disk.{Files};
-ghost use Rattle.db_records.specs.declared.table.TableId.{TableId};
-ghost use Rattle.table_changes.specs.Changed.{AllRows, rows_of};
+ghost use Rattle.depot_rows.specs.db_records.declared.table.TableId.{TableId};
+ghost use Rattle.depot_rows.specs.table_changes.Changed.{AllRows, rows_of};
 ghost use Rattle.recovery.specs.Damage.{IsDamage};
 ghost use Rattle.recovery.specs.Faults.{IsReadOrSaysNothing, IsUnmadeOrSaysNothing, Tells};
 ghost use Rattle.recovery.specs.Holding.{Hold};
@@ -15,9 +15,9 @@ ghost use Rattle.recovery.specs.declared.fault.OpenFault.TheVariants.{DiskFault,
 use crate::fault::OpenFault;
 use crate::root::read_root;
 use crate::rows::{JournalEnd, read_checkpoint, read_journal};
+use depot_rows::tables::Tables;
 use outside_api::Disk;
 use std::alloc::Global;
-use table_store::Tables;
 
 /// How many bytes of a file are read at a time.
 const PIECE: usize = 65_536;

@@ -3,13 +3,13 @@
 ghost use Rattle.std.specs.Prelude.{◌≡◌, ◌≢◌, ◌≤◌, length, List, IfOk, Err};
 ghost use Rattle.std.specs.Result.{IfErr};
 ghost use Rattle.outside_api.specs.Disk.{Files, LeavesOnly, NoMore, Same};
-ghost use Rattle.db_records.specs.declared.table.TableId.{TableId};
-ghost use Rattle.db_records.specs.declared.table.TableId.TheVariants.{Rev};
+ghost use Rattle.depot_rows.specs.db_records.declared.table.TableId.{TableId};
+ghost use Rattle.depot_rows.specs.db_records.declared.table.TableId.TheVariants.{Rev};
 ghost use Rattle.disk_journal.specs.Images.{Committed};
 ghost use Rattle.disk_journal.specs.Stands.{disk_of, generation_of_journal};
 ghost use Rattle.archive_file.specs.Archive.{disk_of as archive_of};
-ghost use Rattle.table_changes.specs.Changed.{AllRows, rows_of};
-ghost use Rattle.depot_model.specs.Deeds.{Deed};
+ghost use Rattle.depot_rows.specs.table_changes.Changed.{AllRows, rows_of};
+ghost use Rattle.depot_rows.specs.depot_model.Deeds.{Deed};
 ghost use Rattle.depot_rows.specs.Standing.{Stand};
 ghost use Rattle.recovery.specs.Faults.{IsReadOrSaysNothing, IsUnmadeOrSaysNothing, Tells};
 ghost use Rattle.recovery.specs.Contents.{AreWhole, HoldWhole};
@@ -27,10 +27,10 @@ use crate::depot::Found;
 use crate::fault::OpenFault;
 use crate::rules::read_kept_rows;
 use archive_file::Archive;
+use depot_rows::tables::Tables;
 use disk_journal::Journal;
 use outside_api::Disk;
 use std::alloc::Global;
-use table_store::Tables;
 
 /// A depot whose files are open.
 #[derive(Drop)]

@@ -10,8 +10,8 @@ ghost use Rattle.recovery.specs.declared.fault.OpenFault.TheVariants.{Damaged, D
 ghost use Rattle.recovery.specs.declared.fault.DepotDisk.TheVariants.{Journal};
 
 use crate::fault::{DepotDisk, OpenFault};
-use db_records::Change;
-use depot_path::{Sequence, Text};
+use depot_rows::paths::{Sequence, Text};
+use depot_rows::records::Change;
 use journal_groups::{GroupFault, GroupReader};
 use outside_api::{Disk, fill};
 use record_text::print_record;

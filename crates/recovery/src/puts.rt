@@ -3,7 +3,7 @@
 ghost use Rattle.std.specs.Prelude.{◌≡◌, ◌↔◌, ◌<◌, ◌≤◌, ◌+◌, [], ◌∷◌, ◌++◌, length, take, IsTrue};
 ghost use Rattle.recovery.specs.Holding.{ArePuts};
 
-use db_records::{Change, Op};
+use depot_rows::records::{Change, Op};
 
 /// Whether a change puts a row above those that are put before it.
 fn follows(before: &[Change], change: &Change) -> bool

@@ -3,13 +3,13 @@
 ghost use Rattle.std.specs.Prelude.{◌≡◌, ◌≢◌, ◌≤◌, ◌<◌, ◌+◌, ◌-◌, ◌*◌, ◌^◌, ℕ, List, length, take, IfOk, OnOk, Err};
 ghost use Rattle.std.specs.Result.{IfErr};
 ghost use Rattle.outside_api.specs.Disk.{Files};
-ghost use Rattle.db_records.specs.declared.change.Change.{Change};
+ghost use Rattle.depot_rows.specs.db_records.declared.change.Change.{Change};
 ghost use Rattle.disk_journal.specs.Images.{Begins};
 ghost use Rattle.journal_groups.specs.Causes.{BeginsWanted};
 ghost use Rattle.journal_groups.specs.Groups.{group_text};
 ghost use Rattle.journal_groups.specs.Committed.{HasGroups};
-ghost use Rattle.table_changes.specs.Changed.{AllFitIn, changed_by, no_rows};
-ghost use Rattle.table_changes.specs.Drafts.{rows_of_draft};
+ghost use Rattle.depot_rows.specs.table_changes.Changed.{AllFitIn, changed_by, no_rows};
+ghost use Rattle.depot_rows.specs.table_changes.Drafts.{rows_of_draft};
 ghost use Rattle.recovery.specs.Damage.{IsCheckpointDamage, IsJournalDamage};
 ghost use Rattle.recovery.specs.Faults.{IfDamaged, IsOfFile, SaysNothing};
 ghost use Rattle.recovery.specs.Holding.{ArePuts, joined};
@@ -21,12 +21,12 @@ ghost use Rattle.recovery.specs.declared.fault.OpenFault.TheVariants.{DiskFault}
 use crate::fault::OpenFault;
 use crate::pieces::FileGroups;
 use crate::puts::rising_puts;
-use db_records::Change;
-use depot_path::{Sequence, Text};
+use depot_rows::changes::TablesDraft;
+use depot_rows::paths::{Sequence, Text};
+use depot_rows::records::Change;
+use depot_rows::tables::Tables;
 use outside_api::Disk;
 use std::alloc::{AllocError, Global};
-use table_changes::TablesDraft;
-use table_store::Tables;
 
 /// How many groups a journal has, and how many bytes.
 #[derive(Clone, Copy, Drop)]

@@ -1,12 +1,12 @@
 //! The spots of revisions in the archive.
 
 ghost use Rattle.std.specs.Prelude.{◌≡◌, ◌≤◌, ◌<◌, ◌+◌, ◌↔◌, IfSome, IsTrue, None};
-ghost use Rattle.db_records.specs.declared.table.TableId.TheVariants.{Rev};
-ghost use Rattle.table_changes.specs.Changed.{rows_of};
+ghost use Rattle.depot_rows.specs.db_records.declared.table.TableId.TheVariants.{Rev};
+ghost use Rattle.depot_rows.specs.table_changes.Changed.{rows_of};
 ghost use Rattle.recovery.specs.Rules.{DeletesAreUnplaced, IsUnplacedIfDeleted};
 
-use db_records::{Record, RevRecord, TableId};
-use table_store::{Tables, Walk};
+use depot_rows::records::{Record, RevRecord, TableId};
+use depot_rows::tables::{Tables, Walk};
 
 /// All rows of the table of revisions.
 pub(crate) fn revisions(tables: &Tables) -> Walk<'_>

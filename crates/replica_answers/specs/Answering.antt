@@ -1,9 +1,9 @@
 -- What a replica answers, but for the contents of its rows (Server Administrator Guide, on read-only replicas).
 use Rattle.std.specs.Prelude.{◌≡◌, List, [], map}
-use Rattle.depot_model.specs.Deeds.{Deed}
-use Rattle.depot_model.specs.declared.reply.Row.{Row}
+use Rattle.depot_rows.specs.depot_model.Deeds.{Deed}
+use Rattle.depot_rows.specs.depot_model.declared.reply.Row.{Row}
 use Rattle.reply_rows.specs.Made.{StandAt, contents_of, waiting}
-use Rattle.table_changes.specs.Changed.{AllRows}
+use Rattle.depot_rows.specs.table_changes.Changed.{AllRows}
 use Rattle.replica_answers.specs.declared.answers.Answered.{Answered}
 
 -- The rows, waiting for their contents, which stand at the spots by these rows of a depot.

@@ -1,12 +1,12 @@
 //! The answer to a command that a replica is asked.
 
 ghost use Rattle.std.specs.Prelude.{◌≡◌, List, [], ◌∷◌, IfOk};
-ghost use Rattle.table_changes.specs.Changed.{rows_of};
+ghost use Rattle.depot_rows.specs.table_changes.Changed.{rows_of};
 ghost use Rattle.command_core.specs.Outcomes.{IsFormedBy};
-ghost use Rattle.depot_model.specs.About.{about};
-ghost use Rattle.depot_model.specs.Deeds.{Deed};
-ghost use Rattle.depot_model.specs.Refusals.{refusal_row};
-ghost use Rattle.depot_model.specs.declared.refusal.Refusal.TheVariants as refusals;
+ghost use Rattle.depot_rows.specs.depot_model.About.{about};
+ghost use Rattle.depot_rows.specs.depot_model.Deeds.{Deed};
+ghost use Rattle.depot_rows.specs.depot_model.Refusals.{refusal_row};
+ghost use Rattle.depot_rows.specs.depot_model.declared.refusal.Refusal.TheVariants as refusals;
 ghost use Rattle.depot_rows.specs.Standing.{Stand};
 ghost use Rattle.depot_runs.specs.Replica.{replica_reply};
 ghost use Rattle.depot_runs.specs.Today.{step};
@@ -14,13 +14,13 @@ ghost use Rattle.replica_answers.specs.Answering.{IsAnswerOf, replies};
 
 use crate::refusing::is_turned_away;
 use command_core::{Outcome, evaluate};
-use db_records::Spot;
-use depot_model::{Command, Reply, Request, Row};
-use depot_path::Sequence;
+use depot_rows::model::{Command, Reply, Request, Row};
+use depot_rows::paths::Sequence;
+use depot_rows::records::Spot;
+use depot_rows::tables::Tables;
 use replica_pull::Replica;
 use reply_rows::read_only_row;
 use std::alloc::{AllocError, Global};
-use table_store::Tables;
 
 /// What a replica answers to a command.
 #[derive(Drop)]

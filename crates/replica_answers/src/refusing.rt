@@ -4,7 +4,7 @@ ghost use Rattle.std.specs.Prelude.{◌≡◌, ◌&&◌};
 ghost use Rattle.depot_runs.specs.Built.{is_built};
 ghost use Rattle.depot_runs.specs.Replica.{is_refused};
 
-use depot_model::Command;
+use depot_rows::model::Command;
 
 /// Whether a command is built that writes a table or shows a shelf.
 pub(crate) fn is_turned_away(command: &Command) -> bool

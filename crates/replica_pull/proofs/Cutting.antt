@@ -2,23 +2,23 @@
 use Rattle.std.proofs.Common.{◌≡◌, Bool, true, false, cond, List, [], ◌∷◌, Option, Some, None, refl, sym, ap, ◌∙◌, subst, IsTrue}
 use Rattle.std.specs.Prelude.{option_map}
 use Rattle.std.specs.List.{list_all}
-use Rattle.db_records.specs.declared.key.Key.{Key}
-use Rattle.db_records.specs.declared.record.Record.{Record}
-use Rattle.db_records.specs.declared.record.Record.TheVariants.{Counter, Group, Protect, Domain, Have, Label, Integed, Resolve, Working, Change as ChangeRow, Rev}
-use Rattle.db_records.specs.declared.rows.WorkingRecord.{WorkingRecord}
-use Rattle.db_records.specs.declared.change.Change.{Change}
-use Rattle.db_records.specs.declared.change.Op.{Op}
-use Rattle.db_records.specs.declared.change.Op.TheVariants.{Put, Replace, Remove}
-use Rattle.db_records.specs.declared.table.TableId.{TableId}
-use Rattle.db_records.specs.Key.{key_table}
-use Rattle.db_records.specs.Record.{key_of}
-use Rattle.table_store.specs.Rows.{FitsAt}
-use Rattle.table_changes.specs.Changed.{AllRows, FitsIn, AllFitIn, changed_in, changed_by}
-use Rattle.depot_model.specs.Records.{record_of, unplaced, is_at as at}
-use Rattle.depot_model.specs.Rules.{has_paths}
-use Rattle.depot_model.specs.Deeds.{Deed}
-use Rattle.depot_model.specs.Cut.{cut}
-use Rattle.depot_model.specs.declared.filter.FilterRule.{FilterRule}
+use Rattle.depot_rows.specs.db_records.declared.key.Key.{Key}
+use Rattle.depot_rows.specs.db_records.declared.record.Record.{Record}
+use Rattle.depot_rows.specs.db_records.declared.record.Record.TheVariants.{Counter, Group, Protect, Domain, Have, Label, Integed, Resolve, Working, Change as ChangeRow, Rev}
+use Rattle.depot_rows.specs.db_records.declared.rows.WorkingRecord.{WorkingRecord}
+use Rattle.depot_rows.specs.db_records.declared.change.Change.{Change}
+use Rattle.depot_rows.specs.db_records.declared.change.Op.{Op}
+use Rattle.depot_rows.specs.db_records.declared.change.Op.TheVariants.{Put, Replace, Remove}
+use Rattle.depot_rows.specs.db_records.declared.table.TableId.{TableId}
+use Rattle.depot_rows.specs.db_records.Key.{key_table}
+use Rattle.depot_rows.specs.db_records.Record.{key_of}
+use Rattle.depot_rows.specs.table_store.Rows.{FitsAt}
+use Rattle.depot_rows.specs.table_changes.Changed.{AllRows, FitsIn, AllFitIn, changed_in, changed_by}
+use Rattle.depot_rows.specs.depot_model.Records.{record_of, unplaced, is_at as at}
+use Rattle.depot_rows.specs.depot_model.Rules.{has_paths}
+use Rattle.depot_rows.specs.depot_model.Deeds.{Deed}
+use Rattle.depot_rows.specs.depot_model.Cut.{cut}
+use Rattle.depot_rows.specs.depot_model.declared.filter.FilterRule.{FilterRule}
 use Rattle.depot_rows.specs.Standing.{row_in, unplaced_at, HasRows}
 use Rattle.depot_rows.specs.Cut.{is_text_inside, is_left, cut_row, cut_rows}
 use Rattle.depot_rows.proofs.CutRows.{rows_cut}

@@ -4,9 +4,9 @@ use Rattle.std.specs.List.{AllByRecursion}
 use Rattle.std.proofs.Math.Seq.{drop-append_seam}
 use Rattle.std.proofs.lemmas.List.{append-nil, take-append-drop, take-append-le, take_all}
 use Rattle.outside_api.specs.Link.{text_of}
-use Rattle.db_records.specs.declared.change.Change.{Change}
-use Rattle.table_changes.specs.Changed.{changed_by, no_rows, rows_of}
-use Rattle.depot_model.specs.declared.filter.FilterRule.{FilterRule}
+use Rattle.depot_rows.specs.db_records.declared.change.Change.{Change}
+use Rattle.depot_rows.specs.table_changes.Changed.{changed_by, no_rows, rows_of}
+use Rattle.depot_rows.specs.depot_model.declared.filter.FilterRule.{FilterRule}
 use Rattle.journal_groups.specs.Groups.{IsGroup, group_text, groups_text, mark, open_byte}
 use Rattle.recovery.specs.Holding.{joined}
 use Rattle.recovery.proofs.Groups.{one_group}

@@ -2,9 +2,9 @@
 use Rattle.std.proofs.Common.{◌≡◌, ℕ, ◌+◌, ◌<◌, List, [], ◌∷◌, ◌++◌, length, take, get_or, sym, ◌∙◌, ap, subst}
 use Rattle.std.proofs.lemmas.List.{take_more}
 use Rattle.std.proofs.lemmas.List.Elements.{filter_map-append}
-use Rattle.db_records.specs.declared.change.Change.{Change}
-use Rattle.depot_model.specs.declared.filter.FilterRule.{FilterRule}
-use Rattle.table_changes.specs.Changed.{AllRows, AllFitIn, changed_by}
+use Rattle.depot_rows.specs.db_records.declared.change.Change.{Change}
+use Rattle.depot_rows.specs.depot_model.declared.filter.FilterRule.{FilterRule}
+use Rattle.depot_rows.specs.table_changes.Changed.{AllRows, AllFitIn, changed_by}
 use Rattle.recovery.proofs.Fits.{changed_joined, fits_joined, fits_front, fits_behind}
 use Rattle.replica_pull.specs.Cut.{cut_change, cut_changes}
 use Rattle.replica_pull.specs.Feed.{Fit, changed_cut}

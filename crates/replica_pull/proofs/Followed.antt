@@ -5,9 +5,9 @@ use Rattle.std.proofs.lemmas.List.{length-drop, length-take-le, take-append-le, 
 use Rattle.outside_api.specs.Link.{text_of, IsEarlier, Answers}
 use Rattle.outside_api.specs.declared.link.Fetched.{Fetched}
 use Rattle.outside_api.specs.declared.link.Fetched.TheVariants as fetches
-use Rattle.db_records.specs.declared.change.Change.{Change}
-use Rattle.table_changes.specs.Changed.{AllRows, changed_by, changed_in, no_rows, rows_of}
-use Rattle.depot_model.specs.declared.filter.FilterRule.{FilterRule}
+use Rattle.depot_rows.specs.db_records.declared.change.Change.{Change}
+use Rattle.depot_rows.specs.table_changes.Changed.{AllRows, changed_by, changed_in, no_rows, rows_of}
+use Rattle.depot_rows.specs.depot_model.declared.filter.FilterRule.{FilterRule}
 use Rattle.journal_groups.specs.Groups.{IsGroup, groups_text}
 use Rattle.journal_groups.specs.declared.moved.Moved.{Moved}
 use Rattle.journal_groups.specs.declared.moved.Moved.TheVariants as moves

@@ -3,7 +3,7 @@ use Rattle.std.proofs.Common.{◌≡◌, ℕ, zero, suc, ◌+◌, ◌≤◌, Lis
 use Rattle.std.proofs.Math.Seq.{take-add}
 use Rattle.std.proofs.lemmas.List.{append-nil, take-append-drop, take-append-le, length-take-le}
 use Rattle.outside_api.specs.Link.{text_of, IsEarlier}
-use Rattle.depot_model.specs.declared.filter.FilterRule.{FilterRule}
+use Rattle.depot_rows.specs.depot_model.declared.filter.FilterRule.{FilterRule}
 use Rattle.journal_groups.specs.Groups.{groups_text}
 use Rattle.replica_pull.specs.Replica.{HasPassed, HasTakenPiece, IsNew, IsOfText}
 use Rattle.replica_pull.specs.declared.replica.Replica.{Replica}

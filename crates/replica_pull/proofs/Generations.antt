@@ -1,13 +1,13 @@
 -- The counter that tells the generation.
 use Rattle.std.proofs.Common.{◌≡◌, ℕ, Bool, true, false, Option, Some, None, refl, sym, ap, ◌∙◌, subst}
 use Rattle.std.specs.Prelude.{IsSome}
-use Rattle.db_records.specs.declared.record.Record.{Record}
-use Rattle.db_records.specs.declared.change.Op.TheVariants.{Put, Replace}
-use Rattle.db_records.specs.Record.{key_of, table_of}
-use Rattle.table_store.specs.Rows.{row_at}
-use Rattle.table_store.specs.Tables.{AllEmpty}
-use Rattle.table_store.specs.declared.tables.Tables.{Tables}
-use Rattle.table_changes.specs.Changed.{AllRows, FitsIn, changed_in, no_rows, rows_of}
+use Rattle.depot_rows.specs.db_records.declared.record.Record.{Record}
+use Rattle.depot_rows.specs.db_records.declared.change.Op.TheVariants.{Put, Replace}
+use Rattle.depot_rows.specs.db_records.Record.{key_of, table_of}
+use Rattle.depot_rows.specs.table_store.Rows.{row_at}
+use Rattle.depot_rows.specs.table_store.Tables.{AllEmpty}
+use Rattle.depot_rows.specs.table_store.declared.tables.Tables.{Tables}
+use Rattle.depot_rows.specs.table_changes.Changed.{AllRows, FitsIn, changed_in, no_rows, rows_of}
 use Rattle.replica_pull.specs.Feed.{HasMadeOne}
 use Rattle.replica_pull.specs.Replica.{beginning, telling}
 

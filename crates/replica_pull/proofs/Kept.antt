@@ -1,10 +1,10 @@
 -- A replica has its master's rows cut to its filter.
 use Rattle.std.proofs.Common.{◌≡◌, ℕ, ◌+◌, Bool, true, false, cond, List, [], ◌∷◌, None, refl, sym, subst}
 use Rattle.std.specs.Prelude.{option_map}
-use Rattle.depot_model.specs.declared.filter.FilterRule.{FilterRule}
+use Rattle.depot_rows.specs.depot_model.declared.filter.FilterRule.{FilterRule}
 use Rattle.depot_rows.specs.Cut.{is_left, cut_row}
 use Rattle.recovery.specs.Holding.{joined}
-use Rattle.table_changes.specs.Changed.{AllRows, changed_by, changed_in, no_rows, rows_of}
+use Rattle.depot_rows.specs.table_changes.Changed.{AllRows, changed_by, changed_in, no_rows, rows_of}
 use Rattle.replica_pull.specs.Cut.{AreCut}
 use Rattle.replica_pull.specs.Replica.{HasPassed, HasTakenPiece, IsNew, beginning}
 use Rattle.replica_pull.specs.declared.replica.Replica.{Replica}

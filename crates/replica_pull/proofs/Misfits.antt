@@ -2,7 +2,7 @@
 use Rattle.std.proofs.Common.{◌≡◌, ◌⊎◌, inl, inr, ℕ, zero, suc, ◌+◌, ◌-◌, ◌<◌, ◌≤◌, List, [], ◌∷◌, ◌++◌, length, take, drop, get_or, Result, Ok, Err, refl, sym, ap, subst, ◌∙◌, arith, length-append}
 use Rattle.std.specs.Result.{IsErrAnd}
 use Rattle.std.proofs.lemmas.List.{take_more, take-append-drop, get_or-drop}
-use Rattle.db_records.specs.declared.change.Change.{Change}
+use Rattle.depot_rows.specs.db_records.declared.change.Change.{Change}
 use Rattle.journal_groups.specs.Groups.{body_of, head_of}
 use Rattle.journal_groups.specs.Reader.{BeginsAt, HasRecords}
 use Rattle.recovery.specs.Pieces.{IsFirstBad, IsBadRecord, AreAllGood}

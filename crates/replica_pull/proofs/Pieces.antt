@@ -1,9 +1,9 @@
 -- What is left of a rest and a piece.
 use Rattle.std.proofs.Common.{◌≡◌, ℕ, ◌+◌, ◌-◌, ◌*◌, ◌≤◌, List, ◌++◌, length, drop, sym, subst, ◌∙◌, ap, arith, length-append}
 use Rattle.std.proofs.Math.Seq.{drop-append_seam}
-use Rattle.db_records.specs.declared.change.Change.{Change}
-use Rattle.depot_model.specs.declared.filter.FilterRule.{FilterRule}
-use Rattle.table_changes.specs.Changed.{AllRows}
+use Rattle.depot_rows.specs.db_records.declared.change.Change.{Change}
+use Rattle.depot_rows.specs.depot_model.declared.filter.FilterRule.{FilterRule}
+use Rattle.depot_rows.specs.table_changes.Changed.{AllRows}
 use Rattle.journal_groups.specs.Groups.{groups_text}
 use Rattle.journal_groups.specs.Causes.{GoesOn}
 use Rattle.journal_groups.specs.Reader.{State, BeginsAt}

@@ -2,9 +2,9 @@
 use Rattle.std.proofs.Common.{◌≡◌, inl, ℕ, suc, ◌+◌, ◌*◌, ◌<◌, ◌≤◌, List, [], ◌∷◌, ◌++◌, length, Some, refl, sym, ◌∙◌, ap, subst, arith, append_assoc, length-append}
 use Rattle.std.specs.List.{AllByRecursion}
 use Rattle.std.proofs.lemmas.List.{append-nil}
-use Rattle.db_records.specs.declared.change.Change.{Change}
-use Rattle.depot_model.specs.declared.filter.FilterRule.{FilterRule}
-use Rattle.table_changes.specs.Changed.{AllRows}
+use Rattle.depot_rows.specs.db_records.declared.change.Change.{Change}
+use Rattle.depot_rows.specs.depot_model.declared.filter.FilterRule.{FilterRule}
+use Rattle.depot_rows.specs.table_changes.Changed.{AllRows}
 use Rattle.journal_groups.specs.Groups.{IsGroup, group_text, groups_text, mark, open_byte}
 use Rattle.journal_groups.specs.Reader.{State, HasTaken}
 use Rattle.recovery.specs.Holding.{joined}

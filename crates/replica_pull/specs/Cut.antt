@@ -1,11 +1,11 @@
 -- The changes of a group without those of rows that a filter leaves out (Server Administrator Guide, on filtered replicas). Which rows these are is
 -- that of the rows of a cut depot.
 use Rattle.std.specs.Prelude.{◌≡◌, List, filter_map, if◌then◌else◌, Option, Some, None}
-use Rattle.db_records.specs.Record.{key_of}
-use Rattle.db_records.specs.declared.change.Change.{Change}
-use Rattle.db_records.specs.declared.key.Key.{Key}
-use Rattle.table_changes.specs.Changed.{AllRows}
-use Rattle.depot_model.specs.declared.filter.FilterRule.{FilterRule}
+use Rattle.depot_rows.specs.db_records.Record.{key_of}
+use Rattle.depot_rows.specs.db_records.declared.change.Change.{Change}
+use Rattle.depot_rows.specs.db_records.declared.key.Key.{Key}
+use Rattle.depot_rows.specs.table_changes.Changed.{AllRows}
+use Rattle.depot_rows.specs.depot_model.declared.filter.FilterRule.{FilterRule}
 use Rattle.depot_rows.specs.Cut.{is_left, cut_row, cut_rows}
 use Rattle.depot_rows.specs.Standing.{row_in}
 

@@ -2,9 +2,9 @@
 -- this project's own choice.
 use Rattle.std.specs.Prelude.{◌≡◌, ◌≢◌, ◌⊎◌, ℕ, ◌+◌, ◌-◌, Bool, true, false, List, [], ◌∷◌, ◌++◌, length, Option, Some, None, Result, Err}
 use Rattle.std.specs.List.{AllByRecursion}
-use Rattle.db_records.specs.declared.change.Change.{Change}
-use Rattle.table_changes.specs.Changed.{AllRows, FitsIn, AllFitIn, changed_in, changed_by}
-use Rattle.depot_model.specs.declared.filter.FilterRule.{FilterRule}
+use Rattle.depot_rows.specs.db_records.declared.change.Change.{Change}
+use Rattle.depot_rows.specs.table_changes.Changed.{AllRows, FitsIn, AllFitIn, changed_in, changed_by}
+use Rattle.depot_rows.specs.depot_model.declared.filter.FilterRule.{FilterRule}
 use Rattle.journal_groups.specs.Groups.{IsGroup, groups_text, mark, open_byte}
 use Rattle.journal_groups.specs.Causes.{GoesOn, StopsAt}
 use Rattle.journal_groups.specs.Reader.{State, BeginsAt, HasRecords, HasTaken, IsLeft}

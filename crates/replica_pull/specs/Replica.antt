@@ -3,12 +3,12 @@
 use Rattle.std.specs.Prelude.{◌≡◌, ◌⊎◌, ℕ, ◌+◌, ◌-◌, ◌≤◌, ◌^◌, List, [], ◌++◌, length, take, codes}
 use Rattle.outside_api.specs.declared.link.Fetched.{Fetched}
 use Rattle.outside_api.specs.declared.link.Fetched.TheVariants as fetches
-use Rattle.db_records.specs.declared.change.Change.{Change}
-use Rattle.db_records.specs.declared.change.Op.{Op}
-use Rattle.db_records.specs.declared.change.Op.TheVariants.{Replace}
-use Rattle.db_records.specs.declared.record.Record.TheVariants.{Counter}
-use Rattle.depot_model.specs.declared.filter.FilterRule.{FilterRule}
-use Rattle.table_changes.specs.Changed.{AllRows, rows_of, changed_in, no_rows}
+use Rattle.depot_rows.specs.db_records.declared.change.Change.{Change}
+use Rattle.depot_rows.specs.db_records.declared.change.Op.{Op}
+use Rattle.depot_rows.specs.db_records.declared.change.Op.TheVariants.{Replace}
+use Rattle.depot_rows.specs.db_records.declared.record.Record.TheVariants.{Counter}
+use Rattle.depot_rows.specs.depot_model.declared.filter.FilterRule.{FilterRule}
+use Rattle.depot_rows.specs.table_changes.Changed.{AllRows, rows_of, changed_in, no_rows}
 use Rattle.journal_groups.specs.Groups.{groups_text}
 use Rattle.journal_groups.specs.Causes.{GoesOn}
 use Rattle.journal_groups.specs.Reader.{State, BeginsAt}

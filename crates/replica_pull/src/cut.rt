@@ -1,14 +1,14 @@
 //! Rows and changes without those of files outside a filter.
 
 ghost use Rattle.std.specs.Prelude.{◌≡◌, ◌&&◌, IfOk};
-ghost use Rattle.db_records.specs.Record.{key_of};
-ghost use Rattle.db_records.specs.declared.record.Record.TheVariants as rows;
+ghost use Rattle.depot_rows.specs.db_records.Record.{key_of};
+ghost use Rattle.depot_rows.specs.db_records.declared.record.Record.TheVariants as rows;
 ghost use Rattle.depot_rows.specs.Cut as depot_cut;
 ghost use Rattle.replica_pull.specs.Cut as spec;
 
-use db_records::{Change, Record, WorkingRecord};
-use depot_model::Filter;
-use depot_path::{DepotPath, PathFault, Text};
+use depot_rows::model::Filter;
+use depot_rows::paths::{DepotPath, PathFault, Text};
+use depot_rows::records::{Change, Record, WorkingRecord};
 use std::alloc::{AllocError, Global};
 
 /// Whether a text is a path inside the filter. The one error is want of memory.

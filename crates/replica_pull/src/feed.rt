@@ -2,25 +2,25 @@
 
 ghost use Rattle.std.specs.Prelude.{◌≡◌, ◌+◌, ◌-◌, ◌<◌, ◌≤◌, ◌^◌, ℕ, List, length, take, IfOk, OnOk};
 ghost use Rattle.std.specs.Result.{IfErr};
-ghost use Rattle.db_records.specs.declared.change.Change.{Change};
+ghost use Rattle.depot_rows.specs.db_records.declared.change.Change.{Change};
 ghost use Rattle.journal_groups.specs.Causes.{GoesOn};
 ghost use Rattle.journal_groups.specs.Groups.{body_of};
 ghost use Rattle.journal_groups.specs.Reader.{BeginsAt, HasRecords};
 ghost use Rattle.recovery.specs.Pieces.{AreAllGood};
-ghost use Rattle.table_changes.specs.Changed.{rows_of};
-ghost use Rattle.table_changes.specs.Drafts.{rows_of_draft};
+ghost use Rattle.depot_rows.specs.table_changes.Changed.{rows_of};
+ghost use Rattle.depot_rows.specs.table_changes.Drafts.{rows_of_draft};
 ghost use Rattle.replica_pull.specs.Feed.{Fit, changed_cut, HasMade, HasMadeOne, AreTaken, IsNextOf, IsBadFeed, IsBadPlace, IsFirstMisfit, IfBadFeed, IsOfFeed};
 
 use crate::cut::cut_change;
 use crate::fault::PullFault;
-use db_records::Change;
-use depot_model::Filter;
-use depot_path::Sequence;
+use depot_rows::changes::TablesDraft;
+use depot_rows::model::Filter;
+use depot_rows::paths::Sequence;
+use depot_rows::records::Change;
+use depot_rows::tables::Tables;
 use journal_groups::{GroupFault, GroupReader};
 use record_text::print_record;
 use std::alloc::{AllocError, Global};
-use table_changes::TablesDraft;
-use table_store::Tables;
 
 /// Makes a change if it fits, and answers whether it did.
 pub(crate) fn make_one(

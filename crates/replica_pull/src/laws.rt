@@ -2,16 +2,16 @@
 
 ghost use Rattle.std.specs.Prelude.{◌≡◌, ◌≤◌, ◌+◌, ◌++◌, ℕ, List, IsTrue, length, take, drop};
 ghost use Rattle.std.specs.List.{list_all};
-ghost use Rattle.db_records.specs.declared.change.Change.{Change};
-ghost use Rattle.db_records.specs.declared.table.TableId.{TableId};
-ghost use Rattle.depot_model.specs.Cut.{cut};
-ghost use Rattle.depot_model.specs.Deeds.{Deed};
-ghost use Rattle.depot_model.specs.Rules.{has_paths};
-ghost use Rattle.depot_model.specs.declared.filter.FilterRule.{FilterRule};
+ghost use Rattle.depot_rows.specs.db_records.declared.change.Change.{Change};
+ghost use Rattle.depot_rows.specs.db_records.declared.table.TableId.{TableId};
+ghost use Rattle.depot_rows.specs.depot_model.Cut.{cut};
+ghost use Rattle.depot_rows.specs.depot_model.Deeds.{Deed};
+ghost use Rattle.depot_rows.specs.depot_model.Rules.{has_paths};
+ghost use Rattle.depot_rows.specs.depot_model.declared.filter.FilterRule.{FilterRule};
 ghost use Rattle.depot_rows.specs.Standing.{HasRows, Stand};
 ghost use Rattle.outside_api.specs.Link.{IsEarlier, text_of};
 ghost use Rattle.recovery.specs.Holding.{joined};
-ghost use Rattle.table_changes.specs.Changed.{AllRows, AllFitIn, changed_by, changed_in, no_rows, rows_of};
+ghost use Rattle.depot_rows.specs.table_changes.Changed.{AllRows, AllFitIn, changed_by, changed_in, no_rows, rows_of};
 ghost use Rattle.replica_pull.specs.Cut.{AreCut, cut_changes};
 ghost use Rattle.replica_pull.specs.Prefix.{HasFirst, HasFollowed, HasPrefix, IsJournalOf, Moment, first_rows};
 ghost use Rattle.replica_pull.specs.Replica.{HasPassed, HasTakenPiece, IsNew, IsOfText, beginning};

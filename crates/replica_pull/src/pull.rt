@@ -2,13 +2,13 @@
 
 ghost use Rattle.std.specs.Prelude.{◌≡◌, ◌⊎◌, ◌≤◌, ◌<◌, ◌+◌, ◌-◌, ◌*◌, ◌^◌, ◌++◌, ℕ, List, [], length, drop, Err, IfOk, OnErr};
 ghost use Rattle.std.specs.Result.{IfErr};
-ghost use Rattle.db_records.specs.declared.change.Change.{Change};
+ghost use Rattle.depot_rows.specs.db_records.declared.change.Change.{Change};
 ghost use Rattle.outside_api.specs.Link.{IsEarlier, Answers, Fits};
 ghost use Rattle.outside_api.specs.declared.link.Fetched.{Fetched};
 ghost use Rattle.outside_api.specs.declared.link.Fetched.TheVariants.{Next};
 ghost use Rattle.recovery.specs.Looking.{IsCause};
-ghost use Rattle.table_changes.specs.Changed.{rows_of, changed_in};
-ghost use Rattle.table_changes.specs.Drafts.{rows_of_draft};
+ghost use Rattle.depot_rows.specs.table_changes.Changed.{rows_of, changed_in};
+ghost use Rattle.depot_rows.specs.table_changes.Drafts.{rows_of_draft};
 ghost use Rattle.journal_groups.specs.Reader.{State};
 ghost use Rattle.replica_pull.specs.Feed.{AreTaken, HasMadeOne, IfBadFeed, IsOfFeed};
 ghost use Rattle.replica_pull.specs.Replica.{with_piece, Waits, IsNew, HasTakenPiece, HasPassed, HasMoved, IsBadPiece, IsStopped, IsUnread, beginning, telling};
@@ -17,14 +17,14 @@ ghost use Rattle.replica_pull.specs.declared.fault.PullFault.TheVariants as faul
 use crate::fault::PullFault;
 use crate::feed::{Taken, make_one, take_feed};
 use crate::replica::Replica;
-use db_records::{Change, CounterRecord, Op, Record};
-use depot_model::Filter;
-use depot_path::Text;
+use depot_rows::changes::TablesDraft;
+use depot_rows::model::Filter;
+use depot_rows::paths::Text;
+use depot_rows::records::{Change, CounterRecord, Op, Record};
+use depot_rows::tables::Tables;
 use journal_groups::{GroupReader, Moved};
 use outside_api::{Fetched, Link};
 use std::alloc::{AllocError, Global};
-use table_changes::TablesDraft;
-use table_store::Tables;
 
 /// How many bytes of a journal are fetched at a time.
 const PIECE: usize = 65_536;
@@ -113,7 +113,7 @@ struct Fed {
 }
 
 impl Replica {
-    ghost use Rattle.depot_model.specs.declared.filter.FilterRule.{FilterRule};
+    ghost use Rattle.depot_rows.specs.depot_model.declared.filter.FilterRule.{FilterRule};
 
     /// A replica that has taken nothing yet. The one error is want of memory.
     #[tactic(auto, using(crate::proofs::Generations::empty_rows))]

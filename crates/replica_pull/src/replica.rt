@@ -2,9 +2,9 @@
 
 ghost use Rattle.std.specs.Prelude.{◌≤◌, ◌<◌, ◌+◌, ◌*◌, ◌^◌};
 
-use depot_model::Filter;
-use depot_path::Text;
-use table_store::Tables;
+use depot_rows::model::Filter;
+use depot_rows::paths::Text;
+use depot_rows::tables::Tables;
 
 /// A replica of a depot, which has the rows of the files inside a filter alone. It follows the journal of
 /// its master from generation 0 on.

@@ -3,9 +3,9 @@ use Rattle.std.proofs.Common.{◌≡◌, ℕ, Bool, true, false, cond, List, [],
 use Rattle.std.specs.Prelude.{◌&&◌, ◌==◌, codes, decimal, filter, filter_map, flat_map, length, option_map, not, unwrap_or}
 use Rattle.std.specs.List.{cons_option, enumerate_from, list_any}
 use Rattle.std.proofs.lemmas.Bool.{true≢false}
-use Rattle.depot_path.specs.Bytes.{same}
-use Rattle.view_map.specs.Mapping.{path_in}
-use Rattle.spec_form.specs.Form.{FormValue}
+use Rattle.depot_model.specs.depot_path.Bytes.{same}
+use Rattle.depot_model.specs.view_map.Mapping.{path_in}
+use Rattle.depot_model.specs.spec_form.Form.{FormValue}
 use Rattle.depot_model.specs.declared.command.Command.{Command}
 use Rattle.depot_model.specs.declared.command.Command.TheVariants as commands
 use Rattle.depot_model.specs.declared.command.FileArgument.{FileArgument}

@@ -2,11 +2,11 @@
 use Rattle.std.proofs.Common.{◌≡◌, ℕ, Bool, true, false, List, [], ◌∷◌, ◌++◌, refl, sym, ap, ◌∙◌, append_assoc, append-nil}
 use Rattle.std.specs.Prelude.{◌==◌, codes, decimal}
 use Rattle.std.specs.List.{list_all}
-use Rattle.depot_path.specs.Bytes.{is_digit}
+use Rattle.depot_rows.specs.depot_path.Bytes.{is_digit}
 use Rattle.depot_rows.proofs.Keys.{left-true, right-true, number-is}
 use Rattle.sound_deeds.proofs.Decimals.{decimal_digits}
-use Rattle.depot_model.specs.Printed.{printed, printed_field, printed_value}
-use Rattle.depot_model.specs.Rows.{number_field}
+use Rattle.depot_rows.specs.depot_model.Printed.{printed, printed_field, printed_value}
+use Rattle.depot_rows.specs.depot_model.Rows.{number_field}
 use Rattle.depot_runs.specs.Replica.{position_row}
 use Rattle.wire_text.specs.Parts.{IsFree}
 use Rattle.wire_text.proofs.Values.{value_plain}

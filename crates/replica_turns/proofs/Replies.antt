@@ -3,12 +3,12 @@ use Rattle.std.proofs.Common.{◌≡◌, ◌++◌, ◌∷◌, [], ℕ, List, Boo
 use Rattle.std.specs.Prelude.{IfOk, IsFalse, IsTrue, OnErr, reverse}
 use Rattle.outside_api.specs.Disk.{Files}
 use Rattle.archive_file.specs.Archive as archives
-use Rattle.command_core.specs.Outcomes.{IsFormedBy}
-use Rattle.depot_model.specs.Deeds.{Deed}
-use Rattle.depot_model.specs.Printed.{printed}
-use Rattle.depot_model.specs.Rows.{disk_row}
-use Rattle.depot_model.specs.declared.reply.Row.{Row}
-use Rattle.depot_model.specs.declared.request.Request.{Request}
+use Rattle.serial_depot.specs.command_core.Outcomes.{IsFormedBy}
+use Rattle.depot_rows.specs.depot_model.Deeds.{Deed}
+use Rattle.depot_rows.specs.depot_model.Printed.{printed}
+use Rattle.depot_rows.specs.depot_model.Rows.{disk_row}
+use Rattle.depot_rows.specs.depot_model.declared.reply.Row.{Row}
+use Rattle.depot_rows.specs.depot_model.declared.request.Request.{Request}
 use Rattle.depot_rows.specs.Standing.{Stand}
 use Rattle.depot_runs.specs.Replica.{replica_reply}
 use Rattle.recovery.specs.Standing.{HasContents}
@@ -18,7 +18,7 @@ use Rattle.replica_pull.specs.declared.replica.Replica.{Replica}
 use Rattle.replica_replies.specs.Prints.{prints}
 use Rattle.reply_rows.specs.Made.{contents_of}
 use Rattle.serial_depot.specs.declared.depot.SerialDepot.{SerialDepot}
-use Rattle.table_changes.specs.Changed.{AllRows, rows_of}
+use Rattle.depot_rows.specs.table_changes.Changed.{AllRows, rows_of}
 use Rattle.replica_turns.specs.Going.{IsTurned}
 use Rattle.replica_turns.specs.Replying.{IsAnsweredAs, IsAnsweredBy, IsPullAnswer, IsReply, pulls}
 use Rattle.replica_turns.specs.declared.party.Answered.{Answered}

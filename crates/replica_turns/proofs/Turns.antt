@@ -5,13 +5,13 @@ use Rattle.std.specs.List.{AllByRecursion}
 use Rattle.std.proofs.lemmas.List.{reverse-append}
 use Rattle.std.proofs.lemmas.List.Elements.{recursion_from_All}
 use Rattle.outside_api.specs.Disk.{Files}
-use Rattle.command_core.specs.Outcomes.{IsFormed, IsFormedBy}
+use Rattle.serial_depot.specs.command_core.Outcomes.{IsFormed, IsFormedBy}
 use Rattle.command_words.specs.WellFormed.{IsWellFormed}
-use Rattle.depot_model.specs.declared.command.Command.{Command}
-use Rattle.depot_model.specs.declared.request.Asked.{Asked}
-use Rattle.depot_model.specs.declared.request.Caller.{Caller}
-use Rattle.depot_model.specs.declared.request.Request.{Request}
-use Rattle.depot_model.specs.declared.request.WordFault.{WordFault}
+use Rattle.depot_rows.specs.depot_model.declared.command.Command.{Command}
+use Rattle.depot_rows.specs.depot_model.declared.request.Asked.{Asked}
+use Rattle.depot_rows.specs.depot_model.declared.request.Caller.{Caller}
+use Rattle.depot_rows.specs.depot_model.declared.request.Request.{Request}
+use Rattle.depot_rows.specs.depot_model.declared.request.WordFault.{WordFault}
 use Rattle.replica_pull.specs.declared.replica.Replica.{Replica}
 use Rattle.session_loop.specs.Asking.{AreProper, AreWellFormed}
 use Rattle.session_loop.specs.Requests.{AreRequests}

@@ -3,12 +3,12 @@ use Rattle.std.specs.Prelude.{◌≡◌, ◌||◌, ℕ, Bool, true, false, List,
 use Rattle.std.specs.List.{flat_map}
 use Rattle.outside_api.specs.Disk.{Files}
 use Rattle.outside_api.specs.Told.{extended}
-use Rattle.depot_model.specs.Printed.{printed}
-use Rattle.depot_model.specs.Rows.{memory_row}
-use Rattle.depot_model.specs.declared.request.Request.{Request}
+use Rattle.depot_rows.specs.depot_model.Printed.{printed}
+use Rattle.depot_rows.specs.depot_model.Rows.{memory_row}
+use Rattle.depot_rows.specs.depot_model.declared.request.Request.{Request}
 use Rattle.replica_pull.specs.Replica.{IsNew}
 use Rattle.replica_pull.specs.declared.replica.Replica.{Replica}
-use Rattle.command_core.specs.Outcomes.{IsFormedBy}
+use Rattle.serial_depot.specs.command_core.Outcomes.{IsFormedBy}
 use Rattle.session_loop.specs.Asking.{AreWellFormed}
 use Rattle.session_loop.specs.Requests.{AreRequests}
 use Rattle.session_loop.specs.declared.reading.ReplicaScript.{ReplicaScript}

@@ -2,3 +2,6 @@ pub mod Going
 pub mod Position
 pub mod Replying
 pub mod Turning
+-- what stands below, for the crates above
+pub use Rattle.serial_depot.specs as serial_depot
+pub use Rattle.serial_depot.specs.command_core as command_core

@@ -6,14 +6,14 @@ use Rattle.outside_api.specs.Link.{Answers}
 use Rattle.outside_api.specs.declared.link.Fetched.{Fetched}
 use Rattle.archive_file.specs.Archive as archives
 use Rattle.journal_groups.specs.declared.moved.Moved.{Moved}
-use Rattle.table_changes.specs.Changed.{rows_of}
-use Rattle.depot_model.specs.Deeds.{Deed}
-use Rattle.depot_model.specs.Printed.{printed}
-use Rattle.depot_model.specs.Rows.{disk_row, memory_row}
-use Rattle.depot_model.specs.declared.command.Command.{Command}
-use Rattle.depot_model.specs.declared.command.Command.TheVariants.{Pull}
-use Rattle.depot_model.specs.declared.request.Request.{Request}
-use Rattle.depot_model.specs.declared.request.WordFault.{WordFault}
+use Rattle.depot_rows.specs.table_changes.Changed.{rows_of}
+use Rattle.depot_rows.specs.depot_model.Deeds.{Deed}
+use Rattle.depot_rows.specs.depot_model.Printed.{printed}
+use Rattle.depot_rows.specs.depot_model.Rows.{disk_row, memory_row}
+use Rattle.depot_rows.specs.depot_model.declared.command.Command.{Command}
+use Rattle.depot_rows.specs.depot_model.declared.command.Command.TheVariants.{Pull}
+use Rattle.depot_rows.specs.depot_model.declared.request.Request.{Request}
+use Rattle.depot_rows.specs.depot_model.declared.request.WordFault.{WordFault}
 use Rattle.depot_runs.specs.Replica.{position_row, replica_reply}
 use Rattle.depot_rows.specs.Standing.{Stand}
 use Rattle.recovery.specs.Standing.{HasContents}

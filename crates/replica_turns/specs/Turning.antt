@@ -2,8 +2,8 @@
 use Rattle.std.specs.Prelude.{◌≡◌, ◌≤◌, ℕ, List}
 use Rattle.outside_api.specs.Disk.{Files}
 use Rattle.archive_file.specs.Archive as archives
-use Rattle.depot_model.specs.Deeds.{Deed}
-use Rattle.depot_model.specs.Places.{Placed}
+use Rattle.depot_rows.specs.depot_model.Deeds.{Deed}
+use Rattle.depot_rows.specs.depot_model.Places.{Placed}
 use Rattle.disk_journal.specs.Stands.{disk_of}
 use Rattle.serial_depot.specs.Running.{CanTake, HasRun}
 use Rattle.serial_depot.specs.declared.depot.SerialDepot.{SerialDepot}

@@ -1,12 +1,12 @@
 //! The answers to a replica's commands.
 
 ghost use Rattle.std.specs.Prelude.{◌≡◌, ◌∷◌, [], true, false, IfOk};
-ghost use Rattle.depot_model.specs.Printed.{printed};
-ghost use Rattle.depot_model.specs.Rows.{disk_row};
+ghost use Rattle.depot_rows.specs.depot_model.Printed.{printed};
+ghost use Rattle.depot_rows.specs.depot_model.Rows.{disk_row};
 
 use crate::party::Answered;
-use depot_model::Reply;
-use depot_path::{Sequence, Text};
+use depot_rows::model::Reply;
+use depot_rows::paths::{Sequence, Text};
 use reply_rows::RowBuilder;
 use std::alloc::{AllocError, Global};
 use wire_text::print_reply;

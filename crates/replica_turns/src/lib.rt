@@ -8,3 +8,7 @@ mod pulling;
 mod replying;
 
 pub use party::{Answered, ReplicaParty};
+
+// What stands below, for the crates above.
+pub use serial_depot as depots;
+pub use serial_depot::commands;

@@ -1,12 +1,12 @@
 //! The reply to `pull`, into memory that was taken before.
 
 ghost use Rattle.std.specs.Prelude.{◌≡◌, ◌≤◌, ◌+◌, ◌++◌, ◌∷◌, [], length, decimal, vec_len, vec_capacity, IfOk};
-ghost use Rattle.depot_model.specs.Printed.{printed, printed_field};
-ghost use Rattle.depot_model.specs.Rows.{number_field};
+ghost use Rattle.depot_rows.specs.depot_model.Printed.{printed, printed_field};
+ghost use Rattle.depot_rows.specs.depot_model.Rows.{number_field};
 ghost use Rattle.depot_runs.specs.Replica.{position_row};
 ghost use Rattle.replica_turns.specs.Position.{IsRoom};
 
-use depot_path::Text;
+use depot_rows::paths::Text;
 use itoa::Buffer;
 use std::alloc::{AllocError, Global};
 

@@ -1,8 +1,8 @@
 //! `pull` among the parties of a run.
 
 ghost use Rattle.std.specs.Prelude.{◌≡◌, ◌<◌, ◌≤◌, ◌∷◌, [], length, true, IfOk, OnOk, OnErr};
-ghost use Rattle.depot_model.specs.Printed.{printed};
-ghost use Rattle.depot_model.specs.Rows.{disk_row};
+ghost use Rattle.depot_rows.specs.depot_model.Printed.{printed};
+ghost use Rattle.depot_rows.specs.depot_model.Rows.{disk_row};
 ghost use Rattle.disk_journal.specs.Stands.{disk_of};
 ghost use Rattle.outside_api.specs.Count.{HasRisen};
 ghost use Rattle.outside_api.specs.Link.{Fits};
@@ -13,7 +13,7 @@ ghost use Rattle.replica_turns.specs.Turning.{IsUnmoved};
 use crate::answers::{fault_reply, loses, tells};
 use crate::party::Answered;
 use crate::position::Room;
-use depot_path::Text;
+use depot_rows::paths::Text;
 use outside_api::{Disk, Fetched};
 use replica_pull::{PullFault, Replica};
 use serial_depot::SerialDepot;

@@ -2,11 +2,11 @@
 
 ghost use Rattle.std.specs.Prelude.{◌≡◌, ◌⊎◌, List, [], ◌∷◌, map, true, false, IfOk, OnErr};
 ghost use Rattle.archive_file.specs.Archive.{disk_of as archive_disk_of};
-ghost use Rattle.command_core.specs.Outcomes.{IsFormedBy};
-ghost use Rattle.depot_model.specs.Deeds.{Deed};
-ghost use Rattle.depot_model.specs.Printed.{printed};
-ghost use Rattle.depot_model.specs.Rows.{disk_row};
-ghost use Rattle.depot_model.specs.declared.reply.Row.{Row};
+ghost use Rattle.serial_depot.specs.command_core.Outcomes.{IsFormedBy};
+ghost use Rattle.depot_rows.specs.depot_model.Deeds.{Deed};
+ghost use Rattle.depot_rows.specs.depot_model.Printed.{printed};
+ghost use Rattle.depot_rows.specs.depot_model.Rows.{disk_row};
+ghost use Rattle.depot_rows.specs.depot_model.declared.reply.Row.{Row};
 ghost use Rattle.disk_journal.specs.Stands.{disk_of};
 ghost use Rattle.outside_api.specs.Count.{HasRisen};
 ghost use Rattle.outside_api.specs.Disk.{Files};
@@ -14,7 +14,7 @@ ghost use Rattle.recovery.specs.Standing.{HasContents};
 ghost use Rattle.reply_rows.specs.Made.{contents_of, waiting};
 ghost use Rattle.replica_answers.specs.Answering.{IsAnswerOf};
 ghost use Rattle.replica_replies.specs.Prints.{prints};
-ghost use Rattle.table_changes.specs.Changed.{AllRows};
+ghost use Rattle.depot_rows.specs.table_changes.Changed.{AllRows};
 ghost use Rattle.replica_turns.specs.Replying.{IsAnsweredBy, IsReply, pulls};
 ghost use Rattle.replica_turns.specs.Turning.{IsUnmoved};
 
@@ -22,13 +22,13 @@ use crate::answers::{fault_reply, loses, tells};
 use crate::party::Answered;
 use crate::pulling::pull;
 use archive_file::ContentFault;
-use command_core::filled;
-use depot_model::{Command, Reply, Request};
-use depot_path::{Sequence, Text};
+use depot_rows::model::{Command, Reply, Request};
+use depot_rows::paths::{Sequence, Text};
 use outside_api::Disk;
 use replica_answers::{Answered as Waiting, answer};
 use replica_pull::Replica;
 use serial_depot::SerialDepot;
+use serial_depot::commands::filled;
 use std::alloc::{AllocError, Global};
 use wire_text::print_reply;
 

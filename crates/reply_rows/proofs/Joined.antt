@@ -2,13 +2,13 @@
 use Rattle.std.proofs.Common.{◌≡◌, ℕ, List, [], ◌∷◌, ◌++◌, Option, Some, None, refl, sym, ap, subst, ◌∙◌, append_assoc, append-nil}
 use Rattle.std.specs.Prelude.{map, option_map}
 use Rattle.std.specs.Option.{option_to_list}
-use Rattle.db_records.specs.declared.change.Spot.{Spot}
-use Rattle.table_changes.specs.Changed.{AllRows}
-use Rattle.depot_model.specs.declared.reply.Row.{Row}
-use Rattle.depot_model.specs.declared.refusal.Refusal.{Refusal}
-use Rattle.depot_model.specs.Deeds.{Deed}
-use Rattle.depot_model.specs.Refusals.{refusal_row}
-use Rattle.depot_model.specs.Step.{Step as ModelStep, after, both, does, nothing, refuses, tells, unless}
+use Rattle.depot_rows.specs.db_records.declared.change.Spot.{Spot}
+use Rattle.depot_rows.specs.table_changes.Changed.{AllRows}
+use Rattle.depot_rows.specs.depot_model.declared.reply.Row.{Row}
+use Rattle.depot_rows.specs.depot_model.declared.refusal.Refusal.{Refusal}
+use Rattle.depot_rows.specs.depot_model.Deeds.{Deed}
+use Rattle.depot_rows.specs.depot_model.Refusals.{refusal_row}
+use Rattle.depot_rows.specs.depot_model.Step.{Step as ModelStep, after, both, does, nothing, refuses, tells, unless}
 use Rattle.depot_rows.specs.Effects.{Follow}
 use Rattle.depot_rows.specs.declared.deed.Deed.{Deed as Done}
 use Rattle.reply_rows.specs.declared.step.Step.{Step}

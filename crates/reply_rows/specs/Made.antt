@@ -1,16 +1,16 @@
 -- When a step of the code is one of the model. This project's own choice.
 use Rattle.std.specs.Prelude.{◌≡◌, ◌++◌, ℕ, List, [], ◌∷◌, map, Some, option_map}
 use Rattle.std.specs.Option.{option_to_list}
-use Rattle.depot_path.specs.Path.{printed}
-use Rattle.db_records.specs.declared.change.Spot.{Spot}
-use Rattle.db_records.specs.declared.key.Key.TheVariants as keys
-use Rattle.db_records.specs.declared.record.Record.TheVariants as records
-use Rattle.db_records.specs.declared.rows.RevRecord.{RevRecord}
-use Rattle.table_changes.specs.Changed.{AllRows}
-use Rattle.depot_model.specs.declared.reply.Row.{Row}
-use Rattle.depot_model.specs.Deeds.{Deed}
-use Rattle.depot_model.specs.Step.{Step as ModelStep}
-use Rattle.depot_model.specs.Steps.Submitting.{content_at}
+use Rattle.depot_rows.specs.depot_path.Path.{printed}
+use Rattle.depot_rows.specs.db_records.declared.change.Spot.{Spot}
+use Rattle.depot_rows.specs.db_records.declared.key.Key.TheVariants as keys
+use Rattle.depot_rows.specs.db_records.declared.record.Record.TheVariants as records
+use Rattle.depot_rows.specs.db_records.declared.rows.RevRecord.{RevRecord}
+use Rattle.depot_rows.specs.table_changes.Changed.{AllRows}
+use Rattle.depot_rows.specs.depot_model.declared.reply.Row.{Row}
+use Rattle.depot_rows.specs.depot_model.Deeds.{Deed}
+use Rattle.depot_rows.specs.depot_model.Step.{Step as ModelStep}
+use Rattle.depot_rows.specs.depot_model.Steps.Submitting.{content_at}
 use Rattle.depot_rows.specs.Effects.{Follow}
 use Rattle.depot_rows.specs.Standing.{row_in}
 use Rattle.depot_rows.specs.declared.deed.Deed.{Deed as Done}

@@ -1,11 +1,11 @@
 //! Rows, field by field.
 
 ghost use Rattle.std.specs.Prelude.{◌≡◌, ◌∷◌, ◌++◌, [], IfOk, Ok};
-ghost use Rattle.depot_model.specs.Rows.{change_word as word_of_change, text_field as field_of_text, number_field as field_of_number, path_field as field_of_path, row as row_with};
+ghost use Rattle.depot_rows.specs.depot_model.Rows.{change_word as word_of_change, text_field as field_of_text, number_field as field_of_number, path_field as field_of_path, row as row_with};
 
 use crate::fields::{change_field, number_field, path_field, row_of, text_field};
-use depot_model::{Field, Row};
-use depot_path::{DepotPath, Sequence};
+use depot_rows::model::{Field, Row};
+use depot_rows::paths::{DepotPath, Sequence};
 use std::alloc::{AllocError, Global};
 use std::marker::Model;
 
@@ -18,7 +18,7 @@ pub struct RowBuilder {
 
 impl Model for RowBuilder {
     ghost use Rattle.std.specs.Prelude.{List};
-    ghost use Rattle.depot_model.specs.declared.reply.Field.{Field};
+    ghost use Rattle.depot_rows.specs.depot_model.declared.reply.Field.{Field};
 
     ghost Value = { List Field };
 

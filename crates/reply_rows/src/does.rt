@@ -5,8 +5,8 @@ ghost use Rattle.reply_rows.specs.Made.{does};
 
 use crate::step::Step;
 use deed_list::Deeds;
-use depot_model::Row;
-use depot_path::{DepotPath, Name, Sequence};
+use depot_rows::model::Row;
+use depot_rows::paths::{DepotPath, Name, Sequence};
 use depot_rows::{Deed, Held, How, Opening, Owing};
 use std::alloc::{AllocError, Global};
 

@@ -1,10 +1,10 @@
 //! Fields and rows of replies.
 
 ghost use Rattle.std.specs.Prelude.{◌≡◌, IfOk, decimal};
-ghost use Rattle.depot_model.specs.Rows.{change_word as word_of_change, text_field as field_of_text, number_field as field_of_number, path_field as field_of_path, row as row_with};
+ghost use Rattle.depot_rows.specs.depot_model.Rows.{change_word as word_of_change, text_field as field_of_text, number_field as field_of_number, path_field as field_of_path, row as row_with};
 
-use depot_model::{Field, Row};
-use depot_path::{DepotPath, Sequence, Text};
+use depot_rows::model::{Field, Row};
+use depot_rows::paths::{DepotPath, Sequence, Text};
 use itoa::Buffer;
 use std::alloc::{AllocError, Global};
 

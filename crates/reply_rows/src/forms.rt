@@ -2,14 +2,14 @@
 
 ghost use Rattle.std.specs.Prelude.{◌≡◌, ◌++◌, ℕ, ◌+◌, ◌≤◌, ◌^◌, List, map, decimal, IfOk, OnOk, length};
 ghost use Rattle.std.specs.List.{enumerate_from};
-ghost use Rattle.depot_model.specs.FormRows.{form_fields as fields_of_form, numbered, shown_as, shown_field, value_fields as fields_of_value};
-ghost use Rattle.depot_model.specs.Rows.{text_field as field_of_text};
+ghost use Rattle.depot_rows.specs.depot_model.FormRows.{form_fields as fields_of_form, numbered, shown_as, shown_field, value_fields as fields_of_value};
+ghost use Rattle.depot_rows.specs.depot_model.Rows.{text_field as field_of_text};
 
 use crate::fields::text_field;
-use depot_model::Field;
-use depot_path::{Sequence, Text};
+use depot_rows::forms::{FieldKind, Form, Shape};
+use depot_rows::model::Field;
+use depot_rows::paths::{Sequence, Text};
 use itoa::Buffer;
-use spec_form::{FieldKind, Form, Shape};
 use std::alloc::{AllocError, Global};
 
 /// A field with a number behind its name.

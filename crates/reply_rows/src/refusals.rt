@@ -1,16 +1,16 @@
 //! The rows of refusals: a code, a name, and what is refused. Each function's one error is want of memory.
 
 ghost use Rattle.std.specs.Prelude.{◌≡◌, ◌∷◌, [], IfOk, codes};
-ghost use Rattle.depot_path.specs.Fault.{code_of};
-ghost use Rattle.depot_path.specs.Path.{printed};
-ghost use Rattle.depot_model.specs.Refusals.{limit, limit_word as word_of_limit, need_word as word_of_need, refusal_row};
-ghost use Rattle.depot_model.specs.Rows.{coded_row as row_of_code, text_field as field_of_text, number_field as field_of_number};
-ghost use Rattle.depot_model.specs.declared.refusal.Refusal.TheVariants as refusals;
+ghost use Rattle.depot_rows.specs.depot_path.Fault.{code_of};
+ghost use Rattle.depot_rows.specs.depot_path.Path.{printed};
+ghost use Rattle.depot_rows.specs.depot_model.Refusals.{limit, limit_word as word_of_limit, need_word as word_of_need, refusal_row};
+ghost use Rattle.depot_rows.specs.depot_model.Rows.{coded_row as row_of_code, text_field as field_of_text, number_field as field_of_number};
+ghost use Rattle.depot_rows.specs.depot_model.declared.refusal.Refusal.TheVariants as refusals;
 
 use crate::fields::{change_field, number_field, path_field, row_of, text_field};
-use depot_model::{Field, Limit, Row};
-use depot_path::{DepotPath, Name, PathFault, Sequence};
-use protect_table::Level;
+use depot_rows::model::{Field, Limit, Row};
+use depot_rows::paths::{DepotPath, Name, PathFault, Sequence};
+use depot_rows::protections::Level;
 use std::alloc::{AllocError, Global};
 
 /// The first two fields of a refusal, and a third.

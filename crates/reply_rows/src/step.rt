@@ -3,10 +3,10 @@
 ghost use Rattle.std.specs.Prelude.{◌≡◌, [], ◌∷◌, ◌++◌, IfOk, OnOk};
 ghost use Rattle.reply_rows.specs.Made.{told};
 
-use db_records::Spot;
 use deed_list::{Deeds, append};
-use depot_model::Row;
-use depot_path::{Sequence, Text};
+use depot_rows::model::Row;
+use depot_rows::paths::{Sequence, Text};
+use depot_rows::records::Spot;
 use std::alloc::{AllocError, Global};
 
 /// What a command does.

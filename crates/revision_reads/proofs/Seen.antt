@@ -1,8 +1,8 @@
 -- What a row of a revision says, from what it says without the place of its content.
 use Rattle.std.proofs.Common.{◌≡◌, Some, ap}
-use Rattle.db_records.specs.declared.record.Record.{Record}
-use Rattle.db_records.specs.declared.record.Record.TheVariants.{Rev}
-use Rattle.db_records.specs.declared.rows.RevRecord.{RevRecord}
+use Rattle.depot_rows.specs.db_records.declared.record.Record.{Record}
+use Rattle.depot_rows.specs.db_records.declared.record.Record.TheVariants.{Rev}
+use Rattle.depot_rows.specs.db_records.declared.rows.RevRecord.{RevRecord}
 use Rattle.revision_reads.specs.History.{seen}
 
 -- the row of a revision, or another one

@@ -1,11 +1,11 @@
 -- The change and the moment by which a revision was made, and whether a range asks for it at a choice (Command-Line Reference, "File
 -- specifications", on revision ranges).
 use Rattle.std.specs.Prelude.{ℕ, Bool, ◌&&◌, List, Option, option_map}
-use Rattle.depot_path.specs.declared.revision.Wanted.{Wanted}
-use Rattle.depot_model.specs.Choice.{Choice}
-use Rattle.depot_model.specs.Deeds.{Deed}
-use Rattle.depot_model.specs.Range.{is_begun, is_up_to}
-use Rattle.depot_model.specs.Revisions.{Revision}
+use Rattle.depot_rows.specs.depot_path.declared.revision.Wanted.{Wanted}
+use Rattle.depot_rows.specs.depot_model.Choice.{Choice}
+use Rattle.depot_rows.specs.depot_model.Deeds.{Deed}
+use Rattle.depot_rows.specs.depot_model.Range.{is_begun, is_up_to}
+use Rattle.depot_rows.specs.depot_model.Revisions.{Revision}
 
 abbrev pub change_by : Option Revision → Option ℕ
 change_by found = option_map (λ (r : Revision). r.landing.change) found

@@ -2,14 +2,14 @@
 
 ghost use Rattle.std.specs.Prelude.{◌≡◌, pos, int_le, List, nat_le, IfOk, if◌then◌else◌};
 ghost use Rattle.std.specs.Option.{option_copied};
-ghost use Rattle.db_records.specs.declared.table.TableId.TheVariants as table_ids;
-ghost use Rattle.table_changes.specs.Changed.{AllRows, rows_of};
-ghost use Rattle.depot_model.specs.Asking.{is_label as label_saved};
-ghost use Rattle.depot_model.specs.Choice as model;
-ghost use Rattle.depot_model.specs.Deeds.{Deed};
-ghost use Rattle.depot_model.specs.Latest.{have, labelled};
-ghost use Rattle.depot_model.specs.Revisions.{head, revisions, last_passing};
-ghost use Rattle.depot_model.specs.Rules.{IsSound};
+ghost use Rattle.depot_rows.specs.db_records.declared.table.TableId.TheVariants as table_ids;
+ghost use Rattle.depot_rows.specs.table_changes.Changed.{AllRows, rows_of};
+ghost use Rattle.depot_rows.specs.depot_model.Asking.{is_label as label_saved};
+ghost use Rattle.depot_rows.specs.depot_model.Choice as model;
+ghost use Rattle.depot_rows.specs.depot_model.Deeds.{Deed};
+ghost use Rattle.depot_rows.specs.depot_model.Latest.{have, labelled};
+ghost use Rattle.depot_rows.specs.depot_model.Revisions.{head, revisions, last_passing};
+ghost use Rattle.depot_rows.specs.depot_model.Rules.{IsSound};
 ghost use Rattle.depot_rows.specs.Standing.{HasRows, Stand};
 ghost use Rattle.revision_reads.specs.Choice.{HaveRows, choice_of, end_tables, wanted_tables};
 ghost use Rattle.revision_reads.specs.Probes.{is_made_by as made_test};
@@ -18,12 +18,12 @@ use crate::moments::last_by;
 use crate::probe::{is_within, rev_key, rev_row};
 use crate::revisions::{head_of, is_live_at};
 use crate::search::last_within;
-use db_records::{Record, TableId};
-use depot_model::Caller;
-use depot_path::{DepotPath, Name, RevSpec, Wanted};
+use depot_rows::model::Caller;
+use depot_rows::paths::{DepotPath, Name, RevSpec, Wanted};
+use depot_rows::records::{Record, TableId};
+use depot_rows::tables::Tables;
 use row_reads::{have_of, is_label, label_of};
 use std::alloc::{AllocError, Global};
-use table_store::Tables;
 
 /// What a file specification chooses of a file (Command-Line Reference, "File specifications").
 #[derive(Clone, Copy)]

@@ -3,13 +3,13 @@
 ghost use Rattle.std.specs.Prelude.{◌≡◌, ◌++◌, ◌∷◌, [], ◌&&◌, ◌==◌, ℕ, Bool, List, nat_le, int_le, pos, false, filter, if◌then◌else◌, IfOk, OnOk, option_map};
 ghost use Rattle.std.specs.List.{range_with_len};
 ghost use Rattle.std.specs.Option.{option_copied, option_map_or};
-ghost use Rattle.db_records.specs.declared.table.TableId.TheVariants as table_ids;
-ghost use Rattle.table_changes.specs.Changed.{rows_of};
-ghost use Rattle.depot_model.specs.Choice.{chosen as chosen_in};
-ghost use Rattle.depot_model.specs.Deeds.{Deed};
-ghost use Rattle.depot_model.specs.Range as model;
-ghost use Rattle.depot_model.specs.Revisions.{head as head_in, revision};
-ghost use Rattle.depot_model.specs.Rules.{IsSound};
+ghost use Rattle.depot_rows.specs.db_records.declared.table.TableId.TheVariants as table_ids;
+ghost use Rattle.depot_rows.specs.table_changes.Changed.{rows_of};
+ghost use Rattle.depot_rows.specs.depot_model.Choice.{chosen as chosen_in};
+ghost use Rattle.depot_rows.specs.depot_model.Deeds.{Deed};
+ghost use Rattle.depot_rows.specs.depot_model.Range as model;
+ghost use Rattle.depot_rows.specs.depot_model.Revisions.{head as head_in, revision};
+ghost use Rattle.depot_rows.specs.depot_model.Rules.{IsSound};
 ghost use Rattle.depot_rows.specs.Standing.{HasRows};
 ghost use Rattle.revision_reads.specs.Choice.{HaveRows, choice_of, wanted_tables};
 ghost use Rattle.revision_reads.specs.Range.{change_by, is_asked as asked_test, moment_by};
@@ -17,11 +17,11 @@ ghost use Rattle.revision_reads.specs.Range.{change_by, is_asked as asked_test, 
 use crate::choice::{Chosen, chosen_of};
 use crate::history::change_of;
 use crate::revisions::{head_of, revision_of};
-use db_records::{ChangeRecord, RevRecord};
-use depot_model::Caller;
-use depot_path::{DepotPath, RevSpec, Wanted};
+use depot_rows::model::Caller;
+use depot_rows::paths::{DepotPath, RevSpec, Wanted};
+use depot_rows::records::{ChangeRecord, RevRecord};
+use depot_rows::tables::Tables;
 use std::alloc::{AllocError, Global};
-use table_store::Tables;
 
 /// The change of the row of a revision.
 fn change_in(row: Option<&RevRecord>) -> Option<u32>

@@ -2,29 +2,29 @@
 
 ghost use Rattle.std.specs.Prelude.{◌≡◌, [], List, IfOk, Some, find, if◌then◌else◌, unwrap_or};
 ghost use Rattle.std.specs.Option.{option_copied};
-ghost use Rattle.db_records.specs.declared.table.TableId.TheVariants as table_ids;
-ghost use Rattle.depot_path.specs.Fit.{texts as texts_in};
-ghost use Rattle.table_changes.specs.Changed.{rows_of};
-ghost use Rattle.view_map.specs.Mapping.{files_at};
-ghost use Rattle.depot_model.specs.Arguments.{in_client_syntax as in_syntax_of};
-ghost use Rattle.depot_model.specs.Asking.{view as view_in};
-ghost use Rattle.depot_model.specs.Choice.{shown};
-ghost use Rattle.depot_model.specs.Deeds.{Deed};
-ghost use Rattle.depot_model.specs.Revisions.{is_live_head as live_head};
-ghost use Rattle.depot_model.specs.Rules.{IsSound};
-ghost use Rattle.depot_model.specs.Steps.Adding.{first_live as first_live_in};
-ghost use Rattle.depot_model.specs.Steps.Targets as model;
+ghost use Rattle.depot_rows.specs.db_records.declared.table.TableId.TheVariants as table_ids;
+ghost use Rattle.depot_rows.specs.depot_path.Fit.{texts as texts_in};
+ghost use Rattle.depot_rows.specs.table_changes.Changed.{rows_of};
+ghost use Rattle.depot_rows.specs.view_map.Mapping.{files_at};
+ghost use Rattle.depot_rows.specs.depot_model.Arguments.{in_client_syntax as in_syntax_of};
+ghost use Rattle.depot_rows.specs.depot_model.Asking.{view as view_in};
+ghost use Rattle.depot_rows.specs.depot_model.Choice.{shown};
+ghost use Rattle.depot_rows.specs.depot_model.Deeds.{Deed};
+ghost use Rattle.depot_rows.specs.depot_model.Revisions.{is_live_head as live_head};
+ghost use Rattle.depot_rows.specs.depot_model.Rules.{IsSound};
+ghost use Rattle.depot_rows.specs.depot_model.Steps.Adding.{first_live as first_live_in};
+ghost use Rattle.depot_rows.specs.depot_model.Steps.Targets as model;
 ghost use Rattle.depot_rows.specs.Standing.{HasRows};
 ghost use Rattle.revision_reads.specs.Choice.{HaveRows, wanted_tables};
 
 use crate::revisions::is_live_head;
 use crate::shown::shown_by;
-use depot_model::{Caller, FileArgument, PatternArgument};
-use depot_path::{ClientPath, DepotPath, Pattern, Sequence, Text, Wanted};
+use depot_rows::model::{Caller, FileArgument, PatternArgument};
+use depot_rows::paths::{ClientPath, DepotPath, Pattern, Sequence, Text, Wanted};
+use depot_rows::tables::Tables;
+use depot_rows::views::{View, answering};
 use row_reads::in_client_syntax;
 use std::alloc::{AllocError, Global};
-use table_store::Tables;
-use view_map::{View, answering};
 
 /// The first of some files that is there and isn't deleted.
 fn find_live<'a>(

@@ -9,21 +9,21 @@ use Rattle.std.specs.declared.cmp.Ordering.{Ordering}
 use Rattle.std.specs.declared.cmp.Ordering.TheVariants.{Less, Equal, Greater}
 use Rattle.std.proofs.lemmas.List.Folds.{find-append}
 use Rattle.std.proofs.lemmas.Grind.{common_steps}
-use Rattle.db_records.specs.declared.key.Key.{Key}
-use Rattle.db_records.specs.declared.record.Record.{Record}
-use Rattle.db_records.specs.declared.change.Change.{Change}
-use Rattle.db_records.specs.declared.change.Op.{Op}
-use Rattle.db_records.specs.declared.change.Op.TheVariants.{Put, Replace, Remove}
-use Rattle.db_records.specs.Key.{key_cmp, key_table}
-use Rattle.db_records.specs.Record.{key_of, table_of}
-use Rattle.db_records.specs.Table.{table_number}
-use Rattle.db_records.specs.KeyLaws.{keys_total}
-use Rattle.db_records.proofs.Order.{keys_equal}
-use Rattle.table_store.specs.Rows.{is_below, is_at, is_above, row_at, left_by, changed_once, FitsAt}
-use Rattle.table_store.proofs.Order.{turned_less}
-use Rattle.table_changes.specs.Changed.{AllRows, changed_in, changed_by, AllFitIn}
-use Rattle.depot_model.specs.Records.{unplaced, is_at as at}
-use Rattle.depot_model.specs.Rules.{Rows}
+use Rattle.depot_rows.specs.db_records.declared.key.Key.{Key}
+use Rattle.depot_rows.specs.db_records.declared.record.Record.{Record}
+use Rattle.depot_rows.specs.db_records.declared.change.Change.{Change}
+use Rattle.depot_rows.specs.db_records.declared.change.Op.{Op}
+use Rattle.depot_rows.specs.db_records.declared.change.Op.TheVariants.{Put, Replace, Remove}
+use Rattle.depot_rows.specs.db_records.Key.{key_cmp, key_table}
+use Rattle.depot_rows.specs.db_records.Record.{key_of, table_of}
+use Rattle.depot_rows.specs.db_records.Table.{table_number}
+use Rattle.depot_rows.specs.db_records.KeyLaws.{keys_total}
+use Rattle.depot_rows.proofs.db_records.Order.{keys_equal}
+use Rattle.depot_rows.specs.table_store.Rows.{is_below, is_at, is_above, row_at, left_by, changed_once, FitsAt}
+use Rattle.depot_rows.proofs.table_store.Order.{turned_less}
+use Rattle.depot_rows.specs.table_changes.Changed.{AllRows, changed_in, changed_by, AllFitIn}
+use Rattle.depot_rows.specs.depot_model.Records.{unplaced, is_at as at}
+use Rattle.depot_rows.specs.depot_model.Rules.{Rows}
 use Rattle.depot_rows.specs.Standing.{row_in}
 use Rattle.row_changes.specs.Stored.{HasKey}
 use Rattle.row_changes.specs.Overlay.{Entries}

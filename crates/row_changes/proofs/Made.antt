@@ -7,14 +7,14 @@ use Rattle.std.specs.Map.{lookup, keys_of}
 use Rattle.std.specs.Ordering.{is_eq}
 use Rattle.std.specs.declared.cmp.Ordering.{Ordering}
 use Rattle.std.specs.declared.cmp.Ordering.TheVariants.{Less, Equal, Greater}
-use Rattle.db_records.specs.declared.change.Change.{Change}
-use Rattle.db_records.specs.declared.change.Op.TheVariants.{Put, Remove}
-use Rattle.db_records.specs.declared.key.Key.{Key}
-use Rattle.db_records.specs.declared.record.Record.{Record}
-use Rattle.db_records.specs.Key.{key_cmp}
-use Rattle.db_records.proofs.Order.{keys_equal}
-use Rattle.depot_model.specs.Records.{is_at}
-use Rattle.depot_model.specs.Rules.{Rows}
+use Rattle.depot_rows.specs.db_records.declared.change.Change.{Change}
+use Rattle.depot_rows.specs.db_records.declared.change.Op.TheVariants.{Put, Remove}
+use Rattle.depot_rows.specs.db_records.declared.key.Key.{Key}
+use Rattle.depot_rows.specs.db_records.declared.record.Record.{Record}
+use Rattle.depot_rows.specs.db_records.Key.{key_cmp}
+use Rattle.depot_rows.proofs.db_records.Order.{keys_equal}
+use Rattle.depot_rows.specs.depot_model.Records.{is_at}
+use Rattle.depot_rows.specs.depot_model.Rules.{Rows}
 use Rattle.row_changes.specs.Stored.{HasKey}
 use Rattle.row_changes.specs.Overlay.{Entries}
 use Rattle.row_changes.specs.Difference.{IsDifference, listed, AreMade}

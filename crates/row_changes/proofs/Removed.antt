@@ -4,15 +4,15 @@ use Rattle.std.specs.Prelude.{if◌then◌else◌, filter, ◌||◌, unwrap_or}
 use Rattle.std.specs.List.{list_any}
 use Rattle.std.specs.Map.{lookup, keys_of}
 use Rattle.std.specs.Ordering.{is_eq}
-use Rattle.db_records.specs.declared.key.Key.{Key}
-use Rattle.db_records.specs.declared.record.Record.{Record}
-use Rattle.db_records.specs.declared.table.TableId.{TableId}
-use Rattle.db_records.specs.Key.{key_cmp, key_table}
-use Rattle.db_records.specs.Record.{key_of}
-use Rattle.table_store.specs.Rows.{row_at}
-use Rattle.table_changes.specs.Changed.{AllRows}
-use Rattle.depot_model.specs.Records.{is_at}
-use Rattle.depot_model.specs.Rules.{Rows}
+use Rattle.depot_rows.specs.db_records.declared.key.Key.{Key}
+use Rattle.depot_rows.specs.db_records.declared.record.Record.{Record}
+use Rattle.depot_rows.specs.db_records.declared.table.TableId.{TableId}
+use Rattle.depot_rows.specs.db_records.Key.{key_cmp, key_table}
+use Rattle.depot_rows.specs.db_records.Record.{key_of}
+use Rattle.depot_rows.specs.table_store.Rows.{row_at}
+use Rattle.depot_rows.specs.table_changes.Changed.{AllRows}
+use Rattle.depot_rows.specs.depot_model.Records.{is_at}
+use Rattle.depot_rows.specs.depot_model.Rules.{Rows}
 use Rattle.depot_rows.specs.Effects.{put_at}
 use Rattle.depot_rows.specs.Standing.{row_in}
 use Rattle.depot_rows.proofs.Keys.{at-is, at-self}

@@ -10,10 +10,10 @@ use Rattle.std.specs.declared.cmp.Ordering.{Ordering}
 use Rattle.std.specs.declared.cmp.Ordering.TheVariants.{Less, Equal, Greater}
 use Rattle.std.specs.declared.ops.Bound.TheVariants.{Included, Unbounded}
 use Rattle.std.proofs.lemmas.Bool.{true≢false}
-use Rattle.db_records.specs.declared.key.Key.{Key}
-use Rattle.db_records.specs.declared.record.Record.{Record}
-use Rattle.db_records.specs.Key.{key_cmp}
-use Rattle.table_store.proofs.Order.{turned_greater, turned_less}
+use Rattle.depot_rows.specs.db_records.declared.key.Key.{Key}
+use Rattle.depot_rows.specs.db_records.declared.record.Record.{Record}
+use Rattle.depot_rows.specs.db_records.Key.{key_cmp}
+use Rattle.depot_rows.proofs.table_store.Order.{turned_greater, turned_less}
 use Rattle.row_ranges.specs.declared.range.KeyRange.{KeyRange}
 use Rattle.row_ranges.specs.Ranges.{is_in}
 use Rattle.row_ranges.specs.Walking.{first_key}

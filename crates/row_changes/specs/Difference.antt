@@ -1,11 +1,11 @@
 -- The change that makes one row of another, where a difference of nothing but the place of a content is none. This project's own choice.
 use Rattle.std.specs.Prelude.{◌≡◌, ◌≢◌, List, [], ◌∷◌, ◌++◌, Option, Some, None}
-use Rattle.db_records.specs.declared.change.Change.{Change}
-use Rattle.db_records.specs.declared.change.Op.TheVariants.{Put, Replace, Remove}
-use Rattle.db_records.specs.declared.key.Key.{Key}
-use Rattle.db_records.specs.declared.record.Record.{Record}
-use Rattle.depot_model.specs.Records.{unplaced}
-use Rattle.depot_model.specs.Rules.{Rows}
+use Rattle.depot_rows.specs.db_records.declared.change.Change.{Change}
+use Rattle.depot_rows.specs.db_records.declared.change.Op.TheVariants.{Put, Replace, Remove}
+use Rattle.depot_rows.specs.db_records.declared.key.Key.{Key}
+use Rattle.depot_rows.specs.db_records.declared.record.Record.{Record}
+use Rattle.depot_rows.specs.depot_model.Records.{unplaced}
+use Rattle.depot_rows.specs.depot_model.Rules.{Rows}
 use Rattle.row_changes.specs.Overlay.{Entries}
 
 -- the change from a row of a key to the row after it: none exactly where they agree apart from the place; a new row is put, one that differs is

@@ -2,16 +2,16 @@
 -- and that a place in the archive is no difference, is this project's own choice.
 use Rattle.std.specs.Prelude.{◌≡◌, ◌≢◌, List, Option, Some, None, find, map}
 use Rattle.std.specs.List.Sorted.{IsStrictlySortedBy}
-use Rattle.db_records.specs.Key.{key_cmp, key_table}
-use Rattle.db_records.specs.Record.{key_of}
-use Rattle.db_records.specs.declared.change.Change.{Change}
-use Rattle.db_records.specs.declared.change.Op.TheVariants.{Put, Replace, Remove}
-use Rattle.db_records.specs.declared.key.Key.{Key}
-use Rattle.db_records.specs.declared.record.Record.{Record}
-use Rattle.db_records.specs.declared.table.TableId.{TableId}
-use Rattle.table_changes.specs.Changed.{AllRows, AllFitIn, changed_by}
-use Rattle.depot_model.specs.Deeds.{Deed}
-use Rattle.depot_model.specs.Records.{record_of, unplaced, is_at}
+use Rattle.depot_rows.specs.db_records.Key.{key_cmp, key_table}
+use Rattle.depot_rows.specs.db_records.Record.{key_of}
+use Rattle.depot_rows.specs.db_records.declared.change.Change.{Change}
+use Rattle.depot_rows.specs.db_records.declared.change.Op.TheVariants.{Put, Replace, Remove}
+use Rattle.depot_rows.specs.db_records.declared.key.Key.{Key}
+use Rattle.depot_rows.specs.db_records.declared.record.Record.{Record}
+use Rattle.depot_rows.specs.db_records.declared.table.TableId.{TableId}
+use Rattle.depot_rows.specs.table_changes.Changed.{AllRows, AllFitIn, changed_by}
+use Rattle.depot_rows.specs.depot_model.Deeds.{Deed}
+use Rattle.depot_rows.specs.depot_model.Records.{record_of, unplaced, is_at}
 use Rattle.depot_rows.specs.Standing.{HasRows, row_in}
 
 abbrev pub changed_key : Change → Key

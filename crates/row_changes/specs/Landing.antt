@@ -1,14 +1,14 @@
 -- The rows of a submitted change (Helix Core database schema reference, the tables of changes, of revisions and of integration records). Their order,
 -- and that the first of two with one key stays, is this project's own choice.
 use Rattle.std.specs.Prelude.{ℕ, List, [], ◌∷◌, ◌++◌, map, Some}
-use Rattle.depot_path.specs.Path.{printed}
-use Rattle.db_records.specs.Record.{key_of}
-use Rattle.db_records.specs.declared.record.Record.{Record}
-use Rattle.db_records.specs.declared.record.Record.TheVariants as rows
-use Rattle.db_records.specs.declared.rows.IntegedRecord.{IntegedRecord}
-use Rattle.depot_model.specs.Records.{into_word}
-use Rattle.depot_model.specs.Rows.{how_word}
-use Rattle.depot_model.specs.Rules.{Rows}
+use Rattle.depot_rows.specs.depot_path.Path.{printed}
+use Rattle.depot_rows.specs.db_records.Record.{key_of}
+use Rattle.depot_rows.specs.db_records.declared.record.Record.{Record}
+use Rattle.depot_rows.specs.db_records.declared.record.Record.TheVariants as rows
+use Rattle.depot_rows.specs.db_records.declared.rows.IntegedRecord.{IntegedRecord}
+use Rattle.depot_rows.specs.depot_model.Records.{into_word}
+use Rattle.depot_rows.specs.depot_model.Rows.{how_word}
+use Rattle.depot_rows.specs.depot_model.Rules.{Rows}
 use Rattle.depot_rows.specs.declared.deed.Credit.{Credit}
 use Rattle.depot_rows.specs.declared.deed.Entry.{Entry}
 use Rattle.depot_rows.specs.declared.deed.Landing.{Landing}

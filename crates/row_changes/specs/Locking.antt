@@ -1,6 +1,6 @@
 -- What a Hold among deeds needs of the rows that it finds. This project's own choice.
 use Rattle.std.specs.Prelude.{Bool, true, false, List, [], ◌∷◌}
-use Rattle.depot_model.specs.Rules.{Rows}
+use Rattle.depot_rows.specs.depot_model.Rules.{Rows}
 use Rattle.depot_rows.specs.declared.deed.Deed.{Deed}
 use Rattle.depot_rows.specs.declared.deed.Deed.TheVariants as deeds
 use Rattle.depot_rows.specs.Effects.{effect, IsFree}

@@ -1,7 +1,7 @@
 -- Rows without those of a range. This project's own choice.
 use Rattle.std.specs.Prelude.{List, [], ◌∷◌, if◌then◌else◌, None}
-use Rattle.db_records.specs.declared.key.Key.{Key}
-use Rattle.depot_model.specs.Rules.{Rows}
+use Rattle.depot_rows.specs.db_records.declared.key.Key.{Key}
+use Rattle.depot_rows.specs.depot_model.Rules.{Rows}
 use Rattle.depot_rows.specs.Effects.{put_at}
 use Rattle.row_ranges.specs.declared.range.KeyRange.{KeyRange}
 use Rattle.row_ranges.specs.Ranges.{is_in}

@@ -1,7 +1,7 @@
 -- Parts of the rows that deeds make.
 use Rattle.std.specs.Prelude.{ℕ, List, [], Option}
 use Rattle.std.specs.Option.{option_map_or}
-use Rattle.depot_path.specs.Path.{printed}
+use Rattle.depot_rows.specs.depot_path.Path.{printed}
 use Rattle.depot_rows.specs.declared.deed.Source.{Source}
 use Rattle.depot_rows.specs.declared.deed.Stored.{Stored}
 

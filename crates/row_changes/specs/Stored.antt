@@ -1,8 +1,8 @@
 -- The rows of all tables as a look-up by key. That no two rows of a table have one key is the database's (Helix Core database schema reference).
 use Rattle.std.specs.Prelude.{◌≡◌, Option, Some, None}
-use Rattle.db_records.specs.Record.{key_of}
-use Rattle.db_records.specs.declared.key.Key.{Key}
-use Rattle.db_records.specs.declared.record.Record.{Record}
+use Rattle.depot_rows.specs.db_records.Record.{key_of}
+use Rattle.depot_rows.specs.db_records.declared.key.Key.{Key}
+use Rattle.depot_rows.specs.db_records.declared.record.Record.{Record}
 
 -- the row, where there is one, has the key
 abbrev pub HasKey : Option Record → Key → Type 0

@@ -1,7 +1,7 @@
 -- The rows with those of users of a group. This project's own choice.
 use Rattle.std.specs.Prelude.{ℕ, List, [], ◌∷◌, Some}
-use Rattle.db_records.specs.declared.key.Key.TheVariants as keys
-use Rattle.depot_model.specs.Rules.{Rows}
+use Rattle.depot_rows.specs.db_records.declared.key.Key.TheVariants as keys
+use Rattle.depot_rows.specs.depot_model.Rules.{Rows}
 use Rattle.depot_rows.specs.Effects.{put_at, group_row}
 
 abbrev pub with_users : List ℕ → List (List ℕ) → Rows → Rows

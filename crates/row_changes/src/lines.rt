@@ -1,23 +1,23 @@
 //! The lines of the protections table.
 
 ghost use Rattle.std.specs.Prelude.{◌≡◌, IfOk, OnOk};
-ghost use Rattle.protect_table.specs.Words.{words_of};
-ghost use Rattle.table_changes.specs.Changed.{rows_of};
-ghost use Rattle.depot_model.specs.Records.{protect_record};
-ghost use Rattle.depot_model.specs.Rules.{Rows};
+ghost use Rattle.depot_rows.specs.protect_table.Words.{words_of};
+ghost use Rattle.depot_rows.specs.table_changes.Changed.{rows_of};
+ghost use Rattle.depot_rows.specs.depot_model.Records.{protect_record};
+ghost use Rattle.depot_rows.specs.depot_model.Rules.{Rows};
 ghost use Rattle.depot_rows.specs.Effects.{effect, put_at};
 ghost use Rattle.depot_rows.specs.Standing.{row_in};
 ghost use Rattle.row_changes.specs.Lines.{with_lines};
 ghost use Rattle.row_changes.specs.Overlay.{Becomes};
 
 use crate::overlay::Overlay;
-use db_records::{Key, ProtectRecord, Record};
-use depot_path::{Sequence, Text};
 use depot_rows::Deed;
-use protect_table::line_words;
+use depot_rows::paths::{Sequence, Text};
+use depot_rows::protections::line_words;
+use depot_rows::records::{Key, ProtectRecord, Record};
+use depot_rows::tables::Tables;
 use row_ranges::KeyRange;
 use std::alloc::{AllocError, Global};
-use table_store::Tables;
 
 /// The same text once more. The one error is want of memory.
 fn copy_of(text: &Text) -> Result<Text, AllocError>

@@ -3,19 +3,19 @@
 ghost use Rattle.std.specs.Prelude.{◌≡◌, IfOk, OnOk, filter, map};
 ghost use Rattle.std.specs.BTreeMap.{keys};
 ghost use Rattle.std.specs.Map.{keys_of};
-ghost use Rattle.db_records.specs.Record.{key_of};
-ghost use Rattle.table_changes.specs.Changed.{rows_of};
+ghost use Rattle.depot_rows.specs.db_records.Record.{key_of};
+ghost use Rattle.depot_rows.specs.table_changes.Changed.{rows_of};
 ghost use Rattle.depot_rows.specs.Standing.{row_in};
 ghost use Rattle.row_ranges.specs.Ranges.{has_row, is_in, range_table};
 ghost use Rattle.row_changes.specs.Overlay.{Becomes};
 ghost use Rattle.row_changes.specs.Ranges.{emptied, leading, Removes};
 
 use crate::overlay::Overlay;
-use db_records::{Key, Record};
+use depot_rows::records::{Key, Record};
+use depot_rows::tables::Tables;
 use row_ranges::{KeyRange, rows_in};
 use std::alloc::{AllocError, Global};
 use std::collections::btree_map::Range;
-use table_store::Tables;
 
 /// The same key once more. The one error is want of memory.
 fn copy_key(key: &Key) -> Result<Key, AllocError>

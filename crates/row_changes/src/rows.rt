@@ -2,18 +2,18 @@
 
 ghost use Rattle.std.specs.Prelude.{◌≡◌, IfOk, option_map};
 ghost use Rattle.std.specs.Option.{option_copied};
-ghost use Rattle.depot_model.specs.Records as records;
+ghost use Rattle.depot_rows.specs.depot_model.Records as records;
 ghost use Rattle.depot_rows.specs.Deed.{pending_of};
 ghost use Rattle.depot_rows.specs.Effects as effects;
 ghost use Rattle.row_changes.specs.Landing.{taken_in, given_to};
 ghost use Rattle.row_changes.specs.Source.{source_path, source_rev, content_digest, content_length, content_place};
 
 use crate::words::{action_word, how_word, into_word, printed_or_empty};
-use db_records::{
+use depot_rows::paths::Text;
+use depot_rows::records::{
     ChangeRecord, CounterRecord, IntegedRecord, Record, ResolveRecord, RevRecord, Spot,
     WorkingRecord,
 };
-use depot_path::Text;
 use depot_rows::{Credit, Entry, Landing, Opening, Owing, Pending, Source, Stored};
 use std::alloc::{AllocError, Global};
 

@@ -2,11 +2,11 @@
 
 ghost use Rattle.std.specs.Prelude.{◌≡◌};
 ghost use Rattle.std.specs.Option.{option_copied};
-ghost use Rattle.table_changes.specs.Changed.{rows_of};
+ghost use Rattle.depot_rows.specs.table_changes.Changed.{rows_of};
 ghost use Rattle.depot_rows.specs.Standing.{row_in};
 
-use db_records::{Key, Record};
-use table_store::Tables;
+use depot_rows::records::{Key, Record};
+use depot_rows::tables::Tables;
 
 /// The row of the tables that has the key.
 pub(crate) fn stored<'a>(tables: &'a Tables, key: &Key) -> Option<&'a Record>

@@ -2,14 +2,14 @@
 
 ghost use Rattle.std.specs.Prelude.{◌≡◌, IfOk};
 ghost use Rattle.std.specs.Option.{option_copied};
-ghost use Rattle.depot_model.specs.Latest as latest;
-ghost use Rattle.depot_model.specs.Records.{printed_or_empty as text_of_end, into_word as other_word};
-ghost use Rattle.depot_model.specs.Rows as words;
-ghost use Rattle.depot_model.specs.Rules.{value_of, lock_of as lock_in};
+ghost use Rattle.depot_rows.specs.depot_model.Latest as latest;
+ghost use Rattle.depot_rows.specs.depot_model.Records.{printed_or_empty as text_of_end, into_word as other_word};
+ghost use Rattle.depot_rows.specs.depot_model.Rows as words;
+ghost use Rattle.depot_rows.specs.depot_model.Rules.{value_of, lock_of as lock_in};
 ghost use Rattle.depot_rows.specs.Deed.{kind_of, action_of, how_of};
 
-use db_records::Record;
-use depot_path::{DepotPath, Text};
+use depot_rows::paths::{DepotPath, Text};
+use depot_rows::records::Record;
 use depot_rows::{Action, How, SpecKind};
 use std::alloc::{AllocError, Global};
 

@@ -1,14 +1,14 @@
 -- The keys of a table that begin with the same texts. The fields of keys and their order are those of the crate of records; which ranges
 -- there are is this project's own choice.
 use Rattle.std.specs.Prelude.{ℕ, Bool, true, false, ◌==◌, ◌&&◌, List, [], ◌∷◌}
-use Rattle.depot_path.specs.Bytes.{same}
-use Rattle.db_records.specs.declared.key.Key.{Key}
-use Rattle.db_records.specs.declared.record.Record.{Record}
-use Rattle.db_records.specs.declared.table.TableId.{TableId}
-use Rattle.db_records.specs.declared.table.TableId.TheVariants as tables
-use Rattle.db_records.specs.Key.{Field, Word, key_fields, key_table}
-use Rattle.db_records.specs.Record.{key_of}
-use Rattle.db_records.specs.Table.{table_number}
+use Rattle.table_store.specs.depot_path.Bytes.{same}
+use Rattle.table_store.specs.db_records.declared.key.Key.{Key}
+use Rattle.table_store.specs.db_records.declared.record.Record.{Record}
+use Rattle.table_store.specs.db_records.declared.table.TableId.{TableId}
+use Rattle.table_store.specs.db_records.declared.table.TableId.TheVariants as tables
+use Rattle.table_store.specs.db_records.Key.{Field, Word, key_fields, key_table}
+use Rattle.table_store.specs.db_records.Record.{key_of}
+use Rattle.table_store.specs.db_records.Table.{table_number}
 use Rattle.row_ranges.specs.declared.range.KeyRange.{KeyRange}
 use Rattle.row_ranges.specs.declared.range.KeyRange.TheVariants.{Counters, Users, GroupUsers, Protections, Forms, HaveList, LabelledFiles, Integrations, ClientResolves, FileResolves, OpenedFiles, Changes, Revisions}
 

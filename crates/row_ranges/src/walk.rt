@@ -6,9 +6,9 @@ ghost use Rattle.table_store.specs.Tables.{version_of};
 ghost use Rattle.row_ranges.specs.Ranges.{has_row, range_table};
 
 use crate::range::KeyRange;
-use db_records::Record;
 use std::alloc::{AllocError, Global};
 use std::marker::Model;
+use table_store::records::Record;
 use table_store::{Tables, Walk};
 
 /// The rows of a range from a place on, in key order.
@@ -22,7 +22,7 @@ pub struct RangeWalk<'a> {
 impl<'a> Model for RangeWalk<'a> {
     ghost use Rattle.std.specs.Prelude.{List};
     ghost use Rattle.std.specs.Option.{option_copied};
-    ghost use Rattle.db_records.specs.declared.record.Record.{Record};
+    ghost use Rattle.table_store.specs.db_records.declared.record.Record.{Record};
     ghost use Rattle.row_ranges.specs.Walking.{ahead};
 
     ghost Value = { List Record };

@@ -4,17 +4,17 @@ use Rattle.std.specs.Prelude.{option_map}
 use Rattle.std.specs.Ordering.{is_eq}
 use Rattle.std.specs.declared.cmp.Ordering.{Ordering}
 use Rattle.std.specs.declared.cmp.Ordering.TheVariants.{Less, Equal, Greater}
-use Rattle.db_records.specs.declared.key.Key.{Key}
-use Rattle.db_records.specs.declared.record.Record.{Record}
-use Rattle.db_records.specs.declared.record.Record.TheVariants as records
-use Rattle.db_records.specs.declared.table.TableId.{TableId}
-use Rattle.db_records.specs.declared.table.TableId.TheVariants as tables
-use Rattle.db_records.specs.Key.{key_cmp, key_table}
-use Rattle.db_records.specs.Record.{key_of, table_of}
-use Rattle.db_records.proofs.Order.{keys_equal}
-use Rattle.table_store.specs.Rows.{is_at, row_at, AllAbove, AllOfTable, IsRising}
-use Rattle.table_store.proofs.Order.{row_at-gap, AllAbove-lower, AllAbove-tied, turned_less}
-use Rattle.depot_model.specs.Records.{unplaced}
+use Rattle.depot_rows.specs.db_records.declared.key.Key.{Key}
+use Rattle.depot_rows.specs.db_records.declared.record.Record.{Record}
+use Rattle.depot_rows.specs.db_records.declared.record.Record.TheVariants as records
+use Rattle.depot_rows.specs.db_records.declared.table.TableId.{TableId}
+use Rattle.depot_rows.specs.db_records.declared.table.TableId.TheVariants as tables
+use Rattle.depot_rows.specs.db_records.Key.{key_cmp, key_table}
+use Rattle.depot_rows.specs.db_records.Record.{key_of, table_of}
+use Rattle.depot_rows.proofs.db_records.Order.{keys_equal}
+use Rattle.depot_rows.specs.table_store.Rows.{is_at, row_at, AllAbove, AllOfTable, IsRising}
+use Rattle.depot_rows.proofs.table_store.Order.{row_at-gap, AllAbove-lower, AllAbove-tied, turned_less}
+use Rattle.depot_rows.specs.depot_model.Records.{unplaced}
 use Rattle.depot_rows.specs.Standing.{unplaced_at}
 
 pub itself : (a : Key) → key_cmp a a ≡ Equal

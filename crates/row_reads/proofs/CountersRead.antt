@@ -5,25 +5,25 @@ use Rattle.std.specs.List.{list_any, cons_option}
 use Rattle.std.specs.Option.{option_or, option_flatten}
 use Rattle.std.specs.Cmp.Lexicographic.{slice_cmp}
 use Rattle.std.specs.Ordering.{nat_cmp}
-use Rattle.depot_path.specs.Bytes.{same}
-use Rattle.db_records.specs.Key.{key_table}
-use Rattle.db_records.specs.Record.{key_of}
-use Rattle.db_records.specs.declared.key.Key.{Key}
-use Rattle.db_records.specs.declared.key.Key.TheVariants as keys
-use Rattle.db_records.specs.declared.record.Record.{Record}
-use Rattle.db_records.specs.declared.record.Record.TheVariants as records
-use Rattle.db_records.specs.declared.table.TableId.TheVariants as tables
-use Rattle.db_records.specs.declared.table.TableId.{TableId}
+use Rattle.depot_rows.specs.depot_path.Bytes.{same}
+use Rattle.depot_rows.specs.db_records.Key.{key_table}
+use Rattle.depot_rows.specs.db_records.Record.{key_of}
+use Rattle.depot_rows.specs.db_records.declared.key.Key.{Key}
+use Rattle.depot_rows.specs.db_records.declared.key.Key.TheVariants as keys
+use Rattle.depot_rows.specs.db_records.declared.record.Record.{Record}
+use Rattle.depot_rows.specs.db_records.declared.record.Record.TheVariants as records
+use Rattle.depot_rows.specs.db_records.declared.table.TableId.TheVariants as tables
+use Rattle.depot_rows.specs.db_records.declared.table.TableId.{TableId}
 use Rattle.row_ranges.specs.Ranges.{has_row}
 use Rattle.row_ranges.specs.declared.range.KeyRange.TheVariants.{Counters}
-use Rattle.table_store.specs.Rows.{AllOfTable, IsRising, TableRows, row_at}
-use Rattle.depot_model.specs.Deeds as deeds
-use Rattle.depot_model.specs.Deeds.{Deed}
-use Rattle.depot_model.specs.Latest.{keys_of, count_name, count_of, count_said, latest}
-use Rattle.depot_model.specs.Numbers.{top}
-use Rattle.depot_model.specs.Records.{record_of}
-use Rattle.depot_model.specs.Sorted.{inserted}
-use Rattle.depot_model.specs.Steps.Counters.{above_zero, counter_of}
+use Rattle.depot_rows.specs.table_store.Rows.{AllOfTable, IsRising, TableRows, row_at}
+use Rattle.depot_rows.specs.depot_model.Deeds as deeds
+use Rattle.depot_rows.specs.depot_model.Deeds.{Deed}
+use Rattle.depot_rows.specs.depot_model.Latest.{keys_of, count_name, count_of, count_said, latest}
+use Rattle.depot_rows.specs.depot_model.Numbers.{top}
+use Rattle.depot_rows.specs.depot_model.Records.{record_of}
+use Rattle.depot_rows.specs.depot_model.Sorted.{inserted}
+use Rattle.depot_rows.specs.depot_model.Steps.Counters.{above_zero, counter_of}
 use Rattle.depot_rows.specs.Standing.{unplaced_at}
 use Rattle.row_reads.specs.Counters.{counters_in, counters_of, valued}
 use Rattle.row_reads.proofs.Alike.{unplaced_row}

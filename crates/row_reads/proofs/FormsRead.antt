@@ -8,30 +8,30 @@ use Rattle.std.specs.Result.{result_ok}
 use Rattle.std.specs.Cmp.Lexicographic.{slice_cmp}
 use Rattle.std.specs.Ordering.{nat_cmp}
 use Rattle.std.specs.declared.cmp.Ordering.TheVariants.{Equal}
-use Rattle.depot_path.specs.Bytes.{same}
-use Rattle.spec_form.specs.Form.{FormValue}
-use Rattle.spec_form.specs.Printing.{printed_form}
-use Rattle.spec_form.specs.Reading.{form_of}
-use Rattle.spec_form.specs.declared.shape.Shape.{Shape}
-use Rattle.db_records.specs.Key.{key_cmp, key_table}
-use Rattle.db_records.specs.Record.{key_of}
-use Rattle.db_records.specs.declared.key.Key.{Key}
-use Rattle.db_records.specs.declared.key.Key.TheVariants as keys
-use Rattle.db_records.specs.declared.record.Record.{Record}
-use Rattle.db_records.specs.declared.record.Record.TheVariants as records
-use Rattle.db_records.specs.declared.table.TableId.{TableId}
-use Rattle.db_records.specs.declared.table.TableId.TheVariants as tables
-use Rattle.db_records.proofs.Order.{keys_equal}
+use Rattle.depot_rows.specs.depot_path.Bytes.{same}
+use Rattle.depot_rows.specs.spec_form.Form.{FormValue}
+use Rattle.depot_rows.specs.spec_form.Printing.{printed_form}
+use Rattle.depot_rows.specs.spec_form.Reading.{form_of}
+use Rattle.depot_rows.specs.spec_form.declared.shape.Shape.{Shape}
+use Rattle.depot_rows.specs.db_records.Key.{key_cmp, key_table}
+use Rattle.depot_rows.specs.db_records.Record.{key_of}
+use Rattle.depot_rows.specs.db_records.declared.key.Key.{Key}
+use Rattle.depot_rows.specs.db_records.declared.key.Key.TheVariants as keys
+use Rattle.depot_rows.specs.db_records.declared.record.Record.{Record}
+use Rattle.depot_rows.specs.db_records.declared.record.Record.TheVariants as records
+use Rattle.depot_rows.specs.db_records.declared.table.TableId.{TableId}
+use Rattle.depot_rows.specs.db_records.declared.table.TableId.TheVariants as tables
+use Rattle.depot_rows.proofs.db_records.Order.{keys_equal}
 use Rattle.row_ranges.specs.Ranges.{has_row, is_in}
 use Rattle.row_ranges.specs.declared.range.KeyRange.TheVariants.{Forms}
-use Rattle.table_store.specs.Rows.{AllOfTable, IsRising, TableRows, row_at}
-use Rattle.depot_model.specs.Deeds as deeds
-use Rattle.depot_model.specs.Deeds.{Deed, SpecKind, ClientForm, LabelForm, ShelfForm, JobForm, FixForm}
-use Rattle.depot_model.specs.Latest.{keys_of, kind_word, same_kind, spec, spec_name, spec_said}
-use Rattle.depot_model.specs.Records.{record_of, shape_of, unplaced}
-use Rattle.depot_model.specs.Rules.{IsSound, IsSpelled}
-use Rattle.depot_model.specs.Sorted.{inserted}
-use Rattle.depot_model.specs.Steps.Labels.{is_locked_form}
+use Rattle.depot_rows.specs.table_store.Rows.{AllOfTable, IsRising, TableRows, row_at}
+use Rattle.depot_rows.specs.depot_model.Deeds as deeds
+use Rattle.depot_rows.specs.depot_model.Deeds.{Deed, SpecKind, ClientForm, LabelForm, ShelfForm, JobForm, FixForm}
+use Rattle.depot_rows.specs.depot_model.Latest.{keys_of, kind_word, same_kind, spec, spec_name, spec_said}
+use Rattle.depot_rows.specs.depot_model.Records.{record_of, shape_of, unplaced}
+use Rattle.depot_rows.specs.depot_model.Rules.{IsSound, IsSpelled}
+use Rattle.depot_rows.specs.depot_model.Sorted.{inserted}
+use Rattle.depot_rows.specs.depot_model.Steps.Labels.{is_locked_form}
 use Rattle.depot_rows.specs.Standing.{unplaced_at}
 use Rattle.row_reads.specs.Forms.{form_in, name_in, names_in}
 use Rattle.row_reads.proofs.Alike.{unplaced_row}

@@ -9,27 +9,27 @@ use Rattle.std.specs.declared.cmp.Ordering.{Ordering}
 use Rattle.std.specs.declared.cmp.Ordering.TheVariants.{Less, Equal, Greater}
 use Rattle.std.proofs.lemmas.Map.Text.{is_eq-slice_cmp}
 use Rattle.std.proofs.lemmas.Slice.Eq.{bytes_eq-Decides}
-use Rattle.depot_path.specs.Bytes.{same}
-use Rattle.depot_path.specs.Name.{is_name}
-use Rattle.db_records.specs.Key.{key_cmp, key_table}
-use Rattle.db_records.specs.Record.{key_of}
-use Rattle.db_records.specs.declared.key.Key.{Key}
-use Rattle.db_records.specs.declared.key.Key.TheVariants as keys
-use Rattle.db_records.specs.declared.record.Record.{Record}
-use Rattle.db_records.specs.declared.record.Record.TheVariants as records
-use Rattle.db_records.specs.declared.rows.GroupRecord.{GroupRecord}
-use Rattle.db_records.specs.declared.table.TableId.{TableId}
-use Rattle.db_records.specs.declared.table.TableId.TheVariants as tables
-use Rattle.db_records.proofs.Order.{keys_equal}
-use Rattle.table_store.specs.Rows.{AllAbove, AllOfTable, IsRising, TableRows, row_at}
-use Rattle.table_store.proofs.Order.{AllAbove-lower, AllAbove-tied, turned_less}
-use Rattle.depot_model.specs.Asking.{groups_of}
-use Rattle.depot_model.specs.Deeds as deeds
-use Rattle.depot_model.specs.Deeds.{Deed}
-use Rattle.depot_model.specs.Latest.{keys_of, group_name, group_said, latest, users}
-use Rattle.depot_model.specs.Records.{record_of}
-use Rattle.depot_model.specs.Rules.{IsRow, IsSound}
-use Rattle.depot_model.specs.Sorted.{inserted}
+use Rattle.depot_rows.specs.depot_path.Bytes.{same}
+use Rattle.depot_rows.specs.depot_path.Name.{is_name}
+use Rattle.depot_rows.specs.db_records.Key.{key_cmp, key_table}
+use Rattle.depot_rows.specs.db_records.Record.{key_of}
+use Rattle.depot_rows.specs.db_records.declared.key.Key.{Key}
+use Rattle.depot_rows.specs.db_records.declared.key.Key.TheVariants as keys
+use Rattle.depot_rows.specs.db_records.declared.record.Record.{Record}
+use Rattle.depot_rows.specs.db_records.declared.record.Record.TheVariants as records
+use Rattle.depot_rows.specs.db_records.declared.rows.GroupRecord.{GroupRecord}
+use Rattle.depot_rows.specs.db_records.declared.table.TableId.{TableId}
+use Rattle.depot_rows.specs.db_records.declared.table.TableId.TheVariants as tables
+use Rattle.depot_rows.proofs.db_records.Order.{keys_equal}
+use Rattle.depot_rows.specs.table_store.Rows.{AllAbove, AllOfTable, IsRising, TableRows, row_at}
+use Rattle.depot_rows.proofs.table_store.Order.{AllAbove-lower, AllAbove-tied, turned_less}
+use Rattle.depot_rows.specs.depot_model.Asking.{groups_of}
+use Rattle.depot_rows.specs.depot_model.Deeds as deeds
+use Rattle.depot_rows.specs.depot_model.Deeds.{Deed}
+use Rattle.depot_rows.specs.depot_model.Latest.{keys_of, group_name, group_said, latest, users}
+use Rattle.depot_rows.specs.depot_model.Records.{record_of}
+use Rattle.depot_rows.specs.depot_model.Rules.{IsRow, IsSound}
+use Rattle.depot_rows.specs.depot_model.Sorted.{inserted}
 use Rattle.row_reads.specs.Groups.{groups_in}
 use Rattle.depot_rows.specs.Standing.{unplaced_at}
 use Rattle.row_reads.proofs.Alike.{itself, rows_alike, above_all, here, behind, unplaced_row}

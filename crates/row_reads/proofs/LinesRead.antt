@@ -6,29 +6,29 @@ use Rattle.std.specs.Cmp.{nat_cmp_is}
 use Rattle.std.specs.declared.cmp.Ordering.TheVariants.{Less, Equal, Greater}
 use Rattle.std.proofs.lemmas.Option.{slice_get_within}
 use Rattle.std.proofs.lemmas.Bool.Decides.{nat_tests}
-use Rattle.depot_path.specs.Answers.{◌>>=◌, on_ok, on_err}
-use Rattle.protect_table.specs.Line.{required, read_word, name_of, last_word, pattern_in, make_line, line_of_words, line_of, in_line, lines_from}
-use Rattle.protect_table.specs.Mode.{mode_of, grantee_of}
-use Rattle.protect_table.specs.Words.{words_of}
-use Rattle.protect_table.specs.declared.fault.LineFault.{LineFault}
-use Rattle.protect_table.specs.declared.fault.LineFault.TheVariants.{BadMode, BadGrantee, BadPath}
-use Rattle.protect_table.specs.declared.fault.ProtectFault.{ProtectFault}
-use Rattle.protect_table.specs.declared.line.ProtectLine.{ProtectLine}
-use Rattle.db_records.specs.Key.{key_cmp, key_table}
-use Rattle.db_records.specs.declared.key.Key.{Key}
-use Rattle.db_records.specs.declared.key.Key.TheVariants as keys
-use Rattle.db_records.specs.declared.record.Record.{Record}
-use Rattle.db_records.specs.declared.record.Record.TheVariants.{Protect}
-use Rattle.db_records.specs.declared.rows.ProtectRecord.{ProtectRecord}
-use Rattle.db_records.specs.declared.table.TableId.{TableId}
-use Rattle.db_records.specs.declared.table.TableId.TheVariants as tables
-use Rattle.table_store.specs.Rows.{AllAbove, AllOfTable, IsRising, TableRows, row_at}
-use Rattle.depot_model.specs.Asking.{read_lines, lines_or_none, protects}
-use Rattle.depot_model.specs.Deeds.{Deed}
-use Rattle.depot_model.specs.Latest.{guard_lines}
-use Rattle.depot_model.specs.Records.{record_of, protect_record}
-use Rattle.depot_model.specs.Rules.{Rows, IsRow, IsSound, line_text}
-use Rattle.depot_model.specs.Steps.Protections.{kept_line}
+use Rattle.depot_rows.specs.depot_path.Answers.{◌>>=◌, on_ok, on_err}
+use Rattle.depot_rows.specs.protect_table.Line.{required, read_word, name_of, last_word, pattern_in, make_line, line_of_words, line_of, in_line, lines_from}
+use Rattle.depot_rows.specs.protect_table.Mode.{mode_of, grantee_of}
+use Rattle.depot_rows.specs.protect_table.Words.{words_of}
+use Rattle.depot_rows.specs.protect_table.declared.fault.LineFault.{LineFault}
+use Rattle.depot_rows.specs.protect_table.declared.fault.LineFault.TheVariants.{BadMode, BadGrantee, BadPath}
+use Rattle.depot_rows.specs.protect_table.declared.fault.ProtectFault.{ProtectFault}
+use Rattle.depot_rows.specs.protect_table.declared.line.ProtectLine.{ProtectLine}
+use Rattle.depot_rows.specs.db_records.Key.{key_cmp, key_table}
+use Rattle.depot_rows.specs.db_records.declared.key.Key.{Key}
+use Rattle.depot_rows.specs.db_records.declared.key.Key.TheVariants as keys
+use Rattle.depot_rows.specs.db_records.declared.record.Record.{Record}
+use Rattle.depot_rows.specs.db_records.declared.record.Record.TheVariants.{Protect}
+use Rattle.depot_rows.specs.db_records.declared.rows.ProtectRecord.{ProtectRecord}
+use Rattle.depot_rows.specs.db_records.declared.table.TableId.{TableId}
+use Rattle.depot_rows.specs.db_records.declared.table.TableId.TheVariants as tables
+use Rattle.depot_rows.specs.table_store.Rows.{AllAbove, AllOfTable, IsRising, TableRows, row_at}
+use Rattle.depot_rows.specs.depot_model.Asking.{read_lines, lines_or_none, protects}
+use Rattle.depot_rows.specs.depot_model.Deeds.{Deed}
+use Rattle.depot_rows.specs.depot_model.Latest.{guard_lines}
+use Rattle.depot_rows.specs.depot_model.Records.{record_of, protect_record}
+use Rattle.depot_rows.specs.depot_model.Rules.{Rows, IsRow, IsSound, line_text}
+use Rattle.depot_rows.specs.depot_model.Steps.Protections.{kept_line}
 use Rattle.row_reads.specs.Lines.{texts_in}
 use Rattle.depot_rows.specs.Standing.{unplaced_at}
 use Rattle.row_reads.proofs.Alike.{rows_alike, above_all, here, behind, unplaced_row}

@@ -8,15 +8,15 @@ use Rattle.std.specs.declared.cmp.Ordering.{Ordering}
 use Rattle.std.specs.declared.cmp.Ordering.TheVariants.{Less, Equal, Greater}
 use Rattle.std.proofs.lemmas.Cmp.{nat_list_cmp_total, tied_itself}
 use Rattle.std.proofs.lemmas.Map.Text.{is_eq-slice_cmp}
-use Rattle.depot_path.specs.Bytes.{same}
-use Rattle.db_records.specs.Key.{key_cmp, key_table}
-use Rattle.db_records.specs.Record.{key_of}
-use Rattle.db_records.specs.declared.key.Key.{Key}
-use Rattle.db_records.specs.declared.record.Record.{Record}
-use Rattle.db_records.specs.declared.table.TableId.{TableId}
-use Rattle.table_store.specs.Rows.{AllAbove, AllOfTable, IsRising, row_at}
-use Rattle.table_store.proofs.Order.{AllAbove-tied}
-use Rattle.depot_model.specs.Sorted.{inserted}
+use Rattle.depot_rows.specs.depot_path.Bytes.{same}
+use Rattle.depot_rows.specs.db_records.Key.{key_cmp, key_table}
+use Rattle.depot_rows.specs.db_records.Record.{key_of}
+use Rattle.depot_rows.specs.db_records.declared.key.Key.{Key}
+use Rattle.depot_rows.specs.db_records.declared.record.Record.{Record}
+use Rattle.depot_rows.specs.db_records.declared.table.TableId.{TableId}
+use Rattle.depot_rows.specs.table_store.Rows.{AllAbove, AllOfTable, IsRising, row_at}
+use Rattle.depot_rows.proofs.table_store.Order.{AllAbove-tied}
+use Rattle.depot_rows.specs.depot_model.Sorted.{inserted}
 use Rattle.row_reads.proofs.Alike.{rows_alike, above_all, here, behind}
 use Rattle.row_reads.proofs.GroupsListed.{kept_rise, kept_of, kept_at, pass, same_text, same_self}
 

@@ -1,11 +1,11 @@
 -- The rights of a caller over depots with the same rows.
 use Rattle.std.proofs.Common.{◌≡◌, ℕ, List, ap, ◌∙◌}
-use Rattle.protect_table.specs.Rights.{may, may_any}
-use Rattle.depot_model.specs.declared.request.Caller.{Caller}
-use Rattle.depot_model.specs.Asking.{may_at, may_anywhere, protects, who_of}
-use Rattle.depot_model.specs.Deeds.{Deed}
-use Rattle.depot_model.specs.Records.{SameRows}
-use Rattle.depot_model.specs.Rules.{IsSound}
+use Rattle.depot_rows.specs.protect_table.Rights.{may, may_any}
+use Rattle.depot_rows.specs.depot_model.declared.request.Caller.{Caller}
+use Rattle.depot_rows.specs.depot_model.Asking.{may_at, may_anywhere, protects, who_of}
+use Rattle.depot_rows.specs.depot_model.Deeds.{Deed}
+use Rattle.depot_rows.specs.depot_model.Records.{SameRows}
+use Rattle.depot_rows.specs.depot_model.Rules.{IsSound}
 use Rattle.row_reads.proofs.GroupsListed.{same_groups}
 use Rattle.row_reads.proofs.LinesRead.{same_protects}
 

@@ -5,23 +5,23 @@ use Rattle.std.specs.List.{list_any}
 use Rattle.std.specs.Cmp.Lexicographic.{slice_cmp}
 use Rattle.std.specs.Ordering.{nat_cmp}
 use Rattle.std.specs.declared.cmp.Ordering.TheVariants.{Equal}
-use Rattle.depot_path.specs.Bytes.{same}
-use Rattle.db_records.specs.Key.{key_cmp, key_table}
-use Rattle.db_records.specs.Record.{key_of}
-use Rattle.db_records.specs.declared.key.Key.{Key}
-use Rattle.db_records.specs.declared.key.Key.TheVariants as keys
-use Rattle.db_records.specs.declared.record.Record.{Record}
-use Rattle.db_records.specs.declared.record.Record.TheVariants as records
-use Rattle.db_records.specs.declared.table.TableId.{TableId}
-use Rattle.db_records.specs.declared.table.TableId.TheVariants as tables
-use Rattle.db_records.proofs.Order.{keys_equal}
+use Rattle.depot_rows.specs.depot_path.Bytes.{same}
+use Rattle.depot_rows.specs.db_records.Key.{key_cmp, key_table}
+use Rattle.depot_rows.specs.db_records.Record.{key_of}
+use Rattle.depot_rows.specs.db_records.declared.key.Key.{Key}
+use Rattle.depot_rows.specs.db_records.declared.key.Key.TheVariants as keys
+use Rattle.depot_rows.specs.db_records.declared.record.Record.{Record}
+use Rattle.depot_rows.specs.db_records.declared.record.Record.TheVariants as records
+use Rattle.depot_rows.specs.db_records.declared.table.TableId.{TableId}
+use Rattle.depot_rows.specs.db_records.declared.table.TableId.TheVariants as tables
+use Rattle.depot_rows.proofs.db_records.Order.{keys_equal}
 use Rattle.row_ranges.specs.Ranges.{has_row, is_in}
 use Rattle.row_ranges.specs.declared.range.KeyRange.TheVariants.{GroupUsers}
-use Rattle.table_store.specs.Rows.{AllOfTable, IsRising, TableRows, row_at}
-use Rattle.depot_model.specs.Deeds.{Deed}
-use Rattle.depot_model.specs.Latest.{users}
-use Rattle.depot_model.specs.Records.{record_of}
-use Rattle.depot_model.specs.Steps.Groups.{by_name}
+use Rattle.depot_rows.specs.table_store.Rows.{AllOfTable, IsRising, TableRows, row_at}
+use Rattle.depot_rows.specs.depot_model.Deeds.{Deed}
+use Rattle.depot_rows.specs.depot_model.Latest.{users}
+use Rattle.depot_rows.specs.depot_model.Records.{record_of}
+use Rattle.depot_rows.specs.depot_model.Steps.Groups.{by_name}
 use Rattle.depot_rows.specs.Standing.{unplaced_at}
 use Rattle.row_reads.specs.Groups.{user_in, users_in}
 use Rattle.row_reads.proofs.Alike.{unplaced_row}

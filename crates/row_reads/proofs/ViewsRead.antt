@@ -1,22 +1,22 @@
 -- The row of a client's form has the client's view.
 use Rattle.std.proofs.Common.{◌≡◌, ℕ, List, [], Option, Some, None, Result, Ok, Err, refl, sym, ap, ◌∙◌, subst}
 use Rattle.std.specs.Prelude.{IfSome, codes, option_map, is_some, if◌then◌else◌}
-use Rattle.spec_form.specs.Form.{FormValue, lines_of}
-use Rattle.spec_form.specs.Printing.{printed_form}
-use Rattle.spec_form.specs.Reading.{form_of}
-use Rattle.spec_form.specs.declared.shape.Shape.{Shape}
-use Rattle.spec_form.specs.declared.shape.Shape.TheVariants.{Client}
-use Rattle.view_map.specs.Reading.{view_of}
-use Rattle.view_map.specs.declared.fault.ViewFault.{ViewFault}
-use Rattle.view_map.specs.declared.line.ViewLine.{ViewLine}
-use Rattle.db_records.specs.declared.key.Key.TheVariants as keys
-use Rattle.db_records.specs.declared.record.Record.{Record}
-use Rattle.db_records.specs.declared.record.Record.TheVariants as records
-use Rattle.depot_model.specs.Asking.{view, is_client}
-use Rattle.depot_model.specs.Deeds.{Deed, ClientForm}
-use Rattle.depot_model.specs.Latest.{spec}
-use Rattle.depot_model.specs.Records.{record_of, unplaced}
-use Rattle.depot_model.specs.Rules.{IsSound, IsSpelled}
+use Rattle.depot_rows.specs.spec_form.Form.{FormValue, lines_of}
+use Rattle.depot_rows.specs.spec_form.Printing.{printed_form}
+use Rattle.depot_rows.specs.spec_form.Reading.{form_of}
+use Rattle.depot_rows.specs.spec_form.declared.shape.Shape.{Shape}
+use Rattle.depot_rows.specs.spec_form.declared.shape.Shape.TheVariants.{Client}
+use Rattle.depot_rows.specs.view_map.Reading.{view_of}
+use Rattle.depot_rows.specs.view_map.declared.fault.ViewFault.{ViewFault}
+use Rattle.depot_rows.specs.view_map.declared.line.ViewLine.{ViewLine}
+use Rattle.depot_rows.specs.db_records.declared.key.Key.TheVariants as keys
+use Rattle.depot_rows.specs.db_records.declared.record.Record.{Record}
+use Rattle.depot_rows.specs.db_records.declared.record.Record.TheVariants as records
+use Rattle.depot_rows.specs.depot_model.Asking.{view, is_client}
+use Rattle.depot_rows.specs.depot_model.Deeds.{Deed, ClientForm}
+use Rattle.depot_rows.specs.depot_model.Latest.{spec}
+use Rattle.depot_rows.specs.depot_model.Records.{record_of, unplaced}
+use Rattle.depot_rows.specs.depot_model.Rules.{IsSound, IsSpelled}
 use Rattle.row_reads.specs.Views.{lines_or_none, view_in_form, view_or_none, view_in_row}
 
 placed : (client : List ℕ) (row : Option Record) → view_in_row client (option_map unplaced row) ≡ view_in_row client row

@@ -1,8 +1,8 @@
 -- The range of a whole table has all that is read of the table.
 use Rattle.std.proofs.Common.{◌≡◌, ℕ, List, [], ◌∷◌, ◌++◌, refl, ap}
 use Rattle.std.specs.Prelude.{filter}
-use Rattle.db_records.specs.declared.record.Record.{Record}
-use Rattle.db_records.specs.declared.record.Record.TheVariants as records
+use Rattle.depot_rows.specs.db_records.declared.record.Record.{Record}
+use Rattle.depot_rows.specs.db_records.declared.record.Record.TheVariants as records
 use Rattle.row_ranges.specs.declared.range.KeyRange.TheVariants.{Protections, Users}
 use Rattle.row_ranges.specs.Ranges.{has_row}
 use Rattle.row_reads.specs.Groups.{group_in, groups_in}

@@ -1,12 +1,12 @@
 -- The counters, as rows have them and as a depot has them (Helix Core database schema reference, "db.counters").
 use Rattle.std.specs.Prelude.{ℕ, List, [], ◌∷◌, flat_map, filter_map, codes, option_map}
-use Rattle.db_records.specs.declared.record.Record.{Record}
-use Rattle.db_records.specs.declared.record.Record.TheVariants.{Counter}
-use Rattle.db_records.specs.declared.rows.CounterRecord.{CounterRecord}
-use Rattle.depot_model.specs.Deeds.{Deed}
-use Rattle.depot_model.specs.Latest.{keys_of, count_name}
-use Rattle.depot_model.specs.Sorted.{inserted}
-use Rattle.depot_model.specs.Steps.Counters.{counter_of}
+use Rattle.depot_rows.specs.db_records.declared.record.Record.{Record}
+use Rattle.depot_rows.specs.db_records.declared.record.Record.TheVariants.{Counter}
+use Rattle.depot_rows.specs.db_records.declared.rows.CounterRecord.{CounterRecord}
+use Rattle.depot_rows.specs.depot_model.Deeds.{Deed}
+use Rattle.depot_rows.specs.depot_model.Latest.{keys_of, count_name}
+use Rattle.depot_rows.specs.depot_model.Sorted.{inserted}
+use Rattle.depot_rows.specs.depot_model.Steps.Counters.{counter_of}
 
 abbrev pub counter_in : Record → List CounterRecord
 counter_in (Counter r) = r ∷ []

@@ -2,11 +2,11 @@
 -- this project's own choice; no sound depot has one.
 use Rattle.std.specs.Prelude.{ℕ, List, [], ◌∷◌, flat_map, Option, Some, None}
 use Rattle.std.specs.Result.{result_ok}
-use Rattle.db_records.specs.declared.record.Record.{Record}
-use Rattle.db_records.specs.declared.record.Record.TheVariants.{Domain}
-use Rattle.spec_form.specs.Form.{FormValue}
-use Rattle.spec_form.specs.Reading.{form_of}
-use Rattle.spec_form.specs.declared.shape.Shape.{Shape}
+use Rattle.depot_rows.specs.db_records.declared.record.Record.{Record}
+use Rattle.depot_rows.specs.db_records.declared.record.Record.TheVariants.{Domain}
+use Rattle.depot_rows.specs.spec_form.Form.{FormValue}
+use Rattle.depot_rows.specs.spec_form.Reading.{form_of}
+use Rattle.depot_rows.specs.spec_form.declared.shape.Shape.{Shape}
 
 abbrev pub form_in : Shape → Option Record → Option FormValue
 form_in shape (Some (Domain r)) = result_ok (form_of shape r.form)

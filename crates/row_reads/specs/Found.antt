@@ -1,7 +1,7 @@
 -- What a row says that a key found (Helix Core database schema reference, "db.have", "db.label").
 use Rattle.std.specs.Prelude.{ℕ, Option, Some}
-use Rattle.db_records.specs.declared.record.Record.{Record}
-use Rattle.db_records.specs.declared.record.Record.TheVariants.{Have, Label}
+use Rattle.depot_rows.specs.db_records.declared.record.Record.{Record}
+use Rattle.depot_rows.specs.db_records.declared.record.Record.TheVariants.{Have, Label}
 
 -- its revision, 0 where there is no row
 abbrev pub have_in : Option Record → ℕ

@@ -1,11 +1,11 @@
 -- The groups that list a user, as rows have them (Helix Core database schema reference, "db.group"). That a row whose group is no name is
 -- passed over is this project's own choice; no sound depot has one.
 use Rattle.std.specs.Prelude.{ℕ, ◌&&◌, List, [], ◌∷◌, flat_map, if◌then◌else◌}
-use Rattle.depot_path.specs.Bytes.{same}
-use Rattle.depot_path.specs.Name.{is_name}
-use Rattle.db_records.specs.declared.record.Record.{Record}
-use Rattle.db_records.specs.declared.record.Record.TheVariants.{Group}
-use Rattle.db_records.specs.declared.rows.GroupRecord.{GroupRecord}
+use Rattle.depot_rows.specs.depot_path.Bytes.{same}
+use Rattle.depot_rows.specs.depot_path.Name.{is_name}
+use Rattle.depot_rows.specs.db_records.declared.record.Record.{Record}
+use Rattle.depot_rows.specs.db_records.declared.record.Record.TheVariants.{Group}
+use Rattle.depot_rows.specs.db_records.declared.rows.GroupRecord.{GroupRecord}
 
 abbrev pub group_of : List ℕ → GroupRecord → List (List ℕ)
 group_of user r = if same user r.user && is_name r.group then r.group ∷ [] else []

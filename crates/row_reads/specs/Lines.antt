@@ -1,8 +1,8 @@
 -- The lines of the protections as rows have them (Helix Core database schema reference, "db.protect").
 use Rattle.std.specs.Prelude.{ℕ, List, [], ◌∷◌, flat_map}
-use Rattle.db_records.specs.declared.record.Record.{Record}
-use Rattle.db_records.specs.declared.record.Record.TheVariants.{Protect}
-use Rattle.depot_model.specs.Rules.{line_text}
+use Rattle.depot_rows.specs.db_records.declared.record.Record.{Record}
+use Rattle.depot_rows.specs.db_records.declared.record.Record.TheVariants.{Protect}
+use Rattle.depot_rows.specs.depot_model.Rules.{line_text}
 
 abbrev pub text_in : Record → List (List ℕ)
 text_in (Protect r) = line_text r ∷ []

@@ -1,15 +1,15 @@
 -- The view of a client as its row has it (Helix Core database schema reference, "db.domain"). That a form or a view that can't be read has no
 -- lines is this project's own choice; no sound depot has one.
 use Rattle.std.specs.Prelude.{ℕ, List, [], codes, Option, Some, None, Result, Ok, Err}
-use Rattle.db_records.specs.declared.record.Record.{Record}
-use Rattle.db_records.specs.declared.record.Record.TheVariants.{Domain}
-use Rattle.spec_form.specs.Form.{FormValue, lines_of}
-use Rattle.spec_form.specs.Reading.{form_of}
-use Rattle.spec_form.specs.declared.fault.FormFault.{FormFault}
-use Rattle.spec_form.specs.declared.shape.Shape.TheVariants.{Client}
-use Rattle.view_map.specs.Reading.{view_of}
-use Rattle.view_map.specs.declared.fault.ViewFault.{ViewFault}
-use Rattle.view_map.specs.declared.line.ViewLine.{ViewLine}
+use Rattle.depot_rows.specs.db_records.declared.record.Record.{Record}
+use Rattle.depot_rows.specs.db_records.declared.record.Record.TheVariants.{Domain}
+use Rattle.depot_rows.specs.spec_form.Form.{FormValue, lines_of}
+use Rattle.depot_rows.specs.spec_form.Reading.{form_of}
+use Rattle.depot_rows.specs.spec_form.declared.fault.FormFault.{FormFault}
+use Rattle.depot_rows.specs.spec_form.declared.shape.Shape.TheVariants.{Client}
+use Rattle.depot_rows.specs.view_map.Reading.{view_of}
+use Rattle.depot_rows.specs.view_map.declared.fault.ViewFault.{ViewFault}
+use Rattle.depot_rows.specs.view_map.declared.line.ViewLine.{ViewLine}
 
 abbrev pub lines_or_none : Result (List ViewLine) ViewFault → List ViewLine
 lines_or_none (Ok lines) = lines

@@ -1,23 +1,23 @@
 //! Callers with the groups that list them.
 
 ghost use Rattle.std.specs.Prelude.{◌≡◌, ℕ, ◌&&◌, ◌++◌, List, IfOk, OnOk};
-ghost use Rattle.depot_path.specs.Bytes.{same};
-ghost use Rattle.depot_path.specs.Name.{is_name as name_test};
-ghost use Rattle.db_records.specs.declared.table.TableId.TheVariants as table_ids;
-ghost use Rattle.table_changes.specs.Changed.{rows_of};
-ghost use Rattle.depot_model.specs.Asking.{groups_of as groups_given, who_of as who_in};
-ghost use Rattle.depot_model.specs.Deeds.{Deed};
-ghost use Rattle.depot_model.specs.Rules.{IsSound};
+ghost use Rattle.depot_rows.specs.depot_path.Bytes.{same};
+ghost use Rattle.depot_rows.specs.depot_path.Name.{is_name as name_test};
+ghost use Rattle.depot_rows.specs.db_records.declared.table.TableId.TheVariants as table_ids;
+ghost use Rattle.depot_rows.specs.table_changes.Changed.{rows_of};
+ghost use Rattle.depot_rows.specs.depot_model.Asking.{groups_of as groups_given, who_of as who_in};
+ghost use Rattle.depot_rows.specs.depot_model.Deeds.{Deed};
+ghost use Rattle.depot_rows.specs.depot_model.Rules.{IsSound};
 ghost use Rattle.depot_rows.specs.Standing.{HasRows};
 ghost use Rattle.row_reads.specs.Groups.{group_of, group_in, groups_in};
 
-use db_records::{GroupRecord, Record, TableId};
-use depot_model::Caller;
-use depot_path::{Name, Sequence, is_name};
-use protect_table::Who;
+use depot_rows::model::Caller;
+use depot_rows::paths::{Name, Sequence, is_name};
+use depot_rows::protections::Who;
+use depot_rows::records::{GroupRecord, Record, TableId};
+use depot_rows::tables::Tables;
 use row_ranges::{KeyRange, rows_in};
 use std::alloc::{AllocError, Global};
-use table_store::Tables;
 
 /// Whether a row lists the user, in a group whose name is one.
 fn is_listed(user: &Name, row: &GroupRecord) -> bool

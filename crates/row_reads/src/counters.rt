@@ -1,19 +1,19 @@
 //! Counters.
 
 ghost use Rattle.std.specs.Prelude.{◌≡◌, ◌++◌, List, filter, IfOk, OnOk};
-ghost use Rattle.db_records.specs.declared.table.TableId.TheVariants as table_ids;
-ghost use Rattle.table_changes.specs.Changed.{rows_of};
+ghost use Rattle.depot_rows.specs.db_records.declared.table.TableId.TheVariants as table_ids;
+ghost use Rattle.depot_rows.specs.table_changes.Changed.{rows_of};
 ghost use Rattle.row_ranges.specs.Ranges.{has_row};
 ghost use Rattle.row_ranges.specs.declared.range.KeyRange.TheVariants as ranges;
-ghost use Rattle.depot_model.specs.Deeds.{Deed};
+ghost use Rattle.depot_rows.specs.depot_model.Deeds.{Deed};
 ghost use Rattle.depot_rows.specs.Standing.{HasRows};
 ghost use Rattle.row_reads.specs.Counters.{counter_in, counters_in, counters_of as counters_of_depot};
 
-use db_records::{CounterRecord, Record, TableId};
-use depot_path::{Sequence, Text};
+use depot_rows::paths::{Sequence, Text};
+use depot_rows::records::{CounterRecord, Record, TableId};
+use depot_rows::tables::Tables;
 use row_ranges::{KeyRange, rows_in};
 use std::alloc::{AllocError, Global};
-use table_store::Tables;
 
 /// Adds the counter of a row, if it is one of a counter.
 fn push_counter(

@@ -4,30 +4,30 @@ ghost use Rattle.std.specs.Prelude.{◌≡◌, ◌++◌, List, false, filter, co
 ghost use Rattle.std.specs.List.{list_any};
 ghost use Rattle.std.specs.Option.{option_copied, option_map_or};
 ghost use Rattle.std.specs.Result.{result_ok};
-ghost use Rattle.db_records.specs.declared.table.TableId.TheVariants as table_ids;
-ghost use Rattle.table_changes.specs.Changed.{rows_of};
+ghost use Rattle.depot_rows.specs.db_records.declared.table.TableId.TheVariants as table_ids;
+ghost use Rattle.depot_rows.specs.table_changes.Changed.{rows_of};
 ghost use Rattle.row_ranges.specs.Ranges.{has_row, range_table};
-ghost use Rattle.depot_path.specs.Bytes.{same};
+ghost use Rattle.depot_rows.specs.depot_path.Bytes.{same};
 ghost use Rattle.row_ranges.specs.declared.range.KeyRange.TheVariants as ranges;
-ghost use Rattle.spec_form.specs.Reading.{form_of};
-ghost use Rattle.depot_model.specs.Deeds.{Deed};
-ghost use Rattle.depot_model.specs.Latest.{keys_of, kind_word as word_of_kind, spec, spec_name};
-ghost use Rattle.depot_model.specs.Records.{shape_of as shape_of_kind};
-ghost use Rattle.depot_model.specs.Rules.{IsSound};
-ghost use Rattle.depot_model.specs.Steps.Labels.{is_locked, is_locked_form as form_is_locked, words};
-ghost use Rattle.depot_model.specs.Values.{first_or_empty, value_of};
+ghost use Rattle.depot_rows.specs.spec_form.Reading.{form_of};
+ghost use Rattle.depot_rows.specs.depot_model.Deeds.{Deed};
+ghost use Rattle.depot_rows.specs.depot_model.Latest.{keys_of, kind_word as word_of_kind, spec, spec_name};
+ghost use Rattle.depot_rows.specs.depot_model.Records.{shape_of as shape_of_kind};
+ghost use Rattle.depot_rows.specs.depot_model.Rules.{IsSound};
+ghost use Rattle.depot_rows.specs.depot_model.Steps.Labels.{is_locked, is_locked_form as form_is_locked, words};
+ghost use Rattle.depot_rows.specs.depot_model.Values.{first_or_empty, value_of};
 ghost use Rattle.depot_rows.specs.Deed.{kind_of};
 ghost use Rattle.depot_rows.specs.Standing.{HasRows};
 ghost use Rattle.row_reads.specs.Forms.{form_in, name_in, names_in};
 
 use crate::saved::form_key;
-use db_records::{Record, TableId};
-use depot_path::{Name, Sequence, Text};
 use depot_rows::SpecKind;
+use depot_rows::forms::{Form, FormFaultKind, Shape};
+use depot_rows::paths::{Name, Sequence, Text};
+use depot_rows::records::{Record, TableId};
+use depot_rows::tables::Tables;
 use row_ranges::{KeyRange, rows_in};
-use spec_form::{Form, FormFaultKind, Shape};
 use std::alloc::{AllocError, Global};
-use table_store::Tables;
 
 /// The word of what a form is of.
 fn kind_word(kind: SpecKind) -> &'static [u8]

@@ -1,21 +1,21 @@
 //! The users of groups.
 
 ghost use Rattle.std.specs.Prelude.{◌≡◌, ◌++◌, ℕ, List, filter, IfOk, OnOk};
-ghost use Rattle.db_records.specs.declared.table.TableId.TheVariants as table_ids;
-ghost use Rattle.table_changes.specs.Changed.{rows_of};
+ghost use Rattle.depot_rows.specs.db_records.declared.table.TableId.TheVariants as table_ids;
+ghost use Rattle.depot_rows.specs.table_changes.Changed.{rows_of};
 ghost use Rattle.row_ranges.specs.Ranges.{has_row, range_table};
 ghost use Rattle.row_ranges.specs.declared.range.KeyRange.TheVariants as ranges;
-ghost use Rattle.depot_model.specs.Deeds.{Deed};
-ghost use Rattle.depot_model.specs.Latest.{users};
-ghost use Rattle.depot_model.specs.Steps.Groups.{by_name};
+ghost use Rattle.depot_rows.specs.depot_model.Deeds.{Deed};
+ghost use Rattle.depot_rows.specs.depot_model.Latest.{users};
+ghost use Rattle.depot_rows.specs.depot_model.Steps.Groups.{by_name};
 ghost use Rattle.depot_rows.specs.Standing.{HasRows};
 ghost use Rattle.row_reads.specs.Groups.{user_in, users_in};
 
-use db_records::{Record, TableId};
-use depot_path::{Name, Sequence, Text};
+use depot_rows::paths::{Name, Sequence, Text};
+use depot_rows::records::{Record, TableId};
+use depot_rows::tables::Tables;
 use row_ranges::{KeyRange, rows_in};
 use std::alloc::{AllocError, Global};
-use table_store::Tables;
 
 /// Adds the user of a row, if it is one of a group.
 fn push_user(alloc: Global, users: &mut Sequence<Text>, row: &Record) -> Result<(), AllocError>

@@ -1,11 +1,11 @@
 //! Laws of what commands read of a depot.
 
 ghost use Rattle.std.specs.Prelude.{◌≡◌, ℕ, List};
-ghost use Rattle.depot_model.specs.declared.request.Caller.{Caller};
-ghost use Rattle.depot_model.specs.Asking.{may_at, may_anywhere};
-ghost use Rattle.depot_model.specs.Deeds.{Deed};
-ghost use Rattle.depot_model.specs.Records.{SameRows};
-ghost use Rattle.depot_model.specs.Rules.{IsSound};
+ghost use Rattle.depot_rows.specs.depot_model.declared.request.Caller.{Caller};
+ghost use Rattle.depot_rows.specs.depot_model.Asking.{may_at, may_anywhere};
+ghost use Rattle.depot_rows.specs.depot_model.Deeds.{Deed};
+ghost use Rattle.depot_rows.specs.depot_model.Records.{SameRows};
+ghost use Rattle.depot_rows.specs.depot_model.Rules.{IsSound};
 
 /// Depots with the same rows give a caller the same rights.
 pub fn depots_with_the_same_rows_give_the_same_rights()

@@ -2,18 +2,18 @@
 
 ghost use Rattle.std.specs.Prelude.{◌≡◌, List, IfOk, codes};
 ghost use Rattle.std.specs.Option.{option_copied};
-ghost use Rattle.db_records.specs.declared.key.Key.TheVariants as keys;
-ghost use Rattle.db_records.specs.declared.table.TableId.TheVariants as table_ids;
-ghost use Rattle.table_changes.specs.Changed.{rows_of};
-ghost use Rattle.depot_model.specs.Deeds.{Deed};
-ghost use Rattle.depot_model.specs.Numbers.{top};
-ghost use Rattle.depot_model.specs.Rules.{value_of};
+ghost use Rattle.depot_rows.specs.db_records.declared.key.Key.TheVariants as keys;
+ghost use Rattle.depot_rows.specs.db_records.declared.table.TableId.TheVariants as table_ids;
+ghost use Rattle.depot_rows.specs.table_changes.Changed.{rows_of};
+ghost use Rattle.depot_rows.specs.depot_model.Deeds.{Deed};
+ghost use Rattle.depot_rows.specs.depot_model.Numbers.{top};
+ghost use Rattle.depot_rows.specs.depot_model.Rules.{value_of};
 ghost use Rattle.depot_rows.specs.Standing.{HasRows};
 
-use db_records::{Key, Record, TableId};
-use depot_path::Text;
+use depot_rows::paths::Text;
+use depot_rows::records::{Key, Record, TableId};
+use depot_rows::tables::Tables;
 use std::alloc::{AllocError, Global};
-use table_store::Tables;
 
 /// The value in the row of a counter, 0 where there is none.
 fn value_in(row: Option<&Record>) -> u64

@@ -1,23 +1,23 @@
 //! The protections.
 
 ghost use Rattle.std.specs.Prelude.{◌≡◌, ◌++◌, List, [], map, IfOk, OnOk};
-ghost use Rattle.db_records.specs.declared.table.TableId.TheVariants as table_ids;
-ghost use Rattle.table_changes.specs.Changed.{rows_of};
-ghost use Rattle.depot_model.specs.Asking.{read_lines, protects as protects_in};
-ghost use Rattle.depot_model.specs.Deeds.{Deed};
-ghost use Rattle.depot_model.specs.Latest.{guard_lines};
-ghost use Rattle.depot_model.specs.Rules.{IsSound};
-ghost use Rattle.depot_model.specs.Steps.Protections.{kept_line};
+ghost use Rattle.depot_rows.specs.db_records.declared.table.TableId.TheVariants as table_ids;
+ghost use Rattle.depot_rows.specs.table_changes.Changed.{rows_of};
+ghost use Rattle.depot_rows.specs.depot_model.Asking.{read_lines, protects as protects_in};
+ghost use Rattle.depot_rows.specs.depot_model.Deeds.{Deed};
+ghost use Rattle.depot_rows.specs.depot_model.Latest.{guard_lines};
+ghost use Rattle.depot_rows.specs.depot_model.Rules.{IsSound};
+ghost use Rattle.depot_rows.specs.depot_model.Steps.Protections.{kept_line};
 ghost use Rattle.depot_rows.specs.Standing.{HasRows};
 ghost use Rattle.row_reads.specs.Lines.{text_in, texts_in};
 
-use db_records::{Record, TableId};
-use depot_path::{Sequence, Text};
 use depot_rows::line_text;
-use protect_table::{LineFault, Protects};
+use depot_rows::paths::{Sequence, Text};
+use depot_rows::protections::{LineFault, Protects};
+use depot_rows::records::{Record, TableId};
+use depot_rows::tables::Tables;
 use row_ranges::{KeyRange, rows_in};
 use std::alloc::{AllocError, Global};
-use table_store::Tables;
 
 /// Adds the line of a row, if it is one of the protections.
 fn push_text(alloc: Global, texts: &mut Sequence<Text>, row: &Record) -> Result<(), AllocError>

@@ -1,17 +1,17 @@
 //! Which clients and labels are saved.
 
 ghost use Rattle.std.specs.Prelude.{◌≡◌, List, codes, IfOk};
-ghost use Rattle.db_records.specs.declared.key.Key.TheVariants as keys;
-ghost use Rattle.db_records.specs.declared.table.TableId.TheVariants as table_ids;
-ghost use Rattle.table_changes.specs.Changed.{rows_of};
-ghost use Rattle.depot_model.specs.Asking.{is_client as client_saved, is_label as label_saved};
-ghost use Rattle.depot_model.specs.Deeds.{Deed};
+ghost use Rattle.depot_rows.specs.db_records.declared.key.Key.TheVariants as keys;
+ghost use Rattle.depot_rows.specs.db_records.declared.table.TableId.TheVariants as table_ids;
+ghost use Rattle.depot_rows.specs.table_changes.Changed.{rows_of};
+ghost use Rattle.depot_rows.specs.depot_model.Asking.{is_client as client_saved, is_label as label_saved};
+ghost use Rattle.depot_rows.specs.depot_model.Deeds.{Deed};
 ghost use Rattle.depot_rows.specs.Standing.{HasRows};
 
-use db_records::{Key, TableId};
-use depot_path::{Name, Text};
+use depot_rows::paths::{Name, Text};
+use depot_rows::records::{Key, TableId};
+use depot_rows::tables::Tables;
 use std::alloc::{AllocError, Global};
-use table_store::Tables;
 
 /// The key of a saved form.
 pub(crate) fn form_key(alloc: Global, kind: &[u8], name: &[u8]) -> Result<Key, AllocError>

@@ -1,9 +1,9 @@
 //! Arguments in client syntax.
 
 ghost use Rattle.std.specs.Prelude.{◌≡◌, ◌∷◌, ℕ, List, [], false, None, IfSome};
-ghost use Rattle.depot_model.specs.Arguments.{begins_with_name as name_begins, in_client_syntax as in_syntax_of};
+ghost use Rattle.depot_rows.specs.depot_model.Arguments.{begins_with_name as name_begins, in_client_syntax as in_syntax_of};
 
-use depot_path::{Name, Pattern, Piece};
+use depot_rows::paths::{Name, Pattern, Piece};
 
 /// The pieces after a byte, where they begin with it.
 fn after_byte(first: u8, pieces: &[Piece]) -> Option<&[Piece]>

@@ -2,21 +2,21 @@
 
 ghost use Rattle.std.specs.Prelude.{◌≡◌, List, [], IfOk, Some, None, if◌then◌else◌};
 ghost use Rattle.std.specs.Option.{option_copied};
-ghost use Rattle.db_records.specs.declared.table.TableId.TheVariants as table_ids;
-ghost use Rattle.table_changes.specs.Changed.{rows_of};
-ghost use Rattle.depot_model.specs.Asking.{view, is_client};
-ghost use Rattle.depot_model.specs.Deeds.{Deed};
-ghost use Rattle.depot_model.specs.Rules.{IsSound};
+ghost use Rattle.depot_rows.specs.db_records.declared.table.TableId.TheVariants as table_ids;
+ghost use Rattle.depot_rows.specs.table_changes.Changed.{rows_of};
+ghost use Rattle.depot_rows.specs.depot_model.Asking.{view, is_client};
+ghost use Rattle.depot_rows.specs.depot_model.Deeds.{Deed};
+ghost use Rattle.depot_rows.specs.depot_model.Rules.{IsSound};
 ghost use Rattle.depot_rows.specs.Standing.{HasRows};
 ghost use Rattle.row_reads.specs.Views.{view_in_form as view_of_form, view_in as view_of_text, view_in_row as view_of_row};
 
 use crate::saved::form_key;
-use db_records::{Record, TableId};
-use depot_path::Name;
-use spec_form::{Form, FormFaultKind, Shape};
+use depot_rows::forms::{Form, FormFaultKind, Shape};
+use depot_rows::paths::Name;
+use depot_rows::records::{Record, TableId};
+use depot_rows::tables::Tables;
+use depot_rows::views::{View, ViewCause};
 use std::alloc::{AllocError, Global};
-use table_store::Tables;
-use view_map::{View, ViewCause};
 
 /// The view without lines.
 fn empty(alloc: Global, client: &Name) -> Result<View, AllocError>

@@ -3,13 +3,13 @@ use Rattle.std.proofs.Common.{◌≡◌, ◌<◌, ◌≤◌, ◌↔◌, ℕ, Boo
 use Rattle.std.specs.Prelude.{◌&&◌, IsTrue, codes}
 use Rattle.std.specs.List.{list_all}
 use Rattle.std.proofs.lemmas.Bool.{true≢false}
-use Rattle.db_records.specs.declared.key.Key.TheVariants as keys
-use Rattle.db_records.specs.declared.record.Record.{Record}
-use Rattle.db_records.specs.Table.{all_tables}
-use Rattle.db_records.specs.declared.table.TableId.{TableId}
-use Rattle.db_records.specs.declared.table.TableId.TheVariants as tables
-use Rattle.table_store.specs.Rows.{IsRising, AllOfTable}
-use Rattle.depot_model.specs.Rules.{top_in, value_of}
+use Rattle.depot_rows.specs.db_records.declared.key.Key.TheVariants as keys
+use Rattle.depot_rows.specs.db_records.declared.record.Record.{Record}
+use Rattle.depot_rows.specs.db_records.Table.{all_tables}
+use Rattle.depot_rows.specs.db_records.declared.table.TableId.{TableId}
+use Rattle.depot_rows.specs.db_records.declared.table.TableId.TheVariants as tables
+use Rattle.depot_rows.specs.table_store.Rows.{IsRising, AllOfTable}
+use Rattle.depot_rows.specs.depot_model.Rules.{top_in, value_of}
 use Rattle.row_rules.specs.Kept.{KeepRowRules}
 use Rattle.row_rules.specs.Tests.{keeps, are_apart}
 use Rattle.row_rules.proofs.Deciding.{left, right}

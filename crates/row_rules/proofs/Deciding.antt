@@ -4,7 +4,7 @@ use Rattle.std.specs.Prelude.{◌&&◌, ◌||◌, not, nat_le, IsTrue, IsFalse, 
 use Rattle.std.specs.Bool.{Decides}
 use Rattle.std.proofs.lemmas.Bool.Decides.{Decides-and, Decides-like, nat_tests}
 use Rattle.std.proofs.lemmas.Slice.Eq.{bytes_eq-Decides}
-use Rattle.depot_path.specs.Bytes.{same}
+use Rattle.depot_rows.specs.depot_path.Bytes.{same}
 
 pub itself : (b : Bool) → Decides b (IsTrue b)
 itself b = (λ e. e, λ e. e)

@@ -5,9 +5,9 @@ use Rattle.std.specs.Fmt.{digits, digits_onto, digit_glyph}
 use Rattle.std.specs.List.{list_all}
 use Rattle.std.proofs.lemmas.Bool.Decides.{nat_tests}
 use Rattle.std.proofs.lemmas.List.{append-nil}
-use Rattle.depot_path.specs.Bytes.{same, is_digit}
-use Rattle.depot_path.specs.Digits.{number_of, is_digits}
-use Rattle.depot_model.specs.Numerals.{is_numeral}
+use Rattle.depot_rows.specs.depot_path.Bytes.{same, is_digit}
+use Rattle.depot_rows.specs.depot_path.Digits.{number_of, is_digits}
+use Rattle.depot_rows.specs.depot_model.Numerals.{is_numeral}
 use Rattle.row_rules.specs.Tests.{has_leading_zero}
 use Rattle.row_rules.proofs.Deciding.{same_decides, le_true, left, right}
 

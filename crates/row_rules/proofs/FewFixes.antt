@@ -7,22 +7,22 @@ use Rattle.std.specs.Ordering.{is_gt}
 use Rattle.std.proofs.lemmas.Bool.{true≢false}
 use Rattle.std.proofs.lemmas.Bool.Decides.{Decides-eqb, nat_tests}
 use Rattle.std.proofs.lemmas.List.{append_cancel_right}
-use Rattle.depot_path.specs.Bytes.{same, is_digit}
-use Rattle.depot_path.specs.Digits.{number_of, is_digits}
-use Rattle.spec_form.specs.declared.shape.Shape.TheVariants.{Fix as FixShape}
-use Rattle.db_records.specs.declared.key.Key.{Key}
-use Rattle.db_records.specs.declared.key.Key.TheVariants as keys
-use Rattle.db_records.specs.declared.record.Record.{Record}
-use Rattle.db_records.specs.declared.record.Record.TheVariants as records
-use Rattle.db_records.specs.declared.rows.DomainRecord.{DomainRecord}
-use Rattle.db_records.specs.declared.table.TableId.{TableId}
-use Rattle.db_records.specs.declared.table.TableId.TheVariants as tables
-use Rattle.db_records.specs.Record.{key_of}
-use Rattle.db_records.proofs.Order.{keys_equal}
-use Rattle.table_store.specs.Rows.{is_at, row_at, AllAbove, IsRising}
-use Rattle.depot_model.specs.Numerals.{is_numeral}
-use Rattle.depot_model.specs.Fixes.{fix_name}
-use Rattle.depot_model.specs.Rules.{Rows, IsRow, IsForm, IsFix, has_fix, is_on_fix, are_distinct, value_in, number_in, top_in}
+use Rattle.depot_rows.specs.depot_path.Bytes.{same, is_digit}
+use Rattle.depot_rows.specs.depot_path.Digits.{number_of, is_digits}
+use Rattle.depot_rows.specs.spec_form.declared.shape.Shape.TheVariants.{Fix as FixShape}
+use Rattle.depot_rows.specs.db_records.declared.key.Key.{Key}
+use Rattle.depot_rows.specs.db_records.declared.key.Key.TheVariants as keys
+use Rattle.depot_rows.specs.db_records.declared.record.Record.{Record}
+use Rattle.depot_rows.specs.db_records.declared.record.Record.TheVariants as records
+use Rattle.depot_rows.specs.db_records.declared.rows.DomainRecord.{DomainRecord}
+use Rattle.depot_rows.specs.db_records.declared.table.TableId.{TableId}
+use Rattle.depot_rows.specs.db_records.declared.table.TableId.TheVariants as tables
+use Rattle.depot_rows.specs.db_records.Record.{key_of}
+use Rattle.depot_rows.proofs.db_records.Order.{keys_equal}
+use Rattle.depot_rows.specs.table_store.Rows.{is_at, row_at, AllAbove, IsRising}
+use Rattle.depot_rows.specs.depot_model.Numerals.{is_numeral}
+use Rattle.depot_rows.specs.depot_model.Fixes.{fix_name}
+use Rattle.depot_rows.specs.depot_model.Rules.{Rows, IsRow, IsForm, IsFix, has_fix, is_on_fix, are_distinct, value_in, number_in, top_in}
 use Rattle.row_rules.specs.Stored.{seen}
 use Rattle.row_rules.specs.Fixing.{is_on_text, is_fix_of, fix_count, HaveFewFixes}
 use Rattle.row_rules.proofs.Deciding.{same_decides, le_true, true_le, left, right}

@@ -5,24 +5,24 @@ use Rattle.std.specs.Bool.{Decides}
 use Rattle.std.specs.List.{list_all}
 use Rattle.std.proofs.lemmas.Bool.{true≢false}
 use Rattle.std.proofs.lemmas.Bool.Decides.{Decides-and, Decides-or, Decides-like, Decides-eqb}
-use Rattle.depot_path.specs.Bytes.{same}
-use Rattle.depot_path.specs.Name.{is_name}
-use Rattle.depot_path.specs.Digits.{number_of}
-use Rattle.spec_form.specs.declared.fault.FormFault.{FormFault}
-use Rattle.spec_form.specs.declared.shape.Shape.{Shape}
-use Rattle.spec_form.specs.declared.shape.Shape.TheVariants.{Client as ClientShape, Label as LabelShape, Shelf as ShelfShape, Job as JobShape, Fix as FixShape}
-use Rattle.spec_form.specs.Reading.{form_of}
-use Rattle.spec_form.specs.Printing.{printed_form}
-use Rattle.spec_form.specs.Form.{lines_of, FormValue}
-use Rattle.view_map.specs.Reading.{view_of}
-use Rattle.db_records.specs.declared.key.Key.TheVariants as keys
-use Rattle.db_records.specs.declared.record.Record.{Record}
-use Rattle.db_records.specs.declared.record.Record.TheVariants.{Domain}
-use Rattle.db_records.specs.declared.rows.DomainRecord.{DomainRecord}
-use Rattle.depot_model.specs.Numerals.{is_numeral}
-use Rattle.depot_model.specs.Values.{value_of as form_value, first_or_empty}
-use Rattle.depot_model.specs.Rules.{Rows, IsRow, IsForm, IsShelf, IsJob, IsFix, HasRev, IsBase, IsLiveRow, IsPending, reads_as, lines_in, is_printed_path, is_one_of, is_job_name, is_content_text, top_in}
-use Rattle.depot_model.specs.Types.{is_printed_type}
+use Rattle.depot_rows.specs.depot_path.Bytes.{same}
+use Rattle.depot_rows.specs.depot_path.Name.{is_name}
+use Rattle.depot_rows.specs.depot_path.Digits.{number_of}
+use Rattle.depot_rows.specs.spec_form.declared.fault.FormFault.{FormFault}
+use Rattle.depot_rows.specs.spec_form.declared.shape.Shape.{Shape}
+use Rattle.depot_rows.specs.spec_form.declared.shape.Shape.TheVariants.{Client as ClientShape, Label as LabelShape, Shelf as ShelfShape, Job as JobShape, Fix as FixShape}
+use Rattle.depot_rows.specs.spec_form.Reading.{form_of}
+use Rattle.depot_rows.specs.spec_form.Printing.{printed_form}
+use Rattle.depot_rows.specs.spec_form.Form.{lines_of, FormValue}
+use Rattle.depot_rows.specs.view_map.Reading.{view_of}
+use Rattle.depot_rows.specs.db_records.declared.key.Key.TheVariants as keys
+use Rattle.depot_rows.specs.db_records.declared.record.Record.{Record}
+use Rattle.depot_rows.specs.db_records.declared.record.Record.TheVariants.{Domain}
+use Rattle.depot_rows.specs.db_records.declared.rows.DomainRecord.{DomainRecord}
+use Rattle.depot_rows.specs.depot_model.Numerals.{is_numeral}
+use Rattle.depot_rows.specs.depot_model.Values.{value_of as form_value, first_or_empty}
+use Rattle.depot_rows.specs.depot_model.Rules.{Rows, IsRow, IsForm, IsShelf, IsJob, IsFix, HasRev, IsBase, IsLiveRow, IsPending, reads_as, lines_in, is_printed_path, is_one_of, is_job_name, is_content_text, top_in}
+use Rattle.depot_rows.specs.depot_model.Types.{is_printed_type}
 use Rattle.row_rules.specs.Tests.{has_rev, with_form, is_client_text, is_label_text, is_job_text, is_fix_text, is_shelf_text, is_client_form, is_label_form, is_job_form, is_fix_form, is_shelf_form, is_kept_form, is_form, job_words, fix_words, shelf_words, shelf_action_words, spaced, is_numeral_up_to, has_field, field_number, has_small_rev, is_live_row, has_its_source, has_its_fields, has_its_content, has_its_numbers, is_pending}
 use Rattle.row_rules.proofs.Deciding.{itself, same_decides, le_decides, never, implies, right, all3, all4, all5, all6, all9}
 use Rattle.row_rules.proofs.Rows.{pending_decides}

@@ -4,20 +4,20 @@ use Rattle.std.specs.Prelude.{◌&&◌, ◌||◌, nat_le, nat_lt, IsTrue, IsSome
 use Rattle.std.specs.Bool.{Decides}
 use Rattle.std.specs.List.{list_all}
 use Rattle.std.proofs.lemmas.Bool.Decides.{Decides-and, Decides-like, nat_tests}
-use Rattle.db_records.specs.declared.key.Key.{Key}
-use Rattle.db_records.specs.declared.key.Key.TheVariants as keys
-use Rattle.db_records.specs.declared.record.Record.{Record}
-use Rattle.db_records.specs.declared.record.Record.TheVariants as records
-use Rattle.db_records.specs.declared.rows.RevRecord.{RevRecord}
-use Rattle.db_records.specs.declared.rows.ProtectRecord.{ProtectRecord}
-use Rattle.db_records.specs.declared.rows.ChangeRecord.{ChangeRecord}
-use Rattle.db_records.specs.declared.table.TableId.{TableId}
-use Rattle.db_records.specs.declared.table.TableId.TheVariants as tables
-use Rattle.db_records.specs.Key.{key_table}
-use Rattle.db_records.specs.Record.{key_of}
-use Rattle.table_store.specs.Rows.{row_at, IsRising, AllOfTable}
-use Rattle.depot_model.specs.Records.{unplaced}
-use Rattle.depot_model.specs.Rules.{Rows, IsRow, HasRev, change_of, value_of, lock_of, top_in, IsSubmitted}
+use Rattle.depot_rows.specs.db_records.declared.key.Key.{Key}
+use Rattle.depot_rows.specs.db_records.declared.key.Key.TheVariants as keys
+use Rattle.depot_rows.specs.db_records.declared.record.Record.{Record}
+use Rattle.depot_rows.specs.db_records.declared.record.Record.TheVariants as records
+use Rattle.depot_rows.specs.db_records.declared.rows.RevRecord.{RevRecord}
+use Rattle.depot_rows.specs.db_records.declared.rows.ProtectRecord.{ProtectRecord}
+use Rattle.depot_rows.specs.db_records.declared.rows.ChangeRecord.{ChangeRecord}
+use Rattle.depot_rows.specs.db_records.declared.table.TableId.{TableId}
+use Rattle.depot_rows.specs.db_records.declared.table.TableId.TheVariants as tables
+use Rattle.depot_rows.specs.db_records.Key.{key_table}
+use Rattle.depot_rows.specs.db_records.Record.{key_of}
+use Rattle.depot_rows.specs.table_store.Rows.{row_at, IsRising, AllOfTable}
+use Rattle.depot_rows.specs.depot_model.Records.{unplaced}
+use Rattle.depot_rows.specs.depot_model.Rules.{Rows, IsRow, HasRev, change_of, value_of, lock_of, top_in, IsSubmitted}
 use Rattle.row_rules.specs.Kept.{KeepRowRules}
 use Rattle.row_rules.specs.Stored.{seen}
 use Rattle.row_rules.specs.Tests.{keeps, is_line, is_change, is_revision, follows_line, follows_revision, has_rev}

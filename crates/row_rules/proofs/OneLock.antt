@@ -8,18 +8,18 @@ use Rattle.std.specs.declared.cmp.Ordering.{Ordering}
 use Rattle.std.specs.declared.cmp.Ordering.TheVariants.{Less, Equal, Greater}
 use Rattle.std.proofs.lemmas.Bool.{true≢false}
 use Rattle.std.proofs.lemmas.Bool.Decides.{Decides-eqb}
-use Rattle.depot_path.specs.Bytes.{same}
-use Rattle.db_records.specs.declared.key.Key.{Key}
-use Rattle.db_records.specs.declared.key.Key.TheVariants as keys
-use Rattle.db_records.specs.declared.record.Record.{Record}
-use Rattle.db_records.specs.declared.record.Record.TheVariants as records
-use Rattle.db_records.specs.declared.table.TableId.{TableId}
-use Rattle.db_records.specs.declared.table.TableId.TheVariants as tables
-use Rattle.db_records.specs.Key.{Word, field_cmp, key_cmp}
-use Rattle.db_records.specs.Record.{key_of, table_of}
-use Rattle.db_records.proofs.Order.{keys_equal}
-use Rattle.table_store.specs.Rows.{is_at, row_at, AllAbove, IsRising, AllOfTable}
-use Rattle.depot_model.specs.Rules.{lock_of}
+use Rattle.depot_rows.specs.depot_path.Bytes.{same}
+use Rattle.depot_rows.specs.db_records.declared.key.Key.{Key}
+use Rattle.depot_rows.specs.db_records.declared.key.Key.TheVariants as keys
+use Rattle.depot_rows.specs.db_records.declared.record.Record.{Record}
+use Rattle.depot_rows.specs.db_records.declared.record.Record.TheVariants as records
+use Rattle.depot_rows.specs.db_records.declared.table.TableId.{TableId}
+use Rattle.depot_rows.specs.db_records.declared.table.TableId.TheVariants as tables
+use Rattle.depot_rows.specs.db_records.Key.{Word, field_cmp, key_cmp}
+use Rattle.depot_rows.specs.db_records.Record.{key_of, table_of}
+use Rattle.depot_rows.proofs.db_records.Order.{keys_equal}
+use Rattle.depot_rows.specs.table_store.Rows.{is_at, row_at, AllAbove, IsRising, AllOfTable}
+use Rattle.depot_rows.specs.depot_model.Rules.{lock_of}
 use Rattle.row_rules.specs.Stored.{seen}
 use Rattle.row_rules.specs.Tests.{is_lock, path_in, is_again, locked_last, are_apart}
 use Rattle.row_rules.proofs.Deciding.{same_decides, left, right}

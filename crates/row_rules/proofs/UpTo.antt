@@ -1,11 +1,11 @@
 -- Numerals up to a number.
 use Rattle.std.proofs.Common.{◌≡◌, ℕ, Bool, true, false, List, Option, Some, None, refl, sym, ◌∙◌}
 use Rattle.std.specs.Prelude.{◌&&◌, ◌||◌, not, codes, if◌then◌else◌}
-use Rattle.depot_path.specs.Digits.{number_of}
-use Rattle.depot_path.specs.Bytes.{same}
-use Rattle.spec_form.specs.Form.{FormValue}
-use Rattle.depot_model.specs.Values.{value_of as form_value}
-use Rattle.depot_model.specs.Rules.{Rows, is_printed_path, is_one_of, top_in}
+use Rattle.depot_rows.specs.depot_path.Digits.{number_of}
+use Rattle.depot_rows.specs.depot_path.Bytes.{same}
+use Rattle.depot_rows.specs.spec_form.Form.{FormValue}
+use Rattle.depot_rows.specs.depot_model.Values.{value_of as form_value}
+use Rattle.depot_rows.specs.depot_model.Rules.{Rows, is_printed_path, is_one_of, top_in}
 use Rattle.row_rules.specs.Tests.{is_numeral_up_to, numeral_up_to, is_shelf_form, is_kept_form, has_its_numbers, spaced, shelf_words}
 
 some_by : (b : Bool) (m n : ℕ) → (if b then Some m else None) ≡ Some n → (b ≡ true) × (m ≡ n)

@@ -1,11 +1,11 @@
 -- All rules: those of rows, and that of the fixes of a change.
 use Rattle.std.proofs.Common.{◌≡◌, ◌↔◌, Bool, true, List, IsTrue}
 use Rattle.std.specs.Prelude.{◌&&◌}
-use Rattle.db_records.specs.declared.record.Record.{Record}
-use Rattle.db_records.specs.declared.table.TableId.{TableId}
-use Rattle.db_records.specs.declared.table.TableId.TheVariants as tables
-use Rattle.table_store.specs.Rows.{IsRising}
-use Rattle.depot_model.specs.Rules.{KeepRules}
+use Rattle.depot_rows.specs.db_records.declared.record.Record.{Record}
+use Rattle.depot_rows.specs.db_records.declared.table.TableId.{TableId}
+use Rattle.depot_rows.specs.db_records.declared.table.TableId.TheVariants as tables
+use Rattle.depot_rows.specs.table_store.Rows.{IsRising}
+use Rattle.depot_rows.specs.depot_model.Rules.{KeepRules}
 use Rattle.row_rules.specs.Fixing.{HaveFewFixes}
 use Rattle.row_rules.specs.Kept.{KeepRowRules}
 use Rattle.row_rules.proofs.Deciding.{left, right}

@@ -1,10 +1,10 @@
 -- Fixes that are on, as rows have them (Command-Line Reference, "p4 fix").
 use Rattle.std.specs.Prelude.{◌≤◌, ℕ, ◌+◌, ◌==◌, nat_le, Bool, false, ◌&&◌, List, [], ◌∷◌, codes, if◌then◌else◌, Option, Some, None}
-use Rattle.depot_path.specs.Bytes.{same}
-use Rattle.spec_form.specs.declared.shape.Shape.TheVariants.{Fix as FixShape}
-use Rattle.db_records.specs.declared.record.Record.{Record}
-use Rattle.db_records.specs.declared.record.Record.TheVariants.{Domain}
-use Rattle.depot_model.specs.Rules.{value_in, number_in}
+use Rattle.depot_rows.specs.depot_path.Bytes.{same}
+use Rattle.depot_rows.specs.spec_form.declared.shape.Shape.TheVariants.{Fix as FixShape}
+use Rattle.depot_rows.specs.db_records.declared.record.Record.{Record}
+use Rattle.depot_rows.specs.db_records.declared.record.Record.TheVariants.{Domain}
+use Rattle.depot_rows.specs.depot_model.Rules.{value_in, number_in}
 
 -- the change of a fix that is on, whose number a row can have
 abbrev pub is_on_text : List ℕ → Bool

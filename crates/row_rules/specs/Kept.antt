@@ -1,8 +1,8 @@
 -- The rules that rows keep, but for how many fixes a change has. They are those of the crate of the model.
 use Rattle.std.specs.Prelude.{◌≡◌, ◌≤◌, ◌<◌, ℕ, suc, List, codes, IsSome, IfSome}
-use Rattle.db_records.specs.declared.key.Key.{Key}
-use Rattle.db_records.specs.declared.key.Key.TheVariants as keys
-use Rattle.depot_model.specs.Rules.{Rows, IsRow, HasRev, change_of, lock_of, top_in, value_of}
+use Rattle.depot_rows.specs.db_records.declared.key.Key.{Key}
+use Rattle.depot_rows.specs.db_records.declared.key.Key.TheVariants as keys
+use Rattle.depot_rows.specs.depot_model.Rules.{Rows, IsRow, HasRev, change_of, lock_of, top_in, value_of}
 
 pub record KeepRowRules (rows : Rows) : Type 0 where
   pub each : (key : Key) → IfSome (rows key) (IsRow rows)

@@ -1,13 +1,13 @@
 -- The rows of tables as the rules see them (Helix Core database schema reference, "Tables"). That the place of a content in the archive is left
 -- out, as rows tell a depot nothing of it, is this project's own choice.
 use Rattle.std.specs.Prelude.{Option, option_map}
-use Rattle.db_records.specs.Key.{key_table}
-use Rattle.db_records.specs.declared.record.Record.{Record}
-use Rattle.table_store.specs.Rows.{row_at}
-use Rattle.table_store.specs.Tables.{version_of}
-use Rattle.table_store.specs.declared.tables.Tables.{Tables}
-use Rattle.depot_model.specs.Records.{unplaced}
-use Rattle.depot_model.specs.Rules.{Rows}
+use Rattle.depot_rows.specs.db_records.Key.{key_table}
+use Rattle.depot_rows.specs.db_records.declared.record.Record.{Record}
+use Rattle.depot_rows.specs.table_store.Rows.{row_at}
+use Rattle.depot_rows.specs.table_store.Tables.{version_of}
+use Rattle.depot_rows.specs.table_store.declared.tables.Tables.{Tables}
+use Rattle.depot_rows.specs.depot_model.Records.{unplaced}
+use Rattle.depot_rows.specs.depot_model.Rules.{Rows}
 
 -- a row without the place of its content
 abbrev pub seen : Option Record → Option Record

@@ -6,11 +6,11 @@ ghost use Rattle.row_rules.specs.Tests.{is_have as have_test, is_labelled as lab
 
 use crate::lookups::{has_base, has_form, has_opened, has_rev, has_revs, is_open_in};
 use crate::texts::{is_action, is_how, is_moved, is_path};
-use db_records::{HaveRecord, LabelRecord, ResolveRecord, WorkingRecord};
-use depot_model::is_printed_type;
-use depot_path::Text;
+use depot_rows::model::is_printed_type;
+use depot_rows::paths::Text;
+use depot_rows::records::{HaveRecord, LabelRecord, ResolveRecord, WorkingRecord};
+use depot_rows::tables::Tables;
 use std::alloc::{AllocError, Global};
-use table_store::Tables;
 
 /// Whether the row of a file that a client has keeps the rules.
 #[tactic(auto, unfolding(crate::specs::Tests::is_have))]

@@ -3,17 +3,17 @@
 ghost use Rattle.std.specs.Prelude.{◌≡◌, ◌≤◌, ◌<◌, ◌+◌, ◌==◌, ◌↔◌, ℕ, IfOk, IsTrue, IsFalse, unwrap_or, if◌then◌else◌};
 ghost use Rattle.std.specs.BTreeMap.{get};
 ghost use Rattle.std.specs.Ordering.{nat_cmp};
-ghost use Rattle.db_records.specs.declared.table.TableId.TheVariants as table_ids;
-ghost use Rattle.table_store.specs.Tables.{version_of};
+ghost use Rattle.depot_rows.specs.db_records.declared.table.TableId.TheVariants as table_ids;
+ghost use Rattle.depot_rows.specs.table_store.Tables.{version_of};
 ghost use Rattle.row_rules.specs.Fixing.{HaveFewFixes, change_in_text, fixed_change as change_of_row};
 
 use crate::forms::value;
 use crate::numerals::small_value;
-use db_records::{Record, TableId};
-use spec_form::{Form, FormFaultKind, Shape};
+use depot_rows::forms::{Form, FormFaultKind, Shape};
+use depot_rows::records::{Record, TableId};
+use depot_rows::tables::Tables;
 use std::alloc::{AllocError, Global};
 use std::collections::BTreeMap;
-use table_store::Tables;
 
 /// The most fixes of a change that are on.
 const MOST: u32 = 100;

@@ -1,24 +1,24 @@
 //! Rows of forms.
 
 ghost use Rattle.std.specs.Prelude.{◌≡◌, ◌≤◌, IfOk, is_ok, is_some, codes, true};
-ghost use Rattle.db_records.specs.declared.key.Key.TheVariants as keys;
-ghost use Rattle.depot_path.specs.Bytes.{same};
-ghost use Rattle.depot_path.specs.Name.{is_name as name_test};
-ghost use Rattle.view_map.specs.Reading.{view_of};
-ghost use Rattle.depot_model.specs.Rules.{top_in, is_one_of, is_job_name as job_name_test};
-ghost use Rattle.depot_model.specs.Values.{value_of as value_in};
+ghost use Rattle.depot_rows.specs.db_records.declared.key.Key.TheVariants as keys;
+ghost use Rattle.depot_rows.specs.depot_path.Bytes.{same};
+ghost use Rattle.depot_rows.specs.depot_path.Name.{is_name as name_test};
+ghost use Rattle.depot_rows.specs.view_map.Reading.{view_of};
+ghost use Rattle.depot_rows.specs.depot_model.Rules.{top_in, is_one_of, is_job_name as job_name_test};
+ghost use Rattle.depot_rows.specs.depot_model.Values.{value_of as value_in};
 ghost use Rattle.row_rules.specs.Stored.{stored};
 ghost use Rattle.row_rules.specs.Tests.{form_read, is_client_text as client_text, is_label_text as label_text, is_job_text as job_text, is_fix_text as fix_text, spaced as spaced_words, job_words, fix_words, is_client_form as client_test, is_fix_form as fix_test, is_form as form_test};
 
 use crate::lookups::{has_change, has_form};
 use crate::numerals::{is_positive, numeral_up_to};
 use crate::shelves::is_shelf;
-use db_records::DomainRecord;
-use depot_path::{Name, Text, are_digits, is_name};
-use spec_form::{Form, FormFaultKind, Shape};
+use depot_rows::forms::{Form, FormFaultKind, Shape};
+use depot_rows::paths::{Name, Text, are_digits, is_name};
+use depot_rows::records::DomainRecord;
+use depot_rows::tables::Tables;
+use depot_rows::views::{View, ViewCause};
 use std::alloc::{AllocError, Global};
-use table_store::Tables;
-use view_map::{View, ViewCause};
 
 /// The form that a text is as it is printed.
 pub(crate) fn read_form(

@@ -2,8 +2,8 @@
 
 ghost use Rattle.std.specs.Prelude.{◌≡◌, ◌≤◌, ◌&&◌, IfOk, nat_le};
 ghost use Rattle.std.specs.List.{list_all};
-ghost use Rattle.depot_model.specs.Rules.{top_in};
-ghost use Rattle.table_store.specs.Tables.{version_of};
+ghost use Rattle.depot_rows.specs.depot_model.Rules.{top_in};
+ghost use Rattle.depot_rows.specs.table_store.Tables.{version_of};
 ghost use Rattle.row_rules.specs.Stored.{stored};
 ghost use Rattle.row_rules.specs.Tests.{keeps as keeps_test, is_line as line_test, is_change as change_test, follows_line as follows_test};
 
@@ -13,9 +13,9 @@ use crate::integrations::is_integration;
 use crate::lookups::is_there;
 use crate::revisions::keeps_revision;
 use crate::simple::{is_change, is_counter, is_group, is_line};
-use db_records::{ChangeRecord, Key, ProtectRecord, Record, TableId};
+use depot_rows::records::{ChangeRecord, Key, ProtectRecord, Record, TableId};
+use depot_rows::tables::Tables;
 use std::alloc::{AllocError, Global};
-use table_store::Tables;
 
 /// Whether a line is the first, or the one before it is there.
 #[tactic(auto, unfolding(crate::specs::Tests::follows_line))]

@@ -1,13 +1,13 @@
 //! Laws of the rules.
 
 ghost use Rattle.std.specs.Prelude.{List};
-ghost use Rattle.depot_model.specs.Deeds.{Deed};
-ghost use Rattle.depot_model.specs.Rules.{KeepRules};
+ghost use Rattle.depot_rows.specs.depot_model.Deeds.{Deed};
+ghost use Rattle.depot_rows.specs.depot_model.Rules.{KeepRules};
 ghost use Rattle.depot_rows.specs.Standing.{Stand};
-ghost use Rattle.table_changes.specs.Changed.{rows_of};
+ghost use Rattle.depot_rows.specs.table_changes.Changed.{rows_of};
 ghost use Rattle.row_rules.specs.Stored.{stored};
 
-use table_store::Tables;
+use depot_rows::tables::Tables;
 
 /// The rows of tables that stand for a depot keep the rules.
 pub fn rows_of_depots_keep_rules(tables: &Tables)

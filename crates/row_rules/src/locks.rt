@@ -1,14 +1,14 @@
 //! Locks of paths.
 
 ghost use Rattle.std.specs.Prelude.{◌≡◌, IfOk, None};
-ghost use Rattle.db_records.specs.declared.table.TableId.TheVariants as table_ids;
-ghost use Rattle.table_store.specs.Tables.{version_of};
+ghost use Rattle.depot_rows.specs.db_records.declared.table.TableId.TheVariants as table_ids;
+ghost use Rattle.depot_rows.specs.table_store.Tables.{version_of};
 ghost use Rattle.row_rules.specs.Tests.{is_lock as lock_test, path_in, is_again as again_test, locked_last as last_of, are_apart};
 
-use db_records::{Record, TableId};
-use depot_path::Text;
+use depot_rows::paths::Text;
+use depot_rows::records::{Record, TableId};
+use depot_rows::tables::Tables;
 use std::alloc::{AllocError, Global};
-use table_store::Tables;
 
 /// Whether a row locks its path.
 fn is_lock(row: &Record) -> bool

@@ -1,11 +1,11 @@
 //! Numbers in forms.
 
 ghost use Rattle.std.specs.Prelude.{◌≡◌, IfOk, nat_le, decimal};
-ghost use Rattle.depot_path.specs.Digits.{number_of, up_to};
-ghost use Rattle.depot_model.specs.Numerals.{is_numeral as numeral_test};
+ghost use Rattle.depot_rows.specs.depot_path.Digits.{number_of, up_to};
+ghost use Rattle.depot_rows.specs.depot_model.Numerals.{is_numeral as numeral_test};
 ghost use Rattle.row_rules.specs.Tests.{numeral_up_to as numeral_in, has_leading_zero as zero_test};
 
-use depot_path::{Text, is_digits, number_up_to, value_up_to};
+use depot_rows::paths::{Text, is_digits, number_up_to, value_up_to};
 use itoa::Buffer;
 use std::alloc::{AllocError, Global};
 

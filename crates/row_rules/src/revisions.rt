@@ -6,10 +6,10 @@ ghost use Rattle.row_rules.specs.Tests.{is_revision as revision_test, has_none a
 
 use crate::lookups::{change_of, has_rev, is_submitted};
 use crate::texts::{is_action, is_delete, is_moved, is_path};
-use db_records::RevRecord;
-use depot_model::is_printed_type;
+use depot_rows::model::is_printed_type;
+use depot_rows::records::RevRecord;
+use depot_rows::tables::Tables;
 use std::alloc::{AllocError, Global};
-use table_store::Tables;
 
 /// Whether a revision has neither a digest nor a length.
 fn has_none(row: &RevRecord) -> bool

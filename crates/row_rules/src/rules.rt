@@ -1,13 +1,13 @@
 //! The rules of the rows of all tables.
 
 ghost use Rattle.std.specs.Prelude.{◌≡◌, ◌≤◌, ◌&&◌, ◌↔◌, IfOk, IsTrue, codes};
-ghost use Rattle.db_records.specs.declared.key.Key.TheVariants as keys;
+ghost use Rattle.depot_rows.specs.db_records.declared.key.Key.TheVariants as keys;
 ghost use Rattle.std.specs.List.{list_all};
-ghost use Rattle.db_records.specs.Table.{all_tables};
-ghost use Rattle.db_records.specs.declared.table.TableId.{TableId as Id};
-ghost use Rattle.table_store.specs.Rows.{AllOfTable, IsRising};
-ghost use Rattle.table_store.specs.Tables.{version_of};
-ghost use Rattle.depot_model.specs.Rules.{KeepRules, top_in, value_of as value_in};
+ghost use Rattle.depot_rows.specs.db_records.Table.{all_tables};
+ghost use Rattle.depot_rows.specs.db_records.declared.table.TableId.{TableId as Id};
+ghost use Rattle.depot_rows.specs.table_store.Rows.{AllOfTable, IsRising};
+ghost use Rattle.depot_rows.specs.table_store.Tables.{version_of};
+ghost use Rattle.depot_rows.specs.depot_model.Rules.{KeepRules, top_in, value_of as value_in};
 ghost use Rattle.row_rules.specs.Kept.{KeepRowRules};
 ghost use Rattle.row_rules.specs.Stored.{stored};
 ghost use Rattle.row_rules.specs.Tests.{keeps as keeps_test};
@@ -16,9 +16,9 @@ use crate::fixes::have_few_fixes;
 use crate::keeping::all_keep;
 use crate::locks::locks_are_apart;
 use crate::lookups::value_of;
-use db_records::TableId;
+use depot_rows::records::TableId;
+use depot_rows::tables::Tables;
 use std::alloc::{AllocError, Global};
-use table_store::Tables;
 
 /// The rows of a table are of it, and their keys rise.
 fn is_in_order(tables: &Tables, table: TableId)

@@ -2,9 +2,9 @@
 
 ghost use Rattle.std.specs.Prelude.{◌≡◌, ◌≤◌, ◌==◌, ◌||◌, IfOk, nat_le, codes, if◌then◌else◌, Some, None};
 ghost use Rattle.std.specs.Option.{option_copied};
-ghost use Rattle.db_records.specs.declared.key.Key.TheVariants as keys;
-ghost use Rattle.depot_model.specs.Rules.{top_in, is_one_of, is_content_text as content_test};
-ghost use Rattle.depot_model.specs.Values.{value_of as value_in};
+ghost use Rattle.depot_rows.specs.db_records.declared.key.Key.TheVariants as keys;
+ghost use Rattle.depot_rows.specs.depot_model.Rules.{top_in, is_one_of, is_content_text as content_test};
+ghost use Rattle.depot_rows.specs.depot_model.Values.{value_of as value_in};
 ghost use Rattle.row_rules.specs.Stored.{seen, stored};
 ghost use Rattle.row_rules.specs.Tests.{is_shelf_text as shelf_text, field_number, has_small_rev as small_rev_test, is_live_row as live_test, has_field as field_test, is_number_field as number_field_test, shelf_words, shelf_action_words, has_its_source as source_test, has_its_fields as fields_test, has_its_numbers as numbers_test, has_its_content as its_content_test, is_kept_form as kept_test, is_shelf_form as shelf_test};
 
@@ -12,13 +12,13 @@ use crate::forms::{read_form, spaced, value};
 use crate::lookups::{found, is_pending, rev_key};
 use crate::numerals::{is_numeral, numeral_up_to, small_value};
 use crate::texts::is_path;
-use db_records::Record;
-use depot_model::is_printed_type;
-use depot_path::{Text, is_name};
+use depot_rows::forms::{Form, Shape};
+use depot_rows::model::is_printed_type;
+use depot_rows::paths::{Text, is_name};
+use depot_rows::records::Record;
+use depot_rows::tables::Tables;
 use hex::FromHexError;
-use spec_form::{Form, Shape};
 use std::alloc::{AllocError, Global};
-use table_store::Tables;
 
 /// Whether a form has a field with a value.
 fn has_field(form: &Form, field: &str) -> bool

@@ -1,10 +1,10 @@
 //! Words and paths of rows.
 
 ghost use Rattle.std.specs.Prelude.{◌≡◌, IfOk};
-ghost use Rattle.depot_model.specs.Rules.{is_printed_path as path_test, is_kept_name as kept_test, is_move_word as move_test, is_delete_word as delete_test, is_one_of, action_words};
+ghost use Rattle.depot_rows.specs.depot_model.Rules.{is_printed_path as path_test, is_kept_name as kept_test, is_move_word as move_test, is_delete_word as delete_test, is_one_of, action_words};
 ghost use Rattle.row_rules.specs.Tests.{how_words, status_words, is_moved as moved_test};
 
-use depot_path::{DepotPath, PathFault};
+use depot_rows::paths::{DepotPath, PathFault};
 use std::alloc::{AllocError, Global};
 
 /// Whether a text is a path as it is printed.

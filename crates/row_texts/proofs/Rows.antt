@@ -2,17 +2,17 @@
 use Rattle.std.proofs.Common.{◌≡◌, ◌≤◌, ℕ, zero, suc, Bool, true, false, List, [], Option, Some, None, refl, ap, subst, inl, inr, arith}
 use Rattle.std.proofs.lemmas.Bool.Decides.{nat_tests}
 use Rattle.std.specs.Prelude.{◌&&◌, nat_le, not, IfSome, is_some}
-use Rattle.db_records.specs.Record.{key_of}
-use Rattle.db_records.specs.declared.record.Record.{Record}
-use Rattle.db_records.specs.declared.record.Record.TheVariants as rows
-use Rattle.db_records.specs.declared.rows.IntegedRecord.{IntegedRecord}
-use Rattle.db_records.specs.declared.rows.RevRecord.{RevRecord}
-use Rattle.db_records.specs.declared.rows.WorkingRecord.{WorkingRecord}
+use Rattle.depot_rows.specs.db_records.Record.{key_of}
+use Rattle.depot_rows.specs.db_records.declared.record.Record.{Record}
+use Rattle.depot_rows.specs.db_records.declared.record.Record.TheVariants as rows
+use Rattle.depot_rows.specs.db_records.declared.rows.IntegedRecord.{IntegedRecord}
+use Rattle.depot_rows.specs.db_records.declared.rows.RevRecord.{RevRecord}
+use Rattle.depot_rows.specs.db_records.declared.rows.WorkingRecord.{WorkingRecord}
 use Rattle.record_text.specs.Grammar.{AllFit, IsRecord, largest_count, largest_wide}
 use Rattle.record_text.specs.Layout.{is_move, kinds_of, rev_parts, working_parts}
-use Rattle.depot_model.specs.Deeds.{Deed}
-use Rattle.depot_model.specs.Records.{line_record, record_of, unplaced}
-use Rattle.depot_model.specs.Rules.{IsSound, IsRow, IsMoved, is_move_word}
+use Rattle.depot_rows.specs.depot_model.Deeds.{Deed}
+use Rattle.depot_rows.specs.depot_model.Records.{line_record, record_of, unplaced}
+use Rattle.depot_rows.specs.depot_model.Rules.{IsSound, IsRow, IsMoved, is_move_word}
 use Rattle.row_texts.specs.Texts.{IsOf64Bits, is_count, is_counted}
 
 is_there : (o : Option Record) (row : Record) → o ≡ Some row → is_some o ≡ true

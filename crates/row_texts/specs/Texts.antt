@@ -1,16 +1,16 @@
 -- Which rows have a text (System Administrator Guide, "Journal files"): those of sound depots. What the rules of rows leave open is asked for beside
 -- them.
 use Rattle.std.specs.Prelude.{◌≡◌, ◌≤◌, ◌&&◌, nat_le, ℕ, Bool, true, IsTrue, List, All, Some}
-use Rattle.db_records.specs.Record.{key_of}
-use Rattle.db_records.specs.declared.change.Change.{Change}
-use Rattle.db_records.specs.declared.record.Record.{Record}
-use Rattle.db_records.specs.declared.record.Record.TheVariants as rows
+use Rattle.depot_rows.specs.db_records.Record.{key_of}
+use Rattle.depot_rows.specs.db_records.declared.change.Change.{Change}
+use Rattle.depot_rows.specs.db_records.declared.record.Record.{Record}
+use Rattle.depot_rows.specs.db_records.declared.record.Record.TheVariants as rows
 use Rattle.record_text.specs.Grammar.{IsRecord, largest_count, largest_wide}
 use Rattle.journal_groups.specs.Groups.{AreRecords}
-use Rattle.table_changes.specs.Changed.{AllRows}
-use Rattle.depot_model.specs.Deeds.{Deed}
-use Rattle.depot_model.specs.Records.{record_of, unplaced}
-use Rattle.depot_model.specs.Rules.{IsSound}
+use Rattle.depot_rows.specs.table_changes.Changed.{AllRows}
+use Rattle.depot_rows.specs.depot_model.Deeds.{Deed}
+use Rattle.depot_rows.specs.depot_model.Records.{record_of, unplaced}
+use Rattle.depot_rows.specs.depot_model.Rules.{IsSound}
 use Rattle.depot_rows.specs.Standing.{Stand}
 use Rattle.row_changes.specs.Differences.{AreDifferences}
 

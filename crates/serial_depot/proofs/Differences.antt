@@ -2,13 +2,13 @@
 use Rattle.std.proofs.Common.{◌≡◌, Bool, true, false, cond, List, [], ◌∷◌, Option, Some, None, refl, sym, ◌∙◌}
 use Rattle.std.specs.Prelude.{option_map}
 use Rattle.std.specs.List.{AllByRecursion}
-use Rattle.db_records.specs.Key.{key_table}
-use Rattle.db_records.specs.declared.change.Change.{Change}
-use Rattle.db_records.specs.declared.key.Key.{Key}
-use Rattle.db_records.specs.declared.record.Record.{Record}
-use Rattle.table_changes.specs.Changed.{AllRows}
-use Rattle.depot_model.specs.Deeds.{Deed}
-use Rattle.depot_model.specs.Records.{record_of, is_at, unplaced, SameRows}
+use Rattle.depot_rows.specs.db_records.Key.{key_table}
+use Rattle.depot_rows.specs.db_records.declared.change.Change.{Change}
+use Rattle.depot_rows.specs.db_records.declared.key.Key.{Key}
+use Rattle.depot_rows.specs.db_records.declared.record.Record.{Record}
+use Rattle.depot_rows.specs.table_changes.Changed.{AllRows}
+use Rattle.depot_rows.specs.depot_model.Deeds.{Deed}
+use Rattle.depot_rows.specs.depot_model.Records.{record_of, is_at, unplaced, SameRows}
 use Rattle.depot_rows.proofs.Keys.{at-self}
 use Rattle.depot_rows.specs.Standing.{Stand, row_in}
 use Rattle.row_changes.specs.Differences.{AreDifferences, LeadsTo, change_at, changed_key}

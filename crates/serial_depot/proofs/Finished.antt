@@ -5,20 +5,20 @@ use Rattle.archive_file.specs.declared.archive.Archive.{Archive}
 use Rattle.outside_api.specs.Disk.{Files, LeavesOnly, NoMore, Same, StillTells}
 use Rattle.command_core.specs.Outcomes.{IsOutcome}
 use Rattle.command_core.specs.declared.outcome.Outcome.{Outcome}
-use Rattle.db_records.specs.declared.change.Change.{Change}
+use Rattle.depot_rows.specs.db_records.declared.change.Change.{Change}
 use Rattle.disk_journal.specs.Images.{Committed}
 use Rattle.disk_journal.specs.Stands.{Doubtful, HasWithOrWithout, Stands, generation_of_journal, next_number, nothing}
 use Rattle.disk_journal.specs.declared.journal.Journal.{Journal}
-use Rattle.table_changes.specs.Changed.{AllRows, changed_by, rows_of}
-use Rattle.table_store.specs.declared.tables.Tables.{Tables}
+use Rattle.depot_rows.specs.table_changes.Changed.{AllRows, changed_by, rows_of}
+use Rattle.depot_rows.specs.table_store.declared.tables.Tables.{Tables}
 use Rattle.depot_runs.specs.Today.{step}
-use Rattle.depot_model.specs.Deeds.{Deed}
-use Rattle.depot_model.specs.Places.{Placed, taken}
-use Rattle.depot_model.specs.Rules.{IsSound}
-use Rattle.depot_model.specs.Step.{after}
-use Rattle.depot_model.specs.declared.request.Request.{Request}
-use Rattle.db_records.specs.declared.change.Spot.{Spot}
-use Rattle.depot_model.specs.declared.reply.Row.{Row}
+use Rattle.depot_rows.specs.depot_model.Deeds.{Deed}
+use Rattle.depot_rows.specs.depot_model.Places.{Placed, taken}
+use Rattle.depot_rows.specs.depot_model.Rules.{IsSound}
+use Rattle.depot_rows.specs.depot_model.Step.{after}
+use Rattle.depot_rows.specs.depot_model.declared.request.Request.{Request}
+use Rattle.depot_rows.specs.db_records.declared.change.Spot.{Spot}
+use Rattle.depot_rows.specs.depot_model.declared.reply.Row.{Row}
 use Rattle.reply_rows.specs.Made.{StandAt, contents_of}
 use Rattle.session_loop.specs.Taking.{placed_by}
 use Rattle.stored_contents.specs.Placed.{StandAfter}

@@ -3,10 +3,10 @@ use Rattle.std.proofs.Common.{◌≡◌, ℕ, suc, ◌+◌, List, [], ◌∷◌,
 use Rattle.std.proofs.Math.Path.{fun_ext}
 use Rattle.std.specs.List.{AllByRecursion, flat_map}
 use Rattle.std.proofs.lemmas.Grind.{flat_map-append}
-use Rattle.db_records.specs.declared.change.Change.{Change}
+use Rattle.depot_rows.specs.db_records.declared.change.Change.{Change}
 use Rattle.journal_groups.specs.Groups.{group_text, IsGroup}
 use Rattle.disk_journal.specs.Images.{Committed, with_group}
-use Rattle.table_changes.specs.Changed.{AllRows, AllFitIn, FitsIn, changed_by, changed_in, no_rows}
+use Rattle.depot_rows.specs.table_changes.Changed.{AllRows, AllFitIn, FitsIn, changed_by, changed_in, no_rows}
 use Rattle.recovery.specs.Holding.{AreChanges, HasAllRows, group_texts, joined}
 
 group_texts-push : (number : ℕ) (groups : List (List Change)) (changes : List Change) → group_texts number (groups ++ changes ∷ []) ≡ group_texts number groups ++ group_text (number + length groups) changes ∷ []

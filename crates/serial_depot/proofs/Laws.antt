@@ -1,28 +1,28 @@
 -- What the step of each request does to a sound depot, as the driver asks for it: the laws of all requests.
 use Rattle.std.proofs.Common.{◌≡◌, ◌≢◌, ◌⊎◌, ℕ, ◌+◌, Bool, true, false, List, [], ◌∷◌, Option, Some, None, Result, Ok, Err, inl, inr, ⊎_elim, refl, sym, ap, subst, ◌∙◌}
 use Rattle.std.specs.Prelude.{All, IfOk, codes, nat_le, option_map, unwrap_or}
-use Rattle.db_records.specs.declared.change.Change.{Change}
+use Rattle.depot_rows.specs.db_records.declared.change.Change.{Change}
 use Rattle.journal_groups.specs.Groups.{AreRecords}
 use Rattle.command_core.specs.Outcomes.{IsFormed, IsFormedBy}
 use Rattle.command_words.specs.WellFormed.{IsWellFormed}
-use Rattle.table_changes.specs.Changed.{AllRows}
+use Rattle.depot_rows.specs.table_changes.Changed.{AllRows}
 use Rattle.depot_runs.specs.Built.{is_built}
 use Rattle.depot_runs.specs.Today.{step}
-use Rattle.db_records.specs.declared.record.Record.TheVariants.{Counter as CounterRow}
-use Rattle.depot_model.specs.Deeds.{Count, Deed}
-use Rattle.depot_model.specs.Latest.{count_of}
-use Rattle.depot_model.specs.Rows.{row, number_field}
-use Rattle.depot_model.specs.Records.{SameRows}
-use Rattle.depot_model.specs.Rules.{IsSound, value_of}
-use Rattle.depot_model.specs.Step.{after, does, refuse_if, unless}
-use Rattle.depot_model.specs.Steps.Checkpoint.{checkpoint, generation}
-use Rattle.depot_model.specs.WellFormed.{is_command}
-use Rattle.depot_model.specs.declared.command.Command.{Command}
-use Rattle.depot_model.specs.declared.command.Command.TheVariants.{Checkpoint}
-use Rattle.depot_model.specs.declared.refusal.Limit.TheVariants.{Generation}
-use Rattle.depot_model.specs.declared.refusal.Refusal.TheVariants.{OverLimit}
-use Rattle.depot_model.specs.declared.request.Request.{Request}
-use Rattle.depot_model.specs.declared.request.WordFault.{WordFault}
+use Rattle.depot_rows.specs.db_records.declared.record.Record.TheVariants.{Counter as CounterRow}
+use Rattle.depot_rows.specs.depot_model.Deeds.{Count, Deed}
+use Rattle.depot_rows.specs.depot_model.Latest.{count_of}
+use Rattle.depot_rows.specs.depot_model.Rows.{row, number_field}
+use Rattle.depot_rows.specs.depot_model.Records.{SameRows}
+use Rattle.depot_rows.specs.depot_model.Rules.{IsSound, value_of}
+use Rattle.depot_rows.specs.depot_model.Step.{after, does, refuse_if, unless}
+use Rattle.depot_rows.specs.depot_model.Steps.Checkpoint.{checkpoint, generation}
+use Rattle.depot_rows.specs.depot_model.WellFormed.{is_command}
+use Rattle.depot_rows.specs.depot_model.declared.command.Command.{Command}
+use Rattle.depot_rows.specs.depot_model.declared.command.Command.TheVariants.{Checkpoint}
+use Rattle.depot_rows.specs.depot_model.declared.refusal.Limit.TheVariants.{Generation}
+use Rattle.depot_rows.specs.depot_model.declared.refusal.Refusal.TheVariants.{OverLimit}
+use Rattle.depot_rows.specs.depot_model.declared.request.Request.{Request}
+use Rattle.depot_rows.specs.depot_model.declared.request.WordFault.{WordFault}
 use Rattle.depot_rows.specs.Standing.{Stand}
 use Rattle.row_changes.specs.Differences.{AreDifferences}
 use Rattle.sound_requests.specs.Asked.{IsAsked, is_typed}

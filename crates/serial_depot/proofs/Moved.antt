@@ -6,12 +6,12 @@ use Rattle.outside_api.specs.Disk.{Files, LeavesOnly}
 use Rattle.disk_journal.specs.Images.{Committed, with_generation, with_group}
 use Rattle.disk_journal.specs.Stands.{Doubtful, nothing, group, opening, HasWithOrWithout, Stands}
 use Rattle.disk_journal.specs.declared.journal.Journal.{Journal}
-use Rattle.table_changes.specs.Changed.{AllRows, rows_of}
-use Rattle.table_store.specs.declared.tables.Tables.{Tables}
+use Rattle.depot_rows.specs.table_changes.Changed.{AllRows, rows_of}
+use Rattle.depot_rows.specs.table_store.declared.tables.Tables.{Tables}
 use Rattle.depot_runs.specs.Today.{step}
-use Rattle.depot_model.specs.Deeds.{Deed}
-use Rattle.depot_model.specs.Places.{Placed, taken}
-use Rattle.depot_model.specs.Step.{after}
+use Rattle.depot_rows.specs.depot_model.Deeds.{Deed}
+use Rattle.depot_rows.specs.depot_model.Places.{Placed, taken}
+use Rattle.depot_rows.specs.depot_model.Step.{after}
 use Rattle.depot_rows.specs.Standing.{Stand}
 use Rattle.recovery.specs.Holding.{HasAllRows}
 use Rattle.serial_depot.specs.Holding.{KeepContents, StandsWith, IsKeptSometime}

@@ -1,21 +1,21 @@
 -- What the outcome of a request promises to who gives it its place.
 use Rattle.std.proofs.Common.{◌≡◌, ℕ, Bool, true, false, List, [], ◌∷◌, Result, Ok, Err, refl, sym, ap, ◌∙◌}
 use Rattle.std.specs.Prelude.{All, if◌then◌else◌}
-use Rattle.db_records.specs.declared.change.Change.{Change}
+use Rattle.depot_rows.specs.db_records.declared.change.Change.{Change}
 use Rattle.command_core.specs.Outcomes.{HasNeeded}
-use Rattle.table_changes.specs.Changed.{AllRows}
+use Rattle.depot_rows.specs.table_changes.Changed.{AllRows}
 use Rattle.depot_runs.specs.Today.{step}
-use Rattle.depot_model.specs.Deeds.{Deed}
-use Rattle.depot_model.specs.Places.{Placed, taken, told_at}
-use Rattle.depot_model.specs.Printed.{printed}
-use Rattle.depot_model.specs.Records.{record_of}
-use Rattle.depot_model.specs.Rows.{disk_row}
-use Rattle.depot_model.specs.Step.{after}
-use Rattle.depot_model.specs.declared.order.Answer.{Answer}
-use Rattle.depot_model.specs.declared.order.Place.{Place}
-use Rattle.depot_model.specs.declared.command.Command.{Command}
-use Rattle.depot_model.specs.declared.request.Request.{Request}
-use Rattle.depot_model.specs.declared.request.WordFault.{WordFault}
+use Rattle.depot_rows.specs.depot_model.Deeds.{Deed}
+use Rattle.depot_rows.specs.depot_model.Places.{Placed, taken, told_at}
+use Rattle.depot_rows.specs.depot_model.Printed.{printed}
+use Rattle.depot_rows.specs.depot_model.Records.{record_of}
+use Rattle.depot_rows.specs.depot_model.Rows.{disk_row}
+use Rattle.depot_rows.specs.depot_model.Step.{after}
+use Rattle.depot_rows.specs.depot_model.declared.order.Answer.{Answer}
+use Rattle.depot_rows.specs.depot_model.declared.order.Place.{Place}
+use Rattle.depot_rows.specs.depot_model.declared.command.Command.{Command}
+use Rattle.depot_rows.specs.depot_model.declared.request.Request.{Request}
+use Rattle.depot_rows.specs.depot_model.declared.request.WordFault.{WordFault}
 use Rattle.depot_rows.specs.Standing.{Stand}
 use Rattle.row_changes.specs.Differences.{AreDifferences}
 use Rattle.row_texts.specs.Texts.{IsOf64Bits, is_counted}

@@ -1,14 +1,14 @@
 -- One place more.
 use Rattle.std.proofs.Common.{◌≡◌, ◌≢◌, ◌⊎◌, ℕ, ◌≤◌, ◌+◌, Bool, true, false, List, [], ◌∷◌, ◌++◌, length, take, refl, sym, ap, subst, ◌∙◌, inl, inr, arith}
 use Rattle.std.proofs.lemmas.List.{take-append-le, take_all, length-append}
-use Rattle.table_changes.specs.Changed.{AllRows}
+use Rattle.depot_rows.specs.table_changes.Changed.{AllRows}
 use Rattle.depot_runs.specs.Today.{step}
-use Rattle.depot_model.specs.Deeds.{Deed}
+use Rattle.depot_rows.specs.depot_model.Deeds.{Deed}
 use Rattle.depot_runs.specs.Kept.{IsChange, NoChange, IsKept, KeptInDoubt}
-use Rattle.depot_model.specs.Places.{Placed, deeds_of, done_at, taken}
-use Rattle.depot_model.specs.Records.{RowsDiffer, SameRows}
-use Rattle.depot_model.specs.Step.{after}
-use Rattle.db_records.specs.Key.{key_table}
+use Rattle.depot_rows.specs.depot_model.Places.{Placed, deeds_of, done_at, taken}
+use Rattle.depot_rows.specs.depot_model.Records.{RowsDiffer, SameRows}
+use Rattle.depot_rows.specs.depot_model.Step.{after}
+use Rattle.depot_rows.specs.db_records.Key.{key_table}
 use Rattle.depot_rows.specs.Standing.{Stand}
 
 pub taken-push : (d : List Deed) (places : List Placed) (p : Placed) → taken step d (places ++ p ∷ []) ≡ after (taken step d places) (done_at step (taken step d places) p)

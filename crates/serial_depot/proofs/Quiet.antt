@@ -2,7 +2,7 @@
 use Rattle.std.proofs.Common.{◌≡◌, List, [], ◌∷◌, ◌++◌, None, refl, ◌∙◌, ap}
 use Rattle.std.specs.Option.{option_to_list}
 use Rattle.std.specs.List.{AllByRecursion}
-use Rattle.depot_model.specs.declared.reply.Row.{Row}
+use Rattle.depot_rows.specs.depot_model.declared.reply.Row.{Row}
 use Rattle.reply_rows.specs.Made.{contents_of}
 
 pub no_contents : (rows : List Row) → AllByRecursion (λ row. row.content ≡ None) rows → contents_of rows ≡ []

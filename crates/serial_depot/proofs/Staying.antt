@@ -2,21 +2,21 @@
 use Rattle.std.proofs.Common.{◌≡◌, ℕ, zero, suc, ◌<◌, ◌≤◌, ◌+◌, Bool, true, false, ◌&&◌, List, [], ◌∷◌, ◌++◌, length, map, filter, Option, Some, None, refl, sym, ap, subst, ◌∙◌, arith, append_assoc, append-nil}
 use Rattle.std.specs.Prelude.{IsTrue, slice_get, flat_map, option_map, option_and_then}
 use Rattle.std.specs.List.{list_all}
-use Rattle.depot_path.specs.Bytes.{same}
-use Rattle.depot_path.specs.Path.{printed, is_path}
-use Rattle.db_records.specs.declared.key.Key.TheVariants as keys
-use Rattle.db_records.specs.declared.record.Record.{Record}
-use Rattle.depot_model.specs.Deeds.{Deed, Land, Landing, Entry, Credit}
-use Rattle.db_records.specs.declared.record.Record.TheVariants.{Rev as RevRow}
-use Rattle.db_records.specs.declared.rows.RevRecord.{RevRecord}
-use Rattle.db_records.specs.declared.table.TableId.TheVariants.{Rev}
-use Rattle.table_changes.specs.Changed.{AllRows}
-use Rattle.depot_model.specs.Records.{record_of, rev_record, unplaced, SameRows}
-use Rattle.depot_model.specs.Revisions.{Revision, revision, revisions, revision_in, entries_at}
-use Rattle.depot_model.specs.Rules.{IsSound, has_paths, entry_paths, path_or_none}
-use Rattle.depot_model.specs.Step.{after}
+use Rattle.depot_rows.specs.depot_path.Bytes.{same}
+use Rattle.depot_rows.specs.depot_path.Path.{printed, is_path}
+use Rattle.depot_rows.specs.db_records.declared.key.Key.TheVariants as keys
+use Rattle.depot_rows.specs.db_records.declared.record.Record.{Record}
+use Rattle.depot_rows.specs.depot_model.Deeds.{Deed, Land, Landing, Entry, Credit}
+use Rattle.depot_rows.specs.db_records.declared.record.Record.TheVariants.{Rev as RevRow}
+use Rattle.depot_rows.specs.db_records.declared.rows.RevRecord.{RevRecord}
+use Rattle.depot_rows.specs.db_records.declared.table.TableId.TheVariants.{Rev}
+use Rattle.depot_rows.specs.table_changes.Changed.{AllRows}
+use Rattle.depot_rows.specs.depot_model.Records.{record_of, rev_record, unplaced, SameRows}
+use Rattle.depot_rows.specs.depot_model.Revisions.{Revision, revision, revisions, revision_in, entries_at}
+use Rattle.depot_rows.specs.depot_model.Rules.{IsSound, has_paths, entry_paths, path_or_none}
+use Rattle.depot_rows.specs.depot_model.Step.{after}
 use Rattle.depot_rows.proofs.Keys.{same-is, left-true, right-true}
-use Rattle.depot_rows.proofs.Paths.{at_path-here}
+use Rattle.depot_rows.proofs.Spelled.{at_path-here}
 use Rattle.depot_rows.specs.Standing.{HasRows, row_in}
 use Rattle.serial_depot.specs.Holding.{SameContents}
 

@@ -3,23 +3,23 @@ use Rattle.std.proofs.Common.{◌≡◌, ◌≢◌, ◌⊎◌, ℕ, ◌≤◌, �
 use Rattle.std.proofs.lemmas.List.{length_push}
 use Rattle.std.specs.Prelude.{codes}
 use Rattle.archive_file.specs.Archive as archives
-use Rattle.db_records.specs.declared.key.Key.TheVariants as keys
+use Rattle.depot_rows.specs.db_records.declared.key.Key.TheVariants as keys
 use Rattle.outside_api.specs.Disk.{Files, LeavesOnly}
-use Rattle.db_records.specs.declared.change.Change.{Change}
+use Rattle.depot_rows.specs.db_records.declared.change.Change.{Change}
 use Rattle.disk_journal.specs.Images.{Committed, HasCommitted, with_generation, with_group}
 use Rattle.disk_journal.specs.Stands.{Doubtful, nothing, group, opening, HasWithOrWithout, Stands}
 use Rattle.disk_journal.specs.declared.journal.Journal.{Journal}
-use Rattle.table_changes.specs.Changed.{AllRows, changed_by, rows_of}
-use Rattle.table_store.specs.declared.tables.Tables.{Tables}
+use Rattle.depot_rows.specs.table_changes.Changed.{AllRows, changed_by, rows_of}
+use Rattle.depot_rows.specs.table_store.declared.tables.Tables.{Tables}
 use Rattle.depot_runs.specs.Today.{step}
-use Rattle.depot_model.specs.Deeds.{Deed}
+use Rattle.depot_rows.specs.depot_model.Deeds.{Deed}
 use Rattle.depot_runs.specs.Kept.{IsChange}
-use Rattle.depot_model.specs.Places.{Placed, done_at, taken}
-use Rattle.depot_model.specs.Records.{SameRows}
-use Rattle.depot_model.specs.Rules.{value_of}
-use Rattle.depot_model.specs.Step.{after}
-use Rattle.depot_model.specs.Steps.Submitting.{content_at}
-use Rattle.depot_model.specs.declared.request.Request.{Request}
+use Rattle.depot_rows.specs.depot_model.Places.{Placed, done_at, taken}
+use Rattle.depot_rows.specs.depot_model.Records.{SameRows}
+use Rattle.depot_rows.specs.depot_model.Rules.{value_of}
+use Rattle.depot_rows.specs.depot_model.Step.{after}
+use Rattle.depot_rows.specs.depot_model.Steps.Submitting.{content_at}
+use Rattle.depot_rows.specs.depot_model.declared.request.Request.{Request}
 use Rattle.depot_rows.specs.Standing.{Stand}
 use Rattle.recovery.specs.Holding.{HasAllRows}
 use Rattle.session_loop.specs.Taking.{placed_by}

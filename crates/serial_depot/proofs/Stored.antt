@@ -4,26 +4,26 @@ use Rattle.std.specs.Prelude.{OnErr, option_and_then}
 use Rattle.std.specs.List.{AllByRecursion, filter}
 use Rattle.std.proofs.lemmas.List.{take_more}
 use Rattle.outside_api.specs.Disk.{Files, NoMore}
-use Rattle.depot_path.specs.Path.{printed}
+use Rattle.depot_rows.specs.depot_path.Path.{printed}
 use Rattle.archive_file.specs.Archive.{AllHave, Has, end_of}
-use Rattle.db_records.specs.Record.{table_of}
-use Rattle.db_records.specs.Table.{table_number}
-use Rattle.db_records.specs.declared.change.Change.{Change}
-use Rattle.db_records.specs.declared.change.Op.{Op}
-use Rattle.db_records.specs.declared.change.Op.TheVariants.{Put, Replace, Remove}
-use Rattle.db_records.specs.declared.change.Spot.{Spot}
-use Rattle.db_records.specs.declared.key.Key.{Key}
-use Rattle.db_records.specs.declared.key.Key.TheVariants as keys
-use Rattle.db_records.specs.declared.record.Record.{Record}
-use Rattle.db_records.specs.declared.record.Record.TheVariants.{Rev as RevRow}
-use Rattle.db_records.specs.declared.rows.RevRecord.{RevRecord}
-use Rattle.db_records.specs.declared.table.TableId.TheVariants.{Rev}
-use Rattle.table_store.specs.Rows.{changed_once, is_above, is_at, is_below, left_by, row_at}
-use Rattle.db_records.specs.Record.{key_of}
-use Rattle.table_changes.specs.Changed.{AllRows, changed_by, changed_in}
-use Rattle.depot_model.specs.Deeds.{Deed}
-use Rattle.depot_model.specs.Revisions.{Revision, revision}
-use Rattle.depot_model.specs.Rules.{IsSound}
+use Rattle.depot_rows.specs.db_records.Record.{table_of}
+use Rattle.depot_rows.specs.db_records.Table.{table_number}
+use Rattle.depot_rows.specs.db_records.declared.change.Change.{Change}
+use Rattle.depot_rows.specs.db_records.declared.change.Op.{Op}
+use Rattle.depot_rows.specs.db_records.declared.change.Op.TheVariants.{Put, Replace, Remove}
+use Rattle.depot_rows.specs.db_records.declared.change.Spot.{Spot}
+use Rattle.depot_rows.specs.db_records.declared.key.Key.{Key}
+use Rattle.depot_rows.specs.db_records.declared.key.Key.TheVariants as keys
+use Rattle.depot_rows.specs.db_records.declared.record.Record.{Record}
+use Rattle.depot_rows.specs.db_records.declared.record.Record.TheVariants.{Rev as RevRow}
+use Rattle.depot_rows.specs.db_records.declared.rows.RevRecord.{RevRecord}
+use Rattle.depot_rows.specs.db_records.declared.table.TableId.TheVariants.{Rev}
+use Rattle.depot_rows.specs.table_store.Rows.{changed_once, is_above, is_at, is_below, left_by, row_at}
+use Rattle.depot_rows.specs.db_records.Record.{key_of}
+use Rattle.depot_rows.specs.table_changes.Changed.{AllRows, changed_by, changed_in}
+use Rattle.depot_rows.specs.depot_model.Deeds.{Deed}
+use Rattle.depot_rows.specs.depot_model.Revisions.{Revision, revision}
+use Rattle.depot_rows.specs.depot_model.Rules.{IsSound}
 use Rattle.depot_rows.specs.Standing.{Stand}
 use Rattle.recovery.specs.Holding.{spot_end, spots_end}
 use Rattle.recovery.specs.Rules.{DeletesAreUnplaced}

@@ -1,7 +1,7 @@
 -- What a place writes to the journal's disk.
 use Rattle.std.proofs.Common.{◌≡◌, ◌≢◌, ℕ, ◌+◌, ◌<◌, Bool, true, false, List, [], length, refl, sym, ap, subst, ◌∙◌}
 use Rattle.outside_api.specs.Disk.{Files}
-use Rattle.db_records.specs.declared.change.Change.{Change}
+use Rattle.depot_rows.specs.db_records.declared.change.Change.{Change}
 use Rattle.checkpoint_file.specs.Checkpoint.{IsCheckpointOf, puts_of}
 use Rattle.checkpoint_file.proofs.NextRows.{next_rows}
 use Rattle.checkpoint_file.proofs.Texts.{next_records}
@@ -10,7 +10,7 @@ use Rattle.disk_journal.specs.Stands.{Doubtful, IsPrepared, Stands, generation_o
 use Rattle.disk_journal.specs.declared.journal.Journal.{Journal}
 use Rattle.journal_groups.specs.Groups.{AreRecords, IsGroup, group_text}
 use Rattle.recovery.specs.Holding.{HasAllRows}
-use Rattle.table_changes.specs.Changed.{AllFitIn, AllRows, changed_by}
+use Rattle.depot_rows.specs.table_changes.Changed.{AllFitIn, AllRows, changed_by}
 use Rattle.serial_depot.specs.Writing.{CanWrite, IsWritingOf}
 use Rattle.serial_depot.specs.declared.writing.Writing.{Writing}
 use Rattle.serial_depot.specs.declared.writing.Writing.TheVariants.{Group, Generation}

@@ -5,3 +5,5 @@ pub mod Opening
 pub mod Running
 pub mod Storing
 pub mod Writing
+-- what stands below, for the crates above
+pub use Rattle.command_core.specs as command_core

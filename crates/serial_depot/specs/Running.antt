@@ -4,13 +4,13 @@ use Rattle.outside_api.specs.Disk.{Files}
 use Rattle.archive_file.specs.Archive as archives
 use Rattle.disk_journal.specs.Images.{Committed, with_generation, with_group}
 use Rattle.disk_journal.specs.Stands.{Doubtful, nothing, group, opening, Stands}
-use Rattle.table_changes.specs.Changed.{AllRows, rows_of}
+use Rattle.depot_rows.specs.table_changes.Changed.{AllRows, rows_of}
 use Rattle.depot_runs.specs.Today.{step}
-use Rattle.depot_model.specs.Deeds.{Deed}
+use Rattle.depot_rows.specs.depot_model.Deeds.{Deed}
 use Rattle.depot_runs.specs.Kept.{NoChange}
-use Rattle.depot_model.specs.Places.{Placed, taken}
-use Rattle.depot_model.specs.Step.{after}
-use Rattle.depot_model.specs.declared.request.Request.{Request}
+use Rattle.depot_rows.specs.depot_model.Places.{Placed, taken}
+use Rattle.depot_rows.specs.depot_model.Step.{after}
+use Rattle.depot_rows.specs.depot_model.declared.request.Request.{Request}
 use Rattle.depot_rows.specs.Standing.{Stand}
 use Rattle.recovery.specs.Holding.{HasAllRows}
 use Rattle.session_loop.specs.Taking.{placed_by}

@@ -1,12 +1,12 @@
 -- What a place writes to the disk of the journal, and what that leaves. This project's own choice.
 use Rattle.std.specs.Prelude.{◌≡◌, ◌⊎◌, ◌+◌, ◌<◌, ℕ, Bool, true, false, List, length, if◌then◌else◌}
 use Rattle.outside_api.specs.Disk.{Files}
-use Rattle.db_records.specs.declared.change.Change.{Change}
+use Rattle.depot_rows.specs.db_records.declared.change.Change.{Change}
 use Rattle.disk_journal.specs.Images.{Committed, with_generation, with_group}
 use Rattle.disk_journal.specs.Stands.{Doubtful, nothing, group, opening, IsPrepared, Stands, generation_of_journal, group_of, next_number}
 use Rattle.disk_journal.specs.declared.journal.Journal.{Journal}
 use Rattle.recovery.specs.Holding.{HasAllRows}
-use Rattle.table_changes.specs.Changed.{AllRows, changed_by}
+use Rattle.depot_rows.specs.table_changes.Changed.{AllRows, changed_by}
 use Rattle.serial_depot.specs.declared.writing.Writing.{Writing}
 use Rattle.serial_depot.specs.declared.writing.Writing.TheVariants.{Group, Generation}
 

@@ -1,9 +1,9 @@
 //! Committing the changes of one command.
 
 ghost use Rattle.std.specs.Prelude.{◌≡◌, ◌⊎◌, ◌<◌, ◌≤◌, ◌^◌, true, false, [], ◌∷◌, length, IfOk};
-ghost use Rattle.depot_model.specs.Printed.{printed};
-ghost use Rattle.depot_model.specs.Rows.{disk_row};
-ghost use Rattle.db_records.specs.declared.change.Change.{Change};
+ghost use Rattle.depot_rows.specs.depot_model.Printed.{printed};
+ghost use Rattle.depot_rows.specs.depot_model.Rows.{disk_row};
+ghost use Rattle.depot_rows.specs.db_records.declared.change.Change.{Change};
 ghost use Rattle.disk_journal.specs.Images.{Committed};
 ghost use Rattle.disk_journal.specs.Stands.{Doubtful, HasWithOrWithout, Stands, disk_of};
 ghost use Rattle.journal_groups.specs.Groups.{body_of};
@@ -12,14 +12,14 @@ ghost use Rattle.outside_api.specs.Disk.{LeavesOnly};
 ghost use Rattle.serial_depot.specs.Writing.{CanWrite, StandsBy, left_by};
 
 use crate::writing::{Writing, write};
-use db_records::Change;
-use depot_path::Text;
+use depot_rows::paths::Text;
+use depot_rows::records::Change;
+use depot_rows::tables::Tables;
 use disk_journal::Journal;
 use itoa::Buffer;
 use journal_groups::print_group;
 use outside_api::Disk;
 use std::alloc::{AllocError, Global};
-use table_store::Tables;
 
 /// The reply to the command of that number where its commit failed.
 pub(crate) fn fault_reply(alloc: Global, number: u32) -> Result<Text, AllocError>

@@ -1,11 +1,11 @@
 //! The numbers of changes that a text may say.
 
 ghost use Rattle.std.specs.Prelude.{◌≡◌, ◌≤◌, ◌↔◌, All, IsTrue};
-ghost use Rattle.db_records.specs.declared.record.Record.TheVariants as rows;
+ghost use Rattle.depot_rows.specs.db_records.declared.record.Record.TheVariants as rows;
 ghost use Rattle.record_text.specs.Grammar.{largest_wide};
 ghost use Rattle.row_texts.specs.Texts.{IsOf64Bits, is_count, is_counted as counted};
 
-use db_records::{Change, IntegedRecord, Record, ResolveRecord, RevRecord, WorkingRecord};
+use depot_rows::records::{Change, IntegedRecord, Record, ResolveRecord, RevRecord, WorkingRecord};
 
 /// Whether a text may say a number of a line, a revision or a change.
 fn is_small(number: u32) -> bool

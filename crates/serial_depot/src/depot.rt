@@ -3,9 +3,9 @@
 ghost use Rattle.std.specs.Prelude.{◌≡◌};
 
 use archive_file::Archive;
+use depot_rows::tables::Tables;
 use disk_journal::Journal;
 use outside_api::Disk;
-use table_store::Tables;
 
 /// A depot in files that one thread asks: its rows in memory, its journal and its archive.
 #[derive(Drop)]

@@ -5,8 +5,8 @@ ghost use Rattle.archive_file.specs.Archive.{HasMemoryOr, disk_of as archive_dis
 ghost use Rattle.outside_api.specs.Count.{HasCause};
 ghost use Rattle.outside_api.specs.Disk.{Files};
 ghost use Rattle.outside_api.specs.Link.{Answers, Fits};
-ghost use Rattle.depot_model.specs.Deeds.{Deed};
-ghost use Rattle.depot_model.specs.Places.{Placed};
+ghost use Rattle.depot_rows.specs.depot_model.Deeds.{Deed};
+ghost use Rattle.depot_rows.specs.depot_model.Places.{Placed};
 ghost use Rattle.disk_journal.specs.Stands.{disk_of};
 ghost use Rattle.serial_depot.specs.Fetching.{HasTexts};
 ghost use Rattle.serial_depot.specs.Running.{CanTake, HasRun};
@@ -15,8 +15,8 @@ ghost use Rattle.serial_depot.specs.Storing.{AreAt};
 use crate::depot::SerialDepot;
 use crate::storing::{are_within, read_all};
 use archive_file::ContentFault;
-use db_records::Spot;
-use depot_path::{Sequence, Text};
+use depot_rows::paths::{Sequence, Text};
+use depot_rows::records::Spot;
 use outside_api::{Disk, DiskFault, Fetched};
 use std::alloc::Global;
 

@@ -14,3 +14,6 @@ mod taking;
 mod writing;
 
 pub use depot::{Closed, SerialDepot};
+
+// What stands below, for the crates above.
+pub use command_core as commands;

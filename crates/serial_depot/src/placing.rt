@@ -3,13 +3,13 @@
 ghost use Rattle.std.specs.Prelude.{◌≡◌, ◌≢◌, ◌⊎◌, ◌≤◌, ℕ, Bool, List, [], ◌∷◌, ◌++◌, true, false, None, IfOk, IfSome, OnErr};
 ghost use Rattle.archive_file.specs.Archive.{disk_of as archive_disk_of};
 ghost use Rattle.outside_api.specs.Count.{HasRisen};
-ghost use Rattle.db_records.specs.declared.change.Change.{Change as AnyChange};
-ghost use Rattle.table_changes.specs.Changed.{AllFitIn, changed_by, rows_of};
+ghost use Rattle.depot_rows.specs.db_records.declared.change.Change.{Change as AnyChange};
+ghost use Rattle.depot_rows.specs.table_changes.Changed.{AllFitIn, changed_by, rows_of};
 ghost use Rattle.depot_runs.specs.Today.{step};
-ghost use Rattle.depot_model.specs.Deeds.{Deed};
-ghost use Rattle.depot_model.specs.Places.{Placed, taken};
-ghost use Rattle.depot_model.specs.Step.{after};
-ghost use Rattle.depot_model.specs.declared.request.Request.{Request};
+ghost use Rattle.depot_rows.specs.depot_model.Deeds.{Deed};
+ghost use Rattle.depot_rows.specs.depot_model.Places.{Placed, taken};
+ghost use Rattle.depot_rows.specs.depot_model.Step.{after};
+ghost use Rattle.depot_rows.specs.depot_model.declared.request.Request.{Request};
 ghost use Rattle.disk_journal.specs.Stands.{disk_of, generation_of_journal, next_number};
 ghost use Rattle.session_loop.specs.Taking.{placed_by, with_place};
 ghost use Rattle.stored_contents.specs.Placed.{StandAfter};
@@ -21,13 +21,13 @@ use crate::commit::{commit, measure};
 use crate::depot::SerialDepot;
 use crate::storing::store_all;
 use crate::writing::{Writing, prepare};
-use db_records::{Change, Spot};
-use depot_model::{Answer, Place};
-use depot_path::Text;
+use depot_rows::changes::change_tables;
+use depot_rows::model::{Answer, Place};
+use depot_rows::paths::Text;
+use depot_rows::records::{Change, Spot};
+use depot_rows::tables::Tables;
 use outside_api::{Disk, DiskFault};
 use std::alloc::{AllocError, Global};
-use table_changes::change_tables;
-use table_store::Tables;
 
 /// The answer at a fault place.
 pub(crate) fn fault_answer(place: Place, reply: Text) -> Answer

@@ -7,8 +7,8 @@ ghost use Rattle.outside_api.specs.Disk.{Files, NoMore, Same, StillTells};
 ghost use Rattle.serial_depot.specs.Storing.{AllReach, AllStored, AreAt, KeepsBelow, stores_end};
 
 use archive_file::{Archive, ContentFault};
-use db_records::Spot;
-use depot_path::{Sequence, Text};
+use depot_rows::paths::{Sequence, Text};
+use depot_rows::records::Spot;
 use outside_api::{Disk, DiskFault};
 use std::alloc::Global;
 

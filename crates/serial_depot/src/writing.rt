@@ -6,17 +6,17 @@ ghost use Rattle.disk_journal.specs.Stands.{Doubtful, nothing, opening, HasWithO
 ghost use Rattle.journal_groups.specs.Groups.{IsGroup};
 ghost use Rattle.outside_api.specs.Count.{HasCause, HasRisen};
 ghost use Rattle.outside_api.specs.Disk.{LeavesOnly};
-ghost use Rattle.table_changes.specs.Changed.{AllFitIn, AllRows, changed_by, rows_of};
+ghost use Rattle.depot_rows.specs.table_changes.Changed.{AllFitIn, AllRows, changed_by, rows_of};
 ghost use Rattle.serial_depot.specs.Writing.{CanWrite, IsLeft, IsWritingOf, StandsBy, left_by};
 
 use checkpoint_file::{print_generation, write_generation};
-use db_records::Change;
-use depot_path::Text;
+use depot_rows::paths::Text;
+use depot_rows::records::Change;
+use depot_rows::tables::Tables;
 use disk_journal::{Journal, Prepared};
 use journal_runs::commit_settled;
 use outside_api::{Disk, DiskFault};
 use std::alloc::{AllocError, Global};
-use table_store::Tables;
 
 /// The generation behind which there is none.
 const LAST: u32 = 4095;

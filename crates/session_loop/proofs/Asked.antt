@@ -4,7 +4,7 @@ use Rattle.std.specs.Prelude.{◌&&◌, map, is_some, if◌then◌else◌}
 use Rattle.std.specs.List.{list_all}
 use Rattle.std.proofs.lemmas.List.Elements.{All-nil, All-cons}
 use Rattle.indexmap.specs.IndexMap.{insert_entry, shift_remove_entry}
-use Rattle.depot_path.specs.Bytes.{same}
+use Rattle.depot_model.specs.depot_path.Bytes.{same}
 use Rattle.depot_model.specs.Filter.{filter_of}
 use Rattle.depot_model.specs.declared.filter.FilterRule.{FilterRule}
 use Rattle.depot_model.specs.declared.request.Asked.{Asked}

@@ -4,8 +4,8 @@
 use Rattle.std.specs.Prelude.{ℕ, Bool, true, false, List, [], ◌∷◌, map, Option, Some, None, is_some, Result, Ok, Err, IfOk, IsTrue}
 use Rattle.std.specs.List.{All, list_all}
 use Rattle.indexmap.specs.IndexMap.{insert_entry, shift_remove_entry}
-use Rattle.depot_path.specs.Bytes.{same}
-use Rattle.depot_path.specs.declared.fault.PathFault.{PathFault}
+use Rattle.depot_model.specs.depot_path.Bytes.{same}
+use Rattle.depot_model.specs.depot_path.declared.fault.PathFault.{PathFault}
 use Rattle.depot_model.specs.Filter.{filter_of}
 use Rattle.depot_model.specs.declared.command.Command.{Command}
 use Rattle.depot_model.specs.declared.command.Command.TheVariants.{SubmitChange, SubmitDefault, Shelve}

@@ -9,8 +9,8 @@ ghost use Rattle.depot_model.specs.Filter.{filter_of as filter_spec};
 ghost use Rattle.session_loop.specs.Reading.{IsReadSession};
 
 use command_words::read_command;
+use depot_model::paths::{ClientPath, PathFault, Sequence, Text};
 use depot_model::{Asked, Block, Caller, Command, Content, Filter, Session, WordFault};
-use depot_path::{ClientPath, PathFault, Sequence, Text};
 use indexmap::IndexMap;
 use outside_api::Source;
 use std::alloc::{AllocError, Global};

@@ -11,8 +11,8 @@ ghost use Rattle.session_loop.specs.Served.{AreCaused, IsTaken, IsAnswered, IsSe
 
 use crate::requests::request;
 use crate::taker::Taker;
+use depot_model::paths::Text;
 use depot_model::{Answer, Asked, Caller, Place, Session};
-use depot_path::Text;
 use outside_api::{Clock, Gate, Sink};
 use std::alloc::{AllocError, Global};
 use wire_text::{GiveFault, give_all, give_memory};

@@ -6,17 +6,17 @@ use Rattle.std.proofs.lemmas.Bool.{lt-ltb, ltb-true}
 use Rattle.std.proofs.lemmas.Option.{get_or_from_slice_get, slice_get-map, slice_get_cases}
 use Rattle.std.proofs.lemmas.List.{get_or_past}
 use Rattle.outside_api.specs.Disk.{Files}
-use Rattle.depot_model.specs.Deeds.{Deed}
-use Rattle.depot_model.specs.declared.order.Place.{Place}
-use Rattle.depot_model.specs.declared.request.Request.{Request}
-use Rattle.depot_model.specs.declared.request.Session.{Session}
+use Rattle.depot_rows.specs.depot_model.Deeds.{Deed}
+use Rattle.depot_rows.specs.depot_model.declared.order.Place.{Place}
+use Rattle.depot_rows.specs.depot_model.declared.request.Request.{Request}
+use Rattle.depot_rows.specs.depot_model.declared.request.Session.{Session}
 use Rattle.depot_runs.specs.Run.{placed}
 use Rattle.lock_core.specs.Drawing.{has_other}
 use Rattle.lock_core.specs.declared.machine.LockCore.{LockCore}
 use Rattle.lock_machine.specs.Machine.{Fault, State}
 use Rattle.lock_machine.proofs.Places.{set_here, some_is}
-use Rattle.serial_depot.specs.Running.{HasRun}
-use Rattle.serial_depot.specs.declared.depot.SerialDepot.{SerialDepot}
+use Rattle.replica_turns.specs.serial_depot.Running.{HasRun}
+use Rattle.replica_turns.specs.serial_depot.declared.depot.SerialDepot.{SerialDepot}
 use Rattle.session_loop.specs.Asking.{replica_commands}
 use Rattle.session_loop.specs.Requests.{AreRequestsOfAll}
 use Rattle.session_loop.specs.declared.reading.ReplicaScript.{ReplicaScript}
@@ -31,8 +31,8 @@ use Rattle.session_turns.specs.Replicas.{HasBeenAt}
 use Rattle.session_turns.specs.Running.{left_after}
 use Rattle.session_turns.specs.Taking.{Advances, IsRunning, TakesTurn}
 use Rattle.session_turns.specs.declared.replicas.Replicas.{Replicas}
-use Rattle.table_changes.specs.Changed.{rows_of}
-use Rattle.table_store.specs.declared.tables.Tables.{Tables}
+use Rattle.depot_rows.specs.table_changes.Changed.{rows_of}
+use Rattle.depot_rows.specs.table_store.declared.tables.Tables.{Tables}
 
 -- a party without a session asks nothing
 none_asked : (may_give : ℕ → Type 0) (party : ℕ) (sessions : List (Option Session)) (requests : List (List Request)) → AreRequestsOfAll may_give party sessions requests → (i : ℕ) (own : List Request)

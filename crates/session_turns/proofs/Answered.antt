@@ -7,15 +7,15 @@ use Rattle.std.proofs.lemmas.List.Elements.{recursion_from_All}
 use Rattle.std.proofs.lemmas.List.FromFn.{get_or-range_with_len, length-range_with_len}
 use Rattle.std.proofs.lemmas.Option.{get_or_from_slice_get, slice_get-get_or, slice_get-map, slice_get_within}
 use Rattle.outside_api.specs.Disk.{Files}
-use Rattle.depot_model.specs.Deeds.{Deed}
-use Rattle.depot_model.specs.declared.order.Place.{Place}
-use Rattle.depot_model.specs.declared.request.Request.{Request}
-use Rattle.depot_model.specs.declared.request.Session.{Session}
+use Rattle.depot_rows.specs.depot_model.Deeds.{Deed}
+use Rattle.depot_rows.specs.depot_model.declared.order.Place.{Place}
+use Rattle.depot_rows.specs.depot_model.declared.request.Request.{Request}
+use Rattle.depot_rows.specs.depot_model.declared.request.Session.{Session}
 use Rattle.lock_core.specs.Drawing.{has_other, may_go_on}
 use Rattle.lock_core.specs.declared.machine.LockCore.{LockCore}
 use Rattle.lock_machine.specs.Machine.{is_enabled}
 use Rattle.lock_machine.proofs.Places.{neither, some_is}
-use Rattle.serial_depot.specs.declared.depot.SerialDepot.{SerialDepot}
+use Rattle.replica_turns.specs.serial_depot.declared.depot.SerialDepot.{SerialDepot}
 use Rattle.session_loop.specs.Asking.{AreWellFormed, replica_commands}
 use Rattle.session_loop.specs.declared.reading.ReplicaScript.{ReplicaScript}
 use Rattle.session_loop.specs.declared.session.SessionRun.{SessionRun}

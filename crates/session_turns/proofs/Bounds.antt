@@ -4,7 +4,7 @@ use Rattle.std.specs.Prelude.{nat_lt, slice_get, option_map}
 use Rattle.std.proofs.lemmas.Bool.{ltb-false}
 use Rattle.std.proofs.lemmas.List.{length-map}
 use Rattle.std.proofs.lemmas.Option.{slice_get-map}
-use Rattle.depot_model.specs.declared.request.Session.{Session}
+use Rattle.depot_rows.specs.depot_model.declared.request.Session.{Session}
 use Rattle.lock_machine.proofs.Places.{some_is}
 use Rattle.session_loop.specs.Asking.{commands_of, replica_commands}
 use Rattle.session_loop.specs.declared.reading.ReplicaScript.{ReplicaScript}

@@ -6,15 +6,15 @@ use Rattle.std.proofs.lemmas.Bool.{lt-ltb}
 use Rattle.std.proofs.lemmas.List.{map-set}
 use Rattle.std.proofs.lemmas.Option.{slice_get-map, slice_get_within}
 use Rattle.outside_api.specs.Disk.{Files}
-use Rattle.command_core.specs.declared.outcome.Outcome.{Outcome}
-use Rattle.depot_model.specs.Deeds.{Deed}
-use Rattle.depot_model.specs.Places.{Placed, taken, told_at}
-use Rattle.depot_model.specs.Printed.{printed}
-use Rattle.depot_model.specs.Tables.{needs_of}
-use Rattle.depot_model.specs.declared.order.Answer.{Answer}
-use Rattle.depot_model.specs.declared.order.Place.{Place}
-use Rattle.depot_model.specs.declared.request.Request.{Request}
-use Rattle.depot_model.specs.declared.request.Session.{Session}
+use Rattle.replica_turns.specs.command_core.declared.outcome.Outcome.{Outcome}
+use Rattle.depot_rows.specs.depot_model.Deeds.{Deed}
+use Rattle.depot_rows.specs.depot_model.Places.{Placed, taken, told_at}
+use Rattle.depot_rows.specs.depot_model.Printed.{printed}
+use Rattle.depot_rows.specs.depot_model.Tables.{needs_of}
+use Rattle.depot_rows.specs.depot_model.declared.order.Answer.{Answer}
+use Rattle.depot_rows.specs.depot_model.declared.order.Place.{Place}
+use Rattle.depot_rows.specs.depot_model.declared.request.Request.{Request}
+use Rattle.depot_rows.specs.depot_model.declared.request.Session.{Session}
 use Rattle.depot_runs.specs.Run.{placed}
 use Rattle.depot_runs.specs.Today.{step}
 use Rattle.lock_core.specs.Core.{IsAt, IsCommit, IsReady, Shows}
@@ -23,9 +23,9 @@ use Rattle.lock_core.specs.declared.machine.LockCore.{LockCore}
 use Rattle.lock_machine.specs.Machine.{Commit, Finish, Party, State, Work, event, is_enabled}
 use Rattle.lock_machine.specs.Machine as machine
 use Rattle.lock_machine.proofs.Places.{set_here, set_there, one_or_apart, some_is}
-use Rattle.serial_depot.specs.Committing.{AreRowsAfter, IsOutcomeOf}
-use Rattle.serial_depot.specs.Running.{HasRun}
-use Rattle.serial_depot.specs.declared.depot.SerialDepot.{SerialDepot}
+use Rattle.replica_turns.specs.serial_depot.Committing.{AreRowsAfter, IsOutcomeOf}
+use Rattle.replica_turns.specs.serial_depot.Running.{HasRun}
+use Rattle.replica_turns.specs.serial_depot.declared.depot.SerialDepot.{SerialDepot}
 use Rattle.session_loop.specs.Taking.{Answers, IsProper, place_by, placed_by, with_place}
 use Rattle.session_loop.specs.declared.reading.ReplicaScript.{ReplicaScript}
 use Rattle.session_loop.specs.declared.session.SessionRun.{SessionRun}
@@ -37,7 +37,7 @@ use Rattle.session_turns.specs.Running.{Got, IsUnderWay}
 use Rattle.session_turns.specs.Answering.{IsAnsweredAt, has_more_at, reply_of}
 use Rattle.session_turns.specs.Served.{session_counts}
 use Rattle.session_turns.specs.Taking.{IsRunning, TakesTurn, finish_for}
-use Rattle.table_changes.specs.Changed.{AllRows, changed_by, rows_of}
+use Rattle.depot_rows.specs.table_changes.Changed.{AllRows, changed_by, rows_of}
 
 -- an outcome that was found by the tables of the core is one by those of the depot
 pub outcome_of : {D : Type 0} (start : List Deed) (s : State) (core : LockCore) (i : ℕ) (request : Request) (outcome : Outcome) (depot : SerialDepot D) → IsReady start s core i request outcome → rows_of core.tables ≡ rows_of depot.tables

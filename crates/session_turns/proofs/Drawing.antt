@@ -8,8 +8,8 @@ use Rattle.std.proofs.lemmas.List.Sums.{sum_by-cons, sum_by-set}
 use Rattle.std.proofs.lemmas.List.Elements.{recursion_from_All}
 use Rattle.std.proofs.lemmas.Nat.{mod_below}
 use Rattle.std.proofs.lemmas.Option.{slice_get-get_or, slice_get_cases}
-use Rattle.depot_model.specs.Tables.{Need, needs_of}
-use Rattle.depot_model.specs.declared.request.Request.{Request}
+use Rattle.depot_rows.specs.depot_model.Tables.{Need, needs_of}
+use Rattle.depot_rows.specs.depot_model.declared.request.Request.{Request}
 use Rattle.lock_core.specs.Drawing.{has_other, may_go_on}
 use Rattle.lock_machine.specs.Draws.{chosen}
 use Rattle.lock_machine.specs.Machine.{Fault, Finish, Party, State, event, is_enabled, journal, may_party, stops}

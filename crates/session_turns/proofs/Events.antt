@@ -3,11 +3,11 @@ use Rattle.std.proofs.Common.{◌≡◌, ℕ, Bool, true, false, cond, List, [],
 use Rattle.std.specs.Prelude.{slice_get}
 use Rattle.std.specs.List.{list_any}
 use Rattle.depot_runs.specs.Today.{step}
-use Rattle.depot_model.specs.Deeds.{Deed}
-use Rattle.depot_model.specs.Places.{done_at}
-use Rattle.depot_model.specs.Step.{after}
-use Rattle.depot_model.specs.Tables.{Need, needs_of}
-use Rattle.depot_model.specs.declared.request.Request.{Request}
+use Rattle.depot_rows.specs.depot_model.Deeds.{Deed}
+use Rattle.depot_rows.specs.depot_model.Places.{done_at}
+use Rattle.depot_rows.specs.depot_model.Step.{after}
+use Rattle.depot_rows.specs.depot_model.Tables.{Need, needs_of}
+use Rattle.depot_rows.specs.depot_model.declared.request.Request.{Request}
 use Rattle.lock_machine.specs.Machine.{Seen, Work, Party, Commit, State, Finish, Done, is_stale, worked, moved, may_go, may_party, is_enabled, placed, added, added_at, acted, acts, event, stops, stopped}
 use Rattle.lock_machine.specs.Runs.{AreChanged, IsTold, depot_after}
 use Rattle.lock_machine.specs.declared.stage.Stage.{Stage}

@@ -9,7 +9,7 @@ use Rattle.lock_machine.proofs.Places.{some_is}
 use Rattle.replica_turns.proofs.Turns.{begins}
 use Rattle.replica_turns.specs.Going.{IsFresh}
 use Rattle.replica_turns.specs.declared.party.ReplicaParty.{ReplicaParty}
-use Rattle.serial_depot.specs.declared.depot.SerialDepot.{SerialDepot}
+use Rattle.replica_turns.specs.serial_depot.declared.depot.SerialDepot.{SerialDepot}
 use Rattle.session_loop.specs.Asking.{AreWellFormed, replica_commands}
 use Rattle.session_loop.specs.declared.reading.ReplicaScript.{ReplicaScript}
 use Rattle.session_loop.specs.declared.session.SessionRun.{SessionRun}

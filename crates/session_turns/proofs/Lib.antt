@@ -21,3 +21,5 @@ pub mod Fresh
 pub mod Answered
 pub mod Losing
 pub mod Stepping
+-- what stands below, for the crates above
+pub use Rattle.replica_turns.proofs.serial_depot as serial_depot

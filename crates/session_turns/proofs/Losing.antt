@@ -1,6 +1,6 @@
 -- A replica that was answered that a disk failed, from turn to turn.
 use Rattle.std.proofs.Common.{◌≡◌, ℕ, Bool, true, false, List, inl, inr, sym, ◌∙◌, arith}
-use Rattle.depot_model.specs.declared.order.Place.{Place}
+use Rattle.depot_rows.specs.depot_model.declared.order.Place.{Place}
 use Rattle.session_loop.specs.Served.{AreCaused}
 use Rattle.session_turns.specs.Going.{HasLost}
 use Rattle.session_turns.specs.Replicas.{OneHasRisen}

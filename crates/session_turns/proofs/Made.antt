@@ -2,21 +2,21 @@
 use Rattle.std.proofs.Common.{◌≡◌, ℕ, Bool, true, List, [], ◌∷◌, ◌++◌, Option, Result, Ok, Err, length, map, refl, sym, ◌∙◌, append-nil}
 use Rattle.std.specs.Prelude.{IfOk, OnErr, slice_get}
 use Rattle.outside_api.specs.Disk.{Files}
-use Rattle.command_core.specs.declared.outcome.Outcome.{Outcome}
-use Rattle.depot_model.specs.Deeds.{Deed}
-use Rattle.depot_model.specs.Places.{Placed}
-use Rattle.depot_model.specs.declared.order.Answer.{Answer}
-use Rattle.depot_model.specs.declared.order.Place.{Place}
-use Rattle.depot_model.specs.declared.request.Request.{Request}
-use Rattle.depot_model.specs.declared.request.Session.{Session}
+use Rattle.replica_turns.specs.command_core.declared.outcome.Outcome.{Outcome}
+use Rattle.depot_rows.specs.depot_model.Deeds.{Deed}
+use Rattle.depot_rows.specs.depot_model.Places.{Placed}
+use Rattle.depot_rows.specs.depot_model.declared.order.Answer.{Answer}
+use Rattle.depot_rows.specs.depot_model.declared.order.Place.{Place}
+use Rattle.depot_rows.specs.depot_model.declared.request.Request.{Request}
+use Rattle.depot_rows.specs.depot_model.declared.request.Session.{Session}
 use Rattle.depot_runs.specs.Run.{placed}
 use Rattle.lock_core.specs.Core.{IsReady, Shows}
 use Rattle.lock_core.specs.Finished.{Finishes}
 use Rattle.lock_core.specs.declared.machine.LockCore.{LockCore}
 use Rattle.lock_machine.specs.Machine.{State}
-use Rattle.serial_depot.specs.Committing.{AreRowsAfter}
-use Rattle.serial_depot.specs.Running.{HasRun}
-use Rattle.serial_depot.specs.declared.depot.SerialDepot.{SerialDepot}
+use Rattle.replica_turns.specs.serial_depot.Committing.{AreRowsAfter}
+use Rattle.replica_turns.specs.serial_depot.Running.{HasRun}
+use Rattle.replica_turns.specs.serial_depot.declared.depot.SerialDepot.{SerialDepot}
 use Rattle.session_loop.specs.Taking.{Answers, IsProper, with_place}
 use Rattle.session_loop.specs.declared.reading.ReplicaScript.{ReplicaScript}
 use Rattle.session_loop.specs.declared.session.SessionRun.{SessionRun}
@@ -24,7 +24,7 @@ use Rattle.session_turns.proofs.Committing.{answered, committed_placed, committe
 use Rattle.session_turns.specs.Answering.{IsAnsweredAt, has_more_at, reply_of}
 use Rattle.session_turns.specs.Drawn.{ended}
 use Rattle.session_turns.specs.Taking.{IsAtHand, IsRunning, TakesTurn, finish_for}
-use Rattle.table_changes.specs.Changed.{rows_of}
+use Rattle.depot_rows.specs.table_changes.Changed.{rows_of}
 
 -- the places of an order stay, and at most one comes
 pub grown_by : {E : Type 0} (order order' : List Place) (answer : Result Answer E) → IfOk answer (λ (a : Answer). order' ≡ order ++ a.place ∷ []) → OnErr answer (order' ≡ order) → (more : List Place) × (order' ≡ order ++ more)

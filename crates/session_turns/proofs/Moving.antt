@@ -2,23 +2,23 @@
 use Rattle.std.proofs.Common.{◌≡◌, ℕ, true, false, List, Option, map, sym, ap, subst, ◌∙◌}
 use Rattle.std.specs.Option.{IsSomeAnd}
 use Rattle.outside_api.specs.Disk.{Files}
-use Rattle.depot_model.specs.Deeds.{Deed}
-use Rattle.depot_model.specs.declared.order.Place.{Place}
-use Rattle.depot_model.specs.declared.request.Request.{Request}
-use Rattle.depot_model.specs.declared.request.Session.{Session}
+use Rattle.depot_rows.specs.depot_model.Deeds.{Deed}
+use Rattle.depot_rows.specs.depot_model.declared.order.Place.{Place}
+use Rattle.depot_rows.specs.depot_model.declared.request.Request.{Request}
+use Rattle.depot_rows.specs.depot_model.declared.request.Session.{Session}
 use Rattle.lock_core.specs.Core.{IsTurn, Shows}
 use Rattle.lock_core.specs.declared.machine.LockCore.{LockCore}
 use Rattle.lock_core.specs.declared.turn.Turn.TheVariants.{Idle, Moved}
 use Rattle.lock_machine.specs.Machine.{NoMemory, State, is_enabled}
-use Rattle.serial_depot.specs.declared.depot.SerialDepot.{SerialDepot}
+use Rattle.replica_turns.specs.serial_depot.declared.depot.SerialDepot.{SerialDepot}
 use Rattle.session_loop.specs.declared.reading.ReplicaScript.{ReplicaScript}
 use Rattle.session_loop.specs.declared.session.SessionRun.{SessionRun}
 use Rattle.session_turns.proofs.Drawing.{found_at}
 use Rattle.session_turns.proofs.Events.{never_judged}
 use Rattle.session_turns.proofs.Turning.{quiet_more}
 use Rattle.session_turns.specs.Taking.{IsRunning, TakesTurn}
-use Rattle.table_changes.specs.Changed.{rows_of}
-use Rattle.table_store.specs.declared.tables.Tables.{Tables}
+use Rattle.depot_rows.specs.table_changes.Changed.{rows_of}
+use Rattle.depot_rows.specs.table_store.declared.tables.Tables.{Tables}
 
 module _ {D K : Type 0} (seen may_leave : D → Files → Type 0) (moment : D → ℕ) (left_since : D → ℕ → Files → Type 0) (given : K → Option (List ℕ)) (may_give : ℕ → Type 0) (sessions : List (Option Session)) (scripts : List (Option ReplicaScript)) (since : ℕ) (start : List Deed)
     (requests : List (List Request)) (before : List (Option (List ℕ))) (s : State) (core : LockCore) (runs : List SessionRun) (sinks : List K) (depot : SerialDepot D) (order : List Place)

@@ -7,13 +7,13 @@ use Rattle.std.proofs.lemmas.List.{length-set}
 use Rattle.std.proofs.lemmas.List.Elements.{All-push, recursion_from_All}
 use Rattle.std.proofs.lemmas.List.Quantifiers.{all_pairs_push}
 use Rattle.outside_api.specs.Told.{extended}
-use Rattle.depot_model.specs.Deeds.{Deed}
-use Rattle.depot_model.specs.Order.{IsOrder, IsPlaceOf, Rises}
-use Rattle.depot_model.specs.Printed.{printed}
-use Rattle.depot_model.specs.Rows.{memory_row}
-use Rattle.depot_model.specs.declared.order.Place.{Place}
-use Rattle.depot_model.specs.declared.reply.Row.{Row}
-use Rattle.depot_model.specs.declared.request.Session.{Session}
+use Rattle.depot_rows.specs.depot_model.Deeds.{Deed}
+use Rattle.depot_rows.specs.depot_model.Order.{IsOrder, IsPlaceOf, Rises}
+use Rattle.depot_rows.specs.depot_model.Printed.{printed}
+use Rattle.depot_rows.specs.depot_model.Rows.{memory_row}
+use Rattle.depot_rows.specs.depot_model.declared.order.Place.{Place}
+use Rattle.depot_rows.specs.depot_model.declared.reply.Row.{Row}
+use Rattle.depot_rows.specs.depot_model.declared.request.Session.{Session}
 use Rattle.depot_runs.specs.Run.{is_place_of, output_of, outputs, rows_at, run}
 use Rattle.lock_machine.proofs.Places.{one_or_apart, set_here}
 use Rattle.session_loop.proofs.Orders.{IsUnplaced, outputs-other, reply_to-last, reply_to-other, reply_to-unplaced}

@@ -6,14 +6,14 @@ use Rattle.std.proofs.lemmas.List.{length-map}
 use Rattle.std.proofs.lemmas.List.Elements.{recursion_from_All}
 use Rattle.std.proofs.lemmas.Option.{slice_get-map}
 use Rattle.command_words.specs.WellFormed.{IsWellFormed}
-use Rattle.depot_model.specs.Deeds.{Deed}
-use Rattle.depot_model.specs.WellFormed.{asks_rightly, is_command}
-use Rattle.depot_model.specs.declared.command.Command.{Command}
-use Rattle.depot_model.specs.declared.request.Asked.{Asked}
-use Rattle.depot_model.specs.declared.request.Caller.{Caller}
-use Rattle.depot_model.specs.declared.request.Request.{Request}
-use Rattle.depot_model.specs.declared.request.Session.{Session}
-use Rattle.depot_model.specs.declared.request.WordFault.{WordFault}
+use Rattle.depot_rows.specs.depot_model.Deeds.{Deed}
+use Rattle.depot_rows.specs.depot_model.WellFormed.{asks_rightly, is_command}
+use Rattle.depot_rows.specs.depot_model.declared.command.Command.{Command}
+use Rattle.depot_rows.specs.depot_model.declared.request.Asked.{Asked}
+use Rattle.depot_rows.specs.depot_model.declared.request.Caller.{Caller}
+use Rattle.depot_rows.specs.depot_model.declared.request.Request.{Request}
+use Rattle.depot_rows.specs.depot_model.declared.request.Session.{Session}
+use Rattle.depot_rows.specs.depot_model.declared.request.WordFault.{WordFault}
 use Rattle.lock_core.specs.Core.{AllProper, AllProperIn}
 use Rattle.lock_machine.specs.Proper as machine
 use Rattle.lock_machine.specs.Runs.{beginning, idle}

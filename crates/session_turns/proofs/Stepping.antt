@@ -5,7 +5,7 @@ use Rattle.outside_api.specs.Disk.{Files}
 use Rattle.replica_turns.specs.Going.{IsTurned, is_lost, reply_text}
 use Rattle.replica_turns.specs.declared.party.Answered.{Answered}
 use Rattle.replica_turns.specs.declared.party.ReplicaParty.{ReplicaParty}
-use Rattle.serial_depot.specs.declared.depot.SerialDepot.{SerialDepot}
+use Rattle.replica_turns.specs.serial_depot.declared.depot.SerialDepot.{SerialDepot}
 use Rattle.session_turns.specs.Answering.{text_of}
 use Rattle.session_turns.specs.Going.{IsStepped}
 use Rattle.session_turns.specs.declared.replicas.Replicas.{Replicas}

@@ -2,14 +2,14 @@
 use Rattle.std.proofs.Common.{◌≡◌, ◌≢◌, ◌⊎◌, ℕ, suc, ◌+◌, Bool, true, false, cond, List, [], ◌∷◌, ◌++◌, length, map, drop, set, Option, Some, None, refl, sym, ap, subst, ◌∙◌, inl, inr}
 use Rattle.std.specs.Prelude.{slice_get}
 use Rattle.std.proofs.lemmas.List.{length-set, map-append, map_push}
-use Rattle.depot_model.specs.Deeds.{Deed}
-use Rattle.depot_model.specs.Places.{Placed, taken, told_at}
-use Rattle.depot_model.specs.Printed.{printed}
-use Rattle.depot_model.specs.Rows.{memory_row}
-use Rattle.depot_model.specs.Tables.{needs_of}
-use Rattle.depot_model.specs.declared.order.Place.{Place}
-use Rattle.depot_model.specs.declared.request.Request.{Request}
-use Rattle.depot_model.specs.declared.request.Session.{Session}
+use Rattle.depot_rows.specs.depot_model.Deeds.{Deed}
+use Rattle.depot_rows.specs.depot_model.Places.{Placed, taken, told_at}
+use Rattle.depot_rows.specs.depot_model.Printed.{printed}
+use Rattle.depot_rows.specs.depot_model.Rows.{memory_row}
+use Rattle.depot_rows.specs.depot_model.Tables.{needs_of}
+use Rattle.depot_rows.specs.depot_model.declared.order.Place.{Place}
+use Rattle.depot_rows.specs.depot_model.declared.request.Request.{Request}
+use Rattle.depot_rows.specs.depot_model.declared.request.Session.{Session}
 use Rattle.depot_runs.specs.Run.{placed}
 use Rattle.depot_runs.specs.Today.{step}
 use Rattle.lock_machine.specs.Machine.{Commit, Finish, NoMemory, Party, State, Work, event, is_enabled, stopped}

@@ -5,13 +5,13 @@ use Rattle.std.specs.Option.{IsSomeAnd}
 use Rattle.std.proofs.lemmas.Bool.{lt-ltb, ltb-false, ltb-true}
 use Rattle.std.proofs.lemmas.List.{length-set, map-set}
 use Rattle.std.proofs.lemmas.Option.{slice_get-map, slice_get_within}
-use Rattle.depot_model.specs.Deeds.{Deed}
-use Rattle.depot_model.specs.Order.{IsOrder}
-use Rattle.depot_model.specs.Printed.{printed}
-use Rattle.depot_model.specs.Rows.{memory_row}
-use Rattle.depot_model.specs.declared.order.Answer.{Answer}
-use Rattle.depot_model.specs.declared.order.Place.{Place}
-use Rattle.depot_model.specs.declared.request.Session.{Session}
+use Rattle.depot_rows.specs.depot_model.Deeds.{Deed}
+use Rattle.depot_rows.specs.depot_model.Order.{IsOrder}
+use Rattle.depot_rows.specs.depot_model.Printed.{printed}
+use Rattle.depot_rows.specs.depot_model.Rows.{memory_row}
+use Rattle.depot_rows.specs.depot_model.declared.order.Answer.{Answer}
+use Rattle.depot_rows.specs.depot_model.declared.order.Place.{Place}
+use Rattle.depot_rows.specs.depot_model.declared.request.Session.{Session}
 use Rattle.lock_machine.proofs.Places.{one_or_apart, set_here, set_there, some_is}
 use Rattle.session_loop.specs.declared.reading.ReplicaScript.{ReplicaScript}
 use Rattle.session_loop.specs.declared.session.SessionRun.{SessionRun}

@@ -1,11 +1,11 @@
 -- The turns that the numbers after a seed draw, and the order to which they lead. That a party whose sink failed takes no further command, and that the turns
 -- of replicas are drawn with those of the sessions, is this project's own choice.
 use Rattle.std.specs.Prelude.{◌≡◌, ◌-◌, ℕ, Bool, true, List, [], ◌∷◌, length, map, get_or, slice_get, slice_set, All, IsSomeAnd, Option, Some, if◌then◌else◌}
-use Rattle.depot_model.specs.Deeds.{Deed}
-use Rattle.depot_model.specs.Tables.{needs_of}
-use Rattle.depot_model.specs.declared.order.Place.{Place}
-use Rattle.depot_model.specs.declared.request.Request.{Request}
-use Rattle.depot_model.specs.declared.request.Session.{Session}
+use Rattle.depot_rows.specs.depot_model.Deeds.{Deed}
+use Rattle.depot_rows.specs.depot_model.Tables.{needs_of}
+use Rattle.depot_rows.specs.depot_model.declared.order.Place.{Place}
+use Rattle.depot_rows.specs.depot_model.declared.request.Request.{Request}
+use Rattle.depot_rows.specs.depot_model.declared.request.Session.{Session}
 use Rattle.depot_runs.specs.Run.{placed}
 use Rattle.lock_core.specs.Drawing.{going_parties, has_other}
 use Rattle.lock_machine.specs.Draws.{chosen}

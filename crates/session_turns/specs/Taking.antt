@@ -1,27 +1,27 @@
 -- The machine, the depot in files and the sinks between two turns, and what a turn does. This project's own choice.
 use Rattle.std.specs.Prelude.{◌≡◌, ℕ, Bool, List, [], map, All, Option, Result, Ok, Err, if◌then◌else◌}
 use Rattle.outside_api.specs.Disk.{Files}
-use Rattle.command_core.specs.declared.outcome.Outcome.{Outcome}
-use Rattle.depot_model.specs.Deeds.{Deed}
-use Rattle.depot_model.specs.declared.order.Answer.{Answer}
-use Rattle.depot_model.specs.declared.order.Place.{Place}
-use Rattle.depot_model.specs.declared.request.Request.{Request}
-use Rattle.depot_model.specs.declared.request.Session.{Session}
+use Rattle.replica_turns.specs.command_core.declared.outcome.Outcome.{Outcome}
+use Rattle.depot_rows.specs.depot_model.Deeds.{Deed}
+use Rattle.depot_rows.specs.depot_model.declared.order.Answer.{Answer}
+use Rattle.depot_rows.specs.depot_model.declared.order.Place.{Place}
+use Rattle.depot_rows.specs.depot_model.declared.request.Request.{Request}
+use Rattle.depot_rows.specs.depot_model.declared.request.Session.{Session}
 use Rattle.depot_runs.specs.Run.{placed}
 use Rattle.lock_core.specs.Core.{IsCommit, IsReady, Shows}
 use Rattle.lock_core.specs.declared.machine.LockCore.{LockCore}
 use Rattle.lock_core.specs.declared.turn.Finish as code
 use Rattle.lock_core.specs.declared.turn.Finish.TheVariants as ends
 use Rattle.lock_machine.specs.Machine.{Finish, State}
-use Rattle.serial_depot.specs.Running.{HasRun}
-use Rattle.serial_depot.specs.declared.depot.SerialDepot.{SerialDepot}
+use Rattle.replica_turns.specs.serial_depot.Running.{HasRun}
+use Rattle.replica_turns.specs.serial_depot.declared.depot.SerialDepot.{SerialDepot}
 use Rattle.session_loop.specs.Asking.{AreWellFormed, commands_of}
 use Rattle.session_loop.specs.declared.reading.ReplicaScript.{ReplicaScript}
 use Rattle.session_loop.specs.declared.session.SessionRun.{SessionRun}
 use Rattle.session_turns.specs.Answering.{StayFailed}
 use Rattle.session_turns.specs.Drawn.{AreDrawn, Progress, StopsFailed, Turn, advanced, going, turned}
 use Rattle.session_turns.specs.Running.{IsUnderWay}
-use Rattle.table_changes.specs.Changed.{rows_of}
+use Rattle.depot_rows.specs.table_changes.Changed.{rows_of}
 
 -- ---- a commit
 

@@ -6,8 +6,8 @@ ghost use Rattle.session_loop.specs.declared.session.SessionRun.{SessionRun as A
 ghost use Rattle.session_turns.specs.Running.{AreWithin, Got};
 ghost use Rattle.session_turns.specs.Answering.{AnswersNone, AreDone, IsAnsweredAt, IsDoneAt, IsSameAt, has_left_at, has_more_at, reply_in, text_of};
 
-use depot_model::Answer;
-use depot_path::Text;
+use depot_rows::model::Answer;
+use depot_rows::paths::Text;
 use outside_api::{Clock, Sink};
 use session_loop::SessionRun;
 use std::alloc::AllocError;

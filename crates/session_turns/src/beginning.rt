@@ -6,7 +6,7 @@ ghost use Rattle.session_loop.specs.Requests.{AreRequestsOfAll};
 ghost use Rattle.session_turns.specs.Going.{AreBoundsOf, bound_of};
 ghost use Rattle.session_turns.specs.Running.{fresh};
 
-use depot_model::{Request, Session};
+use depot_rows::model::{Request, Session};
 use outside_api::Clock;
 use session_loop::{SessionRun, session_requests};
 use std::alloc::{AllocError, Global};

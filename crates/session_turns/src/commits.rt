@@ -2,28 +2,28 @@
 
 ghost use Rattle.std.specs.Prelude.{◌≡◌, ◌<◌, ◌++◌, ◌∷◌, [], ℕ, List, IfOk, OnOk, OnErr, Ok, Err, vec_len, vec_capacity};
 ghost use Rattle.archive_file.specs.Archive.{disk_of as archive_disk_of};
-ghost use Rattle.depot_model.specs.Deeds.{Deed};
-ghost use Rattle.depot_model.specs.Places.{Placed};
-ghost use Rattle.depot_model.specs.declared.request.Request.{Request as AnyRequest};
-ghost use Rattle.command_core.specs.declared.outcome.Outcome.{Outcome as AnyOutcome};
+ghost use Rattle.depot_rows.specs.depot_model.Deeds.{Deed};
+ghost use Rattle.depot_rows.specs.depot_model.Places.{Placed};
+ghost use Rattle.depot_rows.specs.depot_model.declared.request.Request.{Request as AnyRequest};
+ghost use Rattle.replica_turns.specs.command_core.declared.outcome.Outcome.{Outcome as AnyOutcome};
 ghost use Rattle.disk_journal.specs.Stands.{disk_of};
 ghost use Rattle.lock_core.specs.Core.{IsReady, Shows};
 ghost use Rattle.lock_machine.specs.Machine.{State};
-ghost use Rattle.serial_depot.specs.Committing.{AreRowsAfter, IsOutcomeOf};
-ghost use Rattle.serial_depot.specs.Running.{CanTake, HasRun};
+ghost use Rattle.replica_turns.specs.serial_depot.Committing.{AreRowsAfter, IsOutcomeOf};
+ghost use Rattle.replica_turns.specs.serial_depot.Running.{CanTake, HasRun};
 ghost use Rattle.session_loop.specs.Served.{AreCaused};
 ghost use Rattle.session_loop.specs.Taking.{Answers, IsProper, with_place};
 ghost use Rattle.session_turns.specs.Drawn.{ended};
 ghost use Rattle.session_turns.specs.Taking.{finish_for};
-ghost use Rattle.table_changes.specs.Changed.{changed_by, rows_of};
+ghost use Rattle.depot_rows.specs.table_changes.Changed.{changed_by, rows_of};
 
-use command_core::Outcome;
-use depot_model::{Answer, Place, Request};
+use depot_rows::model::{Answer, Place, Request};
+use depot_rows::tables::Tables;
 use lock_core::{Finish, LockCore};
 use outside_api::{Disk, Gate};
-use serial_depot::SerialDepot;
+use replica_turns::commands::Outcome;
+use replica_turns::depots::SerialDepot;
 use std::alloc::{AllocError, Global};
-use table_store::Tables;
 
 /// The tables after the commit that a party has at hand, with room behind the order for its place.
 fn tables_with_room(

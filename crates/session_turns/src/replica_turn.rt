@@ -2,11 +2,11 @@
 
 ghost use Rattle.std.specs.Prelude.{◌≡◌, ◌≤◌, ◌<◌, ℕ, List, Some, length, slice_get, true};
 ghost use Rattle.archive_file.specs.Archive.{disk_of as archive_disk_of};
-ghost use Rattle.depot_model.specs.Deeds.{Deed};
-ghost use Rattle.depot_model.specs.Places.{Placed};
+ghost use Rattle.depot_rows.specs.depot_model.Deeds.{Deed};
+ghost use Rattle.depot_rows.specs.depot_model.Places.{Placed};
 ghost use Rattle.disk_journal.specs.Stands.{disk_of};
 ghost use Rattle.replica_turns.specs.declared.party.ReplicaParty.{ReplicaParty};
-ghost use Rattle.serial_depot.specs.Running.{CanTake, HasRun};
+ghost use Rattle.replica_turns.specs.serial_depot.Running.{CanTake, HasRun};
 ghost use Rattle.session_turns.specs.Answering.{has_more_at};
 ghost use Rattle.session_turns.specs.Going.{HasLost, IsReplicaTurn};
 ghost use Rattle.session_turns.specs.Running.{AreWithin};
@@ -14,7 +14,7 @@ ghost use Rattle.session_turns.specs.Running.{AreWithin};
 use crate::answers::{answer_party, has_more};
 use crate::replicas::Replicas;
 use outside_api::{Disk, Sink};
-use serial_depot::SerialDepot;
+use replica_turns::depots::SerialDepot;
 use session_loop::SessionRun;
 use std::alloc::Global;
 

@@ -2,21 +2,21 @@
 
 ghost use Rattle.std.specs.Prelude.{◌≡◌, ◌≤◌, ◌<◌, ◌^◌, ℕ, List, Some, false, true, get_or, length, map, slice_get, slice_set, All, IfOk};
 ghost use Rattle.archive_file.specs.Archive.{disk_of as archive_disk_of};
-ghost use Rattle.depot_model.specs.Deeds.{Deed};
-ghost use Rattle.depot_model.specs.Places.{Placed};
+ghost use Rattle.depot_rows.specs.depot_model.Deeds.{Deed};
+ghost use Rattle.depot_rows.specs.depot_model.Places.{Placed};
 ghost use Rattle.disk_journal.specs.Stands.{disk_of};
 ghost use Rattle.lock_core.specs.Drawing.{has_other};
 ghost use Rattle.replica_turns.specs.declared.party.ReplicaParty.{ReplicaParty as AnyParty};
-ghost use Rattle.serial_depot.specs.Running.{CanTake, HasRun};
+ghost use Rattle.replica_turns.specs.serial_depot.Running.{CanTake, HasRun};
 ghost use Rattle.session_loop.specs.Asking.{replica_commands};
 ghost use Rattle.session_turns.specs.Answering.{text_of};
 ghost use Rattle.session_turns.specs.Drawn.{left_after_turn, replica_totals};
 ghost use Rattle.session_turns.specs.Going.{AreFresh, HasLost, IsFreshParty, IsStepped, left_in};
 
-use depot_path::Text;
+use depot_rows::paths::Text;
 use outside_api::{Clock, Disk};
+use replica_turns::depots::SerialDepot;
 use replica_turns::{Answered, ReplicaParty};
-use serial_depot::SerialDepot;
 use session_loop::ReplicaScript;
 use std::alloc::{AllocError, Global};
 

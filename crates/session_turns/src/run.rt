@@ -2,10 +2,10 @@
 
 ghost use Rattle.std.specs.Prelude.{◌≡◌, ◌≤◌, ◌<◌, ◌^◌, ℕ, List, [], true, length, map, All, IfOk, OnErr};
 ghost use Rattle.archive_file.specs.Archive.{disk_of as archive_disk_of};
-ghost use Rattle.depot_model.specs.Deeds.{Deed};
+ghost use Rattle.depot_rows.specs.depot_model.Deeds.{Deed};
 ghost use Rattle.depot_runs.specs.Run.{placed};
 ghost use Rattle.disk_journal.specs.Stands.{disk_of};
-ghost use Rattle.serial_depot.specs.Running.{CanTake, HasRun};
+ghost use Rattle.replica_turns.specs.serial_depot.Running.{CanTake, HasRun};
 ghost use Rattle.session_loop.specs.Asking.{AreWellFormed, commands_of, replica_commands};
 ghost use Rattle.session_loop.specs.Served.{AreCaused};
 ghost use Rattle.session_turns.specs.Drawn.{IsDrawn};
@@ -16,10 +16,10 @@ use crate::answers::answer_rest;
 use crate::beginning::{all_requests, bounds_of, fresh_runs, totals_of};
 use crate::replicas::Replicas;
 use crate::turns::take_turns;
-use depot_model::{Place, Session};
+use depot_rows::model::{Place, Session};
 use lock_core::{LockCore, share_tables};
 use outside_api::{Clock, Disk, Gate, Sink};
-use serial_depot::SerialDepot;
+use replica_turns::depots::SerialDepot;
 use session_loop::{ReplicaScript, SessionRun};
 use std::alloc::{AllocError, Global};
 

@@ -2,13 +2,13 @@
 
 ghost use Rattle.std.specs.Prelude.{◌≡◌, ◌≤◌, ◌<◌, ◌^◌, ℕ, List, Option, Some, ◌++◌, length, map, slice_get, true};
 ghost use Rattle.archive_file.specs.Archive.{disk_of as archive_disk_of};
-ghost use Rattle.depot_model.specs.Deeds.{Deed};
-ghost use Rattle.depot_model.specs.declared.request.Request.{Request};
-ghost use Rattle.depot_model.specs.declared.request.Session.{Session};
+ghost use Rattle.depot_rows.specs.depot_model.Deeds.{Deed};
+ghost use Rattle.depot_rows.specs.depot_model.declared.request.Request.{Request};
+ghost use Rattle.depot_rows.specs.depot_model.declared.request.Session.{Session};
 ghost use Rattle.disk_journal.specs.Stands.{disk_of};
 ghost use Rattle.lock_core.specs.Drawing.{may_go_on};
 ghost use Rattle.lock_machine.specs.Machine.{State, is_enabled};
-ghost use Rattle.serial_depot.specs.Running.{CanTake};
+ghost use Rattle.replica_turns.specs.serial_depot.Running.{CanTake};
 ghost use Rattle.session_loop.specs.Served.{AreCaused};
 ghost use Rattle.session_loop.specs.declared.reading.ReplicaScript.{ReplicaScript};
 ghost use Rattle.session_turns.specs.Answering.{IsSameAt};
@@ -21,12 +21,12 @@ use crate::answers::{answer_party, has_more, reply_in};
 use crate::commits::{how_of, place_commit, stop_if};
 use crate::replica_turn::take_replica_turn;
 use crate::replicas::Replicas;
-use command_core::Outcome;
-use depot_model::Place;
+use depot_rows::model::Place;
 use lock_core::{LockCore, Turn};
 use outside_api::{Clock, Disk, Gate, Sink};
+use replica_turns::commands::Outcome;
+use replica_turns::depots::SerialDepot;
 use seeded_numbers::Draw;
-use serial_depot::SerialDepot;
 use session_loop::SessionRun;
 use std::alloc::{AllocError, Global};
 

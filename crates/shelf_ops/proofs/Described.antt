@@ -3,32 +3,32 @@ use Rattle.std.proofs.Common.{◌≡◌, ◌≤◌, ◌<◌, ℕ, Bool, true, fa
 use Rattle.std.specs.Prelude.{◌&&◌, ◌||◌, ◌==◌, codes, decimal, flat_map, if◌then◌else◌, not, option_and_then, option_map, unwrap_or}
 use Rattle.std.specs.List.{enumerate_from}
 use Rattle.std.specs.Option.{option_flatten, option_map_or, option_or}
-use Rattle.depot_path.specs.Bytes.{same}
-use Rattle.depot_path.specs.Digits.{is_digits, number_of}
-use Rattle.db_records.specs.declared.record.Record.{Record}
-use Rattle.db_records.specs.declared.record.Record.TheVariants as records
-use Rattle.db_records.specs.declared.rows.ChangeRecord.{ChangeRecord}
-use Rattle.spec_form.specs.Form.{FormValue}
-use Rattle.spec_form.specs.Printing.{printed_form}
-use Rattle.spec_form.specs.declared.shape.Shape.TheVariants.{Shelf as ShelfShape}
-use Rattle.table_changes.specs.Changed.{AllRows}
-use Rattle.depot_model.specs.declared.refusal.Refusal.TheVariants.{NoShelf}
-use Rattle.depot_model.specs.declared.reply.Field.{Field}
-use Rattle.depot_model.specs.declared.reply.Row.{Row}
-use Rattle.depot_model.specs.declared.request.Caller.{Caller}
-use Rattle.depot_model.specs.Deeds.{Add, Deed, Delete, Drop, Edit, Land, Landing, Pend, Pending, ShelfForm}
-use Rattle.depot_model.specs.Latest.{latest, spec, when}
-use Rattle.depot_model.specs.Numbers.{landing, pending, pending_said}
-use Rattle.depot_model.specs.Numerals.{is_numeral}
-use Rattle.depot_model.specs.Records.{change_record, landed_record, pending_record}
-use Rattle.depot_model.specs.Refusals.{refusal_row}
-use Rattle.depot_model.specs.Rows.{action_word, path_field, text_field}
-use Rattle.depot_model.specs.Rules.{IsKept, IsShelf, IsSound, has_shelf_value, is_number_in, shelf_value}
-use Rattle.depot_model.specs.Records.{record_of}
-use Rattle.depot_model.specs.Shelves.{is_kept, kept, kept_action, kept_base, shelf_name}
-use Rattle.depot_model.specs.Step.{Step as ModelStep, refuses, tells}
-use Rattle.depot_model.specs.Steps.Shelving.{describe_kept, fields_of_kept, listable, shelved_fields}
-use Rattle.depot_model.specs.Values.{value_of}
+use Rattle.depot_rows.specs.depot_path.Bytes.{same}
+use Rattle.depot_rows.specs.depot_path.Digits.{is_digits, number_of}
+use Rattle.depot_rows.specs.db_records.declared.record.Record.{Record}
+use Rattle.depot_rows.specs.db_records.declared.record.Record.TheVariants as records
+use Rattle.depot_rows.specs.db_records.declared.rows.ChangeRecord.{ChangeRecord}
+use Rattle.depot_rows.specs.spec_form.Form.{FormValue}
+use Rattle.depot_rows.specs.spec_form.Printing.{printed_form}
+use Rattle.depot_rows.specs.spec_form.declared.shape.Shape.TheVariants.{Shelf as ShelfShape}
+use Rattle.depot_rows.specs.table_changes.Changed.{AllRows}
+use Rattle.depot_rows.specs.depot_model.declared.refusal.Refusal.TheVariants.{NoShelf}
+use Rattle.depot_rows.specs.depot_model.declared.reply.Field.{Field}
+use Rattle.depot_rows.specs.depot_model.declared.reply.Row.{Row}
+use Rattle.depot_rows.specs.depot_model.declared.request.Caller.{Caller}
+use Rattle.depot_rows.specs.depot_model.Deeds.{Add, Deed, Delete, Drop, Edit, Land, Landing, Pend, Pending, ShelfForm}
+use Rattle.depot_rows.specs.depot_model.Latest.{latest, spec, when}
+use Rattle.depot_rows.specs.depot_model.Numbers.{landing, pending, pending_said}
+use Rattle.depot_rows.specs.depot_model.Numerals.{is_numeral}
+use Rattle.depot_rows.specs.depot_model.Records.{change_record, landed_record, pending_record}
+use Rattle.depot_rows.specs.depot_model.Refusals.{refusal_row}
+use Rattle.depot_rows.specs.depot_model.Rows.{action_word, path_field, text_field}
+use Rattle.depot_rows.specs.depot_model.Rules.{IsKept, IsShelf, IsSound, has_shelf_value, is_number_in, shelf_value}
+use Rattle.depot_rows.specs.depot_model.Records.{record_of}
+use Rattle.depot_rows.specs.depot_model.Shelves.{is_kept, kept, kept_action, kept_base, shelf_name}
+use Rattle.depot_rows.specs.depot_model.Step.{Step as ModelStep, refuses, tells}
+use Rattle.depot_rows.specs.depot_model.Steps.Shelving.{describe_kept, fields_of_kept, listable, shelved_fields}
+use Rattle.depot_rows.specs.depot_model.Values.{value_of}
 use Rattle.depot_rows.proofs.Keys.{left-true, number-is, right-true, same-is}
 use Rattle.opening_reads.proofs.Onwards.{all_but_first}
 use Rattle.reply_rows.specs.declared.step.Step.{Step}

@@ -1,18 +1,18 @@
 -- The texts of the forms of shelved files are those that are printed of them.
 use Rattle.std.proofs.Common.{◌≡◌, ◌<◌, ◌^◌, ℕ, true, List, [], ◌∷◌, ◌++◌, ◌⊎◌, length, Result, Ok, Err, inl, inr, refl, sym, ap, ◌∙◌, append_assoc, append-nil}
 use Rattle.std.specs.Prelude.{codes, decimal, nat_le}
-use Rattle.depot_path.specs.Answers.{Answers}
-use Rattle.depot_path.specs.Path.{is_path, path_of, printed}
-use Rattle.depot_path.proofs.Paths.{prints_path}
-use Rattle.spec_form.proofs.Printed.{good_reads_back}
-use Rattle.spec_form.specs.Form.{FormValue}
-use Rattle.spec_form.specs.Printing.{printed_form}
-use Rattle.spec_form.specs.Reading.{form_of, no_memory}
-use Rattle.spec_form.specs.Shapes.{fields_of}
-use Rattle.spec_form.specs.declared.fault.FormFault.{FormFault}
-use Rattle.spec_form.specs.declared.shape.Shape.TheVariants.{Shelf}
-use Rattle.depot_model.specs.Shelves.{gone_form}
-use Rattle.depot_model.specs.Values.{valued}
+use Rattle.depot_rows.specs.depot_path.Answers.{Answers}
+use Rattle.depot_rows.specs.depot_path.Path.{is_path, path_of, printed}
+use Rattle.depot_rows.proofs.depot_path.Paths.{prints_path}
+use Rattle.depot_rows.proofs.spec_form.Printed.{good_reads_back}
+use Rattle.depot_rows.specs.spec_form.Form.{FormValue}
+use Rattle.depot_rows.specs.spec_form.Printing.{printed_form}
+use Rattle.depot_rows.specs.spec_form.Reading.{form_of, no_memory}
+use Rattle.depot_rows.specs.spec_form.Shapes.{fields_of}
+use Rattle.depot_rows.specs.spec_form.declared.fault.FormFault.{FormFault}
+use Rattle.depot_rows.specs.spec_form.declared.shape.Shape.TheVariants.{Shelf}
+use Rattle.depot_rows.specs.depot_model.Shelves.{gone_form}
+use Rattle.depot_rows.specs.depot_model.Values.{valued}
 use Rattle.sound_deeds.proofs.Decimals.{written}
 use Rattle.sound_file_steps.proofs.Spelled.{good_name}
 use Rattle.sound_form_steps.proofs.Unshelving.{good_decimal, good_path}

@@ -2,28 +2,28 @@
 use Rattle.std.proofs.Common.{◌≡◌, ℕ, Bool, true, false, List, [], ◌∷◌, ◌++◌, Option, Some, None, Result, Ok, Err, inl, inr, refl, sym, ap, subst, ◌∙◌, append_assoc}
 use Rattle.std.specs.Prelude.{◌&&◌, ◌||◌, codes, decimal, filter, if◌then◌else◌, is_some, option_and_then}
 use Rattle.std.specs.List.{list_all, list_any}
-use Rattle.depot_path.specs.Bytes.{same}
-use Rattle.depot_path.specs.Digits.{is_digits}
-use Rattle.depot_path.specs.Path.{is_path, printed}
-use Rattle.depot_path.specs.declared.fault.PathFault.{PathFault}
-use Rattle.depot_path.proofs.Paths.{prints_path}
-use Rattle.db_records.specs.Key.{key_table}
-use Rattle.db_records.specs.declared.key.Key.{Key}
-use Rattle.db_records.specs.declared.key.Key.TheVariants as keys
-use Rattle.db_records.specs.declared.record.Record.{Record}
-use Rattle.db_records.specs.declared.table.TableId.{TableId}
-use Rattle.db_records.specs.declared.table.TableId.TheVariants as tables
-use Rattle.table_store.specs.Rows.{AllOfTable, IsRising, TableRows, row_at}
-use Rattle.spec_form.specs.Form.{FormValue}
-use Rattle.spec_form.specs.declared.shape.Shape.TheVariants.{Shelf as ShelfShape}
-use Rattle.depot_model.specs.Arguments.{paths_of}
-use Rattle.depot_model.specs.Deeds.{Deed, Spec, ShelfForm}
-use Rattle.depot_model.specs.Latest.{spec, spec_said, when}
-use Rattle.depot_model.specs.Numerals.{is_numeral}
-use Rattle.depot_model.specs.Records.{record_of}
-use Rattle.depot_model.specs.Rules.{IsSound, has_paths}
-use Rattle.depot_model.specs.Shelves.{is_kept, is_of_change, kept, kept_paths, paths_in, shelf_name, shelf_paths}
-use Rattle.depot_model.specs.Values.{value_of}
+use Rattle.depot_rows.specs.depot_path.Bytes.{same}
+use Rattle.depot_rows.specs.depot_path.Digits.{is_digits}
+use Rattle.depot_rows.specs.depot_path.Path.{is_path, printed}
+use Rattle.depot_rows.specs.depot_path.declared.fault.PathFault.{PathFault}
+use Rattle.depot_rows.proofs.depot_path.Paths.{prints_path}
+use Rattle.depot_rows.specs.db_records.Key.{key_table}
+use Rattle.depot_rows.specs.db_records.declared.key.Key.{Key}
+use Rattle.depot_rows.specs.db_records.declared.key.Key.TheVariants as keys
+use Rattle.depot_rows.specs.db_records.declared.record.Record.{Record}
+use Rattle.depot_rows.specs.db_records.declared.table.TableId.{TableId}
+use Rattle.depot_rows.specs.db_records.declared.table.TableId.TheVariants as tables
+use Rattle.depot_rows.specs.table_store.Rows.{AllOfTable, IsRising, TableRows, row_at}
+use Rattle.depot_rows.specs.spec_form.Form.{FormValue}
+use Rattle.depot_rows.specs.spec_form.declared.shape.Shape.TheVariants.{Shelf as ShelfShape}
+use Rattle.depot_rows.specs.depot_model.Arguments.{paths_of}
+use Rattle.depot_rows.specs.depot_model.Deeds.{Deed, Spec, ShelfForm}
+use Rattle.depot_rows.specs.depot_model.Latest.{spec, spec_said, when}
+use Rattle.depot_rows.specs.depot_model.Numerals.{is_numeral}
+use Rattle.depot_rows.specs.depot_model.Records.{record_of}
+use Rattle.depot_rows.specs.depot_model.Rules.{IsSound, has_paths}
+use Rattle.depot_rows.specs.depot_model.Shelves.{is_kept, is_of_change, kept, kept_paths, paths_in, shelf_name, shelf_paths}
+use Rattle.depot_rows.specs.depot_model.Values.{value_of}
 use Rattle.depot_rows.specs.Standing.{unplaced_at}
 use Rattle.depot_rows.proofs.Keys.{left-true, right-true, same-self}
 use Rattle.named_files.proofs.Rising.{filter_rises, in_filter, one_list, told_rise}

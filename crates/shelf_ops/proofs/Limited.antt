@@ -4,14 +4,14 @@ use Rattle.std.specs.Prelude.{map, nat_lt, sum}
 use Rattle.std.proofs.lemmas.Bool.Decides.{nat_tests}
 use Rattle.std.proofs.lemmas.List.{take_all}
 use Rattle.std.proofs.lemmas.List.Sums.{sum-map, sum_by-cons}
-use Rattle.table_changes.specs.Changed.{AllRows}
-use Rattle.depot_model.specs.Deeds as model
-use Rattle.depot_model.specs.Refusals.{refusal_row}
-use Rattle.depot_model.specs.Step.{Step as ModelStep, refuse_if, unless}
-use Rattle.depot_model.specs.Steps.Shelving.{size_in, within_forms}
-use Rattle.depot_model.specs.declared.refusal.Limit.TheVariants.{Files, Shelf}
-use Rattle.depot_model.specs.declared.refusal.Refusal.TheVariants.{OverLimit}
-use Rattle.depot_model.specs.declared.reply.Row.{Row}
+use Rattle.depot_rows.specs.table_changes.Changed.{AllRows}
+use Rattle.depot_rows.specs.depot_model.Deeds as model
+use Rattle.depot_rows.specs.depot_model.Refusals.{refusal_row}
+use Rattle.depot_rows.specs.depot_model.Step.{Step as ModelStep, refuse_if, unless}
+use Rattle.depot_rows.specs.depot_model.Steps.Shelving.{size_in, within_forms}
+use Rattle.depot_rows.specs.depot_model.declared.refusal.Limit.TheVariants.{Files, Shelf}
+use Rattle.depot_rows.specs.depot_model.declared.refusal.Refusal.TheVariants.{OverLimit}
+use Rattle.depot_rows.specs.depot_model.declared.reply.Row.{Row}
 use Rattle.depot_rows.specs.Deed.{IsDeed}
 use Rattle.depot_rows.specs.Effects.{Follow}
 use Rattle.depot_rows.specs.declared.deed.Deed.{Deed}

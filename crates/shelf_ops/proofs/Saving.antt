@@ -1,9 +1,9 @@
 -- The step that saves the form of a shelved file, and refusals before it.
 use Rattle.std.proofs.Common.{◌≡◌, ℕ, List, [], ◌∷◌, Option, Some, None, refl}
-use Rattle.spec_form.specs.Form.{FormValue}
-use Rattle.depot_model.specs.declared.refusal.Refusal.{Refusal}
-use Rattle.depot_model.specs.Deeds.{Deed, ShelfForm, Spec}
-use Rattle.depot_model.specs.Step.{Step, unless}
+use Rattle.depot_rows.specs.spec_form.Form.{FormValue}
+use Rattle.depot_rows.specs.depot_model.declared.refusal.Refusal.{Refusal}
+use Rattle.depot_rows.specs.depot_model.Deeds.{Deed, ShelfForm, Spec}
+use Rattle.depot_rows.specs.depot_model.Step.{Step, unless}
 use Rattle.depot_rows.specs.Effects.{Follow}
 use Rattle.depot_rows.specs.declared.deed.Deed.TheVariants as dones
 use Rattle.depot_rows.specs.declared.deed.SpecKind.TheVariants as kinds

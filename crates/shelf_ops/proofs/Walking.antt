@@ -7,16 +7,16 @@ use Rattle.std.specs.declared.cmp.Ordering.{Ordering}
 use Rattle.std.specs.declared.cmp.Ordering.TheVariants.{Less, Equal, Greater}
 use Rattle.std.proofs.lemmas.Bool.{true≢false, false≢true}
 use Rattle.std.proofs.lemmas.Bool.Decides.{Decides-eqb}
-use Rattle.depot_path.specs.Bytes.{same, begins_with}
-use Rattle.db_records.specs.declared.key.Key.{Key}
-use Rattle.db_records.specs.declared.record.Record.{Record}
-use Rattle.db_records.specs.declared.record.Record.TheVariants as records
-use Rattle.db_records.specs.declared.rows.DomainRecord.{DomainRecord}
-use Rattle.db_records.specs.declared.table.TableId.TheVariants as tables
-use Rattle.db_records.specs.Key.{key_cmp}
-use Rattle.db_records.specs.Record.{key_of, table_of}
-use Rattle.table_store.specs.Rows.{is_below, AllAbove, AllOfTable, IsRising, rows_from}
-use Rattle.table_store.proofs.Order.{turned_greater}
+use Rattle.depot_rows.specs.depot_path.Bytes.{same, begins_with}
+use Rattle.depot_rows.specs.db_records.declared.key.Key.{Key}
+use Rattle.depot_rows.specs.db_records.declared.record.Record.{Record}
+use Rattle.depot_rows.specs.db_records.declared.record.Record.TheVariants as records
+use Rattle.depot_rows.specs.db_records.declared.rows.DomainRecord.{DomainRecord}
+use Rattle.depot_rows.specs.db_records.declared.table.TableId.TheVariants as tables
+use Rattle.depot_rows.specs.db_records.Key.{key_cmp}
+use Rattle.depot_rows.specs.db_records.Record.{key_of, table_of}
+use Rattle.depot_rows.specs.table_store.Rows.{is_below, AllAbove, AllOfTable, IsRising, rows_from}
+use Rattle.depot_rows.proofs.table_store.Order.{turned_greater}
 use Rattle.depot_rows.proofs.Keys.{same-is, same-self}
 use Rattle.named_files.proofs.Walking.{number_is, starts, text_cmp, text_is, text_self}
 use Rattle.shelf_ops.specs.ShelfRows.{behind, first_key, is_of_shelf, leading}

@@ -2,18 +2,18 @@
 -- option -S; Helix Core database schema reference, "db.change").
 use Rattle.std.specs.Prelude.{ℕ, List, [], ◌∷◌, ◌++◌, codes, decimal, flat_map, if◌then◌else◌, Option, Some, None}
 use Rattle.std.specs.List.{enumerate_from}
-use Rattle.depot_path.specs.Bytes.{same}
-use Rattle.db_records.specs.declared.rows.ChangeRecord.{ChangeRecord}
-use Rattle.spec_form.specs.Form.{FormValue}
-use Rattle.depot_model.specs.declared.refusal.Refusal.TheVariants.{NoShelf}
-use Rattle.depot_model.specs.declared.reply.Field.{Field}
-use Rattle.depot_model.specs.declared.reply.Row.{Row}
-use Rattle.depot_model.specs.Deeds.{Deed}
-use Rattle.depot_model.specs.Refusals.{refusal_row}
-use Rattle.depot_model.specs.Rows.{action_word, number_field, path_field, row, text_field}
-use Rattle.depot_model.specs.Shelves.{kept_action}
-use Rattle.depot_model.specs.Steps.Shelving.{shelved_fields}
-use Rattle.depot_model.specs.Values.{value_of}
+use Rattle.depot_rows.specs.depot_path.Bytes.{same}
+use Rattle.depot_rows.specs.db_records.declared.rows.ChangeRecord.{ChangeRecord}
+use Rattle.depot_rows.specs.spec_form.Form.{FormValue}
+use Rattle.depot_rows.specs.depot_model.declared.refusal.Refusal.TheVariants.{NoShelf}
+use Rattle.depot_rows.specs.depot_model.declared.reply.Field.{Field}
+use Rattle.depot_rows.specs.depot_model.declared.reply.Row.{Row}
+use Rattle.depot_rows.specs.depot_model.Deeds.{Deed}
+use Rattle.depot_rows.specs.depot_model.Refusals.{refusal_row}
+use Rattle.depot_rows.specs.depot_model.Rows.{action_word, number_field, path_field, row, text_field}
+use Rattle.depot_rows.specs.depot_model.Shelves.{kept_action}
+use Rattle.depot_rows.specs.depot_model.Steps.Shelving.{shelved_fields}
+use Rattle.depot_rows.specs.depot_model.Values.{value_of}
 
 -- the word of an action in the form of a kept file, `add` for any other word
 abbrev pub kept_word : List ℕ → List ℕ

@@ -1,6 +1,6 @@
 -- The texts of the forms of shelved files (Command-Line Reference, on specs and their forms).
 use Rattle.std.specs.Prelude.{ℕ, List, ◌++◌, codes, decimal}
-use Rattle.depot_path.specs.Path.{printed}
+use Rattle.depot_rows.specs.depot_path.Path.{printed}
 
 -- a single field with a value
 abbrev pub field_text : List ℕ → List ℕ → List ℕ

@@ -1,9 +1,9 @@
 -- Which of some files are kept in a change (Command-Line Reference, "p4 shelve").
 use Rattle.std.specs.Prelude.{ℕ, Bool, List, [], ◌∷◌, if◌then◌else◌, Option, Some, None, is_some}
-use Rattle.spec_form.specs.Form.{FormValue}
-use Rattle.protect_table.specs.Rights.{may}
-use Rattle.depot_model.specs.Deeds.{Deed}
-use Rattle.depot_model.specs.Shelves.{is_kept, kept}
+use Rattle.depot_rows.specs.spec_form.Form.{FormValue}
+use Rattle.depot_rows.specs.protect_table.Rights.{may}
+use Rattle.depot_rows.specs.depot_model.Deeds.{Deed}
+use Rattle.depot_rows.specs.depot_model.Shelves.{is_kept, kept}
 use Rattle.named_files.specs.declared.asker.Asker.{Asker}
 
 -- the form, where it is of a file that is kept

@@ -1,14 +1,14 @@
 -- A file that is kept in a change no more (Command-Line Reference, "p4 shelve", option -d).
 use Rattle.std.specs.Prelude.{ℕ, true, List, [], ◌∷◌, codes}
-use Rattle.depot_model.specs.declared.command.FileArgument.{FileArgument}
-use Rattle.depot_model.specs.declared.reply.Row.{Row}
-use Rattle.depot_model.specs.declared.request.Caller.{Caller}
-use Rattle.depot_model.specs.Arguments.{named, no_file, over_all}
-use Rattle.depot_model.specs.Deeds.{Deed, ShelfForm, Spec}
-use Rattle.depot_model.specs.Rows.{path_field, row, text_field}
-use Rattle.depot_model.specs.Shelves.{gone_form, kept_paths, shelf_name}
-use Rattle.depot_model.specs.Step.{Step, does}
-use Rattle.depot_model.specs.Steps.Shelving.{unkeep, within_forms}
+use Rattle.depot_rows.specs.depot_model.declared.command.FileArgument.{FileArgument}
+use Rattle.depot_rows.specs.depot_model.declared.reply.Row.{Row}
+use Rattle.depot_rows.specs.depot_model.declared.request.Caller.{Caller}
+use Rattle.depot_rows.specs.depot_model.Arguments.{named, no_file, over_all}
+use Rattle.depot_rows.specs.depot_model.Deeds.{Deed, ShelfForm, Spec}
+use Rattle.depot_rows.specs.depot_model.Rows.{path_field, row, text_field}
+use Rattle.depot_rows.specs.depot_model.Shelves.{gone_form, kept_paths, shelf_name}
+use Rattle.depot_rows.specs.depot_model.Step.{Step, does}
+use Rattle.depot_rows.specs.depot_model.Steps.Shelving.{unkeep, within_forms}
 
 abbrev pub removed_row : List ℕ → Row
 removed_row path = row (path_field (codes "depotFile") path ∷ text_field (codes "action") (codes "deleted") ∷ [])

@@ -2,11 +2,11 @@
 -- of the file (Helix Core database schema reference, "db.domain"). That a row whose path isn't one as it is printed is passed over is this
 -- project's own choice; no sound depot has one.
 use Rattle.std.specs.Prelude.{ℕ, Bool, List, [], ◌∷◌, ◌++◌, codes, decimal, drop, flat_map, if◌then◌else◌, length, Option, Some, None, is_some}
-use Rattle.depot_path.specs.Bytes.{begins_with, same}
-use Rattle.db_records.specs.declared.key.Key.{Key}
-use Rattle.db_records.specs.declared.key.Key.TheVariants as keys
-use Rattle.db_records.specs.declared.record.Record.{Record}
-use Rattle.db_records.specs.declared.record.Record.TheVariants.{Domain}
+use Rattle.depot_rows.specs.depot_path.Bytes.{begins_with, same}
+use Rattle.depot_rows.specs.db_records.declared.key.Key.{Key}
+use Rattle.depot_rows.specs.db_records.declared.key.Key.TheVariants as keys
+use Rattle.depot_rows.specs.db_records.declared.record.Record.{Record}
+use Rattle.depot_rows.specs.db_records.declared.record.Record.TheVariants.{Domain}
 use Rattle.named_files.specs.Listed.{paths_in}
 
 -- what the names of the forms of a change begin with

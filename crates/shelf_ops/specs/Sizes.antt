@@ -1,6 +1,6 @@
 -- The sizes of the blocks in the forms that deeds save.
 use Rattle.std.specs.Prelude.{ℕ}
-use Rattle.depot_model.specs.Shelves.{block_size}
+use Rattle.depot_rows.specs.depot_model.Shelves.{block_size}
 use Rattle.depot_rows.specs.declared.deed.Deed.{Deed}
 use Rattle.depot_rows.specs.declared.deed.Deed.TheVariants.{Spec}
 

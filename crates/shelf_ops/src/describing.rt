@@ -3,31 +3,31 @@
 ghost use Rattle.std.specs.Prelude.{◌≡◌, ◌++◌, ◌∷◌, [], List, decimal, flat_map, IfOk, OnOk};
 ghost use Rattle.std.specs.List.{enumerate_from};
 ghost use Rattle.std.specs.Option.{option_copied};
-ghost use Rattle.db_records.specs.declared.table.TableId.TheVariants as table_ids;
-ghost use Rattle.table_changes.specs.Changed.{rows_of};
-ghost use Rattle.depot_model.specs.declared.request.Caller.{Caller as AnyCaller};
-ghost use Rattle.depot_model.specs.Deeds.{Deed};
-ghost use Rattle.depot_model.specs.Rows.{action_word, path_field as field_of_path, text_field as field_of_text};
-ghost use Rattle.depot_model.specs.Rules.{IsSound};
-ghost use Rattle.depot_model.specs.Shelves.{kept_action};
-ghost use Rattle.depot_model.specs.Steps.Shelving as model;
+ghost use Rattle.depot_rows.specs.db_records.declared.table.TableId.TheVariants as table_ids;
+ghost use Rattle.depot_rows.specs.table_changes.Changed.{rows_of};
+ghost use Rattle.depot_rows.specs.depot_model.declared.request.Caller.{Caller as AnyCaller};
+ghost use Rattle.depot_rows.specs.depot_model.Deeds.{Deed};
+ghost use Rattle.depot_rows.specs.depot_model.Rows.{action_word, path_field as field_of_path, text_field as field_of_text};
+ghost use Rattle.depot_rows.specs.depot_model.Rules.{IsSound};
+ghost use Rattle.depot_rows.specs.depot_model.Shelves.{kept_action};
+ghost use Rattle.depot_rows.specs.depot_model.Steps.Shelving as model;
 ghost use Rattle.depot_rows.specs.Standing.{HasRows};
 ghost use Rattle.named_files.specs.Asked.{IsAsker};
 ghost use Rattle.reply_rows.specs.Made.{IsMade, told};
 ghost use Rattle.shelf_ops.specs.Described.{change_fields as fields_of_change, change_told, form_fields, kept_word as word_kept, pending_told};
 
 use crate::keeping::{kept_form, listable_files};
-use db_records::ChangeRecord;
-use depot_model::{Caller, Field, Row};
-use depot_path::{DepotPath, Sequence, Text};
+use depot_rows::forms::Form;
+use depot_rows::model::{Caller, Field, Row};
+use depot_rows::paths::{DepotPath, Sequence, Text};
+use depot_rows::records::ChangeRecord;
+use depot_rows::tables::Tables;
 use itoa::Buffer;
 use named_files::Asker;
 use reply_rows::{Step, no_shelf_row, number_field, path_field, row_of, text_field};
 use revision_reads::change_of;
 use row_reads::form_value;
-use spec_form::Form;
 use std::alloc::{AllocError, Global};
-use table_store::Tables;
 
 /// A name with a number behind it.
 fn numbered_name(alloc: Global, name: &[u8], index: usize) -> Result<Text, AllocError>

@@ -1,13 +1,13 @@
 //! The forms of shelved files.
 
 ghost use Rattle.std.specs.Prelude.{◌≡◌, ◌++◌, codes, decimal, IfOk, OnOk};
-ghost use Rattle.depot_path.specs.Path.{printed};
-ghost use Rattle.depot_model.specs.Shelves as model;
+ghost use Rattle.depot_rows.specs.depot_path.Path.{printed};
+ghost use Rattle.depot_rows.specs.depot_model.Shelves as model;
 ghost use Rattle.shelf_ops.specs.Forms.{field_text, gone_text as text_of_gone};
 
-use depot_path::{DepotPath, Text};
+use depot_rows::forms::{Form, Shape};
+use depot_rows::paths::{DepotPath, Text};
 use itoa::Buffer;
-use spec_form::{Form, Shape};
 use std::alloc::{AllocError, Global};
 
 /// Adds a single field with a value to the text of a form.

@@ -2,29 +2,29 @@
 
 ghost use Rattle.std.specs.Prelude.{◌≡◌, ◌++◌, ◌∷◌, [], ℕ, List, filter, flat_map, IfOk, OnOk, is_some};
 ghost use Rattle.std.specs.Option.{option_to_list};
-ghost use Rattle.db_records.specs.declared.table.TableId.TheVariants as table_ids;
-ghost use Rattle.table_changes.specs.Changed.{rows_of};
-ghost use Rattle.depot_model.specs.declared.request.Caller.{Caller as AnyCaller};
-ghost use Rattle.depot_model.specs.Deeds.{Deed};
-ghost use Rattle.depot_model.specs.Rules.{IsSound};
-ghost use Rattle.depot_model.specs.Shelves as model;
+ghost use Rattle.depot_rows.specs.db_records.declared.table.TableId.TheVariants as table_ids;
+ghost use Rattle.depot_rows.specs.table_changes.Changed.{rows_of};
+ghost use Rattle.depot_rows.specs.depot_model.declared.request.Caller.{Caller as AnyCaller};
+ghost use Rattle.depot_rows.specs.depot_model.Deeds.{Deed};
+ghost use Rattle.depot_rows.specs.depot_model.Rules.{IsSound};
+ghost use Rattle.depot_rows.specs.depot_model.Shelves as model;
 ghost use Rattle.depot_rows.specs.Standing.{HasRows};
-ghost use Rattle.depot_model.specs.Steps.Shelving.{listable};
+ghost use Rattle.depot_rows.specs.depot_model.Steps.Shelving.{listable};
 ghost use Rattle.named_files.specs.Asked.{IsAsker};
 ghost use Rattle.named_files.specs.Listed.{path_in_text};
 ghost use Rattle.shelf_ops.specs.Kept.{if_kept as kept_if, kept_file, listable_file};
 ghost use Rattle.shelf_ops.specs.ShelfRows.{beginning, shelf_file, shelf_files as files_in_rows};
 
 use crate::shelf_rows::{beginning_of, rows_in, shelf_text};
-use db_records::{Record, TableId};
-use depot_path::{DepotPath, PathFault, Sequence, Text};
 use depot_rows::SpecKind;
+use depot_rows::forms::Form;
+use depot_rows::paths::{DepotPath, PathFault, Sequence, Text};
+use depot_rows::protections::Level;
+use depot_rows::records::{Record, TableId};
+use depot_rows::tables::Tables;
 use named_files::Asker;
-use protect_table::Level;
 use row_reads::{form_value, saved_form};
-use spec_form::Form;
 use std::alloc::{AllocError, Global};
-use table_store::Tables;
 
 /// The path that a text spells, where it is that path as printed.
 fn read_path(alloc: Global, text: &[u8]) -> Result<Option<DepotPath>, AllocError>

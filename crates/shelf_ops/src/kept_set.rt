@@ -1,13 +1,13 @@
 //! The files that are kept in a change, as arguments name them.
 
 use crate::keeping::kept_files;
-use depot_model::{Caller, FileArgument};
-use depot_path::{DepotPath, Sequence};
+use depot_rows::model::{Caller, FileArgument};
+use depot_rows::paths::{DepotPath, Sequence};
+use depot_rows::tables::Tables;
 use file_steps::{FileSet, no_file};
 use named_files::Asker;
 use reply_rows::Step;
 use std::alloc::{AllocError, Global};
-use table_store::Tables;
 
 /// The files that are kept in a change, of which the arguments of a caller name some, wherever the client's view puts them.
 #[derive(Drop)]
@@ -19,10 +19,10 @@ pub(crate) struct KeptFiles<'a> {
 
 impl<'a> FileSet for KeptFiles<'a> {
     ghost use Rattle.std.specs.Prelude.{◌∷◌, [], true};
-    ghost use Rattle.depot_model.specs.Arguments.{names as names_file};
-    ghost use Rattle.depot_model.specs.Refusals.{refusal_row};
-    ghost use Rattle.depot_model.specs.declared.refusal.Refusal.TheVariants as refusals;
-    ghost use Rattle.depot_model.specs.Shelves.{kept_paths};
+    ghost use Rattle.depot_rows.specs.depot_model.Arguments.{names as names_file};
+    ghost use Rattle.depot_rows.specs.depot_model.Refusals.{refusal_row};
+    ghost use Rattle.depot_rows.specs.depot_model.declared.refusal.Refusal.TheVariants as refusals;
+    ghost use Rattle.depot_rows.specs.depot_model.Shelves.{kept_paths};
     ghost use Rattle.shelf_ops.specs.Sets.{KeptReads};
 
     ghost reads = { λ set rows d. KeptReads set.caller.now set.asker.now rows d };

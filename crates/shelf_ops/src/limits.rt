@@ -1,15 +1,15 @@
 //! The limits of the forms that a command saves.
 
 ghost use Rattle.std.specs.Prelude.{◌≡◌, ◌/◌, List, IfOk, length, map, nat_lt, sum};
-ghost use Rattle.table_changes.specs.Changed.{AllRows};
-ghost use Rattle.depot_model.specs.Deeds.{Deed as ModelDeed};
-ghost use Rattle.depot_model.specs.Step.{Step as ModelStep};
-ghost use Rattle.depot_model.specs.Steps.Shelving.{within_forms as within_forms_in};
+ghost use Rattle.depot_rows.specs.table_changes.Changed.{AllRows};
+ghost use Rattle.depot_rows.specs.depot_model.Deeds.{Deed as ModelDeed};
+ghost use Rattle.depot_rows.specs.depot_model.Step.{Step as ModelStep};
+ghost use Rattle.depot_rows.specs.depot_model.Steps.Shelving.{within_forms as within_forms_in};
 ghost use Rattle.reply_rows.specs.Made.{IsMade};
 ghost use Rattle.shelf_ops.specs.Sizes.{size_by};
 
-use depot_model::Limit;
 use depot_rows::Deed;
+use depot_rows::model::Limit;
 use reply_rows::{Step, limit_row};
 use row_reads::form_value;
 use std::alloc::{AllocError, Global};

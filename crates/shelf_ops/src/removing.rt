@@ -1,12 +1,12 @@
 //! `shelve -d` (Command-Line Reference, "p4 shelve", option -d).
 
 ghost use Rattle.std.specs.Prelude.{◌≡◌, ◌∷◌, [], List, IfOk};
-ghost use Rattle.db_records.specs.declared.table.TableId.TheVariants as table_ids;
-ghost use Rattle.table_changes.specs.Changed.{AllRows, rows_of};
-ghost use Rattle.depot_model.specs.Deeds.{Deed as ModelDeed};
-ghost use Rattle.depot_model.specs.Rules.{IsSound};
-ghost use Rattle.depot_model.specs.Step.{unless};
-ghost use Rattle.depot_model.specs.Steps.Shelving as model;
+ghost use Rattle.depot_rows.specs.db_records.declared.table.TableId.TheVariants as table_ids;
+ghost use Rattle.depot_rows.specs.table_changes.Changed.{AllRows, rows_of};
+ghost use Rattle.depot_rows.specs.depot_model.Deeds.{Deed as ModelDeed};
+ghost use Rattle.depot_rows.specs.depot_model.Rules.{IsSound};
+ghost use Rattle.depot_rows.specs.depot_model.Step.{unless};
+ghost use Rattle.depot_rows.specs.depot_model.Steps.Shelving as model;
 ghost use Rattle.depot_rows.specs.Standing.{HasRows};
 ghost use Rattle.reply_rows.specs.Made.{IsMade, does};
 ghost use Rattle.shelf_ops.specs.Removed.{removal, removed_row as row_of_removed, removing as removing_in};
@@ -17,16 +17,16 @@ use crate::keeping::{listable_files, shelf_name};
 use crate::kept_set::KeptFiles;
 use crate::limits::within_forms;
 use command_parts::change_refusal;
-use depot_model::{Caller, FileArgument, Row};
-use depot_path::{DepotPath, Text};
+use depot_rows::forms::Form;
+use depot_rows::model::{Caller, FileArgument, Row};
+use depot_rows::paths::{DepotPath, Text};
+use depot_rows::protections::Level;
+use depot_rows::tables::Tables;
 use depot_rows::{Deed, SpecKind};
 use file_steps::{FileAct, over_all};
 use named_files::Asker;
-use protect_table::Level;
 use reply_rows::{RowBuilder, Step, denied_row, no_shelf_row};
-use spec_form::Form;
 use std::alloc::{AllocError, Global};
-use table_store::Tables;
 
 /// What `shelve -d` does with a file.
 #[derive(Drop)]
@@ -66,7 +66,7 @@ fn remove(alloc: Global, change: u32, path: &DepotPath) -> Result<Step, AllocErr
 }
 
 impl<'a> FileAct for Removing<'a> {
-    ghost use Rattle.depot_model.specs.Steps.Shelving.{unkeep};
+    ghost use Rattle.depot_rows.specs.depot_model.Steps.Shelving.{unkeep};
     ghost use Rattle.shelf_ops.specs.Sets.{KeptReads};
 
     ghost reads = { λ removing rows d. KeptReads removing.caller.now removing.asker.now rows d };

@@ -3,16 +3,16 @@
 ghost use Rattle.std.specs.Prelude.{◌≡◌, IfOk, filter};
 ghost use Rattle.std.specs.Iterator.{YieldsFirstRef, item_count};
 ghost use Rattle.std.specs.Option.{option_copied};
-ghost use Rattle.db_records.specs.declared.table.TableId.TheVariants as table_ids;
-ghost use Rattle.table_changes.specs.Changed.{rows_of};
+ghost use Rattle.depot_rows.specs.db_records.declared.table.TableId.TheVariants as table_ids;
+ghost use Rattle.depot_rows.specs.table_changes.Changed.{rows_of};
 ghost use Rattle.shelf_ops.specs.ShelfRows.{beginning, behind as text_behind, first_key as key_first, is_of_shelf as is_shelf_row, shelf_text as text_of_shelf};
 
-use db_records::{Key, Record, TableId};
-use depot_path::Text;
+use depot_rows::paths::Text;
+use depot_rows::records::{Key, Record, TableId};
+use depot_rows::tables::{Tables, Walk};
 use itoa::Buffer;
 use std::alloc::{AllocError, Global};
 use std::marker::Model;
-use table_store::{Tables, Walk};
 
 /// The rows of shelved files whose names begin with a text, from a place on, in key order.
 #[derive(Drop)]
@@ -25,7 +25,7 @@ pub(crate) struct ShelfWalk<'a> {
 impl<'a> Model for ShelfWalk<'a> {
     ghost use Rattle.std.specs.Prelude.{List};
     ghost use Rattle.std.specs.Option.{option_copied};
-    ghost use Rattle.db_records.specs.declared.record.Record.{Record};
+    ghost use Rattle.depot_rows.specs.db_records.declared.record.Record.{Record};
     ghost use Rattle.shelf_ops.specs.ShelfRows.{ahead};
 
     ghost Value = { List Record };

@@ -5,13 +5,13 @@ use Rattle.std.specs.Fmt.{digits, digits_onto, digit_glyph}
 use Rattle.std.specs.List.{list_all}
 use Rattle.std.proofs.lemmas.Bool.Decides.{nat_tests}
 use Rattle.std.proofs.lemmas.Fmt.{decimal_by_steps}
-use Rattle.depot_path.specs.Bytes.{same, is_digit, is_among}
-use Rattle.depot_path.specs.Digits.{number_of, is_digits}
-use Rattle.depot_path.specs.Utf8.{is_utf8}
-use Rattle.spec_form.proofs.Utf8.{ascii-cons}
-use Rattle.spec_form.specs.Form.{is_value}
-use Rattle.spec_form.specs.Texts.{trimmed_start, is_blank}
-use Rattle.depot_model.specs.Numerals.{is_numeral}
+use Rattle.depot_rows.specs.depot_path.Bytes.{same, is_digit, is_among}
+use Rattle.depot_rows.specs.depot_path.Digits.{number_of, is_digits}
+use Rattle.depot_rows.specs.depot_path.Utf8.{is_utf8}
+use Rattle.depot_rows.proofs.spec_form.Utf8.{ascii-cons}
+use Rattle.depot_rows.specs.spec_form.Form.{is_value}
+use Rattle.depot_rows.specs.spec_form.Texts.{trimmed_start, is_blank}
+use Rattle.depot_rows.specs.depot_model.Numerals.{is_numeral}
 use Rattle.depot_rows.proofs.Keys.{same-self, left-true, right-true, number-is}
 
 both : (a b : Bool) → a ≡ true → b ≡ true → (a && b) ≡ true

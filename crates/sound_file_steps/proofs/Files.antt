@@ -2,24 +2,24 @@
 use Rattle.std.proofs.Common.{◌≡◌, ℕ, Bool, true, false, List, [], ◌∷◌, ◌++◌, Option, Some, None, inl, inr, refl, sym, subst, ◌∙◌}
 use Rattle.std.specs.Prelude.{◌&&◌, ◌==◌, not, flat_map, IfSome, IsSomeAnd, option_and_then, unwrap_or, if◌then◌else◌}
 use Rattle.std.specs.List.{list_all}
-use Rattle.depot_path.specs.Bytes.{same}
-use Rattle.depot_path.specs.Path.{is_path}
-use Rattle.depot_model.specs.Arguments.{named, names, opened_by, over, is_in, within_files}
-use Rattle.depot_model.specs.Asking.{to_open, to_write, may_at}
-use Rattle.depot_model.specs.Deeds.{Deed, Free, Opening, Pending}
-use Rattle.depot_model.specs.Numbers.{pending}
-use Rattle.depot_model.specs.Opened.{opened, holder, partner, named_back, is_moved_with}
-use Rattle.depot_model.specs.Latest.{when}
-use Rattle.depot_model.specs.Rules.{IsSound, IsType}
-use Rattle.depot_model.specs.Step.{Step, nothing, does, after, refuse_if, all_of}
-use Rattle.depot_model.specs.Steps.Opening.{held, is_of, change_refusal, named_change_refusal, reopened_change_refusal, right_refusal}
-use Rattle.depot_model.specs.Steps.Reverting.{selected, is_selected, not_open, lock, lock_file, lock_refusal, unlock, unlock_file, unlock_held, is_held_by, shut, other_end, both_ends, revert_file, revert_files, revert_named, revert_over, revert, moved, reopen_opening, reopen_file, reopen}
-use Rattle.depot_model.specs.WellFormed.{is_type_or_none}
-use Rattle.depot_model.specs.declared.command.FileArgument.{FileArgument}
-use Rattle.depot_model.specs.declared.refusal.Refusal.{Refusal}
-use Rattle.depot_model.specs.declared.refusal.Refusal.TheVariants.{NoSuchChange, NotYours}
-use Rattle.depot_model.specs.declared.reply.Row.{Row}
-use Rattle.depot_model.specs.declared.request.Caller.{Caller}
+use Rattle.depot_rows.specs.depot_path.Bytes.{same}
+use Rattle.depot_rows.specs.depot_path.Path.{is_path}
+use Rattle.depot_rows.specs.depot_model.Arguments.{named, names, opened_by, over, is_in, within_files}
+use Rattle.depot_rows.specs.depot_model.Asking.{to_open, to_write, may_at}
+use Rattle.depot_rows.specs.depot_model.Deeds.{Deed, Free, Opening, Pending}
+use Rattle.depot_rows.specs.depot_model.Numbers.{pending}
+use Rattle.depot_rows.specs.depot_model.Opened.{opened, holder, partner, named_back, is_moved_with}
+use Rattle.depot_rows.specs.depot_model.Latest.{when}
+use Rattle.depot_rows.specs.depot_model.Rules.{IsSound, IsType}
+use Rattle.depot_rows.specs.depot_model.Step.{Step, nothing, does, after, refuse_if, all_of}
+use Rattle.depot_rows.specs.depot_model.Steps.Opening.{held, is_of, change_refusal, named_change_refusal, reopened_change_refusal, right_refusal}
+use Rattle.depot_rows.specs.depot_model.Steps.Reverting.{selected, is_selected, not_open, lock, lock_file, lock_refusal, unlock, unlock_file, unlock_held, is_held_by, shut, other_end, both_ends, revert_file, revert_files, revert_named, revert_over, revert, moved, reopen_opening, reopen_file, reopen}
+use Rattle.depot_rows.specs.depot_model.WellFormed.{is_type_or_none}
+use Rattle.depot_rows.specs.depot_model.declared.command.FileArgument.{FileArgument}
+use Rattle.depot_rows.specs.depot_model.declared.refusal.Refusal.{Refusal}
+use Rattle.depot_rows.specs.depot_model.declared.refusal.Refusal.TheVariants.{NoSuchChange, NotYours}
+use Rattle.depot_rows.specs.depot_model.declared.reply.Row.{Row}
+use Rattle.depot_rows.specs.depot_model.declared.request.Caller.{Caller}
 use Rattle.depot_rows.proofs.Keys.{same-is, left-true, right-true, number-is}
 use Rattle.sound_deeds.specs.Keeping.{IsOpenChange}
 use Rattle.sound_file_steps.proofs.Flat.{Meets, Shuts, flat_sound, shuts_sound}

@@ -2,16 +2,16 @@
 use Rattle.std.proofs.Common.{◌≡◌, ◌≤◌, ℕ, Bool, true, false, List, [], ◌∷◌, Option, Some, None, inl, inr, refl, sym, ap, subst, ◌∙◌}
 use Rattle.std.specs.Prelude.{◌&&◌, IsTrue, IfSome, IsSome, IsSomeAnd}
 use Rattle.std.specs.Option.{option_or, option_flatten}
-use Rattle.depot_path.specs.Bytes.{same}
-use Rattle.depot_model.specs.Asking.{is_client, is_label}
-use Rattle.depot_model.specs.Deeds.{Deed, Open, Shut, Hold, Free, Got, Tag, Owe, Paid, Spec, Guard, Group, Count, Pend, Drop, Land, Opening, Source, Pending, Held}
-use Rattle.depot_model.specs.Latest.{latest, when}
-use Rattle.depot_model.specs.Opened.{opened, opening_said}
-use Rattle.depot_model.specs.Numbers.{pending}
-use Rattle.depot_model.specs.Revisions.{head}
-use Rattle.depot_path.specs.Path.{is_path}
-use Rattle.depot_model.specs.Rules.{IsSound, has_paths}
-use Rattle.depot_model.specs.Step.{after}
+use Rattle.depot_rows.specs.depot_path.Bytes.{same}
+use Rattle.depot_rows.specs.depot_model.Asking.{is_client, is_label}
+use Rattle.depot_rows.specs.depot_model.Deeds.{Deed, Open, Shut, Hold, Free, Got, Tag, Owe, Paid, Spec, Guard, Group, Count, Pend, Drop, Land, Opening, Source, Pending, Held}
+use Rattle.depot_rows.specs.depot_model.Latest.{latest, when}
+use Rattle.depot_rows.specs.depot_model.Opened.{opened, opening_said}
+use Rattle.depot_rows.specs.depot_model.Numbers.{pending}
+use Rattle.depot_rows.specs.depot_model.Revisions.{head}
+use Rattle.depot_rows.specs.depot_path.Path.{is_path}
+use Rattle.depot_rows.specs.depot_model.Rules.{IsSound, has_paths}
+use Rattle.depot_rows.specs.depot_model.Step.{after}
 use Rattle.sound_deeds.specs.Keeping.{Keeps, Ties, AllKeep, AllTie, IsTaken}
 use Rattle.sound_deeds.proofs.Whole.{all_sound, one_sound}
 use Rattle.sound_file_steps.proofs.Steps.{AllOf}

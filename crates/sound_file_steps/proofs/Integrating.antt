@@ -3,29 +3,29 @@ use Rattle.std.proofs.Common.{◌≡◌, ◌≤◌, ◌+◌, ℕ, zero, suc, Boo
 use Rattle.std.specs.Prelude.{◌&&◌, not, codes, filter, IfSome, IsSome, IsSomeAnd, is_some, unwrap_or, if◌then◌else◌}
 use Rattle.std.specs.List.{list_all, range_with_len, last_or}
 use Rattle.std.specs.Option.{option_or, option_flatten}
-use Rattle.depot_path.specs.Bytes.{same}
-use Rattle.depot_path.specs.Path.{is_path, printed}
-use Rattle.depot_path.specs.declared.revision.Wanted.{Wanted}
-use Rattle.depot_path.specs.declared.revision.Wanted.TheVariants.{Head}
-use Rattle.depot_model.specs.Arguments.{named, names, submitted, within_files}
-use Rattle.depot_model.specs.Asking.{is_client, to_open, to_read}
-use Rattle.depot_model.specs.Choice.{Choice, PassedOver, At, chosen, shown}
-use Rattle.depot_model.specs.Deeds.{Deed, Open, Got, Owe, Paid, Opening, Source, Action, Delete, Branch, Integrate, BranchFrom, DeleteFrom, How}
-use Rattle.depot_model.specs.Latest.{latest, when}
-use Rattle.depot_model.specs.Opened.{opened, opening_said}
-use Rattle.depot_model.specs.Range.{in_range}
-use Rattle.depot_model.specs.Revisions.{Revision, revision, head, is_live_at, is_live_head}
-use Rattle.depot_model.specs.Rules.{IsSound, IsType}
-use Rattle.depot_model.specs.Step.{Step, nothing, does, refuses, after, unless, refuse_if, in_turn}
-use Rattle.depot_model.specs.Steps.Integrating.{uncredited, type_at, opening, owing, integrate_live, integrate_deleted, integrate_revs, new_type, integrate_to, integrate_chosen, integrate_file, integrate_all, integrate}
-use Rattle.depot_model.specs.Steps.Opening.{right_refusal, named_change_refusal, exclusive_refusal, held}
-use Rattle.depot_model.specs.Steps.Targets.{target_text, target_at}
-use Rattle.depot_model.specs.declared.command.FileArgument.{FileArgument}
-use Rattle.depot_model.specs.declared.command.PatternArgument.{PatternArgument}
-use Rattle.depot_model.specs.declared.refusal.Refusal.{Refusal}
-use Rattle.depot_model.specs.declared.refusal.Refusal.TheVariants.{NotInView, AlreadyOpen, AllIntegrated}
-use Rattle.depot_model.specs.declared.reply.Row.{Row}
-use Rattle.depot_model.specs.declared.request.Caller.{Caller}
+use Rattle.depot_rows.specs.depot_path.Bytes.{same}
+use Rattle.depot_rows.specs.depot_path.Path.{is_path, printed}
+use Rattle.depot_rows.specs.depot_path.declared.revision.Wanted.{Wanted}
+use Rattle.depot_rows.specs.depot_path.declared.revision.Wanted.TheVariants.{Head}
+use Rattle.depot_rows.specs.depot_model.Arguments.{named, names, submitted, within_files}
+use Rattle.depot_rows.specs.depot_model.Asking.{is_client, to_open, to_read}
+use Rattle.depot_rows.specs.depot_model.Choice.{Choice, PassedOver, At, chosen, shown}
+use Rattle.depot_rows.specs.depot_model.Deeds.{Deed, Open, Got, Owe, Paid, Opening, Source, Action, Delete, Branch, Integrate, BranchFrom, DeleteFrom, How}
+use Rattle.depot_rows.specs.depot_model.Latest.{latest, when}
+use Rattle.depot_rows.specs.depot_model.Opened.{opened, opening_said}
+use Rattle.depot_rows.specs.depot_model.Range.{in_range}
+use Rattle.depot_rows.specs.depot_model.Revisions.{Revision, revision, head, is_live_at, is_live_head}
+use Rattle.depot_rows.specs.depot_model.Rules.{IsSound, IsType}
+use Rattle.depot_rows.specs.depot_model.Step.{Step, nothing, does, refuses, after, unless, refuse_if, in_turn}
+use Rattle.depot_rows.specs.depot_model.Steps.Integrating.{uncredited, type_at, opening, owing, integrate_live, integrate_deleted, integrate_revs, new_type, integrate_to, integrate_chosen, integrate_file, integrate_all, integrate}
+use Rattle.depot_rows.specs.depot_model.Steps.Opening.{right_refusal, named_change_refusal, exclusive_refusal, held}
+use Rattle.depot_rows.specs.depot_model.Steps.Targets.{target_text, target_at}
+use Rattle.depot_rows.specs.depot_model.declared.command.FileArgument.{FileArgument}
+use Rattle.depot_rows.specs.depot_model.declared.command.PatternArgument.{PatternArgument}
+use Rattle.depot_rows.specs.depot_model.declared.refusal.Refusal.{Refusal}
+use Rattle.depot_rows.specs.depot_model.declared.refusal.Refusal.TheVariants.{NotInView, AlreadyOpen, AllIntegrated}
+use Rattle.depot_rows.specs.depot_model.declared.reply.Row.{Row}
+use Rattle.depot_rows.specs.depot_model.declared.request.Caller.{Caller}
 use Rattle.depot_rows.proofs.Keys.{same-self}
 use Rattle.sound_deeds.specs.Keeping.{IsOpenChange, IsTaken, OpeningKeeps, is_move}
 use Rattle.sound_deeds.proofs.Unmoved.{le_self}

@@ -4,29 +4,29 @@ use Rattle.std.specs.Prelude.{◌&&◌, ◌==◌, codes, map, flat_map, IfSome, 
 use Rattle.std.specs.List.{list_all}
 use Rattle.std.specs.Option.{option_or, option_flatten, option_map_or}
 use Rattle.std.proofs.lemmas.Option.{slice_get_within}
-use Rattle.depot_path.specs.Bytes.{same}
-use Rattle.depot_path.specs.Path.{is_path, printed, path_of}
-use Rattle.depot_path.proofs.Paths.{prints_path}
-use Rattle.db_records.specs.declared.key.Key.TheVariants as keys
-use Rattle.db_records.specs.declared.record.Record.{Record}
-use Rattle.spec_form.specs.Form.{FormValue}
-use Rattle.spec_form.specs.Printing.{printed_form}
-use Rattle.depot_model.specs.Arguments.{paths_of, landed_paths, submitted, got_paths, open_paths, opened_by, had}
-use Rattle.depot_model.specs.Asking.{is_client, is_label}
-use Rattle.depot_model.specs.Deeds.{Deed, Open, Shut, Got, Land, Entry, Opening, Source, Action, Add, Edit, Delete, Branch, Integrate, MoveAdd, MoveDelete, ClientForm, LabelForm, JobForm, Pending, Landing}
-use Rattle.depot_model.specs.Latest.{latest, when, spec, have, labelled, is_held}
-use Rattle.depot_model.specs.Numbers.{pending, landing}
-use Rattle.depot_model.specs.Opened.{opened, opening_said}
-use Rattle.depot_model.specs.Records.{record_of, working_record, numbered_record, rev_record, printed_or_empty}
-use Rattle.depot_model.specs.Revisions.{Revision, revision, revision_in, revisions, head, is_live, is_live_at}
-use Rattle.depot_model.specs.Rows.{action_word}
-use Rattle.depot_model.specs.Rules.{Rows, IsSound, IsClient, IsLabel, IsBase, IsSource, IsMoved, IsPath, IsOpenIn, IsPendingOf, HasRev, has_paths, entry_paths, is_move_word}
-use Rattle.depot_model.specs.Sorted.{path_inserted, all_inserted, is_before}
+use Rattle.depot_rows.specs.depot_path.Bytes.{same}
+use Rattle.depot_rows.specs.depot_path.Path.{is_path, printed, path_of}
+use Rattle.depot_rows.proofs.depot_path.Paths.{prints_path}
+use Rattle.depot_rows.specs.db_records.declared.key.Key.TheVariants as keys
+use Rattle.depot_rows.specs.db_records.declared.record.Record.{Record}
+use Rattle.depot_rows.specs.spec_form.Form.{FormValue}
+use Rattle.depot_rows.specs.spec_form.Printing.{printed_form}
+use Rattle.depot_rows.specs.depot_model.Arguments.{paths_of, landed_paths, submitted, got_paths, open_paths, opened_by, had}
+use Rattle.depot_rows.specs.depot_model.Asking.{is_client, is_label}
+use Rattle.depot_rows.specs.depot_model.Deeds.{Deed, Open, Shut, Got, Land, Entry, Opening, Source, Action, Add, Edit, Delete, Branch, Integrate, MoveAdd, MoveDelete, ClientForm, LabelForm, JobForm, Pending, Landing}
+use Rattle.depot_rows.specs.depot_model.Latest.{latest, when, spec, have, labelled, is_held}
+use Rattle.depot_rows.specs.depot_model.Numbers.{pending, landing}
+use Rattle.depot_rows.specs.depot_model.Opened.{opened, opening_said}
+use Rattle.depot_rows.specs.depot_model.Records.{record_of, working_record, numbered_record, rev_record, printed_or_empty}
+use Rattle.depot_rows.specs.depot_model.Revisions.{Revision, revision, revision_in, revisions, head, is_live, is_live_at}
+use Rattle.depot_rows.specs.depot_model.Rows.{action_word}
+use Rattle.depot_rows.specs.depot_model.Rules.{Rows, IsSound, IsClient, IsLabel, IsBase, IsSource, IsMoved, IsPath, IsOpenIn, IsPendingOf, HasRev, has_paths, entry_paths, is_move_word}
+use Rattle.depot_rows.specs.depot_model.Sorted.{path_inserted, all_inserted, is_before}
 use Rattle.depot_rows.specs.Effects.{have_row, label_row}
-use Rattle.depot_rows.proofs.Changes.{change_of}
+use Rattle.depot_rows.proofs.ChangeCounter.{change_of}
 use Rattle.depot_rows.proofs.Keys.{left-true, right-true, number-is}
 use Rattle.depot_rows.proofs.Locks.{IsOf, opened-is}
-use Rattle.depot_rows.proofs.Paths.{at_path-here}
+use Rattle.depot_rows.proofs.Spelled.{at_path-here}
 use Rattle.sound_deeds.specs.Keeping.{OpeningKeeps, IsTaken, IsOpenChange, is_move}
 use Rattle.sound_deeds.specs.Loose.{IsLooseRow, IsTiedRow}
 use Rattle.sound_deeds.proofs.Files.{ArePaths, are_paths}

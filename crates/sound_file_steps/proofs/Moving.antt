@@ -3,27 +3,27 @@ use Rattle.std.proofs.Common.{◌≡◌, ◌≤◌, ℕ, Bool, true, false, List
 use Rattle.std.specs.Prelude.{◌&&◌, ◌==◌, not, IfSome, IsSomeAnd, is_some, is_none, unwrap_or, option_map, option_and_then, if◌then◌else◌}
 use Rattle.std.specs.List.{list_all}
 use Rattle.std.proofs.lemmas.Bool.Decides.{nat_tests}
-use Rattle.depot_path.specs.Path.{is_path, printed}
-use Rattle.depot_path.specs.declared.revision.Wanted.TheVariants.{Head}
-use Rattle.view_map.specs.Mapping.{files_at}
-use Rattle.depot_model.specs.Arguments.{named, names, opened_by, within_files, in_client_syntax}
-use Rattle.depot_model.specs.Asking.{view, to_open}
-use Rattle.depot_model.specs.Choice.{shown}
-use Rattle.depot_model.specs.Deeds.{Deed, Open, Opening, Source, Pending, Action, Add, Edit, Delete, Branch, Integrate, MoveAdd, MoveDelete}
-use Rattle.depot_model.specs.Latest.{when}
-use Rattle.depot_model.specs.Numbers.{pending}
-use Rattle.depot_model.specs.Opened.{opened, partner, named_back, is_moved_with}
-use Rattle.depot_model.specs.Revisions.{head, is_live_head}
-use Rattle.depot_model.specs.Rules.{IsSound, path_or_none}
-use Rattle.depot_model.specs.Step.{Step, nothing, does, refuses, after, unless, refuse_if, in_turn}
-use Rattle.depot_model.specs.Steps.Adding.{first_live}
-use Rattle.depot_model.specs.Steps.Moving.{is_movable, shut, move_added, move_edited, renamed, move_again, move_deeds, move_row, movable_refusal, move_to, move_opening, move_file, move_all, move}
-use Rattle.depot_model.specs.Steps.Opening.{right_refusal, named_change_refusal, exclusive_refusal}
-use Rattle.depot_model.specs.Steps.Targets.{target_text, target_at}
-use Rattle.depot_model.specs.declared.command.FileArgument.{FileArgument}
-use Rattle.depot_model.specs.declared.command.PatternArgument.{PatternArgument}
-use Rattle.depot_model.specs.declared.refusal.Refusal.TheVariants.{NotInView, AlreadyOpen, Exists, NotMovable}
-use Rattle.depot_model.specs.declared.request.Caller.{Caller}
+use Rattle.depot_rows.specs.depot_path.Path.{is_path, printed}
+use Rattle.depot_rows.specs.depot_path.declared.revision.Wanted.TheVariants.{Head}
+use Rattle.depot_rows.specs.view_map.Mapping.{files_at}
+use Rattle.depot_rows.specs.depot_model.Arguments.{named, names, opened_by, within_files, in_client_syntax}
+use Rattle.depot_rows.specs.depot_model.Asking.{view, to_open}
+use Rattle.depot_rows.specs.depot_model.Choice.{shown}
+use Rattle.depot_rows.specs.depot_model.Deeds.{Deed, Open, Opening, Source, Pending, Action, Add, Edit, Delete, Branch, Integrate, MoveAdd, MoveDelete}
+use Rattle.depot_rows.specs.depot_model.Latest.{when}
+use Rattle.depot_rows.specs.depot_model.Numbers.{pending}
+use Rattle.depot_rows.specs.depot_model.Opened.{opened, partner, named_back, is_moved_with}
+use Rattle.depot_rows.specs.depot_model.Revisions.{head, is_live_head}
+use Rattle.depot_rows.specs.depot_model.Rules.{IsSound, path_or_none}
+use Rattle.depot_rows.specs.depot_model.Step.{Step, nothing, does, refuses, after, unless, refuse_if, in_turn}
+use Rattle.depot_rows.specs.depot_model.Steps.Adding.{first_live}
+use Rattle.depot_rows.specs.depot_model.Steps.Moving.{is_movable, shut, move_added, move_edited, renamed, move_again, move_deeds, move_row, movable_refusal, move_to, move_opening, move_file, move_all, move}
+use Rattle.depot_rows.specs.depot_model.Steps.Opening.{right_refusal, named_change_refusal, exclusive_refusal}
+use Rattle.depot_rows.specs.depot_model.Steps.Targets.{target_text, target_at}
+use Rattle.depot_rows.specs.depot_model.declared.command.FileArgument.{FileArgument}
+use Rattle.depot_rows.specs.depot_model.declared.command.PatternArgument.{PatternArgument}
+use Rattle.depot_rows.specs.depot_model.declared.refusal.Refusal.TheVariants.{NotInView, AlreadyOpen, Exists, NotMovable}
+use Rattle.depot_rows.specs.depot_model.declared.request.Caller.{Caller}
 use Rattle.sound_deeds.specs.Keeping.{IsOpenChange, IsTaken, is_move}
 use Rattle.sound_deeds.proofs.Files.{ArePaths, are_paths}
 use Rattle.sound_deeds.proofs.Unmoved.{le_self}

@@ -3,41 +3,41 @@ use Rattle.std.proofs.Common.{◌≡◌, ◌≤◌, ◌<◌, ◌+◌, ◌++◌, 
 use Rattle.std.specs.Prelude.{◌&&◌, ◌==◌, max, not, nat_le, nat_lt, codes, find, IfSome, is_some, is_none, unwrap_or, option_map, option_and_then, ◌||◌, if◌then◌else◌}
 use Rattle.std.specs.List.{list_all}
 use Rattle.std.proofs.lemmas.Bool.Decides.{nat_tests}
-use Rattle.depot_path.specs.Path.{is_path, printed}
-use Rattle.depot_path.specs.declared.revision.RevSpec.{RevSpec}
-use Rattle.depot_path.specs.declared.revision.RevSpec.TheVariants.{Number, Newest, Have, Zero, Change, Only, Moment, Named}
-use Rattle.depot_path.specs.declared.revision.Wanted.{Wanted}
-use Rattle.depot_path.specs.declared.revision.Wanted.TheVariants.{Head, One, Range}
-use Rattle.db_records.specs.declared.key.Key.TheVariants as keys
-use Rattle.db_records.specs.declared.record.Record.{Record}
-use Rattle.depot_path.specs.Fit.{texts, filled}
-use Rattle.depot_path.specs.declared.piece.Piece.{Piece}
-use Rattle.view_map.specs.Carry.{made_of, same_texts, depot_file, is_exclusion}
-use Rattle.view_map.specs.Specifiers.{answering}
-use Rattle.view_map.specs.Mapping.{files_at, file_by, taken_by_some, hidden_by_some}
-use Rattle.view_map.specs.declared.line.ViewLine.{ViewLine}
-use Rattle.depot_model.specs.Arguments.{named, names, submitted, had, over, over_all, no_file, within_files, in_client_syntax}
-use Rattle.depot_model.specs.Asking.{is_client, is_label, view, to_open, to_read}
-use Rattle.depot_model.specs.Choice.{Choice, PassedOver, At, chosen, chosen_by, shown, at_or_above_one}
-use Rattle.depot_model.specs.Deeds.{Deed, Open, Got, Owe, Opening, Owing, Source, Action, Add, Edit, Delete, Branch, Integrate, MoveAdd, MoveDelete}
-use Rattle.depot_model.specs.Latest.{have, labelled}
-use Rattle.depot_model.specs.Opened.{opened}
-use Rattle.depot_model.specs.Records.{record_of, rev_record}
-use Rattle.depot_model.specs.Revisions.{Revision, revision, revisions, head, last_passing, is_live_head, is_live_at}
-use Rattle.depot_model.specs.Rules.{IsSound, IsType, path_or_none}
-use Rattle.depot_model.specs.Step.{Step, nothing, does, refuses, after, refuse_if}
-use Rattle.depot_model.specs.Steps.Opening.{held, opening_row, right_refusal, named_change_refusal, exclusive_refusal}
-use Rattle.depot_model.specs.Steps.Adding as adding
-use Rattle.depot_model.specs.Steps.Adding.{first_live}
-use Rattle.depot_model.specs.Steps.Editing as editing
-use Rattle.depot_model.specs.Steps.Syncing as syncing
-use Rattle.depot_model.specs.WellFormed.{is_type_or_none, spells_path}
-use Rattle.depot_model.specs.declared.command.FileArgument.{FileArgument}
-use Rattle.depot_model.specs.declared.refusal.Refusal.TheVariants.{NotInView, AlreadyOpen, Exists}
-use Rattle.depot_model.specs.declared.reply.Row.{Row}
-use Rattle.depot_model.specs.declared.request.Caller.{Caller}
+use Rattle.depot_rows.specs.depot_path.Path.{is_path, printed}
+use Rattle.depot_rows.specs.depot_path.declared.revision.RevSpec.{RevSpec}
+use Rattle.depot_rows.specs.depot_path.declared.revision.RevSpec.TheVariants.{Number, Newest, Have, Zero, Change, Only, Moment, Named}
+use Rattle.depot_rows.specs.depot_path.declared.revision.Wanted.{Wanted}
+use Rattle.depot_rows.specs.depot_path.declared.revision.Wanted.TheVariants.{Head, One, Range}
+use Rattle.depot_rows.specs.db_records.declared.key.Key.TheVariants as keys
+use Rattle.depot_rows.specs.db_records.declared.record.Record.{Record}
+use Rattle.depot_rows.specs.depot_path.Fit.{texts, filled}
+use Rattle.depot_rows.specs.depot_path.declared.piece.Piece.{Piece}
+use Rattle.depot_rows.specs.view_map.Carry.{made_of, same_texts, depot_file, is_exclusion}
+use Rattle.depot_rows.specs.view_map.Specifiers.{answering}
+use Rattle.depot_rows.specs.view_map.Mapping.{files_at, file_by, taken_by_some, hidden_by_some}
+use Rattle.depot_rows.specs.view_map.declared.line.ViewLine.{ViewLine}
+use Rattle.depot_rows.specs.depot_model.Arguments.{named, names, submitted, had, over, over_all, no_file, within_files, in_client_syntax}
+use Rattle.depot_rows.specs.depot_model.Asking.{is_client, is_label, view, to_open, to_read}
+use Rattle.depot_rows.specs.depot_model.Choice.{Choice, PassedOver, At, chosen, chosen_by, shown, at_or_above_one}
+use Rattle.depot_rows.specs.depot_model.Deeds.{Deed, Open, Got, Owe, Opening, Owing, Source, Action, Add, Edit, Delete, Branch, Integrate, MoveAdd, MoveDelete}
+use Rattle.depot_rows.specs.depot_model.Latest.{have, labelled}
+use Rattle.depot_rows.specs.depot_model.Opened.{opened}
+use Rattle.depot_rows.specs.depot_model.Records.{record_of, rev_record}
+use Rattle.depot_rows.specs.depot_model.Revisions.{Revision, revision, revisions, head, last_passing, is_live_head, is_live_at}
+use Rattle.depot_rows.specs.depot_model.Rules.{IsSound, IsType, path_or_none}
+use Rattle.depot_rows.specs.depot_model.Step.{Step, nothing, does, refuses, after, refuse_if}
+use Rattle.depot_rows.specs.depot_model.Steps.Opening.{held, opening_row, right_refusal, named_change_refusal, exclusive_refusal}
+use Rattle.depot_rows.specs.depot_model.Steps.Adding as adding
+use Rattle.depot_rows.specs.depot_model.Steps.Adding.{first_live}
+use Rattle.depot_rows.specs.depot_model.Steps.Editing as editing
+use Rattle.depot_rows.specs.depot_model.Steps.Syncing as syncing
+use Rattle.depot_rows.specs.depot_model.WellFormed.{is_type_or_none, spells_path}
+use Rattle.depot_rows.specs.depot_model.declared.command.FileArgument.{FileArgument}
+use Rattle.depot_rows.specs.depot_model.declared.refusal.Refusal.TheVariants.{NotInView, AlreadyOpen, Exists}
+use Rattle.depot_rows.specs.depot_model.declared.reply.Row.{Row}
+use Rattle.depot_rows.specs.depot_model.declared.request.Caller.{Caller}
 use Rattle.depot_rows.proofs.Keys.{left-true, right-true}
-use Rattle.depot_rows.proofs.Paths.{at_path-here}
+use Rattle.depot_rows.proofs.Spelled.{at_path-here}
 use Rattle.sound_deeds.specs.Keeping.{is_move}
 use Rattle.sound_deeds.specs.Loose.{IsLooseRow}
 use Rattle.sound_deeds.proofs.Files.{ArePaths, are_paths}

@@ -2,29 +2,29 @@
 use Rattle.std.proofs.Common.{◌≡◌, ℕ, Bool, true, false, List, [], ◌∷◌, Option, Some, None, refl}
 use Rattle.std.specs.Prelude.{◌&&◌, ◌==◌, not, codes, decimal, flat_map, map, length, if◌then◌else◌}
 use Rattle.std.specs.List.{list_all, enumerate_from}
-use Rattle.view_map.specs.Mapping.{path_in}
-use Rattle.depot_model.specs.Arguments.{named, submitted, had, no_file, over, over_all}
-use Rattle.depot_model.specs.Asking.{view, to_read}
-use Rattle.depot_model.specs.Deeds.{Deed, Pending, Landing}
-use Rattle.depot_model.specs.Fixes.{job}
-use Rattle.depot_model.specs.Numbers.{pending, landing}
-use Rattle.depot_model.specs.Rules.{IsSound}
-use Rattle.depot_model.specs.Step.{Step, nothing, tells, refuses, after, unless, refuse_if}
-use Rattle.depot_model.specs.Steps.Changing.{change_show, change_row, show_landed, listable, openings_in}
-use Rattle.depot_model.specs.Steps.History.{integrated_row, records_of, log_fields, up_to, print_row, stat_row, change_fields, landed_files, integrated, filelog, log_file, print, print_chosen, describe, describe_landed, describe_pending, fstat, stat_file}
-use Rattle.depot_model.specs.Steps.Jobs.{job_show}
-use Rattle.depot_model.specs.Steps.Listing.{Numbered, chosen_revision, listed, file_row, files, tells_file, tells_revision}
-use Rattle.depot_model.specs.Steps.Placing.{have_row, where_is, told, tell_place, place_row, have_step}
-use Rattle.depot_model.specs.Steps.Reverting.{opened_step, opened_files, show_opened, not_open}
-use Rattle.depot_model.specs.Steps.Shelving.{describe_shelved, describe_kept, shelf_refusal}
-use Rattle.depot_model.specs.declared.command.FileArgument.{FileArgument}
-use Rattle.depot_model.specs.FormRows.{form_fields}
-use Rattle.depot_model.specs.Revisions.{is_live}
-use Rattle.depot_model.specs.Rows.{row, path_field}
-use Rattle.depot_model.specs.Steps.Opening.{right_refusal}
-use Rattle.depot_model.specs.declared.refusal.Refusal.TheVariants.{NotInView, NoSuchChange, NoSuchJob, NoShelf}
-use Rattle.depot_model.specs.declared.request.Caller.{Caller}
-use Rattle.spec_form.specs.Form.{FormValue}
+use Rattle.depot_rows.specs.view_map.Mapping.{path_in}
+use Rattle.depot_rows.specs.depot_model.Arguments.{named, submitted, had, no_file, over, over_all}
+use Rattle.depot_rows.specs.depot_model.Asking.{view, to_read}
+use Rattle.depot_rows.specs.depot_model.Deeds.{Deed, Pending, Landing}
+use Rattle.depot_rows.specs.depot_model.Fixes.{job}
+use Rattle.depot_rows.specs.depot_model.Numbers.{pending, landing}
+use Rattle.depot_rows.specs.depot_model.Rules.{IsSound}
+use Rattle.depot_rows.specs.depot_model.Step.{Step, nothing, tells, refuses, after, unless, refuse_if}
+use Rattle.depot_rows.specs.depot_model.Steps.Changing.{change_show, change_row, show_landed, listable, openings_in}
+use Rattle.depot_rows.specs.depot_model.Steps.History.{integrated_row, records_of, log_fields, up_to, print_row, stat_row, change_fields, landed_files, integrated, filelog, log_file, print, print_chosen, describe, describe_landed, describe_pending, fstat, stat_file}
+use Rattle.depot_rows.specs.depot_model.Steps.Jobs.{job_show}
+use Rattle.depot_rows.specs.depot_model.Steps.Listing.{Numbered, chosen_revision, listed, file_row, files, tells_file, tells_revision}
+use Rattle.depot_rows.specs.depot_model.Steps.Placing.{have_row, where_is, told, tell_place, place_row, have_step}
+use Rattle.depot_rows.specs.depot_model.Steps.Reverting.{opened_step, opened_files, show_opened, not_open}
+use Rattle.depot_rows.specs.depot_model.Steps.Shelving.{describe_shelved, describe_kept, shelf_refusal}
+use Rattle.depot_rows.specs.depot_model.declared.command.FileArgument.{FileArgument}
+use Rattle.depot_rows.specs.depot_model.FormRows.{form_fields}
+use Rattle.depot_rows.specs.depot_model.Revisions.{is_live}
+use Rattle.depot_rows.specs.depot_model.Rows.{row, path_field}
+use Rattle.depot_rows.specs.depot_model.Steps.Opening.{right_refusal}
+use Rattle.depot_rows.specs.depot_model.declared.refusal.Refusal.TheVariants.{NotInView, NoSuchChange, NoSuchJob, NoShelf}
+use Rattle.depot_rows.specs.depot_model.declared.request.Caller.{Caller}
+use Rattle.depot_rows.specs.spec_form.Form.{FormValue}
 use Rattle.sound_file_steps.proofs.Steps.{AllOf, over_these, over_any, unless_all, unless_sound}
 
 abbrev None_ : Deed → Type 0

@@ -2,29 +2,29 @@
 use Rattle.std.proofs.Common.{◌≡◌, ◌≤◌, ℕ, Bool, true, false, List, [], ◌∷◌, Option, Some, None, refl, sym, ap, subst, ◌∙◌, arith}
 use Rattle.std.specs.Prelude.{◌&&◌, map, filter, filter_map, IfSome, is_none, option_map, if◌then◌else◌}
 use Rattle.std.specs.List.{list_all, cons_option}
-use Rattle.depot_path.specs.Bytes.{same}
-use Rattle.depot_path.specs.Path.{is_path, printed}
-use Rattle.db_records.specs.declared.key.Key.TheVariants as keys
-use Rattle.db_records.specs.declared.record.Record.{Record}
-use Rattle.depot_model.specs.Arguments.{named, names, opened_by, over_all, paths_of}
-use Rattle.depot_model.specs.Asking.{is_client, to_open}
-use Rattle.depot_model.specs.Deeds.{Deed, Spec, Guard, Group, Count, Pend, Drop, Open, Shut, Hold, Free, Got, Tag, Owe, Paid, Land, Opening, Owing, Source}
-use Rattle.depot_model.specs.Latest.{is_held}
-use Rattle.depot_model.specs.Opened.{opened, owed, paid_by, Resolve}
-use Rattle.depot_model.specs.Records.{record_of, resolve_record, at_path}
-use Rattle.depot_model.specs.Revisions.{head, is_live_at}
-use Rattle.depot_model.specs.Rules.{IsSound, has_paths}
-use Rattle.depot_model.specs.Step.{Step, nothing, after, both}
-use Rattle.depot_model.specs.Steps.Opening.{right_refusal}
-use Rattle.depot_model.specs.Steps.Resolving.{held_of, source_at, own_deeds, other_deeds, resolve_one, resolve_next, resolve_opened, owings, resolve_file, resolve}
-use Rattle.depot_model.specs.Steps.Reverting.{not_open}
-use Rattle.depot_model.specs.Steps.Submitting.{resolves_of, owed_from, is_unpaid}
-use Rattle.depot_model.specs.declared.command.FileArgument.{FileArgument}
-use Rattle.depot_model.specs.declared.command.Taking.{Taking}
-use Rattle.depot_model.specs.declared.command.Taking.TheVariants.{Theirs, Yours}
-use Rattle.depot_model.specs.declared.request.Caller.{Caller}
+use Rattle.depot_rows.specs.depot_path.Bytes.{same}
+use Rattle.depot_rows.specs.depot_path.Path.{is_path, printed}
+use Rattle.depot_rows.specs.db_records.declared.key.Key.TheVariants as keys
+use Rattle.depot_rows.specs.db_records.declared.record.Record.{Record}
+use Rattle.depot_rows.specs.depot_model.Arguments.{named, names, opened_by, over_all, paths_of}
+use Rattle.depot_rows.specs.depot_model.Asking.{is_client, to_open}
+use Rattle.depot_rows.specs.depot_model.Deeds.{Deed, Spec, Guard, Group, Count, Pend, Drop, Open, Shut, Hold, Free, Got, Tag, Owe, Paid, Land, Opening, Owing, Source}
+use Rattle.depot_rows.specs.depot_model.Latest.{is_held}
+use Rattle.depot_rows.specs.depot_model.Opened.{opened, owed, paid_by, Resolve}
+use Rattle.depot_rows.specs.depot_model.Records.{record_of, resolve_record, at_path}
+use Rattle.depot_rows.specs.depot_model.Revisions.{head, is_live_at}
+use Rattle.depot_rows.specs.depot_model.Rules.{IsSound, has_paths}
+use Rattle.depot_rows.specs.depot_model.Step.{Step, nothing, after, both}
+use Rattle.depot_rows.specs.depot_model.Steps.Opening.{right_refusal}
+use Rattle.depot_rows.specs.depot_model.Steps.Resolving.{held_of, source_at, own_deeds, other_deeds, resolve_one, resolve_next, resolve_opened, owings, resolve_file, resolve}
+use Rattle.depot_rows.specs.depot_model.Steps.Reverting.{not_open}
+use Rattle.depot_rows.specs.depot_model.Steps.Submitting.{resolves_of, owed_from, is_unpaid}
+use Rattle.depot_rows.specs.depot_model.declared.command.FileArgument.{FileArgument}
+use Rattle.depot_rows.specs.depot_model.declared.command.Taking.{Taking}
+use Rattle.depot_rows.specs.depot_model.declared.command.Taking.TheVariants.{Theirs, Yours}
+use Rattle.depot_rows.specs.depot_model.declared.request.Caller.{Caller}
 use Rattle.depot_rows.proofs.Keys.{same-is, left-true, right-true}
-use Rattle.depot_rows.proofs.Paths.{at_path-here}
+use Rattle.depot_rows.proofs.Spelled.{at_path-here}
 use Rattle.sound_deeds.specs.Keeping.{IsTaken}
 use Rattle.sound_deeds.specs.Loose.{IsLooseRow}
 use Rattle.sound_deeds.proofs.Files.{ArePaths, are_paths}

@@ -1,12 +1,12 @@
 -- Deeds that find what they have to whichever files are opened, each in the depot before the first of them.
 use Rattle.std.proofs.Common.{◌≡◌, ◌≤◌, ℕ, Bool, true, false, List, [], ◌∷◌, Option, Some, None, inl, inr, refl, sym, subst, ◌∙◌}
 use Rattle.std.specs.Prelude.{IsTrue, IfSome, IsSomeAnd}
-use Rattle.depot_model.specs.Asking.{is_client, is_label}
-use Rattle.depot_model.specs.Deeds.{Deed, Open, Shut, Hold, Free, Got, Tag, Owe, Paid, Spec, Guard, Group, Count, Pend, Drop, Land, Source, Pending}
-use Rattle.depot_model.specs.Numbers.{pending}
-use Rattle.depot_model.specs.Revisions.{head}
-use Rattle.depot_model.specs.Rules.{IsSound, has_paths}
-use Rattle.depot_model.specs.Step.{after}
+use Rattle.depot_rows.specs.depot_model.Asking.{is_client, is_label}
+use Rattle.depot_rows.specs.depot_model.Deeds.{Deed, Open, Shut, Hold, Free, Got, Tag, Owe, Paid, Spec, Guard, Group, Count, Pend, Drop, Land, Source, Pending}
+use Rattle.depot_rows.specs.depot_model.Numbers.{pending}
+use Rattle.depot_rows.specs.depot_model.Revisions.{head}
+use Rattle.depot_rows.specs.depot_model.Rules.{IsSound, has_paths}
+use Rattle.depot_rows.specs.depot_model.Step.{after}
 use Rattle.sound_deeds.specs.Keeping.{Keeps, Ties, AllKeep, AllTie, IsTaken}
 use Rattle.sound_deeds.proofs.Whole.{all_sound}
 use Rattle.sound_file_steps.proofs.Steps.{AllOf}

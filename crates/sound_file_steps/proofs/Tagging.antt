@@ -3,30 +3,30 @@ use Rattle.std.proofs.Common.{◌≡◌, ◌≤◌, ℕ, zero, suc, Bool, true, 
 use Rattle.std.specs.Prelude.{◌==◌, not, is_some, if◌then◌else◌, codes}
 use Rattle.std.specs.List.{list_all}
 use Rattle.std.specs.Option.{option_or}
-use Rattle.depot_path.specs.Path.{is_path}
-use Rattle.depot_path.specs.declared.revision.Wanted.{Wanted}
-use Rattle.depot_model.specs.Arguments.{named, names, submitted, over_all, no_file, within_files}
-use Rattle.depot_model.specs.Asking.{is_label, to_open}
-use Rattle.depot_model.specs.Choice.{Choice, PassedOver, At, chosen}
-use Rattle.depot_path.specs.Bytes.{same}
-use Rattle.depot_path.specs.Name.{is_name}
-use Rattle.spec_form.specs.Form.{FormValue}
-use Rattle.spec_form.specs.declared.shape.Shape.TheVariants.{Label}
-use Rattle.depot_model.specs.Deeds.{Deed, Spec, Tag, LabelForm}
-use Rattle.depot_model.specs.Values.{valued}
-use Rattle.depot_model.specs.Latest.{labelled, latest, when, spec_said}
-use Rattle.depot_model.specs.Revisions.{head, is_live_at}
-use Rattle.depot_model.specs.Rules.{IsSound}
-use Rattle.depot_model.specs.Step.{Step, nothing, does, after, both, refuse_if}
-use Rattle.depot_model.specs.Steps.Labels.{is_locked}
-use Rattle.depot_model.specs.Steps.Opening.{right_refusal}
-use Rattle.depot_model.specs.Steps.Tagging.{tag_to, tag_file, live_choice, or_labelled, made_label, tagged_rev, tag_files, tag, or_have, synced_rev, labelsync}
-use Rattle.depot_model.specs.declared.command.FileArgument.{FileArgument}
-use Rattle.depot_model.specs.declared.command.Labelling.{Labelling}
-use Rattle.depot_model.specs.declared.command.Labelling.TheVariants.{Exact, Adding, Removing}
-use Rattle.depot_model.specs.declared.refusal.Refusal.TheVariants.{NoSuchLabel, LabelLocked}
-use Rattle.depot_model.specs.declared.reply.Row.{Row}
-use Rattle.depot_model.specs.declared.request.Caller.{Caller}
+use Rattle.depot_rows.specs.depot_path.Path.{is_path}
+use Rattle.depot_rows.specs.depot_path.declared.revision.Wanted.{Wanted}
+use Rattle.depot_rows.specs.depot_model.Arguments.{named, names, submitted, over_all, no_file, within_files}
+use Rattle.depot_rows.specs.depot_model.Asking.{is_label, to_open}
+use Rattle.depot_rows.specs.depot_model.Choice.{Choice, PassedOver, At, chosen}
+use Rattle.depot_rows.specs.depot_path.Bytes.{same}
+use Rattle.depot_rows.specs.depot_path.Name.{is_name}
+use Rattle.depot_rows.specs.spec_form.Form.{FormValue}
+use Rattle.depot_rows.specs.spec_form.declared.shape.Shape.TheVariants.{Label}
+use Rattle.depot_rows.specs.depot_model.Deeds.{Deed, Spec, Tag, LabelForm}
+use Rattle.depot_rows.specs.depot_model.Values.{valued}
+use Rattle.depot_rows.specs.depot_model.Latest.{labelled, latest, when, spec_said}
+use Rattle.depot_rows.specs.depot_model.Revisions.{head, is_live_at}
+use Rattle.depot_rows.specs.depot_model.Rules.{IsSound}
+use Rattle.depot_rows.specs.depot_model.Step.{Step, nothing, does, after, both, refuse_if}
+use Rattle.depot_rows.specs.depot_model.Steps.Labels.{is_locked}
+use Rattle.depot_rows.specs.depot_model.Steps.Opening.{right_refusal}
+use Rattle.depot_rows.specs.depot_model.Steps.Tagging.{tag_to, tag_file, live_choice, or_labelled, made_label, tagged_rev, tag_files, tag, or_have, synced_rev, labelsync}
+use Rattle.depot_rows.specs.depot_model.declared.command.FileArgument.{FileArgument}
+use Rattle.depot_rows.specs.depot_model.declared.command.Labelling.{Labelling}
+use Rattle.depot_rows.specs.depot_model.declared.command.Labelling.TheVariants.{Exact, Adding, Removing}
+use Rattle.depot_rows.specs.depot_model.declared.refusal.Refusal.TheVariants.{NoSuchLabel, LabelLocked}
+use Rattle.depot_rows.specs.depot_model.declared.reply.Row.{Row}
+use Rattle.depot_rows.specs.depot_model.declared.request.Caller.{Caller}
 use Rattle.depot_rows.proofs.Keys.{same-self}
 use Rattle.sound_deeds.proofs.Whole.{one_sound}
 use Rattle.sound_file_steps.proofs.Spelled.{label_spelled}

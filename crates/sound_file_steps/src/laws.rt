@@ -2,25 +2,25 @@
 
 ghost use Rattle.std.specs.List.{list_all};
 ghost use Rattle.std.specs.Prelude.{ℕ, Bool, List, Option, IsTrue};
-ghost use Rattle.depot_path.specs.Name.{is_name};
-ghost use Rattle.depot_model.specs.declared.command.FileArgument.{FileArgument};
-ghost use Rattle.depot_model.specs.declared.command.Labelling.{Labelling};
-ghost use Rattle.depot_model.specs.declared.command.PatternArgument.{PatternArgument};
-ghost use Rattle.depot_model.specs.declared.command.Taking.{Taking};
-ghost use Rattle.depot_model.specs.declared.request.Caller.{Caller};
-ghost use Rattle.depot_model.specs.Asking.{is_client};
-ghost use Rattle.depot_model.specs.Deeds.{Deed};
-ghost use Rattle.depot_model.specs.Rules.{IsSound};
-ghost use Rattle.depot_model.specs.Step.{after};
-ghost use Rattle.depot_model.specs.Steps.Adding.{add};
-ghost use Rattle.depot_model.specs.Steps.Editing.{edit, delete};
-ghost use Rattle.depot_model.specs.Steps.Integrating.{integrate};
-ghost use Rattle.depot_model.specs.Steps.Moving.{move as move_step};
-ghost use Rattle.depot_model.specs.Steps.Resolving.{resolve};
-ghost use Rattle.depot_model.specs.Steps.Reverting.{lock, unlock, revert, reopen};
-ghost use Rattle.depot_model.specs.Steps.Syncing.{sync};
-ghost use Rattle.depot_model.specs.Steps.Tagging.{tag, labelsync};
-ghost use Rattle.depot_model.specs.WellFormed.{is_type_or_none, spells_path};
+ghost use Rattle.depot_rows.specs.depot_path.Name.{is_name};
+ghost use Rattle.depot_rows.specs.depot_model.declared.command.FileArgument.{FileArgument};
+ghost use Rattle.depot_rows.specs.depot_model.declared.command.Labelling.{Labelling};
+ghost use Rattle.depot_rows.specs.depot_model.declared.command.PatternArgument.{PatternArgument};
+ghost use Rattle.depot_rows.specs.depot_model.declared.command.Taking.{Taking};
+ghost use Rattle.depot_rows.specs.depot_model.declared.request.Caller.{Caller};
+ghost use Rattle.depot_rows.specs.depot_model.Asking.{is_client};
+ghost use Rattle.depot_rows.specs.depot_model.Deeds.{Deed};
+ghost use Rattle.depot_rows.specs.depot_model.Rules.{IsSound};
+ghost use Rattle.depot_rows.specs.depot_model.Step.{after};
+ghost use Rattle.depot_rows.specs.depot_model.Steps.Adding.{add};
+ghost use Rattle.depot_rows.specs.depot_model.Steps.Editing.{edit, delete};
+ghost use Rattle.depot_rows.specs.depot_model.Steps.Integrating.{integrate};
+ghost use Rattle.depot_rows.specs.depot_model.Steps.Moving.{move as move_step};
+ghost use Rattle.depot_rows.specs.depot_model.Steps.Resolving.{resolve};
+ghost use Rattle.depot_rows.specs.depot_model.Steps.Reverting.{lock, unlock, revert, reopen};
+ghost use Rattle.depot_rows.specs.depot_model.Steps.Syncing.{sync};
+ghost use Rattle.depot_rows.specs.depot_model.Steps.Tagging.{tag, labelsync};
+ghost use Rattle.depot_rows.specs.depot_model.WellFormed.{is_type_or_none, spells_path};
 
 /// Steps on opened files, and on labels, leave a sound depot sound.
 pub fn steps_on_files_keep_depots_sound()

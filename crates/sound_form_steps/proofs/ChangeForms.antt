@@ -4,26 +4,26 @@ use Rattle.std.specs.Prelude.{◌==◌, not, codes, map, filter_map, nat_lt, IfS
 use Rattle.std.specs.Option.{option_or, option_flatten}
 use Rattle.std.specs.List.{cons_option}
 use Rattle.std.proofs.lemmas.Bool.Decides.{nat_tests}
-use Rattle.depot_path.specs.Name.{is_name}
-use Rattle.spec_form.specs.Form.{FormValue, lines_of}
-use Rattle.spec_form.specs.Places.{field_place}
-use Rattle.spec_form.specs.Reading.{form_of}
-use Rattle.spec_form.specs.declared.fault.FormFault.{FormFault}
-use Rattle.spec_form.specs.declared.shape.Shape.TheVariants.{Change as ChangeShape}
-use Rattle.depot_model.specs.Deeds.{Deed, Open, Pend, Opening, Pending, Landing}
-use Rattle.depot_model.specs.Latest.{latest, when}
-use Rattle.depot_model.specs.Numbers.{pending, pending_said, landing, top}
-use Rattle.depot_model.specs.Opened.{opened}
-use Rattle.depot_model.specs.Rules.{IsSound}
-use Rattle.depot_model.specs.Step.{Step, refuses, after, refuse_if}
-use Rattle.depot_model.specs.Steps.Changing.{saved, moved_to, not_open, bad_lines, has_number, form_text, listed_paths, form_number, change_form, change_save}
-use Rattle.depot_model.specs.Steps.Opening.{is_of, change_refusal}
-use Rattle.depot_model.specs.declared.refusal.Refusal.{Refusal}
-use Rattle.depot_model.specs.declared.refusal.Refusal.TheVariants.{BadForm, NoSuchChange, NotYours, OverLimit}
-use Rattle.depot_model.specs.declared.refusal.Limit.TheVariants.{Text, Change, Files}
-use Rattle.depot_model.specs.declared.request.Caller.{Caller}
-use Rattle.depot_model.specs.declared.request.Request.{Request}
-use Rattle.depot_rows.proofs.Changes.{change_of, top_value}
+use Rattle.depot_rows.specs.depot_path.Name.{is_name}
+use Rattle.depot_rows.specs.spec_form.Form.{FormValue, lines_of}
+use Rattle.depot_rows.specs.spec_form.Places.{field_place}
+use Rattle.depot_rows.specs.spec_form.Reading.{form_of}
+use Rattle.depot_rows.specs.spec_form.declared.fault.FormFault.{FormFault}
+use Rattle.depot_rows.specs.spec_form.declared.shape.Shape.TheVariants.{Change as ChangeShape}
+use Rattle.depot_rows.specs.depot_model.Deeds.{Deed, Open, Pend, Opening, Pending, Landing}
+use Rattle.depot_rows.specs.depot_model.Latest.{latest, when}
+use Rattle.depot_rows.specs.depot_model.Numbers.{pending, pending_said, landing, top}
+use Rattle.depot_rows.specs.depot_model.Opened.{opened}
+use Rattle.depot_rows.specs.depot_model.Rules.{IsSound}
+use Rattle.depot_rows.specs.depot_model.Step.{Step, refuses, after, refuse_if}
+use Rattle.depot_rows.specs.depot_model.Steps.Changing.{saved, moved_to, not_open, bad_lines, has_number, form_text, listed_paths, form_number, change_form, change_save}
+use Rattle.depot_rows.specs.depot_model.Steps.Opening.{is_of, change_refusal}
+use Rattle.depot_rows.specs.depot_model.declared.refusal.Refusal.{Refusal}
+use Rattle.depot_rows.specs.depot_model.declared.refusal.Refusal.TheVariants.{BadForm, NoSuchChange, NotYours, OverLimit}
+use Rattle.depot_rows.specs.depot_model.declared.refusal.Limit.TheVariants.{Text, Change, Files}
+use Rattle.depot_rows.specs.depot_model.declared.request.Caller.{Caller}
+use Rattle.depot_rows.specs.depot_model.declared.request.Request.{Request}
+use Rattle.depot_rows.proofs.ChangeCounter.{change_of, top_value}
 use Rattle.depot_rows.proofs.Keys.{same-is, right-true, number-self}
 use Rattle.sound_deeds.specs.Keeping.{IsOpenChange}
 use Rattle.sound_deeds.proofs.Whole.{one_sound}

@@ -3,21 +3,21 @@ use Rattle.std.proofs.Common.{◌≡◌, ◌≤◌, ◌+◌, ℕ, Bool, true, fa
 use Rattle.std.specs.Prelude.{◌||◌, not, codes, nat_le, nat_lt, IfSome, IsSomeAnd, is_some}
 use Rattle.std.specs.Option.{option_map_or}
 use Rattle.std.proofs.lemmas.Bool.Decides.{nat_tests}
-use Rattle.depot_path.specs.Bytes.{same}
-use Rattle.depot_model.specs.Deeds.{Deed, Drop, Count, Opening, Pending}
-use Rattle.depot_model.specs.Fixes.{is_fixing}
-use Rattle.depot_model.specs.Numbers.{pending, landing}
-use Rattle.depot_model.specs.Opened.{opened}
-use Rattle.depot_model.specs.Rules.{IsSound}
-use Rattle.depot_model.specs.Shelves.{is_shelved}
-use Rattle.depot_model.specs.Step.{after, refuse_if}
-use Rattle.depot_model.specs.Steps.Changing.{change_delete, delete_refusals}
-use Rattle.depot_model.specs.Steps.Checkpoint.{generation, checkpoint}
-use Rattle.depot_model.specs.Steps.Opening.{is_of}
-use Rattle.depot_model.specs.Steps.Submitting.{openings_of}
-use Rattle.depot_model.specs.declared.refusal.Refusal.TheVariants.{NotYours, NotDeletable, OverLimit}
-use Rattle.depot_model.specs.declared.refusal.Limit.TheVariants.{Generation}
-use Rattle.depot_model.specs.declared.request.Caller.{Caller}
+use Rattle.depot_rows.specs.depot_path.Bytes.{same}
+use Rattle.depot_rows.specs.depot_model.Deeds.{Deed, Drop, Count, Opening, Pending}
+use Rattle.depot_rows.specs.depot_model.Fixes.{is_fixing}
+use Rattle.depot_rows.specs.depot_model.Numbers.{pending, landing}
+use Rattle.depot_rows.specs.depot_model.Opened.{opened}
+use Rattle.depot_rows.specs.depot_model.Rules.{IsSound}
+use Rattle.depot_rows.specs.depot_model.Shelves.{is_shelved}
+use Rattle.depot_rows.specs.depot_model.Step.{after, refuse_if}
+use Rattle.depot_rows.specs.depot_model.Steps.Changing.{change_delete, delete_refusals}
+use Rattle.depot_rows.specs.depot_model.Steps.Checkpoint.{generation, checkpoint}
+use Rattle.depot_rows.specs.depot_model.Steps.Opening.{is_of}
+use Rattle.depot_rows.specs.depot_model.Steps.Submitting.{openings_of}
+use Rattle.depot_rows.specs.depot_model.declared.refusal.Refusal.TheVariants.{NotYours, NotDeletable, OverLimit}
+use Rattle.depot_rows.specs.depot_model.declared.refusal.Limit.TheVariants.{Generation}
+use Rattle.depot_rows.specs.depot_model.declared.request.Caller.{Caller}
 use Rattle.depot_rows.proofs.Keys.{same-is, right-true}
 use Rattle.sound_deeds.specs.Keeping.{HasNoOpening, IsOpenChange}
 use Rattle.sound_deeds.proofs.Whole.{one_sound}

@@ -2,8 +2,8 @@
 use Rattle.std.proofs.Common.{◌≡◌, ◌≤◌, ◌+◌, ◌⊎◌, ℕ, suc, Bool, true, false, List, [], ◌∷◌, length, inl, inr, refl, sym, ap, ◌∙◌, arith}
 use Rattle.std.specs.Prelude.{◌||◌, not, filter, if◌then◌else◌}
 use Rattle.std.specs.List.{list_any}
-use Rattle.depot_path.specs.Bytes.{same}
-use Rattle.depot_model.specs.Rules.{are_distinct}
+use Rattle.depot_rows.specs.depot_path.Bytes.{same}
+use Rattle.depot_rows.specs.depot_model.Rules.{are_distinct}
 use Rattle.depot_rows.proofs.Keys.{same-self, left-true, right-true}
 use Rattle.sound_file_steps.proofs.Known.{both_true}
 use Rattle.sound_form_steps.proofs.Members.{In}

@@ -4,23 +4,23 @@ use Rattle.std.specs.Prelude.{◌&&◌, not, codes, map, nat_le, IsSome, if◌th
 use Rattle.std.specs.List.{list_all}
 use Rattle.std.specs.Option.{option_or}
 use Rattle.std.proofs.lemmas.Bool.Decides.{nat_tests}
-use Rattle.depot_path.specs.Bytes.{same}
-use Rattle.depot_path.specs.Digits.{number_of}
-use Rattle.spec_form.specs.Form.{FormValue, with_field, has_field}
-use Rattle.spec_form.specs.Printing.{printed_form}
-use Rattle.spec_form.specs.declared.shape.Shape.TheVariants.{Fix as FixShape}
-use Rattle.depot_model.specs.Deeds.{Deed, Spec, FixForm}
-use Rattle.depot_model.specs.Fixes.{job, fix_name, has_fix, is_on}
-use Rattle.depot_model.specs.Latest.{spec, spec_said, latest, when}
-use Rattle.depot_model.specs.Numbers.{top}
-use Rattle.depot_model.specs.Numerals.{is_numeral}
-use Rattle.depot_model.specs.Records.{record_of}
-use Rattle.depot_model.specs.Rules.{IsSound, IsOneOf, IsSpelled, top_in, number_in}
-use Rattle.depot_model.specs.Step.{Step, nothing, after, all_of}
-use Rattle.depot_model.specs.Steps.Jobs.{unfix, unfix_job, fix_delete, distinct, is_change, no_job}
-use Rattle.depot_model.specs.declared.refusal.Refusal.TheVariants.{NoSuchChange}
-use Rattle.depot_model.specs.Step.{refuse_if}
-use Rattle.depot_rows.proofs.Changes.{top_value}
+use Rattle.depot_rows.specs.depot_path.Bytes.{same}
+use Rattle.depot_rows.specs.depot_path.Digits.{number_of}
+use Rattle.depot_rows.specs.spec_form.Form.{FormValue, with_field, has_field}
+use Rattle.depot_rows.specs.spec_form.Printing.{printed_form}
+use Rattle.depot_rows.specs.spec_form.declared.shape.Shape.TheVariants.{Fix as FixShape}
+use Rattle.depot_rows.specs.depot_model.Deeds.{Deed, Spec, FixForm}
+use Rattle.depot_rows.specs.depot_model.Fixes.{job, fix_name, has_fix, is_on}
+use Rattle.depot_rows.specs.depot_model.Latest.{spec, spec_said, latest, when}
+use Rattle.depot_rows.specs.depot_model.Numbers.{top}
+use Rattle.depot_rows.specs.depot_model.Numerals.{is_numeral}
+use Rattle.depot_rows.specs.depot_model.Records.{record_of}
+use Rattle.depot_rows.specs.depot_model.Rules.{IsSound, IsOneOf, IsSpelled, top_in, number_in}
+use Rattle.depot_rows.specs.depot_model.Step.{Step, nothing, after, all_of}
+use Rattle.depot_rows.specs.depot_model.Steps.Jobs.{unfix, unfix_job, fix_delete, distinct, is_change, no_job}
+use Rattle.depot_rows.specs.depot_model.declared.refusal.Refusal.TheVariants.{NoSuchChange}
+use Rattle.depot_rows.specs.depot_model.Step.{refuse_if}
+use Rattle.depot_rows.proofs.ChangeCounter.{top_value}
 use Rattle.depot_rows.proofs.Keys.{left-true, right-true}
 use Rattle.sound_deeds.specs.Keeping.{FixKeeps, FixesFit}
 use Rattle.sound_deeds.specs.Loose.{IsLooseFix}

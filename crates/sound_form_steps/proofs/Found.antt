@@ -2,27 +2,27 @@
 use Rattle.std.proofs.Common.{◌≡◌, ◌≢◌, ℕ, Bool, true, false, List, [], ◌∷◌, ◌++◌, Option, Some, None, Result, Ok, Err, inl, inr, refl, sym, ap, subst, ◌∙◌}
 use Rattle.std.specs.Prelude.{◌&&◌, ◌==◌, codes, decimal, IfSome, IsTrue, is_some, filter_map, option_and_then, option_map, if◌then◌else◌}
 use Rattle.std.specs.Option.{option_flatten}
-use Rattle.depot_path.specs.Bytes.{same}
-use Rattle.depot_path.specs.Digits.{number_of, is_digits}
-use Rattle.depot_path.specs.Path.{path_of, printed}
-use Rattle.depot_path.specs.declared.fault.PathFault.{PathFault}
-use Rattle.db_records.specs.declared.key.Key.TheVariants as keys
-use Rattle.db_records.specs.declared.record.Record.{Record}
-use Rattle.spec_form.specs.Form.{FormValue}
-use Rattle.spec_form.specs.Printing.{printed_form}
-use Rattle.spec_form.specs.declared.shape.Shape.TheVariants.{Shelf as ShelfShape, Fix as FixShape}
-use Rattle.depot_model.specs.Arguments.{open_paths, opened_by, paths_of}
-use Rattle.depot_model.specs.Deeds.{Deed, Spec, Open, Shut, Opening, SpecKind, ShelfForm, JobForm, FixForm}
-use Rattle.depot_model.specs.Fixes.{is_on, fixes_on, fixes_of, is_fixing}
-use Rattle.depot_model.specs.Latest.{latest, when, spec, spec_said, spec_name, same_kind, keys_of}
-use Rattle.depot_model.specs.Numerals.{is_numeral}
-use Rattle.depot_model.specs.Opened.{opened, opening_said}
-use Rattle.depot_model.specs.Records.{record_of}
-use Rattle.depot_model.specs.Rules.{IsSound, IsSpelled, IsShelf, IsJob, IsPath}
-use Rattle.depot_model.specs.Shelves.{shelf_name, paths_in, is_of_change, is_kept, kept, kept_paths, shelf_paths, is_shelved}
-use Rattle.depot_model.specs.Steps.Submitting.{openings_of}
-use Rattle.depot_model.specs.Values.{value_of}
-use Rattle.depot_model.specs.declared.request.Caller.{Caller}
+use Rattle.depot_rows.specs.depot_path.Bytes.{same}
+use Rattle.depot_rows.specs.depot_path.Digits.{number_of, is_digits}
+use Rattle.depot_rows.specs.depot_path.Path.{path_of, printed}
+use Rattle.depot_rows.specs.depot_path.declared.fault.PathFault.{PathFault}
+use Rattle.depot_rows.specs.db_records.declared.key.Key.TheVariants as keys
+use Rattle.depot_rows.specs.db_records.declared.record.Record.{Record}
+use Rattle.depot_rows.specs.spec_form.Form.{FormValue}
+use Rattle.depot_rows.specs.spec_form.Printing.{printed_form}
+use Rattle.depot_rows.specs.spec_form.declared.shape.Shape.TheVariants.{Shelf as ShelfShape, Fix as FixShape}
+use Rattle.depot_rows.specs.depot_model.Arguments.{open_paths, opened_by, paths_of}
+use Rattle.depot_rows.specs.depot_model.Deeds.{Deed, Spec, Open, Shut, Opening, SpecKind, ShelfForm, JobForm, FixForm}
+use Rattle.depot_rows.specs.depot_model.Fixes.{is_on, fixes_on, fixes_of, is_fixing}
+use Rattle.depot_rows.specs.depot_model.Latest.{latest, when, spec, spec_said, spec_name, same_kind, keys_of}
+use Rattle.depot_rows.specs.depot_model.Numerals.{is_numeral}
+use Rattle.depot_rows.specs.depot_model.Opened.{opened, opening_said}
+use Rattle.depot_rows.specs.depot_model.Records.{record_of}
+use Rattle.depot_rows.specs.depot_model.Rules.{IsSound, IsSpelled, IsShelf, IsJob, IsPath}
+use Rattle.depot_rows.specs.depot_model.Shelves.{shelf_name, paths_in, is_of_change, is_kept, kept, kept_paths, shelf_paths, is_shelved}
+use Rattle.depot_rows.specs.depot_model.Steps.Submitting.{openings_of}
+use Rattle.depot_rows.specs.depot_model.Values.{value_of}
+use Rattle.depot_rows.specs.depot_model.declared.request.Caller.{Caller}
 use Rattle.depot_rows.specs.Effects.{form_row}
 use Rattle.depot_rows.proofs.Keys.{same-is, same-self, left-true, right-true, number-self}
 use Rattle.sound_deeds.specs.Keeping.{HasNoShelf, HasNoFix, number_of_field}

@@ -3,13 +3,13 @@ use Rattle.std.proofs.Common.{◌≡◌, ◌≤◌, ◌<◌, ◌^◌, ℕ, zero,
 use Rattle.std.specs.Prelude.{map, filter, slice_get, IfSome, is_some, is_none, option_and_then, if◌then◌else◌}
 use Rattle.std.specs.List.{list_all}
 use Rattle.std.specs.Option.{option_map_or}
-use Rattle.depot_path.specs.Bytes.{same}
-use Rattle.depot_path.specs.Path.{is_path, printed}
-use Rattle.depot_model.specs.Deeds.{Deed, Spec, Guard, Group, Count, Pend, Drop, Open, Shut, Hold, Free, Got, Tag, Owe, Paid, Land, Landing, Entry}
-use Rattle.depot_model.specs.Numbers.{landings}
-use Rattle.depot_model.specs.Revisions.{Revision, revisions, entries_at, head, is_live, is_live_action, is_live_at}
-use Rattle.depot_model.specs.Rules.{IsSound, has_its_content, have_their_contents}
-use Rattle.depot_model.specs.Steps.Submitting.{content_at}
+use Rattle.depot_rows.specs.depot_path.Bytes.{same}
+use Rattle.depot_rows.specs.depot_path.Path.{is_path, printed}
+use Rattle.depot_rows.specs.depot_model.Deeds.{Deed, Spec, Guard, Group, Count, Pend, Drop, Open, Shut, Hold, Free, Got, Tag, Owe, Paid, Land, Landing, Entry}
+use Rattle.depot_rows.specs.depot_model.Numbers.{landings}
+use Rattle.depot_rows.specs.depot_model.Revisions.{Revision, revisions, entries_at, head, is_live, is_live_action, is_live_at}
+use Rattle.depot_rows.specs.depot_model.Rules.{IsSound, has_its_content, have_their_contents}
+use Rattle.depot_rows.specs.depot_model.Steps.Submitting.{content_at}
 use Rattle.depot_rows.proofs.Keys.{left-true, right-true}
 use Rattle.sound_deeds.proofs.Facts.{rev_is}
 use Rattle.sound_deeds.proofs.Revised.{rev_low}

@@ -4,24 +4,24 @@ use Rattle.std.specs.Prelude.{◌&&◌, ◌==◌, not, codes, decimal, nat_le, n
 use Rattle.std.specs.List.{list_all}
 use Rattle.std.proofs.lemmas.Bool.Decides.{nat_tests}
 use Rattle.std.proofs.lemmas.Fmt.{length-decimal-le}
-use Rattle.depot_path.specs.Bytes.{same, is_digit, begins_with}
-use Rattle.depot_path.specs.Digits.{number_of}
-use Rattle.depot_path.specs.Utf8.{is_utf8}
-use Rattle.spec_form.proofs.Utf8.{ascii-cons}
-use Rattle.spec_form.specs.Form.{FormValue, with_field, has_field, is_value}
-use Rattle.spec_form.specs.Places.{field_place}
-use Rattle.spec_form.specs.Printing.{printed_form}
-use Rattle.spec_form.specs.Reading.{form_of}
-use Rattle.spec_form.specs.declared.fault.FormFault.{FormFault}
-use Rattle.spec_form.specs.declared.shape.Shape.TheVariants.{Job as JobShape}
-use Rattle.depot_model.specs.Deeds.{Deed, Spec, JobForm}
-use Rattle.depot_model.specs.Fixes.{job, job_name, last_job}
-use Rattle.depot_model.specs.Rules.{IsSound, is_job_name}
-use Rattle.depot_model.specs.Step.{Step, refuses, after, refuse_if}
-use Rattle.depot_model.specs.Steps.Jobs.{is_new, is_status, saved_name, saved, save_form, job_save}
-use Rattle.depot_model.specs.Values.{value_of}
-use Rattle.depot_model.specs.declared.refusal.Refusal.TheVariants.{BadForm, NoSuchJob, OverLimit}
-use Rattle.depot_model.specs.declared.refusal.Limit.TheVariants.{Text, Jobs}
+use Rattle.depot_rows.specs.depot_path.Bytes.{same, is_digit, begins_with}
+use Rattle.depot_rows.specs.depot_path.Digits.{number_of}
+use Rattle.depot_rows.specs.depot_path.Utf8.{is_utf8}
+use Rattle.depot_rows.proofs.spec_form.Utf8.{ascii-cons}
+use Rattle.depot_rows.specs.spec_form.Form.{FormValue, with_field, has_field, is_value}
+use Rattle.depot_rows.specs.spec_form.Places.{field_place}
+use Rattle.depot_rows.specs.spec_form.Printing.{printed_form}
+use Rattle.depot_rows.specs.spec_form.Reading.{form_of}
+use Rattle.depot_rows.specs.spec_form.declared.fault.FormFault.{FormFault}
+use Rattle.depot_rows.specs.spec_form.declared.shape.Shape.TheVariants.{Job as JobShape}
+use Rattle.depot_rows.specs.depot_model.Deeds.{Deed, Spec, JobForm}
+use Rattle.depot_rows.specs.depot_model.Fixes.{job, job_name, last_job}
+use Rattle.depot_rows.specs.depot_model.Rules.{IsSound, is_job_name}
+use Rattle.depot_rows.specs.depot_model.Step.{Step, refuses, after, refuse_if}
+use Rattle.depot_rows.specs.depot_model.Steps.Jobs.{is_new, is_status, saved_name, saved, save_form, job_save}
+use Rattle.depot_rows.specs.depot_model.Values.{value_of}
+use Rattle.depot_rows.specs.depot_model.declared.refusal.Refusal.TheVariants.{BadForm, NoSuchJob, OverLimit}
+use Rattle.depot_rows.specs.depot_model.declared.refusal.Limit.TheVariants.{Text, Jobs}
 use Rattle.depot_rows.proofs.Keys.{same-is, same-self, left-true, right-true}
 use Rattle.sound_deeds.proofs.Whole.{one_sound}
 use Rattle.sound_form_steps.proofs.Fields.{other_value, own_value, has_valued, job_spelled}

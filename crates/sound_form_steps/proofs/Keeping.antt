@@ -4,36 +4,36 @@ use Rattle.std.specs.Prelude.{◌&&◌, ◌||◌, ◌==◌, not, codes, decimal,
 use Rattle.std.specs.List.{list_all}
 use Rattle.std.proofs.lemmas.Bool.Decides.{nat_tests}
 use Rattle.hex.specs.Hex.{IsBytes}
-use Rattle.depot_path.specs.Bytes.{same}
-use Rattle.depot_path.specs.Digits.{number_of}
-use Rattle.depot_path.specs.Name.{is_name}
-use Rattle.depot_path.specs.Path.{is_path, printed}
-use Rattle.spec_form.specs.Form.{FormValue, value_lines}
-use Rattle.view_map.specs.Mapping.{path_in}
-use Rattle.depot_model.specs.Arguments.{names, opened_by, over_all}
-use Rattle.depot_model.specs.Asking.{view, to_open}
-use Rattle.depot_model.specs.Opened.{opened}
-use Rattle.depot_model.specs.Deeds.{Deed, Spec, ShelfForm, Opening, Source, Pending, Action, Add, Edit, Delete, Branch, Integrate, MoveAdd, MoveDelete}
-use Rattle.depot_model.specs.Numbers.{pending, landing, top}
-use Rattle.depot_model.specs.Numerals.{is_numeral}
-use Rattle.depot_model.specs.Revisions.{head, is_live_action, is_live_at}
-use Rattle.depot_model.specs.Rows.{action_word}
-use Rattle.depot_model.specs.Rules.{IsSound, IsSpelled, IsOneOf, IsType, is_content_text}
-use Rattle.depot_model.specs.Shelves.{shelf_name, kept, kept_form}
-use Rattle.depot_model.specs.Step.{Step, nothing, does, after, refuse_if}
-use Rattle.depot_model.specs.Steps.Shelving.{block_given, is_shelvable, shelved_row, shelve_opening, shelve_file, size_in, within_forms, opened_in, shelve}
-use Rattle.depot_model.specs.Steps.Opening.{is_of, change_refusal, right_refusal}
-use Rattle.depot_model.specs.Steps.Reverting.{not_open, is_selected}
-use Rattle.depot_model.specs.Steps.Submitting.{source_content, content_at, block_at, block_of, lacks_content}
-use Rattle.depot_model.specs.Values.{value_of}
-use Rattle.depot_model.specs.declared.command.FileArgument.{FileArgument}
-use Rattle.depot_model.specs.declared.refusal.Refusal.{Refusal}
-use Rattle.depot_model.specs.declared.refusal.Refusal.TheVariants.{NoSuchChange, NotYours, NotShelvable, AlreadyShelved, NoContent, OverLimit}
-use Rattle.depot_model.specs.declared.refusal.Limit.TheVariants.{Files, Shelf as LimitShelf}
-use Rattle.depot_model.specs.declared.request.Caller.{Caller}
-use Rattle.depot_model.specs.declared.request.Content.{Content}
-use Rattle.depot_model.specs.declared.request.Request.{Request}
-use Rattle.depot_rows.proofs.Changes.{change_of, top_value}
+use Rattle.depot_rows.specs.depot_path.Bytes.{same}
+use Rattle.depot_rows.specs.depot_path.Digits.{number_of}
+use Rattle.depot_rows.specs.depot_path.Name.{is_name}
+use Rattle.depot_rows.specs.depot_path.Path.{is_path, printed}
+use Rattle.depot_rows.specs.spec_form.Form.{FormValue, value_lines}
+use Rattle.depot_rows.specs.view_map.Mapping.{path_in}
+use Rattle.depot_rows.specs.depot_model.Arguments.{names, opened_by, over_all}
+use Rattle.depot_rows.specs.depot_model.Asking.{view, to_open}
+use Rattle.depot_rows.specs.depot_model.Opened.{opened}
+use Rattle.depot_rows.specs.depot_model.Deeds.{Deed, Spec, ShelfForm, Opening, Source, Pending, Action, Add, Edit, Delete, Branch, Integrate, MoveAdd, MoveDelete}
+use Rattle.depot_rows.specs.depot_model.Numbers.{pending, landing, top}
+use Rattle.depot_rows.specs.depot_model.Numerals.{is_numeral}
+use Rattle.depot_rows.specs.depot_model.Revisions.{head, is_live_action, is_live_at}
+use Rattle.depot_rows.specs.depot_model.Rows.{action_word}
+use Rattle.depot_rows.specs.depot_model.Rules.{IsSound, IsSpelled, IsOneOf, IsType, is_content_text}
+use Rattle.depot_rows.specs.depot_model.Shelves.{shelf_name, kept, kept_form}
+use Rattle.depot_rows.specs.depot_model.Step.{Step, nothing, does, after, refuse_if}
+use Rattle.depot_rows.specs.depot_model.Steps.Shelving.{block_given, is_shelvable, shelved_row, shelve_opening, shelve_file, size_in, within_forms, opened_in, shelve}
+use Rattle.depot_rows.specs.depot_model.Steps.Opening.{is_of, change_refusal, right_refusal}
+use Rattle.depot_rows.specs.depot_model.Steps.Reverting.{not_open, is_selected}
+use Rattle.depot_rows.specs.depot_model.Steps.Submitting.{source_content, content_at, block_at, block_of, lacks_content}
+use Rattle.depot_rows.specs.depot_model.Values.{value_of}
+use Rattle.depot_rows.specs.depot_model.declared.command.FileArgument.{FileArgument}
+use Rattle.depot_rows.specs.depot_model.declared.refusal.Refusal.{Refusal}
+use Rattle.depot_rows.specs.depot_model.declared.refusal.Refusal.TheVariants.{NoSuchChange, NotYours, NotShelvable, AlreadyShelved, NoContent, OverLimit}
+use Rattle.depot_rows.specs.depot_model.declared.refusal.Limit.TheVariants.{Files, Shelf as LimitShelf}
+use Rattle.depot_rows.specs.depot_model.declared.request.Caller.{Caller}
+use Rattle.depot_rows.specs.depot_model.declared.request.Content.{Content}
+use Rattle.depot_rows.specs.depot_model.declared.request.Request.{Request}
+use Rattle.depot_rows.proofs.ChangeCounter.{change_of, top_value}
 use Rattle.depot_rows.proofs.Keys.{left-true, right-true, number-is}
 use Rattle.sound_deeds.specs.Keeping.{ShelfKeeps, KeepsShelf, HasSource, IsTaken, number_of_field, has_value_of, is_number_of}
 use Rattle.sound_deeds.proofs.Files.{ArePaths, are_paths}

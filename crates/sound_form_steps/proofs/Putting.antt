@@ -5,33 +5,33 @@ use Rattle.std.specs.List.{list_all, list_any}
 use Rattle.std.specs.Option.{option_or}
 use Rattle.std.specs.Str.{bytes_eq}
 use Rattle.std.proofs.lemmas.Bool.Decides.{nat_tests}
-use Rattle.depot_path.specs.Bytes.{same, is_digit, is_among}
-use Rattle.depot_path.specs.Digits.{number_of, is_digits}
-use Rattle.depot_path.specs.Name.{is_name}
-use Rattle.depot_path.specs.Utf8.{is_utf8}
-use Rattle.spec_form.proofs.Good.{GoodValue}
-use Rattle.spec_form.proofs.Printed.{good_reads_back}
-use Rattle.spec_form.specs.Form.{FormValue, value_lines, is_value, has_field}
-use Rattle.spec_form.specs.Printing.{printed_form}
-use Rattle.spec_form.specs.Shapes.{fields_of}
-use Rattle.spec_form.specs.Texts.{trimmed_start}
-use Rattle.spec_form.specs.declared.shape.Shape.TheVariants.{Fix as FixShape, Job as JobShape}
-use Rattle.depot_model.specs.Deeds.{Deed, Spec, JobForm, FixForm, Pending, Landing}
-use Rattle.depot_model.specs.Fixes.{job, fix_name, fix_form, has_fix, is_on, fixes_on, fixes_of, fixed_job, closed}
-use Rattle.depot_model.specs.Latest.{spec, spec_said, spec_name, latest, when, keys_of}
-use Rattle.depot_model.specs.Numbers.{pending, landing, top}
-use Rattle.depot_model.specs.Numerals.{is_numeral}
-use Rattle.depot_model.specs.Records.{record_of}
-use Rattle.depot_model.specs.Rules.{IsSound, IsJob, IsOneOf, IsSpelled, is_job_name, top_in}
-use Rattle.depot_model.specs.Shelves.{is_of_change}
-use Rattle.depot_model.specs.Step.{after, all_of, refuse_if}
-use Rattle.depot_model.specs.Steps.Jobs.{is_change, no_job, distinct, distinct_after, closes_where, fix_job, fixes_then, fix}
-use Rattle.depot_model.specs.Values.{value_of, valued}
-use Rattle.depot_model.specs.declared.refusal.Refusal.{Refusal}
-use Rattle.depot_model.specs.declared.refusal.Refusal.TheVariants.{NoSuchChange, NoSuchJob, OverLimit}
-use Rattle.depot_model.specs.declared.refusal.Limit.TheVariants.{Fixes}
-use Rattle.depot_model.specs.declared.request.Caller.{Caller}
-use Rattle.depot_rows.proofs.Changes.{change_of, top_value}
+use Rattle.depot_rows.specs.depot_path.Bytes.{same, is_digit, is_among}
+use Rattle.depot_rows.specs.depot_path.Digits.{number_of, is_digits}
+use Rattle.depot_rows.specs.depot_path.Name.{is_name}
+use Rattle.depot_rows.specs.depot_path.Utf8.{is_utf8}
+use Rattle.depot_rows.proofs.spec_form.Good.{GoodValue}
+use Rattle.depot_rows.proofs.spec_form.Printed.{good_reads_back}
+use Rattle.depot_rows.specs.spec_form.Form.{FormValue, value_lines, is_value, has_field}
+use Rattle.depot_rows.specs.spec_form.Printing.{printed_form}
+use Rattle.depot_rows.specs.spec_form.Shapes.{fields_of}
+use Rattle.depot_rows.specs.spec_form.Texts.{trimmed_start}
+use Rattle.depot_rows.specs.spec_form.declared.shape.Shape.TheVariants.{Fix as FixShape, Job as JobShape}
+use Rattle.depot_rows.specs.depot_model.Deeds.{Deed, Spec, JobForm, FixForm, Pending, Landing}
+use Rattle.depot_rows.specs.depot_model.Fixes.{job, fix_name, fix_form, has_fix, is_on, fixes_on, fixes_of, fixed_job, closed}
+use Rattle.depot_rows.specs.depot_model.Latest.{spec, spec_said, spec_name, latest, when, keys_of}
+use Rattle.depot_rows.specs.depot_model.Numbers.{pending, landing, top}
+use Rattle.depot_rows.specs.depot_model.Numerals.{is_numeral}
+use Rattle.depot_rows.specs.depot_model.Records.{record_of}
+use Rattle.depot_rows.specs.depot_model.Rules.{IsSound, IsJob, IsOneOf, IsSpelled, is_job_name, top_in}
+use Rattle.depot_rows.specs.depot_model.Shelves.{is_of_change}
+use Rattle.depot_rows.specs.depot_model.Step.{after, all_of, refuse_if}
+use Rattle.depot_rows.specs.depot_model.Steps.Jobs.{is_change, no_job, distinct, distinct_after, closes_where, fix_job, fixes_then, fix}
+use Rattle.depot_rows.specs.depot_model.Values.{value_of, valued}
+use Rattle.depot_rows.specs.depot_model.declared.refusal.Refusal.{Refusal}
+use Rattle.depot_rows.specs.depot_model.declared.refusal.Refusal.TheVariants.{NoSuchChange, NoSuchJob, OverLimit}
+use Rattle.depot_rows.specs.depot_model.declared.refusal.Limit.TheVariants.{Fixes}
+use Rattle.depot_rows.specs.depot_model.declared.request.Caller.{Caller}
+use Rattle.depot_rows.proofs.ChangeCounter.{change_of, top_value}
 use Rattle.depot_rows.proofs.Keys.{same-is, same-self, left-true, right-true}
 use Rattle.sound_deeds.specs.Keeping.{FixKeeps, JobKeeps, FixesFit, IsChange, number_of_field}
 use Rattle.sound_deeds.proofs.Read.{spelled_reads, value_is}

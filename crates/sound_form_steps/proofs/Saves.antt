@@ -2,25 +2,25 @@
 use Rattle.std.proofs.Common.{◌≡◌, ℕ, Bool, true, false, List, [], ◌∷◌, Result, Ok, Err, refl, ap}
 use Rattle.std.specs.Prelude.{◌-◌, not, codes, is_ok}
 use Rattle.std.specs.List.{list_all}
-use Rattle.depot_path.specs.Name.{is_name}
-use Rattle.spec_form.specs.Form.{FormValue, lines_of}
-use Rattle.spec_form.specs.Places.{line_place}
-use Rattle.spec_form.specs.Reading.{form_of}
-use Rattle.spec_form.specs.declared.fault.FormFault.{FormFault}
-use Rattle.spec_form.specs.declared.shape.Shape.TheVariants.{Client, Label, Group as GroupShape}
-use Rattle.view_map.specs.Reading.{view_of}
-use Rattle.view_map.specs.declared.fault.ViewFault.{ViewFault}
-use Rattle.view_map.specs.declared.line.ViewLine.{ViewLine}
-use Rattle.depot_model.specs.Deeds.{Deed, Spec, Group, ClientForm, LabelForm}
-use Rattle.depot_model.specs.Rules.{IsSound}
-use Rattle.depot_model.specs.Step.{Step, does, refuses, after}
-use Rattle.depot_model.specs.Steps.Clients as clients
-use Rattle.depot_model.specs.Steps.Groups as groups
-use Rattle.depot_model.specs.Steps.Labels as labels
-use Rattle.depot_model.specs.Values.{value_of}
-use Rattle.depot_model.specs.declared.refusal.Refusal.{Refusal}
-use Rattle.depot_model.specs.declared.refusal.Refusal.TheVariants.{BadForm}
-use Rattle.depot_model.specs.declared.reply.Row.{Row}
+use Rattle.depot_rows.specs.depot_path.Name.{is_name}
+use Rattle.depot_rows.specs.spec_form.Form.{FormValue, lines_of}
+use Rattle.depot_rows.specs.spec_form.Places.{line_place}
+use Rattle.depot_rows.specs.spec_form.Reading.{form_of}
+use Rattle.depot_rows.specs.spec_form.declared.fault.FormFault.{FormFault}
+use Rattle.depot_rows.specs.spec_form.declared.shape.Shape.TheVariants.{Client, Label, Group as GroupShape}
+use Rattle.depot_rows.specs.view_map.Reading.{view_of}
+use Rattle.depot_rows.specs.view_map.declared.fault.ViewFault.{ViewFault}
+use Rattle.depot_rows.specs.view_map.declared.line.ViewLine.{ViewLine}
+use Rattle.depot_rows.specs.depot_model.Deeds.{Deed, Spec, Group, ClientForm, LabelForm}
+use Rattle.depot_rows.specs.depot_model.Rules.{IsSound}
+use Rattle.depot_rows.specs.depot_model.Step.{Step, does, refuses, after}
+use Rattle.depot_rows.specs.depot_model.Steps.Clients as clients
+use Rattle.depot_rows.specs.depot_model.Steps.Groups as groups
+use Rattle.depot_rows.specs.depot_model.Steps.Labels as labels
+use Rattle.depot_rows.specs.depot_model.Values.{value_of}
+use Rattle.depot_rows.specs.depot_model.declared.refusal.Refusal.{Refusal}
+use Rattle.depot_rows.specs.depot_model.declared.refusal.Refusal.TheVariants.{BadForm}
+use Rattle.depot_rows.specs.depot_model.declared.reply.Row.{Row}
 use Rattle.sound_deeds.proofs.Whole.{one_sound}
 use Rattle.sound_file_steps.proofs.Spelled.{spelled_is}
 use Rattle.sound_file_steps.proofs.Steps.{not_refused, unless_sound}

@@ -3,38 +3,38 @@ use Rattle.std.proofs.Common.{◌≡◌, ◌≤◌, ℕ, Bool, true, false, List
 use Rattle.std.specs.Prelude.{◌&&◌, codes, decimal, nat_lt, IfSome, is_some, is_none, unwrap_or, option_and_then, option_map, if◌then◌else◌}
 use Rattle.std.specs.List.{list_all}
 use Rattle.std.proofs.lemmas.Bool.Decides.{nat_tests}
-use Rattle.depot_path.specs.Bytes.{same, is_digit, is_among}
-use Rattle.depot_path.specs.Digits.{number_of, is_digits}
-use Rattle.depot_path.specs.Path.{path_of, path_fault, printed, unescaped, unless as path_unless, is_path}
-use Rattle.depot_path.specs.declared.fault.PathFault.{PathFault}
-use Rattle.depot_path.specs.declared.revision.Wanted.TheVariants.{Head}
-use Rattle.depot_path.proofs.Paths.{reads_path}
-use Rattle.db_records.specs.declared.key.Key.TheVariants as keys
-use Rattle.db_records.specs.declared.record.Record.{Record}
-use Rattle.spec_form.proofs.Cutting.{behind_at}
-use Rattle.spec_form.specs.Form.{FormValue, lines_of}
-use Rattle.spec_form.specs.Printing.{printed_form}
-use Rattle.spec_form.specs.Texts.{behind}
-use Rattle.spec_form.specs.declared.shape.Shape.TheVariants.{Shelf as ShelfShape}
-use Rattle.depot_model.specs.Arguments.{named, names, over_all, no_file, within_files, paths_of}
-use Rattle.depot_model.specs.Asking.{is_client, to_open}
-use Rattle.depot_model.specs.Choice.{shown}
-use Rattle.depot_model.specs.Deeds.{Deed, Spec, Open, ShelfForm, Source, Add, Edit, Delete}
-use Rattle.depot_model.specs.Latest.{spec, when}
-use Rattle.depot_model.specs.Numerals.{is_numeral}
-use Rattle.depot_model.specs.Opened.{opened}
-use Rattle.depot_model.specs.Records.{record_of, rev_record}
-use Rattle.depot_model.specs.Revisions.{head, revision}
-use Rattle.depot_model.specs.Rows.{action_word}
-use Rattle.depot_model.specs.Rules.{IsSound, IsShelf, IsKept, IsType, IsBase, HasRev, HasItsSource, has_paths, shelf_value, shelf_number, has_shelf_value}
-use Rattle.depot_model.specs.Shelves.{shelf_name, paths_in, is_of_change, is_kept, kept, kept_paths, shelf_paths, kept_base, kept_action, source_at, kept_source, kept_block, kept_opening}
-use Rattle.depot_model.specs.Step.{Step, nothing, does, after, refuse_if}
-use Rattle.depot_model.specs.Steps.Opening.{named_change_refusal, right_refusal, exclusive_refusal}
-use Rattle.depot_model.specs.Steps.Shelving.{unshelve, unshelve_file, unshelve_opening, unshelved_row, shelf_refusal}
-use Rattle.depot_model.specs.Values.{value_of, first_or_empty}
-use Rattle.depot_model.specs.declared.command.FileArgument.{FileArgument}
-use Rattle.depot_model.specs.declared.refusal.Refusal.TheVariants.{NotInView, AlreadyOpen}
-use Rattle.depot_model.specs.declared.request.Caller.{Caller}
+use Rattle.depot_rows.specs.depot_path.Bytes.{same, is_digit, is_among}
+use Rattle.depot_rows.specs.depot_path.Digits.{number_of, is_digits}
+use Rattle.depot_rows.specs.depot_path.Path.{path_of, path_fault, printed, unescaped, unless as path_unless, is_path}
+use Rattle.depot_rows.specs.depot_path.declared.fault.PathFault.{PathFault}
+use Rattle.depot_rows.specs.depot_path.declared.revision.Wanted.TheVariants.{Head}
+use Rattle.depot_rows.proofs.depot_path.Paths.{reads_path}
+use Rattle.depot_rows.specs.db_records.declared.key.Key.TheVariants as keys
+use Rattle.depot_rows.specs.db_records.declared.record.Record.{Record}
+use Rattle.depot_rows.proofs.spec_form.Cutting.{behind_at}
+use Rattle.depot_rows.specs.spec_form.Form.{FormValue, lines_of}
+use Rattle.depot_rows.specs.spec_form.Printing.{printed_form}
+use Rattle.depot_rows.specs.spec_form.Texts.{behind}
+use Rattle.depot_rows.specs.spec_form.declared.shape.Shape.TheVariants.{Shelf as ShelfShape}
+use Rattle.depot_rows.specs.depot_model.Arguments.{named, names, over_all, no_file, within_files, paths_of}
+use Rattle.depot_rows.specs.depot_model.Asking.{is_client, to_open}
+use Rattle.depot_rows.specs.depot_model.Choice.{shown}
+use Rattle.depot_rows.specs.depot_model.Deeds.{Deed, Spec, Open, ShelfForm, Source, Add, Edit, Delete}
+use Rattle.depot_rows.specs.depot_model.Latest.{spec, when}
+use Rattle.depot_rows.specs.depot_model.Numerals.{is_numeral}
+use Rattle.depot_rows.specs.depot_model.Opened.{opened}
+use Rattle.depot_rows.specs.depot_model.Records.{record_of, rev_record}
+use Rattle.depot_rows.specs.depot_model.Revisions.{head, revision}
+use Rattle.depot_rows.specs.depot_model.Rows.{action_word}
+use Rattle.depot_rows.specs.depot_model.Rules.{IsSound, IsShelf, IsKept, IsType, IsBase, HasRev, HasItsSource, has_paths, shelf_value, shelf_number, has_shelf_value}
+use Rattle.depot_rows.specs.depot_model.Shelves.{shelf_name, paths_in, is_of_change, is_kept, kept, kept_paths, shelf_paths, kept_base, kept_action, source_at, kept_source, kept_block, kept_opening}
+use Rattle.depot_rows.specs.depot_model.Step.{Step, nothing, does, after, refuse_if}
+use Rattle.depot_rows.specs.depot_model.Steps.Opening.{named_change_refusal, right_refusal, exclusive_refusal}
+use Rattle.depot_rows.specs.depot_model.Steps.Shelving.{unshelve, unshelve_file, unshelve_opening, unshelved_row, shelf_refusal}
+use Rattle.depot_rows.specs.depot_model.Values.{value_of, first_or_empty}
+use Rattle.depot_rows.specs.depot_model.declared.command.FileArgument.{FileArgument}
+use Rattle.depot_rows.specs.depot_model.declared.refusal.Refusal.TheVariants.{NotInView, AlreadyOpen}
+use Rattle.depot_rows.specs.depot_model.declared.request.Caller.{Caller}
 use Rattle.depot_rows.proofs.Keys.{same-is, left-true, right-true}
 use Rattle.sound_deeds.specs.Keeping.{IsTaken, is_move}
 use Rattle.sound_deeds.proofs.Read.{spelled_reads, value_is, has_is}

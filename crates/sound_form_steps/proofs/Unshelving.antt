@@ -2,36 +2,36 @@
 use Rattle.std.proofs.Common.{◌≡◌, ◌≤◌, ◌<◌, ◌^◌, ℕ, Bool, true, false, List, [], ◌∷◌, ◌++◌, length, Option, Some, None, Ok, refl, sym, ap, subst, ◌∙◌, arith}
 use Rattle.std.specs.Prelude.{◌&&◌, ◌||◌, ◌==◌, not, codes, decimal, map, sum, nat_lt, is_some, if◌then◌else◌}
 use Rattle.std.specs.List.{list_any}
-use Rattle.depot_path.specs.Bytes.{same, is_among, is_control}
-use Rattle.depot_path.specs.Digits.{number_of}
-use Rattle.depot_path.specs.Path.{path_fault, first_fault, printed, unescaped, unless as path_unless, is_path, is_text, begins_with_slashes, has_empty_component, has_bad_escape, has_dot_component, has_three_dots, components}
-use Rattle.depot_path.specs.Utf8.{is_utf8}
-use Rattle.depot_path.specs.declared.fault.PathFault.{PathFault}
-use Rattle.depot_path.specs.declared.fault.PathFault.TheVariants.{NoSlashes, EmptyPart, BadEscape, BadByte, TooLong, Dots}
-use Rattle.depot_path.proofs.Paths.{prints_path}
-use Rattle.spec_form.proofs.Good.{GoodValue}
-use Rattle.spec_form.proofs.Printed.{good_reads_back}
-use Rattle.spec_form.specs.Form.{value_lines}
-use Rattle.spec_form.specs.Shapes.{fields_of}
-use Rattle.spec_form.specs.Texts.{trimmed_start, is_blank}
-use Rattle.spec_form.specs.declared.shape.Shape.TheVariants.{Shelf}
-use Rattle.depot_model.specs.Arguments.{named, names, over_all, no_file}
-use Rattle.depot_model.specs.Asking.{to_open}
-use Rattle.depot_model.specs.Deeds.{Deed, Spec, ShelfForm, Pending}
-use Rattle.depot_model.specs.Numbers.{pending, landing, top}
-use Rattle.depot_model.specs.Numerals.{is_numeral}
-use Rattle.depot_model.specs.Rules.{IsSound, IsSpelled}
-use Rattle.depot_model.specs.Shelves.{shelf_name, kept_paths, gone_form}
-use Rattle.depot_model.specs.Step.{Step, after, refuse_if}
-use Rattle.depot_model.specs.Steps.Opening.{is_of, change_refusal, right_refusal}
-use Rattle.depot_model.specs.Steps.Shelving.{unkeep, within_forms, size_in, shelve_delete, shelf_refusal}
-use Rattle.depot_model.specs.Values.{valued}
-use Rattle.depot_model.specs.declared.command.FileArgument.{FileArgument}
-use Rattle.depot_model.specs.declared.refusal.Refusal.{Refusal}
-use Rattle.depot_model.specs.declared.refusal.Refusal.TheVariants.{NoSuchChange, NotYours, OverLimit}
-use Rattle.depot_model.specs.declared.refusal.Limit.TheVariants.{Files, Shelf as LimitShelf}
-use Rattle.depot_model.specs.declared.request.Caller.{Caller}
-use Rattle.depot_rows.proofs.Changes.{change_of, top_value}
+use Rattle.depot_rows.specs.depot_path.Bytes.{same, is_among, is_control}
+use Rattle.depot_rows.specs.depot_path.Digits.{number_of}
+use Rattle.depot_rows.specs.depot_path.Path.{path_fault, first_fault, printed, unescaped, unless as path_unless, is_path, is_text, begins_with_slashes, has_empty_component, has_bad_escape, has_dot_component, has_three_dots, components}
+use Rattle.depot_rows.specs.depot_path.Utf8.{is_utf8}
+use Rattle.depot_rows.specs.depot_path.declared.fault.PathFault.{PathFault}
+use Rattle.depot_rows.specs.depot_path.declared.fault.PathFault.TheVariants.{NoSlashes, EmptyPart, BadEscape, BadByte, TooLong, Dots}
+use Rattle.depot_rows.proofs.depot_path.Paths.{prints_path}
+use Rattle.depot_rows.proofs.spec_form.Good.{GoodValue}
+use Rattle.depot_rows.proofs.spec_form.Printed.{good_reads_back}
+use Rattle.depot_rows.specs.spec_form.Form.{value_lines}
+use Rattle.depot_rows.specs.spec_form.Shapes.{fields_of}
+use Rattle.depot_rows.specs.spec_form.Texts.{trimmed_start, is_blank}
+use Rattle.depot_rows.specs.spec_form.declared.shape.Shape.TheVariants.{Shelf}
+use Rattle.depot_rows.specs.depot_model.Arguments.{named, names, over_all, no_file}
+use Rattle.depot_rows.specs.depot_model.Asking.{to_open}
+use Rattle.depot_rows.specs.depot_model.Deeds.{Deed, Spec, ShelfForm, Pending}
+use Rattle.depot_rows.specs.depot_model.Numbers.{pending, landing, top}
+use Rattle.depot_rows.specs.depot_model.Numerals.{is_numeral}
+use Rattle.depot_rows.specs.depot_model.Rules.{IsSound, IsSpelled}
+use Rattle.depot_rows.specs.depot_model.Shelves.{shelf_name, kept_paths, gone_form}
+use Rattle.depot_rows.specs.depot_model.Step.{Step, after, refuse_if}
+use Rattle.depot_rows.specs.depot_model.Steps.Opening.{is_of, change_refusal, right_refusal}
+use Rattle.depot_rows.specs.depot_model.Steps.Shelving.{unkeep, within_forms, size_in, shelve_delete, shelf_refusal}
+use Rattle.depot_rows.specs.depot_model.Values.{valued}
+use Rattle.depot_rows.specs.depot_model.declared.command.FileArgument.{FileArgument}
+use Rattle.depot_rows.specs.depot_model.declared.refusal.Refusal.{Refusal}
+use Rattle.depot_rows.specs.depot_model.declared.refusal.Refusal.TheVariants.{NoSuchChange, NotYours, OverLimit}
+use Rattle.depot_rows.specs.depot_model.declared.refusal.Limit.TheVariants.{Files, Shelf as LimitShelf}
+use Rattle.depot_rows.specs.depot_model.declared.request.Caller.{Caller}
+use Rattle.depot_rows.proofs.ChangeCounter.{change_of, top_value}
 use Rattle.depot_rows.proofs.Keys.{same-is, left-true, right-true, number-is}
 use Rattle.sound_deeds.specs.Keeping.{ShelfKeeps, is_number_of}
 use Rattle.sound_deeds.proofs.Whole.{one_sound}

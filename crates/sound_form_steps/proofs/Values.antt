@@ -5,14 +5,14 @@ use Rattle.std.specs.List.{list_all}
 use Rattle.std.proofs.lemmas.Bool.Decides.{nat_tests}
 use Rattle.hex.proofs.HexLemmas.{decode_of-encode_lower}
 use Rattle.hex.specs.Hex.{IsBytes, encode_lower, encode_with, lower_digits}
-use Rattle.depot_path.specs.Bytes.{same, is_among}
-use Rattle.depot_path.specs.Name.{is_name}
-use Rattle.depot_path.specs.Utf8.{is_utf8}
-use Rattle.spec_form.proofs.Good.{GoodValue}
-use Rattle.spec_form.proofs.Utf8.{ascii-cons}
-use Rattle.spec_form.specs.Form.{value_lines}
-use Rattle.depot_model.specs.Rules.{is_content_text}
-use Rattle.depot_model.specs.Types.{base_type, modifiers, is_base, are_modifiers, is_type, printed_type, is_printed_type}
+use Rattle.depot_rows.specs.depot_path.Bytes.{same, is_among}
+use Rattle.depot_rows.specs.depot_path.Name.{is_name}
+use Rattle.depot_rows.specs.depot_path.Utf8.{is_utf8}
+use Rattle.depot_rows.proofs.spec_form.Good.{GoodValue}
+use Rattle.depot_rows.proofs.spec_form.Utf8.{ascii-cons}
+use Rattle.depot_rows.specs.spec_form.Form.{value_lines}
+use Rattle.depot_rows.specs.depot_model.Rules.{is_content_text}
+use Rattle.depot_rows.specs.depot_model.Types.{base_type, modifiers, is_base, are_modifiers, is_type, printed_type, is_printed_type}
 use Rattle.depot_rows.proofs.Keys.{same-is, same-self, left-true, right-true}
 use Rattle.sound_file_steps.proofs.Known.{both_true}
 

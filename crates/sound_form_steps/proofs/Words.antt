@@ -2,24 +2,24 @@
 use Rattle.std.proofs.Common.{◌≡◌, ℕ, ◌+◌, Bool, true, false, List, [], ◌∷◌, ◌++◌, Option, Some, None, Result, Ok, Err, refl, sym, ap, subst, ◌∙◌}
 use Rattle.std.specs.Prelude.{◌&&◌, ◌==◌, not, codes, map, filter, length, nat_lt, slice_get, is_ok, IfSome, ◌-◌, if◌then◌else◌}
 use Rattle.std.specs.List.{list_all, join_with_byte, onto_first}
-use Rattle.depot_path.specs.Answers.{◌>>=◌, on_ok, on_err}
-use Rattle.protect_table.specs.Line.{line_of_words, lines_from, in_line, table_of as protects_of}
-use Rattle.protect_table.specs.Words.{parts_words, quoted_after, joined, between_spaces, is_word, is_comment, before_comment, words_of}
-use Rattle.protect_table.specs.declared.fault.ProtectFault.{ProtectFault}
-use Rattle.protect_table.specs.declared.line.ProtectLine.{ProtectLine}
-use Rattle.spec_form.specs.Form.{FormValue, lines_of}
-use Rattle.spec_form.specs.Places.{line_place}
-use Rattle.spec_form.specs.Reading.{form_of}
-use Rattle.spec_form.specs.declared.fault.FormFault.{FormFault}
-use Rattle.spec_form.specs.declared.shape.Shape.TheVariants.{Protect}
-use Rattle.depot_model.specs.Deeds.{Deed, Guard}
-use Rattle.depot_model.specs.Rows.{row, text_field}
-use Rattle.depot_model.specs.Rules.{IsSound}
-use Rattle.depot_model.specs.Step.{Step, does, refuses, after, unless, refuse_if}
-use Rattle.depot_model.specs.Steps.Protections.{kept_line, saved, protect_save}
-use Rattle.depot_model.specs.declared.refusal.Refusal.TheVariants.{BadForm, OverLimit}
-use Rattle.depot_model.specs.declared.refusal.Limit.TheVariants.{Protections}
-use Rattle.depot_model.specs.declared.reply.Row.{Row}
+use Rattle.depot_rows.specs.depot_path.Answers.{◌>>=◌, on_ok, on_err}
+use Rattle.depot_rows.specs.protect_table.Line.{line_of_words, lines_from, in_line, table_of as protects_of}
+use Rattle.depot_rows.specs.protect_table.Words.{parts_words, quoted_after, joined, between_spaces, is_word, is_comment, before_comment, words_of}
+use Rattle.depot_rows.specs.protect_table.declared.fault.ProtectFault.{ProtectFault}
+use Rattle.depot_rows.specs.protect_table.declared.line.ProtectLine.{ProtectLine}
+use Rattle.depot_rows.specs.spec_form.Form.{FormValue, lines_of}
+use Rattle.depot_rows.specs.spec_form.Places.{line_place}
+use Rattle.depot_rows.specs.spec_form.Reading.{form_of}
+use Rattle.depot_rows.specs.spec_form.declared.fault.FormFault.{FormFault}
+use Rattle.depot_rows.specs.spec_form.declared.shape.Shape.TheVariants.{Protect}
+use Rattle.depot_rows.specs.depot_model.Deeds.{Deed, Guard}
+use Rattle.depot_rows.specs.depot_model.Rows.{row, text_field}
+use Rattle.depot_rows.specs.depot_model.Rules.{IsSound}
+use Rattle.depot_rows.specs.depot_model.Step.{Step, does, refuses, after, unless, refuse_if}
+use Rattle.depot_rows.specs.depot_model.Steps.Protections.{kept_line, saved, protect_save}
+use Rattle.depot_rows.specs.depot_model.declared.refusal.Refusal.TheVariants.{BadForm, OverLimit}
+use Rattle.depot_rows.specs.depot_model.declared.refusal.Limit.TheVariants.{Protections}
+use Rattle.depot_rows.specs.depot_model.declared.reply.Row.{Row}
 use Rattle.depot_rows.proofs.Keys.{left-true, right-true, number-is}
 use Rattle.sound_deeds.proofs.Whole.{one_sound}
 use Rattle.sound_file_steps.proofs.Known.{both_true}

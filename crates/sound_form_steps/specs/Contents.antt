@@ -1,7 +1,7 @@
 -- Which contents a shelf may keep: those that a script may give. This project's own choice.
 use Rattle.std.specs.Prelude.{Bool, ◌&&◌, nat_le, nat_lt, length}
 use Rattle.std.specs.List.{list_all}
-use Rattle.depot_model.specs.declared.request.Content.{Content}
+use Rattle.depot_rows.specs.depot_model.declared.request.Content.{Content}
 
 -- a content is no longer than a block of a script, and it is of bytes
 abbrev pub is_short : Content → Bool

@@ -2,26 +2,26 @@
 
 ghost use Rattle.std.specs.List.{list_all};
 ghost use Rattle.std.specs.Prelude.{◌≡◌, ℕ, Bool, List, Option, IsTrue, false};
-ghost use Rattle.depot_path.specs.Name.{is_name};
-ghost use Rattle.depot_model.specs.declared.command.FileArgument.{FileArgument};
-ghost use Rattle.depot_model.specs.declared.request.Caller.{Caller};
-ghost use Rattle.depot_model.specs.declared.request.Request.{Request as Asked};
-ghost use Rattle.depot_model.specs.Asking.{is_client};
-ghost use Rattle.depot_model.specs.Deeds.{Deed};
-ghost use Rattle.depot_model.specs.Fixes.{is_fixing};
-ghost use Rattle.depot_model.specs.Rules.{IsSound};
-ghost use Rattle.depot_model.specs.Shelves.{is_shelved};
-ghost use Rattle.depot_model.specs.Step.{after};
-ghost use Rattle.depot_model.specs.Steps.Changing.{change_save, change_delete};
-ghost use Rattle.depot_model.specs.Steps.Checkpoint.{checkpoint};
-ghost use Rattle.depot_model.specs.Steps.Clients.{client_save};
-ghost use Rattle.depot_model.specs.Steps.Editing.{delete};
-ghost use Rattle.depot_model.specs.Steps.Groups.{group_save};
-ghost use Rattle.depot_model.specs.Steps.Jobs.{fix as fix_step, fix_delete, job_save};
-ghost use Rattle.depot_model.specs.Steps.Labels.{label_save};
-ghost use Rattle.depot_model.specs.Steps.Protections.{kept_line, protect_save};
-ghost use Rattle.depot_model.specs.Steps.Shelving.{shelve as shelve_step, shelve_delete, unshelve};
-ghost use Rattle.protect_table.specs.Words.{words_of};
+ghost use Rattle.depot_rows.specs.depot_path.Name.{is_name};
+ghost use Rattle.depot_rows.specs.depot_model.declared.command.FileArgument.{FileArgument};
+ghost use Rattle.depot_rows.specs.depot_model.declared.request.Caller.{Caller};
+ghost use Rattle.depot_rows.specs.depot_model.declared.request.Request.{Request as Asked};
+ghost use Rattle.depot_rows.specs.depot_model.Asking.{is_client};
+ghost use Rattle.depot_rows.specs.depot_model.Deeds.{Deed};
+ghost use Rattle.depot_rows.specs.depot_model.Fixes.{is_fixing};
+ghost use Rattle.depot_rows.specs.depot_model.Rules.{IsSound};
+ghost use Rattle.depot_rows.specs.depot_model.Shelves.{is_shelved};
+ghost use Rattle.depot_rows.specs.depot_model.Step.{after};
+ghost use Rattle.depot_rows.specs.depot_model.Steps.Changing.{change_save, change_delete};
+ghost use Rattle.depot_rows.specs.depot_model.Steps.Checkpoint.{checkpoint};
+ghost use Rattle.depot_rows.specs.depot_model.Steps.Clients.{client_save};
+ghost use Rattle.depot_rows.specs.depot_model.Steps.Editing.{delete};
+ghost use Rattle.depot_rows.specs.depot_model.Steps.Groups.{group_save};
+ghost use Rattle.depot_rows.specs.depot_model.Steps.Jobs.{fix as fix_step, fix_delete, job_save};
+ghost use Rattle.depot_rows.specs.depot_model.Steps.Labels.{label_save};
+ghost use Rattle.depot_rows.specs.depot_model.Steps.Protections.{kept_line, protect_save};
+ghost use Rattle.depot_rows.specs.depot_model.Steps.Shelving.{shelve as shelve_step, shelve_delete, unshelve};
+ghost use Rattle.depot_rows.specs.protect_table.Words.{words_of};
 ghost use Rattle.sound_form_steps.specs.Contents.{fits_content};
 
 /// Saving a group, a client or a label leaves a sound depot sound, whatever the form.

@@ -3,23 +3,23 @@ use Rattle.std.proofs.Common.{◌≡◌, ◌≢◌, ◌⊎◌, ◌≤◌, ◌<�
 use Rattle.std.specs.Prelude.{◌&&◌, ◌||◌, ◌==◌, IsTrue, IfSome, IsSome, option_map, flat_map, codes, decimal}
 use Rattle.std.specs.List.{list_all, list_any}
 use Rattle.std.specs.Option.{option_or}
-use Rattle.depot_path.specs.Bytes.{same}
-use Rattle.depot_path.specs.Digits.{number_of}
-use Rattle.spec_form.specs.Form.{FormValue, with_field, has_field}
-use Rattle.spec_form.specs.Printing.{printed_form}
-use Rattle.spec_form.specs.declared.shape.Shape.TheVariants.{Job as JobShape}
-use Rattle.db_records.specs.declared.key.Key.TheVariants as keys
-use Rattle.db_records.specs.declared.record.Record.{Record}
-use Rattle.db_records.specs.declared.record.Record.TheVariants as records
-use Rattle.depot_model.specs.Deeds.{Deed, Spec, JobForm, FixForm}
-use Rattle.depot_model.specs.Fixes.{job, fix_name, fixed_job, is_on, has_fix, fixes_of, closed, closes, closing, renumbers_where}
-use Rattle.depot_model.specs.Latest.{when, spec}
-use Rattle.depot_model.specs.Numbers.{landing, top}
-use Rattle.depot_model.specs.Numerals.{is_numeral}
-use Rattle.depot_model.specs.Records.{record_of}
-use Rattle.depot_model.specs.Rules.{IsSound, IsRow, IsForm, IsJob, IsOneOf, IsSpelled, value_in}
-use Rattle.depot_model.specs.Step.{after}
-use Rattle.depot_model.specs.Values.{value_of}
+use Rattle.depot_rows.specs.depot_path.Bytes.{same}
+use Rattle.depot_rows.specs.depot_path.Digits.{number_of}
+use Rattle.depot_rows.specs.spec_form.Form.{FormValue, with_field, has_field}
+use Rattle.depot_rows.specs.spec_form.Printing.{printed_form}
+use Rattle.depot_rows.specs.spec_form.declared.shape.Shape.TheVariants.{Job as JobShape}
+use Rattle.depot_rows.specs.db_records.declared.key.Key.TheVariants as keys
+use Rattle.depot_rows.specs.db_records.declared.record.Record.{Record}
+use Rattle.depot_rows.specs.db_records.declared.record.Record.TheVariants as records
+use Rattle.depot_rows.specs.depot_model.Deeds.{Deed, Spec, JobForm, FixForm}
+use Rattle.depot_rows.specs.depot_model.Fixes.{job, fix_name, fixed_job, is_on, has_fix, fixes_of, closed, closes, closing, renumbers_where}
+use Rattle.depot_rows.specs.depot_model.Latest.{when, spec}
+use Rattle.depot_rows.specs.depot_model.Numbers.{landing, top}
+use Rattle.depot_rows.specs.depot_model.Numerals.{is_numeral}
+use Rattle.depot_rows.specs.depot_model.Records.{record_of}
+use Rattle.depot_rows.specs.depot_model.Rules.{IsSound, IsRow, IsForm, IsJob, IsOneOf, IsSpelled, value_in}
+use Rattle.depot_rows.specs.depot_model.Step.{after}
+use Rattle.depot_rows.specs.depot_model.Values.{value_of}
 use Rattle.depot_rows.proofs.Entries.{In}
 use Rattle.depot_rows.proofs.Keys.{same-is, same-self, number-self, left-true, right-true}
 use Rattle.sound_deeds.specs.Keeping.{FixKeeps, JobKeeps, FixesFit, HasNoFix, number_of_field}

@@ -2,19 +2,19 @@
 use Rattle.std.proofs.Common.{◌≡◌, Bool, true, false, List, Result, Ok, Err, refl, sym, subst}
 use Rattle.std.specs.Prelude.{◌&&◌, IfOk, if◌then◌else◌}
 use Rattle.std.specs.List.{list_all}
-use Rattle.depot_path.specs.Name.{is_name}
-use Rattle.depot_model.specs.About.{about}
-use Rattle.depot_model.specs.Commands.{whole_step, built_step, step_of}
-use Rattle.depot_model.specs.Common.{word_refusal}
-use Rattle.depot_model.specs.Deeds.{Deed}
-use Rattle.depot_model.specs.Rules.{IsSound}
-use Rattle.depot_model.specs.Step.{Step, refuses, after}
-use Rattle.depot_model.specs.WellFormed.{is_command}
-use Rattle.depot_model.specs.declared.command.Command.{Command}
-use Rattle.depot_model.specs.declared.command.Command.TheVariants.{SubmitChange, SubmitDefault}
-use Rattle.depot_model.specs.declared.refusal.Refusal.TheVariants.{Unbuilt}
-use Rattle.depot_model.specs.declared.request.Request.{Request}
-use Rattle.depot_model.specs.declared.request.WordFault.{WordFault}
+use Rattle.depot_rows.specs.depot_path.Name.{is_name}
+use Rattle.depot_rows.specs.depot_model.About.{about}
+use Rattle.depot_rows.specs.depot_model.Commands.{whole_step, built_step, step_of}
+use Rattle.depot_rows.specs.depot_model.Common.{word_refusal}
+use Rattle.depot_rows.specs.depot_model.Deeds.{Deed}
+use Rattle.depot_rows.specs.depot_model.Rules.{IsSound}
+use Rattle.depot_rows.specs.depot_model.Step.{Step, refuses, after}
+use Rattle.depot_rows.specs.depot_model.WellFormed.{is_command}
+use Rattle.depot_rows.specs.depot_model.declared.command.Command.{Command}
+use Rattle.depot_rows.specs.depot_model.declared.command.Command.TheVariants.{SubmitChange, SubmitDefault}
+use Rattle.depot_rows.specs.depot_model.declared.refusal.Refusal.TheVariants.{Unbuilt}
+use Rattle.depot_rows.specs.depot_model.declared.request.Request.{Request}
+use Rattle.depot_rows.specs.depot_model.declared.request.WordFault.{WordFault}
 use Rattle.depot_rows.proofs.Keys.{left-true, right-true}
 use Rattle.sound_file_steps.proofs.Steps.{both_all}
 use Rattle.sound_landing.proofs.Kept.{submit_default_sound, submit_change_sound}

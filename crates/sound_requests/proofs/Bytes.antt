@@ -4,7 +4,7 @@ use Rattle.std.specs.Prelude.{All, ◌&&◌, nat_lt}
 use Rattle.std.specs.List.{AllByRecursion, list_all}
 use Rattle.std.proofs.lemmas.Bool.Decides.{nat_tests}
 use Rattle.std.proofs.lemmas.List.Elements.{recursion_from_All}
-use Rattle.depot_model.specs.declared.request.Content.{Content}
+use Rattle.depot_rows.specs.depot_model.declared.request.Content.{Content}
 use Rattle.sound_form_steps.specs.Contents.{is_of_bytes}
 
 pub are_bytes : (bytes : List ℕ) → All (λ b. b < 256) bytes → list_all (λ b. nat_lt b 256) bytes ≡ true

@@ -2,23 +2,23 @@
 use Rattle.std.proofs.Common.{◌≡◌, Bool, true, false, List, [], ◌++◌, Some, None, Result, Ok, Err, refl, sym, subst}
 use Rattle.std.specs.Prelude.{◌&&◌, not, unwrap_or, if◌then◌else◌}
 use Rattle.std.specs.List.{list_all}
-use Rattle.depot_path.specs.Name.{is_name}
-use Rattle.depot_model.specs.About.{about}
-use Rattle.depot_model.specs.Asking.{is_client}
-use Rattle.depot_model.specs.Commands.{own_step, whole_step, built_step, step_of}
-use Rattle.depot_model.specs.Common.{common_refusals, last_refusals, asks_client, word_refusal}
-use Rattle.depot_model.specs.Deeds.{Deed}
-use Rattle.depot_model.specs.Fixes.{is_fixing}
-use Rattle.depot_model.specs.Rules.{IsSound}
-use Rattle.depot_model.specs.Shelves.{is_shelved}
-use Rattle.depot_model.specs.Step.{Step, refuses, after, refuse_if}
-use Rattle.depot_model.specs.WellFormed.{is_command, is_type_or_none, spells_path}
-use Rattle.depot_model.specs.declared.command.Command.{Command}
-use Rattle.depot_model.specs.declared.command.Command.TheVariants.{CounterShow, CounterSet, CounterDelete, Counters, ClientShow, ClientSave, LabelShow, LabelSave, GroupShow, GroupSave, ProtectShow, ProtectSave, Where, Add, Edit, Delete, Revert, Reopen, Lock, Unlock, Opened, ChangeSave, ChangeShow, ChangeDelete, Changes, SubmitChange, SubmitDefault, Sync, Have, Tag, LabelSync, Labels, Integrate, Resolve, Integrated, Files, FileLog, Print, Describe, Dirs, FileStat, Checkpoint, Pull, Move, Shelve, ShelveDelete, Unshelve, DescribeShelved, JobShow, JobSave, Jobs, Fix, FixDelete, Fixes}
-use Rattle.depot_model.specs.declared.refusal.Refusal.TheVariants.{NoClient, Unbuilt, Shelved, Fixed}
-use Rattle.depot_model.specs.declared.request.Request.{Request}
-use Rattle.depot_model.specs.declared.request.WordFault.{WordFault}
-use Rattle.depot_model.proofs.Counting.{counted_is_sound}
+use Rattle.depot_rows.specs.depot_path.Name.{is_name}
+use Rattle.depot_rows.specs.depot_model.About.{about}
+use Rattle.depot_rows.specs.depot_model.Asking.{is_client}
+use Rattle.depot_rows.specs.depot_model.Commands.{own_step, whole_step, built_step, step_of}
+use Rattle.depot_rows.specs.depot_model.Common.{common_refusals, last_refusals, asks_client, word_refusal}
+use Rattle.depot_rows.specs.depot_model.Deeds.{Deed}
+use Rattle.depot_rows.specs.depot_model.Fixes.{is_fixing}
+use Rattle.depot_rows.specs.depot_model.Rules.{IsSound}
+use Rattle.depot_rows.specs.depot_model.Shelves.{is_shelved}
+use Rattle.depot_rows.specs.depot_model.Step.{Step, refuses, after, refuse_if}
+use Rattle.depot_rows.specs.depot_model.WellFormed.{is_command, is_type_or_none, spells_path}
+use Rattle.depot_rows.specs.depot_model.declared.command.Command.{Command}
+use Rattle.depot_rows.specs.depot_model.declared.command.Command.TheVariants.{CounterShow, CounterSet, CounterDelete, Counters, ClientShow, ClientSave, LabelShow, LabelSave, GroupShow, GroupSave, ProtectShow, ProtectSave, Where, Add, Edit, Delete, Revert, Reopen, Lock, Unlock, Opened, ChangeSave, ChangeShow, ChangeDelete, Changes, SubmitChange, SubmitDefault, Sync, Have, Tag, LabelSync, Labels, Integrate, Resolve, Integrated, Files, FileLog, Print, Describe, Dirs, FileStat, Checkpoint, Pull, Move, Shelve, ShelveDelete, Unshelve, DescribeShelved, JobShow, JobSave, Jobs, Fix, FixDelete, Fixes}
+use Rattle.depot_rows.specs.depot_model.declared.refusal.Refusal.TheVariants.{NoClient, Unbuilt, Shelved, Fixed}
+use Rattle.depot_rows.specs.depot_model.declared.request.Request.{Request}
+use Rattle.depot_rows.specs.depot_model.declared.request.WordFault.{WordFault}
+use Rattle.depot_rows.proofs.depot_model.Counting.{counted_is_sound}
 use Rattle.depot_rows.proofs.Keys.{left-true, right-true}
 use Rattle.sound_form_steps.specs.Contents.{fits_content}
 use Rattle.sound_requests.specs.Asked.{is_named, is_covered, names_what}

@@ -2,11 +2,11 @@
 -- choice.
 use Rattle.std.specs.Prelude.{Ok, Err, Bool, true, false, ◌&&◌, IsTrue, IfOk}
 use Rattle.std.specs.List.{list_all}
-use Rattle.depot_path.specs.Name.{is_name}
-use Rattle.depot_model.specs.WellFormed.{is_command}
-use Rattle.depot_model.specs.declared.command.Command.{Command}
-use Rattle.depot_model.specs.declared.command.Command.TheVariants.{CounterSet, CounterDelete, Tag, SubmitChange, SubmitDefault}
-use Rattle.depot_model.specs.declared.request.Request.{Request}
+use Rattle.depot_rows.specs.depot_path.Name.{is_name}
+use Rattle.depot_rows.specs.depot_model.WellFormed.{is_command}
+use Rattle.depot_rows.specs.depot_model.declared.command.Command.{Command}
+use Rattle.depot_rows.specs.depot_model.declared.command.Command.TheVariants.{CounterSet, CounterDelete, Tag, SubmitChange, SubmitDefault}
+use Rattle.depot_rows.specs.depot_model.declared.request.Request.{Request}
 use Rattle.sound_form_steps.specs.Contents.{is_short, is_of_bytes}
 
 -- a counter that is set or deleted, and a label that is put on files, have a name

@@ -1,12 +1,12 @@
 //! The law of all requests and sound depots.
 
 ghost use Rattle.std.specs.Prelude.{Bool, List, IsTrue};
-ghost use Rattle.depot_model.specs.declared.command.Command.{Command};
-ghost use Rattle.depot_model.specs.declared.request.Request.{Request};
-ghost use Rattle.depot_model.specs.Commands.{step_of};
-ghost use Rattle.depot_model.specs.Deeds.{Deed};
-ghost use Rattle.depot_model.specs.Rules.{IsSound};
-ghost use Rattle.depot_model.specs.Step.{after};
+ghost use Rattle.depot_rows.specs.depot_model.declared.command.Command.{Command};
+ghost use Rattle.depot_rows.specs.depot_model.declared.request.Request.{Request};
+ghost use Rattle.depot_rows.specs.depot_model.Commands.{step_of};
+ghost use Rattle.depot_rows.specs.depot_model.Deeds.{Deed};
+ghost use Rattle.depot_rows.specs.depot_model.Rules.{IsSound};
+ghost use Rattle.depot_rows.specs.depot_model.Step.{after};
 ghost use Rattle.sound_requests.specs.Asked.{IsAsked, is_typed};
 
 /// The step of a request leaves a sound depot sound, whichever commands are built, where its command, if it has one, is well-formed, its contents

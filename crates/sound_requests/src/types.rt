@@ -4,8 +4,8 @@ ghost use Rattle.std.specs.Prelude.{◌<◌, All, IsTrue};
 ghost use Rattle.sound_form_steps.specs.Contents.{is_of_bytes};
 ghost use Rattle.sound_requests.specs.Asked.{are_named, is_typed};
 
-use depot_model::{Command, Content, Request};
-use depot_path::Text;
+use depot_rows::model::{Command, Content, Request};
+use depot_rows::paths::Text;
 
 /// The caller of a request, and what its command names, have names.
 fn know_names(request: &Request)

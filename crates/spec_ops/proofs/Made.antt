@@ -4,38 +4,38 @@ use Rattle.std.specs.List.{cons_option, list_all}
 use Rattle.std.specs.Option.{option_to_list}
 use Rattle.std.proofs.lemmas.Grind.{common_steps}
 use Rattle.std.proofs.lemmas.List.{append_assoc, append-nil}
-use Rattle.protect_table.specs.Line.{table_of}
-use Rattle.protect_table.specs.declared.fault.ProtectFault.{ProtectFault}
-use Rattle.protect_table.specs.declared.line.ProtectLine.{ProtectLine}
+use Rattle.depot_rows.specs.protect_table.Line.{table_of}
+use Rattle.depot_rows.specs.protect_table.declared.fault.ProtectFault.{ProtectFault}
+use Rattle.depot_rows.specs.protect_table.declared.line.ProtectLine.{ProtectLine}
 use Rattle.std.specs.Prelude.{◌-◌, filter_map, map, not, ◌&&◌, nat_lt, length, codes, option_map}
-use Rattle.depot_path.specs.Answers.{Answers, fault_of}
-use Rattle.depot_path.specs.Name.{is_name}
-use Rattle.spec_form.specs.Form.{FormValue, lines_of}
-use Rattle.spec_form.specs.Places.{line_place}
-use Rattle.spec_form.specs.Reading.{form_of, no_memory}
-use Rattle.spec_form.specs.declared.fault.FormFault.{FormFault}
-use Rattle.spec_form.specs.declared.fault.FormFaultKind.TheVariants.{Memory}
-use Rattle.spec_form.specs.declared.shape.Shape.{Shape}
-use Rattle.table_changes.specs.Changed.{AllRows}
-use Rattle.depot_model.specs.declared.refusal.Refusal.{Refusal}
-use Rattle.depot_model.specs.declared.refusal.Refusal.TheVariants.{BadForm, OverLimit}
-use Rattle.depot_model.specs.declared.refusal.Limit.TheVariants.{Protections, View}
-use Rattle.depot_model.specs.declared.reply.Row.{Row}
-use Rattle.depot_model.specs.Deeds.{Deed, Group, Guard, Spec, ClientForm, LabelForm}
-use Rattle.depot_model.specs.Latest.{count_name, keys_of, spec, spec_name}
-use Rattle.depot_model.specs.Sorted.{inserted}
-use Rattle.depot_model.specs.Steps.Counters.{counter_of, counter_row, counters}
-use Rattle.db_records.specs.declared.rows.CounterRecord.{CounterRecord}
+use Rattle.depot_rows.specs.depot_path.Answers.{Answers, fault_of}
+use Rattle.depot_rows.specs.depot_path.Name.{is_name}
+use Rattle.depot_rows.specs.spec_form.Form.{FormValue, lines_of}
+use Rattle.depot_rows.specs.spec_form.Places.{line_place}
+use Rattle.depot_rows.specs.spec_form.Reading.{form_of, no_memory}
+use Rattle.depot_rows.specs.spec_form.declared.fault.FormFault.{FormFault}
+use Rattle.depot_rows.specs.spec_form.declared.fault.FormFaultKind.TheVariants.{Memory}
+use Rattle.depot_rows.specs.spec_form.declared.shape.Shape.{Shape}
+use Rattle.depot_rows.specs.table_changes.Changed.{AllRows}
+use Rattle.depot_rows.specs.depot_model.declared.refusal.Refusal.{Refusal}
+use Rattle.depot_rows.specs.depot_model.declared.refusal.Refusal.TheVariants.{BadForm, OverLimit}
+use Rattle.depot_rows.specs.depot_model.declared.refusal.Limit.TheVariants.{Protections, View}
+use Rattle.depot_rows.specs.depot_model.declared.reply.Row.{Row}
+use Rattle.depot_rows.specs.depot_model.Deeds.{Deed, Group, Guard, Spec, ClientForm, LabelForm}
+use Rattle.depot_rows.specs.depot_model.Latest.{count_name, keys_of, spec, spec_name}
+use Rattle.depot_rows.specs.depot_model.Sorted.{inserted}
+use Rattle.depot_rows.specs.depot_model.Steps.Counters.{counter_of, counter_row, counters}
+use Rattle.depot_rows.specs.db_records.declared.rows.CounterRecord.{CounterRecord}
 use Rattle.row_reads.specs.Counters.{counters_of, valued}
-use Rattle.depot_model.specs.Refusals.{refusal_row}
-use Rattle.depot_model.specs.Step.{Step as ModelStep, does, refuses, refuse_if, tells, unless}
-use Rattle.depot_model.specs.Steps.Clients.{client_row, saved as saved_client}
-use Rattle.depot_model.specs.Steps.Labels.{label_row, labels, listed}
-use Rattle.depot_model.specs.Steps.Protections.{kept_line, saved as saved_lines}
-use Rattle.depot_model.specs.Values.{value_of}
-use Rattle.view_map.specs.Reading.{view_of}
-use Rattle.view_map.specs.declared.fault.ViewFault.{ViewFault}
-use Rattle.view_map.specs.declared.line.ViewLine.{ViewLine}
+use Rattle.depot_rows.specs.depot_model.Refusals.{refusal_row}
+use Rattle.depot_rows.specs.depot_model.Step.{Step as ModelStep, does, refuses, refuse_if, tells, unless}
+use Rattle.depot_rows.specs.depot_model.Steps.Clients.{client_row, saved as saved_client}
+use Rattle.depot_rows.specs.depot_model.Steps.Labels.{label_row, labels, listed}
+use Rattle.depot_rows.specs.depot_model.Steps.Protections.{kept_line, saved as saved_lines}
+use Rattle.depot_rows.specs.depot_model.Values.{value_of}
+use Rattle.depot_rows.specs.view_map.Reading.{view_of}
+use Rattle.depot_rows.specs.view_map.declared.fault.ViewFault.{ViewFault}
+use Rattle.depot_rows.specs.view_map.declared.line.ViewLine.{ViewLine}
 use Rattle.reply_rows.specs.declared.step.Step.{Step}
 use Rattle.reply_rows.specs.Made.{IsMade, told}
 use Rattle.reply_rows.specs.Refusing.{first_of}

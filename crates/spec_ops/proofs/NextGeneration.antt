@@ -2,22 +2,22 @@
 use Rattle.std.proofs.Common.{◌≡◌, ℕ, ◌+◌, ◌≤◌, ◌<◌, Bool, true, false, List, [], ◌∷◌, Option, Some, None, refl, sym, ap, subst, ◌∙◌, arith}
 use Rattle.std.proofs.lemmas.Bool.Decides.{nat_tests}
 use Rattle.std.specs.Prelude.{codes, nat_le, option_map, unwrap_or}
-use Rattle.db_records.specs.declared.key.Key.TheVariants as keys
-use Rattle.db_records.specs.declared.record.Record.{Record}
-use Rattle.db_records.specs.declared.record.Record.TheVariants.{Counter}
-use Rattle.db_records.specs.declared.table.TableId.TheVariants as table_ids
-use Rattle.depot_model.specs.Deeds.{Count, Deed}
-use Rattle.depot_model.specs.Latest.{count_of}
-use Rattle.depot_model.specs.Records.{record_of, unplaced}
-use Rattle.depot_model.specs.Refusals.{refusal_row}
-use Rattle.depot_model.specs.Rows.{row, number_field}
-use Rattle.depot_model.specs.Step.{Step, does, refuse_if, refuses, unless}
-use Rattle.depot_model.specs.Steps.Checkpoint.{checkpoint, generation}
-use Rattle.depot_model.specs.declared.refusal.Limit.TheVariants.{Generation}
-use Rattle.depot_model.specs.declared.refusal.Refusal.TheVariants.{OverLimit}
+use Rattle.depot_rows.specs.db_records.declared.key.Key.TheVariants as keys
+use Rattle.depot_rows.specs.db_records.declared.record.Record.{Record}
+use Rattle.depot_rows.specs.db_records.declared.record.Record.TheVariants.{Counter}
+use Rattle.depot_rows.specs.db_records.declared.table.TableId.TheVariants as table_ids
+use Rattle.depot_rows.specs.depot_model.Deeds.{Count, Deed}
+use Rattle.depot_rows.specs.depot_model.Latest.{count_of}
+use Rattle.depot_rows.specs.depot_model.Records.{record_of, unplaced}
+use Rattle.depot_rows.specs.depot_model.Refusals.{refusal_row}
+use Rattle.depot_rows.specs.depot_model.Rows.{row, number_field}
+use Rattle.depot_rows.specs.depot_model.Step.{Step, does, refuse_if, refuses, unless}
+use Rattle.depot_rows.specs.depot_model.Steps.Checkpoint.{checkpoint, generation}
+use Rattle.depot_rows.specs.depot_model.declared.refusal.Limit.TheVariants.{Generation}
+use Rattle.depot_rows.specs.depot_model.declared.refusal.Refusal.TheVariants.{OverLimit}
 use Rattle.depot_rows.specs.Standing.{HasRows}
-use Rattle.table_changes.specs.Changed.{AllRows}
-use Rattle.table_store.specs.Rows.{row_at}
+use Rattle.depot_rows.specs.table_changes.Changed.{AllRows}
+use Rattle.depot_rows.specs.table_store.Rows.{row_at}
 use Rattle.spec_ops.specs.Counters.{value_in}
 
 -- the row has the value that the depot counts

@@ -1,7 +1,7 @@
 -- The value of a counter as its row has it (Helix Core database schema reference, "db.counters").
 use Rattle.std.specs.Prelude.{ℕ, Option, Some}
-use Rattle.db_records.specs.declared.record.Record.{Record}
-use Rattle.db_records.specs.declared.record.Record.TheVariants.{Counter}
+use Rattle.depot_rows.specs.db_records.declared.record.Record.{Record}
+use Rattle.depot_rows.specs.db_records.declared.record.Record.TheVariants.{Counter}
 
 -- 0 where there is no row
 abbrev pub value_in : Option Record → ℕ

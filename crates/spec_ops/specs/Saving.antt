@@ -2,24 +2,24 @@
 -- "p4 protect"). That the row of a form that isn't saved has its name alone is this project's own choice.
 use Rattle.std.specs.Prelude.{ℕ, ◌-◌, not, ◌&&◌, nat_lt, List, [], ◌∷◌, length, map, codes, Option, Some, None, option_map}
 use Rattle.std.specs.List.{enumerate_from, list_all}
-use Rattle.depot_path.specs.Answers.{fault_of}
-use Rattle.depot_path.specs.Name.{is_name}
-use Rattle.protect_table.specs.Line.{table_of as protects_of}
-use Rattle.protect_table.specs.declared.fault.ProtectFault.{ProtectFault}
-use Rattle.spec_form.specs.Form.{FormValue, lines_of}
-use Rattle.spec_form.specs.Places.{line_place}
-use Rattle.view_map.specs.Reading.{view_of}
-use Rattle.view_map.specs.declared.fault.ViewFault.{ViewFault}
-use Rattle.depot_model.specs.declared.refusal.Refusal.{Refusal}
-use Rattle.depot_model.specs.declared.refusal.Refusal.TheVariants.{BadForm, OverLimit, LabelLocked}
-use Rattle.depot_model.specs.declared.refusal.Limit.TheVariants.{View, Users, Protections}
-use Rattle.depot_model.specs.declared.reply.Row.{Row}
-use Rattle.depot_model.specs.Deeds.{Deed}
-use Rattle.depot_model.specs.FormRows.{form_fields, numbered}
-use Rattle.depot_model.specs.Rows.{row, text_field}
-use Rattle.depot_model.specs.Step.{refuse_if}
-use Rattle.depot_model.specs.Steps.Labels.{is_locked, is_locked_form}
-use Rattle.depot_model.specs.Values.{value_of}
+use Rattle.depot_rows.specs.depot_path.Answers.{fault_of}
+use Rattle.depot_rows.specs.depot_path.Name.{is_name}
+use Rattle.depot_rows.specs.protect_table.Line.{table_of as protects_of}
+use Rattle.depot_rows.specs.protect_table.declared.fault.ProtectFault.{ProtectFault}
+use Rattle.depot_rows.specs.spec_form.Form.{FormValue, lines_of}
+use Rattle.depot_rows.specs.spec_form.Places.{line_place}
+use Rattle.depot_rows.specs.view_map.Reading.{view_of}
+use Rattle.depot_rows.specs.view_map.declared.fault.ViewFault.{ViewFault}
+use Rattle.depot_rows.specs.depot_model.declared.refusal.Refusal.{Refusal}
+use Rattle.depot_rows.specs.depot_model.declared.refusal.Refusal.TheVariants.{BadForm, OverLimit, LabelLocked}
+use Rattle.depot_rows.specs.depot_model.declared.refusal.Limit.TheVariants.{View, Users, Protections}
+use Rattle.depot_rows.specs.depot_model.declared.reply.Row.{Row}
+use Rattle.depot_rows.specs.depot_model.Deeds.{Deed}
+use Rattle.depot_rows.specs.depot_model.FormRows.{form_fields, numbered}
+use Rattle.depot_rows.specs.depot_model.Rows.{row, text_field}
+use Rattle.depot_rows.specs.depot_model.Step.{refuse_if}
+use Rattle.depot_rows.specs.depot_model.Steps.Labels.{is_locked, is_locked_form}
+use Rattle.depot_rows.specs.depot_model.Values.{value_of}
 
 -- a bad line of a field, by its place in the text
 abbrev pub view_fault : List ℕ → ViewFault → Refusal

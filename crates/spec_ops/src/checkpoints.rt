@@ -1,21 +1,21 @@
 //! `admin checkpoint` (Command-Line Reference, "p4 admin"; System Administrator Guide, "Checkpoint files").
 
 ghost use Rattle.std.specs.Prelude.{◌≡◌, ◌∷◌, [], List, IfOk, Some, codes};
-ghost use Rattle.db_records.specs.declared.table.TableId.TheVariants as table_ids;
-ghost use Rattle.table_changes.specs.Changed.{AllRows, rows_of};
-ghost use Rattle.depot_model.specs.Deeds.{Count, Deed as ModelDeed};
-ghost use Rattle.depot_model.specs.Rows.{row as row_with, number_field as number_in};
-ghost use Rattle.depot_model.specs.Step.{does};
-ghost use Rattle.depot_model.specs.Steps.Checkpoint as model;
+ghost use Rattle.depot_rows.specs.db_records.declared.table.TableId.TheVariants as table_ids;
+ghost use Rattle.depot_rows.specs.table_changes.Changed.{AllRows, rows_of};
+ghost use Rattle.depot_rows.specs.depot_model.Deeds.{Count, Deed as ModelDeed};
+ghost use Rattle.depot_rows.specs.depot_model.Rows.{row as row_with, number_field as number_in};
+ghost use Rattle.depot_rows.specs.depot_model.Step.{does};
+ghost use Rattle.depot_rows.specs.depot_model.Steps.Checkpoint as model;
 ghost use Rattle.depot_rows.specs.Standing.{HasRows};
 ghost use Rattle.reply_rows.specs.Made.{IsMade};
 
 use crate::counters::counter_value;
-use depot_model::{Limit, Row};
-use depot_path::{Name, Sequence};
+use depot_rows::model::{Limit, Row};
+use depot_rows::paths::{Name, Sequence};
+use depot_rows::tables::Tables;
 use reply_rows::{Step, limit_row, number_field, row_of};
 use std::alloc::{AllocError, Global};
-use table_store::Tables;
 
 /// The generation behind which there is none.
 const LAST: u64 = 4095;

@@ -1,13 +1,13 @@
 //! `client` (Command-Line Reference, "p4 client").
 
 ghost use Rattle.std.specs.Prelude.{◌≡◌, ◌≢◌, List, IfOk, option_map};
-ghost use Rattle.db_records.specs.declared.table.TableId.TheVariants as table_ids;
-ghost use Rattle.view_map.specs.declared.fault.ViewCause.TheVariants.{Memory};
-ghost use Rattle.table_changes.specs.Changed.{AllRows, rows_of};
-ghost use Rattle.depot_model.specs.Deeds.{Deed};
-ghost use Rattle.depot_model.specs.Refusals.{refusal_row};
-ghost use Rattle.depot_model.specs.Rules.{IsSound};
-ghost use Rattle.depot_model.specs.Steps.Clients as model;
+ghost use Rattle.depot_rows.specs.db_records.declared.table.TableId.TheVariants as table_ids;
+ghost use Rattle.depot_rows.specs.view_map.declared.fault.ViewCause.TheVariants.{Memory};
+ghost use Rattle.depot_rows.specs.table_changes.Changed.{AllRows, rows_of};
+ghost use Rattle.depot_rows.specs.depot_model.Deeds.{Deed};
+ghost use Rattle.depot_rows.specs.depot_model.Refusals.{refusal_row};
+ghost use Rattle.depot_rows.specs.depot_model.Rules.{IsSound};
+ghost use Rattle.depot_rows.specs.depot_model.Steps.Clients as model;
 ghost use Rattle.depot_rows.specs.Standing.{HasRows};
 ghost use Rattle.reply_rows.specs.Made.{IsMade};
 ghost use Rattle.reply_rows.specs.Refusing.{first_of};
@@ -15,15 +15,15 @@ ghost use Rattle.spec_ops.specs.Saving.{client_refusals, view_fault, view_refusa
 
 use crate::saving::{keep_form, shown_row};
 use command_parts::{named, unread};
-use depot_model::{Limit, Row};
-use depot_path::{Name, Text, is_name};
 use depot_rows::SpecKind;
+use depot_rows::forms::{Form, Shape, line_place};
+use depot_rows::model::{Limit, Row};
+use depot_rows::paths::{Name, Text, is_name};
+use depot_rows::tables::Tables;
+use depot_rows::views::{View, ViewCause, ViewFault};
 use reply_rows::{Step, bad_form_row, limit_row};
 use row_reads::{form_value, saved_form};
-use spec_form::{Form, Shape, line_place};
 use std::alloc::{AllocError, Global};
-use table_store::Tables;
-use view_map::{View, ViewCause, ViewFault};
 
 /// `client -o [NAME]`, from the table of forms alone.
 pub fn client_show(alloc: Global, tables: &Tables, name: &Name) -> Result<Step, AllocError>

@@ -2,24 +2,24 @@
 
 ghost use Rattle.std.specs.Prelude.{◌≡◌, ◌∷◌, [], List, map, IfOk};
 ghost use Rattle.std.specs.Option.{option_copied};
-ghost use Rattle.db_records.specs.declared.table.TableId.TheVariants as table_ids;
-ghost use Rattle.table_changes.specs.Changed.{AllRows, rows_of};
-ghost use Rattle.table_store.specs.Rows.{row_at};
-ghost use Rattle.depot_model.specs.Deeds.{Count, Deed as ModelDeed};
-ghost use Rattle.depot_model.specs.Step.{does};
-ghost use Rattle.depot_model.specs.Steps.Counters as model;
+ghost use Rattle.depot_rows.specs.db_records.declared.table.TableId.TheVariants as table_ids;
+ghost use Rattle.depot_rows.specs.table_changes.Changed.{AllRows, rows_of};
+ghost use Rattle.depot_rows.specs.table_store.Rows.{row_at};
+ghost use Rattle.depot_rows.specs.depot_model.Deeds.{Count, Deed as ModelDeed};
+ghost use Rattle.depot_rows.specs.depot_model.Step.{does};
+ghost use Rattle.depot_rows.specs.depot_model.Steps.Counters as model;
 ghost use Rattle.depot_rows.specs.Standing.{HasRows};
-ghost use Rattle.db_records.specs.declared.key.Key.TheVariants as keys;
+ghost use Rattle.depot_rows.specs.db_records.declared.key.Key.TheVariants as keys;
 ghost use Rattle.reply_rows.specs.Made.{IsMade};
 ghost use Rattle.spec_ops.specs.Counters.{value_in};
 
-use db_records::{CounterRecord, Key, Record, TableId};
-use depot_model::Row;
-use depot_path::{Name, Sequence, Text};
+use depot_rows::model::Row;
+use depot_rows::paths::{Name, Sequence, Text};
+use depot_rows::records::{CounterRecord, Key, Record, TableId};
+use depot_rows::tables::Tables;
 use reply_rows::{Step, number_field, row_of, text_field};
 use row_reads::counters_of;
 use std::alloc::{AllocError, Global};
-use table_store::Tables;
 
 /// The row of a value, 0 standing for none.
 fn value_row(alloc: Global, name: &[u8], value: u64) -> Result<Row, AllocError>

@@ -2,15 +2,15 @@
 
 ghost use Rattle.std.specs.Prelude.{◌≡◌, ◌∷◌, [], true, List, codes, IfOk, option_map};
 ghost use Rattle.std.specs.List.{list_all};
-ghost use Rattle.depot_path.specs.Name.{is_name as name_test};
-ghost use Rattle.db_records.specs.declared.table.TableId.TheVariants as table_ids;
-ghost use Rattle.spec_form.specs.Form.{lines_of};
-ghost use Rattle.table_changes.specs.Changed.{AllRows, rows_of};
-ghost use Rattle.depot_model.specs.Deeds.{Deed, Group};
-ghost use Rattle.depot_model.specs.Refusals.{refusal_row};
-ghost use Rattle.depot_model.specs.Step.{does};
-ghost use Rattle.depot_model.specs.Steps.Groups as model;
-ghost use Rattle.depot_model.specs.Values.{value_of};
+ghost use Rattle.depot_rows.specs.depot_path.Name.{is_name as name_test};
+ghost use Rattle.depot_rows.specs.db_records.declared.table.TableId.TheVariants as table_ids;
+ghost use Rattle.depot_rows.specs.spec_form.Form.{lines_of};
+ghost use Rattle.depot_rows.specs.table_changes.Changed.{AllRows, rows_of};
+ghost use Rattle.depot_rows.specs.depot_model.Deeds.{Deed, Group};
+ghost use Rattle.depot_rows.specs.depot_model.Refusals.{refusal_row};
+ghost use Rattle.depot_rows.specs.depot_model.Step.{does};
+ghost use Rattle.depot_rows.specs.depot_model.Steps.Groups as model;
+ghost use Rattle.depot_rows.specs.depot_model.Values.{value_of};
 ghost use Rattle.depot_rows.specs.Standing.{HasRows};
 ghost use Rattle.reply_rows.specs.Made.{IsMade};
 ghost use Rattle.reply_rows.specs.Refusing.{first_of};
@@ -18,13 +18,13 @@ ghost use Rattle.spec_ops.specs.Saving.{group_refusals, group_row as row_of_grou
 
 use crate::saving::saved_row;
 use command_parts::{named, unread};
-use depot_model::{Limit, Row};
-use depot_path::{Name, Sequence, Text, is_name};
+use depot_rows::forms::{Form, Shape, line_place};
+use depot_rows::model::{Limit, Row};
+use depot_rows::paths::{Name, Sequence, Text, is_name};
+use depot_rows::tables::Tables;
 use reply_rows::{Step, bad_form_row, limit_row, push_numbered, row_of, text_field};
 use row_reads::{form_value, users_of};
-use spec_form::{Form, Shape, line_place};
 use std::alloc::{AllocError, Global};
-use table_store::Tables;
 
 /// The row of a group with these users.
 fn group_row(alloc: Global, name: &[u8], users: &[Text]) -> Result<Row, AllocError>

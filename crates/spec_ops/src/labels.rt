@@ -2,14 +2,14 @@
 
 ghost use Rattle.std.specs.Prelude.{◌≡◌, ◌++◌, true, ℕ, List, IfOk, OnOk, filter_map, option_map};
 ghost use Rattle.std.specs.Option.{option_copied, option_to_list};
-ghost use Rattle.depot_path.specs.Name.{is_name as name_test};
-ghost use Rattle.db_records.specs.declared.table.TableId.TheVariants as table_ids;
-ghost use Rattle.table_changes.specs.Changed.{rows_of};
-ghost use Rattle.depot_model.specs.Deeds.{Deed, LabelForm};
-ghost use Rattle.depot_model.specs.Latest.{spec};
-ghost use Rattle.depot_model.specs.Refusals.{refusal_row};
-ghost use Rattle.depot_model.specs.Rules.{IsSound};
-ghost use Rattle.depot_model.specs.Steps.Labels as model;
+ghost use Rattle.depot_rows.specs.depot_path.Name.{is_name as name_test};
+ghost use Rattle.depot_rows.specs.db_records.declared.table.TableId.TheVariants as table_ids;
+ghost use Rattle.depot_rows.specs.table_changes.Changed.{rows_of};
+ghost use Rattle.depot_rows.specs.depot_model.Deeds.{Deed, LabelForm};
+ghost use Rattle.depot_rows.specs.depot_model.Latest.{spec};
+ghost use Rattle.depot_rows.specs.depot_model.Refusals.{refusal_row};
+ghost use Rattle.depot_rows.specs.depot_model.Rules.{IsSound};
+ghost use Rattle.depot_rows.specs.depot_model.Steps.Labels as model;
 ghost use Rattle.depot_rows.specs.Standing.{HasRows};
 ghost use Rattle.reply_rows.specs.Made.{IsMade};
 ghost use Rattle.reply_rows.specs.Refusing.{first_of};
@@ -17,14 +17,14 @@ ghost use Rattle.spec_ops.specs.Saving.{label_refusals, locked_refusal as refusa
 
 use crate::saving::{keep_form, shown_row};
 use command_parts::{named, unread};
-use depot_model::Row;
-use depot_path::{Name, Sequence, Text, is_name};
 use depot_rows::SpecKind;
+use depot_rows::forms::{Form, Shape};
+use depot_rows::model::Row;
+use depot_rows::paths::{Name, Sequence, Text, is_name};
+use depot_rows::tables::Tables;
 use reply_rows::{Step, bad_form_row, label_locked_row, push_values, row_of, text_field};
 use row_reads::{form_names, form_value, is_locked_form, is_locked_label, saved_form};
-use spec_form::{Form, Shape};
 use std::alloc::{AllocError, Global};
-use table_store::Tables;
 
 /// `label -o NAME`, from the table of forms alone.
 pub fn label_show(alloc: Global, tables: &Tables, name: &Name) -> Result<Step, AllocError>

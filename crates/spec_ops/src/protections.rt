@@ -2,28 +2,28 @@
 
 ghost use Rattle.std.specs.Prelude.{◌≡◌, ◌≢◌, ◌∷◌, [], List, map, codes, IfOk, option_map};
 ghost use Rattle.std.specs.List.{join_with_byte};
-ghost use Rattle.db_records.specs.declared.table.TableId.TheVariants as table_ids;
-ghost use Rattle.protect_table.specs.declared.fault.LineFault.TheVariants.{Memory};
-ghost use Rattle.table_changes.specs.Changed.{AllRows, rows_of};
-ghost use Rattle.depot_model.specs.Deeds.{Deed, Guard};
-ghost use Rattle.depot_model.specs.Refusals.{refusal_row};
-ghost use Rattle.depot_model.specs.Rules.{IsSound};
-ghost use Rattle.depot_model.specs.Step.{does};
-ghost use Rattle.depot_model.specs.Steps.Protections as model;
+ghost use Rattle.depot_rows.specs.db_records.declared.table.TableId.TheVariants as table_ids;
+ghost use Rattle.depot_rows.specs.protect_table.declared.fault.LineFault.TheVariants.{Memory};
+ghost use Rattle.depot_rows.specs.table_changes.Changed.{AllRows, rows_of};
+ghost use Rattle.depot_rows.specs.depot_model.Deeds.{Deed, Guard};
+ghost use Rattle.depot_rows.specs.depot_model.Refusals.{refusal_row};
+ghost use Rattle.depot_rows.specs.depot_model.Rules.{IsSound};
+ghost use Rattle.depot_rows.specs.depot_model.Step.{does};
+ghost use Rattle.depot_rows.specs.depot_model.Steps.Protections as model;
 ghost use Rattle.depot_rows.specs.Standing.{HasRows};
 ghost use Rattle.reply_rows.specs.Made.{IsMade};
 ghost use Rattle.reply_rows.specs.Refusing.{first_of};
 ghost use Rattle.spec_ops.specs.Saving.{lines_refusal as refusal_of_lines, lines_row as row_of_lines, protect_fault, protect_refusals, saved_alone};
 
 use command_parts::unread;
-use depot_model::{Limit, Row};
-use depot_path::{Sequence, Text};
-use protect_table::{LineFault, ProtectFault, Protects, line_words};
+use depot_rows::forms::{Form, Shape, line_place};
+use depot_rows::model::{Limit, Row};
+use depot_rows::paths::{Sequence, Text};
+use depot_rows::protections::{LineFault, ProtectFault, Protects, line_words};
+use depot_rows::tables::Tables;
 use reply_rows::{Step, bad_form_row, limit_row, push_numbered, row_of, text_field};
 use row_reads::protection_lines;
-use spec_form::{Form, Shape, line_place};
 use std::alloc::{AllocError, Global};
-use table_store::Tables;
 
 /// The row of the protections.
 fn lines_row(alloc: Global, lines: &[Text]) -> Result<Row, AllocError>

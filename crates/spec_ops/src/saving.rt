@@ -2,20 +2,20 @@
 
 ghost use Rattle.std.specs.Prelude.{◌≡◌, ◌∷◌, [], List, IfOk};
 ghost use Rattle.std.specs.Option.{option_copied};
-ghost use Rattle.table_changes.specs.Changed.{AllRows};
-ghost use Rattle.depot_model.specs.Deeds.{Deed, Spec};
-ghost use Rattle.depot_model.specs.Step.{does};
-ghost use Rattle.depot_model.specs.Values.{value_of};
+ghost use Rattle.depot_rows.specs.table_changes.Changed.{AllRows};
+ghost use Rattle.depot_rows.specs.depot_model.Deeds.{Deed, Spec};
+ghost use Rattle.depot_rows.specs.depot_model.Step.{does};
+ghost use Rattle.depot_rows.specs.depot_model.Values.{value_of};
 ghost use Rattle.depot_rows.specs.Deed.{kind_of};
 ghost use Rattle.reply_rows.specs.Made.{IsMade};
 ghost use Rattle.spec_ops.specs.Saving.{saved_row as row_of_saved, shown};
 
-use depot_model::Row;
-use depot_path::{Sequence, Text};
 use depot_rows::SpecKind;
+use depot_rows::forms::Form;
+use depot_rows::model::Row;
+use depot_rows::paths::{Sequence, Text};
 use reply_rows::{Step, form_fields, row_of, text_field};
 use row_reads::form_value;
-use spec_form::Form;
 use std::alloc::{AllocError, Global};
 
 /// The row that tells that something is saved, by its name.

@@ -2,12 +2,12 @@
 use Rattle.std.proofs.Common.{◌≡◌, ◌≢◌, ◌≤◌, ◌+◌, ◌-◌, ℕ, Bool, true, false, List, [], ◌∷◌, ◌++◌, Option, Some, None, Result, Ok, Err, refl, sym, ap, subst, ◌∙◌, arith}
 use Rattle.std.specs.Prelude.{◌&&◌, not, codes, unwrap_or, option_map, IfOk, if◌then◌else◌}
 use Rattle.std.specs.Option.{option_flatten, option_or}
-use Rattle.depot_path.specs.Bytes.{same}
-use Rattle.db_records.specs.Key.{key_table}
-use Rattle.db_records.specs.Table.{table_number}
-use Rattle.db_records.specs.declared.key.Key.{Key}
-use Rattle.db_records.specs.declared.key.Key.TheVariants as keys
-use Rattle.db_records.specs.declared.record.Record.TheVariants.{Counter as CounterRow}
+use Rattle.depot_model.specs.depot_path.Bytes.{same}
+use Rattle.depot_model.specs.db_records.Key.{key_table}
+use Rattle.depot_model.specs.db_records.Table.{table_number}
+use Rattle.depot_model.specs.db_records.declared.key.Key.{Key}
+use Rattle.depot_model.specs.db_records.declared.key.Key.TheVariants as keys
+use Rattle.depot_model.specs.db_records.declared.record.Record.TheVariants.{Counter as CounterRow}
 use Rattle.depot_model.specs.About.{about}
 use Rattle.depot_model.specs.Commands.{own_step, whole_step, built_step, step_of}
 use Rattle.depot_model.specs.Common.{common_refusals, last_refusals, word_refusal}

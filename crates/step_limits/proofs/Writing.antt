@@ -4,13 +4,13 @@ use Rattle.std.specs.Prelude.{◌==◌, ◌&&◌, ◌||◌, not, nat_lt, map, fi
 use Rattle.std.specs.List.{cons_option}
 use Rattle.std.specs.Option.{option_map_or}
 use Rattle.std.proofs.lemmas.Bool.Decides.{nat_tests}
-use Rattle.spec_form.specs.Form.{FormValue, lines_of}
-use Rattle.spec_form.specs.Places.{field_place}
-use Rattle.spec_form.specs.Reading.{form_of}
-use Rattle.spec_form.specs.declared.fault.FormFault.{FormFault}
-use Rattle.spec_form.specs.declared.shape.Shape.TheVariants.{Change as ChangeShape}
-use Rattle.db_records.specs.declared.key.Key.TheVariants as keys
-use Rattle.db_records.specs.declared.record.Record.{Record}
+use Rattle.depot_model.specs.spec_form.Form.{FormValue, lines_of}
+use Rattle.depot_model.specs.spec_form.Places.{field_place}
+use Rattle.depot_model.specs.spec_form.Reading.{form_of}
+use Rattle.depot_model.specs.spec_form.declared.fault.FormFault.{FormFault}
+use Rattle.depot_model.specs.spec_form.declared.shape.Shape.TheVariants.{Change as ChangeShape}
+use Rattle.depot_model.specs.db_records.declared.key.Key.TheVariants as keys
+use Rattle.depot_model.specs.db_records.declared.record.Record.{Record}
 use Rattle.depot_model.specs.Deeds.{Deed, Opening, Pending, Open, Drop, Spec, JobForm}
 use Rattle.depot_model.specs.Fixes.{closing, closed, closes, fixed_job, fixes_of, job, renumbers_where}
 use Rattle.depot_model.specs.Numbers.{pending, landing, top}

@@ -1,6 +1,6 @@
 -- What the steps of requests leave as it was: the generation, which only a checkpoint counts up (Command-Line Reference, "p4 admin").
 use Rattle.std.specs.Prelude.{◌≡◌, ◌≢◌, ℕ, Bool, IsTrue, List, IfOk, codes}
-use Rattle.db_records.specs.declared.key.Key.TheVariants as keys
+use Rattle.depot_model.specs.db_records.declared.key.Key.TheVariants as keys
 use Rattle.depot_model.specs.declared.command.Command.{Command}
 use Rattle.depot_model.specs.declared.command.Command.TheVariants.{Checkpoint}
 use Rattle.depot_model.specs.declared.request.Request.{Request}

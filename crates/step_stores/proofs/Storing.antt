@@ -1,8 +1,8 @@
 -- A step that submits no change and stores nothing.
 use Rattle.std.proofs.Common.{◌≡◌, ℕ, List, [], ◌∷◌, sym, subst}
-use Rattle.table_changes.specs.Changed.{AllRows}
-use Rattle.depot_model.specs.Deeds as model
-use Rattle.depot_model.specs.Step.{Step as ModelStep}
+use Rattle.depot_rows.specs.table_changes.Changed.{AllRows}
+use Rattle.depot_rows.specs.depot_model.Deeds as model
+use Rattle.depot_rows.specs.depot_model.Step.{Step as ModelStep}
 use Rattle.depot_rows.specs.Effects.{Follow}
 use Rattle.depot_rows.specs.declared.deed.Deed.{Deed}
 use Rattle.depot_rows.specs.declared.deed.Deed.TheVariants as deeds

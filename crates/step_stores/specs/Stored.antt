@@ -1,10 +1,10 @@
 -- Where the contents of a submitted change stand: at the spot of a revision that has the same content, or among those that the command stores, one
 -- after another from a place of the archive on. This project's own choice.
 use Rattle.std.specs.Prelude.{◌≡◌, ◌⊎◌, ◌+◌, ℕ, List, [], ◌∷◌, length, map, Option, Some}
-use Rattle.db_records.specs.declared.change.Spot.{Spot}
-use Rattle.table_changes.specs.Changed.{AllRows}
-use Rattle.depot_model.specs.Deeds as model
-use Rattle.depot_model.specs.Step.{Step as ModelStep}
+use Rattle.depot_rows.specs.db_records.declared.change.Spot.{Spot}
+use Rattle.depot_rows.specs.table_changes.Changed.{AllRows}
+use Rattle.depot_rows.specs.depot_model.Deeds as model
+use Rattle.depot_rows.specs.depot_model.Step.{Step as ModelStep}
 use Rattle.depot_rows.specs.Effects.{Follow}
 use Rattle.depot_rows.specs.declared.deed.Deed.{Deed}
 use Rattle.depot_rows.specs.declared.deed.Deed.TheVariants as deeds

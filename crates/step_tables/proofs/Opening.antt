@@ -2,7 +2,7 @@
 use Rattle.std.proofs.Common.{ℕ, Bool, true, false, List, [], ◌∷◌, ◌++◌, Option, Some, None, refl}
 use Rattle.std.specs.Prelude.{◌&&◌, ◌==◌, not, flat_map, nat_lt, codes, is_none, unwrap_or, if◌then◌else◌}
 use Rattle.std.specs.List.{last_or}
-use Rattle.depot_path.specs.Bytes.{same}
+use Rattle.depot_model.specs.depot_path.Bytes.{same}
 use Rattle.depot_model.specs.Arguments.{named, submitted, had, opened_by, no_file, is_in as is_taken}
 use Rattle.depot_model.specs.Asking.{to_open, to_read, to_write}
 use Rattle.depot_model.specs.Choice.{Choice, PassedOver, At, chosen}
@@ -28,7 +28,7 @@ use Rattle.depot_model.specs.declared.command.Taking.{Taking}
 use Rattle.depot_model.specs.declared.command.Taking.TheVariants.{Theirs, Yours}
 use Rattle.depot_model.specs.declared.refusal.Refusal.TheVariants.{NotInView}
 use Rattle.depot_model.specs.declared.request.Caller.{Caller}
-use Rattle.depot_path.specs.Path.{printed}
+use Rattle.depot_model.specs.depot_path.Path.{printed}
 use Rattle.step_tables.proofs.Combining.{StayIn, Stays, only_tells, done, stays_both, stays_refused, stays_within, stays_if, stays_where, stays_all, stays_over, stays_over_all, stays_in_turn}
 
 module _ (d : List Deed) (caller : Caller) where

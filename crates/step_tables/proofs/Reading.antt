@@ -1,7 +1,7 @@
 -- Steps that only tell have no deed.
 use Rattle.std.proofs.Common.{ℕ, Bool, true, false, List, [], ◌∷◌, Option, Some, None}
 use Rattle.std.specs.Prelude.{◌&&◌, ◌==◌, not, length}
-use Rattle.view_map.specs.Mapping.{path_in}
+use Rattle.depot_model.specs.view_map.Mapping.{path_in}
 use Rattle.depot_model.specs.Arguments.{named, submitted, had, no_file}
 use Rattle.depot_model.specs.Asking.{view, to_read}
 use Rattle.depot_model.specs.Deeds.{Deed, Pending, Landing}

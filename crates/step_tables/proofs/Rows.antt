@@ -3,10 +3,10 @@ use Rattle.std.proofs.Common.{◌≡◌, ℕ, Bool, true, false, List, [], ◌�
 use Rattle.std.specs.Prelude.{◌==◌, ◌&&◌, ◌||◌, option_and_then}
 use Rattle.std.specs.List.{list_all}
 use Rattle.std.proofs.lemmas.Bool.{eqb-true}
-use Rattle.db_records.specs.Key.{key_table}
-use Rattle.db_records.specs.Table.{table_number}
-use Rattle.db_records.specs.declared.key.Key.{Key}
-use Rattle.db_records.specs.declared.key.Key.TheVariants as keys
+use Rattle.depot_model.specs.db_records.Key.{key_table}
+use Rattle.depot_model.specs.db_records.Table.{table_number}
+use Rattle.depot_model.specs.db_records.declared.key.Key.{Key}
+use Rattle.depot_model.specs.db_records.declared.key.Key.TheVariants as keys
 use Rattle.depot_model.specs.Deeds.{Deed, Spec, Guard, Group, Count, Pend, Drop, Open, Shut, Hold, Free, Got, Tag, Owe, Paid, Land}
 use Rattle.depot_model.specs.Numbers.{landings}
 use Rattle.depot_model.specs.Records.{record_of}

@@ -2,13 +2,13 @@
 -- labels' files.
 use Rattle.std.proofs.Common.{◌≡◌, ℕ, zero, suc, Bool, true, false, List, [], ◌∷◌, Option, Some, None, refl}
 use Rattle.std.specs.Prelude.{◌&&◌, ◌==◌, not, length, nat_lt, nat_le, codes, is_some, if◌then◌else◌}
-use Rattle.spec_form.specs.Form.{FormValue, lines_of}
-use Rattle.spec_form.specs.Reading.{form_of}
-use Rattle.spec_form.specs.declared.shape.Shape.TheVariants as shapes
-use Rattle.protect_table.specs.Line.{table_of as protects_of}
-use Rattle.view_map.specs.Reading.{view_of}
-use Rattle.depot_path.specs.Name.{is_name}
-use Rattle.spec_form.specs.Places.{field_place}
+use Rattle.depot_model.specs.spec_form.Form.{FormValue, lines_of}
+use Rattle.depot_model.specs.spec_form.Reading.{form_of}
+use Rattle.depot_model.specs.spec_form.declared.shape.Shape.TheVariants as shapes
+use Rattle.depot_model.specs.protect_table.Line.{table_of as protects_of}
+use Rattle.depot_model.specs.view_map.Reading.{view_of}
+use Rattle.depot_model.specs.depot_path.Name.{is_name}
+use Rattle.depot_model.specs.spec_form.Places.{field_place}
 use Rattle.depot_model.specs.Arguments.{named, submitted, no_file}
 use Rattle.depot_model.specs.Asking.{is_label, to_open}
 use Rattle.depot_model.specs.Deeds.{Deed, Spec, Tag, LabelForm, JobForm, FixForm}

@@ -3,9 +3,9 @@ use Rattle.std.proofs.Common.{ℕ, Bool, true, false, List, [], ◌∷◌, ◌++
 use Rattle.std.specs.Prelude.{◌&&◌, ◌||◌, ◌==◌, ◌+◌, not, codes, length, is_none, filter_map, flat_map, option_map, unwrap_or, if◌then◌else◌}
 use Rattle.std.specs.Option.{option_map_or}
 use Rattle.std.specs.List.{cons_option}
-use Rattle.spec_form.specs.Form.{FormValue}
-use Rattle.spec_form.specs.Reading.{form_of}
-use Rattle.spec_form.specs.declared.shape.Shape.TheVariants as shapes
+use Rattle.depot_model.specs.spec_form.Form.{FormValue}
+use Rattle.depot_model.specs.spec_form.Reading.{form_of}
+use Rattle.depot_model.specs.spec_form.declared.shape.Shape.TheVariants as shapes
 use Rattle.depot_model.specs.Deeds.{Deed, Opening, Pending, Open, Drop, Spec, JobForm}
 use Rattle.depot_model.specs.Fixes.{job, closed, closes, closing, renumbers_where, fixes_of, fixed_job}
 use Rattle.depot_model.specs.Numbers.{pending, landing, top}
@@ -13,7 +13,7 @@ use Rattle.depot_model.specs.Opened.{opened}
 use Rattle.depot_model.specs.Step.{refuse_if}
 use Rattle.depot_model.specs.Steps.Changing.{change_save, change_form, moved_to, listed_paths, form_number, has_number, change_delete}
 use Rattle.depot_model.specs.Steps.Opening.{change_refusal}
-use Rattle.spec_form.specs.Places.{field_place}
+use Rattle.depot_model.specs.spec_form.Places.{field_place}
 use Rattle.depot_model.specs.declared.refusal.Refusal.TheVariants.{BadForm, NoSuchChange, EmptyChange}
 use Rattle.depot_model.specs.Steps.Submitting.{submit, submit_default, submit_change, landed, dropped, got_and_shut, landing_number, openings_of}
 use Rattle.depot_model.specs.declared.request.Caller.{Caller}

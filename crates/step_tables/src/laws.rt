@@ -2,9 +2,9 @@
 
 ghost use Rattle.std.specs.Prelude.{◌≡◌, ℕ, Bool, List, ◌∷◌, Ok, IsTrue, IsFalse};
 ghost use Rattle.std.specs.List.{list_all};
-ghost use Rattle.db_records.specs.Key.{key_table};
-ghost use Rattle.db_records.specs.Table.{table_number};
-ghost use Rattle.db_records.specs.declared.key.Key.{Key};
+ghost use Rattle.depot_model.specs.db_records.Key.{key_table};
+ghost use Rattle.depot_model.specs.db_records.Table.{table_number};
+ghost use Rattle.depot_model.specs.db_records.declared.key.Key.{Key};
 ghost use Rattle.depot_model.specs.Commands.{step_of};
 ghost use Rattle.depot_model.specs.Deeds.{Deed};
 ghost use Rattle.depot_model.specs.Numbers.{landings};

@@ -4,23 +4,23 @@ use Rattle.std.specs.Prelude.{◌&&◌, ◌==◌, not, bytes_eq, is_some, is_non
 use Rattle.std.specs.List.{list_all}
 use Rattle.std.specs.Option.{option_map_or}
 use Rattle.std.proofs.lemmas.Option.{slice_get_past}
-use Rattle.depot_path.specs.Bytes.{same}
-use Rattle.depot_path.specs.Path.{path_of, printed, is_path}
-use Rattle.depot_path.proofs.Paths.{prints_path}
-use Rattle.db_records.specs.Record.{is_live}
-use Rattle.db_records.specs.declared.change.Spot.{Spot}
-use Rattle.db_records.specs.declared.key.Key.TheVariants as keys
-use Rattle.db_records.specs.declared.record.Record.{Record}
-use Rattle.db_records.specs.declared.record.Record.TheVariants as records
-use Rattle.db_records.specs.declared.rows.RevRecord.{RevRecord}
-use Rattle.db_records.specs.declared.table.TableId.TheVariants as tables
-use Rattle.table_changes.specs.Changed.{AllRows}
-use Rattle.depot_model.specs.Deeds as model
-use Rattle.depot_model.specs.Records.{record_of, at_path, rev_record, unplaced}
-use Rattle.depot_model.specs.Revisions.{Revision, revisions, revision, revision_in, head, entries_at, is_live_action}
-use Rattle.depot_model.specs.Rows.{action_word}
-use Rattle.depot_model.specs.Rules.{Rows, HasRev, are_distinct, has_its_content, have_their_contents}
-use Rattle.depot_model.specs.Step.{after}
+use Rattle.depot_rows.specs.depot_path.Bytes.{same}
+use Rattle.depot_rows.specs.depot_path.Path.{path_of, printed, is_path}
+use Rattle.depot_rows.proofs.depot_path.Paths.{prints_path}
+use Rattle.depot_rows.specs.db_records.Record.{is_live}
+use Rattle.depot_rows.specs.db_records.declared.change.Spot.{Spot}
+use Rattle.depot_rows.specs.db_records.declared.key.Key.TheVariants as keys
+use Rattle.depot_rows.specs.db_records.declared.record.Record.{Record}
+use Rattle.depot_rows.specs.db_records.declared.record.Record.TheVariants as records
+use Rattle.depot_rows.specs.db_records.declared.rows.RevRecord.{RevRecord}
+use Rattle.depot_rows.specs.db_records.declared.table.TableId.TheVariants as tables
+use Rattle.depot_rows.specs.table_changes.Changed.{AllRows}
+use Rattle.depot_rows.specs.depot_model.Deeds as model
+use Rattle.depot_rows.specs.depot_model.Records.{record_of, at_path, rev_record, unplaced}
+use Rattle.depot_rows.specs.depot_model.Revisions.{Revision, revisions, revision, revision_in, head, entries_at, is_live_action}
+use Rattle.depot_rows.specs.depot_model.Rows.{action_word}
+use Rattle.depot_rows.specs.depot_model.Rules.{Rows, HasRev, are_distinct, has_its_content, have_their_contents}
+use Rattle.depot_rows.specs.depot_model.Step.{after}
 use Rattle.depot_rows.specs.declared.deed.Deed.{Deed}
 use Rattle.depot_rows.specs.declared.deed.Deed.TheVariants as deeds
 use Rattle.depot_rows.specs.declared.deed.Entry.{Entry}

@@ -2,20 +2,20 @@
 -- command stores; a deleted revision has no spot. This project's own choice.
 use Rattle.std.specs.Prelude.{◌≡◌, ◌⊎◌, ℕ, IsFalse, List, Some}
 use Rattle.std.specs.List.{AllByRecursion}
-use Rattle.depot_path.specs.Path.{printed}
-use Rattle.db_records.specs.Record.{is_live}
-use Rattle.db_records.specs.declared.change.Change.{Change}
-use Rattle.db_records.specs.declared.change.Op.{Op}
-use Rattle.db_records.specs.declared.change.Op.TheVariants.{Remove}
-use Rattle.db_records.specs.declared.change.Spot.{Spot}
-use Rattle.db_records.specs.declared.key.Key.TheVariants as keys
-use Rattle.db_records.specs.declared.record.Record.{Record}
-use Rattle.db_records.specs.declared.record.Record.TheVariants as records
-use Rattle.db_records.specs.declared.rows.RevRecord.{RevRecord}
-use Rattle.table_changes.specs.Changed.{AllRows, changed_by}
-use Rattle.depot_model.specs.Deeds.{Deed}
-use Rattle.depot_model.specs.Rules.{IsSound}
-use Rattle.depot_model.specs.Steps.Submitting.{content_at}
+use Rattle.depot_rows.specs.depot_path.Path.{printed}
+use Rattle.depot_rows.specs.db_records.Record.{is_live}
+use Rattle.depot_rows.specs.db_records.declared.change.Change.{Change}
+use Rattle.depot_rows.specs.db_records.declared.change.Op.{Op}
+use Rattle.depot_rows.specs.db_records.declared.change.Op.TheVariants.{Remove}
+use Rattle.depot_rows.specs.db_records.declared.change.Spot.{Spot}
+use Rattle.depot_rows.specs.db_records.declared.key.Key.TheVariants as keys
+use Rattle.depot_rows.specs.db_records.declared.record.Record.{Record}
+use Rattle.depot_rows.specs.db_records.declared.record.Record.TheVariants as records
+use Rattle.depot_rows.specs.db_records.declared.rows.RevRecord.{RevRecord}
+use Rattle.depot_rows.specs.table_changes.Changed.{AllRows, changed_by}
+use Rattle.depot_rows.specs.depot_model.Deeds.{Deed}
+use Rattle.depot_rows.specs.depot_model.Rules.{IsSound}
+use Rattle.depot_rows.specs.depot_model.Steps.Submitting.{content_at}
 use Rattle.depot_rows.specs.Standing.{row_in}
 use Rattle.reply_rows.specs.Made.{IsSpotOf}
 use Rattle.step_stores.specs.Stored.{StandsAmong}

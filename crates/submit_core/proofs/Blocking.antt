@@ -2,9 +2,9 @@
 use Rattle.std.proofs.Common.{◌≡◌, ℕ, Bool, true, false, List, [], ◌∷◌, Option, Some, None, refl, sym, ap, ◌∙◌}
 use Rattle.std.specs.Prelude.{find, if◌then◌else◌, is_some, option_map}
 use Rattle.std.specs.Option.{option_or}
-use Rattle.depot_path.specs.Bytes.{same}
-use Rattle.depot_model.specs.declared.request.Content.{Content}
-use Rattle.depot_model.specs.Steps.Submitting.{block_at}
+use Rattle.depot_rows.specs.depot_path.Bytes.{same}
+use Rattle.depot_rows.specs.depot_model.declared.request.Content.{Content}
+use Rattle.depot_rows.specs.depot_model.Steps.Submitting.{block_at}
 use Rattle.depot_rows.proofs.Keys.{same-is}
 
 pub first_or_later : (c : Content) (cs : List Content) (path : List ℕ) → block_at (c ∷ cs) path ≡ option_or (block_at (c ∷ []) path) (block_at cs path)

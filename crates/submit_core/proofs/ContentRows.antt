@@ -2,23 +2,23 @@
 use Rattle.std.proofs.Common.{◌≡◌, ◌⊎◌, ℕ, zero, suc, Bool, true, false, List, [], ◌∷◌, length, Option, Some, None, inl, inr, refl, sym, ap, subst, ◌∙◌}
 use Rattle.std.specs.Prelude.{is_some, is_none, if◌then◌else◌, option_map, option_and_then}
 use Rattle.std.specs.List.{list_all}
-use Rattle.depot_path.specs.Path.{printed, is_path}
-use Rattle.depot_path.proofs.Paths.{prints_path}
-use Rattle.db_records.specs.Record.{is_live}
-use Rattle.db_records.specs.declared.key.Key.TheVariants as keys
-use Rattle.db_records.specs.declared.record.Record.{Record}
-use Rattle.db_records.specs.declared.record.Record.TheVariants as records
-use Rattle.db_records.specs.declared.rows.RevRecord.{RevRecord}
-use Rattle.db_records.specs.declared.table.TableId.TheVariants as tables
-use Rattle.table_store.specs.Rows.{row_at}
-use Rattle.table_changes.specs.Changed.{AllRows}
-use Rattle.depot_model.specs.Deeds.{Deed, Land, Entry, Action, Add, Edit, Delete, Branch, Integrate, MoveAdd, MoveDelete}
-use Rattle.depot_model.specs.Numbers.{landings}
-use Rattle.depot_model.specs.Records.{rev_record, unplaced, digest}
-use Rattle.depot_model.specs.Revisions.{Revision, revisions, revision, entries_at, is_live_action}
-use Rattle.depot_model.specs.Rows.{action_word}
-use Rattle.depot_model.specs.Rules.{IsSound, has_its_content, have_their_contents}
-use Rattle.depot_model.specs.Steps.Submitting.{content_at}
+use Rattle.depot_rows.specs.depot_path.Path.{printed, is_path}
+use Rattle.depot_rows.proofs.depot_path.Paths.{prints_path}
+use Rattle.depot_rows.specs.db_records.Record.{is_live}
+use Rattle.depot_rows.specs.db_records.declared.key.Key.TheVariants as keys
+use Rattle.depot_rows.specs.db_records.declared.record.Record.{Record}
+use Rattle.depot_rows.specs.db_records.declared.record.Record.TheVariants as records
+use Rattle.depot_rows.specs.db_records.declared.rows.RevRecord.{RevRecord}
+use Rattle.depot_rows.specs.db_records.declared.table.TableId.TheVariants as tables
+use Rattle.depot_rows.specs.table_store.Rows.{row_at}
+use Rattle.depot_rows.specs.table_changes.Changed.{AllRows}
+use Rattle.depot_rows.specs.depot_model.Deeds.{Deed, Land, Entry, Action, Add, Edit, Delete, Branch, Integrate, MoveAdd, MoveDelete}
+use Rattle.depot_rows.specs.depot_model.Numbers.{landings}
+use Rattle.depot_rows.specs.depot_model.Records.{rev_record, unplaced, digest}
+use Rattle.depot_rows.specs.depot_model.Revisions.{Revision, revisions, revision, entries_at, is_live_action}
+use Rattle.depot_rows.specs.depot_model.Rows.{action_word}
+use Rattle.depot_rows.specs.depot_model.Rules.{IsSound, has_its_content, have_their_contents}
+use Rattle.depot_rows.specs.depot_model.Steps.Submitting.{content_at}
 use Rattle.depot_rows.specs.Standing.{HasRows}
 use Rattle.depot_rows.proofs.Entries.{In, of_path}
 use Rattle.depot_rows.proofs.Keys.{left-true, right-true}

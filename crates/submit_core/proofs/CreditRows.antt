@@ -4,17 +4,17 @@ use Rattle.std.specs.Prelude.{if◌then◌else◌, option_map}
 use Rattle.std.specs.List.{filter_map, cons_option, list_all}
 use Rattle.std.specs.Option.{option_map_or}
 use Rattle.std.proofs.lemmas.List.{append-nil}
-use Rattle.depot_path.specs.Bytes.{same}
-use Rattle.depot_path.specs.Path.{path_of, printed, is_path}
-use Rattle.depot_path.specs.declared.fault.PathFault.{PathFault}
-use Rattle.depot_path.proofs.Paths.{prints_path}
-use Rattle.depot_model.specs.Deeds.{Deed, Opening, Credit, How, CopyFrom, BranchFrom, DeleteFrom, Ignored, MovedFrom}
-use Rattle.depot_model.specs.Arguments.{paths_of}
-use Rattle.depot_model.specs.Opened.{opened, owed, Resolve}
-use Rattle.depot_model.specs.Records.{resolve_record}
-use Rattle.depot_model.specs.Rows.{how_word}
-use Rattle.depot_model.specs.Rules.{has_paths}
-use Rattle.depot_model.specs.Steps.Submitting.{credit_of, credits_of, owed_from, resolves_of}
+use Rattle.depot_rows.specs.depot_path.Bytes.{same}
+use Rattle.depot_rows.specs.depot_path.Path.{path_of, printed, is_path}
+use Rattle.depot_rows.specs.depot_path.declared.fault.PathFault.{PathFault}
+use Rattle.depot_rows.proofs.depot_path.Paths.{prints_path}
+use Rattle.depot_rows.specs.depot_model.Deeds.{Deed, Opening, Credit, How, CopyFrom, BranchFrom, DeleteFrom, Ignored, MovedFrom}
+use Rattle.depot_rows.specs.depot_model.Arguments.{paths_of}
+use Rattle.depot_rows.specs.depot_model.Opened.{opened, owed, Resolve}
+use Rattle.depot_rows.specs.depot_model.Records.{resolve_record}
+use Rattle.depot_rows.specs.depot_model.Rows.{how_word}
+use Rattle.depot_rows.specs.depot_model.Rules.{has_paths}
+use Rattle.depot_rows.specs.depot_model.Steps.Submitting.{credit_of, credits_of, owed_from, resolves_of}
 use Rattle.depot_rows.specs.Deed.{how_of, credit_of as credit_said}
 use Rattle.depot_rows.specs.declared.deed.How.{How as HowSaid}
 use Rattle.depot_rows.specs.declared.deed.How.TheVariants as hows

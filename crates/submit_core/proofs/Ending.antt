@@ -1,20 +1,20 @@
 -- What a submit does behind its change, and its rows.
 use Rattle.std.proofs.Common.{◌≡◌, ◌+◌, ℕ, Bool, true, false, List, [], ◌∷◌, ◌++◌, map, Some, inl, inr, refl, sym, ap, subst, ◌∙◌, append_assoc}
 use Rattle.std.specs.Prelude.{◌==◌, ◌||◌, flat_map, if◌then◌else◌, codes}
-use Rattle.depot_model.specs.declared.request.Request.{Request}
-use Rattle.depot_model.specs.Deeds as model
-use Rattle.depot_model.specs.Deeds.{Deed, Opening}
-use Rattle.depot_model.specs.Opened.{opened}
-use Rattle.depot_model.specs.Revisions.{head, is_live_action}
-use Rattle.depot_model.specs.Rows.{row, path_field, number_field, text_field, action_word}
-use Rattle.depot_model.specs.Steps.Submitting.{dropped, entry_of, file_row, got_and_shut, landing_number, new_have, openings_of}
+use Rattle.depot_rows.specs.depot_model.declared.request.Request.{Request}
+use Rattle.depot_rows.specs.depot_model.Deeds as model
+use Rattle.depot_rows.specs.depot_model.Deeds.{Deed, Opening}
+use Rattle.depot_rows.specs.depot_model.Opened.{opened}
+use Rattle.depot_rows.specs.depot_model.Revisions.{head, is_live_action}
+use Rattle.depot_rows.specs.depot_model.Rows.{row, path_field, number_field, text_field, action_word}
+use Rattle.depot_rows.specs.depot_model.Steps.Submitting.{dropped, entry_of, file_row, got_and_shut, landing_number, new_have, openings_of}
 use Rattle.depot_rows.specs.Deed.{AreEntries, action_of, deed_of, opening_of}
 use Rattle.depot_rows.specs.declared.deed.Opening.{Opening as CodeOpening}
 use Rattle.depot_rows.proofs.Entries.{In}
 use Rattle.depot_rows.proofs.Locks.{opened-is}
 use Rattle.sound_landing.proofs.OpenFiles.{opening_in}
 use Rattle.submit_core.specs.Premises.{AreOpened}
-use Rattle.depot_model.specs.declared.request.Caller.{Caller}
+use Rattle.depot_rows.specs.depot_model.declared.request.Caller.{Caller}
 use Rattle.depot_rows.specs.declared.deed.Deed.{Deed as Done}
 use Rattle.depot_rows.specs.declared.deed.Deed.TheVariants as dones
 use Rattle.depot_rows.specs.declared.deed.Entry.{Entry}

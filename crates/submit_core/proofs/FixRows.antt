@@ -2,13 +2,13 @@
 use Rattle.std.proofs.Common.{◌≡◌, ℕ, Bool, true, false, List, [], ◌∷◌, filter, Ok, inl, inr, refl, sym, ap}
 use Rattle.std.specs.Prelude.{◌&&◌, if◌then◌else◌, decimal}
 use Rattle.std.specs.List.{filter_map}
-use Rattle.depot_path.specs.Answers.{Answers}
-use Rattle.spec_form.specs.Form.{FormValue, changed_if, has_single, is_value, with_field, with_line}
-use Rattle.spec_form.specs.declared.fault.ValueFault.TheVariants.{Memory}
-use Rattle.depot_model.specs.Deeds.{Deed, FixForm}
-use Rattle.depot_model.specs.Fixes.{fixes_of, is_on}
-use Rattle.depot_model.specs.Latest.{keys_of, spec, spec_name}
-use Rattle.depot_model.specs.Shelves.{is_of_change}
+use Rattle.depot_rows.specs.depot_path.Answers.{Answers}
+use Rattle.depot_rows.specs.spec_form.Form.{FormValue, changed_if, has_single, is_value, with_field, with_line}
+use Rattle.depot_rows.specs.spec_form.declared.fault.ValueFault.TheVariants.{Memory}
+use Rattle.depot_rows.specs.depot_model.Deeds.{Deed, FixForm}
+use Rattle.depot_rows.specs.depot_model.Fixes.{fixes_of, is_on}
+use Rattle.depot_rows.specs.depot_model.Latest.{keys_of, spec, spec_name}
+use Rattle.depot_rows.specs.depot_model.Shelves.{is_of_change}
 use Rattle.submit_core.specs.Fixes.{fixes_among}
 
 filtered_twice : {A : Type 0} (f g : A → Bool) (xs : List A) → filter (λ x. f x && g x) xs ≡ filter g (filter f xs)

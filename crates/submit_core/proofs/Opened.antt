@@ -1,6 +1,6 @@
 -- Of opened files each is opened.
 use Rattle.std.proofs.Common.{◌≡◌, ◌<◌, ℕ, zero, suc, List, [], ◌∷◌, drop, length, get_or, subst}
-use Rattle.depot_model.specs.Deeds.{Deed}
+use Rattle.depot_rows.specs.depot_model.Deeds.{Deed}
 use Rattle.depot_rows.specs.declared.deed.Opening.{Opening}
 use Rattle.submit_core.specs.Premises.{AreOpened, IsOpened}
 use Rattle.submit_core.proofs.Steps.{back}

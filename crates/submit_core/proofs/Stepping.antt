@@ -2,22 +2,22 @@
 use Rattle.std.proofs.Common.{◌≡◌, ℕ, Bool, true, false, List, [], ◌∷◌, ◌++◌, map, Option, Some, None, refl, sym, subst, ◌∙◌}
 use Rattle.std.specs.Prelude.{flat_map, codes, if◌then◌else◌, option_map, ◌==◌, ◌||◌}
 use Rattle.std.specs.Option.{option_map_or}
-use Rattle.depot_model.specs.Numbers.{pending}
-use Rattle.depot_model.specs.Steps.Opening.{change_refusal}
-use Rattle.db_records.specs.declared.change.Spot.{Spot}
-use Rattle.table_changes.specs.Changed.{AllRows}
-use Rattle.depot_model.specs.declared.reply.Row.{Row}
-use Rattle.depot_model.specs.declared.request.Request.{Request}
-use Rattle.depot_model.specs.declared.refusal.Refusal.{Refusal}
-use Rattle.depot_model.specs.Deeds as model
-use Rattle.depot_model.specs.Deeds.{Deed, Land, Opening}
-use Rattle.spec_form.specs.Form.{FormValue}
-use Rattle.depot_model.specs.Fixes.{closed, closes, closing, fixed_job, fixes_of, job, renumbers_where}
-use Rattle.depot_model.specs.Refusals.{refusal_row}
-use Rattle.depot_model.specs.Rows.{row, number_field}
-use Rattle.depot_model.specs.Rules.{IsSound}
-use Rattle.depot_model.specs.Step.{Step as ModelStep, refuses, unless}
-use Rattle.depot_model.specs.Steps.Submitting.{dropped, file_row, got_and_shut, landed, landing_number, landing_of, openings_of, submit, submit_change}
+use Rattle.depot_rows.specs.depot_model.Numbers.{pending}
+use Rattle.depot_rows.specs.depot_model.Steps.Opening.{change_refusal}
+use Rattle.depot_rows.specs.db_records.declared.change.Spot.{Spot}
+use Rattle.depot_rows.specs.table_changes.Changed.{AllRows}
+use Rattle.depot_rows.specs.depot_model.declared.reply.Row.{Row}
+use Rattle.depot_rows.specs.depot_model.declared.request.Request.{Request}
+use Rattle.depot_rows.specs.depot_model.declared.refusal.Refusal.{Refusal}
+use Rattle.depot_rows.specs.depot_model.Deeds as model
+use Rattle.depot_rows.specs.depot_model.Deeds.{Deed, Land, Opening}
+use Rattle.depot_rows.specs.spec_form.Form.{FormValue}
+use Rattle.depot_rows.specs.depot_model.Fixes.{closed, closes, closing, fixed_job, fixes_of, job, renumbers_where}
+use Rattle.depot_rows.specs.depot_model.Refusals.{refusal_row}
+use Rattle.depot_rows.specs.depot_model.Rows.{row, number_field}
+use Rattle.depot_rows.specs.depot_model.Rules.{IsSound}
+use Rattle.depot_rows.specs.depot_model.Step.{Step as ModelStep, refuses, unless}
+use Rattle.depot_rows.specs.depot_model.Steps.Submitting.{dropped, file_row, got_and_shut, landed, landing_number, landing_of, openings_of, submit, submit_change}
 use Rattle.depot_rows.specs.Deed.{IsLanding}
 use Rattle.depot_rows.specs.Effects.{Follow}
 use Rattle.depot_rows.specs.declared.deed.Deed.{Deed as Done}

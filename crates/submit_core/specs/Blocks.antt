@@ -1,10 +1,10 @@
 -- The contents that a session gives, as a map keeps them by their paths. This project's own choice.
 use Rattle.std.specs.Prelude.{◌≡◌, ℕ, List}
 use Rattle.std.specs.Option.{option_copied}
-use Rattle.depot_path.specs.Bytes.{same}
+use Rattle.depot_rows.specs.depot_path.Bytes.{same}
 use Rattle.indexmap.specs.IndexMap.{get}
-use Rattle.depot_model.specs.declared.request.Content.{Content}
-use Rattle.depot_model.specs.Steps.Submitting.{block_at}
+use Rattle.depot_rows.specs.depot_model.declared.request.Content.{Content}
+use Rattle.depot_rows.specs.depot_model.Steps.Submitting.{block_at}
 use Rattle.submit_core.specs.declared.blocks.Blocks.{Blocks}
 
 -- the map finds the first content of each path

@@ -1,11 +1,11 @@
 -- Where the content of a submitted file comes from. This project's own choice.
 use Rattle.std.specs.Prelude.{◌≡◌, ℕ, Bool, true, false, List, length, if◌then◌else◌, Option, Some, None}
-use Rattle.db_records.specs.Record.{is_live}
-use Rattle.db_records.specs.declared.record.Record.{Record}
-use Rattle.db_records.specs.declared.record.Record.TheVariants.{Rev}
-use Rattle.table_changes.specs.Changed.{AllRows}
-use Rattle.depot_model.specs.Deeds.{Deed}
-use Rattle.depot_model.specs.Records.{digest}
+use Rattle.depot_rows.specs.db_records.Record.{is_live}
+use Rattle.depot_rows.specs.db_records.declared.record.Record.{Record}
+use Rattle.depot_rows.specs.db_records.declared.record.Record.TheVariants.{Rev}
+use Rattle.depot_rows.specs.table_changes.Changed.{AllRows}
+use Rattle.depot_rows.specs.depot_model.Deeds.{Deed}
+use Rattle.depot_rows.specs.depot_model.Records.{digest}
 use Rattle.reply_rows.specs.Made.{IsSpotOf}
 use Rattle.submit_core.specs.declared.content.Found.{Found}
 use Rattle.submit_core.specs.declared.content.Found.TheVariants.{Old, Block, Absent}

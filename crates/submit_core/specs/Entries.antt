@@ -1,10 +1,10 @@
 -- The files of a submitted change, with the contents that it stores. This project's own choice.
 use Rattle.std.specs.Prelude.{◌≡◌, ◌+◌, ℕ, List, [], ◌∷◌, length, map, Option, Some, None}
-use Rattle.table_changes.specs.Changed.{AllRows}
-use Rattle.depot_model.specs.declared.request.Request.{Request}
-use Rattle.depot_model.specs.Deeds.{Deed, Opening}
-use Rattle.depot_model.specs.Records.{digest}
-use Rattle.depot_model.specs.Steps.Submitting.{entry_of}
+use Rattle.depot_rows.specs.table_changes.Changed.{AllRows}
+use Rattle.depot_rows.specs.depot_model.declared.request.Request.{Request}
+use Rattle.depot_rows.specs.depot_model.Deeds.{Deed, Opening}
+use Rattle.depot_rows.specs.depot_model.Records.{digest}
+use Rattle.depot_rows.specs.depot_model.Steps.Submitting.{entry_of}
 use Rattle.depot_rows.specs.Deed.{AreEntries}
 use Rattle.depot_rows.specs.declared.deed.Stored.{Stored}
 use Rattle.step_stores.specs.Stored.{ArePlaced}

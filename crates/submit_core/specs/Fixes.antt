@@ -1,12 +1,12 @@
 -- Fixes of a change by the digits of its number (Command-Line Reference, "p4 fix").
 use Rattle.std.specs.Prelude.{ℕ, Bool, ◌&&◌, List, codes, filter}
 use Rattle.std.specs.List.{filter_map}
-use Rattle.depot_path.specs.Bytes.{same}
-use Rattle.spec_form.specs.Form.{FormValue}
-use Rattle.depot_model.specs.Deeds.{Deed, FixForm}
-use Rattle.depot_model.specs.Fixes.{is_on}
-use Rattle.depot_model.specs.Latest.{spec}
-use Rattle.depot_model.specs.Values.{value_of}
+use Rattle.depot_rows.specs.depot_path.Bytes.{same}
+use Rattle.depot_rows.specs.spec_form.Form.{FormValue}
+use Rattle.depot_rows.specs.depot_model.Deeds.{Deed, FixForm}
+use Rattle.depot_rows.specs.depot_model.Fixes.{is_on}
+use Rattle.depot_rows.specs.depot_model.Latest.{spec}
+use Rattle.depot_rows.specs.depot_model.Values.{value_of}
 
 -- a fix that is on, of the change with these digits
 abbrev pub is_fix_of : List ℕ → FormValue → Bool

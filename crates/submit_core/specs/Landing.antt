@@ -1,8 +1,8 @@
 -- What a submit does behind its change, and its rows, by the files of the change (Command-Line Reference, "p4 submit").
 use Rattle.std.specs.Prelude.{ℕ, ◌==◌, ◌||◌, List, [], ◌∷◌, codes, if◌then◌else◌}
-use Rattle.depot_model.specs.declared.reply.Row.{Row}
-use Rattle.depot_model.specs.Revisions.{is_live_action}
-use Rattle.depot_model.specs.Rows.{row, path_field, number_field, text_field, action_word}
+use Rattle.depot_rows.specs.depot_model.declared.reply.Row.{Row}
+use Rattle.depot_rows.specs.depot_model.Revisions.{is_live_action}
+use Rattle.depot_rows.specs.depot_model.Rows.{row, path_field, number_field, text_field, action_word}
 use Rattle.depot_rows.specs.Deed.{action_of}
 use Rattle.depot_rows.specs.declared.deed.Deed.{Deed}
 use Rattle.depot_rows.specs.declared.deed.Deed.TheVariants.{Drop, Got, Shut}

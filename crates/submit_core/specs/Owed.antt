@@ -1,9 +1,9 @@
 -- Paid resolves as rows have them (Helix Core database schema reference, "db.resolve").
 use Rattle.std.specs.Prelude.{ℕ, List, codes, if◌then◌else◌, Option, Some, None}
-use Rattle.depot_path.specs.Bytes.{same}
-use Rattle.db_records.specs.declared.record.Record.{Record}
-use Rattle.db_records.specs.declared.record.Record.TheVariants.{Resolve}
-use Rattle.db_records.specs.declared.rows.ResolveRecord.{ResolveRecord}
+use Rattle.depot_rows.specs.depot_path.Bytes.{same}
+use Rattle.depot_rows.specs.db_records.declared.record.Record.{Record}
+use Rattle.depot_rows.specs.db_records.declared.record.Record.TheVariants.{Resolve}
+use Rattle.depot_rows.specs.db_records.declared.rows.ResolveRecord.{ResolveRecord}
 use Rattle.opening_reads.specs.Read.{path_in_text}
 use Rattle.depot_rows.specs.declared.deed.Credit.{Credit}
 use Rattle.depot_rows.specs.declared.deed.How.{How}

@@ -2,17 +2,17 @@
 use Rattle.std.specs.Prelude.{ℕ, ◌==◌, Bool, false, not, ◌&&◌, List, [], ◌∷◌, Option, Some, None}
 use Rattle.std.specs.List.{list_any}
 use Rattle.std.specs.Option.{option_map_or}
-use Rattle.depot_path.specs.Bytes.{same}
-use Rattle.depot_model.specs.declared.request.Request.{Request}
-use Rattle.depot_model.specs.declared.refusal.Refusal.{Refusal}
-use Rattle.depot_model.specs.declared.refusal.Refusal.TheVariants.{Locked, Stale, MustResolve, NoContent}
-use Rattle.depot_model.specs.Asking.{to_write}
-use Rattle.depot_model.specs.Deeds.{Deed, Opening}
-use Rattle.depot_model.specs.Opened.{is_moved_with}
-use Rattle.depot_model.specs.Revisions.{head}
-use Rattle.depot_model.specs.Step.{refuse_if}
-use Rattle.depot_model.specs.Steps.Opening.{right_refusal}
-use Rattle.depot_model.specs.Steps.Submitting.{is_unpaid, lacks_content, lock_refusal, move_refusal, resolves_of}
+use Rattle.depot_rows.specs.depot_path.Bytes.{same}
+use Rattle.depot_rows.specs.depot_model.declared.request.Request.{Request}
+use Rattle.depot_rows.specs.depot_model.declared.refusal.Refusal.{Refusal}
+use Rattle.depot_rows.specs.depot_model.declared.refusal.Refusal.TheVariants.{Locked, Stale, MustResolve, NoContent}
+use Rattle.depot_rows.specs.depot_model.Asking.{to_write}
+use Rattle.depot_rows.specs.depot_model.Deeds.{Deed, Opening}
+use Rattle.depot_rows.specs.depot_model.Opened.{is_moved_with}
+use Rattle.depot_rows.specs.depot_model.Revisions.{head}
+use Rattle.depot_rows.specs.depot_model.Step.{refuse_if}
+use Rattle.depot_rows.specs.depot_model.Steps.Opening.{right_refusal}
+use Rattle.depot_rows.specs.depot_model.Steps.Submitting.{is_unpaid, lacks_content, lock_refusal, move_refusal, resolves_of}
 
 -- another client has the lock
 abbrev pub locked_by : List ℕ → List ℕ → Option (List ℕ) → Option Refusal

@@ -1,17 +1,17 @@
 -- What a submit reads, and its refusals in their order (Command-Line Reference, "p4 submit"). The order is this project's own choice.
 use Rattle.std.specs.Prelude.{◌≡◌, ◌⊎◌, ℕ, ◌==◌, IsFalse, Some, List, [], ◌∷◌, ◌++◌, length, nat_lt, flat_map, Option}
-use Rattle.db_records.specs.declared.table.TableId.TheVariants as tables
-use Rattle.table_changes.specs.Changed.{AllRows}
-use Rattle.depot_model.specs.declared.request.Request.{Request}
-use Rattle.depot_model.specs.declared.refusal.Refusal.{Refusal}
-use Rattle.depot_model.specs.declared.refusal.Refusal.TheVariants.{EmptyChange, OverLimit}
-use Rattle.depot_model.specs.declared.refusal.Limit.TheVariants.{Text, Change, Files}
-use Rattle.depot_model.specs.Deeds.{Deed, Opening, Pending}
-use Rattle.depot_model.specs.Numbers.{pending}
-use Rattle.depot_model.specs.Rules.{IsName, IsSound}
-use Rattle.depot_model.specs.Shelves.{is_shelved}
-use Rattle.depot_model.specs.Step.{refuse_if}
-use Rattle.depot_model.specs.Steps.Submitting.{file_refusals}
+use Rattle.depot_rows.specs.db_records.declared.table.TableId.TheVariants as tables
+use Rattle.depot_rows.specs.table_changes.Changed.{AllRows}
+use Rattle.depot_rows.specs.depot_model.declared.request.Request.{Request}
+use Rattle.depot_rows.specs.depot_model.declared.refusal.Refusal.{Refusal}
+use Rattle.depot_rows.specs.depot_model.declared.refusal.Refusal.TheVariants.{EmptyChange, OverLimit}
+use Rattle.depot_rows.specs.depot_model.declared.refusal.Limit.TheVariants.{Text, Change, Files}
+use Rattle.depot_rows.specs.depot_model.Deeds.{Deed, Opening, Pending}
+use Rattle.depot_rows.specs.depot_model.Numbers.{pending}
+use Rattle.depot_rows.specs.depot_model.Rules.{IsName, IsSound}
+use Rattle.depot_rows.specs.depot_model.Shelves.{is_shelved}
+use Rattle.depot_rows.specs.depot_model.Step.{refuse_if}
+use Rattle.depot_rows.specs.depot_model.Steps.Submitting.{file_refusals}
 use Rattle.depot_rows.specs.Standing.{HasRows}
 
 -- the rows that are read for a change, the rights aside

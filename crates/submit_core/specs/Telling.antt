@@ -1,6 +1,6 @@
 -- Further deeds of the code that are the model's. This project's own choice.
 use Rattle.std.specs.Prelude.{◌≡◌, ◌++◌, List}
-use Rattle.depot_model.specs.Deeds as model
+use Rattle.depot_rows.specs.depot_model.Deeds as model
 use Rattle.depot_rows.specs.declared.deed.Deed.{Deed}
 use Rattle.sound_landing.specs.Following.{AreTold}
 

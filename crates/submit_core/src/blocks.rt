@@ -2,13 +2,13 @@
 
 ghost use Rattle.std.specs.Prelude.{◌≡◌, ◌∷◌, [], List, ℕ, IfOk, OnOk};
 ghost use Rattle.std.specs.Option.{option_copied, option_or};
-ghost use Rattle.depot_path.specs.Bytes.{same};
-ghost use Rattle.depot_model.specs.Steps.Submitting.{block_at};
+ghost use Rattle.depot_rows.specs.depot_path.Bytes.{same};
+ghost use Rattle.depot_rows.specs.depot_model.Steps.Submitting.{block_at};
 ghost use Rattle.indexmap.specs.IndexMap.{get};
 ghost use Rattle.submit_core.specs.Blocks.{AreBlocks};
 
-use depot_model::Content;
-use depot_path::{ClientPath, Text};
+use depot_rows::model::Content;
+use depot_rows::paths::{ClientPath, Text};
 use indexmap::IndexMap;
 use std::alloc::{AllocError, Global};
 

@@ -2,28 +2,28 @@
 
 ghost use Rattle.std.specs.Prelude.{◌≡◌, List, ℕ, IfOk, option_and_then};
 ghost use Rattle.std.specs.Option.{option_copied, option_or};
-ghost use Rattle.db_records.specs.declared.key.Key.TheVariants as keys;
-ghost use Rattle.db_records.specs.declared.table.TableId.TheVariants as table_ids;
-ghost use Rattle.depot_path.specs.Path.{printed};
-ghost use Rattle.depot_model.specs.Deeds.{Deed};
-ghost use Rattle.depot_model.specs.declared.request.Request.{Request as AnyRequest};
-ghost use Rattle.depot_model.specs.Revisions.{is_live_action as live_action};
-ghost use Rattle.depot_model.specs.Rules.{IsSound};
-ghost use Rattle.depot_model.specs.Steps.Submitting as model;
+ghost use Rattle.depot_rows.specs.db_records.declared.key.Key.TheVariants as keys;
+ghost use Rattle.depot_rows.specs.db_records.declared.table.TableId.TheVariants as table_ids;
+ghost use Rattle.depot_rows.specs.depot_path.Path.{printed};
+ghost use Rattle.depot_rows.specs.depot_model.Deeds.{Deed};
+ghost use Rattle.depot_rows.specs.depot_model.declared.request.Request.{Request as AnyRequest};
+ghost use Rattle.depot_rows.specs.depot_model.Revisions.{is_live_action as live_action};
+ghost use Rattle.depot_rows.specs.depot_model.Rules.{IsSound};
+ghost use Rattle.depot_rows.specs.depot_model.Steps.Submitting as model;
 ghost use Rattle.depot_rows.specs.Deed.{action_of, opening_of};
 ghost use Rattle.depot_rows.specs.Standing.{HasRows};
 ghost use Rattle.named_files.specs.Asked.{IsAsker};
 ghost use Rattle.submit_core.specs.Blocks.{AreBlocks};
 ghost use Rattle.submit_core.specs.Content.{IsFound, found_in_row, is_absent as absent_test};
-ghost use Rattle.table_changes.specs.Changed.{rows_of};
+ghost use Rattle.depot_rows.specs.table_changes.Changed.{rows_of};
 
 use crate::blocks::Blocks;
-use db_records::{Key, Record, RevRecord, Spot, TableId};
-use depot_path::{DepotPath, Text};
+use depot_rows::paths::{DepotPath, Text};
+use depot_rows::records::{Key, Record, RevRecord, Spot, TableId};
+use depot_rows::tables::Tables;
 use depot_rows::{Action, Opening, Stored};
 use named_files::Asker;
 use std::alloc::{AllocError, Global};
-use table_store::Tables;
 
 /// Where the content of a file comes from.
 #[derive(Drop)]

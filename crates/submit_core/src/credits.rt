@@ -2,25 +2,25 @@
 
 ghost use Rattle.std.specs.List.{cons_option, filter_map};
 ghost use Rattle.std.specs.Prelude.{◌≡◌, ◌++◌, IfOk, List, OnOk, Some, [], filter, map};
-ghost use Rattle.db_records.specs.declared.table.TableId.TheVariants as table_ids;
-ghost use Rattle.depot_model.specs.Deeds.{Deed, Opening};
-ghost use Rattle.depot_model.specs.Opened.{opened};
-ghost use Rattle.depot_model.specs.Rules.{IsSound};
-ghost use Rattle.depot_model.specs.Steps.Submitting.{credits_of as credits_said};
-ghost use Rattle.depot_path.specs.Path.{printed};
+ghost use Rattle.depot_rows.specs.db_records.declared.table.TableId.TheVariants as table_ids;
+ghost use Rattle.depot_rows.specs.depot_model.Deeds.{Deed, Opening};
+ghost use Rattle.depot_rows.specs.depot_model.Opened.{opened};
+ghost use Rattle.depot_rows.specs.depot_model.Rules.{IsSound};
+ghost use Rattle.depot_rows.specs.depot_model.Steps.Submitting.{credits_of as credits_said};
+ghost use Rattle.depot_rows.specs.depot_path.Path.{printed};
 ghost use Rattle.depot_rows.specs.Deed.{credit_of as credit_said};
 ghost use Rattle.depot_rows.specs.Standing.{HasRows};
 ghost use Rattle.row_ranges.specs.Ranges.{has_row, range_table};
 ghost use Rattle.submit_core.specs.Owed.{credit_in, credit_of_row, how_in};
-ghost use Rattle.table_changes.specs.Changed.{rows_of};
+ghost use Rattle.depot_rows.specs.table_changes.Changed.{rows_of};
 
-use db_records::{Record, ResolveRecord};
-use depot_path::{DepotPath, Name, Sequence};
+use depot_rows::paths::{DepotPath, Name, Sequence};
+use depot_rows::records::{Record, ResolveRecord};
+use depot_rows::tables::Tables;
 use depot_rows::{Credit, How};
 use opening_reads::{file_resolves, path_in, rows_tell_resolves};
 use row_ranges::{KeyRange, rows_in};
 use std::alloc::{AllocError, Global};
-use table_store::Tables;
 
 /// How a resolve was paid, where a word says it.
 fn how_of(word: &[u8]) -> Option<How>

@@ -1,30 +1,30 @@
 //! The files of a submitted change, and the contents that it stores.
 
 ghost use Rattle.std.specs.Prelude.{◌≡◌, ◌+◌, ◌++◌, ◌∷◌, [], List, ℕ, IfOk, OnOk, length, map};
-ghost use Rattle.db_records.specs.declared.table.TableId.TheVariants as table_ids;
-ghost use Rattle.depot_model.specs.Deeds.{Deed, Opening as ModelOpening};
-ghost use Rattle.depot_model.specs.declared.request.Request.{Request as AnyRequest};
-ghost use Rattle.depot_model.specs.Revisions.{head};
-ghost use Rattle.depot_model.specs.Rules.{IsSound};
-ghost use Rattle.depot_model.specs.Steps.Submitting as model;
+ghost use Rattle.depot_rows.specs.db_records.declared.table.TableId.TheVariants as table_ids;
+ghost use Rattle.depot_rows.specs.depot_model.Deeds.{Deed, Opening as ModelOpening};
+ghost use Rattle.depot_rows.specs.depot_model.declared.request.Request.{Request as AnyRequest};
+ghost use Rattle.depot_rows.specs.depot_model.Revisions.{head};
+ghost use Rattle.depot_rows.specs.depot_model.Rules.{IsSound};
+ghost use Rattle.depot_rows.specs.depot_model.Steps.Submitting as model;
 ghost use Rattle.depot_rows.specs.Deed.{IsEntry, IsStored, credit_of as credit_said, opening_of as opening_said};
 ghost use Rattle.depot_rows.specs.Standing.{HasRows};
 ghost use Rattle.submit_core.specs.Entries.{AreFiles, block_stored, content_in, stores_of, total};
 ghost use Rattle.submit_core.specs.Premises.{AreOpened, IsOpened, Reads};
-ghost use Rattle.table_changes.specs.Changed.{rows_of};
+ghost use Rattle.depot_rows.specs.table_changes.Changed.{rows_of};
 
 use crate::blocks::Blocks;
 use crate::content::{Found, content_of};
 use crate::credits::credits_of;
 use crate::refusals::is_moved_with;
 use archive_file::digest;
-use db_records::Spot;
-use depot_path::{DepotPath, Sequence, Text};
+use depot_rows::paths::{DepotPath, Sequence, Text};
+use depot_rows::records::Spot;
+use depot_rows::tables::Tables;
 use depot_rows::{Action, Credit, Entry, How, Opening, Source, Stored};
 use named_files::Asker;
 use revision_reads::head_of;
 use std::alloc::{AllocError, Global};
-use table_store::Tables;
 
 /// The files of a change, the contents that it stores, and where the archive then ends.
 #[derive(Drop)]

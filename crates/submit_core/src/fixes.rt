@@ -2,27 +2,27 @@
 
 ghost use Rattle.std.specs.List.{cons_option, filter_map};
 ghost use Rattle.std.specs.Prelude.{◌≡◌, ◌==◌, ◌++◌, ◌∷◌, [], List, ℕ, IfOk, OnOk, decimal, filter, flat_map};
-ghost use Rattle.db_records.specs.declared.table.TableId.TheVariants as table_ids;
-ghost use Rattle.depot_model.specs.Deeds.{Deed, FixForm};
-ghost use Rattle.depot_model.specs.Fixes as model;
-ghost use Rattle.depot_model.specs.Latest.{spec};
-ghost use Rattle.depot_model.specs.Rules.{IsSound};
-ghost use Rattle.depot_model.specs.Shelves.{is_of_change as of_change};
+ghost use Rattle.depot_rows.specs.db_records.declared.table.TableId.TheVariants as table_ids;
+ghost use Rattle.depot_rows.specs.depot_model.Deeds.{Deed, FixForm};
+ghost use Rattle.depot_rows.specs.depot_model.Fixes as model;
+ghost use Rattle.depot_rows.specs.depot_model.Latest.{spec};
+ghost use Rattle.depot_rows.specs.depot_model.Rules.{IsSound};
+ghost use Rattle.depot_rows.specs.depot_model.Shelves.{is_of_change as of_change};
 ghost use Rattle.depot_rows.specs.Standing.{HasRows};
 ghost use Rattle.depot_rows.specs.declared.deed.Deed.TheVariants as dones;
-ghost use Rattle.spec_form.specs.Form.{with_field};
+ghost use Rattle.depot_rows.specs.spec_form.Form.{with_field};
 ghost use Rattle.submit_core.specs.Fixes.{fixes_among, is_fix_of as fix_test};
 ghost use Rattle.submit_core.specs.Telling.{Tells};
-ghost use Rattle.table_changes.specs.Changed.{rows_of};
+ghost use Rattle.depot_rows.specs.table_changes.Changed.{rows_of};
 
 use deed_list::Deeds;
-use depot_path::{Sequence, Text};
 use depot_rows::SpecKind;
+use depot_rows::forms::Form;
+use depot_rows::paths::{Sequence, Text};
+use depot_rows::tables::Tables;
 use itoa::Buffer;
 use row_reads::{form_names, form_value, saved_form};
-use spec_form::Form;
 use std::alloc::{AllocError, Global};
-use table_store::Tables;
 
 /// A number in decimal digits.
 fn digits(alloc: Global, number: u32) -> Result<Text, AllocError>

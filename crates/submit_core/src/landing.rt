@@ -1,28 +1,28 @@
 //! A change as it is submitted: its deeds and the rows of its reply.
 
 ghost use Rattle.std.specs.Prelude.{◌≡◌, ◌++◌, ◌∷◌, [], List, IfOk, OnOk, codes, flat_map, map};
-ghost use Rattle.db_records.specs.declared.table.TableId.TheVariants as table_ids;
-ghost use Rattle.depot_model.specs.Deeds.{Deed as ModelDeed};
-ghost use Rattle.depot_model.specs.Fixes as model;
-ghost use Rattle.depot_model.specs.Rows.{action_word as word_of_action, number_field as field_of_number, row as row_with};
-ghost use Rattle.depot_model.specs.Rules.{IsSound};
+ghost use Rattle.depot_rows.specs.db_records.declared.table.TableId.TheVariants as table_ids;
+ghost use Rattle.depot_rows.specs.depot_model.Deeds.{Deed as ModelDeed};
+ghost use Rattle.depot_rows.specs.depot_model.Fixes as model;
+ghost use Rattle.depot_rows.specs.depot_model.Rows.{action_word as word_of_action, number_field as field_of_number, row as row_with};
+ghost use Rattle.depot_rows.specs.depot_model.Rules.{IsSound};
 ghost use Rattle.depot_rows.specs.Deed.{action_of};
 ghost use Rattle.depot_rows.specs.Standing.{HasRows};
 ghost use Rattle.depot_rows.specs.declared.deed.Deed.TheVariants as dones;
 ghost use Rattle.sound_landing.specs.Following.{AreTold};
 ghost use Rattle.submit_core.specs.Landing.{dropped_by, ends_of, had_then, row_of_entry};
-ghost use Rattle.table_changes.specs.Changed.{rows_of};
+ghost use Rattle.depot_rows.specs.table_changes.Changed.{rows_of};
 
 use crate::content::is_live_action;
 use crate::fixes::close_jobs;
 use deed_list::Deeds;
-use depot_model::{Request, Row};
-use depot_path::{DepotPath, Name, Sequence, Text};
+use depot_rows::model::{Request, Row};
+use depot_rows::paths::{DepotPath, Name, Sequence, Text};
+use depot_rows::tables::Tables;
 use depot_rows::{Action, Entry, Landing};
 use opening_reads::held;
 use reply_rows::RowBuilder;
 use std::alloc::{AllocError, Global};
-use table_store::Tables;
 
 /// The word of an action.
 fn action_word(action: Action) -> &'static [u8]

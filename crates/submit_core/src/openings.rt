@@ -1,22 +1,22 @@
 //! The files that a client has opened in a change.
 
 ghost use Rattle.std.specs.Prelude.{◌≡◌, List, IfOk, map};
-ghost use Rattle.db_records.specs.declared.table.TableId.TheVariants as table_ids;
-ghost use Rattle.depot_model.specs.Deeds.{Deed};
-ghost use Rattle.depot_model.specs.declared.request.Caller.{Caller as AnyCaller};
-ghost use Rattle.depot_model.specs.Rules.{IsSound};
-ghost use Rattle.depot_model.specs.Steps.Submitting as model;
+ghost use Rattle.depot_rows.specs.db_records.declared.table.TableId.TheVariants as table_ids;
+ghost use Rattle.depot_rows.specs.depot_model.Deeds.{Deed};
+ghost use Rattle.depot_rows.specs.depot_model.declared.request.Caller.{Caller as AnyCaller};
+ghost use Rattle.depot_rows.specs.depot_model.Rules.{IsSound};
+ghost use Rattle.depot_rows.specs.depot_model.Steps.Submitting as model;
 ghost use Rattle.depot_rows.specs.Deed.{opening_of as opening_said};
 ghost use Rattle.depot_rows.specs.Standing.{HasRows};
 ghost use Rattle.named_files.specs.Asked.{IsAsker};
-ghost use Rattle.table_changes.specs.Changed.{rows_of};
+ghost use Rattle.depot_rows.specs.table_changes.Changed.{rows_of};
 
-use depot_path::Sequence;
 use depot_rows::Opening;
+use depot_rows::paths::Sequence;
+use depot_rows::tables::Tables;
 use named_files::Asker;
 use opening_reads::openings_of as openings_in;
 use std::alloc::{AllocError, Global};
-use table_store::Tables;
 
 /// The files that the client of an asker has opened in a change, 0 for the default one, in the order of their paths, from the table of opened files
 /// alone. The one error is want of memory.

@@ -2,40 +2,40 @@
 
 ghost use Rattle.std.specs.Prelude.{◌≡◌, ◌==◌, List, IfOk, flat_map, map, not, option_map};
 ghost use Rattle.std.specs.List.{list_any};
-ghost use Rattle.db_records.specs.declared.table.TableId.TheVariants as table_ids;
-ghost use Rattle.depot_model.specs.Asking.{to_write};
-ghost use Rattle.depot_model.specs.Deeds.{Deed};
-ghost use Rattle.depot_model.specs.declared.request.Request.{Request as AnyRequest};
-ghost use Rattle.depot_model.specs.Opened.{opened, is_moved_with as moved_with};
-ghost use Rattle.depot_model.specs.Refusals.{refusal_row};
-ghost use Rattle.depot_model.specs.Revisions.{head};
-ghost use Rattle.depot_model.specs.Rules.{IsSound};
-ghost use Rattle.depot_model.specs.Step.{refuse_if};
-ghost use Rattle.depot_model.specs.Steps.Opening.{right_refusal as right_refused};
-ghost use Rattle.depot_model.specs.Steps.Submitting as model;
-ghost use Rattle.depot_model.specs.declared.refusal.Refusal.TheVariants as refusals;
+ghost use Rattle.depot_rows.specs.db_records.declared.table.TableId.TheVariants as table_ids;
+ghost use Rattle.depot_rows.specs.depot_model.Asking.{to_write};
+ghost use Rattle.depot_rows.specs.depot_model.Deeds.{Deed};
+ghost use Rattle.depot_rows.specs.depot_model.declared.request.Request.{Request as AnyRequest};
+ghost use Rattle.depot_rows.specs.depot_model.Opened.{opened, is_moved_with as moved_with};
+ghost use Rattle.depot_rows.specs.depot_model.Refusals.{refusal_row};
+ghost use Rattle.depot_rows.specs.depot_model.Revisions.{head};
+ghost use Rattle.depot_rows.specs.depot_model.Rules.{IsSound};
+ghost use Rattle.depot_rows.specs.depot_model.Step.{refuse_if};
+ghost use Rattle.depot_rows.specs.depot_model.Steps.Opening.{right_refusal as right_refused};
+ghost use Rattle.depot_rows.specs.depot_model.Steps.Submitting as model;
+ghost use Rattle.depot_rows.specs.depot_model.declared.refusal.Refusal.TheVariants as refusals;
 ghost use Rattle.depot_rows.specs.Deed.{opening_of as opening_said};
 ghost use Rattle.depot_rows.specs.Standing.{HasRows};
 ghost use Rattle.named_files.specs.Asked.{IsAsker};
 ghost use Rattle.reply_rows.specs.Refusing.{first_of};
 ghost use Rattle.submit_core.specs.Premises.{AreOpened, IsOpened, Reads};
 ghost use Rattle.submit_core.specs.Refusals.{in_same_change, later_refusals, locked_by, sooner_refusals};
-ghost use Rattle.table_changes.specs.Changed.{rows_of};
+ghost use Rattle.depot_rows.specs.table_changes.Changed.{rows_of};
 
 use crate::blocks::Blocks;
 use crate::content::{content_of, is_live_action};
-use depot_model::Row;
-use depot_path::{DepotPath, Name};
 use depot_rows::Opening;
+use depot_rows::model::Row;
+use depot_rows::paths::{DepotPath, Name};
+use depot_rows::protections::Level;
+use depot_rows::tables::Tables;
 use named_files::Asker;
 use opening_reads::{opening_by, owes_resolve};
-use protect_table::Level;
 use reply_rows::{
     denied_row, in_move_row, locked_row, must_resolve_row, no_content_row, stale_row,
 };
 use revision_reads::{head_of, holder_of};
 use std::alloc::{AllocError, Global};
-use table_store::Tables;
 
 /// The row where the caller may not write a file.
 fn right_refusal(alloc: Global, asker: &Asker, path: &DepotPath) -> Result<Option<Row>, AllocError>

@@ -1,7 +1,7 @@
 -- Changes of all tables, one after another.
 use Rattle.std.proofs.Common.{◌≡◌, ℕ, ◌+◌, ◌<◌, ◌≤◌, List, ◌∷◌, length, drop, get_or, sym, ap, subst, ◌∙◌}
 use Rattle.std.proofs.lemmas.List.{drop_more, drop_all}
-use Rattle.db_records.specs.declared.change.Change.{Change}
+use Rattle.table_store.specs.db_records.declared.change.Change.{Change}
 use Rattle.table_changes.specs.Changed.{AllRows, AllFitIn, FitsIn, changed_by, changed_in}
 
 module _ (changes : List Change) (i : ℕ) (change : Change) (h : i < length changes) (is : change ≡ get_or changes i change) where

@@ -1,11 +1,11 @@
 -- The rows of all tables, and what changes make of them, one after another. Which tables there are is that of the Helix Core database schema
 -- reference; which changes fit is the choice of the crate of versions.
 use Rattle.std.specs.Prelude.{◌==◌, List, [], ◌∷◌, if◌then◌else◌}
-use Rattle.db_records.specs.Record.{table_of}
-use Rattle.db_records.specs.Table.{table_number}
-use Rattle.db_records.specs.declared.change.Change.{Change}
-use Rattle.db_records.specs.declared.record.Record.{Record}
-use Rattle.db_records.specs.declared.table.TableId.{TableId}
+use Rattle.table_store.specs.db_records.Record.{table_of}
+use Rattle.table_store.specs.db_records.Table.{table_number}
+use Rattle.table_store.specs.db_records.declared.change.Change.{Change}
+use Rattle.table_store.specs.db_records.declared.record.Record.{Record}
+use Rattle.table_store.specs.db_records.declared.table.TableId.{TableId}
 use Rattle.table_store.specs.Rows.{Fits, changed_once}
 use Rattle.table_store.specs.Tables.{version_of}
 use Rattle.table_store.specs.declared.tables.Tables.{Tables}

@@ -1,5 +1,5 @@
 -- The rows of a draft of all tables.
-use Rattle.db_records.specs.declared.table.TableId.{TableId}
+use Rattle.table_store.specs.db_records.declared.table.TableId.{TableId}
 use Rattle.table_store.specs.Rows.{TableRows}
 use Rattle.table_changes.specs.Changed.{AllRows}
 use Rattle.table_changes.specs.InOrder.{draft_at}

@@ -1,7 +1,7 @@
 -- Drafts of all tables in the order of the tables' numbers. That they stand so is this project's own choice.
 use Rattle.std.specs.Prelude.{ℕ, List, [], map, slice_index_or}
-use Rattle.db_records.specs.Table.{table_number, all_tables}
-use Rattle.db_records.specs.declared.table.TableId.{TableId}
+use Rattle.table_store.specs.db_records.Table.{table_number, all_tables}
+use Rattle.table_store.specs.db_records.declared.table.TableId.{TableId}
 use Rattle.table_store.specs.Rows.{TableRows}
 
 abbrev pub all_numbers : List ℕ

@@ -1,13 +1,13 @@
 //! All changes at once.
 
 ghost use Rattle.std.specs.Prelude.{◌≡◌, [], IfOk};
-ghost use Rattle.db_records.specs.declared.table.TableId.{TableId};
+ghost use Rattle.table_store.specs.db_records.declared.table.TableId.{TableId};
 ghost use Rattle.table_changes.specs.Changed.{AllRows, AllFitIn, changed_by, rows_of};
 
 use crate::draft::TablesDraft;
-use db_records::Change;
 use std::alloc::{AllocError, Global};
 use table_store::Tables;
+use table_store::records::Change;
 
 /// No changes leave the rows as they are.
 pub fn no_changes_change_nothing()

@@ -3,8 +3,8 @@
 ghost use Rattle.std.specs.Prelude.{◌≡◌, ◌≤◌, ◌-◌, ◌^◌, ◌↔◌, IfOk, IsTrue, OnOk, OnErr};
 ghost use Rattle.table_changes.specs.InOrder.{all_numbers, numbers_of};
 
-use db_records::{Change, TableId};
 use std::alloc::{AllocError, Global};
+use table_store::records::{Change, TableId};
 use table_store::{Draft, Tables};
 
 /// The rows of all tables, changed one after another until they are tables, and how many bytes of the
@@ -19,7 +19,7 @@ pub struct TablesDraft {
 }
 
 impl TablesDraft {
-    ghost use Rattle.db_records.specs.declared.table.TableId.{TableId};
+    ghost use Rattle.table_store.specs.db_records.declared.table.TableId.{TableId};
     ghost use Rattle.table_changes.specs.Changed.{FitsIn, changed_in, rows_of};
     ghost use Rattle.table_changes.specs.Drafts.{draft_of, rows_of_draft};
 

@@ -9,3 +9,6 @@ mod draft;
 
 pub use changing::{change_tables, no_changes_change_nothing};
 pub use draft::TablesDraft;
+
+// What stands below, for the crates above.
+pub use table_store as tables;

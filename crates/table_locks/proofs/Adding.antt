@@ -6,15 +6,15 @@ use Rattle.std.proofs.SliceLists.{all_by_recursion_push}
 use Rattle.std.proofs.lemmas.List.{map-append, take_all}
 use Rattle.std.proofs.lemmas.List.Elements.{filter_more}
 use Rattle.command_needs.specs.declared.sets.Need.{Need}
-use Rattle.db_records.specs.Table.{all_tables, table_number}
-use Rattle.db_records.specs.declared.table.TableId.{TableId}
+use Rattle.depot_model.specs.db_records.Table.{all_tables, table_number}
+use Rattle.depot_model.specs.db_records.declared.table.TableId.{TableId}
 use Rattle.locked_tables.specs.Held.{known_of, table_held}
 use Rattle.locked_tables.specs.Known.{TableKnown}
 use Rattle.locked_tables.specs.Taken.{rows_after}
 use Rattle.locked_tables.specs.declared.held_table.HeldTable.{HeldTable}
 use Rattle.table_changes.specs.Changed.{AllRows, rows_of}
-use Rattle.table_store.specs.Rows.{TableRows}
-use Rattle.table_store.specs.Tables.{version_of}
+use Rattle.table_changes.specs.table_store.Rows.{TableRows}
+use Rattle.table_changes.specs.table_store.Tables.{version_of}
 use Rattle.table_locks.specs.Gathered.{AddsHeld, AddsPeek, AllHeldSeen, HasSeen, IsBelow, IsShown, tables_held, tables_seen}
 use Rattle.table_locks.specs.Gathering.{Takes}
 use Rattle.table_locks.specs.Ways.{holds_table, looks_at, needs_table}

@@ -2,8 +2,8 @@
 use Rattle.std.proofs.Common.{◌≡◌, Bool, true, false, List, [], ◌∷◌, Result, Ok, Err, refl, sym, ap, subst, ◌∙◌}
 use Rattle.std.specs.Prelude.{◌||◌, IsTrue}
 use Rattle.std.specs.List.{AllByRecursion, list_any}
-use Rattle.db_records.specs.Table.{table_number}
-use Rattle.db_records.specs.declared.table.TableId.{TableId}
+use Rattle.depot_model.specs.db_records.Table.{table_number}
+use Rattle.depot_model.specs.db_records.declared.table.TableId.{TableId}
 use Rattle.depot_model.specs.Tables.{touches}
 use Rattle.depot_model.specs.declared.command.Command.{Command}
 use Rattle.depot_model.specs.declared.request.Request.{Request}

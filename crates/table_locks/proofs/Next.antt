@@ -3,11 +3,11 @@ use Rattle.std.proofs.Common.{◌≡◌, ℕ, Bool, true, false, cond, List, [],
 use Rattle.std.specs.Prelude.{◌==◌, ◌||◌, ◌&&◌, if◌then◌else◌}
 use Rattle.std.specs.List.{AllByRecursion, list_all, list_any}
 use Rattle.std.proofs.lemmas.Bool.{eqb-true, eq-eqb, true≢false, false≢true}
-use Rattle.db_records.specs.Record.{table_of}
-use Rattle.db_records.specs.Table.{table_number}
-use Rattle.db_records.specs.declared.change.Change.{Change}
-use Rattle.db_records.specs.declared.record.Record.{Record}
-use Rattle.db_records.specs.declared.table.TableId.{TableId}
+use Rattle.depot_model.specs.db_records.Record.{table_of}
+use Rattle.depot_model.specs.db_records.Table.{table_number}
+use Rattle.depot_model.specs.db_records.declared.change.Change.{Change}
+use Rattle.depot_model.specs.db_records.declared.record.Record.{Record}
+use Rattle.depot_model.specs.db_records.declared.table.TableId.{TableId}
 use Rattle.locked_tables.specs.Held.{AllNext, IsNext, OnlyChange, known_of, lane_next, lanes_next, table_held}
 use Rattle.locked_tables.specs.Known.{TableKnown}
 use Rattle.locked_tables.specs.Taken.{rows_after}
@@ -15,7 +15,7 @@ use Rattle.locked_tables.specs.declared.held_table.HeldTable.{HeldTable}
 use Rattle.locked_tables.proofs.Rows.{changed_alike}
 use Rattle.order_words.specs.Lanes.{is_among}
 use Rattle.table_changes.specs.Changed.{AllRows, changed_by, changed_in}
-use Rattle.table_store.specs.Rows.{TableRows, changed_once}
+use Rattle.table_changes.specs.table_store.Rows.{TableRows, changed_once}
 use Rattle.table_locks.specs.Confirmed.{tables_of}
 use Rattle.table_locks.specs.Gathered.{AllHeldSeen, HasSeen, is_of}
 use Rattle.table_locks.specs.Prepared.{AllFollow, Follows, are_held, is_changed, is_held, next_of}

@@ -1,10 +1,10 @@
 -- The rows of all tables after one more place.
 use Rattle.std.proofs.Common.{◌≡◌, ◌∷◌, ◌++◌, ℕ, Bool, true, false, List, [], if◌then◌else◌, refl, sym, ap, subst, ◌∙◌}
-use Rattle.db_records.specs.Table.{table_number}
-use Rattle.db_records.specs.declared.table.TableId.{TableId}
+use Rattle.depot_model.specs.db_records.Table.{table_number}
+use Rattle.depot_model.specs.db_records.declared.table.TableId.{TableId}
 use Rattle.order_words.specs.Lanes.{has_lane}
 use Rattle.table_changes.specs.Changed.{AllRows, changed_by}
-use Rattle.db_records.specs.declared.change.Change.{Change}
+use Rattle.depot_model.specs.db_records.declared.change.Change.{Change}
 use Rattle.locked_tables.specs.Held.{OnlyChange}
 use Rattle.locked_tables.specs.Known.{OrderKnown, with_entry}
 use Rattle.locked_tables.specs.Taken.{TouchesItsTables, rows_after, rows_behind}

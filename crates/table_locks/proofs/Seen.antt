@@ -3,15 +3,15 @@ use Rattle.std.proofs.Common.{◌≡◌, ◌≢◌, ℕ, ◌+◌, ◌<◌, Bool,
 use Rattle.std.specs.Prelude.{◌==◌, ◌||◌}
 use Rattle.std.specs.List.{AllByRecursion, list_any}
 use Rattle.std.proofs.lemmas.Bool.{eqb-true, false≢true}
-use Rattle.db_records.specs.Table.{table_number}
-use Rattle.db_records.specs.declared.table.TableId.{TableId}
+use Rattle.depot_model.specs.db_records.Table.{table_number}
+use Rattle.depot_model.specs.db_records.declared.table.TableId.{TableId}
 use Rattle.locked_tables.specs.Known.{IsStill, TableKnown}
 use Rattle.locked_tables.specs.Taken.{rows_after}
 use Rattle.locked_tables.specs.declared.taken.Taken.{Taken}
 use Rattle.table_changes.specs.Changed.{AllRows, rows_of}
-use Rattle.table_store.specs.Rows.{TableRows}
-use Rattle.table_store.specs.Tables.{version_of}
-use Rattle.table_store.specs.declared.tables.Tables.{Tables}
+use Rattle.table_changes.specs.table_store.Rows.{TableRows}
+use Rattle.table_changes.specs.table_store.Tables.{version_of}
+use Rattle.table_changes.specs.table_store.declared.tables.Tables.{Tables}
 use Rattle.table_locks.specs.Gathered.{HasSeen, is_of}
 use Rattle.table_locks.proofs.Tables.{less_apart, same_number}
 

@@ -5,9 +5,9 @@ use Rattle.std.specs.List.{list_any, range_with_len}
 use Rattle.std.proofs.lemmas.Bool.{eqb-true}
 use Rattle.command_needs.specs.Sets.{need_of}
 use Rattle.command_needs.specs.declared.sets.Need.{Need}
-use Rattle.db_records.specs.Table.{all_tables, table_number}
-use Rattle.db_records.specs.declared.table.TableId.{TableId}
-use Rattle.db_records.specs.declared.table.TableId.TheVariants.{Counter, Group, Protect, Domain, Have, Label, Integed, Resolve, Working, Change, Rev}
+use Rattle.depot_model.specs.db_records.Table.{all_tables, table_number}
+use Rattle.depot_model.specs.db_records.declared.table.TableId.{TableId}
+use Rattle.depot_model.specs.db_records.declared.table.TableId.TheVariants.{Counter, Group, Protect, Domain, Have, Label, Integed, Resolve, Working, Change, Rev}
 use Rattle.depot_model.specs.Tables as model
 use Rattle.depot_model.specs.Tables.{need_for, needs_of, touches}
 use Rattle.depot_model.specs.declared.command.Command.{Command}

@@ -5,9 +5,9 @@ use Rattle.std.specs.List.{list_any}
 use Rattle.std.proofs.lemmas.Bool.{true≢false}
 use Rattle.std.proofs.lemmas.List.{get_or-map}
 use Rattle.std.proofs.lemmas.List.FromFn.{get_or-range_with_len}
-use Rattle.db_records.specs.Table.{table_number, all_tables}
-use Rattle.db_records.specs.declared.table.TableId.{TableId}
-use Rattle.db_records.specs.declared.table.TableId.TheVariants.{Counter, Group, Protect, Domain, Have, Label, Integed, Resolve, Working, Change, Rev}
+use Rattle.depot_model.specs.db_records.Table.{table_number, all_tables}
+use Rattle.depot_model.specs.db_records.declared.table.TableId.{TableId}
+use Rattle.depot_model.specs.db_records.declared.table.TableId.TheVariants.{Counter, Group, Protect, Domain, Have, Label, Integed, Resolve, Working, Change, Rev}
 
 of_number : ℕ → TableId
 of_number n = get_or all_tables n Rev

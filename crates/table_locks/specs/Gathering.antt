@@ -1,8 +1,8 @@
 -- How a command gathers its set. This project's own choice.
 use Rattle.std.specs.Prelude.{◌≡◌, ◌+◌, Bool, List, [], ◌∷◌, ◌++◌, filter}
 use Rattle.command_needs.specs.declared.sets.Need.{Need}
-use Rattle.db_records.specs.Table.{table_number}
-use Rattle.db_records.specs.declared.table.TableId.{TableId}
+use Rattle.depot_model.specs.db_records.Table.{table_number}
+use Rattle.depot_model.specs.db_records.declared.table.TableId.{TableId}
 use Rattle.table_changes.specs.Changed.{AllRows}
 use Rattle.table_locks.specs.Gathered.{IsBelow, IsShown, tables_held, tables_seen}
 use Rattle.table_locks.specs.Ways.{holds_table, looks_at}

@@ -1,15 +1,15 @@
 -- What a command has once its changes are prepared. This project's own choice.
 use Rattle.std.specs.Prelude.{◌≡◌, ◌==◌, Bool, List, [], ◌∷◌, Option, Some, None, if◌then◌else◌}
 use Rattle.std.specs.List.{list_all, list_any}
-use Rattle.db_records.specs.Record.{table_of}
-use Rattle.db_records.specs.Table.{table_number}
-use Rattle.db_records.specs.declared.change.Change.{Change}
-use Rattle.db_records.specs.declared.table.TableId.{TableId}
+use Rattle.depot_model.specs.db_records.Record.{table_of}
+use Rattle.depot_model.specs.db_records.Table.{table_number}
+use Rattle.depot_model.specs.db_records.declared.change.Change.{Change}
+use Rattle.depot_model.specs.db_records.declared.table.TableId.{TableId}
 use Rattle.locked_tables.specs.Held.{AllNext, OnlyChange, known_of, lanes_next, table_held}
 use Rattle.locked_tables.specs.declared.held_table.HeldTable.{HeldTable}
 use Rattle.order_words.specs.Lanes.{is_among}
 use Rattle.table_changes.specs.Changed.{AllRows}
-use Rattle.table_store.specs.Rows.{TableRows}
+use Rattle.table_changes.specs.table_store.Rows.{TableRows}
 use Rattle.table_locks.specs.Gathered.{is_of}
 use Rattle.table_locks.specs.declared.prepared.Prepared.{Prepared}
 

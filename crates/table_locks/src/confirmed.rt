@@ -2,7 +2,7 @@
 ghost use Rattle.std.specs.Prelude.{◌≡◌};
 
 use locked_tables::{HeldTable, Naming};
-use table_store::Tables;
+use table_changes::tables::Tables;
 
 /// The tables whose locks a command holds, which know the whole order, and the version of each
 /// table of its set after it. While the lock of the order is held, both stay so.

@@ -1,13 +1,13 @@
 //! What a command has gathered of its set.
 ghost use Rattle.std.specs.Prelude.{◌≡◌, [], IfOk, OnOk};
-ghost use Rattle.db_records.specs.Table.{table_number};
+ghost use Rattle.depot_model.specs.db_records.Table.{table_number};
 ghost use Rattle.table_locks.specs.Gathered.{AddsHeld, AddsPeek, IsBelow, IsShown};
 
-use db_records::TableId;
+use depot_model::records::TableId;
 use locked_tables::{HeldTable, Naming, OrderWords, Peek, TableLocks};
 use std::alloc::{AllocError, Global};
 use std::sync::Wait;
-use table_store::Tables;
+use table_changes::tables::Tables;
 
 /// The tables whose locks a command has taken, those that it looked at, and the version of each
 /// of them. The tables outside its set have no rows here.

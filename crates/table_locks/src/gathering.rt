@@ -1,7 +1,7 @@
 //! How a command gathers its set.
 ghost use Rattle.std.specs.Prelude.{◌≡◌, map, filter, IfOk, OnOk};
 ghost use Rattle.command_needs.specs.Sets.{need_of};
-ghost use Rattle.db_records.specs.Table.{all_tables, table_number};
+ghost use Rattle.depot_model.specs.db_records.Table.{all_tables, table_number};
 ghost use Rattle.depot_model.specs.Tables.{needs_of};
 ghost use Rattle.depot_model.specs.declared.request.Request.{Request};
 ghost use Rattle.table_locks.specs.Gathered.{Covers, IsBelow, IsShown, tables_held, tables_seen};
@@ -11,7 +11,7 @@ ghost use Rattle.table_locks.specs.Ways.{holds_table, looks_at};
 use crate::gathered::Gathered;
 use crate::ways::{is_needed, is_taken};
 use command_needs::Need;
-use db_records::TableId;
+use depot_model::records::TableId;
 use locked_tables::{Naming, OrderWords, TableLocks};
 use std::alloc::{AllocError, Global};
 use std::sync::Wait;

@@ -1,6 +1,6 @@
 //! How a command is given its place.
 ghost use Rattle.std.specs.Prelude.{◌≡◌, ◌<◌, ℕ, [], ◌∷◌};
-ghost use Rattle.db_records.specs.declared.table.TableId.{TableId};
+ghost use Rattle.depot_model.specs.db_records.declared.table.TableId.{TableId};
 ghost use Rattle.locked_tables.specs.Held.{lanes_next};
 ghost use Rattle.locked_tables.specs.Known.{with_entry};
 ghost use Rattle.locked_tables.specs.Taken.{IsOwn, archive_lane, party_lane, rows_after};

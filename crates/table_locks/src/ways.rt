@@ -3,7 +3,7 @@ ghost use Rattle.std.specs.Prelude.{◌≡◌};
 ghost use Rattle.table_locks.specs.Ways.{holds_table, needs_table};
 
 use command_needs::Need;
-use db_records::TableId;
+use depot_model::records::TableId;
 
 /// Whether a table is in the set.
 pub(crate) fn is_needed(needs: &[Need], table: TableId) -> bool

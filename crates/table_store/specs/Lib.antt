@@ -3,3 +3,6 @@ pub mod Rows
 pub mod SearchKey
 pub mod Parts
 pub mod Tables
+-- what stands below, for the crates above
+pub use Rattle.db_records.specs.depot_path as depot_path
+pub use Rattle.db_records.specs as db_records

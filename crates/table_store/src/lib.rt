@@ -19,3 +19,7 @@ pub use draft::Draft;
 pub use tables::Tables;
 pub use version::Version;
 pub use walk::Walk;
+
+// What stands below, for the crates above.
+pub use db_records as records;
+pub use db_records::paths;

@@ -3,7 +3,7 @@ use Rattle.std.proofs.Common.{◌≡◌, ℕ, ◌+◌, ◌≤◌, Bool, true, fa
 use Rattle.std.specs.Prelude.{IfSome}
 use Rattle.std.specs.Option.{option_to_list}
 use Rattle.indexmap.specs.IndexMap.{insert_entry, shift_remove_entry}
-use Rattle.depot_path.specs.Bytes.{same}
+use Rattle.depot_model.specs.depot_path.Bytes.{same}
 use Rattle.wire_text.specs.Contents.{contents_after, has_command}
 use Rattle.wire_text.specs.Commands.{Passes, KeepCase}
 use Rattle.wire_text.specs.Reading.{GoesOn, point_at}

@@ -6,8 +6,8 @@ use Rattle.std.specs.Option.{option_to_list}
 use Rattle.std.proofs.lemmas.Bool.Decides.{nat_tests}
 use Rattle.std.proofs.lemmas.List.{length-take}
 use Rattle.std.proofs.lemmas.List.Folds.{list_all-append}
-use Rattle.depot_path.specs.Bytes.{same}
-use Rattle.depot_path.specs.Digits.{number_of, is_digits}
+use Rattle.depot_model.specs.depot_path.Bytes.{same}
+use Rattle.depot_model.specs.depot_path.Digits.{number_of, is_digits}
 use Rattle.wire_text.specs.Parts.{upto, past, last_cut, Halves}
 use Rattle.wire_text.specs.LineKind.{length_of, block_kind, file_kind, clear_kind, input_kind, kind_by_word, kind_of, is_skipped, path_in}
 use Rattle.wire_text.specs.Reading.{GoesOn}

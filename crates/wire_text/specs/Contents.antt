@@ -2,7 +2,7 @@
 -- This is this project's own choice; a real client reads the files of its workspace.
 use Rattle.std.specs.Prelude.{ℕ, Bool, true, false, ◌||◌, List, [], ◌∷◌}
 use Rattle.indexmap.specs.IndexMap.{insert_entry, shift_remove_entry}
-use Rattle.depot_path.specs.Bytes.{same}
+use Rattle.depot_model.specs.depot_path.Bytes.{same}
 use Rattle.wire_text.specs.declared.entry.Entry.{Entry}
 use Rattle.wire_text.specs.declared.entry.Entry.TheVariants.{Put, Clear, Command}
 

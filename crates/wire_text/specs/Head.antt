@@ -1,8 +1,8 @@
 -- The first line of a script, whose form is this project's own choice: `session USER CLIENT HOST`, or `replica CLIENT USER HOST PATTERN...`,
 -- with one space between. USER, CLIENT and HOST take the place of the options -u, -c and -H of a client (Command-Line Reference, "Global options").
 use Rattle.std.specs.Prelude.{ℕ, ◌&&◌, nat_le, List, [], ◌∷◌, length, codes, if◌then◌else◌, is_ok, option_map, Option, Some, None}
-use Rattle.depot_path.specs.Bytes.{same}
-use Rattle.depot_path.specs.Name.{is_name}
+use Rattle.depot_model.specs.depot_path.Bytes.{same}
+use Rattle.depot_model.specs.depot_path.Name.{is_name}
 use Rattle.depot_model.specs.Filter.{filter_of}
 use Rattle.depot_model.specs.declared.request.Caller.{Caller}
 use Rattle.wire_text.specs.Parts.{parted}

@@ -1,9 +1,9 @@
 -- What a line of a script is for, by its first word. The form of these lines is this project's own choice.
 use Rattle.std.specs.Prelude.{ℕ, Bool, true, false, ◌||◌, ◌&&◌, ◌==◌, nat_le, List, [], ◌∷◌, drop, codes, if◌then◌else◌, Option, Some, None, Result, Ok, Err}
-use Rattle.depot_path.specs.Bytes.{same}
-use Rattle.depot_path.specs.Digits.{number_of, is_digits}
-use Rattle.depot_path.specs.Path.{path_of}
-use Rattle.depot_path.specs.declared.fault.PathFault.{PathFault}
+use Rattle.depot_model.specs.depot_path.Bytes.{same}
+use Rattle.depot_model.specs.depot_path.Digits.{number_of, is_digits}
+use Rattle.depot_model.specs.depot_path.Path.{path_of}
+use Rattle.depot_model.specs.depot_path.declared.fault.PathFault.{PathFault}
 use Rattle.wire_text.specs.Parts.{upto, past, is_in, Halves, last_cut}
 use Rattle.wire_text.specs.declared.line_kind.LineKind.{LineKind}
 use Rattle.wire_text.specs.declared.line_kind.LineKind.TheVariants.{Skipped, Block, Clear, Input, CommandLine, Bad, LongBlock}

@@ -2,8 +2,8 @@
 -- `"`, or stands between two `"` and holds any bytes but these.
 use Rattle.std.specs.Prelude.{ℕ, zero, suc, ◌+◌, Bool, true, not, ◌&&◌, ◌||◌, ◌==◌, nat_le, List, [], ◌∷◌, length, if◌then◌else◌, option_map, Option, Some, None}
 use Rattle.std.specs.List.{list_any}
-use Rattle.depot_path.specs.Bytes.{is_control}
-use Rattle.depot_path.specs.Utf8.{is_utf8}
+use Rattle.depot_model.specs.depot_path.Bytes.{is_control}
+use Rattle.depot_model.specs.depot_path.Utf8.{is_utf8}
 use Rattle.depot_model.specs.declared.line.Line.{Line}
 use Rattle.depot_model.specs.declared.line.Line.TheVariants.{Words, Bad}
 use Rattle.wire_text.specs.Parts.{upto, past, is_in}

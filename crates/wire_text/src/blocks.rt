@@ -4,7 +4,7 @@ ghost use Rattle.std.specs.Prelude.{◌≡◌, ◌≤◌, ◌<◌, ◌+◌, ◌+
 ghost use Rattle.wire_text.specs.Intake.{BlockCase, BytesCase};
 
 use crate::intake::{Intake, Stop};
-use depot_path::Text;
+use depot_model::paths::Text;
 use outside_api::Source;
 use std::alloc::{AllocError, Global};
 

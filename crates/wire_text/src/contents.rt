@@ -4,8 +4,8 @@ ghost use Rattle.std.specs.Prelude.{◌≡◌, IfOk};
 ghost use Rattle.wire_text.specs.Commands.{KeepCase};
 
 use crate::entry::{Entry, Item};
+use depot_model::paths::ClientPath;
 use depot_model::{Block, Content};
-use depot_path::ClientPath;
 use indexmap::IndexMap;
 use std::alloc::AllocError;
 

@@ -1,7 +1,7 @@
 //! What a script says after its head.
 
+use depot_model::paths::{ClientPath, Text};
 use depot_model::{Content, Line};
-use depot_path::{ClientPath, Text};
 
 /// A command of a script.
 #[derive(Drop)]

@@ -2,13 +2,13 @@
 
 ghost use Rattle.std.specs.Prelude.{◌≡◌, ◌<◌, ◌∷◌, [], length, is_ok, IsTrue, IfOk, IfSome, IfNone};
 ghost use Rattle.depot_model.specs.Filter.{filter_of};
-ghost use Rattle.depot_path.specs.Name.{is_name as name_test};
+ghost use Rattle.depot_model.specs.depot_path.Name.{is_name as name_test};
 ghost use Rattle.wire_text.specs.Parts.{texts, parted};
 ghost use Rattle.wire_text.specs.Head.{head_of, head_of_parts, session_head, replica_head, are_names, client_of};
 
 use crate::parts::cut_at;
+use depot_model::paths::{Name, PathFault, Pattern, Sequence, Text, is_name};
 use depot_model::{Caller, Filter};
-use depot_path::{Name, PathFault, Pattern, Sequence, Text, is_name};
 use std::alloc::{AllocError, Global};
 
 /// Who a script speaks for.

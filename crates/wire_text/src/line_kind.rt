@@ -6,7 +6,7 @@ ghost use Rattle.wire_text.specs.LineKind.{length_of, path_in as path_of_client}
 ghost use Rattle.wire_text.specs.Parts.{last_cut};
 
 use crate::parts::{cut_at, cut_at_last};
-use depot_path::{ClientPath, DepotPath, Name, PathFault, is_digits, value_up_to};
+use depot_model::paths::{ClientPath, DepotPath, Name, PathFault, is_digits, value_up_to};
 use std::alloc::{AllocError, Global};
 
 /// The most bytes of a block.

@@ -13,8 +13,8 @@ use crate::intake::{Intake, MAX_SCRIPT, Stop};
 use crate::line_kind::{LineKind, line_kind};
 use crate::lines::{LineRead, read_line};
 use crate::words::read_words;
+use depot_model::paths::{ClientPath, Name, Text};
 use depot_model::{Block, Content};
-use depot_path::{ClientPath, Name, Text};
 use outside_api::Source;
 use std::alloc::{AllocError, Global};
 

@@ -4,8 +4,8 @@ ghost use Rattle.std.specs.Prelude.{◌≡◌, ◌++◌, IfOk, OnOk};
 ghost use Rattle.depot_model.specs.Printed.{printed, printed_rows, printed_row, printed_fields, printed_value};
 
 use crate::parts::cut_at;
+use depot_model::paths::Text;
 use depot_model::{Field, Reply, Row};
-use depot_path::Text;
 use itoa::Buffer;
 use std::alloc::{AllocError, Global};
 

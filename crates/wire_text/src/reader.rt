@@ -12,7 +12,7 @@ use crate::intake::Intake;
 use crate::part::{PartRead, read_part};
 use crate::script::{HeadRead, read_head};
 use depot_model::Block;
-use depot_path::{ClientPath, Name, Text};
+use depot_model::paths::{ClientPath, Name, Text};
 use indexmap::IndexMap;
 use outside_api::Source;
 use std::alloc::{AllocError, Global};

@@ -12,7 +12,7 @@ use crate::head::{Head, read_head_line};
 use crate::intake::{Intake, Stop};
 use crate::lines::{LineRead, read_line};
 use crate::part::{PartRead, read_part};
-use depot_path::{Name, Sequence};
+use depot_model::paths::{Name, Sequence};
 use outside_api::Source;
 use std::alloc::{AllocError, Global};
 

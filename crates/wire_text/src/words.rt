@@ -3,13 +3,13 @@
 ghost use Rattle.std.specs.Prelude.{◌≡◌, ◌≤◌, ◌<◌, ◌∷◌, ◌++◌, length, drop, IfOk, OnOk, IfSome, IfNone, Some, None};
 ghost use Rattle.std.specs.Option.{option_copied, option_to_list};
 ghost use Rattle.std.specs.List.{list_any};
-ghost use Rattle.depot_path.specs.Bytes.{is_control};
+ghost use Rattle.depot_model.specs.depot_path.Bytes.{is_control};
 ghost use Rattle.wire_text.specs.Parts.{upto, past};
 ghost use Rattle.wire_text.specs.Words.{words_from, with_maybe, plain_word as plain, quoted_word as quoted, is_apart as apart_test, is_clean as clean_test, line_of};
 
 use crate::parts::cut_at;
 use depot_model::Line;
-use depot_path::{Sequence, Text, is_utf8};
+use depot_model::paths::{Sequence, Text, is_utf8};
 use std::alloc::{AllocError, Global};
 
 /// The most words of a command line.

@@ -1,8 +1,8 @@
 -- `add` (Command-Line Reference, "p4 add").
 use Rattle.std.specs.Prelude.{ℕ, List, [], ◌∷◌, find, codes, if◌then◌else◌, Option, Some, None, unwrap_or, is_some, is_none}
-use Rattle.depot_path.specs.Path.{printed}
-use Rattle.depot_path.specs.declared.revision.Wanted.TheVariants.{Head}
-use Rattle.depot_path.specs.Fit.{filled}
+use Rattle.db_records.specs.depot_path.Path.{printed}
+use Rattle.db_records.specs.depot_path.declared.revision.Wanted.TheVariants.{Head}
+use Rattle.db_records.specs.depot_path.Fit.{filled}
 use Rattle.view_map.specs.Mapping.{files_at}
 use Rattle.depot_model.specs.declared.request.Caller.{Caller}
 use Rattle.depot_model.specs.declared.command.FileArgument.{FileArgument}

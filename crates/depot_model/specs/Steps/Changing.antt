@@ -2,10 +2,10 @@
 use Rattle.std.specs.Prelude.{ℕ, ◌==◌, ◌+◌, List, [], ◌∷◌, ◌++◌, length, nat_lt, map, filter, filter_map, take_while, codes, if◌then◌else◌, Option, Some, None, Ok, Err, option_map, option_and_then, unwrap_or, is_some, is_none, Bool, true, not, ◌&&◌, ◌||◌, decimal, is_ok}
 use Rattle.std.specs.Option.{option_map_or}
 use Rattle.std.specs.List.{list_any, enumerate_from}
-use Rattle.depot_path.specs.Bytes.{same}
-use Rattle.depot_path.specs.Path.{printed, path_of}
-use Rattle.depot_path.specs.Digits.{number_of}
-use Rattle.depot_path.specs.Revision.{small_number}
+use Rattle.db_records.specs.depot_path.Bytes.{same}
+use Rattle.db_records.specs.depot_path.Path.{printed, path_of}
+use Rattle.db_records.specs.depot_path.Digits.{number_of}
+use Rattle.db_records.specs.depot_path.Revision.{small_number}
 use Rattle.spec_form.specs.declared.shape.Shape.TheVariants.{Change as ChangeShape}
 use Rattle.spec_form.specs.Form.{FormValue, lines_of}
 use Rattle.spec_form.specs.Reading.{form_of}

@@ -1,6 +1,6 @@
 -- `client -o`, `client -i` (Command-Line Reference, "p4 client"). The order of faults is this project's own choice, here and in the other forms.
 use Rattle.std.specs.Prelude.{ℕ, List, [], ◌∷◌, codes, Option, Some, None, Ok, Err, not, nat_lt, length, ◌-◌}
-use Rattle.depot_path.specs.Name.{is_name}
+use Rattle.db_records.specs.depot_path.Name.{is_name}
 use Rattle.spec_form.specs.declared.shape.Shape.TheVariants.{Client}
 use Rattle.spec_form.specs.Form.{FormValue, lines_of}
 use Rattle.spec_form.specs.Reading.{form_of}

@@ -1,6 +1,6 @@
 -- `counter`, `counters` (Command-Line Reference, "p4 counter", "p4 counters"): a counter that was never set, or was deleted, shows 0.
 use Rattle.std.specs.Prelude.{ℕ, ◌==◌, List, [], ◌∷◌, filter_map, codes, if◌then◌else◌, Option, Some, None, option_map, unwrap_or}
-use Rattle.depot_path.specs.Bytes.{same}
+use Rattle.db_records.specs.depot_path.Bytes.{same}
 use Rattle.depot_model.specs.Sorted.{inserted}
 use Rattle.depot_model.specs.declared.reply.Row.{Row}
 use Rattle.depot_model.specs.Deeds.{Deed, Count}

@@ -1,7 +1,7 @@
 -- `edit`, `delete` (Command-Line Reference, "p4 edit", "p4 delete"): they open files that the client has.
 use Rattle.std.specs.Prelude.{ℕ, List, [], ◌∷◌, codes, if◌then◌else◌, Option, Some, None, unwrap_or, is_some, is_none, false}
-use Rattle.depot_path.specs.Path.{printed}
-use Rattle.depot_path.specs.declared.revision.Wanted.TheVariants.{Head}
+use Rattle.db_records.specs.depot_path.Path.{printed}
+use Rattle.db_records.specs.depot_path.declared.revision.Wanted.TheVariants.{Head}
 use Rattle.depot_model.specs.declared.request.Caller.{Caller}
 use Rattle.depot_model.specs.declared.command.FileArgument.{FileArgument}
 use Rattle.depot_model.specs.declared.refusal.Refusal.TheVariants.{NotInView, AlreadyOpen}

@@ -2,7 +2,7 @@
 use Rattle.std.specs.Prelude.{ℕ, List, [], ◌∷◌, length, map, codes, Ok, Err, not, nat_lt}
 use Rattle.std.specs.List.{list_all, enumerate_from}
 use Rattle.depot_model.specs.Sorted.{inserted}
-use Rattle.depot_path.specs.Name.{is_name}
+use Rattle.db_records.specs.depot_path.Name.{is_name}
 use Rattle.spec_form.specs.declared.shape.Shape.TheVariants.{Group as GroupShape}
 use Rattle.spec_form.specs.Form.{FormValue, lines_of}
 use Rattle.spec_form.specs.Reading.{form_of}

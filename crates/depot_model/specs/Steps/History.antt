@@ -2,11 +2,11 @@
 use Rattle.std.specs.Prelude.{ℕ, ◌==◌, ◌+◌, List, [], ◌∷◌, ◌++◌, length, map, filter, filter_map, flat_map, find, reverse, take, drop, codes, if◌then◌else◌, Option, Some, None, Ok, Err, Bool, false, not, ◌&&◌, decimal}
 use Rattle.std.specs.List.{list_any, enumerate_from, slice_split}
 use Rattle.std.specs.Ordering.{is_lt}
-use Rattle.depot_path.specs.Bytes.{same}
-use Rattle.depot_path.specs.Path.{printed, path_of}
-use Rattle.depot_path.specs.Fit.{fits}
-use Rattle.depot_path.specs.declared.piece.Piece.{Piece}
-use Rattle.depot_path.specs.declared.revision.Wanted.TheVariants.{Head}
+use Rattle.db_records.specs.depot_path.Bytes.{same}
+use Rattle.db_records.specs.depot_path.Path.{printed, path_of}
+use Rattle.db_records.specs.depot_path.Fit.{fits}
+use Rattle.db_records.specs.depot_path.declared.piece.Piece.{Piece}
+use Rattle.db_records.specs.depot_path.declared.revision.Wanted.TheVariants.{Head}
 use Rattle.view_map.specs.Mapping.{path_in}
 use Rattle.db_records.specs.Key.{key_cmp}
 use Rattle.db_records.specs.Record.{key_of}

@@ -1,9 +1,9 @@
 -- `integrate` (Command-Line Reference, "p4 integrate"). Only revisions that weren't integrated before are integrated.
 use Rattle.std.specs.Prelude.{ℕ, List, [], ◌∷◌, filter, codes, if◌then◌else◌, Option, Some, None, unwrap_or, is_some, false, not}
 use Rattle.std.specs.List.{last_or}
-use Rattle.depot_path.specs.Path.{printed}
-use Rattle.depot_path.specs.declared.revision.Wanted.{Wanted}
-use Rattle.depot_path.specs.declared.revision.Wanted.TheVariants.{Head}
+use Rattle.db_records.specs.depot_path.Path.{printed}
+use Rattle.db_records.specs.depot_path.declared.revision.Wanted.{Wanted}
+use Rattle.db_records.specs.depot_path.declared.revision.Wanted.TheVariants.{Head}
 use Rattle.depot_model.specs.declared.request.Caller.{Caller}
 use Rattle.depot_model.specs.declared.command.FileArgument.{FileArgument}
 use Rattle.depot_model.specs.declared.command.PatternArgument.{PatternArgument}

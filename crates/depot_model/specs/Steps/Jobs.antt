@@ -2,7 +2,7 @@
 use Rattle.std.specs.Prelude.{ℕ, ◌+◌, List, [], ◌∷◌, ◌++◌, length, nat_lt, nat_le, map, filter, filter_map, codes, decimal, if◌then◌else◌, Option, Some, None, Ok, Err, is_some, is_none, Bool, true, false, not, ◌&&◌, ◌||◌}
 use Rattle.std.specs.Option.{option_map_or}
 use Rattle.std.specs.List.{list_any}
-use Rattle.depot_path.specs.Bytes.{same}
+use Rattle.db_records.specs.depot_path.Bytes.{same}
 use Rattle.spec_form.specs.declared.shape.Shape.TheVariants.{Job as JobShape}
 use Rattle.spec_form.specs.Form.{FormValue, with_field}
 use Rattle.spec_form.specs.Reading.{form_of}

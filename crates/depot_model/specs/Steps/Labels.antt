@@ -1,8 +1,8 @@
 -- `label -o`, `label -i`, `labels` (Command-Line Reference, "p4 label", "p4 labels").
 use Rattle.std.specs.Prelude.{◌||◌, ℕ, List, [], ◌∷◌, filter_map, codes, Option, Some, None, Ok, Err, option_map, Bool, false, not, ◌&&◌, ◌==◌}
 use Rattle.std.specs.List.{list_any, slice_split}
-use Rattle.depot_path.specs.Bytes.{same}
-use Rattle.depot_path.specs.Name.{is_name}
+use Rattle.db_records.specs.depot_path.Bytes.{same}
+use Rattle.db_records.specs.depot_path.Name.{is_name}
 use Rattle.spec_form.specs.declared.shape.Shape.TheVariants.{Label}
 use Rattle.spec_form.specs.Form.{FormValue}
 use Rattle.spec_form.specs.Reading.{form_of}

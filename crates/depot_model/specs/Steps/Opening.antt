@@ -1,8 +1,8 @@
 -- What add, edit, delete and integrate share: the change that is named, exclusive types, and other clients' openings (Command-Line Reference,
 -- "p4 add", "p4 edit", "File types" on `+l`).
 use Rattle.std.specs.Prelude.{ℕ, ◌==◌, List, [], ◌∷◌, ◌++◌, filter, find, codes, if◌then◌else◌, Option, Some, None, option_map, unwrap_or, is_some, Bool, false, not, ◌&&◌, ◌||◌, option_and_then}
-use Rattle.depot_path.specs.Bytes.{same, is_among}
-use Rattle.depot_path.specs.Path.{printed}
+use Rattle.db_records.specs.depot_path.Bytes.{same, is_among}
+use Rattle.db_records.specs.depot_path.Path.{printed}
 use Rattle.depot_model.specs.declared.request.Caller.{Caller}
 use Rattle.depot_model.specs.declared.reply.Row.{Row}
 use Rattle.depot_model.specs.declared.refusal.Refusal.{Refusal}

@@ -1,6 +1,6 @@
 -- `resolve -at`, `resolve -ay` (Command-Line Reference, "p4 resolve").
 use Rattle.std.specs.Prelude.{ℕ, List, [], ◌∷◌, map, filter, codes, if◌then◌else◌, Some, None, is_none, false}
-use Rattle.depot_path.specs.Bytes.{same}
+use Rattle.db_records.specs.depot_path.Bytes.{same}
 use Rattle.depot_model.specs.declared.request.Caller.{Caller}
 use Rattle.depot_model.specs.declared.command.FileArgument.{FileArgument}
 use Rattle.depot_model.specs.declared.command.Taking.{Taking}

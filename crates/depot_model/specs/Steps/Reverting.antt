@@ -1,7 +1,7 @@
 -- `revert`, `reopen`, `lock`, `unlock`, `opened` (Command-Line Reference, "p4 revert", "p4 reopen", "p4 lock", "p4 unlock", "p4 opened"). The have
 -- list stays at a revert.
 use Rattle.std.specs.Prelude.{ℕ, ◌==◌, List, [], ◌∷◌, ◌++◌, map, filter, filter_map, flat_map, codes, if◌then◌else◌, Option, Some, None, unwrap_or, length, nat_lt, Bool, true, false, not, option_and_then}
-use Rattle.depot_path.specs.Bytes.{same}
+use Rattle.db_records.specs.depot_path.Bytes.{same}
 use Rattle.depot_model.specs.declared.request.Caller.{Caller}
 use Rattle.depot_model.specs.declared.command.FileArgument.{FileArgument}
 use Rattle.depot_model.specs.declared.reply.Row.{Row}

@@ -2,9 +2,9 @@
 use Rattle.std.specs.Prelude.{ℕ, ◌==◌, List, [], ◌∷◌, ◌++◌, length, nat_lt, map, filter, flat_map, sum, codes, if◌then◌else◌, Option, Some, None, unwrap_or, is_some, is_none, Bool, true, false, not, ◌&&◌, decimal}
 use Rattle.std.specs.List.{enumerate_from}
 use Rattle.std.specs.Option.{option_map_or}
-use Rattle.depot_path.specs.Path.{printed}
+use Rattle.db_records.specs.depot_path.Path.{printed}
 use Rattle.spec_form.specs.Form.{FormValue}
-use Rattle.depot_path.specs.declared.revision.Wanted.TheVariants.{Head}
+use Rattle.db_records.specs.depot_path.declared.revision.Wanted.TheVariants.{Head}
 use Rattle.depot_model.specs.declared.request.Caller.{Caller}
 use Rattle.depot_model.specs.declared.request.Request.{Request}
 use Rattle.depot_model.specs.declared.command.FileArgument.{FileArgument}

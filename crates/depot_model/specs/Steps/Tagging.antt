@@ -1,8 +1,8 @@
 -- `tag`, `labelsync` (Command-Line Reference, "p4 tag", "p4 labelsync").
 use Rattle.std.specs.Prelude.{ℕ, zero, suc, ◌==◌, List, [], ◌∷◌, codes, if◌then◌else◌, Bool, true, false, not}
-use Rattle.depot_path.specs.declared.revision.Wanted.{Wanted}
-use Rattle.depot_path.specs.declared.revision.Wanted.TheVariants.{Head, One, Range}
-use Rattle.depot_path.specs.declared.revision.RevSpec.TheVariants.{Have}
+use Rattle.db_records.specs.depot_path.declared.revision.Wanted.{Wanted}
+use Rattle.db_records.specs.depot_path.declared.revision.Wanted.TheVariants.{Head, One, Range}
+use Rattle.db_records.specs.depot_path.declared.revision.RevSpec.TheVariants.{Have}
 use Rattle.depot_model.specs.declared.request.Caller.{Caller}
 use Rattle.depot_model.specs.declared.command.FileArgument.{FileArgument}
 use Rattle.depot_model.specs.declared.command.Labelling.{Labelling}

@@ -1,7 +1,7 @@
 -- The target of a source, where the texts of one argument's specifiers are put into another (Command-Line Reference, "p4 integrate", "p4 move").
 use Rattle.std.specs.Prelude.{ℕ, List, [], if◌then◌else◌, Option, Some, None, unwrap_or, not}
-use Rattle.depot_path.specs.Path.{is_path}
-use Rattle.depot_path.specs.Fit.{texts, filled}
+use Rattle.db_records.specs.depot_path.Path.{is_path}
+use Rattle.db_records.specs.depot_path.Fit.{texts, filled}
 use Rattle.view_map.specs.Specifiers.{answering}
 use Rattle.view_map.specs.Mapping.{files_at}
 use Rattle.depot_model.specs.declared.request.Caller.{Caller}

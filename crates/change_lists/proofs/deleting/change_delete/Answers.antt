@@ -1,12 +1,12 @@
 use Rattle.std.proofs.Common.{[], ◌∷◌, Option, refl, sym, ap, ◌∙◌}
 use Rattle.std.specs.Prelude.{option_map}
-use Rattle.db_records.specs.declared.record.Record.{Record}
-use Rattle.table_changes.specs.Changed.{rows_of}
-use Rattle.depot_model.specs.declared.refusal.Refusal.{Refusal}
-use Rattle.depot_model.specs.Deeds.{Drop}
-use Rattle.depot_model.specs.Refusals.{refusal_row}
-use Rattle.depot_model.specs.Step.{does}
-use Rattle.depot_model.specs.Steps.Changing.{delete_refusals}
+use Rattle.depot_rows.specs.db_records.declared.record.Record.{Record}
+use Rattle.depot_rows.specs.table_changes.Changed.{rows_of}
+use Rattle.depot_rows.specs.depot_model.declared.refusal.Refusal.{Refusal}
+use Rattle.depot_rows.specs.depot_model.Deeds.{Drop}
+use Rattle.depot_rows.specs.depot_model.Refusals.{refusal_row}
+use Rattle.depot_rows.specs.depot_model.Step.{does}
+use Rattle.depot_rows.specs.depot_model.Steps.Changing.{delete_refusals}
 use Rattle.depot_rows.specs.declared.deed.Deed.TheVariants as dones
 use Rattle.reply_rows.proofs.Joined.{made_done}
 use Rattle.command_parts.proofs.Refused.{granted_made, refused_made}

@@ -1,4 +1,4 @@
-use Rattle.table_changes.specs.Changed.{rows_of}
+use Rattle.depot_rows.specs.table_changes.Changed.{rows_of}
 use Rattle.std.specs.Option.{option_copied}
 use Rattle.change_lists.proofs.Described.{described_made}
 use Rattle.change_lists.proofs.describing.describe_asked.Goals as goal

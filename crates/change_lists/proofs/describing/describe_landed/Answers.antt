@@ -1,7 +1,7 @@
 use Rattle.std.proofs.Common.{Bor, List, [], ◌∷◌, ap, ◌∙◌}
 use Rattle.std.specs.Prelude.{map}
-use Rattle.db_records.specs.declared.rows.RevRecord.{RevRecord}
-use Rattle.depot_model.specs.declared.reply.Row.{Row}
+use Rattle.depot_rows.specs.db_records.declared.rows.RevRecord.{RevRecord}
+use Rattle.depot_rows.specs.depot_model.declared.reply.Row.{Row}
 use Rattle.reply_rows.specs.Made.{told}
 use Rattle.change_lists.specs.Describing.{landed_by}
 use Rattle.change_lists.proofs.Described.{landed_by_is}

@@ -1,6 +1,6 @@
 use Rattle.std.proofs.Common.{ℕ, List, [], ◌∷◌, ◌++◌, ap, ◌∙◌}
 use Rattle.std.specs.Prelude.{codes}
-use Rattle.depot_model.specs.Rows.{number_field, text_field}
+use Rattle.depot_rows.specs.depot_model.Rows.{number_field, text_field}
 use Rattle.change_lists.specs.Describing.{content_fields, numbered_name}
 use Rattle.change_lists.proofs.Described.{five_pushed}
 use Rattle.change_lists.proofs.describing.push_revision.Goals as goal

@@ -1,6 +1,6 @@
 use Rattle.std.proofs.Common.{List, ℕ, ap, ◌∙◌}
 use Rattle.std.specs.Prelude.{flat_map}
-use Rattle.depot_model.specs.Arguments.{submitted}
+use Rattle.depot_rows.specs.depot_model.Arguments.{submitted}
 use Rattle.change_lists.specs.Files.{file_in}
 use Rattle.change_lists.proofs.MadeOnce.{files_are}
 use Rattle.change_lists.proofs.files.files_of_change.Goals as goal

@@ -1,8 +1,8 @@
 use Rattle.std.proofs.Common.{Option, ap, sym, ◌∙◌}
 use Rattle.std.specs.Prelude.{option_map}
-use Rattle.depot_path.proofs.Paths.{prints_path}
-use Rattle.depot_path.specs.Path.{is_path}
-use Rattle.depot_model.specs.Steps.Listing.{Numbered}
+use Rattle.depot_rows.proofs.depot_path.Paths.{prints_path}
+use Rattle.depot_rows.specs.depot_path.Path.{is_path}
+use Rattle.depot_rows.specs.depot_model.Steps.Listing.{Numbered}
 use Rattle.revision_reads.specs.History.{numbered_record}
 use Rattle.change_lists.proofs.MadeOnce.{chosen_is}
 use Rattle.change_lists.proofs.files.revision_made.Goals as goal

@@ -1,6 +1,6 @@
 use Rattle.std.proofs.Common.{◌≡◌, ◌≤◌, ◌++◌, length, take, drop}
 use Rattle.std.specs.Prelude.{◌-◌}
-use Rattle.depot_model.specs.Steps.Changing.{path_before_tab}
+use Rattle.depot_rows.specs.depot_model.Steps.Changing.{path_before_tab}
 use Rattle.change_lists.proofs.lines.before_tab.Given as goal
 
 abbrev pub invariant-loop-n : goal.invariant-loop-n

@@ -1,5 +1,5 @@
 use Rattle.std.proofs.Common.{ℕ, List, ap, sym, ◌∙◌, arith}
-use Rattle.depot_model.specs.Steps.Changing.{path_before_tab}
+use Rattle.depot_rows.specs.depot_model.Steps.Changing.{path_before_tab}
 use Rattle.opening_reads.specs.Read.{path_in_text}
 use Rattle.change_lists.proofs.Saved.{bad_here, good_on, read_on}
 use Rattle.change_lists.proofs.lines.push_paths.Goals as goal

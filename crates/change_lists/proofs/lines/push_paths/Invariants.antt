@@ -1,6 +1,6 @@
 use Rattle.std.proofs.Common.{◌≡◌, ◌++◌, ◌+◌, length}
 use Rattle.std.specs.Prelude.{map}
-use Rattle.depot_model.specs.Steps.Changing.{listed_path}
+use Rattle.depot_rows.specs.depot_model.Steps.Changing.{listed_path}
 use Rattle.change_lists.specs.Lines.{first_bad}
 use Rattle.change_lists.proofs.lines.push_paths.Given as goal
 

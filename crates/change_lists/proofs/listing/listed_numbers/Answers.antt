@@ -1,7 +1,7 @@
 use Rattle.std.proofs.Common.{Bool, sym, ap, ◌∙◌}
 use Rattle.std.specs.Prelude.{◌||◌, if◌then◌else◌}
 use Rattle.std.specs.List.{list_any}
-use Rattle.depot_model.specs.Arguments.{submitted}
+use Rattle.depot_rows.specs.depot_model.Arguments.{submitted}
 use Rattle.change_lists.specs.Listed.{is_pending, lists_one}
 use Rattle.change_lists.specs.Numbers.{is_among}
 use Rattle.change_lists.proofs.listing.listed_numbers.Goals as goal

@@ -1,8 +1,8 @@
 use Rattle.std.proofs.Common.{◌≡◌, ℕ, List, [], ◌∷◌, ◌++◌, ◌-◌, length, take, drop, refl, ap, ◌∙◌}
 use Rattle.std.specs.Prelude.{false}
 use Rattle.opening_reads.proofs.Onwards.{given_on}
-use Rattle.depot_model.specs.Arguments.{is_in, named, submitted}
-use Rattle.depot_model.specs.Steps.Changes.{made_over, missing}
+use Rattle.depot_rows.specs.depot_model.Arguments.{is_in, named, submitted}
+use Rattle.depot_rows.specs.depot_model.Steps.Changes.{made_over, missing}
 use Rattle.file_steps.proofs.Going.{parted}
 use Rattle.file_steps.proofs.Spelling.{alike_on}
 use Rattle.change_lists.proofs.ListedRows.{argument_gives}

@@ -1,8 +1,8 @@
 use Rattle.std.proofs.Common.{◌≡◌, ℕ, ◌++◌, List, [], length}
 use Rattle.std.specs.Prelude.{flat_map}
-use Rattle.table_changes.specs.Changed.{rows_of}
-use Rattle.depot_model.specs.Deeds.{Deed}
-use Rattle.depot_model.specs.Steps.Changes.{made_over, missing}
+use Rattle.depot_rows.specs.table_changes.Changed.{rows_of}
+use Rattle.depot_rows.specs.depot_model.Deeds.{Deed}
+use Rattle.depot_rows.specs.depot_model.Steps.Changes.{made_over, missing}
 use Rattle.file_steps.proofs.Spelling.{AreAlike}
 use Rattle.named_files.specs.Sets.{ShownReads}
 use Rattle.named_files.specs.declared.listing.Listing.TheVariants.{Submitted}

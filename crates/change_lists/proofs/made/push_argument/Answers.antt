@@ -1,9 +1,9 @@
 use Rattle.std.proofs.Common.{ℕ, List, [], ◌∷◌, ◌++◌, ap, ◌∙◌}
 use Rattle.std.specs.Prelude.{◌==◌, false, flat_map, if◌then◌else◌, length}
-use Rattle.table_changes.specs.Changed.{rows_of}
-use Rattle.depot_model.specs.Arguments.{is_in, named, submitted}
-use Rattle.depot_model.specs.Refusals.{refusal_row}
-use Rattle.depot_model.specs.declared.refusal.Refusal.TheVariants.{NoSuchFile}
+use Rattle.depot_rows.specs.table_changes.Changed.{rows_of}
+use Rattle.depot_rows.specs.depot_model.Arguments.{is_in, named, submitted}
+use Rattle.depot_rows.specs.depot_model.Refusals.{refusal_row}
+use Rattle.depot_rows.specs.depot_model.declared.refusal.Refusal.TheVariants.{NoSuchFile}
 use Rattle.revision_reads.proofs.Wanting.{wanted_had}
 use Rattle.change_lists.specs.Listed.{made_in_file}
 use Rattle.change_lists.proofs.ListedRows.{files_give}

@@ -1,7 +1,7 @@
 use Rattle.std.proofs.Common.{◌≡◌, ◌≤◌, ℕ, List, [], ◌∷◌, get_or, length, refl, arith, ◌∙◌}
 use Rattle.std.specs.Option.{option_to_list}
 use Rattle.opening_reads.proofs.Onwards.{given_all, given_on}
-use Rattle.depot_model.specs.Steps.Changes.{change_at}
+use Rattle.depot_rows.specs.depot_model.Steps.Changes.{change_at}
 use Rattle.change_lists.proofs.made.push_changes.Goals as goal
 
 first_is : (items : List ℕ) (n : ℕ) → 1 ≤ length items → get_or items 0 n ≡ get_or items 0 (get_or items 0 n)

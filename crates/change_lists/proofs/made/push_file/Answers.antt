@@ -1,8 +1,8 @@
 use Rattle.std.proofs.Common.{Bool, List, ℕ, [], ◌++◌, sym, ap, ◌∙◌}
 use Rattle.std.specs.Prelude.{flat_map, if◌then◌else◌}
 use Rattle.std.specs.Option.{option_to_list}
-use Rattle.depot_model.specs.Range.{in_range}
-use Rattle.depot_model.specs.Steps.Changes.{change_at}
+use Rattle.depot_rows.specs.depot_model.Range.{in_range}
+use Rattle.depot_rows.specs.depot_model.Steps.Changes.{change_at}
 use Rattle.change_lists.proofs.made.push_file.Goals as goal
 
 pub returns : goal.returns

@@ -1,6 +1,6 @@
 use Rattle.std.proofs.Common.{◌≡◌, ◌∷◌, ◌++◌, ℕ, List, ap, sym, length, arith, ◌∙◌}
 use Rattle.std.specs.Vec.Iter.{into_iter_items}
-use Rattle.depot_model.specs.Arguments.{is_in}
+use Rattle.depot_rows.specs.depot_model.Arguments.{is_in}
 use Rattle.file_steps.proofs.Inserting.{taken_on}
 use Rattle.change_lists.proofs.made.take.Goals as goal
 

@@ -1,9 +1,9 @@
 use Rattle.std.proofs.Common.{◌≡◌, List, ap, subst}
-use Rattle.db_records.specs.declared.record.Record.{Record}
-use Rattle.db_records.specs.declared.table.TableId.{TableId}
-use Rattle.db_records.specs.declared.table.TableId.TheVariants as table_ids
-use Rattle.table_changes.specs.Changed.{rows_of}
-use Rattle.table_store.specs.Rows.{AllOfTable, IsRising, TableRows}
+use Rattle.depot_rows.specs.db_records.declared.record.Record.{Record}
+use Rattle.depot_rows.specs.db_records.declared.table.TableId.{TableId}
+use Rattle.depot_rows.specs.db_records.declared.table.TableId.TheVariants as table_ids
+use Rattle.depot_rows.specs.table_changes.Changed.{rows_of}
+use Rattle.depot_rows.specs.table_store.Rows.{AllOfTable, IsRising, TableRows}
 use Rattle.change_lists.proofs.RowsTell.{listed_told, pending_told}
 use Rattle.change_lists.proofs.numbers.rows_tell_numbers.Goals as goal
 

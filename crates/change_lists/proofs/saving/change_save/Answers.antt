@@ -1,6 +1,6 @@
-use Rattle.table_changes.specs.Changed.{rows_of}
-use Rattle.spec_form.specs.declared.shape.Shape.TheVariants.{Change}
-use Rattle.depot_model.specs.Steps.Changing.{change_form}
+use Rattle.depot_rows.specs.table_changes.Changed.{rows_of}
+use Rattle.depot_rows.specs.spec_form.declared.shape.Shape.TheVariants.{Change}
+use Rattle.depot_rows.specs.depot_model.Steps.Changing.{change_form}
 use Rattle.command_parts.proofs.Refused.{read_made, unread_made}
 use Rattle.change_lists.proofs.saving.change_save.Goals as goal
 

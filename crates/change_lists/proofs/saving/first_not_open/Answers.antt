@@ -1,8 +1,8 @@
 use Rattle.std.proofs.Common.{ap, ◌∙◌, sym, Option}
 use Rattle.std.specs.Prelude.{option_map}
-use Rattle.depot_model.specs.declared.refusal.Refusal.{Refusal}
-use Rattle.depot_model.specs.Refusals.{refusal_row}
-use Rattle.depot_model.specs.Steps.Changing.{not_open}
+use Rattle.depot_rows.specs.depot_model.declared.refusal.Refusal.{Refusal}
+use Rattle.depot_rows.specs.depot_model.Refusals.{refusal_row}
+use Rattle.depot_rows.specs.depot_model.Steps.Changing.{not_open}
 use Rattle.change_lists.proofs.Saved.{first_here, first_on}
 use Rattle.change_lists.proofs.saving.first_not_open.Goals as goal
 

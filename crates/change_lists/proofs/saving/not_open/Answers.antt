@@ -1,8 +1,8 @@
 use Rattle.std.proofs.Common.{Option, ap, ◌∙◌}
 use Rattle.std.specs.Prelude.{option_map}
 use Rattle.std.specs.Option.{option_copied}
-use Rattle.depot_model.specs.declared.refusal.Refusal.{Refusal}
-use Rattle.depot_model.specs.Refusals.{refusal_row}
+use Rattle.depot_rows.specs.depot_model.declared.refusal.Refusal.{Refusal}
+use Rattle.depot_rows.specs.depot_model.Refusals.{refusal_row}
 use Rattle.change_lists.proofs.Moved.{unopened_is}
 use Rattle.change_lists.proofs.saving.not_open.Goals as goal
 

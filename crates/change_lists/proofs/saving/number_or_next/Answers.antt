@@ -1,9 +1,9 @@
 use Rattle.std.proofs.Common.{◌≡◌, ◌≤◌, ℕ, ◌+◌, Option, arith, sym, ap, ◌∙◌}
 use Rattle.std.specs.Prelude.{unwrap_or}
-use Rattle.depot_model.specs.Numbers.{top}
-use Rattle.depot_model.specs.Records.{record_of}
-use Rattle.depot_model.specs.Rules.{top_in}
-use Rattle.depot_rows.proofs.Changes.{top_value}
+use Rattle.depot_rows.specs.depot_model.Numbers.{top}
+use Rattle.depot_rows.specs.depot_model.Records.{record_of}
+use Rattle.depot_rows.specs.depot_model.Rules.{top_in}
+use Rattle.depot_rows.proofs.ChangeCounter.{top_value}
 use Rattle.change_lists.proofs.saving.number_or_next.Goals as goal
 
 pub returns-in_ok-top-in-None : goal.returns-in_ok-top-in-None

@@ -1,5 +1,5 @@
 use Rattle.std.proofs.Common.{sym, ◌∙◌}
-use Rattle.table_changes.specs.Changed.{rows_of}
+use Rattle.depot_rows.specs.table_changes.Changed.{rows_of}
 use Rattle.command_parts.proofs.Refused.{granted_made, refused_made}
 use Rattle.change_lists.specs.Saving.{file_refusals, with_limits}
 use Rattle.change_lists.proofs.Saved.{none_refused}

@@ -1,13 +1,13 @@
 use Rattle.std.proofs.Common.{ℕ, List, ◌++◌, Option, Some, sym, ap, subst, ◌∙◌}
 use Rattle.std.specs.Prelude.{option_map, map}
 use Rattle.std.specs.List.{join_with_byte}
-use Rattle.table_changes.specs.Changed.{rows_of}
-use Rattle.depot_model.specs.declared.refusal.Refusal.{Refusal}
-use Rattle.depot_model.specs.declared.reply.Row.{Row}
-use Rattle.depot_model.specs.declared.refusal.Refusal.TheVariants.{BadForm}
-use Rattle.depot_model.specs.Refusals.{refusal_row}
-use Rattle.depot_model.specs.Step.{Step as ModelStep, unless}
-use Rattle.depot_model.specs.Steps.Changing.{listed_path}
+use Rattle.depot_rows.specs.table_changes.Changed.{rows_of}
+use Rattle.depot_rows.specs.depot_model.declared.refusal.Refusal.{Refusal}
+use Rattle.depot_rows.specs.depot_model.declared.reply.Row.{Row}
+use Rattle.depot_rows.specs.depot_model.declared.refusal.Refusal.TheVariants.{BadForm}
+use Rattle.depot_rows.specs.depot_model.Refusals.{refusal_row}
+use Rattle.depot_rows.specs.depot_model.Step.{Step as ModelStep, unless}
+use Rattle.depot_rows.specs.depot_model.Steps.Changing.{listed_path}
 use Rattle.reply_rows.specs.Made.{IsMade}
 use Rattle.command_parts.proofs.Refused.{granted_made, refused_made}
 use Rattle.change_lists.specs.Lines.{first_bad}

@@ -1,11 +1,11 @@
 use Rattle.std.proofs.Common.{◌≡◌, ℕ, false, ◌+◌, sym, subst, ◌∙◌, length}
 use Rattle.std.specs.Prelude.{option_map, unwrap_or}
-use Rattle.table_changes.specs.Changed.{rows_of}
-use Rattle.db_records.specs.declared.key.Key.TheVariants as keys
-use Rattle.depot_model.specs.Numbers.{top}
-use Rattle.depot_model.specs.Records.{record_of}
+use Rattle.depot_rows.specs.table_changes.Changed.{rows_of}
+use Rattle.depot_rows.specs.db_records.declared.key.Key.TheVariants as keys
+use Rattle.depot_rows.specs.depot_model.Numbers.{top}
+use Rattle.depot_rows.specs.depot_model.Records.{record_of}
 use Rattle.depot_rows.specs.Effects.{is_submitted}
-use Rattle.depot_model.specs.Refusals.{refusal_row}
+use Rattle.depot_rows.specs.depot_model.Refusals.{refusal_row}
 use Rattle.reply_rows.specs.Made.{IsMade}
 use Rattle.reply_rows.specs.Refusing.{first_of}
 use Rattle.command_parts.proofs.Refused.{granted_made, refused_made}

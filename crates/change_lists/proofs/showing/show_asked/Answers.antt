@@ -1,6 +1,6 @@
 use Rattle.std.proofs.Common.{ℕ, Option, refl, subst, sym}
-use Rattle.table_changes.specs.Changed.{rows_of}
-use Rattle.depot_model.specs.Steps.Changing.{change_show, show_new}
+use Rattle.depot_rows.specs.table_changes.Changed.{rows_of}
+use Rattle.depot_rows.specs.depot_model.Steps.Changing.{change_show, show_new}
 use Rattle.reply_rows.specs.Made.{IsMade}
 use Rattle.reply_rows.proofs.Joined.{made_row}
 use Rattle.change_lists.proofs.showing.show_asked.Goals as goal

@@ -1,7 +1,7 @@
 use Rattle.std.proofs.Common.{List, [], ◌∷◌, ap, ◌∙◌}
 use Rattle.std.specs.Prelude.{codes, None, flat_map}
-use Rattle.depot_model.specs.declared.reply.Row.{Row}
-use Rattle.depot_model.specs.Steps.Changing.{default_text}
+use Rattle.depot_rows.specs.depot_model.declared.reply.Row.{Row}
+use Rattle.depot_rows.specs.depot_model.Steps.Changing.{default_text}
 use Rattle.depot_rows.specs.declared.deed.Opening.{Opening}
 use Rattle.reply_rows.specs.Made.{told}
 use Rattle.opening_reads.specs.InChange.{opened_in}

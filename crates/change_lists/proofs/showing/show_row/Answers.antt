@@ -1,6 +1,6 @@
 use Rattle.std.proofs.Common.{List, [], ◌∷◌, ap, ◌∙◌}
 use Rattle.std.specs.Prelude.{Some, decimal, flat_map}
-use Rattle.depot_model.specs.declared.reply.Row.{Row}
+use Rattle.depot_rows.specs.depot_model.declared.reply.Row.{Row}
 use Rattle.depot_rows.specs.declared.deed.Opening.{Opening}
 use Rattle.reply_rows.specs.Made.{told}
 use Rattle.change_lists.specs.Showing.{listed_text, openings_told, shown_row}

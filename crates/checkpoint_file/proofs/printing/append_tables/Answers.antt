@@ -1,8 +1,8 @@
 use Rattle.std.proofs.Common.{List, ℕ, ◌++◌, take, ap, sym, ◌∙◌, append_assoc}
-use Rattle.db_records.specs.Table.{all_tables}
+use Rattle.depot_rows.specs.db_records.Table.{all_tables}
 use Rattle.journal_groups.specs.Groups.{body_of}
-use Rattle.table_changes.specs.Changed.{rows_of}
-use Rattle.table_store.specs.Rows.{TableRows}
+use Rattle.depot_rows.specs.table_changes.Changed.{rows_of}
+use Rattle.depot_rows.specs.table_store.Rows.{TableRows}
 use Rattle.checkpoint_file.specs.Checkpoint.{puts, puts_in}
 use Rattle.checkpoint_file.proofs.Bodies.{body_more}
 use Rattle.checkpoint_file.proofs.printing.append_tables.Goals as goal

@@ -1,7 +1,7 @@
 use Rattle.std.proofs.Common.{◌≡◌, ◌++◌, take}
-use Rattle.db_records.specs.Table.{all_tables}
+use Rattle.depot_rows.specs.db_records.Table.{all_tables}
 use Rattle.journal_groups.specs.Groups.{body_of}
-use Rattle.table_changes.specs.Changed.{rows_of}
+use Rattle.depot_rows.specs.table_changes.Changed.{rows_of}
 use Rattle.checkpoint_file.specs.Checkpoint.{puts_in}
 use Rattle.checkpoint_file.proofs.printing.append_tables.Given as goal
 

@@ -1,11 +1,11 @@
 use Rattle.std.proofs.Common.{◌≡◌, ◌++◌, true, refl, sym, subst, ◌∙◌}
-use Rattle.db_records.specs.declared.table.TableId.TheVariants as tables
-use Rattle.table_changes.specs.Changed.{rows_of}
-use Rattle.depot_model.specs.About.{about}
+use Rattle.depot_rows.specs.db_records.declared.table.TableId.TheVariants as tables
+use Rattle.depot_rows.specs.table_changes.Changed.{rows_of}
+use Rattle.depot_rows.specs.depot_model.About.{about}
 use Rattle.depot_runs.specs.Built.{is_built}
-use Rattle.depot_model.specs.Commands.{own_step}
-use Rattle.depot_model.specs.Common.{common_refusals, last_refusals}
-use Rattle.depot_model.specs.Step.{Step as ModelStep}
+use Rattle.depot_rows.specs.depot_model.Commands.{own_step}
+use Rattle.depot_rows.specs.depot_model.Common.{common_refusals, last_refusals}
+use Rattle.depot_rows.specs.depot_model.Step.{Step as ModelStep}
 use Rattle.step_stores.specs.Stored.{IsStoring}
 use Rattle.command_core.proofs.Granted.{built_is, refusing, granting}
 use Rattle.command_core.proofs.Refusals.{none_later}

@@ -1,6 +1,6 @@
 use Rattle.std.proofs.Common.{◌∙◌, sym, subst, List, ℕ}
-use Rattle.db_records.specs.declared.change.Spot.{Spot}
-use Rattle.table_changes.specs.Changed.{rows_of}
+use Rattle.depot_rows.specs.db_records.declared.change.Spot.{Spot}
+use Rattle.depot_rows.specs.table_changes.Changed.{rows_of}
 use Rattle.depot_runs.specs.Today.{step}
 use Rattle.reply_rows.specs.Made.{StandAt, contents_of}
 use Rattle.command_core.proofs.Storing.{stores_none}

@@ -1,12 +1,12 @@
 use Rattle.std.proofs.Common.{◌≡◌, ℕ, List, None, refl, sym, subst, IsTrue}
 use Rattle.std.specs.List.{list_any}
-use Rattle.db_records.specs.declared.change.Change.{Change}
-use Rattle.db_records.specs.declared.key.Key.{Key}
-use Rattle.db_records.specs.declared.table.TableId.TheVariants.{Rev, Working}
-use Rattle.table_changes.specs.Changed.{AllRows, AllFitIn, changed_by, rows_of}
-use Rattle.depot_model.specs.Deeds as model
-use Rattle.depot_model.specs.Rules.{IsSound}
-use Rattle.depot_model.specs.Step.{Step as ModelStep, after}
+use Rattle.depot_rows.specs.db_records.declared.change.Change.{Change}
+use Rattle.depot_rows.specs.db_records.declared.key.Key.{Key}
+use Rattle.depot_rows.specs.db_records.declared.table.TableId.TheVariants.{Rev, Working}
+use Rattle.depot_rows.specs.table_changes.Changed.{AllRows, AllFitIn, changed_by, rows_of}
+use Rattle.depot_rows.specs.depot_model.Deeds as model
+use Rattle.depot_rows.specs.depot_model.Rules.{IsSound}
+use Rattle.depot_rows.specs.depot_model.Step.{Step as ModelStep, after}
 use Rattle.depot_rows.specs.declared.deed.Deed.{Deed}
 use Rattle.depot_rows.specs.Effects.{effects, Follow}
 use Rattle.depot_rows.specs.Standing.{HasRows, row_in}

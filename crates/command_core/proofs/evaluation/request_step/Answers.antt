@@ -1,12 +1,12 @@
 use Rattle.std.proofs.Common.{Result, Ok, Err, sym, subst}
 use Rattle.std.specs.Prelude.{IfOk}
-use Rattle.table_changes.specs.Changed.{rows_of}
-use Rattle.depot_model.specs.declared.command.Command.{Command}
-use Rattle.depot_model.specs.declared.request.WordFault.{WordFault}
+use Rattle.depot_rows.specs.table_changes.Changed.{rows_of}
+use Rattle.depot_rows.specs.depot_model.declared.command.Command.{Command}
+use Rattle.depot_rows.specs.depot_model.declared.request.WordFault.{WordFault}
 use Rattle.depot_runs.specs.Built.{is_built}
-use Rattle.depot_model.specs.Commands.{built_step}
-use Rattle.depot_model.specs.Common.{word_refusal}
-use Rattle.depot_model.specs.Step.{refuses}
+use Rattle.depot_rows.specs.depot_model.Commands.{built_step}
+use Rattle.depot_rows.specs.depot_model.Common.{word_refusal}
+use Rattle.depot_rows.specs.depot_model.Step.{refuses}
 use Rattle.step_stores.specs.Stored.{IsStoring}
 use Rattle.command_core.specs.Outcomes.{HasNeededBy, IsFormed}
 use Rattle.command_core.proofs.Locking.{opened_has_rows}

@@ -1,6 +1,6 @@
 use Rattle.std.proofs.Common.{◌≡◌, false, sym, ◌∙◌}
-use Rattle.table_changes.specs.Changed.{rows_of}
-use Rattle.depot_model.specs.Commands.{own_step}
+use Rattle.depot_rows.specs.table_changes.Changed.{rows_of}
+use Rattle.depot_rows.specs.depot_model.Commands.{own_step}
 use Rattle.depot_runs.specs.Built.{is_submit}
 use Rattle.step_stores.proofs.Storing.{made_stores}
 use Rattle.command_core.proofs.Storing.{own_lands_nothing}

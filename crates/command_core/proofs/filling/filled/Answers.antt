@@ -1,7 +1,7 @@
 use Rattle.std.proofs.Common.{◌≡◌, ℕ, suc, ◌<◌, ◌≤◌, ◌-◌, List, ◌++◌, length, length-set, map, take, set, get_or, sym, ap, subst, ◌∙◌, arith}
 use Rattle.std.specs.Option.{option_to_list}
 use Rattle.std.proofs.lemmas.List.{length-map, take_all}
-use Rattle.depot_model.specs.declared.reply.Row.{Row}
+use Rattle.depot_rows.specs.depot_model.declared.reply.Row.{Row}
 use Rattle.reply_rows.specs.Made.{contents_of, waiting}
 use Rattle.command_core.proofs.Waiting.{Next, next, partly, partly_all}
 use Rattle.command_core.proofs.filling.filled.Goals as goal

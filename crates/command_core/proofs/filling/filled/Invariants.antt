@@ -1,5 +1,5 @@
 use Rattle.std.proofs.Common.{◌≡◌, ◌≤◌, List, length, map, take}
-use Rattle.depot_model.specs.declared.reply.Row.{Row}
+use Rattle.depot_rows.specs.depot_model.declared.reply.Row.{Row}
 use Rattle.reply_rows.specs.Made.{contents_of, waiting}
 use Rattle.command_core.proofs.Waiting.{partly}
 use Rattle.command_core.proofs.filling.filled.Given as goal

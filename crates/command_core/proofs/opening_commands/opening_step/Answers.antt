@@ -1,15 +1,15 @@
 use Rattle.std.proofs.Common.{List, ℕ, refl, sym, subst}
 use Rattle.std.specs.Prelude.{IsTrue}
 use Rattle.std.specs.List.{list_all}
-use Rattle.db_records.specs.declared.table.TableId.TheVariants as tables
-use Rattle.table_changes.specs.Changed.{rows_of}
-use Rattle.depot_model.specs.declared.command.Command.{Command}
-use Rattle.depot_model.specs.declared.command.FileArgument.{FileArgument}
-use Rattle.depot_model.specs.Commands.{own_step}
-use Rattle.depot_model.specs.Steps.Adding.{add}
-use Rattle.depot_model.specs.Steps.Editing.{delete, edit}
-use Rattle.depot_model.specs.Steps.Reverting.{lock, opened_step, reopen, revert, unlock}
-use Rattle.depot_model.specs.WellFormed.{asks_head, is_type_or_none, spells_path}
+use Rattle.depot_rows.specs.db_records.declared.table.TableId.TheVariants as tables
+use Rattle.depot_rows.specs.table_changes.Changed.{rows_of}
+use Rattle.depot_rows.specs.depot_model.declared.command.Command.{Command}
+use Rattle.depot_rows.specs.depot_model.declared.command.FileArgument.{FileArgument}
+use Rattle.depot_rows.specs.depot_model.Commands.{own_step}
+use Rattle.depot_rows.specs.depot_model.Steps.Adding.{add}
+use Rattle.depot_rows.specs.depot_model.Steps.Editing.{delete, edit}
+use Rattle.depot_rows.specs.depot_model.Steps.Reverting.{lock, opened_step, reopen, revert, unlock}
+use Rattle.depot_rows.specs.depot_model.WellFormed.{asks_head, is_type_or_none, spells_path}
 use Rattle.depot_rows.proofs.Keys.{right-true}
 use Rattle.reply_rows.specs.Made.{IsMade}
 use Rattle.command_core.specs.Outcomes.{IsFormed, HasTouched}

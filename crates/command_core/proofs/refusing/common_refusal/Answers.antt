@@ -1,13 +1,13 @@
 use Rattle.std.proofs.Common.{◌≡◌, Option, Some, None, true, refl, sym, ap, ◌∙◌}
 use Rattle.std.specs.Prelude.{codes, flat_map, not, option_map, ◌&&◌}
 use Rattle.std.specs.Option.{option_copied}
-use Rattle.depot_model.specs.declared.command.FileArgument.{FileArgument}
-use Rattle.depot_model.specs.declared.refusal.Refusal.{Refusal}
-use Rattle.depot_model.specs.declared.refusal.Refusal.TheVariants.{Denied, NoClient, NoSuchLabel}
-use Rattle.depot_model.specs.About.{about}
-use Rattle.depot_model.specs.Asking.{may_anywhere, is_client}
-use Rattle.depot_model.specs.Common.{asks_client, first_unknown, unknown_name}
-use Rattle.depot_model.specs.Refusals.{refusal_row}
+use Rattle.depot_rows.specs.depot_model.declared.command.FileArgument.{FileArgument}
+use Rattle.depot_rows.specs.depot_model.declared.refusal.Refusal.{Refusal}
+use Rattle.depot_rows.specs.depot_model.declared.refusal.Refusal.TheVariants.{Denied, NoClient, NoSuchLabel}
+use Rattle.depot_rows.specs.depot_model.About.{about}
+use Rattle.depot_rows.specs.depot_model.Asking.{may_anywhere, is_client}
+use Rattle.depot_rows.specs.depot_model.Common.{asks_client, first_unknown, unknown_name}
+use Rattle.depot_rows.specs.depot_model.Refusals.{refusal_row}
 use Rattle.command_core.proofs.Refusals.{first_is}
 use Rattle.command_core.proofs.refusing.common_refusal.Goals as goal
 

@@ -1,6 +1,6 @@
 use Rattle.std.proofs.Common.{sym, ◌∙◌}
-use Rattle.depot_model.specs.About.{about}
-use Rattle.depot_model.specs.Common.{common_refusals, last_refusals}
+use Rattle.depot_rows.specs.depot_model.About.{about}
+use Rattle.depot_rows.specs.depot_model.Common.{common_refusals, last_refusals}
 use Rattle.command_core.proofs.Refusals.{first_here, first_later}
 use Rattle.command_core.proofs.refusing.first_refusal.Goals as goal
 

@@ -1,7 +1,7 @@
 use Rattle.std.proofs.Common.{List, ℕ, sym, ap, ◌∙◌}
 use Rattle.std.specs.Option.{option_copied, option_to_list}
-use Rattle.depot_model.specs.declared.command.FileArgument.{FileArgument}
-use Rattle.depot_model.specs.Common.{first_unknown, unknown_name}
+use Rattle.depot_rows.specs.depot_model.declared.command.FileArgument.{FileArgument}
+use Rattle.depot_rows.specs.depot_model.Common.{first_unknown, unknown_name}
 use Rattle.command_core.proofs.Refusals.{unknown_here, unknown_later, unknown_nowhere}
 use Rattle.command_core.proofs.refusing.first_unknown.Goals as goal
 

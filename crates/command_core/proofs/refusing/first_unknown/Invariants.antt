@@ -1,11 +1,11 @@
 use Rattle.std.proofs.Common.{◌≡◌, List, length}
 use Rattle.std.specs.Prelude.{flat_map}
-use Rattle.db_records.specs.declared.table.TableId.TheVariants as table_ids
-use Rattle.table_changes.specs.Changed.{rows_of}
+use Rattle.depot_rows.specs.db_records.declared.table.TableId.TheVariants as table_ids
+use Rattle.depot_rows.specs.table_changes.Changed.{rows_of}
 use Rattle.depot_rows.specs.Standing.{HasRows}
-use Rattle.depot_model.specs.declared.command.FileArgument.{FileArgument}
-use Rattle.depot_model.specs.Common.{unknown_name}
-use Rattle.depot_model.specs.Deeds.{Deed}
+use Rattle.depot_rows.specs.depot_model.declared.command.FileArgument.{FileArgument}
+use Rattle.depot_rows.specs.depot_model.Common.{unknown_name}
+use Rattle.depot_rows.specs.depot_model.Deeds.{Deed}
 use Rattle.command_core.proofs.refusing.first_unknown.Given as goal
 
 abbrev pub invariant-loop-rest : goal.invariant-loop-rest

@@ -1,8 +1,8 @@
 use Rattle.std.proofs.Common.{Some, sym, ap, ◌∙◌}
 use Rattle.std.specs.Prelude.{option_map}
-use Rattle.depot_model.specs.declared.refusal.Refusal.TheVariants.{Fixed}
-use Rattle.depot_model.specs.Refusals.{refusal_row}
-use Rattle.depot_model.specs.Step.{refuse_if}
+use Rattle.depot_rows.specs.depot_model.declared.refusal.Refusal.TheVariants.{Fixed}
+use Rattle.depot_rows.specs.depot_model.Refusals.{refusal_row}
+use Rattle.depot_rows.specs.depot_model.Step.{refuse_if}
 use Rattle.command_core.proofs.refusing.fixed_refusal.Goals as goal
 
 pub returns-then-not-fixing : goal.returns-then-not-fixing

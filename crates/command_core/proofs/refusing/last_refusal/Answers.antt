@@ -1,11 +1,11 @@
 use Rattle.std.proofs.Common.{refl, sym, ap, ◌∙◌, subst}
 use Rattle.std.specs.Prelude.{option_map}
-use Rattle.depot_model.specs.declared.command.Command.{Command}
-use Rattle.depot_model.specs.declared.refusal.Refusal.TheVariants.{Shelved}
-use Rattle.depot_model.specs.Common.{last_refusals}
-use Rattle.depot_model.specs.Refusals.{refusal_row}
-use Rattle.depot_model.specs.Shelves.{is_shelved}
-use Rattle.depot_model.specs.Step.{refuse_if}
+use Rattle.depot_rows.specs.depot_model.declared.command.Command.{Command}
+use Rattle.depot_rows.specs.depot_model.declared.refusal.Refusal.TheVariants.{Shelved}
+use Rattle.depot_rows.specs.depot_model.Common.{last_refusals}
+use Rattle.depot_rows.specs.depot_model.Refusals.{refusal_row}
+use Rattle.depot_rows.specs.depot_model.Shelves.{is_shelved}
+use Rattle.depot_rows.specs.depot_model.Step.{refuse_if}
 use Rattle.command_core.proofs.Refusals.{one_refusal}
 use Rattle.command_core.specs.Refusing.{first_of}
 use Rattle.command_core.proofs.refusing.last_refusal.Goals as goal

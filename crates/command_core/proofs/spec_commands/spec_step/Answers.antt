@@ -1,15 +1,15 @@
 use Rattle.std.proofs.Common.{List, ℕ, [], refl, sym, subst}
 use Rattle.std.specs.Prelude.{unwrap_or}
-use Rattle.db_records.specs.declared.table.TableId.TheVariants as tables
-use Rattle.table_changes.specs.Changed.{rows_of}
-use Rattle.depot_model.specs.declared.command.Command.{Command}
-use Rattle.depot_model.specs.Commands.{own_step}
-use Rattle.depot_model.specs.Steps.Clients.{client_save, client_show}
-use Rattle.depot_model.specs.Steps.Groups.{group_save}
-use Rattle.depot_model.specs.Steps.Placing.{have_step}
-use Rattle.depot_model.specs.Steps.Reverting.{lock, opened_step, reopen, unlock}
-use Rattle.depot_model.specs.Steps.Labels.{label_save}
-use Rattle.depot_model.specs.Steps.Protections.{protect_save}
+use Rattle.depot_rows.specs.db_records.declared.table.TableId.TheVariants as tables
+use Rattle.depot_rows.specs.table_changes.Changed.{rows_of}
+use Rattle.depot_rows.specs.depot_model.declared.command.Command.{Command}
+use Rattle.depot_rows.specs.depot_model.Commands.{own_step}
+use Rattle.depot_rows.specs.depot_model.Steps.Clients.{client_save, client_show}
+use Rattle.depot_rows.specs.depot_model.Steps.Groups.{group_save}
+use Rattle.depot_rows.specs.depot_model.Steps.Placing.{have_step}
+use Rattle.depot_rows.specs.depot_model.Steps.Reverting.{lock, opened_step, reopen, unlock}
+use Rattle.depot_rows.specs.depot_model.Steps.Labels.{label_save}
+use Rattle.depot_rows.specs.depot_model.Steps.Protections.{protect_save}
 use Rattle.reply_rows.specs.Made.{IsMade}
 use Rattle.command_core.specs.Outcomes.{HasTouched}
 use Rattle.command_core.proofs.spec_commands.spec_step.Goals as goal

@@ -1,9 +1,9 @@
 use Rattle.std.proofs.Common.{◌≡◌, None, refl, sym, subst}
-use Rattle.db_records.specs.declared.table.TableId.TheVariants as tables
-use Rattle.table_changes.specs.Changed.{rows_of}
-use Rattle.depot_model.specs.declared.command.Command.{Command}
-use Rattle.depot_model.specs.Commands.{own_step}
-use Rattle.depot_model.specs.Common.{last_refusals}
+use Rattle.depot_rows.specs.db_records.declared.table.TableId.TheVariants as tables
+use Rattle.depot_rows.specs.table_changes.Changed.{rows_of}
+use Rattle.depot_rows.specs.depot_model.declared.command.Command.{Command}
+use Rattle.depot_rows.specs.depot_model.Commands.{own_step}
+use Rattle.depot_rows.specs.depot_model.Common.{last_refusals}
 use Rattle.step_stores.specs.Stored.{IsStoring}
 use Rattle.command_core.specs.Outcomes.{HasTouched}
 use Rattle.command_core.specs.Refusing.{first_of}

@@ -1,16 +1,16 @@
 use Rattle.std.proofs.Common.{List, ℕ, refl, sym, subst}
 use Rattle.std.specs.Prelude.{IsTrue}
 use Rattle.std.specs.List.{list_all}
-use Rattle.db_records.specs.declared.table.TableId.TheVariants as tables
-use Rattle.table_changes.specs.Changed.{rows_of}
-use Rattle.depot_model.specs.declared.command.Command.{Command}
-use Rattle.depot_model.specs.declared.command.FileArgument.{FileArgument}
-use Rattle.depot_model.specs.Commands.{own_step}
-use Rattle.depot_model.specs.Steps.Placing.{have_step, where_is}
-use Rattle.depot_model.specs.Steps.Resolving.{resolve}
-use Rattle.depot_model.specs.Steps.Syncing.{sync}
-use Rattle.depot_model.specs.Steps.Tagging.{labelsync, tag}
-use Rattle.depot_model.specs.WellFormed.{asks_head, spells_path}
+use Rattle.depot_rows.specs.db_records.declared.table.TableId.TheVariants as tables
+use Rattle.depot_rows.specs.table_changes.Changed.{rows_of}
+use Rattle.depot_rows.specs.depot_model.declared.command.Command.{Command}
+use Rattle.depot_rows.specs.depot_model.declared.command.FileArgument.{FileArgument}
+use Rattle.depot_rows.specs.depot_model.Commands.{own_step}
+use Rattle.depot_rows.specs.depot_model.Steps.Placing.{have_step, where_is}
+use Rattle.depot_rows.specs.depot_model.Steps.Resolving.{resolve}
+use Rattle.depot_rows.specs.depot_model.Steps.Syncing.{sync}
+use Rattle.depot_rows.specs.depot_model.Steps.Tagging.{labelsync, tag}
+use Rattle.depot_rows.specs.depot_model.WellFormed.{asks_head, spells_path}
 use Rattle.reply_rows.specs.Made.{IsMade}
 use Rattle.command_core.specs.Outcomes.{IsFormed, HasTouched}
 use Rattle.command_core.proofs.syncing_commands.syncing_step.Goals as goal

@@ -1,8 +1,8 @@
 use Rattle.std.proofs.Common.{Option, ap, ◌∙◌}
 use Rattle.std.specs.Prelude.{option_map}
-use Rattle.db_records.specs.declared.record.Record.{Record}
-use Rattle.depot_model.specs.Refusals.{refusal_row}
-use Rattle.depot_model.specs.declared.refusal.Refusal.{Refusal}
+use Rattle.depot_rows.specs.db_records.declared.record.Record.{Record}
+use Rattle.depot_rows.specs.depot_model.Refusals.{refusal_row}
+use Rattle.depot_rows.specs.depot_model.declared.refusal.Refusal.{Refusal}
 use Rattle.command_parts.specs.Changes.{change_told}
 use Rattle.command_parts.proofs.ChangeRows.{told_is}
 use Rattle.command_parts.proofs.changes.change_refusal.Goals as goal

@@ -1,6 +1,6 @@
 use Rattle.std.proofs.Common.{sym, subst, List}
-use Rattle.db_records.specs.declared.table.TableId.TheVariants as tables
-use Rattle.depot_model.specs.Steps.Checkpoint.{checkpoint}
+use Rattle.depot_rows.specs.db_records.declared.table.TableId.TheVariants as tables
+use Rattle.depot_rows.specs.depot_model.Steps.Checkpoint.{checkpoint}
 use Rattle.depot_rows.specs.declared.deed.Deed.{Deed}
 use Rattle.depot_rows.specs.Effects.{Follow}
 use Rattle.depot_checkpoint.proofs.taking.checkpoint_changes.Goals as goal

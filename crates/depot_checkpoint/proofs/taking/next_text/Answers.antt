@@ -1,9 +1,9 @@
 use Rattle.std.proofs.Common.{◌≡◌, ◌+◌, ◌<◌, ℕ, List, sym, ap, subst, ◌∙◌}
 use Rattle.std.specs.Prelude.{All}
 use Rattle.checkpoint_file.specs.Checkpoint.{IsCheckpointOf, puts_of}
-use Rattle.db_records.specs.declared.change.Change.{Change}
+use Rattle.depot_rows.specs.db_records.declared.change.Change.{Change}
 use Rattle.journal_groups.specs.Groups.{AreRecords}
-use Rattle.table_changes.specs.Changed.{AllRows, changed_by, rows_of}
+use Rattle.depot_rows.specs.table_changes.Changed.{AllRows, changed_by, rows_of}
 use Rattle.depot_checkpoint.specs.Values.{IsWide}
 use Rattle.depot_checkpoint.proofs.Checkpoints.{next_of}
 use Rattle.depot_checkpoint.proofs.taking.next_text.Goals as goal

@@ -3,7 +3,7 @@ use Rattle.std.proofs.lemmas.Bool.Decides.{nat_tests}
 use Rattle.outside_api.specs.Moments.{weaker}
 use Rattle.checkpoint_file.specs.Generations.{StandsForEither}
 use Rattle.disk_journal.specs.Stands.{disk_of}
-use Rattle.table_changes.specs.Changed.{rows_of}
+use Rattle.depot_rows.specs.table_changes.Changed.{rows_of}
 use Rattle.depot_checkpoint.specs.Taking.{StandsBeforeOrAfter}
 use Rattle.depot_checkpoint.proofs.Checkpoints.{stands_begun, stands_either, stands_last}
 use Rattle.depot_checkpoint.proofs.taking.take_checkpoint.Goals as goal

@@ -1,9 +1,9 @@
 use Rattle.std.proofs.Common.{◌≡◌, ◌≤◌, ◌+◌, List, length}
 use Rattle.std.specs.List.{sum_by}
-use Rattle.db_records.specs.declared.table.TableId.TheVariants.{Rev}
-use Rattle.table_changes.specs.Changed.{rows_of}
-use Rattle.depot_model.specs.Deeds.{Deed}
-use Rattle.depot_model.specs.Rules.{IsSound}
+use Rattle.depot_rows.specs.db_records.declared.table.TableId.TheVariants.{Rev}
+use Rattle.depot_rows.specs.table_changes.Changed.{rows_of}
+use Rattle.depot_rows.specs.depot_model.Deeds.{Deed}
+use Rattle.depot_rows.specs.depot_model.Rules.{IsSound}
 use Rattle.depot_rows.specs.Standing.{HasRows}
 use Rattle.depot_figures.specs.Figures.{capped, file_size}
 use Rattle.depot_figures.proofs.files.bytes_of.Given as goal

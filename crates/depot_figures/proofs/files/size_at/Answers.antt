@@ -1,6 +1,6 @@
 use Rattle.std.proofs.Common.{◌∙◌}
 use Rattle.std.specs.Option.{option_copied}
-use Rattle.depot_model.specs.Revisions.{revision}
+use Rattle.depot_rows.specs.depot_model.Revisions.{revision}
 use Rattle.depot_figures.proofs.Figures.{size_told}
 use Rattle.depot_figures.proofs.files.size_at.Goals as goal
 

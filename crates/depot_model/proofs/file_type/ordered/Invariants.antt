@@ -1,6 +1,6 @@
 use Rattle.std.proofs.Common.{◌≡◌, take, filter}
 use Rattle.std.specs.Prelude.{codes}
-use Rattle.depot_path.specs.Bytes.{is_among}
+use Rattle.db_records.specs.depot_path.Bytes.{is_among}
 use Rattle.depot_model.proofs.file_type.ordered.Given as goal
 
 abbrev pub invariant-loop-modifier : goal.invariant-loop-modifier

@@ -1,11 +1,11 @@
 use Rattle.std.proofs.Common.{Bool, List, ap, ◌∙◌, map}
 use Rattle.std.specs.Prelude.{filter}
-use Rattle.db_records.specs.declared.record.Record.{Record}
+use Rattle.depot_rows.specs.db_records.declared.record.Record.{Record}
 use Rattle.row_ranges.specs.Ranges.{has_row, range_table}
 use Rattle.row_ranges.specs.declared.range.KeyRange.{KeyRange}
-use Rattle.table_changes.specs.Changed.{rows_of}
-use Rattle.depot_model.specs.Records.{working_record}
-use Rattle.depot_model.specs.Steps.Opening.{is_exclusive}
+use Rattle.depot_rows.specs.table_changes.Changed.{rows_of}
+use Rattle.depot_rows.specs.depot_model.Records.{working_record}
+use Rattle.depot_rows.specs.depot_model.Steps.Opening.{is_exclusive}
 use Rattle.file_openings.specs.Barring.{barring_in}
 use Rattle.file_openings.specs.Openings.{openings}
 use Rattle.file_openings.proofs.FirstBars.{first_bars}

@@ -1,8 +1,8 @@
 use Rattle.std.proofs.Common.{Bool, sym, ap, ◌∙◌}
 use Rattle.std.specs.Prelude.{if◌then◌else◌}
 use Rattle.std.specs.List.{list_any}
-use Rattle.table_changes.specs.Changed.{rows_of}
-use Rattle.depot_model.specs.Step.{after, nothing}
+use Rattle.depot_rows.specs.table_changes.Changed.{rows_of}
+use Rattle.depot_rows.specs.depot_model.Step.{after, nothing}
 use Rattle.file_steps.proofs.Going.{file_done, goes_nowhere}
 use Rattle.file_steps.proofs.loops.add_file.Goals as goal
 

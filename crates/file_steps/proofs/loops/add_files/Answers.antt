@@ -1,10 +1,10 @@
 use Rattle.std.proofs.Common.{ℕ, List, ◌-◌, length, take, drop, ap, subst, ◌∙◌}
 use Rattle.std.specs.Prelude.{filter, not, if◌then◌else◌}
 use Rattle.std.specs.List.{list_any}
-use Rattle.table_changes.specs.Changed.{rows_of}
-use Rattle.depot_model.specs.declared.command.FileArgument.{FileArgument}
-use Rattle.depot_model.specs.Deeds.{Deed}
-use Rattle.depot_model.specs.Step.{Step as ModelStep, all_of, both, nothing}
+use Rattle.depot_rows.specs.table_changes.Changed.{rows_of}
+use Rattle.depot_rows.specs.depot_model.declared.command.FileArgument.{FileArgument}
+use Rattle.depot_rows.specs.depot_model.Deeds.{Deed}
+use Rattle.depot_rows.specs.depot_model.Step.{Step as ModelStep, all_of, both, nothing}
 use Rattle.file_steps.specs.Goes.{Goes}
 use Rattle.file_steps.proofs.Going.{files_next, parted}
 use Rattle.file_steps.proofs.loops.add_files.Goals as goal

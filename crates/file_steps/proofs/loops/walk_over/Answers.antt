@@ -1,8 +1,8 @@
 use Rattle.std.proofs.Common.{ℕ, List, take, refl, subst, ◌∙◌}
-use Rattle.table_changes.specs.Changed.{rows_of}
-use Rattle.depot_model.specs.Deeds.{Deed}
-use Rattle.depot_model.specs.Step.{Step as ModelStep, both, nothing, tells}
-use Rattle.depot_model.specs.declared.command.FileArgument.{FileArgument}
+use Rattle.depot_rows.specs.table_changes.Changed.{rows_of}
+use Rattle.depot_rows.specs.depot_model.Deeds.{Deed}
+use Rattle.depot_rows.specs.depot_model.Step.{Step as ModelStep, both, nothing, tells}
+use Rattle.depot_rows.specs.depot_model.declared.command.FileArgument.{FileArgument}
 use Rattle.file_steps.specs.Goes.{Goes}
 use Rattle.file_steps.proofs.Going.{done_for, goes_from, over_on}
 use Rattle.file_steps.proofs.loops.walk_over.Goals as goal

@@ -1,9 +1,9 @@
 use Rattle.std.proofs.Common.{◌≡◌, List, [], take, drop}
 use Rattle.std.specs.Prelude.{filter, flat_map}
-use Rattle.table_changes.specs.Changed.{rows_of}
-use Rattle.depot_model.specs.Arguments.{over}
-use Rattle.depot_model.specs.Deeds.{Deed}
-use Rattle.depot_model.specs.Step.{Step as ModelStep, both, tells}
+use Rattle.depot_rows.specs.table_changes.Changed.{rows_of}
+use Rattle.depot_rows.specs.depot_model.Arguments.{over}
+use Rattle.depot_rows.specs.depot_model.Deeds.{Deed}
+use Rattle.depot_rows.specs.depot_model.Step.{Step as ModelStep, both, tells}
 use Rattle.file_steps.specs.Goes.{Goes}
 use Rattle.file_steps.proofs.loops.walk_over.Given as goal
 

@@ -1,7 +1,7 @@
 use Rattle.std.proofs.Common.{◌≡◌, [], ap, subst, ◌∙◌}
-use Rattle.depot_model.specs.Arguments.{everything, not_in}
-use Rattle.depot_model.specs.Step.{Step as ModelStep, all_of, nothing}
-use Rattle.table_changes.specs.Changed.{rows_of}
+use Rattle.depot_rows.specs.depot_model.Arguments.{everything, not_in}
+use Rattle.depot_rows.specs.depot_model.Step.{Step as ModelStep, all_of, nothing}
+use Rattle.depot_rows.specs.table_changes.Changed.{rows_of}
 use Rattle.reply_rows.specs.Made.{IsMade}
 use Rattle.file_steps.proofs.Going.{everything_done, found, goes_from}
 use Rattle.file_steps.proofs.loops.walk_over_everything.Goals as goal

@@ -1,5 +1,5 @@
 use Rattle.std.proofs.Common.{◌≡◌, [], length}
-use Rattle.depot_model.specs.Sorted.{all_inserted}
+use Rattle.depot_rows.specs.depot_model.Sorted.{all_inserted}
 use Rattle.file_steps.proofs.paths.in_path_order.Given as goal
 
 abbrev pub invariant-loop-path : goal.invariant-loop-path

@@ -1,7 +1,7 @@
 use Rattle.std.proofs.Common.{◌≡◌, ℕ, List, [], true, false, sym, ap, subst, ◌∙◌, ◌++◌}
-use Rattle.depot_model.specs.Arguments.{is_in, not_in}
-use Rattle.depot_model.specs.Step.{Step as ModelStep, after, all_of, both, tells}
-use Rattle.table_changes.specs.Changed.{rows_of}
+use Rattle.depot_rows.specs.depot_model.Arguments.{is_in, not_in}
+use Rattle.depot_rows.specs.depot_model.Step.{Step as ModelStep, after, all_of, both, tells}
+use Rattle.depot_rows.specs.table_changes.Changed.{rows_of}
 use Rattle.file_steps.specs.Goes.{Goes}
 use Rattle.file_steps.proofs.Going.{each_of_none, each_of_some, turn_on}
 use Rattle.file_steps.proofs.Spelling.{alike_still}

@@ -1,7 +1,7 @@
 use Rattle.std.proofs.Common.{sym, ◌∙◌}
-use Rattle.table_changes.specs.Changed.{rows_of}
-use Rattle.depot_model.specs.Arguments.{is_in}
-use Rattle.depot_model.specs.Step.{after}
+use Rattle.depot_rows.specs.table_changes.Changed.{rows_of}
+use Rattle.depot_rows.specs.depot_model.Arguments.{is_in}
+use Rattle.depot_rows.specs.depot_model.Step.{after}
 use Rattle.file_steps.proofs.Going.{file_done}
 use Rattle.file_steps.proofs.spelled.add_file.Goals as goal
 

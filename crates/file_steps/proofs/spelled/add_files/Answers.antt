@@ -1,7 +1,7 @@
 use Rattle.std.proofs.Common.{ℕ, List, ◌-◌, length, take, drop, ap, ◌∙◌}
 use Rattle.std.specs.Prelude.{if◌then◌else◌}
-use Rattle.depot_model.specs.Arguments.{is_in, not_in}
-use Rattle.depot_model.specs.Step.{all_of, both, nothing}
+use Rattle.depot_rows.specs.depot_model.Arguments.{is_in, not_in}
+use Rattle.depot_rows.specs.depot_model.Step.{all_of, both, nothing}
 use Rattle.file_steps.proofs.Going.{parted}
 use Rattle.file_steps.proofs.Spelling.{taken_next}
 use Rattle.file_steps.proofs.spelled.add_files.Goals as goal

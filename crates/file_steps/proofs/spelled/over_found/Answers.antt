@@ -1,8 +1,8 @@
 use Rattle.std.proofs.Common.{◌≡◌, List, ℕ, [], ◌∷◌, ◌++◌, ◌-◌, length, take, drop, refl, ap, sym, ◌∙◌}
-use Rattle.table_changes.specs.Changed.{rows_of}
-use Rattle.depot_model.specs.Arguments.{is_in}
-use Rattle.depot_model.specs.Step.{both, nothing, tells}
-use Rattle.depot_model.specs.declared.command.FileArgument.{FileArgument}
+use Rattle.depot_rows.specs.table_changes.Changed.{rows_of}
+use Rattle.depot_rows.specs.depot_model.Arguments.{is_in}
+use Rattle.depot_rows.specs.depot_model.Step.{both, nothing, tells}
+use Rattle.depot_rows.specs.depot_model.declared.command.FileArgument.{FileArgument}
 use Rattle.file_steps.proofs.Going.{goes_from, parted}
 use Rattle.file_steps.proofs.Spelling.{alike_on, argument_on, done_after, first_spells, later_spell}
 use Rattle.file_steps.proofs.spelled.over_found.Goals as goal

@@ -1,10 +1,10 @@
 use Rattle.std.proofs.Common.{◌≡◌, ℕ, List, [], true, length}
 use Rattle.std.specs.List.{list_all}
-use Rattle.table_changes.specs.Changed.{rows_of}
-use Rattle.depot_model.specs.Arguments.{over}
-use Rattle.depot_model.specs.Deeds.{Deed}
-use Rattle.depot_model.specs.Step.{Step as ModelStep, both, tells}
-use Rattle.depot_model.specs.WellFormed.{spells_path}
+use Rattle.depot_rows.specs.table_changes.Changed.{rows_of}
+use Rattle.depot_rows.specs.depot_model.Arguments.{over}
+use Rattle.depot_rows.specs.depot_model.Deeds.{Deed}
+use Rattle.depot_rows.specs.depot_model.Step.{Step as ModelStep, both, tells}
+use Rattle.depot_rows.specs.depot_model.WellFormed.{spells_path}
 use Rattle.file_steps.specs.Goes.{Goes}
 use Rattle.file_steps.proofs.Spelling.{AreAlike}
 use Rattle.file_steps.proofs.spelled.over_found.Given as goal

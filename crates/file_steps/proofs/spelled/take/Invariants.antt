@@ -1,6 +1,6 @@
 use Rattle.std.proofs.Common.{◌≡◌, ◌++◌, ℕ, List, length}
 use Rattle.std.specs.Vec.Iter.{into_iter_items, into_iter_len}
-use Rattle.depot_model.specs.Arguments.{is_in}
+use Rattle.depot_rows.specs.depot_model.Arguments.{is_in}
 use Rattle.file_steps.proofs.spelled.take.Given as goal
 
 abbrev pub invariant-loop-path : goal.invariant-loop-path

@@ -1,5 +1,5 @@
-use Rattle.table_changes.specs.Changed.{rows_of}
-use Rattle.depot_model.specs.Step.{after}
+use Rattle.depot_rows.specs.table_changes.Changed.{rows_of}
+use Rattle.depot_rows.specs.depot_model.Step.{after}
 use Rattle.file_steps.proofs.Going.{turn_on}
 use Rattle.file_steps.proofs.turns.add_turn.Goals as goal
 

@@ -1,7 +1,7 @@
 use Rattle.std.proofs.Common.{ℕ, List, ◌-◌, length, take, drop, refl, ap, subst, ◌∙◌}
-use Rattle.table_changes.specs.Changed.{rows_of}
-use Rattle.depot_model.specs.Deeds.{Deed}
-use Rattle.depot_model.specs.Step.{Step as ModelStep, after, both, in_turn, nothing}
+use Rattle.depot_rows.specs.table_changes.Changed.{rows_of}
+use Rattle.depot_rows.specs.depot_model.Deeds.{Deed}
+use Rattle.depot_rows.specs.depot_model.Step.{Step as ModelStep, after, both, in_turn, nothing}
 use Rattle.file_steps.specs.Goes.{Goes}
 use Rattle.file_steps.proofs.Going.{goes_from, parted, turn_next}
 use Rattle.file_steps.proofs.turns.in_turn.Goals as goal

@@ -1,7 +1,7 @@
 use Rattle.std.proofs.Common.{◌≡◌, List, length}
-use Rattle.table_changes.specs.Changed.{rows_of}
-use Rattle.depot_model.specs.Deeds.{Deed}
-use Rattle.depot_model.specs.Step.{Step as ModelStep, after, both, in_turn}
+use Rattle.depot_rows.specs.table_changes.Changed.{rows_of}
+use Rattle.depot_rows.specs.depot_model.Deeds.{Deed}
+use Rattle.depot_rows.specs.depot_model.Step.{Step as ModelStep, after, both, in_turn}
 use Rattle.file_steps.specs.Goes.{Goes}
 use Rattle.file_steps.proofs.turns.in_turn.Given as goal
 

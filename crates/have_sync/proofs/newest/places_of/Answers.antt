@@ -1,10 +1,10 @@
 use Rattle.std.proofs.Common.{List, map, sym, ap, subst, ◌∙◌}
 use Rattle.std.specs.List.{All}
 use Rattle.std.proofs.lemmas.List.Elements.{All-nil}
-use Rattle.db_records.specs.declared.record.Record.{Record}
-use Rattle.db_records.specs.declared.table.TableId.TheVariants as tables
-use Rattle.table_changes.specs.Changed.{rows_of}
-use Rattle.table_store.specs.Rows.{TableRows}
+use Rattle.depot_rows.specs.db_records.declared.record.Record.{Record}
+use Rattle.depot_rows.specs.db_records.declared.table.TableId.TheVariants as tables
+use Rattle.depot_rows.specs.table_changes.Changed.{rows_of}
+use Rattle.depot_rows.specs.table_store.Rows.{TableRows}
 use Rattle.named_files.specs.HeadRows.{IsHead}
 use Rattle.have_sync.proofs.newest.places_of.Goals as goal
 

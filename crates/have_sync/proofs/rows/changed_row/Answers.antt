@@ -1,6 +1,6 @@
 use Rattle.std.proofs.Common.{Bool, None, sym, ap, ◌∙◌}
 use Rattle.std.specs.Prelude.{if◌then◌else◌}
-use Rattle.depot_model.specs.Steps.Syncing.{size_of, sync_row}
+use Rattle.depot_rows.specs.depot_model.Steps.Syncing.{size_of, sync_row}
 use Rattle.have_sync.proofs.Numbers.{apart_test, same_test}
 use Rattle.have_sync.proofs.rows.changed_row.Goals as goal
 

@@ -1,6 +1,6 @@
 use Rattle.std.proofs.Common.{List, None, ap, ◌∙◌}
-use Rattle.view_map.specs.Mapping.{path_in}
-use Rattle.view_map.specs.declared.line.ViewLine.{ViewLine}
+use Rattle.depot_rows.specs.view_map.Mapping.{path_in}
+use Rattle.depot_rows.specs.view_map.declared.line.ViewLine.{ViewLine}
 use Rattle.have_sync.specs.Syncing.{sync_row_of}
 use Rattle.have_sync.proofs.rows.gone_row.Goals as goal
 

@@ -1,10 +1,10 @@
 use Rattle.std.proofs.Common.{Bool, [], ◌∷◌, sym, ap, subst, ◌∙◌}
 use Rattle.std.specs.Prelude.{if◌then◌else◌}
-use Rattle.depot_path.specs.Path.{is_path}
-use Rattle.table_changes.specs.Changed.{rows_of}
-use Rattle.depot_model.specs.Deeds.{Got}
-use Rattle.depot_model.specs.Step.{does}
-use Rattle.depot_model.specs.Steps.Opening.{held}
+use Rattle.depot_rows.specs.depot_path.Path.{is_path}
+use Rattle.depot_rows.specs.table_changes.Changed.{rows_of}
+use Rattle.depot_rows.specs.depot_model.Deeds.{Got}
+use Rattle.depot_rows.specs.depot_model.Step.{does}
+use Rattle.depot_rows.specs.depot_model.Steps.Opening.{held}
 use Rattle.depot_rows.specs.declared.deed.Deed.TheVariants as dones
 use Rattle.reply_rows.specs.Made.{IsMade}
 use Rattle.reply_rows.proofs.Joined.{made_done, made_row}

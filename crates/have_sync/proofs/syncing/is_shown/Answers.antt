@@ -1,6 +1,6 @@
 use Rattle.std.proofs.Common.{ℕ, List, Option, ap, ◌∙◌}
 use Rattle.std.specs.Prelude.{is_some}
-use Rattle.table_changes.specs.Changed.{rows_of}
+use Rattle.depot_rows.specs.table_changes.Changed.{rows_of}
 use Rattle.named_files.specs.declared.listing.Listing.TheVariants.{Submitted}
 use Rattle.named_files.proofs.Wanting.{reads_wanted}
 use Rattle.have_sync.proofs.Synced.{shown_is}

@@ -1,9 +1,9 @@
 use Rattle.std.proofs.Common.{[], ◌∷◌, ◌+◌, refl, sym, ap, ◌∙◌}
 use Rattle.std.specs.Prelude.{codes}
-use Rattle.depot_path.specs.Path.{is_path}
-use Rattle.table_changes.specs.Changed.{rows_of}
-use Rattle.depot_model.specs.Deeds.{Owe}
-use Rattle.depot_model.specs.Steps.Syncing.{size_of, sync_row}
+use Rattle.depot_rows.specs.depot_path.Path.{is_path}
+use Rattle.depot_rows.specs.table_changes.Changed.{rows_of}
+use Rattle.depot_rows.specs.depot_model.Deeds.{Owe}
+use Rattle.depot_rows.specs.depot_model.Steps.Syncing.{size_of, sync_row}
 use Rattle.depot_rows.specs.declared.deed.Deed.TheVariants as dones
 use Rattle.reply_rows.proofs.Joined.{made_done}
 use Rattle.have_sync.proofs.Synced.{may_owe}

@@ -1,9 +1,9 @@
 use Rattle.std.proofs.Common.{ℕ, subst, sym, ap, ◌∙◌}
 use Rattle.std.specs.Prelude.{option_map}
 use Rattle.std.specs.Option.{option_copied}
-use Rattle.db_records.specs.declared.record.Record.TheVariants.{Working}
-use Rattle.table_changes.specs.Changed.{rows_of}
-use Rattle.depot_model.specs.Steps.Syncing.{sync_have}
+use Rattle.depot_rows.specs.db_records.declared.record.Record.TheVariants.{Working}
+use Rattle.depot_rows.specs.table_changes.Changed.{rows_of}
+use Rattle.depot_rows.specs.depot_model.Steps.Syncing.{sync_have}
 use Rattle.reply_rows.specs.Made.{IsMade}
 use Rattle.have_sync.proofs.Synced.{where_not, where_opened}
 use Rattle.have_sync.proofs.syncing.sync_at.Goals as goal

@@ -1,7 +1,7 @@
 use Rattle.std.proofs.Common.{ℕ, subst}
-use Rattle.table_changes.specs.Changed.{rows_of}
-use Rattle.depot_model.specs.Choice.{At}
-use Rattle.depot_model.specs.Steps.Syncing as model
+use Rattle.depot_rows.specs.table_changes.Changed.{rows_of}
+use Rattle.depot_rows.specs.depot_model.Choice.{At}
+use Rattle.depot_rows.specs.depot_model.Steps.Syncing as model
 use Rattle.reply_rows.specs.Made.{IsMade}
 use Rattle.have_sync.proofs.syncing.sync_newest.Goals as goal
 

@@ -1,6 +1,6 @@
 use Rattle.std.proofs.Common.{false, ap, ◌∙◌}
 use Rattle.std.specs.Option.{option_map_or}
-use Rattle.depot_model.specs.Latest.{spec}
+use Rattle.depot_rows.specs.depot_model.Latest.{spec}
 use Rattle.depot_rows.specs.Deed.{kind_of}
 use Rattle.held_changes.specs.Holding.{holds}
 use Rattle.held_changes.proofs.holding.is_held_under.Goals as goal

@@ -1,8 +1,8 @@
 use Rattle.std.proofs.Common.{ℕ, List, ap, ◌∙◌}
 use Rattle.std.specs.Prelude.{codes}
 use Rattle.std.specs.List.{list_any}
-use Rattle.depot_model.specs.Deeds.{ShelfForm}
-use Rattle.depot_model.specs.Latest.{keys_of, spec_name}
+use Rattle.depot_rows.specs.depot_model.Deeds.{ShelfForm}
+use Rattle.depot_rows.specs.depot_model.Latest.{keys_of, spec_name}
 use Rattle.held_changes.specs.Holding.{is_held}
 use Rattle.held_changes.proofs.Held.{shelved_held}
 use Rattle.held_changes.proofs.holding.is_shelved.Goals as goal

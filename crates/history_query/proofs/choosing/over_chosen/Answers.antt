@@ -1,9 +1,9 @@
 use Rattle.std.proofs.Common.{[], ◌∷◌, subst}
-use Rattle.table_changes.specs.Changed.{rows_of}
-use Rattle.depot_model.specs.declared.command.FileArgument.{FileArgument}
-use Rattle.depot_model.specs.declared.refusal.Refusal.TheVariants.{NoSuchFile}
-use Rattle.depot_model.specs.Refusals.{refusal_row}
-use Rattle.depot_model.specs.Step.{Step as ModelStep, tells}
+use Rattle.depot_rows.specs.table_changes.Changed.{rows_of}
+use Rattle.depot_rows.specs.depot_model.declared.command.FileArgument.{FileArgument}
+use Rattle.depot_rows.specs.depot_model.declared.refusal.Refusal.TheVariants.{NoSuchFile}
+use Rattle.depot_rows.specs.depot_model.Refusals.{refusal_row}
+use Rattle.depot_rows.specs.depot_model.Step.{Step as ModelStep, tells}
 use Rattle.reply_rows.specs.Made.{IsMade}
 use Rattle.named_files.proofs.Heads.{over_listed}
 use Rattle.history_query.proofs.choosing.over_chosen.Goals as goal

@@ -1,6 +1,6 @@
 use Rattle.std.proofs.Common.{Bool, List, [], ◌∷◌, ◌++◌, ap, ◌∙◌, map}
 use Rattle.std.specs.Prelude.{if◌then◌else◌}
-use Rattle.db_records.specs.declared.rows.IntegedRecord.{IntegedRecord}
+use Rattle.depot_rows.specs.db_records.declared.rows.IntegedRecord.{IntegedRecord}
 use Rattle.history_query.proofs.crediting.add_listed.Goals as goal
 
 pub returns : goal.returns

@@ -1,5 +1,5 @@
 use Rattle.std.proofs.Common.{List, Option, ◌++◌, ap, ◌∙◌, map}
-use Rattle.db_records.specs.declared.rows.IntegedRecord.{IntegedRecord}
+use Rattle.depot_rows.specs.db_records.declared.rows.IntegedRecord.{IntegedRecord}
 use Rattle.history_query.specs.Crediting.{listed_by}
 use Rattle.history_query.proofs.crediting.add_row.Goals as goal
 

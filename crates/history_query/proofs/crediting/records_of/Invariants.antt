@@ -1,7 +1,7 @@
 use Rattle.std.proofs.Common.{◌≡◌, ◌++◌, map}
 use Rattle.std.specs.Prelude.{filter}
 use Rattle.row_ranges.specs.Ranges.{has_row, range_table}
-use Rattle.table_changes.specs.Changed.{rows_of}
+use Rattle.depot_rows.specs.table_changes.Changed.{rows_of}
 use Rattle.history_query.specs.Crediting.{records_listed_in}
 use Rattle.history_query.proofs.crediting.records_of.Given as goal
 

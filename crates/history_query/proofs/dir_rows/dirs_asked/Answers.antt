@@ -1,8 +1,8 @@
 use Rattle.std.proofs.Common.{List, [], sym, ap, subst, ◌∙◌}
-use Rattle.table_changes.specs.Changed.{rows_of}
-use Rattle.depot_model.specs.declared.reply.Row.{Row}
-use Rattle.depot_model.specs.Step.{tells}
-use Rattle.depot_model.specs.Steps.History.{dirs_after}
+use Rattle.depot_rows.specs.table_changes.Changed.{rows_of}
+use Rattle.depot_rows.specs.depot_model.declared.reply.Row.{Row}
+use Rattle.depot_rows.specs.depot_model.Step.{tells}
+use Rattle.depot_rows.specs.depot_model.Steps.History.{dirs_after}
 use Rattle.reply_rows.specs.Made.{IsMade, told}
 use Rattle.reply_rows.specs.declared.step.Step.{Step}
 use Rattle.reply_rows.proofs.Bare.{tells_made}

@@ -1,6 +1,6 @@
 use Rattle.std.proofs.Common.{ℕ, List, ◌++◌, ◌-◌, length, take, drop, ap, ◌∙◌, append_assoc}
-use Rattle.depot_model.specs.declared.command.FileArgument.{FileArgument}
-use Rattle.depot_model.specs.declared.reply.Row.{Row}
+use Rattle.depot_rows.specs.depot_model.declared.command.FileArgument.{FileArgument}
+use Rattle.depot_rows.specs.depot_model.declared.reply.Row.{Row}
 use Rattle.history_query.specs.Directories.{missing_rows, new_rows, texts_of, told_after}
 use Rattle.history_query.proofs.Pushed.{parted}
 use Rattle.history_query.proofs.dir_rows.rows_for.Goals as goal

@@ -1,13 +1,13 @@
 use Rattle.std.proofs.Common.{◌≡◌, ℕ, Bool, Option, true, false, List, [], Some, None, sym, ap, ◌∙◌}
 use Rattle.std.specs.Prelude.{◌&&◌, flat_map, if◌then◌else◌}
 use Rattle.std.specs.Option.{option_to_list}
-use Rattle.depot_path.specs.Path.{is_path}
-use Rattle.depot_path.specs.declared.revision.Wanted.TheVariants.{Head}
-use Rattle.depot_model.specs.Arguments.{in_client_syntax}
-use Rattle.depot_model.specs.Asking.{may_list}
-use Rattle.depot_model.specs.Choice.{shown}
-use Rattle.depot_model.specs.Revisions.{is_live_head}
-use Rattle.depot_model.specs.Steps.History.{directories}
+use Rattle.depot_rows.specs.depot_path.Path.{is_path}
+use Rattle.depot_rows.specs.depot_path.declared.revision.Wanted.TheVariants.{Head}
+use Rattle.depot_rows.specs.depot_model.Arguments.{in_client_syntax}
+use Rattle.depot_rows.specs.depot_model.Asking.{may_list}
+use Rattle.depot_rows.specs.depot_model.Choice.{shown}
+use Rattle.depot_rows.specs.depot_model.Revisions.{is_live_head}
+use Rattle.depot_rows.specs.depot_model.Steps.History.{directories}
 use Rattle.history_query.specs.Directories.{all_fitting}
 use Rattle.history_query.proofs.Above.{begun_alone}
 use Rattle.history_query.proofs.directories.add_file.Goals as goal

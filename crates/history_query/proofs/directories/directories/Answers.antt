@@ -1,7 +1,7 @@
 use Rattle.std.proofs.Common.{ℕ, List, [], sym, ap, ◌∙◌}
 use Rattle.std.specs.Prelude.{flat_map}
-use Rattle.depot_model.specs.Arguments.{submitted}
-use Rattle.depot_model.specs.Steps.History.{directories as above, seen_paths}
+use Rattle.depot_rows.specs.depot_model.Arguments.{submitted}
+use Rattle.depot_rows.specs.depot_model.Steps.History.{directories as above, seen_paths}
 use Rattle.named_files.specs.Asked.{is_begun}
 use Rattle.history_query.specs.Directories.{all_fitting, directories_of}
 use Rattle.history_query.proofs.Above.{all_alone, begun_of, seen_directories, submitted_are_paths}

@@ -1,8 +1,8 @@
 use Rattle.std.proofs.Common.{◌≡◌, Bool, true, false, sym, ap, ◌∙◌}
 use Rattle.std.specs.Prelude.{◌&&◌}
-use Rattle.protect_table.specs.Rights.{may}
-use Rattle.depot_model.specs.Asking.{may_list}
-use Rattle.depot_model.specs.Revisions.{is_live_head}
+use Rattle.depot_rows.specs.protect_table.Rights.{may}
+use Rattle.depot_rows.specs.depot_model.Asking.{may_list}
+use Rattle.depot_rows.specs.depot_model.Revisions.{is_live_head}
 use Rattle.history_query.proofs.directories.is_seen.Goals as goal
 
 pub returns-then-not-may : goal.returns-then-not-may

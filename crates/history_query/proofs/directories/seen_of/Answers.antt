@@ -1,10 +1,10 @@
 use Rattle.std.proofs.Common.{◌≡◌, ℕ, Bool, true, false, List, Some, sym, ap, ◌∙◌}
 use Rattle.std.specs.Prelude.{if◌then◌else◌}
-use Rattle.view_map.specs.Mapping.{mapped}
-use Rattle.view_map.specs.declared.line.ViewLine.{ViewLine}
-use Rattle.depot_path.specs.declared.revision.Wanted.TheVariants.{Head}
-use Rattle.depot_model.specs.Arguments.{in_client_syntax}
-use Rattle.depot_model.specs.Choice.{shown}
+use Rattle.depot_rows.specs.view_map.Mapping.{mapped}
+use Rattle.depot_rows.specs.view_map.declared.line.ViewLine.{ViewLine}
+use Rattle.depot_rows.specs.depot_path.declared.revision.Wanted.TheVariants.{Head}
+use Rattle.depot_rows.specs.depot_model.Arguments.{in_client_syntax}
+use Rattle.depot_rows.specs.depot_model.Choice.{shown}
 use Rattle.revision_reads.specs.Shown.{shown_in}
 use Rattle.history_query.proofs.Above.{shown_mapped}
 use Rattle.history_query.proofs.directories.seen_of.Goals as goal

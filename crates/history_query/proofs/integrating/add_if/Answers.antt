@@ -1,7 +1,7 @@
 use Rattle.std.proofs.Common.{Bool, List, [], ◌∷◌, ◌++◌, sym, ap, ◌∙◌}
 use Rattle.std.specs.Prelude.{if◌then◌else◌}
-use Rattle.depot_model.specs.declared.reply.Row.{Row}
-use Rattle.depot_model.specs.Steps.History.{integrated_row}
+use Rattle.depot_rows.specs.depot_model.declared.reply.Row.{Row}
+use Rattle.depot_rows.specs.depot_model.Steps.History.{integrated_row}
 use Rattle.history_query.proofs.integrating.add_if.Goals as goal
 
 pub returns-in_ok-push : goal.returns-in_ok-push

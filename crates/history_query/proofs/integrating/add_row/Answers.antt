@@ -1,6 +1,6 @@
 use Rattle.std.proofs.Common.{List, Option, ◌++◌, ap, ◌∙◌}
-use Rattle.db_records.specs.declared.rows.IntegedRecord.{IntegedRecord}
-use Rattle.depot_model.specs.declared.reply.Row.{Row}
+use Rattle.depot_rows.specs.db_records.declared.rows.IntegedRecord.{IntegedRecord}
+use Rattle.depot_rows.specs.depot_model.declared.reply.Row.{Row}
 use Rattle.history_query.specs.Crediting.{told_by}
 use Rattle.history_query.proofs.integrating.add_row.Goals as goal
 

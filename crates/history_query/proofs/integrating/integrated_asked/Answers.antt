@@ -1,8 +1,8 @@
 use Rattle.std.proofs.Common.{subst, map}
-use Rattle.table_changes.specs.Changed.{rows_of}
-use Rattle.depot_model.specs.Arguments.{no_file, submitted}
-use Rattle.depot_model.specs.Step.{Step as ModelStep, tells}
-use Rattle.depot_model.specs.Steps.History.{integrated_row, records_of}
+use Rattle.depot_rows.specs.table_changes.Changed.{rows_of}
+use Rattle.depot_rows.specs.depot_model.Arguments.{no_file, submitted}
+use Rattle.depot_rows.specs.depot_model.Step.{Step as ModelStep, tells}
+use Rattle.depot_rows.specs.depot_model.Steps.History.{integrated_row, records_of}
 use Rattle.reply_rows.specs.Made.{IsMade}
 use Rattle.named_files.proofs.Heads.{over_heads}
 use Rattle.history_query.proofs.integrating.integrated_asked.Goals as goal

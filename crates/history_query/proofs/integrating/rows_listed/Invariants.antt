@@ -1,7 +1,7 @@
 use Rattle.std.proofs.Common.{◌≡◌, ◌++◌}
 use Rattle.std.specs.Prelude.{filter}
 use Rattle.row_ranges.specs.Ranges.{has_row, range_table}
-use Rattle.table_changes.specs.Changed.{rows_of}
+use Rattle.depot_rows.specs.table_changes.Changed.{rows_of}
 use Rattle.history_query.specs.Crediting.{rows_told_in}
 use Rattle.history_query.proofs.integrating.rows_listed.Given as goal
 

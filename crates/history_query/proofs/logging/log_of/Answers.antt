@@ -1,8 +1,8 @@
 use Rattle.std.proofs.Common.{List, [], ◌∷◌, ◌++◌, ap, ◌∙◌, map}
 use Rattle.std.specs.Prelude.{codes}
-use Rattle.db_records.specs.declared.record.Record.{Record}
-use Rattle.depot_model.specs.declared.reply.Field.{Field}
-use Rattle.depot_model.specs.Rows.{path_field, row}
+use Rattle.depot_rows.specs.db_records.declared.record.Record.{Record}
+use Rattle.depot_rows.specs.depot_model.declared.reply.Field.{Field}
+use Rattle.depot_rows.specs.depot_model.Rows.{path_field, row}
 use Rattle.revision_reads.specs.History.{seen}
 use Rattle.history_query.specs.Logging.{log_row, logged_from}
 use Rattle.history_query.proofs.logging.log_of.Goals as goal

@@ -1,7 +1,7 @@
 use Rattle.std.proofs.Common.{Bor, List, ◌++◌, ◌+◌, ◌-◌, length, take, drop, map, append_assoc, ap, ◌∙◌}
 use Rattle.std.specs.Prelude.{decimal}
-use Rattle.db_records.specs.declared.rows.RevRecord.{RevRecord}
-use Rattle.depot_model.specs.declared.reply.Field.{Field}
+use Rattle.depot_rows.specs.db_records.declared.rows.RevRecord.{RevRecord}
+use Rattle.depot_rows.specs.depot_model.declared.reply.Field.{Field}
 use Rattle.revision_reads.specs.History.{seen}
 use Rattle.history_query.specs.Logging.{logged, logged_from}
 use Rattle.history_query.proofs.Pushed.{parted, parted_count}

@@ -1,7 +1,7 @@
 use Rattle.std.proofs.Common.{List, ◌∷◌, [], ◌++◌, ap, ◌∙◌, append_assoc, map}
 use Rattle.std.specs.Prelude.{codes}
-use Rattle.depot_model.specs.Rows.{text_field}
-use Rattle.depot_model.specs.declared.reply.Field.{Field}
+use Rattle.depot_rows.specs.depot_model.Rows.{text_field}
+use Rattle.depot_rows.specs.depot_model.declared.reply.Field.{Field}
 use Rattle.history_query.specs.Logging.{credit_fields, digest_fields, into_revision, revision_fields, size_fields}
 use Rattle.history_query.proofs.Pushed.{joined_on}
 use Rattle.history_query.proofs.logging.with_log.Goals as goal

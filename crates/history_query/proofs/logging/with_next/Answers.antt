@@ -1,5 +1,5 @@
 use Rattle.std.proofs.Common.{List, ◌++◌, ◌∙◌, map}
-use Rattle.depot_model.specs.declared.reply.Field.{Field}
+use Rattle.depot_rows.specs.depot_model.declared.reply.Field.{Field}
 use Rattle.history_query.specs.Logging.{fields_by}
 use Rattle.history_query.proofs.logging.with_next.Goals as goal
 

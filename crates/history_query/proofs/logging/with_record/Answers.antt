@@ -1,7 +1,7 @@
 use Rattle.std.proofs.Common.{List, ◌∷◌, [], ◌++◌, ◌∙◌}
 use Rattle.std.specs.Prelude.{codes}
-use Rattle.depot_model.specs.Rows.{number_field, text_field}
-use Rattle.depot_model.specs.declared.reply.Field.{Field}
+use Rattle.depot_rows.specs.depot_model.Rows.{number_field, text_field}
+use Rattle.depot_rows.specs.depot_model.declared.reply.Field.{Field}
 use Rattle.history_query.proofs.Pushed.{joined_on}
 use Rattle.history_query.proofs.logging.with_record.Goals as goal
 

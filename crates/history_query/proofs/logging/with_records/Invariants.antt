@@ -1,7 +1,7 @@
 use Rattle.std.proofs.Common.{◌≡◌, ◌++◌, ◌+◌, length, map}
 use Rattle.std.specs.Prelude.{flat_map}
 use Rattle.std.specs.List.{enumerate_from}
-use Rattle.depot_model.specs.Steps.History.{record_fields}
+use Rattle.depot_rows.specs.depot_model.Steps.History.{record_fields}
 use Rattle.history_query.specs.Logging.{credit_fields}
 use Rattle.history_query.proofs.logging.with_records.Given as goal
 

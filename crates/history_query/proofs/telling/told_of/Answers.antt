@@ -1,7 +1,7 @@
 use Rattle.std.proofs.Common.{sym, ap, ◌∙◌}
-use Rattle.depot_path.specs.Path.{is_path}
-use Rattle.table_changes.specs.Changed.{rows_of}
-use Rattle.depot_model.specs.Choice.{chosen}
+use Rattle.depot_rows.specs.depot_path.Path.{is_path}
+use Rattle.depot_rows.specs.table_changes.Changed.{rows_of}
+use Rattle.depot_rows.specs.depot_model.Choice.{chosen}
 use Rattle.revision_reads.proofs.Wanting.{wanted_had}
 use Rattle.history_query.specs.Telling.{with_landed}
 use Rattle.history_query.proofs.Told.{landed_with}

@@ -1,10 +1,10 @@
 use Rattle.std.proofs.Common.{ℕ, List, sym, ap, ◌∙◌}
 use Rattle.std.specs.Prelude.{filter}
 use Rattle.std.specs.List.{list_any}
-use Rattle.depot_path.specs.Path.{is_path, printed}
+use Rattle.depot_rows.specs.depot_path.Path.{is_path, printed}
 use Rattle.row_ranges.specs.Ranges.{has_row, range_table}
 use Rattle.row_ranges.specs.declared.range.KeyRange.{KeyRange}
-use Rattle.table_changes.specs.Changed.{rows_of}
+use Rattle.depot_rows.specs.table_changes.Changed.{rows_of}
 use Rattle.integ_records.specs.Crediting.{is_within, span_of_rows}
 use Rattle.integ_records.proofs.crediting.credits_of.Goals as goal
 

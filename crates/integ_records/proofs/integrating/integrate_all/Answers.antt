@@ -1,8 +1,8 @@
 use Rattle.std.proofs.Common.{◌≡◌, List, ℕ, [], true, false, length, sym, ap, subst, ◌∙◌}
 use Rattle.std.specs.Prelude.{◌==◌}
-use Rattle.table_changes.specs.Changed.{rows_of}
-use Rattle.depot_model.specs.Step.{Step as ModelStep}
-use Rattle.depot_model.specs.Steps.Integrating.{integrate_all}
+use Rattle.depot_rows.specs.table_changes.Changed.{rows_of}
+use Rattle.depot_rows.specs.depot_model.Step.{Step as ModelStep}
+use Rattle.depot_rows.specs.depot_model.Steps.Integrating.{integrate_all}
 use Rattle.reply_rows.specs.Made.{IsMade}
 use Rattle.integ_records.proofs.Integrated.{no_paths, some_integrated}
 use Rattle.integ_records.proofs.integrating.integrate_all.Goals as goal

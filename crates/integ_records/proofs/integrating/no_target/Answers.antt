@@ -1,7 +1,7 @@
 use Rattle.std.proofs.Common.{ℕ, List, ap, ◌∙◌}
-use Rattle.depot_path.specs.Path.{printed}
-use Rattle.depot_model.specs.declared.refusal.Refusal.TheVariants.{NotInView}
-use Rattle.depot_model.specs.Refusals.{refusal_row}
+use Rattle.depot_rows.specs.depot_path.Path.{printed}
+use Rattle.depot_rows.specs.depot_model.declared.refusal.Refusal.TheVariants.{NotInView}
+use Rattle.depot_rows.specs.depot_model.Refusals.{refusal_row}
 use Rattle.reply_rows.proofs.Joined.{made_refusal}
 use Rattle.integ_records.proofs.integrating.no_target.Goals as goal
 

@@ -1,5 +1,5 @@
 use Rattle.std.proofs.Common.{ℕ, List, Some, subst}
-use Rattle.depot_model.specs.Deeds.{Branch, BranchFrom}
+use Rattle.depot_rows.specs.depot_model.Deeds.{Branch, BranchFrom}
 use Rattle.reply_rows.specs.Made.{IsMade}
 use Rattle.integ_records.specs.Ways.{paid_step}
 use Rattle.integ_records.proofs.opened_targets.branch.Goals as goal

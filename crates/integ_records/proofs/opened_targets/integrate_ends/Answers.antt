@@ -1,5 +1,5 @@
 use Rattle.std.proofs.Common.{Option, sym, subst}
-use Rattle.table_changes.specs.Changed.{rows_of}
+use Rattle.depot_rows.specs.table_changes.Changed.{rows_of}
 use Rattle.reply_rows.specs.Made.{IsMade}
 use Rattle.integ_records.specs.Ways.{by_ends}
 use Rattle.integ_records.specs.declared.crediting.Span.{Span}

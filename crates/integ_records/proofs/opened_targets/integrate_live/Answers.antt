@@ -1,9 +1,9 @@
 use Rattle.std.proofs.Common.{[], ◌∷◌, None, refl, sym, ap, ◌∙◌}
-use Rattle.depot_path.specs.Path.{is_path}
-use Rattle.depot_model.specs.Deeds.{Got, Integrate, Open, Owe}
-use Rattle.depot_model.specs.Revisions.{head}
-use Rattle.depot_model.specs.Steps.Integrating.{integrate_row, opening, owing}
-use Rattle.depot_model.specs.Steps.Opening.{held}
+use Rattle.depot_rows.specs.depot_path.Path.{is_path}
+use Rattle.depot_rows.specs.depot_model.Deeds.{Got, Integrate, Open, Owe}
+use Rattle.depot_rows.specs.depot_model.Revisions.{head}
+use Rattle.depot_rows.specs.depot_model.Steps.Integrating.{integrate_row, opening, owing}
+use Rattle.depot_rows.specs.depot_model.Steps.Opening.{held}
 use Rattle.depot_rows.specs.declared.deed.Deed.TheVariants as dones
 use Rattle.reply_rows.proofs.Joined.{made_done}
 use Rattle.integ_records.proofs.Opening.{may_get}

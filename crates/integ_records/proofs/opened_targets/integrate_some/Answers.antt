@@ -1,6 +1,6 @@
 use Rattle.std.proofs.Common.{◌≡◌, Option, Some, None, sym, subst, ◌∙◌}
-use Rattle.table_changes.specs.Changed.{rows_of}
-use Rattle.depot_model.specs.Revisions.{is_live_at, is_live_head}
+use Rattle.depot_rows.specs.table_changes.Changed.{rows_of}
+use Rattle.depot_rows.specs.depot_model.Revisions.{is_live_at, is_live_head}
 use Rattle.reply_rows.specs.Made.{IsMade}
 use Rattle.integ_records.specs.Ways.{by_way, way_in}
 use Rattle.integ_records.specs.declared.opened_targets.Way.{Way}

@@ -1,7 +1,7 @@
 use Rattle.std.proofs.Common.{ℕ, Bool, sym, ap, ◌∙◌}
 use Rattle.std.specs.Prelude.{if◌then◌else◌}
-use Rattle.depot_model.specs.Revisions.{head}
-use Rattle.depot_model.specs.Steps.Integrating.{type_at}
+use Rattle.depot_rows.specs.depot_model.Revisions.{head}
+use Rattle.depot_rows.specs.depot_model.Steps.Integrating.{type_at}
 use Rattle.integ_records.proofs.opened_targets.new_type.Goals as goal
 
 pub returns-then-live : goal.returns-then-live

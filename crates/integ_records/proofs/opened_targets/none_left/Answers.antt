@@ -1,4 +1,4 @@
-use Rattle.depot_model.specs.declared.refusal.Refusal.TheVariants.{AllIntegrated}
+use Rattle.depot_rows.specs.depot_model.declared.refusal.Refusal.TheVariants.{AllIntegrated}
 use Rattle.reply_rows.proofs.Joined.{made_refusal}
 use Rattle.integ_records.proofs.opened_targets.none_left.Goals as goal
 

@@ -1,5 +1,5 @@
 use Rattle.std.proofs.Common.{◌∙◌}
-use Rattle.depot_model.specs.Revisions.{revision}
+use Rattle.depot_rows.specs.depot_model.Revisions.{revision}
 use Rattle.opened_files.proofs.Opens.{type_told}
 use Rattle.integ_records.proofs.opened_targets.type_at.Goals as goal
 

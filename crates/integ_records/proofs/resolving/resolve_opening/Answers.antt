@@ -1,6 +1,6 @@
 use Rattle.std.proofs.Common.{List, Some, None, map, ap, subst, ◌∙◌}
-use Rattle.table_changes.specs.Changed.{rows_of}
-use Rattle.depot_model.specs.Deeds.{Opening, Owing}
+use Rattle.depot_rows.specs.table_changes.Changed.{rows_of}
+use Rattle.depot_rows.specs.depot_model.Deeds.{Opening, Owing}
 use Rattle.depot_rows.specs.Deed.{opening_of, owing_of}
 use Rattle.depot_rows.specs.declared.deed.Opening.{Opening as OpeningSaid}
 use Rattle.depot_rows.specs.declared.deed.Owing.{Owing as OwingSaid}

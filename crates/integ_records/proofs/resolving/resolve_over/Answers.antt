@@ -1,11 +1,11 @@
 use Rattle.std.proofs.Common.{List, ℕ, subst, sym}
 use Rattle.std.specs.Prelude.{false, filter}
-use Rattle.table_changes.specs.Changed.{rows_of}
-use Rattle.depot_model.specs.declared.command.FileArgument.{FileArgument}
-use Rattle.depot_model.specs.Arguments.{names, opened_by, over_all}
-use Rattle.depot_model.specs.Step.{Step as ModelStep, tells}
-use Rattle.depot_model.specs.Steps.Resolving.{resolve_file}
-use Rattle.depot_model.specs.Steps.Reverting.{not_open}
+use Rattle.depot_rows.specs.table_changes.Changed.{rows_of}
+use Rattle.depot_rows.specs.depot_model.declared.command.FileArgument.{FileArgument}
+use Rattle.depot_rows.specs.depot_model.Arguments.{names, opened_by, over_all}
+use Rattle.depot_rows.specs.depot_model.Step.{Step as ModelStep, tells}
+use Rattle.depot_rows.specs.depot_model.Steps.Resolving.{resolve_file}
+use Rattle.depot_rows.specs.depot_model.Steps.Reverting.{not_open}
 use Rattle.depot_rows.specs.Standing.{HasRows}
 use Rattle.reply_rows.specs.Made.{IsMade}
 use Rattle.named_files.specs.Listed.{files_of, listing_table}

@@ -1,8 +1,8 @@
 use Rattle.std.proofs.Common.{◌≡◌, ◌∷◌, [], Bool, true, false, sym, subst, ◌∙◌}
 use Rattle.std.specs.Prelude.{Some, if◌then◌else◌}
-use Rattle.depot_path.specs.Bytes.{same}
-use Rattle.depot_model.specs.Revisions.{is_live_at}
-use Rattle.depot_model.specs.Steps.Resolving.{other_deeds, own_deeds, paid}
+use Rattle.depot_rows.specs.depot_path.Bytes.{same}
+use Rattle.depot_rows.specs.depot_model.Revisions.{is_live_at}
+use Rattle.depot_rows.specs.depot_model.Steps.Resolving.{other_deeds, own_deeds, paid}
 use Rattle.depot_rows.specs.Deed.{opening_of, owing_of}
 use Rattle.integ_records.specs.Turns.{IsTurned, left_other, left_own}
 use Rattle.integ_records.proofs.Adding.{adds_more}

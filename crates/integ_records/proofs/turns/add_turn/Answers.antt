@@ -1,6 +1,6 @@
 use Rattle.std.proofs.Common.{List, subst, refl}
-use Rattle.table_changes.specs.Changed.{rows_of}
-use Rattle.depot_model.specs.Steps.Resolving.{how_of, resolve_one, resolve_row}
+use Rattle.depot_rows.specs.table_changes.Changed.{rows_of}
+use Rattle.depot_rows.specs.depot_model.Steps.Resolving.{how_of, resolve_one, resolve_row}
 use Rattle.depot_rows.specs.Deed.{opening_of, owing_of}
 use Rattle.depot_rows.specs.declared.deed.Deed.{Deed as Done}
 use Rattle.integ_records.specs.Turns.{Adds}

@@ -1,7 +1,7 @@
 use Rattle.std.proofs.Common.{Some, sym, ap, ◌∙◌}
-use Rattle.depot_path.specs.Path.{is_path}
-use Rattle.depot_model.specs.Deeds.{Shut}
-use Rattle.depot_model.specs.Steps.Resolving.{held_of as own_file}
+use Rattle.depot_rows.specs.depot_path.Path.{is_path}
+use Rattle.depot_rows.specs.depot_model.Deeds.{Shut}
+use Rattle.depot_rows.specs.depot_model.Steps.Resolving.{held_of as own_file}
 use Rattle.depot_rows.specs.Deed.{held_of, owing_of}
 use Rattle.depot_rows.specs.declared.deed.Deed.TheVariants as dones
 use Rattle.depot_rows.specs.declared.deed.Held.{Held}

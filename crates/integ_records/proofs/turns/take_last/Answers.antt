@@ -1,6 +1,6 @@
 use Rattle.std.proofs.Common.{◌∷◌, [], subst}
-use Rattle.depot_model.specs.Deeds.{Got, Open}
-use Rattle.depot_model.specs.Steps.Resolving.{held_of}
+use Rattle.depot_rows.specs.depot_model.Deeds.{Got, Open}
+use Rattle.depot_rows.specs.depot_model.Steps.Resolving.{held_of}
 use Rattle.depot_rows.specs.Deed.{opening_of, owing_of}
 use Rattle.depot_rows.specs.declared.deed.Opening.{Opening}
 use Rattle.integ_records.specs.Turns.{Adds}

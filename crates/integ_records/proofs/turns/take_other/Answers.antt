@@ -1,7 +1,7 @@
 use Rattle.std.proofs.Common.{◌∷◌, [], Some, true, refl, sym, ap, subst, ◌∙◌}
-use Rattle.depot_model.specs.Deeds.{Open}
-use Rattle.depot_model.specs.Steps.Resolving.{other_deeds}
-use Rattle.depot_model.specs.declared.command.Taking.{Taking}
+use Rattle.depot_rows.specs.depot_model.Deeds.{Open}
+use Rattle.depot_rows.specs.depot_model.Steps.Resolving.{other_deeds}
+use Rattle.depot_rows.specs.depot_model.declared.command.Taking.{Taking}
 use Rattle.depot_rows.specs.Deed.{opening_of, owing_of}
 use Rattle.depot_rows.specs.declared.deed.Opening.{Opening}
 use Rattle.depot_rows.specs.declared.deed.Source.{Source}

@@ -1,7 +1,7 @@
 use Rattle.std.proofs.Common.{Some, true, sym, ap, subst}
-use Rattle.depot_model.specs.Revisions.{is_live_at}
-use Rattle.depot_model.specs.Steps.Resolving.{own_deeds}
-use Rattle.depot_model.specs.declared.command.Taking.{Taking}
+use Rattle.depot_rows.specs.depot_model.Revisions.{is_live_at}
+use Rattle.depot_rows.specs.depot_model.Steps.Resolving.{own_deeds}
+use Rattle.depot_rows.specs.depot_model.declared.command.Taking.{Taking}
 use Rattle.depot_rows.specs.Deed.{opening_of, owing_of}
 use Rattle.depot_rows.specs.declared.deed.Opening.{Opening}
 use Rattle.integ_records.specs.Turns.{IsTurned, left_own}

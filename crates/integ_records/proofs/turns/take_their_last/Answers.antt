@@ -1,8 +1,8 @@
 use Rattle.std.proofs.Common.{◌≡◌, ◌∷◌, [], Bool, true, false, Some, refl, sym, ap, subst, ◌∙◌}
-use Rattle.depot_model.specs.Deeds.{Got, Open, Shut}
-use Rattle.depot_model.specs.Revisions.{is_live_at}
-use Rattle.depot_model.specs.Steps.Resolving.{held_of}
-use Rattle.depot_model.specs.declared.command.Taking.TheVariants.{Theirs}
+use Rattle.depot_rows.specs.depot_model.Deeds.{Got, Open, Shut}
+use Rattle.depot_rows.specs.depot_model.Revisions.{is_live_at}
+use Rattle.depot_rows.specs.depot_model.Steps.Resolving.{held_of}
+use Rattle.depot_rows.specs.depot_model.declared.command.Taking.TheVariants.{Theirs}
 use Rattle.depot_rows.specs.Deed.{opening_of, owing_of}
 use Rattle.depot_rows.specs.declared.deed.Opening.{Opening}
 use Rattle.depot_rows.specs.declared.deed.Source.{Source}

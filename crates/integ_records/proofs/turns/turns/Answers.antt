@@ -1,9 +1,9 @@
 use Rattle.std.proofs.Common.{◌-◌, [], Bool, List, length, take, drop, refl, sym, ap, subst, ◌∙◌}
 use Rattle.std.specs.Prelude.{Some, map}
-use Rattle.table_changes.specs.Changed.{rows_of}
-use Rattle.depot_model.specs.Latest.{when}
-use Rattle.depot_model.specs.Step.{Step as ModelStep, both, nothing}
-use Rattle.depot_model.specs.Steps.Resolving.{resolve_one}
+use Rattle.depot_rows.specs.table_changes.Changed.{rows_of}
+use Rattle.depot_rows.specs.depot_model.Latest.{when}
+use Rattle.depot_rows.specs.depot_model.Step.{Step as ModelStep, both, nothing}
+use Rattle.depot_rows.specs.depot_model.Steps.Resolving.{resolve_one}
 use Rattle.depot_rows.specs.Deed.{opening_of, owing_of}
 use Rattle.depot_rows.specs.declared.deed.Owing.{Owing}
 use Rattle.reply_rows.specs.Made.{IsMade}

@@ -1,6 +1,6 @@
 use Rattle.std.proofs.Common.{sym, ap, ◌∙◌}
-use Rattle.depot_model.specs.Deeds.{FixForm}
-use Rattle.depot_model.specs.Latest.{spec}
+use Rattle.depot_rows.specs.depot_model.Deeds.{FixForm}
+use Rattle.depot_rows.specs.depot_model.Latest.{spec}
 use Rattle.job_ops.specs.Fixes.{is_asked}
 use Rattle.job_ops.proofs.FixRows.{kept_in, left_out}
 use Rattle.job_ops.proofs.fixes.add_fix.Goals as goal

@@ -1,7 +1,7 @@
 use Rattle.std.proofs.Common.{ℕ, List, sym, subst, ◌∙◌}
-use Rattle.table_changes.specs.Changed.{rows_of}
-use Rattle.depot_model.specs.Step.{all_of}
-use Rattle.depot_model.specs.Steps.Jobs.{distinct, fix_job}
+use Rattle.depot_rows.specs.table_changes.Changed.{rows_of}
+use Rattle.depot_rows.specs.depot_model.Step.{all_of}
+use Rattle.depot_rows.specs.depot_model.Steps.Jobs.{distinct, fix_job}
 use Rattle.reply_rows.specs.Made.{IsMade}
 use Rattle.command_parts.proofs.Refused.{granted_made, refused_made}
 use Rattle.job_ops.specs.Refusals.{fix_refusals}

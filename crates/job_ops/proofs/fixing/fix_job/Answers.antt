@@ -1,7 +1,7 @@
 use Rattle.std.proofs.Common.{ℕ, List, [], ◌∷◌, ◌++◌, ap, ◌∙◌}
 use Rattle.std.specs.Prelude.{codes}
-use Rattle.table_changes.specs.Changed.{rows_of}
-use Rattle.depot_model.specs.Fixes.{fix_form}
+use Rattle.depot_rows.specs.table_changes.Changed.{rows_of}
+use Rattle.depot_rows.specs.depot_model.Fixes.{fix_form}
 use Rattle.depot_rows.specs.declared.deed.Deed.TheVariants.{Spec}
 use Rattle.depot_rows.specs.declared.deed.SpecKind.TheVariants.{Fix}
 use Rattle.reply_rows.specs.declared.step.Step.{Step}

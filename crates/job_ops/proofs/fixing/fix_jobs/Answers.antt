@@ -1,8 +1,8 @@
 use Rattle.std.proofs.Common.{ℕ, List, take, sym, ap, subst}
 use Rattle.std.proofs.lemmas.List.{take_all}
-use Rattle.table_changes.specs.Changed.{rows_of}
-use Rattle.depot_model.specs.Step.{after, all_of}
-use Rattle.depot_model.specs.Steps.Jobs.{fix_job}
+use Rattle.depot_rows.specs.table_changes.Changed.{rows_of}
+use Rattle.depot_rows.specs.depot_model.Step.{after, all_of}
+use Rattle.depot_rows.specs.depot_model.Steps.Jobs.{fix_job}
 use Rattle.reply_rows.specs.Made.{IsMade}
 use Rattle.job_ops.proofs.Stepping.{front, no_step, step_more}
 use Rattle.job_ops.proofs.fixing.fix_jobs.Goals as goal

@@ -1,8 +1,8 @@
 use Rattle.std.proofs.Common.{ℕ, List, ap, sym, subst, ◌∙◌}
 use Rattle.std.specs.Prelude.{filter_map, map}
-use Rattle.table_changes.specs.Changed.{rows_of}
-use Rattle.depot_model.specs.Fixes.{job}
-use Rattle.depot_model.specs.Steps.Jobs.{job_row, jobs}
+use Rattle.depot_rows.specs.table_changes.Changed.{rows_of}
+use Rattle.depot_rows.specs.depot_model.Fixes.{job}
+use Rattle.depot_rows.specs.depot_model.Steps.Jobs.{job_row, jobs}
 use Rattle.reply_rows.specs.declared.step.Step.{Step}
 use Rattle.reply_rows.specs.Made.{IsMade}
 use Rattle.job_ops.proofs.JobRows.{jobs_made}

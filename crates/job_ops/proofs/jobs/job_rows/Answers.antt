@@ -1,8 +1,8 @@
 use Rattle.std.proofs.Common.{◌+◌, ℕ, List, ◌++◌, drop, ap, sym, ◌∙◌}
 use Rattle.std.specs.Prelude.{filter_map, map, option_map}
 use Rattle.std.specs.Option.{option_to_list}
-use Rattle.depot_model.specs.Fixes.{job}
-use Rattle.depot_model.specs.Steps.Jobs.{job_row}
+use Rattle.depot_rows.specs.depot_model.Fixes.{job}
+use Rattle.depot_rows.specs.depot_model.Steps.Jobs.{job_row}
 use Rattle.job_ops.proofs.JobRows.{row_more}
 use Rattle.job_ops.proofs.Stepping.{back}
 use Rattle.job_ops.proofs.jobs.job_rows.Goals as goal

@@ -1,9 +1,9 @@
 use Rattle.std.proofs.Common.{ℕ, List, [], ◌∷◌, ◌++◌, map, ap, ◌∙◌}
 use Rattle.std.specs.Prelude.{codes}
 use Rattle.std.specs.List.{join_with_byte}
-use Rattle.spec_form.specs.Form.{lines_of}
-use Rattle.depot_model.specs.declared.reply.Field.{Field}
-use Rattle.depot_model.specs.Rows.{row, text_field}
+use Rattle.depot_rows.specs.spec_form.Form.{lines_of}
+use Rattle.depot_rows.specs.depot_model.declared.reply.Field.{Field}
+use Rattle.depot_rows.specs.depot_model.Rows.{row, text_field}
 use Rattle.job_ops.proofs.JobRows.{fields_on}
 use Rattle.job_ops.proofs.jobs.listed_row.Goals as goal
 

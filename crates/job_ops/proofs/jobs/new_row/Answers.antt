@@ -1,9 +1,9 @@
 use Rattle.std.proofs.Common.{List, [], ◌∷◌, ◌++◌, ap, ◌∙◌}
 use Rattle.std.specs.Fmt.{digits}
 use Rattle.std.specs.Prelude.{codes}
-use Rattle.depot_model.specs.declared.reply.Field.{Field}
-use Rattle.depot_model.specs.Rows.{row, text_field}
-use Rattle.depot_model.specs.Steps.Changing.{default_text}
+use Rattle.depot_rows.specs.depot_model.declared.reply.Field.{Field}
+use Rattle.depot_rows.specs.depot_model.Rows.{row, text_field}
+use Rattle.depot_rows.specs.depot_model.Steps.Changing.{default_text}
 use Rattle.job_ops.proofs.jobs.new_row.Goals as goal
 
 pub returns : goal.returns

@@ -1,6 +1,6 @@
 use Rattle.std.proofs.Common.{ap, ◌∙◌}
 use Rattle.std.specs.Option.{option_copied}
-use Rattle.table_changes.specs.Changed.{rows_of}
+use Rattle.depot_rows.specs.table_changes.Changed.{rows_of}
 use Rattle.job_ops.specs.Showing.{shown}
 use Rattle.job_ops.proofs.JobRows.{show_made}
 use Rattle.job_ops.proofs.jobs.saved_show.Goals as goal

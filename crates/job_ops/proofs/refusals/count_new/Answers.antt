@@ -1,6 +1,6 @@
 use Rattle.std.proofs.Common.{◌+◌, ℕ, Bool, List, length, take, sym, ap, ◌∙◌, arith}
 use Rattle.std.specs.Prelude.{filter, not}
-use Rattle.depot_model.specs.Fixes.{has_fix}
+use Rattle.depot_rows.specs.depot_model.Fixes.{has_fix}
 use Rattle.job_ops.proofs.ChangeRows.{counted}
 use Rattle.job_ops.proofs.Stepping.{front}
 use Rattle.job_ops.proofs.refusals.count_new.Goals as goal

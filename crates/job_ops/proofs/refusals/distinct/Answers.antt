@@ -1,5 +1,5 @@
 use Rattle.std.proofs.Common.{◌+◌, ◌++◌, ℕ, List, drop, sym, ap, ◌∙◌}
-use Rattle.depot_model.specs.Steps.Jobs.{distinct_after}
+use Rattle.depot_rows.specs.depot_model.Steps.Jobs.{distinct_after}
 use Rattle.job_ops.specs.Distinct.{once}
 use Rattle.job_ops.proofs.Distinct.{once_more}
 use Rattle.job_ops.proofs.Stepping.{back}

@@ -1,9 +1,9 @@
 use Rattle.std.proofs.Common.{ℕ, List, Option, false, ap, ◌∙◌}
 use Rattle.std.specs.Option.{option_map_or}
-use Rattle.spec_form.specs.Form.{FormValue}
-use Rattle.depot_model.specs.Deeds.{Deed, FixForm}
-use Rattle.depot_model.specs.Fixes.{fix_name, is_on}
-use Rattle.depot_model.specs.Latest.{spec}
+use Rattle.depot_rows.specs.spec_form.Form.{FormValue}
+use Rattle.depot_rows.specs.depot_model.Deeds.{Deed, FixForm}
+use Rattle.depot_rows.specs.depot_model.Fixes.{fix_name, is_on}
+use Rattle.depot_rows.specs.depot_model.Latest.{spec}
 use Rattle.job_ops.proofs.ChangeRows.{on_fix}
 use Rattle.job_ops.proofs.refusals.has_fix.Goals as goal
 

@@ -1,7 +1,7 @@
 use Rattle.std.proofs.Common.{ℕ, List, sym, ap, ◌∙◌}
 use Rattle.std.specs.Prelude.{option_map}
-use Rattle.depot_model.specs.Refusals.{refusal_row}
-use Rattle.depot_model.specs.Steps.Jobs.{no_job}
+use Rattle.depot_rows.specs.depot_model.Refusals.{refusal_row}
+use Rattle.depot_rows.specs.depot_model.Steps.Jobs.{no_job}
 use Rattle.job_ops.proofs.Refusing.{item_here, item_later, none_left}
 use Rattle.job_ops.proofs.refusals.jobs_refusal.Goals as goal
 

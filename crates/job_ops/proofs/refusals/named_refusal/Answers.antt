@@ -1,6 +1,6 @@
 use Rattle.std.proofs.Common.{sym, ◌∙◌}
 use Rattle.std.specs.Prelude.{map}
-use Rattle.depot_model.specs.Steps.Jobs.{no_job}
+use Rattle.depot_rows.specs.depot_model.Steps.Jobs.{no_job}
 use Rattle.job_ops.specs.Refusals.{change_refusal}
 use Rattle.job_ops.proofs.Refusing.{row_behind, row_here}
 use Rattle.job_ops.proofs.refusals.named_refusal.Goals as goal

@@ -1,10 +1,10 @@
 use Rattle.std.proofs.Common.{ℕ, List, length, ap, ◌∙◌}
 use Rattle.std.specs.Prelude.{nat_lt, option_map}
-use Rattle.spec_form.specs.Form.{FormValue}
-use Rattle.depot_model.specs.Refusals.{refusal_row}
-use Rattle.depot_model.specs.Step.{refuse_if}
-use Rattle.depot_model.specs.declared.refusal.Limit.TheVariants.{Fixes}
-use Rattle.depot_model.specs.declared.refusal.Refusal.TheVariants.{OverLimit}
+use Rattle.depot_rows.specs.spec_form.Form.{FormValue}
+use Rattle.depot_rows.specs.depot_model.Refusals.{refusal_row}
+use Rattle.depot_rows.specs.depot_model.Step.{refuse_if}
+use Rattle.depot_rows.specs.depot_model.declared.refusal.Limit.TheVariants.{Fixes}
+use Rattle.depot_rows.specs.depot_model.declared.refusal.Refusal.TheVariants.{OverLimit}
 use Rattle.job_ops.proofs.ChangeRows.{fixes_are_then}
 use Rattle.job_ops.proofs.refusals.room_refusal.Goals as goal
 

@@ -1,6 +1,6 @@
 use Rattle.std.proofs.Common.{◌≡◌, map, take}
 use Rattle.std.specs.Prelude.{fold, max, min}
-use Rattle.depot_model.specs.Fixes.{job_number}
+use Rattle.depot_rows.specs.depot_model.Fixes.{job_number}
 use Rattle.job_ops.proofs.saving.greatest_number.Given as goal
 
 abbrev pub invariant-loop-name : goal.invariant-loop-name

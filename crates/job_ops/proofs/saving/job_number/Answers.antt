@@ -1,6 +1,6 @@
 use Rattle.std.proofs.Common.{sym, ap, ◌∙◌}
 use Rattle.std.specs.Prelude.{drop, fold, min}
-use Rattle.depot_path.specs.Digits.{number_of, up_to}
+use Rattle.depot_rows.specs.depot_path.Digits.{number_of, up_to}
 use Rattle.job_ops.proofs.Numbering.{beyond, within}
 use Rattle.job_ops.proofs.saving.job_number.Goals as goal
 

@@ -1,6 +1,6 @@
-use Rattle.table_changes.specs.Changed.{rows_of}
-use Rattle.spec_form.specs.declared.shape.Shape.TheVariants.{Job}
-use Rattle.depot_model.specs.Steps.Jobs.{save_form}
+use Rattle.depot_rows.specs.table_changes.Changed.{rows_of}
+use Rattle.depot_rows.specs.spec_form.declared.shape.Shape.TheVariants.{Job}
+use Rattle.depot_rows.specs.depot_model.Steps.Jobs.{save_form}
 use Rattle.command_parts.proofs.Refused.{read_made, unread_made}
 use Rattle.job_ops.proofs.saving.job_save.Goals as goal
 

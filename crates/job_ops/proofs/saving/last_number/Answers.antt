@@ -1,6 +1,6 @@
 use Rattle.std.proofs.Common.{true, false, ℕ, List, map, sym, ap, ◌∙◌, ◌≡◌}
 use Rattle.std.specs.Prelude.{fold, max, min}
-use Rattle.depot_model.specs.Fixes.{job_number}
+use Rattle.depot_rows.specs.depot_model.Fixes.{job_number}
 use Rattle.job_ops.proofs.saving.last_number.Goals as goal
 
 pub returns : goal.returns

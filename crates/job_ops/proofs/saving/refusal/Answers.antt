@@ -1,8 +1,8 @@
 use Rattle.std.proofs.Common.{ℕ, List, [], ◌∷◌, Option, sym, ap, ◌∙◌}
 use Rattle.std.specs.Prelude.{codes, option_map}
-use Rattle.depot_model.specs.Refusals.{refusal_row}
-use Rattle.depot_model.specs.Steps.Jobs.{is_new}
-use Rattle.depot_model.specs.Values.{value_of}
+use Rattle.depot_rows.specs.depot_model.Refusals.{refusal_row}
+use Rattle.depot_rows.specs.depot_model.Steps.Jobs.{is_new}
+use Rattle.depot_rows.specs.depot_model.Values.{value_of}
 use Rattle.job_ops.specs.Refusals.{name_refusal, number_refusal, save_refusals, status_refusal, text_refusal}
 use Rattle.job_ops.proofs.Refusing.{row_alone, row_behind, row_here}
 use Rattle.job_ops.proofs.saving.refusal.Goals as goal

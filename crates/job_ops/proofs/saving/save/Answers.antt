@@ -1,10 +1,10 @@
 use Rattle.std.proofs.Common.{◌≡◌, ℕ, List, false, sym, ap, subst, ◌∙◌}
 use Rattle.std.specs.Prelude.{codes, min}
-use Rattle.table_changes.specs.Changed.{rows_of}
-use Rattle.depot_model.specs.Fixes.{last_job}
-use Rattle.depot_model.specs.Step.{Step as ModelStep}
-use Rattle.depot_model.specs.Steps.Jobs.{is_new, saved, saved_name}
-use Rattle.depot_model.specs.Values.{value_of}
+use Rattle.depot_rows.specs.table_changes.Changed.{rows_of}
+use Rattle.depot_rows.specs.depot_model.Fixes.{last_job}
+use Rattle.depot_rows.specs.depot_model.Step.{Step as ModelStep}
+use Rattle.depot_rows.specs.depot_model.Steps.Jobs.{is_new, saved, saved_name}
+use Rattle.depot_rows.specs.depot_model.Values.{value_of}
 use Rattle.reply_rows.specs.Made.{IsMade}
 use Rattle.command_parts.proofs.Refused.{granted_made, refused_made}
 use Rattle.job_ops.specs.Refusals.{save_refusals}

@@ -1,7 +1,7 @@
 use Rattle.std.proofs.Common.{sym, ap, ◌∙◌}
-use Rattle.table_changes.specs.Changed.{rows_of}
-use Rattle.depot_model.specs.Deeds.{FixForm}
-use Rattle.depot_model.specs.Latest.{spec}
+use Rattle.depot_rows.specs.table_changes.Changed.{rows_of}
+use Rattle.depot_rows.specs.depot_model.Deeds.{FixForm}
+use Rattle.depot_rows.specs.depot_model.Latest.{spec}
 use Rattle.job_ops.proofs.Stepping.{unfix_off, unfix_on}
 use Rattle.job_ops.proofs.unfixing.unfix_job.Goals as goal
 

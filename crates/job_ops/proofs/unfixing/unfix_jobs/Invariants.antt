@@ -1,10 +1,10 @@
 use Rattle.std.proofs.Common.{◌≡◌, List, take}
-use Rattle.db_records.specs.declared.table.TableId.TheVariants as table_ids
-use Rattle.table_changes.specs.Changed.{rows_of}
-use Rattle.depot_model.specs.Deeds.{Deed}
-use Rattle.depot_model.specs.Rules.{IsSound}
-use Rattle.depot_model.specs.Step.{all_of}
-use Rattle.depot_model.specs.Steps.Jobs.{unfix_job}
+use Rattle.depot_rows.specs.db_records.declared.table.TableId.TheVariants as table_ids
+use Rattle.depot_rows.specs.table_changes.Changed.{rows_of}
+use Rattle.depot_rows.specs.depot_model.Deeds.{Deed}
+use Rattle.depot_rows.specs.depot_model.Rules.{IsSound}
+use Rattle.depot_rows.specs.depot_model.Step.{all_of}
+use Rattle.depot_rows.specs.depot_model.Steps.Jobs.{unfix_job}
 use Rattle.depot_rows.specs.Standing.{HasRows}
 use Rattle.reply_rows.specs.Made.{IsMade}
 use Rattle.job_ops.proofs.unfixing.unfix_jobs.Given as goal

@@ -1,10 +1,10 @@
 use Rattle.std.proofs.Common.{ℕ, List, Bool, true, [], ◌∷◌, sym, ap, subst, ◌∙◌}
 use Rattle.std.specs.Prelude.{not}
-use Rattle.table_changes.specs.Changed.{rows_of}
-use Rattle.depot_model.specs.declared.refusal.Refusal.TheVariants.{LabelLocked, NoSuchLabel}
-use Rattle.depot_model.specs.Asking.{is_label}
-use Rattle.depot_model.specs.Step.{Step as ModelStep, refuse_if, unless}
-use Rattle.depot_model.specs.Steps.Labels.{is_locked}
+use Rattle.depot_rows.specs.table_changes.Changed.{rows_of}
+use Rattle.depot_rows.specs.depot_model.declared.refusal.Refusal.TheVariants.{LabelLocked, NoSuchLabel}
+use Rattle.depot_rows.specs.depot_model.Asking.{is_label}
+use Rattle.depot_rows.specs.depot_model.Step.{Step as ModelStep, refuse_if, unless}
+use Rattle.depot_rows.specs.depot_model.Steps.Labels.{is_locked}
 use Rattle.reply_rows.specs.Made.{IsMade}
 use Rattle.reply_rows.proofs.Joined.{made_refusal}
 use Rattle.label_ops.specs.Tagged.{synced}

@@ -1,4 +1,4 @@
-use Rattle.table_changes.specs.Changed.{rows_of}
+use Rattle.depot_rows.specs.table_changes.Changed.{rows_of}
 use Rattle.label_ops.proofs.labelling.sync_files.Goals as goal
 
 pub returns : goal.returns

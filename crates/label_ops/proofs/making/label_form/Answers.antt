@@ -1,6 +1,6 @@
 use Rattle.std.proofs.Common.{List, sym, ap, ◌∙◌}
 use Rattle.std.specs.Prelude.{◌++◌, codes}
-use Rattle.depot_path.specs.Name.{is_name}
+use Rattle.depot_rows.specs.depot_path.Name.{is_name}
 use Rattle.label_ops.proofs.Made.{form_read}
 use Rattle.label_ops.proofs.making.label_form.Goals as goal
 

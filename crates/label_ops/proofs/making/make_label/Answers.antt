@@ -1,4 +1,4 @@
-use Rattle.table_changes.specs.Changed.{rows_of}
+use Rattle.depot_rows.specs.table_changes.Changed.{rows_of}
 use Rattle.label_ops.proofs.Made.{is_made, is_there}
 use Rattle.label_ops.proofs.making.make_label.Goals as goal
 

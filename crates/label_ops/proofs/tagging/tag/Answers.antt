@@ -1,7 +1,7 @@
 use Rattle.std.proofs.Common.{Bool, [], ◌∷◌, sym, subst, ◌∙◌}
-use Rattle.table_changes.specs.Changed.{rows_of}
-use Rattle.depot_model.specs.declared.refusal.Refusal.TheVariants.{LabelLocked}
-use Rattle.depot_model.specs.Step.{refuse_if, unless}
+use Rattle.depot_rows.specs.table_changes.Changed.{rows_of}
+use Rattle.depot_rows.specs.depot_model.declared.refusal.Refusal.TheVariants.{LabelLocked}
+use Rattle.depot_rows.specs.depot_model.Step.{refuse_if, unless}
 use Rattle.reply_rows.specs.Made.{IsMade}
 use Rattle.reply_rows.proofs.Joined.{made_refusal}
 use Rattle.label_ops.specs.Tagged.{tagged}

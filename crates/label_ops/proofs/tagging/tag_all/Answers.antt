@@ -1,6 +1,6 @@
 use Rattle.std.proofs.Common.{[]}
-use Rattle.table_changes.specs.Changed.{rows_of}
-use Rattle.depot_model.specs.Steps.Tagging.{made_label, tag_files}
+use Rattle.depot_rows.specs.table_changes.Changed.{rows_of}
+use Rattle.depot_rows.specs.depot_model.Steps.Tagging.{made_label, tag_files}
 use Rattle.label_ops.proofs.Following.{files_tag}
 use Rattle.label_ops.proofs.Made.{tagged_on}
 use Rattle.label_ops.proofs.tagging.tag_all.Goals as goal

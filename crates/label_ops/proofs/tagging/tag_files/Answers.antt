@@ -1,8 +1,8 @@
 use Rattle.std.proofs.Common.{[], sym, subst, ap, ◌∙◌, false}
-use Rattle.table_changes.specs.Changed.{rows_of}
-use Rattle.depot_model.specs.Arguments.{named, no_file, over, submitted}
-use Rattle.depot_model.specs.Step.{Step as ModelStep}
-use Rattle.depot_model.specs.declared.command.Labelling.{Labelling}
+use Rattle.depot_rows.specs.table_changes.Changed.{rows_of}
+use Rattle.depot_rows.specs.depot_model.Arguments.{named, no_file, over, submitted}
+use Rattle.depot_rows.specs.depot_model.Step.{Step as ModelStep}
+use Rattle.depot_rows.specs.depot_model.declared.command.Labelling.{Labelling}
 use Rattle.reply_rows.specs.Made.{IsMade}
 use Rattle.label_ops.specs.Tagged.{taken}
 use Rattle.label_ops.proofs.Tags.{tags}

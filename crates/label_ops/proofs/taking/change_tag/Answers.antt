@@ -1,7 +1,7 @@
 use Rattle.std.proofs.Common.{ℕ, [], ◌∷◌, List, refl, sym, ap, ◌∙◌}
-use Rattle.depot_path.specs.Path.{is_path}
-use Rattle.depot_model.specs.Deeds.{Tag}
-use Rattle.depot_model.specs.Steps.Tagging.{tag_row}
+use Rattle.depot_rows.specs.depot_path.Path.{is_path}
+use Rattle.depot_rows.specs.depot_model.Deeds.{Tag}
+use Rattle.depot_rows.specs.depot_model.Steps.Tagging.{tag_row}
 use Rattle.depot_rows.specs.declared.deed.Deed.TheVariants as dones
 use Rattle.reply_rows.proofs.Joined.{made_done}
 use Rattle.label_ops.specs.Tagged.{told_rev, word_of}

@@ -1,8 +1,8 @@
 use Rattle.std.proofs.Common.{ℕ, Bool, sym, ap, ◌∙◌}
-use Rattle.table_changes.specs.Changed.{rows_of}
+use Rattle.depot_rows.specs.table_changes.Changed.{rows_of}
 use Rattle.named_files.specs.declared.listing.Listing.TheVariants.{Submitted}
 use Rattle.named_files.proofs.Wanting.{reads_wanted}
-use Rattle.depot_model.specs.Choice.{At}
+use Rattle.depot_rows.specs.depot_model.Choice.{At}
 use Rattle.label_ops.proofs.Tags.{asked_is, choice_by}
 use Rattle.label_ops.proofs.taking.choice.Goals as goal
 

@@ -1,5 +1,5 @@
 use Rattle.std.proofs.Common.{ap, ◌∙◌}
-use Rattle.depot_model.specs.Choice.{chosen}
+use Rattle.depot_rows.specs.depot_model.Choice.{chosen}
 use Rattle.label_ops.specs.Tagged.{asked, live_at_choice}
 use Rattle.label_ops.proofs.Tags.{live_is}
 use Rattle.label_ops.proofs.taking.live_choice.Goals as goal

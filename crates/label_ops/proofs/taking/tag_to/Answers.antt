@@ -1,5 +1,5 @@
 use Rattle.std.proofs.Common.{[], sym, subst}
-use Rattle.depot_model.specs.Step.{Step as ModelStep, nothing}
+use Rattle.depot_rows.specs.depot_model.Step.{Step as ModelStep, nothing}
 use Rattle.reply_rows.specs.Made.{IsMade}
 use Rattle.reply_rows.specs.declared.step.Step.{Step}
 use Rattle.reply_rows.proofs.Bare.{tells_made}

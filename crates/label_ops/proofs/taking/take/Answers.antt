@@ -1,7 +1,7 @@
 use Rattle.std.proofs.Common.{ℕ, subst}
-use Rattle.table_changes.specs.Changed.{rows_of}
-use Rattle.depot_model.specs.Latest.{labelled}
-use Rattle.depot_model.specs.Steps.Tagging.{tag_to}
+use Rattle.depot_rows.specs.table_changes.Changed.{rows_of}
+use Rattle.depot_rows.specs.depot_model.Latest.{labelled}
+use Rattle.depot_rows.specs.depot_model.Steps.Tagging.{tag_to}
 use Rattle.reply_rows.specs.Made.{IsMade}
 use Rattle.label_ops.proofs.taking.take.Goals as goal
 

@@ -1,7 +1,7 @@
 use Rattle.std.proofs.Common.{◌≡◌, List, [], ◌∷◌, ◌++◌, length, map, reverse, sym, ap, subst, ◌∙◌, append_assoc, append-nil, arith}
 use Rattle.std.proofs.lemmas.List.{nil_from_length, map-append, reverse-reverse}
 use Rattle.std.specs.Vec.Iter.{into_iter_items}
-use Rattle.depot_model.specs.declared.request.Request.{Request}
+use Rattle.depot_rows.specs.depot_model.declared.request.Request.{Request}
 use Rattle.lock_core.specs.Parties.{AllFresh, AreTyped}
 use Rattle.lock_core.specs.declared.work.Work.{Work}
 use Rattle.lock_core.proofs.Turning.{request_in, fresh_push, fresh_turned, typed_push}

@@ -1,5 +1,5 @@
 use Rattle.std.proofs.Common.{◌≡◌, ℕ, take}
-use Rattle.depot_model.specs.Tables.{is_in}
+use Rattle.depot_rows.specs.depot_model.Tables.{is_in}
 use Rattle.lock_core.specs.Works.{is_changed}
 use Rattle.lock_core.proofs.preparing.changed_tables.Given as goal
 

@@ -1,9 +1,9 @@
 use Rattle.std.proofs.Common.{rules, ◌≡◌, ◌||◌, ◌-◌, ◌^◌, ◌<◌, ℕ, [], ◌∷◌, ◌++◌, length, true, List, Some, None, Option, IfSome, sym, ap, subst, ◌∙◌}
-use Rattle.db_records.specs.Table.{table_number}
+use Rattle.depot_model.specs.db_records.Table.{table_number}
 use Rattle.order_words.specs.Lanes.{has_lane, is_among}
 use Rattle.order_words.specs.Seats.{LaneState, OrderState}
 use Rattle.table_changes.specs.Changed.{changed_by}
-use Rattle.table_store.specs.Rows.{TableRows}
+use Rattle.table_changes.specs.table_store.Rows.{TableRows}
 use Rattle.locked_tables.specs.Known.{TableKnown}
 use Rattle.locked_tables.specs.Taken.{rows_after}
 use Rattle.locked_tables.specs.Held.{AllNext, AreAmong, known_of, lane_next, lanes_next, table_held}

@@ -1,6 +1,6 @@
 use Rattle.std.proofs.Common.{◌≡◌, ◌++◌}
 use Rattle.std.specs.Option.{option_copied}
-use Rattle.table_changes.specs.Changed.{rows_of}
+use Rattle.depot_rows.specs.table_changes.Changed.{rows_of}
 use Rattle.named_files.specs.Anywhere.{paths_after, paths_in_front}
 use Rattle.named_files.specs.Listed.{listing_table}
 use Rattle.named_files.proofs.anywhere.add_opened_below.Given as goal

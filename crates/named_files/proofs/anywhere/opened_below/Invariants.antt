@@ -1,5 +1,5 @@
 use Rattle.std.proofs.Common.{◌≡◌, ◌++◌, length}
-use Rattle.table_changes.specs.Changed.{rows_of}
+use Rattle.depot_rows.specs.table_changes.Changed.{rows_of}
 use Rattle.named_files.specs.Anywhere.{paths_in_turn}
 use Rattle.named_files.specs.Listed.{listing_table}
 use Rattle.named_files.proofs.anywhere.opened_below.Given as goal

@@ -2,7 +2,7 @@ use Rattle.std.proofs.Common.{◌≡◌, ℕ, List, true, sym, ap, subst, ◌∙
 use Rattle.std.specs.List.{list_any}
 use Rattle.std.proofs.lemmas.Fn.{dedup_same}
 use Rattle.std.proofs.lemmas.List.Sorted.{list_any-IsPermutation}
-use Rattle.depot_path.specs.Bytes.{begins_with}
+use Rattle.depot_rows.specs.depot_path.Bytes.{begins_with}
 use Rattle.named_files.specs.Beginnings.{AreApart, begins_with_one}
 use Rattle.named_files.proofs.Apart.{covers, sorted_apart}
 use Rattle.named_files.proofs.beginning.set_apart.Goals as goal

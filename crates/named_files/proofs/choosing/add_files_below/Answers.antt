@@ -1,5 +1,5 @@
 use Rattle.std.proofs.Common.{ℕ, List, ◌++◌, ap, ◌∙◌}
-use Rattle.table_changes.specs.Changed.{rows_of}
+use Rattle.depot_rows.specs.table_changes.Changed.{rows_of}
 use Rattle.named_files.specs.Listed.{listed, listing_table}
 use Rattle.named_files.proofs.Fronts.{files_begin}
 use Rattle.named_files.proofs.choosing.add_files_below.Goals as goal

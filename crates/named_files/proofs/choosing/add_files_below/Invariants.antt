@@ -1,6 +1,6 @@
 use Rattle.std.proofs.Common.{◌≡◌, ◌++◌}
 use Rattle.std.specs.Prelude.{filter}
-use Rattle.table_changes.specs.Changed.{rows_of}
+use Rattle.depot_rows.specs.table_changes.Changed.{rows_of}
 use Rattle.named_files.specs.Listed.{has_beginning, listed, listing_table}
 use Rattle.named_files.proofs.choosing.add_files_below.Given as goal
 

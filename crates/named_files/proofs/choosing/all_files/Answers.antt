@@ -1,8 +1,8 @@
 use Rattle.std.proofs.Common.{◌≡◌, ℕ, true, List, [], ◌∷◌, ◌++◌, refl, ap, ◌∙◌}
 use Rattle.std.specs.Prelude.{filter, if◌then◌else◌}
-use Rattle.depot_path.specs.Bytes.{begins_with}
-use Rattle.depot_path.specs.Path.{printed}
-use Rattle.table_changes.specs.Changed.{rows_of}
+use Rattle.depot_rows.specs.depot_path.Bytes.{begins_with}
+use Rattle.depot_rows.specs.depot_path.Path.{printed}
+use Rattle.depot_rows.specs.table_changes.Changed.{rows_of}
 use Rattle.named_files.specs.Listed.{has_beginning, listed, listing_table}
 use Rattle.named_files.proofs.choosing.all_files.Goals as goal
 

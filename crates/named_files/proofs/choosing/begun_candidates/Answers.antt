@@ -1,6 +1,6 @@
 use Rattle.std.proofs.Common.{List, ℕ, ap, ◌∙◌}
 use Rattle.std.specs.Prelude.{filter}
-use Rattle.table_changes.specs.Changed.{rows_of}
+use Rattle.depot_rows.specs.table_changes.Changed.{rows_of}
 use Rattle.named_files.specs.Beginnings.{has_one, in_turn}
 use Rattle.named_files.specs.Listed.{listed, listing_table}
 use Rattle.named_files.proofs.Sifting.{sifted}

@@ -1,7 +1,7 @@
 use Rattle.std.proofs.Common.{ap, ◌∙◌}
-use Rattle.table_changes.specs.Changed.{rows_of}
-use Rattle.table_store.specs.Rows.{TableRows}
-use Rattle.table_store.specs.Tables.{version_of}
+use Rattle.depot_rows.specs.table_changes.Changed.{rows_of}
+use Rattle.depot_rows.specs.table_store.Rows.{TableRows}
+use Rattle.depot_rows.specs.table_store.Tables.{version_of}
 use Rattle.named_files.specs.Listed.{listing_table}
 use Rattle.named_files.proofs.Joining.{listed_joined}
 use Rattle.named_files.proofs.choosing.files_join.Goals as goal

@@ -1,6 +1,6 @@
 use Rattle.std.proofs.Common.{ℕ, List, None, ◌++◌, ap, ◌∙◌, map}
-use Rattle.db_records.specs.declared.record.Record.{Record}
-use Rattle.table_changes.specs.Changed.{rows_of}
+use Rattle.depot_rows.specs.db_records.declared.record.Record.{Record}
+use Rattle.depot_rows.specs.table_changes.Changed.{rows_of}
 use Rattle.named_files.specs.HeadRows.{heads_after}
 use Rattle.named_files.specs.Listed.{listed, listing_table}
 use Rattle.named_files.proofs.Fronts.{files_begin}

@@ -1,7 +1,7 @@
 use Rattle.std.proofs.Common.{◌≡◌, ◌++◌, map}
 use Rattle.std.specs.Prelude.{filter}
 use Rattle.std.specs.Option.{option_copied}
-use Rattle.table_changes.specs.Changed.{rows_of}
+use Rattle.depot_rows.specs.table_changes.Changed.{rows_of}
 use Rattle.named_files.specs.HeadRows.{heads_after, heads_in_front}
 use Rattle.named_files.specs.Listed.{has_beginning, listed, listing_table}
 use Rattle.named_files.proofs.head_rows.add_headed_below.Given as goal

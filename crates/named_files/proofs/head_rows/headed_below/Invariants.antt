@@ -1,5 +1,5 @@
 use Rattle.std.proofs.Common.{◌≡◌, ◌++◌, length, map}
-use Rattle.table_changes.specs.Changed.{rows_of}
+use Rattle.depot_rows.specs.table_changes.Changed.{rows_of}
 use Rattle.named_files.specs.Beginnings.{in_turn}
 use Rattle.named_files.specs.HeadRows.{heads_in_turn}
 use Rattle.named_files.specs.Listed.{listed, listing_table}

@@ -1,8 +1,8 @@
 use Rattle.std.proofs.Common.{ℕ, List, sym, ap, subst, ◌∙◌}
 use Rattle.std.specs.Prelude.{filter}
 use Rattle.std.specs.List.{All}
-use Rattle.db_records.specs.declared.record.Record.{Record}
-use Rattle.table_changes.specs.Changed.{rows_of}
+use Rattle.depot_rows.specs.db_records.declared.record.Record.{Record}
+use Rattle.depot_rows.specs.table_changes.Changed.{rows_of}
 use Rattle.named_files.specs.Beginnings.{has_one, in_turn}
 use Rattle.named_files.specs.HeadRows.{IsHead, heads_in_turn}
 use Rattle.named_files.specs.Listed.{listed, listing_table}

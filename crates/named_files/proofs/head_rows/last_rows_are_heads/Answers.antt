@@ -1,9 +1,9 @@
 use Rattle.std.proofs.Common.{◌≡◌, List, ap, subst, ◌∙◌}
 use Rattle.std.specs.List.{All}
-use Rattle.db_records.specs.declared.record.Record.{Record}
-use Rattle.table_changes.specs.Changed.{rows_of}
-use Rattle.table_store.specs.Rows.{TableRows}
-use Rattle.table_store.specs.Tables.{version_of}
+use Rattle.depot_rows.specs.db_records.declared.record.Record.{Record}
+use Rattle.depot_rows.specs.table_changes.Changed.{rows_of}
+use Rattle.depot_rows.specs.table_store.Rows.{TableRows}
+use Rattle.depot_rows.specs.table_store.Tables.{version_of}
 use Rattle.named_files.specs.HeadRows.{IsHead, heads_in_turn}
 use Rattle.named_files.specs.Listed.{listing_table}
 use Rattle.named_files.proofs.HeadRows.{turn_heads}

@@ -1,5 +1,5 @@
 use Rattle.std.proofs.Common.{subst, sym}
-use Rattle.depot_model.specs.Step.{tells}
+use Rattle.depot_rows.specs.depot_model.Step.{tells}
 use Rattle.reply_rows.specs.Made.{IsMade}
 use Rattle.named_files.specs.Sets.{rows_without}
 use Rattle.named_files.specs.declared.listing.Listing.{Listing}

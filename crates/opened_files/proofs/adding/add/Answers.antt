@@ -1,13 +1,13 @@
 use Rattle.std.proofs.Common.{◌≡◌, [], Some, None, ◌∙◌}
 use Rattle.std.specs.Prelude.{codes, unwrap_or}
-use Rattle.depot_path.specs.Path.{printed}
-use Rattle.table_changes.specs.Changed.{rows_of}
-use Rattle.depot_model.specs.declared.command.FileArgument.{FileArgument}
-use Rattle.depot_model.specs.declared.refusal.Refusal.TheVariants.{NotInView}
-use Rattle.depot_model.specs.Arguments.{over, within_files}
-use Rattle.depot_model.specs.Step.{refuses}
-use Rattle.depot_model.specs.Steps.Adding.{add_file, files_to_add, spelled}
-use Rattle.depot_model.specs.Steps.Opening.{named_change_refusal}
+use Rattle.depot_rows.specs.depot_path.Path.{printed}
+use Rattle.depot_rows.specs.table_changes.Changed.{rows_of}
+use Rattle.depot_rows.specs.depot_model.declared.command.FileArgument.{FileArgument}
+use Rattle.depot_rows.specs.depot_model.declared.refusal.Refusal.TheVariants.{NotInView}
+use Rattle.depot_rows.specs.depot_model.Arguments.{over, within_files}
+use Rattle.depot_rows.specs.depot_model.Step.{refuses}
+use Rattle.depot_rows.specs.depot_model.Steps.Adding.{add_file, files_to_add, spelled}
+use Rattle.depot_rows.specs.depot_model.Steps.Opening.{named_change_refusal}
 use Rattle.reply_rows.proofs.Joined.{passed, refused}
 use Rattle.opened_files.proofs.adding.add.Goals as goal
 

@@ -1,8 +1,8 @@
 use Rattle.std.proofs.Common.{Some, ap, subst, ◌∙◌}
-use Rattle.depot_model.specs.Deeds.{Opening}
+use Rattle.depot_rows.specs.depot_model.Deeds.{Opening}
 use Rattle.depot_rows.specs.Deed.{opening_of}
 use Rattle.depot_rows.specs.declared.deed.Opening.{Opening as Done}
-use Rattle.table_changes.specs.Changed.{rows_of}
+use Rattle.depot_rows.specs.table_changes.Changed.{rows_of}
 use Rattle.reply_rows.specs.Made.{IsMade}
 use Rattle.opened_files.specs.Opens.{open_step}
 use Rattle.opened_files.proofs.Adds.{added}

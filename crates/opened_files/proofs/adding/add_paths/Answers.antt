@@ -1,11 +1,11 @@
 use Rattle.std.proofs.Common.{List, ℕ, [], subst}
-use Rattle.depot_path.specs.Path.{printed}
-use Rattle.table_changes.specs.Changed.{rows_of}
-use Rattle.depot_model.specs.declared.command.FileArgument.{FileArgument}
-use Rattle.depot_model.specs.declared.refusal.Refusal.TheVariants.{NotInView}
-use Rattle.depot_model.specs.Arguments.{over}
-use Rattle.depot_model.specs.Step.{refuses}
-use Rattle.depot_model.specs.Steps.Adding.{add_file, files_to_add, spelled}
+use Rattle.depot_rows.specs.depot_path.Path.{printed}
+use Rattle.depot_rows.specs.table_changes.Changed.{rows_of}
+use Rattle.depot_rows.specs.depot_model.declared.command.FileArgument.{FileArgument}
+use Rattle.depot_rows.specs.depot_model.declared.refusal.Refusal.TheVariants.{NotInView}
+use Rattle.depot_rows.specs.depot_model.Arguments.{over}
+use Rattle.depot_rows.specs.depot_model.Step.{refuses}
+use Rattle.depot_rows.specs.depot_model.Steps.Adding.{add_file, files_to_add, spelled}
 use Rattle.reply_rows.specs.Made.{IsMade}
 use Rattle.opened_files.proofs.adding.add_paths.Goals as goal
 

@@ -1,6 +1,6 @@
 use Rattle.std.proofs.Common.{Option, Some, ap, subst, ◌∙◌}
-use Rattle.depot_model.specs.Deeds.{Opening}
-use Rattle.depot_model.specs.Steps.Editing.{reopened}
+use Rattle.depot_rows.specs.depot_model.Deeds.{Opening}
+use Rattle.depot_rows.specs.depot_model.Steps.Editing.{reopened}
 use Rattle.depot_rows.specs.Deed.{action_of, opening_of}
 use Rattle.depot_rows.specs.declared.deed.Opening.{Opening as Done}
 use Rattle.reply_rows.specs.Made.{IsMade}

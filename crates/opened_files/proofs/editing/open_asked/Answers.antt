@@ -1,4 +1,4 @@
-use Rattle.table_changes.specs.Changed.{rows_of}
+use Rattle.depot_rows.specs.table_changes.Changed.{rows_of}
 use Rattle.opened_files.proofs.editing.open_asked.Goals as goal
 
 pub returns : goal.returns

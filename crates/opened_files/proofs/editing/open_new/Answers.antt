@@ -1,6 +1,6 @@
 use Rattle.std.proofs.Common.{Some, None, subst}
-use Rattle.table_changes.specs.Changed.{rows_of}
-use Rattle.depot_model.specs.Deeds.{Opening}
+use Rattle.depot_rows.specs.table_changes.Changed.{rows_of}
+use Rattle.depot_rows.specs.depot_model.Deeds.{Opening}
 use Rattle.depot_rows.specs.Deed.{action_of}
 use Rattle.reply_rows.specs.Made.{IsMade}
 use Rattle.opened_files.specs.Opens.{open_step}

@@ -1,6 +1,6 @@
 use Rattle.std.proofs.Common.{Option, Some, sym, subst}
 use Rattle.std.specs.Prelude.{option_map}
-use Rattle.depot_model.specs.declared.refusal.Refusal.TheVariants.{AlreadyOpen}
+use Rattle.depot_rows.specs.depot_model.declared.refusal.Refusal.TheVariants.{AlreadyOpen}
 use Rattle.depot_rows.specs.declared.deed.Opening.{Opening}
 use Rattle.depot_rows.specs.Deed.{opening_of}
 use Rattle.reply_rows.specs.Made.{IsMade}

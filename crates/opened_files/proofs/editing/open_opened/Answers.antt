@@ -1,8 +1,8 @@
 use Rattle.std.proofs.Common.{◌≡◌, Some, None, subst, ◌∙◌}
-use Rattle.table_changes.specs.Changed.{rows_of}
-use Rattle.depot_model.specs.Step.{Step as ModelStep}
-use Rattle.depot_model.specs.Steps.Editing.{reopened}
-use Rattle.depot_model.specs.Steps.Opening.{exclusive_refusal}
+use Rattle.depot_rows.specs.table_changes.Changed.{rows_of}
+use Rattle.depot_rows.specs.depot_model.Step.{Step as ModelStep}
+use Rattle.depot_rows.specs.depot_model.Steps.Editing.{reopened}
+use Rattle.depot_rows.specs.depot_model.Steps.Opening.{exclusive_refusal}
 use Rattle.depot_rows.specs.Deed.{action_of, opening_of}
 use Rattle.opening_reads.specs.Read.{opening_in_row}
 use Rattle.reply_rows.specs.Made.{IsMade}

@@ -1,10 +1,10 @@
 use Rattle.std.proofs.Common.{List, ℕ, [], subst, sym}
 use Rattle.std.specs.Prelude.{false, filter}
-use Rattle.table_changes.specs.Changed.{rows_of}
-use Rattle.depot_model.specs.declared.command.FileArgument.{FileArgument}
-use Rattle.depot_model.specs.Arguments.{had, names, no_file, over}
-use Rattle.depot_model.specs.Step.{Step as ModelStep, tells}
-use Rattle.depot_model.specs.Steps.Editing.{open_file}
+use Rattle.depot_rows.specs.table_changes.Changed.{rows_of}
+use Rattle.depot_rows.specs.depot_model.declared.command.FileArgument.{FileArgument}
+use Rattle.depot_rows.specs.depot_model.Arguments.{had, names, no_file, over}
+use Rattle.depot_rows.specs.depot_model.Step.{Step as ModelStep, tells}
+use Rattle.depot_rows.specs.depot_model.Steps.Editing.{open_file}
 use Rattle.depot_rows.specs.Deed.{action_of}
 use Rattle.depot_rows.specs.Standing.{HasRows}
 use Rattle.reply_rows.specs.Made.{IsMade}

@@ -1,9 +1,9 @@
 use Rattle.std.proofs.Common.{◌≡◌, List, ℕ, [], ◌∷◌, Some, None, subst, ◌∙◌}
 use Rattle.std.specs.Prelude.{unwrap_or}
-use Rattle.table_changes.specs.Changed.{rows_of}
-use Rattle.depot_model.specs.Step.{Step as ModelStep, unless}
-use Rattle.depot_model.specs.Steps.Editing.{had_type, opening}
-use Rattle.depot_model.specs.Steps.Opening.{exclusive_refusal}
+use Rattle.depot_rows.specs.table_changes.Changed.{rows_of}
+use Rattle.depot_rows.specs.depot_model.Step.{Step as ModelStep, unless}
+use Rattle.depot_rows.specs.depot_model.Steps.Editing.{had_type, opening}
+use Rattle.depot_rows.specs.depot_model.Steps.Opening.{exclusive_refusal}
 use Rattle.depot_rows.specs.Deed.{action_of}
 use Rattle.reply_rows.specs.Made.{IsMade}
 use Rattle.reply_rows.proofs.Joined.{passed, refused}

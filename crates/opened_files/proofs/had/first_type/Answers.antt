@@ -1,6 +1,6 @@
 use Rattle.std.proofs.Common.{ℕ, List, Option, sym, ap, ◌∙◌}
 use Rattle.std.specs.Prelude.{unwrap_or}
-use Rattle.depot_model.specs.Steps.Editing.{had_type}
+use Rattle.depot_rows.specs.depot_model.Steps.Editing.{had_type}
 use Rattle.opened_files.proofs.had.first_type.Goals as goal
 
 pub returns-in_ok-file_type-in-Some : goal.returns-in_ok-file_type-in-Some

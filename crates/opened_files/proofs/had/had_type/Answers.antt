@@ -1,6 +1,6 @@
 use Rattle.std.proofs.Common.{ℕ, List, ap, ◌∙◌}
 use Rattle.std.specs.Prelude.{codes, Some, None}
-use Rattle.depot_model.specs.Revisions.{revision}
+use Rattle.depot_rows.specs.depot_model.Revisions.{revision}
 use Rattle.opened_files.proofs.Opens.{type_told}
 use Rattle.opened_files.proofs.had.had_type.Goals as goal
 

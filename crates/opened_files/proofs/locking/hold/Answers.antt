@@ -1,9 +1,9 @@
 use Rattle.std.proofs.Common.{[], ◌∷◌, refl, sym, ap, ◌∙◌}
 use Rattle.std.specs.Prelude.{codes}
-use Rattle.depot_path.specs.Path.{is_path}
-use Rattle.depot_model.specs.Deeds.{Hold}
-use Rattle.depot_model.specs.Rows.{row, path_field, text_field}
-use Rattle.depot_model.specs.Steps.Opening.{held}
+use Rattle.depot_rows.specs.depot_path.Path.{is_path}
+use Rattle.depot_rows.specs.depot_model.Deeds.{Hold}
+use Rattle.depot_rows.specs.depot_model.Rows.{row, path_field, text_field}
+use Rattle.depot_rows.specs.depot_model.Steps.Opening.{held}
 use Rattle.depot_rows.specs.declared.deed.Deed.TheVariants as dones
 use Rattle.reply_rows.proofs.Joined.{made_done}
 use Rattle.opened_files.proofs.Locked.{may_hold}

@@ -1,5 +1,5 @@
 use Rattle.std.proofs.Common.{Bool, sym, ap, subst, ◌∙◌}
-use Rattle.depot_model.specs.Step.{Step as ModelStep}
+use Rattle.depot_rows.specs.depot_model.Step.{Step as ModelStep}
 use Rattle.reply_rows.specs.Made.{IsMade}
 use Rattle.opened_files.specs.Locks.{locking}
 use Rattle.opened_files.proofs.Locked.{locks, none_other}

@@ -1,7 +1,7 @@
 use Rattle.std.proofs.Common.{Option, List, ◌++◌, sym, ap, subst, append-nil}
 use Rattle.std.specs.Prelude.{option_map}
-use Rattle.depot_model.specs.Deeds.{Deed}
-use Rattle.depot_model.specs.Steps.Moving.{renamed}
+use Rattle.depot_rows.specs.depot_model.Deeds.{Deed}
+use Rattle.depot_rows.specs.depot_model.Steps.Moving.{renamed}
 use Rattle.depot_rows.specs.Deed.{opening_of}
 use Rattle.depot_rows.specs.Effects.{Follow}
 use Rattle.depot_rows.specs.declared.deed.Opening.{Opening}

@@ -1,7 +1,7 @@
 use Rattle.std.proofs.Common.{Option, List, [], ◌∷◌, ◌++◌, sym, ap, subst, ◌∙◌}
-use Rattle.depot_path.specs.Path.{is_path}
-use Rattle.depot_model.specs.Deeds.{Open as Opens, Opening}
-use Rattle.depot_model.specs.Steps.Moving.{opening_at, renamed, shut}
+use Rattle.depot_rows.specs.depot_path.Path.{is_path}
+use Rattle.depot_rows.specs.depot_model.Deeds.{Open as Opens, Opening}
+use Rattle.depot_rows.specs.depot_model.Steps.Moving.{opening_at, renamed, shut}
 use Rattle.depot_rows.specs.Deed.{opening_of}
 use Rattle.depot_rows.specs.Effects.{Follow}
 use Rattle.depot_rows.specs.declared.deed.Deed.{Deed}

@@ -1,6 +1,6 @@
 use Rattle.std.proofs.Common.{List, ℕ, subst, ◌∙◌}
-use Rattle.table_changes.specs.Changed.{rows_of}
-use Rattle.depot_model.specs.Steps.Moving.{move_all}
+use Rattle.depot_rows.specs.table_changes.Changed.{rows_of}
+use Rattle.depot_rows.specs.depot_model.Steps.Moving.{move_all}
 use Rattle.reply_rows.specs.Made.{IsMade}
 use Rattle.opened_files.proofs.moving.move_asked.Goals as goal
 

@@ -1,5 +1,5 @@
 use Rattle.std.proofs.Common.{Bool, List, true, false, refl, sym, subst, ◌∙◌}
-use Rattle.depot_model.specs.Deeds.{Deed}
+use Rattle.depot_rows.specs.depot_model.Deeds.{Deed}
 use Rattle.depot_rows.specs.Deed.{action_of}
 use Rattle.depot_rows.specs.Effects.{Follow}
 use Rattle.opened_files.specs.Moves.{is_move_add}

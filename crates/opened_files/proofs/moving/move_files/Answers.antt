@@ -1,7 +1,7 @@
 use Rattle.std.proofs.Common.{◌≡◌, Some, None, ◌∙◌}
-use Rattle.table_changes.specs.Changed.{rows_of}
-use Rattle.depot_model.specs.Arguments.{within_files}
-use Rattle.depot_model.specs.Steps.Opening.{named_change_refusal}
+use Rattle.depot_rows.specs.table_changes.Changed.{rows_of}
+use Rattle.depot_rows.specs.depot_model.Arguments.{within_files}
+use Rattle.depot_rows.specs.depot_model.Steps.Opening.{named_change_refusal}
 use Rattle.reply_rows.proofs.Joined.{passed, refused}
 use Rattle.opened_files.specs.Moves.{moves_named}
 use Rattle.opened_files.proofs.moving.move_files.Goals as goal

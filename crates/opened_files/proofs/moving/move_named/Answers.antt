@@ -1,7 +1,7 @@
 use Rattle.std.proofs.Common.{◌≡◌, List, ℕ, [], sym, subst, ◌∙◌}
-use Rattle.table_changes.specs.Changed.{rows_of}
-use Rattle.depot_model.specs.Step.{Step as ModelStep}
-use Rattle.depot_model.specs.Steps.Moving.{move_all}
+use Rattle.depot_rows.specs.table_changes.Changed.{rows_of}
+use Rattle.depot_rows.specs.depot_model.Step.{Step as ModelStep}
+use Rattle.depot_rows.specs.depot_model.Steps.Moving.{move_all}
 use Rattle.reply_rows.specs.Made.{IsMade}
 use Rattle.opened_files.proofs.Moves.{none_there, some_moved, some_there}
 use Rattle.opened_files.proofs.moving.move_named.Goals as goal

@@ -1,7 +1,7 @@
 use Rattle.std.proofs.Common.{◌≡◌, ℕ, refl, sym, ap, ◌∙◌}
-use Rattle.table_changes.specs.Changed.{rows_of}
-use Rattle.depot_model.specs.Revisions.{head}
-use Rattle.depot_model.specs.Steps.Moving.{move_deeds, move_row}
+use Rattle.depot_rows.specs.table_changes.Changed.{rows_of}
+use Rattle.depot_rows.specs.depot_model.Revisions.{head}
+use Rattle.depot_rows.specs.depot_model.Steps.Moving.{move_deeds, move_row}
 use Rattle.depot_rows.specs.Deed.{opening_of}
 use Rattle.reply_rows.proofs.Joined.{made_done}
 use Rattle.opened_files.specs.Moves.{moved_row}

@@ -1,8 +1,8 @@
 use Rattle.std.proofs.Common.{◌≡◌, List, ℕ, false, sym, ap, subst, ◌∙◌}
 use Rattle.std.specs.Prelude.{filter}
-use Rattle.table_changes.specs.Changed.{rows_of}
-use Rattle.depot_path.specs.declared.file_spec.FileSpec.{FileSpec}
-use Rattle.depot_model.specs.Arguments.{names, opened_by}
+use Rattle.depot_rows.specs.table_changes.Changed.{rows_of}
+use Rattle.depot_rows.specs.depot_path.declared.file_spec.FileSpec.{FileSpec}
+use Rattle.depot_rows.specs.depot_model.Arguments.{names, opened_by}
 use Rattle.depot_rows.specs.Standing.{HasRows}
 use Rattle.named_files.specs.Listed.{files_of, listing_table}
 use Rattle.named_files.specs.Sets.{at_head}

@@ -1,7 +1,7 @@
 use Rattle.std.proofs.Common.{ℕ, List, Option, sym, ap, ◌∙◌}
 use Rattle.std.specs.Prelude.{option_and_then}
-use Rattle.depot_model.specs.Deeds.{Opening}
-use Rattle.depot_model.specs.Opened.{named_back}
+use Rattle.depot_rows.specs.depot_model.Deeds.{Opening}
+use Rattle.depot_rows.specs.depot_model.Opened.{named_back}
 use Rattle.opened_files.specs.Moves.{back_named}
 use Rattle.opened_files.proofs.moving.other_end.Goals as goal
 

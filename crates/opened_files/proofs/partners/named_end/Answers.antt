@@ -1,7 +1,7 @@
 use Rattle.std.proofs.Common.{sym, ap, ◌∙◌}
 use Rattle.std.specs.Prelude.{option_map}
 use Rattle.std.specs.Option.{option_copied}
-use Rattle.db_records.specs.declared.record.Record.TheVariants.{Working}
+use Rattle.depot_rows.specs.db_records.declared.record.Record.TheVariants.{Working}
 use Rattle.opened_files.proofs.Ends.{end_told, no_end}
 use Rattle.opened_files.proofs.partners.named_end.Goals as goal
 

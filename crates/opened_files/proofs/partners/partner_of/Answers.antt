@@ -1,6 +1,6 @@
 use Rattle.std.proofs.Common.{ℕ, List, Option, true, false, sym, ap, ◌∙◌}
 use Rattle.std.specs.Option.{option_map_or}
-use Rattle.depot_path.specs.Bytes.{same}
+use Rattle.depot_rows.specs.depot_path.Bytes.{same}
 use Rattle.opened_files.proofs.Ends.{partner_by}
 use Rattle.opened_files.proofs.partners.partner_of.Goals as goal
 

@@ -1,8 +1,8 @@
 use Rattle.std.proofs.Common.{ℕ, List, Option, Some, sym, ap, ◌∙◌}
 use Rattle.std.specs.Prelude.{option_map}
-use Rattle.depot_model.specs.declared.refusal.Refusal.TheVariants.{ExclusiveOpen}
-use Rattle.depot_model.specs.declared.reply.Row.{Row}
-use Rattle.depot_model.specs.Refusals.{refusal_row}
+use Rattle.depot_rows.specs.depot_model.declared.refusal.Refusal.TheVariants.{ExclusiveOpen}
+use Rattle.depot_rows.specs.depot_model.declared.reply.Row.{Row}
+use Rattle.depot_rows.specs.depot_model.Refusals.{refusal_row}
 use Rattle.opened_files.proofs.refusing.exclusive_refusal.Goals as goal
 
 pub returns-in_ok-row-in-Some : goal.returns-in_ok-row-in-Some

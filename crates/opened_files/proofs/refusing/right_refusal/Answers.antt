@@ -1,12 +1,12 @@
 use Rattle.std.proofs.Common.{◌≡◌, Bool, Some, sym, ap, ◌∙◌}
 use Rattle.std.specs.Prelude.{not, option_map}
-use Rattle.depot_path.specs.Path.{printed}
-use Rattle.protect_table.specs.Rights.{may}
-use Rattle.depot_model.specs.declared.refusal.Refusal.TheVariants.{Denied}
-use Rattle.depot_model.specs.declared.reply.Row.{Row}
-use Rattle.depot_model.specs.Asking.{may_at}
-use Rattle.depot_model.specs.Refusals.{refusal_row}
-use Rattle.depot_model.specs.Step.{refuse_if}
+use Rattle.depot_rows.specs.depot_path.Path.{printed}
+use Rattle.depot_rows.specs.protect_table.Rights.{may}
+use Rattle.depot_rows.specs.depot_model.declared.refusal.Refusal.TheVariants.{Denied}
+use Rattle.depot_rows.specs.depot_model.declared.reply.Row.{Row}
+use Rattle.depot_rows.specs.depot_model.Asking.{may_at}
+use Rattle.depot_rows.specs.depot_model.Refusals.{refusal_row}
+use Rattle.depot_rows.specs.depot_model.Step.{refuse_if}
 use Rattle.opened_files.proofs.refusing.right_refusal.Goals as goal
 
 pub returns-then-may : goal.returns-then-may

@@ -1,8 +1,8 @@
 use Rattle.std.proofs.Common.{◌≡◌, [], Some, None, ◌∙◌}
-use Rattle.table_changes.specs.Changed.{rows_of}
-use Rattle.depot_model.specs.Arguments.{over, within_files}
-use Rattle.depot_model.specs.Steps.Opening.{reopened_change_refusal}
-use Rattle.depot_model.specs.Steps.Reverting.{not_open, reopen_file, selected}
+use Rattle.depot_rows.specs.table_changes.Changed.{rows_of}
+use Rattle.depot_rows.specs.depot_model.Arguments.{over, within_files}
+use Rattle.depot_rows.specs.depot_model.Steps.Opening.{reopened_change_refusal}
+use Rattle.depot_rows.specs.depot_model.Steps.Reverting.{not_open, reopen_file, selected}
 use Rattle.reply_rows.proofs.Joined.{passed, refused}
 use Rattle.opened_files.proofs.reopening.reopen.Goals as goal
 

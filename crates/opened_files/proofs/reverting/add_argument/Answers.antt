@@ -1,8 +1,8 @@
 use Rattle.std.proofs.Common.{◌≡◌, ℕ, List, [], ◌++◌, true, false, sym, subst, ◌∙◌}
 use Rattle.std.specs.Prelude.{flat_map}
-use Rattle.table_changes.specs.Changed.{rows_of}
-use Rattle.depot_model.specs.Step.{Step as ModelStep, after, both}
-use Rattle.depot_model.specs.Steps.Reverting.{both_ends, not_open, revert_files, selected}
+use Rattle.depot_rows.specs.table_changes.Changed.{rows_of}
+use Rattle.depot_rows.specs.depot_model.Step.{Step as ModelStep, after, both}
+use Rattle.depot_rows.specs.depot_model.Steps.Reverting.{both_ends, not_open, revert_files, selected}
 use Rattle.reply_rows.specs.Made.{IsMade}
 use Rattle.opened_files.specs.Reverts.{AreAlike, IsReverted}
 use Rattle.opened_files.proofs.Reverts.{chosen_are, joined_made, none_named, some_named}

@@ -1,9 +1,9 @@
 use Rattle.std.proofs.Common.{◌≡◌, ℕ, Bool, List, false, ◌++◌, sym, subst, ◌∙◌}
 use Rattle.std.specs.Prelude.{if◌then◌else◌}
-use Rattle.table_changes.specs.Changed.{rows_of}
-use Rattle.depot_model.specs.Arguments.{is_in}
-use Rattle.depot_model.specs.Step.{after, both, nothing}
-use Rattle.depot_model.specs.Steps.Reverting.{revert_file}
+use Rattle.depot_rows.specs.table_changes.Changed.{rows_of}
+use Rattle.depot_rows.specs.depot_model.Arguments.{is_in}
+use Rattle.depot_rows.specs.depot_model.Step.{after, both, nothing}
+use Rattle.depot_rows.specs.depot_model.Steps.Reverting.{revert_file}
 use Rattle.reply_rows.specs.Made.{IsMade}
 use Rattle.opened_files.specs.Reverts.{AreAlike}
 use Rattle.opened_files.proofs.Reverts.{joined_made}

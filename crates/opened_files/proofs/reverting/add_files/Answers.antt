@@ -1,9 +1,9 @@
 use Rattle.std.proofs.Common.{ℕ, List, ◌++◌, ◌-◌, length, take, drop, ap, ◌∙◌}
 use Rattle.std.specs.Prelude.{flat_map, if◌then◌else◌}
-use Rattle.table_changes.specs.Changed.{rows_of}
-use Rattle.depot_model.specs.Arguments.{is_in}
-use Rattle.depot_model.specs.Step.{both, nothing}
-use Rattle.depot_model.specs.Steps.Reverting.{both_ends, revert_file, revert_files}
+use Rattle.depot_rows.specs.table_changes.Changed.{rows_of}
+use Rattle.depot_rows.specs.depot_model.Arguments.{is_in}
+use Rattle.depot_rows.specs.depot_model.Step.{both, nothing}
+use Rattle.depot_rows.specs.depot_model.Steps.Reverting.{both_ends, revert_file, revert_files}
 use Rattle.file_steps.proofs.Going.{parted}
 use Rattle.opened_files.proofs.Reverts.{ends_first, file_then, last_reverted}
 use Rattle.opened_files.proofs.reverting.add_files.Goals as goal

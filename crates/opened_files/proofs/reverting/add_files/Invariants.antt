@@ -1,9 +1,9 @@
 use Rattle.std.proofs.Common.{◌≡◌, ℕ, List, ◌++◌, length}
 use Rattle.std.specs.Prelude.{flat_map}
-use Rattle.table_changes.specs.Changed.{rows_of}
-use Rattle.depot_model.specs.Deeds.{Deed}
-use Rattle.depot_model.specs.Step.{Step as ModelStep, both}
-use Rattle.depot_model.specs.Steps.Reverting.{both_ends, revert_files}
+use Rattle.depot_rows.specs.table_changes.Changed.{rows_of}
+use Rattle.depot_rows.specs.depot_model.Deeds.{Deed}
+use Rattle.depot_rows.specs.depot_model.Step.{Step as ModelStep, both}
+use Rattle.depot_rows.specs.depot_model.Steps.Reverting.{both_ends, revert_files}
 use Rattle.opened_files.specs.Reverts.{AreAlike, IsReverted, Reads}
 use Rattle.opened_files.proofs.reverting.add_files.Given as goal
 

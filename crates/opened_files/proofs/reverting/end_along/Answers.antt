@@ -1,7 +1,7 @@
 use Rattle.std.proofs.Common.{◌≡◌, Bool, None, sym, ap, ◌∙◌}
 use Rattle.std.specs.Prelude.{if◌then◌else◌}
-use Rattle.protect_table.specs.Rights.{may}
-use Rattle.depot_model.specs.Asking.{may_at}
+use Rattle.depot_rows.specs.protect_table.Rights.{may}
+use Rattle.depot_rows.specs.depot_model.Asking.{may_at}
 use Rattle.opened_files.specs.Partners.{partner_path}
 use Rattle.opened_files.proofs.Reverts.{ends_are}
 use Rattle.opened_files.proofs.reverting.end_along.Goals as goal

@@ -1,10 +1,10 @@
 use Rattle.std.proofs.Common.{ℕ, List, [], ◌++◌, ◌-◌, length, take, drop, refl, sym, ap, subst, ◌∙◌}
 use Rattle.std.specs.Prelude.{flat_map}
-use Rattle.depot_model.specs.declared.command.FileArgument.{FileArgument}
-use Rattle.table_changes.specs.Changed.{rows_of}
-use Rattle.depot_model.specs.Arguments.{is_in}
-use Rattle.depot_model.specs.Step.{both, nothing}
-use Rattle.depot_model.specs.Steps.Reverting.{both_ends, revert_named, revert_over, selected}
+use Rattle.depot_rows.specs.depot_model.declared.command.FileArgument.{FileArgument}
+use Rattle.depot_rows.specs.table_changes.Changed.{rows_of}
+use Rattle.depot_rows.specs.depot_model.Arguments.{is_in}
+use Rattle.depot_rows.specs.depot_model.Step.{both, nothing}
+use Rattle.depot_rows.specs.depot_model.Steps.Reverting.{both_ends, revert_named, revert_over, selected}
 use Rattle.reply_rows.specs.Made.{IsMade}
 use Rattle.reply_rows.specs.declared.step.Step.{Step}
 use Rattle.reply_rows.proofs.Bare.{tells_made}

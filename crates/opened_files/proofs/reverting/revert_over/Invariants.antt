@@ -1,8 +1,8 @@
 use Rattle.std.proofs.Common.{◌≡◌, ℕ, List, [], length}
-use Rattle.table_changes.specs.Changed.{rows_of}
-use Rattle.depot_model.specs.Deeds.{Deed}
-use Rattle.depot_model.specs.Step.{Step as ModelStep, both}
-use Rattle.depot_model.specs.Steps.Reverting.{revert_over}
+use Rattle.depot_rows.specs.table_changes.Changed.{rows_of}
+use Rattle.depot_rows.specs.depot_model.Deeds.{Deed}
+use Rattle.depot_rows.specs.depot_model.Step.{Step as ModelStep, both}
+use Rattle.depot_rows.specs.depot_model.Steps.Reverting.{revert_over}
 use Rattle.opened_files.specs.Reverts.{IsReverted, Reads}
 use Rattle.opened_files.proofs.reverting.revert_over.Given as goal
 

@@ -1,13 +1,13 @@
 use Rattle.std.proofs.Common.{ℕ, [], ◌∷◌, refl, sym, ap, subst, ◌∙◌}
-use Rattle.depot_path.specs.Path.{is_path}
-use Rattle.depot_model.specs.Deeds.{Shut}
-use Rattle.depot_model.specs.Latest.{have}
-use Rattle.depot_model.specs.Steps.Opening.{held}
+use Rattle.depot_rows.specs.depot_path.Path.{is_path}
+use Rattle.depot_rows.specs.depot_model.Deeds.{Shut}
+use Rattle.depot_rows.specs.depot_model.Latest.{have}
+use Rattle.depot_rows.specs.depot_model.Steps.Opening.{held}
 use Rattle.depot_rows.specs.Effects.{Follow}
 use Rattle.depot_rows.specs.declared.deed.Deed.TheVariants as dones
 use Rattle.depot_rows.specs.declared.deed.Held.{Held}
 use Rattle.reply_rows.proofs.Joined.{made_done}
-use Rattle.table_changes.specs.Changed.{rows_of}
+use Rattle.depot_rows.specs.table_changes.Changed.{rows_of}
 use Rattle.opened_files.specs.Reverts.{shut_row}
 use Rattle.opened_files.proofs.reverting.shut.Goals as goal
 

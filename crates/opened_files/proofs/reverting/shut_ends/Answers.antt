@@ -1,8 +1,8 @@
 use Rattle.std.proofs.Common.{ℕ, List, Option, ◌∷◌, sym, subst}
 use Rattle.std.specs.Option.{option_to_list}
-use Rattle.table_changes.specs.Changed.{rows_of}
-use Rattle.depot_model.specs.Step.{Step as ModelStep, after, all_of, both, nothing}
-use Rattle.depot_model.specs.Steps.Reverting.{shut}
+use Rattle.depot_rows.specs.table_changes.Changed.{rows_of}
+use Rattle.depot_rows.specs.depot_model.Step.{Step as ModelStep, after, all_of, both, nothing}
+use Rattle.depot_rows.specs.depot_model.Steps.Reverting.{shut}
 use Rattle.reply_rows.specs.Made.{IsMade}
 use Rattle.reply_rows.proofs.Joined.{both_nothing}
 use Rattle.opened_files.proofs.Reverts.{joined_made}

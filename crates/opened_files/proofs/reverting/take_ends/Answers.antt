@@ -1,7 +1,7 @@
 use Rattle.std.proofs.Common.{ℕ, List, Option, [], ◌∷◌, ◌++◌, sym, ap, ◌∙◌}
 use Rattle.std.specs.Option.{option_to_list}
-use Rattle.depot_model.specs.Arguments.{is_in}
-use Rattle.depot_model.specs.Sorted.{path_inserted}
+use Rattle.depot_rows.specs.depot_model.Arguments.{is_in}
+use Rattle.depot_rows.specs.depot_model.Sorted.{path_inserted}
 use Rattle.opened_files.proofs.Reverts.{other_first, taken_more}
 use Rattle.opened_files.proofs.reverting.take_ends.Goals as goal
 

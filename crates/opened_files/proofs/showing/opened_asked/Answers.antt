@@ -1,6 +1,6 @@
 use Rattle.std.proofs.Common.{Bool, sym, subst}
-use Rattle.table_changes.specs.Changed.{rows_of}
-use Rattle.depot_model.specs.Steps.Reverting.{opened_step}
+use Rattle.depot_rows.specs.table_changes.Changed.{rows_of}
+use Rattle.depot_rows.specs.depot_model.Steps.Reverting.{opened_step}
 use Rattle.reply_rows.specs.Made.{IsMade}
 use Rattle.opened_files.proofs.showing.opened_asked.Goals as goal
 

@@ -1,9 +1,9 @@
 use Rattle.std.proofs.Common.{List, ℕ, false, true, subst, sym}
-use Rattle.table_changes.specs.Changed.{rows_of}
-use Rattle.depot_model.specs.declared.command.FileArgument.{FileArgument}
-use Rattle.depot_model.specs.Arguments.{named, over_all}
-use Rattle.depot_model.specs.Step.{tells}
-use Rattle.depot_model.specs.Steps.Reverting.{not_open, show_opened}
+use Rattle.depot_rows.specs.table_changes.Changed.{rows_of}
+use Rattle.depot_rows.specs.depot_model.declared.command.FileArgument.{FileArgument}
+use Rattle.depot_rows.specs.depot_model.Arguments.{named, over_all}
+use Rattle.depot_rows.specs.depot_model.Step.{tells}
+use Rattle.depot_rows.specs.depot_model.Steps.Reverting.{not_open, show_opened}
 use Rattle.depot_rows.specs.Standing.{HasRows}
 use Rattle.reply_rows.specs.Made.{IsMade}
 use Rattle.named_files.specs.Listed.{files_of, listing_table}

@@ -1,7 +1,7 @@
 use Rattle.std.proofs.Common.{◌≡◌, ◌++◌, map}
 use Rattle.std.specs.Prelude.{filter}
 use Rattle.row_ranges.specs.Ranges.{has_row, range_table}
-use Rattle.table_changes.specs.Changed.{rows_of}
+use Rattle.depot_rows.specs.table_changes.Changed.{rows_of}
 use Rattle.file_openings.specs.Openings.{workings}
 use Rattle.opened_files.specs.Shown.{is_shown, row_of_working}
 use Rattle.opened_files.proofs.showing.rows_shown.Given as goal

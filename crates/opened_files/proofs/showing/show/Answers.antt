@@ -1,10 +1,10 @@
 use Rattle.std.proofs.Common.{List, ap, ◌∙◌, map}
 use Rattle.std.specs.Prelude.{filter}
-use Rattle.db_records.specs.declared.record.Record.{Record}
+use Rattle.depot_rows.specs.db_records.declared.record.Record.{Record}
 use Rattle.row_ranges.specs.Ranges.{has_row, range_table}
 use Rattle.row_ranges.specs.declared.range.KeyRange.{KeyRange}
-use Rattle.table_changes.specs.Changed.{rows_of}
-use Rattle.depot_model.specs.declared.reply.Row.{Row}
+use Rattle.depot_rows.specs.table_changes.Changed.{rows_of}
+use Rattle.depot_rows.specs.depot_model.declared.reply.Row.{Row}
 use Rattle.reply_rows.specs.Made.{told}
 use Rattle.reply_rows.specs.declared.step.Step.{Step}
 use Rattle.file_openings.specs.Openings.{workings}

@@ -1,6 +1,6 @@
 use Rattle.std.proofs.Common.{Bool, sym, ap, subst, ◌∙◌}
 use Rattle.std.specs.Prelude.{if◌then◌else◌}
-use Rattle.depot_model.specs.Step.{Step as ModelStep, nothing}
+use Rattle.depot_rows.specs.depot_model.Step.{Step as ModelStep, nothing}
 use Rattle.reply_rows.specs.Made.{IsMade}
 use Rattle.opened_files.specs.Locks.{free_step, unlocking}
 use Rattle.opened_files.proofs.unlocking.unlock_file.Goals as goal

@@ -1,10 +1,10 @@
 use Rattle.std.proofs.Common.{List, map, sym, ap, ◌∙◌}
 use Rattle.std.specs.Prelude.{filter}
 use Rattle.std.specs.List.{filter_map}
-use Rattle.db_records.specs.declared.record.Record.{Record}
+use Rattle.depot_rows.specs.db_records.declared.record.Record.{Record}
 use Rattle.row_ranges.specs.Ranges.{has_row, range_table}
 use Rattle.row_ranges.specs.declared.range.KeyRange.{KeyRange}
-use Rattle.table_changes.specs.Changed.{rows_of}
+use Rattle.depot_rows.specs.table_changes.Changed.{rows_of}
 use Rattle.depot_rows.specs.Deed.{owing_of}
 use Rattle.depot_rows.specs.declared.deed.Owing.{Owing}
 use Rattle.opening_reads.specs.Owed.{owing_of_row}

@@ -1,6 +1,6 @@
 use Rattle.std.proofs.Common.{List, ap, sym, ◌++◌, ◌∙◌}
 use Rattle.std.specs.List.{filter_map}
-use Rattle.db_records.specs.declared.record.Record.{Record}
+use Rattle.depot_rows.specs.db_records.declared.record.Record.{Record}
 use Rattle.depot_rows.specs.declared.deed.Owing.{Owing}
 use Rattle.opening_reads.specs.Owed.{owing_of_row}
 use Rattle.opening_reads.proofs.Onwards.{one_more}

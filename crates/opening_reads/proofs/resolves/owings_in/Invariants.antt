@@ -2,7 +2,7 @@ use Rattle.std.proofs.Common.{◌≡◌, ◌++◌}
 use Rattle.std.specs.Prelude.{filter}
 use Rattle.std.specs.List.{filter_map}
 use Rattle.row_ranges.specs.Ranges.{has_row, range_table}
-use Rattle.table_changes.specs.Changed.{rows_of}
+use Rattle.depot_rows.specs.table_changes.Changed.{rows_of}
 use Rattle.opening_reads.specs.Owed.{owing_of_row}
 use Rattle.opening_reads.proofs.resolves.owings_in.Given as goal
 

@@ -1,4 +1,4 @@
-use Rattle.table_changes.specs.Changed.{rows_of}
+use Rattle.depot_rows.specs.table_changes.Changed.{rows_of}
 use Rattle.p4_server.proofs.Dumps.{dumps_unopened, dumps_opened}
 use Rattle.p4_server.proofs.Openings.{unopened_of, read_at_start}
 use Rattle.p4_server.proofs.dump.dump.Goals as goal

@@ -1,5 +1,5 @@
 use Rattle.std.proofs.Common.{◌≡◌, ℕ, rules}
-use Rattle.db_records.specs.declared.table.TableId.TheVariants.{Counter, Change, Rev}
+use Rattle.depot_rows.specs.db_records.declared.table.TableId.TheVariants.{Counter, Change, Rev}
 use Rattle.load_script.specs.declared.lines.LoadFigures.{LoadFigures}
 use Rattle.p4_server.proofs.load.figures_of.Goals as goal
 

@@ -1,6 +1,6 @@
 use Rattle.std.proofs.Common.{◌≤◌, length, Option}
 use Rattle.std.proofs.lemmas.List.Elements.{All-push}
-use Rattle.depot_model.specs.declared.request.Session.{Session}
+use Rattle.depot_rows.specs.depot_model.declared.request.Session.{Session}
 use Rattle.session_loop.specs.Asking.{AreWellFormed, commands_of, replica_commands}
 use Rattle.session_loop.specs.declared.reading.ReplicaScript.{ReplicaScript}
 use Rattle.p4_server.proofs.Readings.{read_more}

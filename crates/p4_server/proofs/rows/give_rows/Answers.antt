@@ -1,6 +1,6 @@
 use Rattle.std.proofs.Common.{subst, Err, ◌≡◌, ◌++◌, ◌∷◌, List, sym, ◌∙◌, map, arith}
 use Rattle.std.specs.Borrow.{Bor}
-use Rattle.db_records.specs.declared.record.Record.{Record}
+use Rattle.depot_rows.specs.db_records.declared.record.Record.{Record}
 use Rattle.p4_server.specs.Rows.{Prints, row_text, rows_text}
 use Rattle.wire_text.proofs.Pieces.{extended-nil}
 use Rattle.p4_server.proofs.RowsLemmas.{prints_last}

@@ -1,10 +1,10 @@
 use Rattle.std.proofs.Common.{subst, Err, ◌≡◌, ◌+◌, ◌++◌, ◌∷◌, List, ℕ, take, drop, get_or}
-use Rattle.db_records.specs.Table.{all_tables}
-use Rattle.db_records.specs.declared.table.TableId.{TableId}
-use Rattle.db_records.specs.declared.table.TableId.TheVariants.{Counter}
+use Rattle.depot_rows.specs.db_records.Table.{all_tables}
+use Rattle.depot_rows.specs.db_records.declared.table.TableId.{TableId}
+use Rattle.depot_rows.specs.db_records.declared.table.TableId.TheVariants.{Counter}
 use Rattle.p4_server.specs.Rows.{Prints, rows_text, tables_text}
-use Rattle.table_store.specs.Rows.{TableRows}
-use Rattle.table_store.specs.Tables.{version_of}
+use Rattle.depot_rows.specs.table_store.Rows.{TableRows}
+use Rattle.depot_rows.specs.table_store.Tables.{version_of}
 use Rattle.p4_server.proofs.RowsLemmas.{prints_last}
 use Rattle.p4_server.proofs.Tellings.{parted}
 use Rattle.p4_server.proofs.rows.give_tables.Goals as goal

@@ -1,7 +1,7 @@
 use Rattle.std.proofs.Common.{◌≡◌, ◌≤◌, take}
 use Rattle.outside_api.specs.Told.{extended}
-use Rattle.db_records.specs.Table.{all_tables}
-use Rattle.table_store.specs.Tables.{version_of}
+use Rattle.depot_rows.specs.db_records.Table.{all_tables}
+use Rattle.depot_rows.specs.table_store.Tables.{version_of}
 use Rattle.p4_server.specs.Rows.{tables_text}
 use Rattle.p4_server.proofs.rows.give_tables.Given as goal
 

@@ -1,7 +1,7 @@
 use Rattle.std.proofs.Common.{◌∙◌, ap, refl, Err}
 use Rattle.archive_file.specs.Archive as archives
 use Rattle.disk_journal.specs.Stands.{disk_of}
-use Rattle.serial_depot.specs.declared.depot.SerialDepot.{SerialDepot}
+use Rattle.session_turns.specs.serial_depot.declared.depot.SerialDepot.{SerialDepot}
 use Rattle.p4_server.specs.Parties.{parties_of}
 use Rattle.p4_server.specs.Words.{words_of}
 use Rattle.p4_server.proofs.Openings.{opened_of, unopened_of}

@@ -1,5 +1,5 @@
 use Rattle.std.proofs.Common.{◌≡◌, length}
-use Rattle.depot_model.specs.Rules.{are_distinct}
+use Rattle.depot_rows.specs.depot_model.Rules.{are_distinct}
 use Rattle.p4_server.specs.Words.{words_of}
 use Rattle.p4_server.proofs.words.are_distinct.Given as goal
 

@@ -1,6 +1,6 @@
 use Rattle.std.proofs.Common.{◌≡◌, length}
 use Rattle.std.specs.List.{list_all}
-use Rattle.depot_path.specs.Name.{is_name}
+use Rattle.depot_rows.specs.depot_path.Name.{is_name}
 use Rattle.p4_server.specs.Words.{words_of}
 use Rattle.p4_server.proofs.words.are_names.Given as goal
 

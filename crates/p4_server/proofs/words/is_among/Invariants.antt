@@ -1,6 +1,6 @@
 use Rattle.std.proofs.Common.{◌≡◌, length}
 use Rattle.std.specs.List.{list_any}
-use Rattle.depot_path.specs.Bytes.{same}
+use Rattle.depot_rows.specs.depot_path.Bytes.{same}
 use Rattle.p4_server.specs.Words.{words_of}
 use Rattle.p4_server.proofs.words.is_among.Given as goal
 

@@ -1,6 +1,6 @@
 use Rattle.std.proofs.Common.{◌≡◌, ◌∷◌, ◌∙◌, ℕ, max, arith, rules}
-use Rattle.db_records.specs.declared.table.TableId.TheVariants.{Rev}
-use Rattle.table_changes.specs.Changed.{rows_of}
+use Rattle.depot_rows.specs.db_records.declared.table.TableId.TheVariants.{Rev}
+use Rattle.depot_rows.specs.table_changes.Changed.{rows_of}
 use Rattle.recovery.specs.Contents.{IsBadAt, IsSpotDamage}
 use Rattle.recovery.proofs.GoodSpots.{checked_none, checked_more, checked_all, checked_bad}
 use Rattle.recovery.proofs.Looks.{reads_on}

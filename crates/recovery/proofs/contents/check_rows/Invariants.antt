@@ -1,6 +1,6 @@
 use Rattle.std.proofs.Common.{◌≤◌}
-use Rattle.db_records.specs.declared.table.TableId.TheVariants.{Rev}
-use Rattle.table_changes.specs.Changed.{rows_of}
+use Rattle.depot_rows.specs.db_records.declared.table.TableId.TheVariants.{Rev}
+use Rattle.depot_rows.specs.table_changes.Changed.{rows_of}
 use Rattle.recovery.specs.Looking.{OnlyReads}
 use Rattle.recovery.proofs.GoodSpots.{AreChecked}
 use Rattle.recovery.proofs.contents.check_rows.Given as goal

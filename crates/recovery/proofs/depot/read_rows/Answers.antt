@@ -1,7 +1,7 @@
 use Rattle.std.proofs.Common.{◌≡◌, ◌+◌, ◌*◌, Err, length, refl, sym, subst, ap, ◌∙◌, arith}
 use Rattle.recovery.specs.declared.fault.OpenFault.{OpenFault}
-use Rattle.table_changes.specs.Changed.{rows_of}
-use Rattle.table_changes.specs.Drafts.{rows_of_draft}
+use Rattle.depot_rows.specs.table_changes.Changed.{rows_of}
+use Rattle.depot_rows.specs.table_changes.Drafts.{rows_of_draft}
 use Rattle.journal_groups.specs.Groups.{group_text}
 use Rattle.recovery.specs.Holding.{group_texts}
 use Rattle.recovery.proofs.Looks.{reads_on, passed_cause, passed_nothing, other_cause, no_cause}
@@ -9,8 +9,8 @@ use Rattle.recovery.proofs.Held.{blocks_of, are_texts, length_texts, read_rows, 
 use Rattle.recovery.specs.Damage.{IsCheckpointDamage, IsJournalDamage, of_checkpoint, of_journal, IsDamage}
 use Rattle.recovery.specs.Faults.{IfDamaged, Tells}
 use Rattle.recovery.specs.declared.rows.JournalEnd.{JournalEnd}
-use Rattle.table_changes.specs.Changed.{AllRows, changed_by, no_rows}
-use Rattle.table_changes.specs.declared.draft.TablesDraft.{TablesDraft}
+use Rattle.depot_rows.specs.table_changes.Changed.{AllRows, changed_by, no_rows}
+use Rattle.depot_rows.specs.table_changes.declared.draft.TablesDraft.{TablesDraft}
 use Rattle.recovery.proofs.Damaged.{journal_damage}
 use Rattle.recovery.proofs.PassedOn.{passed_on}
 use Rattle.recovery.proofs.depot.read_rows.Goals as goal

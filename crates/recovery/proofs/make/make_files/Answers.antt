@@ -1,5 +1,5 @@
 use Rattle.std.proofs.Common.{inl, inr}
-use Rattle.depot_model.proofs.Empty.{empty_is_sound}
+use Rattle.depot_rows.proofs.depot_model.Empty.{empty_is_sound}
 use Rattle.recovery.proofs.Empty.{made_stands, made_committed}
 use Rattle.recovery.proofs.Making.{looks_at_none, looked, looked_images, looked_moments, made_images, made_moments, others_read, disk_fault}
 use Rattle.recovery.proofs.make.make_files.Goals as goal

@@ -1,8 +1,8 @@
 use Rattle.std.proofs.Common.{◌≡◌, ◌≤◌, ℕ, length, sym, ap, subst, ◌∙◌}
-use Rattle.db_records.specs.declared.table.TableId.{TableId}
-use Rattle.db_records.specs.declared.table.TableId.TheVariants.{Rev}
-use Rattle.table_store.specs.Rows.{TableRows}
-use Rattle.table_changes.specs.Changed.{AllRows, rows_of}
+use Rattle.depot_rows.specs.db_records.declared.table.TableId.{TableId}
+use Rattle.depot_rows.specs.db_records.declared.table.TableId.TheVariants.{Rev}
+use Rattle.depot_rows.specs.table_store.Rows.{TableRows}
+use Rattle.depot_rows.specs.table_changes.Changed.{AllRows, rows_of}
 use Rattle.recovery.specs.Holding.{spots_end}
 use Rattle.recovery.specs.Contents.{AreWhole}
 use Rattle.recovery.specs.Damage.{IsDamage}

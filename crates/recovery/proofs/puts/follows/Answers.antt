@@ -1,6 +1,6 @@
 use Rattle.std.proofs.Common.{◌≡◌, ap, ◌∙◌, rules}
 use Rattle.std.specs.Ordering.{is_lt}
-use Rattle.db_records.specs.declared.change.Op.TheVariants.{Put}
+use Rattle.depot_rows.specs.db_records.declared.change.Op.TheVariants.{Put}
 use Rattle.recovery.proofs.OnePut.{follows_last}
 use Rattle.recovery.proofs.puts.follows.Goals as goal
 

@@ -1,7 +1,7 @@
 use Rattle.std.proofs.Common.{◌≡◌, ◌+◌, take, subst, ◌∙◌, ap}
 use Rattle.std.proofs.lemmas.List.{take_all}
-use Rattle.table_changes.specs.Changed.{AllFitIn, changed_by}
-use Rattle.table_changes.specs.Drafts.{rows_of_draft}
+use Rattle.depot_rows.specs.table_changes.Changed.{AllFitIn, changed_by}
+use Rattle.depot_rows.specs.table_changes.Drafts.{rows_of_draft}
 use Rattle.recovery.proofs.FirstBad.{told_bad}
 use Rattle.recovery.proofs.Fits.{fits_taken}
 use Rattle.recovery.proofs.rows.make_changes.Goals as goal

@@ -1,6 +1,6 @@
 use Rattle.std.proofs.Common.{◌≡◌, ap, ◌∙◌, sym, subst, Bool, true, false}
-use Rattle.table_changes.specs.Changed.{FitsIn, changed_in, AllRows}
-use Rattle.table_changes.specs.Drafts.{rows_of_draft}
+use Rattle.depot_rows.specs.table_changes.Changed.{FitsIn, changed_in, AllRows}
+use Rattle.depot_rows.specs.table_changes.Drafts.{rows_of_draft}
 use Rattle.recovery.proofs.Fits.{fits_more, fitted_more, changed_more}
 use Rattle.recovery.proofs.rows.make_fitting.Goals as goal
 

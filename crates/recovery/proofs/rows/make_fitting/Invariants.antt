@@ -1,6 +1,6 @@
 use Rattle.std.proofs.Common.{◌≡◌, take}
-use Rattle.table_changes.specs.Changed.{AllFitIn, changed_by}
-use Rattle.table_changes.specs.Drafts.{rows_of_draft}
+use Rattle.depot_rows.specs.table_changes.Changed.{AllFitIn, changed_by}
+use Rattle.depot_rows.specs.table_changes.Drafts.{rows_of_draft}
 use Rattle.recovery.proofs.rows.make_fitting.Given as goal
 
 abbrev pub invariant-loop-i : goal.invariant-loop-i

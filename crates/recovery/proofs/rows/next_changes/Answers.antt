@@ -1,7 +1,7 @@
 use Rattle.std.proofs.Common.{◌≡◌, ℕ, ◌-◌, List, Option, Err, sym, ap, subst, ◌∙◌}
-use Rattle.db_records.specs.declared.change.Change.{Change}
-use Rattle.table_changes.specs.Changed.{AllFitIn}
-use Rattle.table_changes.specs.Drafts.{rows_of_draft}
+use Rattle.depot_rows.specs.db_records.declared.change.Change.{Change}
+use Rattle.depot_rows.specs.table_changes.Changed.{AllFitIn}
+use Rattle.depot_rows.specs.table_changes.Drafts.{rows_of_draft}
 use Rattle.recovery.specs.Faults.{IfDamaged}
 use Rattle.recovery.specs.Pieces.{text_left, IsBadPlace, IsTextDamage}
 use Rattle.recovery.specs.declared.fault.OpenFault.{OpenFault}

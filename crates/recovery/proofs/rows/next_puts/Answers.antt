@@ -1,5 +1,5 @@
 use Rattle.std.proofs.Common.{◌≡◌, ℕ, ◌-◌, List, Option, Err, sym, ap, subst, ◌∙◌}
-use Rattle.db_records.specs.declared.change.Change.{Change}
+use Rattle.depot_rows.specs.db_records.declared.change.Change.{Change}
 use Rattle.recovery.specs.Faults.{IfDamaged}
 use Rattle.recovery.specs.Holding.{ArePuts}
 use Rattle.recovery.specs.Pieces.{text_left, IsBadPlace, IsTextDamage}

@@ -1,6 +1,6 @@
 use Rattle.std.proofs.Common.{◌≡◌, ◌+◌, ◌*◌, ◌-◌, ℕ, List, ◌++◌, Option, Some, length, subst, sym, ap, ◌∙◌, arith}
-use Rattle.db_records.specs.declared.change.Change.{Change}
-use Rattle.table_changes.specs.Changed.{AllRows, AllFitIn, changed_by, no_rows}
+use Rattle.depot_rows.specs.db_records.declared.change.Change.{Change}
+use Rattle.depot_rows.specs.table_changes.Changed.{AllRows, AllFitIn, changed_by, no_rows}
 use Rattle.recovery.specs.Damage.{IsCheckpointDamage}
 use Rattle.recovery.specs.Faults.{IsOfFile, SaysNothing}
 use Rattle.recovery.specs.Holding.{ArePuts}

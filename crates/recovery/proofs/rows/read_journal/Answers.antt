@@ -1,8 +1,8 @@
 use Rattle.std.proofs.Common.{◌≡◌, ◌+◌, ◌*◌, ◌-◌, ◌<◌, ◌^◌, ℕ, List, Option, Some, subst, sym, ap, ◌∙◌, arith}
 use Rattle.outside_api.specs.Moments.{then, weaker}
-use Rattle.db_records.specs.declared.change.Change.{Change}
-use Rattle.table_changes.specs.Changed.{AllRows, AllFitIn, changed_by}
-use Rattle.table_changes.specs.Drafts.{rows_of_draft}
+use Rattle.depot_rows.specs.db_records.declared.change.Change.{Change}
+use Rattle.depot_rows.specs.table_changes.Changed.{AllRows, AllFitIn, changed_by}
+use Rattle.depot_rows.specs.table_changes.Drafts.{rows_of_draft}
 use Rattle.recovery.specs.Damage.{IsJournalDamage}
 use Rattle.recovery.specs.Faults.{SaysNothing}
 use Rattle.recovery.specs.Pieces.{text_left, HasCome, IsBadPlace, IsFirst, IsTextDamage}

@@ -1,5 +1,5 @@
 use Rattle.std.proofs.Common.{◌≡◌, ◌+◌, ◌*◌, ◌-◌, ◌≤◌, ◌^◌}
-use Rattle.table_changes.specs.Drafts.{rows_of_draft}
+use Rattle.depot_rows.specs.table_changes.Drafts.{rows_of_draft}
 use Rattle.recovery.specs.Looking.{OnlyReads}
 use Rattle.recovery.specs.Reading.{SoFar}
 use Rattle.recovery.proofs.rows.read_journal.Given as goal

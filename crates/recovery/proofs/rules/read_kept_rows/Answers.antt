@@ -1,5 +1,5 @@
 use Rattle.std.proofs.Common.{◌≡◌, ℕ, sym, subst, ◌∙◌}
-use Rattle.table_changes.specs.Changed.{AllRows, rows_of}
+use Rattle.depot_rows.specs.table_changes.Changed.{AllRows, rows_of}
 use Rattle.recovery.specs.Damage.{IsDamage}
 use Rattle.recovery.specs.Faults.{Tells}
 use Rattle.recovery.specs.Rules.{SuitFiles}

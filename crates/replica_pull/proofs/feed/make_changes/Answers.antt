@@ -1,4 +1,4 @@
-use Rattle.table_changes.specs.Drafts.{rows_of_draft}
+use Rattle.depot_rows.specs.table_changes.Drafts.{rows_of_draft}
 use Rattle.replica_pull.specs.Feed.{Fit}
 use Rattle.replica_pull.proofs.Misfits.{misfit_at}
 use Rattle.replica_pull.proofs.feed.make_changes.Goals as goal

@@ -1,6 +1,6 @@
 use Rattle.std.proofs.Common.{[], ◌∷◌, ap, ◌∙◌, sym, subst, true, false}
-use Rattle.table_changes.specs.Changed.{AllRows}
-use Rattle.table_changes.specs.Drafts.{rows_of_draft}
+use Rattle.depot_rows.specs.table_changes.Changed.{AllRows}
+use Rattle.depot_rows.specs.table_changes.Drafts.{rows_of_draft}
 use Rattle.replica_pull.specs.Feed.{Fit, changed_cut, HasMade}
 use Rattle.replica_pull.proofs.Fitting.{fit_more, fitted_more, changed_more}
 use Rattle.replica_pull.proofs.feed.make_fitting.Goals as goal

@@ -1,5 +1,5 @@
 use Rattle.std.proofs.Common.{◌≡◌, take}
-use Rattle.table_changes.specs.Drafts.{rows_of_draft}
+use Rattle.depot_rows.specs.table_changes.Drafts.{rows_of_draft}
 use Rattle.replica_pull.specs.Feed.{Fit, changed_cut}
 use Rattle.replica_pull.proofs.feed.make_fitting.Given as goal
 

@@ -1,6 +1,6 @@
 use Rattle.std.proofs.Common.{inl, inr, ℕ, List, subst}
-use Rattle.db_records.specs.declared.change.Change.{Change}
-use Rattle.table_changes.specs.Drafts.{rows_of_draft}
+use Rattle.depot_rows.specs.db_records.declared.change.Change.{Change}
+use Rattle.depot_rows.specs.table_changes.Drafts.{rows_of_draft}
 use Rattle.replica_pull.specs.Feed.{Fit, IsBadPlace, IsFirstMisfit}
 use Rattle.replica_pull.proofs.Fitting.{fit_front}
 use Rattle.replica_pull.proofs.Misfits.{all_good, passed_bad, rest_record}

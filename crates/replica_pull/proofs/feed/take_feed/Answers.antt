@@ -1,6 +1,6 @@
 use Rattle.std.proofs.Common.{inl, sym, subst}
-use Rattle.table_changes.specs.Changed.{AllRows, rows_of}
-use Rattle.table_changes.specs.Drafts.{rows_of_draft}
+use Rattle.depot_rows.specs.table_changes.Changed.{AllRows, rows_of}
+use Rattle.depot_rows.specs.table_changes.Drafts.{rows_of_draft}
 use Rattle.replica_pull.specs.declared.feed.Taken.{Taken}
 use Rattle.replica_pull.specs.Feed.{Fit, AreTaken, IsBadFeed, IsFirstMisfit}
 use Rattle.replica_pull.proofs.Fitting.{fit_front}

@@ -1,9 +1,9 @@
 use Rattle.std.proofs.Common.{◌≡◌, ◌+◌, ◌<◌, ◌^◌, List, [], ◌∷◌, ◌++◌, length, Option, Some, ◌∙◌, ap, subst, arith, length-append}
-use Rattle.db_records.specs.declared.change.Change.{Change}
+use Rattle.depot_rows.specs.db_records.declared.change.Change.{Change}
 use Rattle.journal_groups.specs.Groups.{groups_text}
 use Rattle.journal_groups.specs.Reader.{HasTaken}
-use Rattle.table_changes.specs.Changed.{AllRows}
-use Rattle.table_changes.specs.Drafts.{rows_of_draft}
+use Rattle.depot_rows.specs.table_changes.Changed.{AllRows}
+use Rattle.depot_rows.specs.table_changes.Drafts.{rows_of_draft}
 use Rattle.recovery.proofs.Journals.{few}
 use Rattle.replica_pull.specs.Feed.{Fit, changed_cut, IsBadFeed, IsBadPlace, IsNextOf}
 use Rattle.replica_pull.proofs.Misfits.{passed_bad}

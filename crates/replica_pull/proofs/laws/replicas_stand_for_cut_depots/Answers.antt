@@ -1,4 +1,4 @@
-use Rattle.table_changes.specs.Changed.{rows_of}
+use Rattle.depot_rows.specs.table_changes.Changed.{rows_of}
 use Rattle.cut_depots.proofs.Sound.{cut_sound}
 use Rattle.replica_pull.specs.Prefix.{first_rows}
 use Rattle.replica_pull.proofs.Cutting.{depot_rows}

@@ -1,7 +1,7 @@
 use Rattle.std.proofs.Common.{◌≡◌, ℕ, List, [], ◌∷◌, refl, sym, ap, subst, ◌∙◌, rules}
 use Rattle.outside_api.specs.Link.{Answers}
 use Rattle.depot_runs.specs.Replica.{position_row}
-use Rattle.depot_model.specs.Printed.{printed}
+use Rattle.depot_rows.specs.depot_model.Printed.{printed}
 use Rattle.replica_turns.specs.Replying.{IsPullAnswer}
 use Rattle.replica_turns.specs.declared.party.Answered.{Answered}
 use Rattle.replica_turns.proofs.pulling.pull_into.Goals as goal

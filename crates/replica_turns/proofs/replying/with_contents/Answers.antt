@@ -1,5 +1,5 @@
 use Rattle.std.proofs.Common.{◌≡◌, List, sym, ap, subst, ◌∙◌}
-use Rattle.db_records.specs.declared.change.Spot.{Spot}
+use Rattle.depot_rows.specs.db_records.declared.change.Spot.{Spot}
 use Rattle.reply_rows.specs.Made.{contents_of}
 use Rattle.serial_depot.specs.Storing.{AreAt}
 use Rattle.replica_turns.specs.declared.party.Answered.{Answered}

@@ -1,7 +1,7 @@
 use Rattle.std.proofs.Common.{◌≡◌, ◌++◌}
 use Rattle.std.specs.List.{flat_map}
-use Rattle.depot_model.specs.FormRows.{form_fields, shown_field}
-use Rattle.spec_form.specs.Fields.{seen_fields}
+use Rattle.depot_rows.specs.depot_model.FormRows.{form_fields, shown_field}
+use Rattle.depot_rows.specs.spec_form.Fields.{seen_fields}
 use Rattle.reply_rows.proofs.forms.form_fields.Given as goal
 
 -- the fields, and those that are left

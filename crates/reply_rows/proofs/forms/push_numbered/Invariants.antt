@@ -1,7 +1,7 @@
 use Rattle.std.proofs.Common.{◌≡◌, ◌++◌, ◌+◌, length}
 use Rattle.std.specs.Prelude.{map}
 use Rattle.std.specs.List.{enumerate_from}
-use Rattle.depot_model.specs.FormRows.{numbered}
+use Rattle.depot_rows.specs.depot_model.FormRows.{numbered}
 use Rattle.reply_rows.proofs.forms.push_numbered.Given as goal
 
 abbrev pub invariant-loop-rest : goal.invariant-loop-rest

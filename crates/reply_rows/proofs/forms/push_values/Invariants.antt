@@ -1,6 +1,6 @@
 use Rattle.std.proofs.Common.{◌≡◌, ◌++◌, length}
 use Rattle.std.specs.Prelude.{map}
-use Rattle.depot_model.specs.Rows.{text_field}
+use Rattle.depot_rows.specs.depot_model.Rows.{text_field}
 use Rattle.reply_rows.proofs.forms.push_values.Given as goal
 
 abbrev pub invariant-loop-rest : goal.invariant-loop-rest

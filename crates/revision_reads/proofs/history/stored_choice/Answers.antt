@@ -1,10 +1,10 @@
 use Rattle.std.proofs.Common.{sym, ap, ◌∙◌}
 use Rattle.std.specs.Prelude.{option_map}
-use Rattle.depot_path.specs.Path.{printed}
-use Rattle.db_records.specs.declared.table.TableId.TheVariants as tables
-use Rattle.table_changes.specs.Changed.{rows_of}
-use Rattle.depot_model.specs.Choice.{Choice}
-use Rattle.depot_model.specs.Steps.Listing.{numbered}
+use Rattle.depot_rows.specs.depot_path.Path.{printed}
+use Rattle.depot_rows.specs.db_records.declared.table.TableId.TheVariants as tables
+use Rattle.depot_rows.specs.table_changes.Changed.{rows_of}
+use Rattle.depot_rows.specs.depot_model.Choice.{Choice}
+use Rattle.depot_rows.specs.depot_model.Steps.Listing.{numbered}
 use Rattle.revision_reads.specs.Choice.{choice_of}
 use Rattle.revision_reads.specs.History.{numbered_record}
 use Rattle.revision_reads.proofs.Downwards.{number_seen}

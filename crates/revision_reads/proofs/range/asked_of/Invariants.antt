@@ -1,11 +1,11 @@
 use Rattle.std.proofs.Common.{◌≡◌, ◌≤◌, ◌+◌, ◌-◌, ◌++◌, List}
 use Rattle.std.specs.Prelude.{filter}
 use Rattle.std.specs.List.{range_with_len}
-use Rattle.db_records.specs.declared.table.TableId.TheVariants as tables
-use Rattle.table_changes.specs.Changed.{rows_of}
-use Rattle.depot_model.specs.Deeds.{Deed}
-use Rattle.depot_model.specs.Revisions.{head}
-use Rattle.depot_model.specs.Rules.{IsSound}
+use Rattle.depot_rows.specs.db_records.declared.table.TableId.TheVariants as tables
+use Rattle.depot_rows.specs.table_changes.Changed.{rows_of}
+use Rattle.depot_rows.specs.depot_model.Deeds.{Deed}
+use Rattle.depot_rows.specs.depot_model.Revisions.{head}
+use Rattle.depot_rows.specs.depot_model.Rules.{IsSound}
 use Rattle.depot_rows.specs.Standing.{HasRows}
 use Rattle.revision_reads.specs.Choice.{choice_of}
 use Rattle.revision_reads.specs.Range.{is_asked}

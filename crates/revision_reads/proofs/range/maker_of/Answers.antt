@@ -1,5 +1,5 @@
 use Rattle.std.proofs.Common.{◌∙◌}
-use Rattle.depot_model.specs.Revisions.{revision}
+use Rattle.depot_rows.specs.depot_model.Revisions.{revision}
 use Rattle.revision_reads.proofs.Asked.{change_told}
 use Rattle.revision_reads.proofs.range.maker_of.Goals as goal
 

@@ -1,8 +1,8 @@
 use Rattle.std.proofs.Common.{sym, ap, ◌∙◌}
 use Rattle.std.specs.Prelude.{option_map}
-use Rattle.depot_path.specs.Path.{is_path}
-use Rattle.depot_path.proofs.Paths.{prints_path}
-use Rattle.depot_model.specs.Revisions.{revision}
+use Rattle.depot_rows.specs.depot_path.Path.{is_path}
+use Rattle.depot_rows.proofs.depot_path.Paths.{prints_path}
+use Rattle.depot_rows.specs.depot_model.Revisions.{revision}
 use Rattle.revision_reads.proofs.Asked.{moment_told, no_moment}
 use Rattle.revision_reads.proofs.range.moment_of.Goals as goal
 

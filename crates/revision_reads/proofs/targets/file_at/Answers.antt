@@ -1,5 +1,5 @@
 use Rattle.std.proofs.Common.{List, ℕ, ap, ◌∙◌}
-use Rattle.depot_model.specs.Steps.Adding.{first_live}
+use Rattle.depot_rows.specs.depot_model.Steps.Adding.{first_live}
 use Rattle.revision_reads.proofs.targets.file_at.Goals as goal
 
 pub returns : goal.returns

@@ -1,6 +1,6 @@
 use Rattle.std.proofs.Common.{◌≡◌, take}
-use Rattle.db_records.specs.declared.key.Key.{Key}
-use Rattle.table_changes.specs.Changed.{rows_of}
+use Rattle.depot_rows.specs.db_records.declared.key.Key.{Key}
+use Rattle.depot_rows.specs.table_changes.Changed.{rows_of}
 use Rattle.depot_rows.specs.Effects.{effects}
 use Rattle.depot_rows.specs.Standing.{row_in}
 use Rattle.row_changes.specs.Overlay.{seen}

@@ -1,8 +1,8 @@
 use Rattle.std.proofs.Common.{ap, ◌∙◌, ◌≡◌, ◌++◌, take, List}
 use Rattle.std.specs.Prelude.{flat_map}
 use Rattle.std.proofs.lemmas.List.{take_all}
-use Rattle.db_records.specs.declared.record.Record.TheVariants as rows
-use Rattle.depot_model.specs.Records.{pair_of}
+use Rattle.depot_rows.specs.db_records.declared.record.Record.TheVariants as rows
+use Rattle.depot_rows.specs.depot_model.Records.{pair_of}
 use Rattle.depot_rows.specs.declared.deed.Credit.{Credit}
 use Rattle.depot_rows.specs.Deed.{credit_of}
 use Rattle.row_changes.specs.Landing.{integed_rows}

@@ -1,6 +1,6 @@
 use Rattle.std.proofs.Common.{◌≡◌, ◌++◌, take}
 use Rattle.std.specs.Prelude.{flat_map}
-use Rattle.depot_model.specs.Records.{pair_of}
+use Rattle.depot_rows.specs.depot_model.Records.{pair_of}
 use Rattle.depot_rows.specs.Deed.{credit_of}
 use Rattle.row_changes.specs.Landing.{integed_rows}
 use Rattle.row_changes.proofs.landing.push_entry_pairs.Given as goal

@@ -1,7 +1,7 @@
 use Rattle.std.proofs.Common.{ap, ◌∙◌, ◌++◌, List}
 use Rattle.std.specs.Prelude.{flat_map}
 use Rattle.std.proofs.lemmas.List.{take_all}
-use Rattle.db_records.specs.declared.record.Record.TheVariants as rows
+use Rattle.depot_rows.specs.db_records.declared.record.Record.TheVariants as rows
 use Rattle.depot_rows.specs.declared.deed.Entry.{Entry}
 use Rattle.depot_rows.specs.Effects.{entry_pairs}
 use Rattle.row_changes.specs.Landing.{integed_rows}

@@ -1,5 +1,5 @@
 use Rattle.std.proofs.Common.{◌≡◌, ℕ, List, length, ap, sym, ◌∙◌}
-use Rattle.protect_table.specs.Words.{words_of}
+use Rattle.depot_rows.specs.protect_table.Words.{words_of}
 use Rattle.row_changes.proofs.Guarded.{five-words, word-at}
 use Rattle.row_changes.proofs.lines.line_row.Goals as goal
 

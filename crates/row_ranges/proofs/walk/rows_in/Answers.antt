@@ -1,7 +1,7 @@
 use Rattle.std.proofs.Common.{List, ap, ◌∙◌}
 use Rattle.std.specs.Prelude.{filter}
-use Rattle.db_records.specs.declared.key.Key.{Key}
-use Rattle.db_records.specs.declared.record.Record.{Record}
+use Rattle.table_store.specs.db_records.declared.key.Key.{Key}
+use Rattle.table_store.specs.db_records.declared.record.Record.{Record}
 use Rattle.table_store.specs.Rows.{TableRows, rows_from}
 use Rattle.table_store.specs.Tables.{version_of}
 use Rattle.row_ranges.specs.Ranges.{has_row}

@@ -1,6 +1,6 @@
 use Rattle.std.proofs.Common.{ℕ, List, ◌++◌, ap, ◌∙◌}
-use Rattle.db_records.specs.declared.table.TableId.TheVariants as table_ids
-use Rattle.table_changes.specs.Changed.{rows_of}
+use Rattle.depot_rows.specs.db_records.declared.table.TableId.TheVariants as table_ids
+use Rattle.depot_rows.specs.table_changes.Changed.{rows_of}
 use Rattle.row_reads.specs.Groups.{groups_in}
 use Rattle.row_reads.proofs.Whole.{all_groups}
 use Rattle.row_reads.proofs.callers.groups_of.Goals as goal

@@ -1,10 +1,10 @@
 use Rattle.std.proofs.Common.{◌≡◌, ℕ, Bool, true, false, ◌&&◌, List, [], ◌∷◌, ◌++◌, Ok, Err, ◌⊎◌, inl, inr, sym, ap, subst, ◌∙◌}
 use Rattle.std.specs.Prelude.{if◌then◌else◌}
-use Rattle.depot_path.specs.Answers.{Answers}
-use Rattle.depot_path.specs.Bytes.{same}
-use Rattle.depot_path.specs.Name.{is_name, name_of}
-use Rattle.depot_path.specs.declared.name.NameFault.TheVariants.{Memory}
-use Rattle.db_records.specs.declared.rows.GroupRecord.{GroupRecord}
+use Rattle.depot_rows.specs.depot_path.Answers.{Answers}
+use Rattle.depot_rows.specs.depot_path.Bytes.{same}
+use Rattle.depot_rows.specs.depot_path.Name.{is_name, name_of}
+use Rattle.depot_rows.specs.depot_path.declared.name.NameFault.TheVariants.{Memory}
+use Rattle.depot_rows.specs.db_records.declared.rows.GroupRecord.{GroupRecord}
 use Rattle.row_reads.specs.Groups.{group_of}
 use Rattle.row_reads.proofs.callers.push_group.Goals as goal
 

@@ -1,7 +1,7 @@
 use Rattle.std.proofs.Common.{◌≡◌, ◌++◌}
 use Rattle.std.specs.Prelude.{filter}
-use Rattle.db_records.specs.declared.table.TableId.TheVariants as table_ids
-use Rattle.table_changes.specs.Changed.{rows_of}
+use Rattle.depot_rows.specs.db_records.declared.table.TableId.TheVariants as table_ids
+use Rattle.depot_rows.specs.table_changes.Changed.{rows_of}
 use Rattle.row_ranges.specs.Ranges.{has_row}
 use Rattle.row_ranges.specs.declared.range.KeyRange.TheVariants.{Counters}
 use Rattle.row_reads.specs.Counters.{counters_in}

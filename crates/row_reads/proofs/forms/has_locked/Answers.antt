@@ -2,7 +2,7 @@ use Rattle.std.proofs.Common.{rules, tests, ◌||◌, ◌==◌}
 use Rattle.std.specs.Prelude.{codes}
 use Rattle.std.proofs.lemmas.Iterator.Search.{any_from_yields_List}
 use Rattle.std.proofs.lemmas.Iterator.Splits.{YieldsList-from_slice_split}
-use Rattle.depot_path.specs.Bytes.{same}
+use Rattle.depot_rows.specs.depot_path.Bytes.{same}
 use Rattle.row_reads.proofs.forms.has_locked.Goals as goal
 
 pub returns : goal.returns

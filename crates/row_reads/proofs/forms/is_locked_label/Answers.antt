@@ -1,8 +1,8 @@
 use Rattle.std.proofs.Common.{false, ap, ◌∙◌}
 use Rattle.std.specs.Option.{option_map_or}
-use Rattle.depot_model.specs.Deeds.{LabelForm}
-use Rattle.depot_model.specs.Latest.{spec}
-use Rattle.depot_model.specs.Steps.Labels.{is_locked_form}
+use Rattle.depot_rows.specs.depot_model.Deeds.{LabelForm}
+use Rattle.depot_rows.specs.depot_model.Latest.{spec}
+use Rattle.depot_rows.specs.depot_model.Steps.Labels.{is_locked_form}
 use Rattle.row_reads.proofs.FormsRead.{locked_by}
 use Rattle.row_reads.proofs.forms.is_locked_label.Goals as goal
 

@@ -1,6 +1,6 @@
 use Rattle.std.proofs.Common.{◌≡◌, ◌++◌}
 use Rattle.std.specs.Prelude.{filter}
-use Rattle.table_changes.specs.Changed.{rows_of}
+use Rattle.depot_rows.specs.table_changes.Changed.{rows_of}
 use Rattle.row_ranges.specs.Ranges.{has_row, range_table}
 use Rattle.row_reads.specs.Forms.{names_in}
 use Rattle.row_reads.proofs.forms.names_of_rows.Given as goal

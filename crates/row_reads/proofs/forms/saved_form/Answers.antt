@@ -1,8 +1,8 @@
 use Rattle.std.proofs.Common.{refl, ap, ◌∙◌}
 use Rattle.std.specs.Option.{option_copied}
-use Rattle.db_records.specs.declared.key.Key.TheVariants as keys
-use Rattle.db_records.specs.declared.table.TableId.TheVariants as tables
-use Rattle.depot_model.specs.Latest.{kind_word}
+use Rattle.depot_rows.specs.db_records.declared.key.Key.TheVariants as keys
+use Rattle.depot_rows.specs.db_records.declared.table.TableId.TheVariants as tables
+use Rattle.depot_rows.specs.depot_model.Latest.{kind_word}
 use Rattle.depot_rows.specs.Deed.{kind_of}
 use Rattle.row_reads.specs.Forms.{form_in}
 use Rattle.row_reads.proofs.FormsRead.{form_read}

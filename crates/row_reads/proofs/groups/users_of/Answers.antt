@@ -1,7 +1,7 @@
 use Rattle.std.proofs.Common.{ap, ◌∙◌}
 use Rattle.std.specs.Prelude.{filter}
-use Rattle.db_records.specs.declared.table.TableId.TheVariants as tables
-use Rattle.table_changes.specs.Changed.{rows_of}
+use Rattle.depot_rows.specs.db_records.declared.table.TableId.TheVariants as tables
+use Rattle.depot_rows.specs.table_changes.Changed.{rows_of}
 use Rattle.row_ranges.specs.Ranges.{has_row}
 use Rattle.row_ranges.specs.declared.range.KeyRange.TheVariants.{GroupUsers}
 use Rattle.row_reads.specs.Groups.{users_in}

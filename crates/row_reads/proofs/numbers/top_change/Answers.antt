@@ -1,13 +1,13 @@
 use Rattle.std.proofs.Common.{◌≡◌, List, Option, Some, None, refl, ap, sym, ◌∙◌}
 use Rattle.std.specs.Prelude.{codes, option_map}
 use Rattle.std.specs.Option.{option_copied}
-use Rattle.db_records.specs.declared.key.Key.TheVariants as keys
-use Rattle.db_records.specs.declared.record.Record.{Record}
-use Rattle.db_records.specs.declared.record.Record.TheVariants as records
-use Rattle.db_records.specs.declared.table.TableId.TheVariants as tables
-use Rattle.depot_model.specs.Records.{unplaced}
-use Rattle.depot_model.specs.Rules.{value_of}
-use Rattle.depot_rows.proofs.Changes.{top_value}
+use Rattle.depot_rows.specs.db_records.declared.key.Key.TheVariants as keys
+use Rattle.depot_rows.specs.db_records.declared.record.Record.{Record}
+use Rattle.depot_rows.specs.db_records.declared.record.Record.TheVariants as records
+use Rattle.depot_rows.specs.db_records.declared.table.TableId.TheVariants as tables
+use Rattle.depot_rows.specs.depot_model.Records.{unplaced}
+use Rattle.depot_rows.specs.depot_model.Rules.{value_of}
+use Rattle.depot_rows.proofs.ChangeCounter.{top_value}
 use Rattle.row_reads.proofs.FoundRows.{at_key}
 use Rattle.row_reads.proofs.numbers.top_change.Goals as goal
 

@@ -1,8 +1,8 @@
 use Rattle.std.proofs.Common.{refl, ap, ◌∙◌}
 use Rattle.std.specs.Prelude.{codes}
-use Rattle.db_records.specs.declared.key.Key.TheVariants as keys
-use Rattle.db_records.specs.declared.table.TableId.TheVariants as tables
-use Rattle.depot_model.specs.Deeds.{ClientForm}
+use Rattle.depot_rows.specs.db_records.declared.key.Key.TheVariants as keys
+use Rattle.depot_rows.specs.db_records.declared.table.TableId.TheVariants as tables
+use Rattle.depot_rows.specs.depot_model.Deeds.{ClientForm}
 use Rattle.row_reads.proofs.FormsRead.{form_there, told_some}
 use Rattle.row_reads.proofs.FoundRows.{at_key}
 use Rattle.row_reads.proofs.saved.is_client.Goals as goal

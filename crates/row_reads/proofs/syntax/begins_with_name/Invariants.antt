@@ -1,5 +1,5 @@
 use Rattle.std.proofs.Common.{◌≡◌, length}
-use Rattle.depot_model.specs.Arguments.{begins_with_name}
+use Rattle.depot_rows.specs.depot_model.Arguments.{begins_with_name}
 use Rattle.row_reads.proofs.syntax.begins_with_name.Given as goal
 
 abbrev pub invariant-loop-name : goal.invariant-loop-name

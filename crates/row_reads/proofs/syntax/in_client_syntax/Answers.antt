@@ -1,5 +1,5 @@
 use Rattle.std.proofs.Common.{◌∷◌, refl, sym, ap, ◌∙◌}
-use Rattle.depot_model.specs.Arguments.{begins_with_name}
+use Rattle.depot_rows.specs.depot_model.Arguments.{begins_with_name}
 use Rattle.row_reads.proofs.syntax.in_client_syntax.Goals as goal
 
 pub returns-in_default : goal.returns-in_default

@@ -1,6 +1,6 @@
 use Rattle.std.proofs.Common.{◌≡◌}
 use Rattle.std.specs.List.{list_all}
-use Rattle.table_store.specs.Tables.{version_of}
+use Rattle.depot_rows.specs.table_store.Tables.{version_of}
 use Rattle.row_rules.specs.Stored.{stored}
 use Rattle.row_rules.specs.Tests.{keeps}
 use Rattle.row_rules.proofs.keeping.all_keep.Given as goal

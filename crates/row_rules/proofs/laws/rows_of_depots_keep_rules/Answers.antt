@@ -1,7 +1,7 @@
 use Rattle.std.proofs.Common.{◌≡◌, refl, sym, subst}
-use Rattle.db_records.specs.Key.{key_table}
-use Rattle.depot_model.specs.Records.{record_of}
-use Rattle.depot_model.specs.Rules.{Rows, KeepRules}
+use Rattle.depot_rows.specs.db_records.Key.{key_table}
+use Rattle.depot_rows.specs.depot_model.Records.{record_of}
+use Rattle.depot_rows.specs.depot_model.Rules.{Rows, KeepRules}
 use Rattle.row_rules.specs.Stored.{stored}
 use Rattle.row_rules.proofs.laws.rows_of_depots_keep_rules.Goals as goal
 

@@ -1,6 +1,6 @@
 use Rattle.std.proofs.Common.{◌≡◌, None}
-use Rattle.db_records.specs.declared.table.TableId.TheVariants as table_ids
-use Rattle.table_store.specs.Tables.{version_of}
+use Rattle.depot_rows.specs.db_records.declared.table.TableId.TheVariants as table_ids
+use Rattle.depot_rows.specs.table_store.Tables.{version_of}
 use Rattle.row_rules.specs.Tests.{are_apart}
 use Rattle.row_rules.proofs.locks.locks_are_apart.Given as goal
 

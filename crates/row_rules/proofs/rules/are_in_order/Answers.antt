@@ -1,6 +1,6 @@
-use Rattle.db_records.specs.declared.table.TableId.{TableId}
-use Rattle.table_store.specs.Rows.{AllOfTable, IsRising}
-use Rattle.table_store.specs.Tables.{version_of}
+use Rattle.depot_rows.specs.db_records.declared.table.TableId.{TableId}
+use Rattle.depot_rows.specs.table_store.Rows.{AllOfTable, IsRising}
+use Rattle.depot_rows.specs.table_store.Tables.{version_of}
 use Rattle.row_rules.proofs.Decided.{by_table}
 use Rattle.row_rules.proofs.rules.are_in_order.Goals as goal
 

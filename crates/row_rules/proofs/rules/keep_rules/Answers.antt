@@ -1,7 +1,7 @@
 use Rattle.std.proofs.Common.{◌↔◌, Bool, IsTrue, sym, subst}
-use Rattle.db_records.specs.declared.table.TableId.{TableId}
-use Rattle.table_store.specs.Tables.{version_of}
-use Rattle.depot_model.specs.Rules.{KeepRules}
+use Rattle.depot_rows.specs.db_records.declared.table.TableId.{TableId}
+use Rattle.depot_rows.specs.table_store.Tables.{version_of}
+use Rattle.depot_rows.specs.depot_model.Rules.{KeepRules}
 use Rattle.row_rules.specs.Stored.{stored}
 use Rattle.row_rules.proofs.Whole.{whole}
 use Rattle.row_rules.proofs.rules.keep_rules.Goals as goal

@@ -1,6 +1,6 @@
 use Rattle.std.proofs.Common.{◌↔◌, Bool, IsTrue, sym, subst, arith}
-use Rattle.db_records.specs.declared.table.TableId.{TableId}
-use Rattle.table_store.specs.Tables.{version_of}
+use Rattle.depot_rows.specs.db_records.declared.table.TableId.{TableId}
+use Rattle.depot_rows.specs.table_store.Tables.{version_of}
 use Rattle.row_rules.specs.Kept.{KeepRowRules}
 use Rattle.row_rules.specs.Stored.{stored}
 use Rattle.row_rules.proofs.Decided.{top_refused, generation_refused, decided}

@@ -1,9 +1,9 @@
 use Rattle.std.proofs.Common.{Bool, ap, ◌∙◌}
 use Rattle.std.specs.Prelude.{◌&&◌}
 use Rattle.std.specs.List.{list_all}
-use Rattle.db_records.specs.declared.table.TableId.{TableId}
-use Rattle.db_records.specs.declared.table.TableId.TheVariants.{Counter, Group, Protect, Domain, Have, Label, Integed, Resolve, Working, Change}
-use Rattle.table_store.specs.Tables.{version_of}
+use Rattle.depot_rows.specs.db_records.declared.table.TableId.{TableId}
+use Rattle.depot_rows.specs.db_records.declared.table.TableId.TheVariants.{Counter, Group, Protect, Domain, Have, Label, Integed, Resolve, Working, Change}
+use Rattle.depot_rows.specs.table_store.Tables.{version_of}
 use Rattle.row_rules.specs.Stored.{stored}
 use Rattle.row_rules.specs.Tests.{keeps}
 use Rattle.row_rules.proofs.rules.tables_keep.Goals as goal

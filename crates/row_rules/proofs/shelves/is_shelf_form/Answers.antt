@@ -1,5 +1,5 @@
 use Rattle.std.proofs.Common.{◌≡◌, ℕ, List, false, subst}
-use Rattle.depot_model.specs.Rules.{top_in}
+use Rattle.depot_rows.specs.depot_model.Rules.{top_in}
 use Rattle.row_rules.specs.Stored.{stored}
 use Rattle.row_rules.specs.Tests.{is_numeral_up_to}
 use Rattle.row_rules.proofs.UpTo.{none_eq, shelf_refused}

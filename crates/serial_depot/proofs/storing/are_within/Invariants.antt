@@ -1,6 +1,6 @@
 use Rattle.std.proofs.Common.{◌≡◌, ℕ, ◌<◌, ◌≤◌, get_or}
 use Rattle.archive_file.specs.Archive.{end_of}
-use Rattle.db_records.specs.declared.change.Spot.{Spot}
+use Rattle.depot_rows.specs.db_records.declared.change.Spot.{Spot}
 use Rattle.serial_depot.proofs.storing.are_within.Given as goal
 
 abbrev pub invariant-loop-spot : goal.invariant-loop-spot

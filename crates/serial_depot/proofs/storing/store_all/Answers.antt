@@ -1,7 +1,7 @@
 use Rattle.std.proofs.Common.{◌≡◌, ◌+◌, ℕ, List, length, refl, sym, ap, subst, ◌∙◌, arith}
 use Rattle.std.proofs.lemmas.List.{take_all}
 use Rattle.archive_file.specs.Archive.{AllHave, disk_of, end_of}
-use Rattle.db_records.specs.declared.change.Spot.{Spot}
+use Rattle.depot_rows.specs.db_records.declared.change.Spot.{Spot}
 use Rattle.outside_api.specs.Count.{HasRisen}
 use Rattle.serial_depot.specs.Storing.{AllStored, stores_end}
 use Rattle.serial_depot.proofs.Stored.{end_more, keeps_same, on_err, stored_more}

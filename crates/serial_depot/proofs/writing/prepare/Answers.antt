@@ -1,7 +1,7 @@
 use Rattle.std.proofs.Common.{◌≡◌, ◌+◌, ℕ, Bool, sym, subst}
 use Rattle.checkpoint_file.specs.Checkpoint.{IsCheckpointOf}
 use Rattle.disk_journal.specs.Stands.{generation_of_journal, next_number}
-use Rattle.table_changes.specs.Changed.{rows_of}
+use Rattle.depot_rows.specs.table_changes.Changed.{rows_of}
 use Rattle.serial_depot.specs.Writing.{IsWritingOf, left_by}
 use Rattle.serial_depot.specs.declared.writing.Writing.TheVariants.{Group, Generation}
 use Rattle.serial_depot.proofs.Writings.{writes_generation, writes_group}

@@ -1,18 +1,18 @@
 use Rattle.std.proofs.Common.{◌≡◌, ◌∷◌, ◌++◌, [], List, refl, sym, ap, subst, ◌∙◌, arith}
 use Rattle.std.specs.Prelude.{IfOk, OnErr, option_copied}
 use Rattle.archive_file.specs.Archive.{disk_of as archive_disk_of}
-use Rattle.depot_model.specs.declared.order.Answer.{Answer}
-use Rattle.depot_model.specs.declared.order.Place.{Place}
-use Rattle.depot_model.specs.declared.request.Request.{Request}
+use Rattle.depot_rows.specs.depot_model.declared.order.Answer.{Answer}
+use Rattle.depot_rows.specs.depot_model.declared.order.Place.{Place}
+use Rattle.depot_rows.specs.depot_model.declared.request.Request.{Request}
 use Rattle.disk_journal.specs.Stands.{disk_of}
 use Rattle.lock_machine.proofs.Places.{some_is}
 use Rattle.session_loop.proofs.Faults.{caused_same}
 use Rattle.session_loop.specs.Served.{AreCaused}
 use Rattle.session_loop.specs.Taking.{Answers, IsProper, with_place}
-use Rattle.serial_depot.specs.Committing.{IsOutcomeOf}
-use Rattle.serial_depot.specs.Running.{HasRun}
+use Rattle.replica_turns.specs.serial_depot.Committing.{IsOutcomeOf}
+use Rattle.replica_turns.specs.serial_depot.Running.{HasRun}
 use Rattle.session_turns.proofs.Committing.{outcome_of}
-use Rattle.table_changes.specs.Changed.{AllRows, changed_by, rows_of}
+use Rattle.depot_rows.specs.table_changes.Changed.{AllRows, changed_by, rows_of}
 use Rattle.session_turns.proofs.commits.commit.Goals as goal
 
 pub returns-in-Ok-clause-ran : goal.returns-in-Ok-clause-ran

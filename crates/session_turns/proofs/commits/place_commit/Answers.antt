@@ -1,10 +1,10 @@
 use Rattle.std.proofs.Common.{◌≡◌, Result, Ok, Err, sym, subst}
 use Rattle.std.specs.Prelude.{IfOk}
-use Rattle.command_core.specs.declared.outcome.Outcome.{Outcome}
-use Rattle.depot_model.specs.declared.order.Answer.{Answer}
+use Rattle.replica_turns.specs.command_core.declared.outcome.Outcome.{Outcome}
+use Rattle.depot_rows.specs.depot_model.declared.order.Answer.{Answer}
 use Rattle.lock_core.specs.Core.{IsReady}
-use Rattle.serial_depot.specs.Committing.{AreRowsAfter}
-use Rattle.table_changes.specs.Changed.{rows_of}
+use Rattle.replica_turns.specs.serial_depot.Committing.{AreRowsAfter}
+use Rattle.depot_rows.specs.table_changes.Changed.{rows_of}
 use Rattle.session_turns.proofs.commits.place_commit.Goals as goal
 
 ok_is : {T E : Type 0} {x y : T} (r : Result T E) → r ≡ Ok x → r ≡ Ok y → x ≡ y

@@ -1,6 +1,6 @@
 use Rattle.std.proofs.Common.{◌≡◌, ◌⊎◌, ◌∷◌, ◌++◌, [], true, List, refl, sym, subst}
 use Rattle.archive_file.specs.Archive.{disk_of as archive_disk_of}
-use Rattle.depot_model.specs.declared.order.Place.{Place}
+use Rattle.depot_rows.specs.depot_model.declared.order.Place.{Place}
 use Rattle.disk_journal.specs.Stands.{disk_of}
 use Rattle.outside_api.specs.Count.{HasRisen}
 use Rattle.session_loop.proofs.Faults.{caused_once, caused_same}

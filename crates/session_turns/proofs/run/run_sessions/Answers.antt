@@ -2,9 +2,9 @@ use Rattle.std.proofs.Common.{◌≡◌, ◌≤◌, ℕ, List, Option, Some, len
 use Rattle.std.specs.Prelude.{All, slice_get}
 use Rattle.std.proofs.lemmas.List.{length-map}
 use Rattle.archive_file.specs.Archive.{disk_of as archive_disk_of}
-use Rattle.depot_model.specs.declared.order.Place.{Place}
-use Rattle.depot_model.specs.declared.request.Request.{Request}
-use Rattle.depot_model.specs.declared.request.Session.{Session}
+use Rattle.depot_rows.specs.depot_model.declared.order.Place.{Place}
+use Rattle.depot_rows.specs.depot_model.declared.request.Request.{Request}
+use Rattle.depot_rows.specs.depot_model.declared.request.Session.{Session}
 use Rattle.disk_journal.specs.Stands.{disk_of}
 use Rattle.lock_machine.specs.Runs.{beginning}
 use Rattle.session_loop.proofs.Faults.{caused_same}
@@ -28,8 +28,8 @@ use Rattle.session_turns.specs.Going.{AreAtMost, AreBounded, AreBoundsOf, AreFol
 use Rattle.session_turns.specs.Replicas.{HasBeenAt}
 use Rattle.session_turns.specs.Running.{AreWithin, fresh, fresh_runs}
 use Rattle.session_turns.specs.Served.{total_of}
-use Rattle.table_changes.specs.Changed.{rows_of}
-use Rattle.table_store.specs.declared.tables.Tables.{Tables}
+use Rattle.depot_rows.specs.table_changes.Changed.{rows_of}
+use Rattle.depot_rows.specs.table_store.declared.tables.Tables.{Tables}
 use Rattle.session_turns.proofs.run.run_sessions.Goals as goal
 
 pub returns-clause-served : goal.returns-clause-served

@@ -9,7 +9,7 @@ use Rattle.session_loop.specs.declared.session.SessionRun.{SessionRun}
 use Rattle.session_turns.proofs.Made.{grown_by, hand_more, made}
 use Rattle.session_turns.proofs.Within.{as_many_more, more_there, more_wider, others_none, reply_answered, within_more}
 use Rattle.session_turns.specs.Answering.{has_more_at}
-use Rattle.table_store.specs.declared.tables.Tables.{Tables}
+use Rattle.depot_rows.specs.table_store.declared.tables.Tables.{Tables}
 use Rattle.session_turns.proofs.turns.make_commit.Goals as goal
 
 pub finish-requires : goal.finish-requires

@@ -1,10 +1,10 @@
 use Rattle.std.proofs.Common.{◌≡◌, ◌<◌, ◌^◌, ℕ, List, Option, length, map}
 use Rattle.archive_file.specs.Archive.{disk_of as archive_disk_of}
-use Rattle.depot_model.specs.Deeds.{Deed}
-use Rattle.depot_model.specs.declared.request.Request.{Request}
-use Rattle.depot_model.specs.declared.request.Session.{Session}
+use Rattle.depot_rows.specs.depot_model.Deeds.{Deed}
+use Rattle.depot_rows.specs.depot_model.declared.request.Request.{Request}
+use Rattle.depot_rows.specs.depot_model.declared.request.Session.{Session}
 use Rattle.disk_journal.specs.Stands.{disk_of}
-use Rattle.serial_depot.specs.Running.{CanTake}
+use Rattle.replica_turns.specs.serial_depot.Running.{CanTake}
 use Rattle.session_loop.specs.Served.{AreCaused}
 use Rattle.session_turns.proofs.Rounds.{AreSoFar}
 use Rattle.session_turns.specs.Running.{AreWithin}

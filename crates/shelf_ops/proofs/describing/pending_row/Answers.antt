@@ -1,9 +1,9 @@
 use Rattle.std.proofs.Common.{List, ◌++◌, ap, ◌∙◌}
 use Rattle.std.specs.Prelude.{flat_map}
 use Rattle.std.specs.List.{enumerate_from}
-use Rattle.depot_model.specs.declared.reply.Field.{Field}
-use Rattle.depot_model.specs.Rows.{row}
-use Rattle.depot_model.specs.Steps.Shelving.{shelved_fields}
+use Rattle.depot_rows.specs.depot_model.declared.reply.Field.{Field}
+use Rattle.depot_rows.specs.depot_model.Rows.{row}
+use Rattle.depot_rows.specs.depot_model.Steps.Shelving.{shelved_fields}
 use Rattle.shelf_ops.proofs.describing.pending_row.Goals as goal
 
 pub returns : goal.returns

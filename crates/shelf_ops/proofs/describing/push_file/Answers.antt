@@ -1,6 +1,6 @@
 use Rattle.std.proofs.Common.{List, Option, ◌++◌, ap, ◌∙◌}
-use Rattle.spec_form.specs.Form.{FormValue}
-use Rattle.depot_model.specs.declared.reply.Field.{Field}
+use Rattle.depot_rows.specs.spec_form.Form.{FormValue}
+use Rattle.depot_rows.specs.depot_model.declared.reply.Field.{Field}
 use Rattle.shelf_ops.specs.Described.{form_fields}
 use Rattle.shelf_ops.proofs.Described.{form_shown}
 use Rattle.shelf_ops.proofs.describing.push_file.Goals as goal

@@ -1,5 +1,5 @@
 use Rattle.std.proofs.Common.{◌∙◌, arith}
-use Rattle.depot_model.specs.Steps.Shelving.{shelved_fields}
+use Rattle.depot_rows.specs.depot_model.Steps.Shelving.{shelved_fields}
 use Rattle.shelf_ops.proofs.Described.{numbered_all, numbered_on}
 use Rattle.shelf_ops.proofs.describing.push_files.Goals as goal
 

@@ -1,10 +1,10 @@
 use Rattle.std.proofs.Common.{ℕ, List, Option, [], ◌∷◌, ◌++◌, sym, ap, ◌∙◌}
 use Rattle.std.specs.Prelude.{codes, decimal}
 use Rattle.std.specs.Option.{option_copied}
-use Rattle.spec_form.specs.Form.{FormValue}
-use Rattle.depot_model.specs.Rows.{action_word, path_field, text_field}
-use Rattle.depot_model.specs.Shelves.{kept_action}
-use Rattle.depot_model.specs.Values.{value_of}
+use Rattle.depot_rows.specs.spec_form.Form.{FormValue}
+use Rattle.depot_rows.specs.depot_model.Rows.{action_word, path_field, text_field}
+use Rattle.depot_rows.specs.depot_model.Shelves.{kept_action}
+use Rattle.depot_rows.specs.depot_model.Values.{value_of}
 use Rattle.shelf_ops.specs.Described.{form_fields}
 use Rattle.shelf_ops.proofs.Described.{three_pushed}
 use Rattle.shelf_ops.proofs.describing.push_form.Goals as goal

@@ -1,5 +1,5 @@
 use Rattle.std.proofs.Common.{ap, ◌∙◌, sym, arith}
-use Rattle.depot_path.specs.Path.{is_path}
+use Rattle.depot_rows.specs.depot_path.Path.{is_path}
 use Rattle.shelf_ops.proofs.FormTexts.{gone_is}
 use Rattle.shelf_ops.proofs.forms.gone_form.Goals as goal
 

@@ -1,8 +1,8 @@
 use Rattle.std.proofs.Common.{ℕ, List, ap, ◌∙◌}
 use Rattle.std.specs.Prelude.{flat_map, is_some}
-use Rattle.db_records.specs.declared.table.TableId.TheVariants as table_ids
-use Rattle.table_changes.specs.Changed.{rows_of}
-use Rattle.depot_model.specs.Shelves.{kept}
+use Rattle.depot_rows.specs.db_records.declared.table.TableId.TheVariants as table_ids
+use Rattle.depot_rows.specs.table_changes.Changed.{rows_of}
+use Rattle.depot_rows.specs.depot_model.Shelves.{kept}
 use Rattle.shelf_ops.specs.Kept.{kept_file}
 use Rattle.shelf_ops.specs.ShelfRows.{shelf_files}
 use Rattle.shelf_ops.proofs.Sifted.{sifted}

@@ -1,9 +1,9 @@
 use Rattle.std.proofs.Common.{Option, Some, None, ◌≡◌, refl, ap, ◌∙◌}
 use Rattle.std.specs.Prelude.{option_and_then}
-use Rattle.spec_form.specs.Form.{FormValue}
-use Rattle.depot_model.specs.Deeds.{ShelfForm}
-use Rattle.depot_model.specs.Latest.{spec, when}
-use Rattle.depot_model.specs.Shelves.{is_kept, shelf_name}
+use Rattle.depot_rows.specs.spec_form.Form.{FormValue}
+use Rattle.depot_rows.specs.depot_model.Deeds.{ShelfForm}
+use Rattle.depot_rows.specs.depot_model.Latest.{spec, when}
+use Rattle.depot_rows.specs.depot_model.Shelves.{is_kept, shelf_name}
 use Rattle.shelf_ops.specs.Kept.{if_kept}
 use Rattle.shelf_ops.proofs.keeping.kept_form.Goals as goal
 

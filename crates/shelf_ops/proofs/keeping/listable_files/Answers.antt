@@ -1,7 +1,7 @@
 use Rattle.std.proofs.Common.{ap, ◌∙◌}
 use Rattle.std.specs.Prelude.{filter, flat_map}
-use Rattle.protect_table.specs.Rights.{may}
-use Rattle.depot_model.specs.Shelves.{kept_paths}
+use Rattle.depot_rows.specs.protect_table.Rights.{may}
+use Rattle.depot_rows.specs.depot_model.Shelves.{kept_paths}
 use Rattle.shelf_ops.specs.Kept.{listable_file}
 use Rattle.shelf_ops.proofs.Sifted.{sifted}
 use Rattle.shelf_ops.proofs.keeping.listable_files.Goals as goal

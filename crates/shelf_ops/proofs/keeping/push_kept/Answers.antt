@@ -1,6 +1,6 @@
 use Rattle.std.proofs.Common.{ap, ◌∙◌}
 use Rattle.std.specs.Prelude.{is_some}
-use Rattle.depot_model.specs.Shelves.{kept}
+use Rattle.depot_rows.specs.depot_model.Shelves.{kept}
 use Rattle.shelf_ops.proofs.Sifted.{left_out, put_in}
 use Rattle.shelf_ops.proofs.keeping.push_kept.Goals as goal
 

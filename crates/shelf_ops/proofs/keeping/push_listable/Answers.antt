@@ -1,4 +1,4 @@
-use Rattle.protect_table.specs.Rights.{may}
+use Rattle.depot_rows.specs.protect_table.Rights.{may}
 use Rattle.shelf_ops.proofs.Sifted.{left_out, put_in}
 use Rattle.shelf_ops.proofs.keeping.push_listable.Goals as goal
 

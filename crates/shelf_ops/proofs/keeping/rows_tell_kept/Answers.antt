@@ -1,5 +1,5 @@
 use Rattle.std.proofs.Common.{ap}
-use Rattle.table_store.specs.Rows.{TableRows}
+use Rattle.depot_rows.specs.table_store.Rows.{TableRows}
 use Rattle.shelf_ops.proofs.Kept.{kept_told}
 use Rattle.shelf_ops.proofs.keeping.rows_tell_kept.Goals as goal
 

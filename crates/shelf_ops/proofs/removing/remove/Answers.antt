@@ -1,6 +1,6 @@
 use Rattle.std.proofs.Common.{[], ◌∷◌, refl}
-use Rattle.depot_model.specs.Deeds.{ShelfForm, Spec}
-use Rattle.depot_model.specs.Shelves.{gone_form, shelf_name}
+use Rattle.depot_rows.specs.depot_model.Deeds.{ShelfForm, Spec}
+use Rattle.depot_rows.specs.depot_model.Shelves.{gone_form, shelf_name}
 use Rattle.depot_rows.specs.declared.deed.Deed.TheVariants as dones
 use Rattle.depot_rows.specs.declared.deed.SpecKind.TheVariants as kinds
 use Rattle.reply_rows.proofs.Joined.{made_done}

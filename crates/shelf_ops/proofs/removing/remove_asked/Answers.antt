@@ -1,8 +1,8 @@
 use Rattle.std.proofs.Common.{Option, [], ◌∷◌, sym, subst}
-use Rattle.table_changes.specs.Changed.{rows_of}
-use Rattle.depot_model.specs.declared.refusal.Refusal.{Refusal}
-use Rattle.depot_model.specs.declared.refusal.Refusal.TheVariants.{NoShelf}
-use Rattle.depot_model.specs.Step.{unless}
+use Rattle.depot_rows.specs.table_changes.Changed.{rows_of}
+use Rattle.depot_rows.specs.depot_model.declared.refusal.Refusal.{Refusal}
+use Rattle.depot_rows.specs.depot_model.declared.refusal.Refusal.TheVariants.{NoShelf}
+use Rattle.depot_rows.specs.depot_model.Step.{unless}
 use Rattle.reply_rows.specs.Made.{IsMade}
 use Rattle.reply_rows.proofs.Joined.{made_refusal}
 use Rattle.shelf_ops.specs.Removed.{removing}

@@ -1,8 +1,8 @@
-use Rattle.table_changes.specs.Changed.{rows_of}
+use Rattle.depot_rows.specs.table_changes.Changed.{rows_of}
 use Rattle.std.proofs.Common.{true}
-use Rattle.depot_model.specs.Arguments.{named, no_file, over_all}
-use Rattle.depot_model.specs.Shelves.{kept_paths}
-use Rattle.depot_model.specs.Steps.Shelving.{unkeep}
+use Rattle.depot_rows.specs.depot_model.Arguments.{named, no_file, over_all}
+use Rattle.depot_rows.specs.depot_model.Shelves.{kept_paths}
+use Rattle.depot_rows.specs.depot_model.Steps.Shelving.{unkeep}
 use Rattle.shelf_ops.proofs.removing.remove_files.Goals as goal
 
 pub returns : goal.returns

@@ -1,8 +1,8 @@
 use Rattle.std.proofs.Common.{[], ◌∷◌, sym, subst, ◌∙◌}
-use Rattle.table_changes.specs.Changed.{rows_of}
-use Rattle.depot_model.specs.Step.{Step, unless}
-use Rattle.depot_model.specs.Steps.Opening.{change_refusal}
-use Rattle.depot_model.specs.Steps.Shelving.{shelf_refusal}
+use Rattle.depot_rows.specs.table_changes.Changed.{rows_of}
+use Rattle.depot_rows.specs.depot_model.Step.{Step, unless}
+use Rattle.depot_rows.specs.depot_model.Steps.Opening.{change_refusal}
+use Rattle.depot_rows.specs.depot_model.Steps.Shelving.{shelf_refusal}
 use Rattle.reply_rows.specs.Made.{IsMade}
 use Rattle.reply_rows.proofs.Joined.{passed, refused}
 use Rattle.shelf_ops.specs.Removed.{removing}

@@ -1,9 +1,9 @@
 use Rattle.std.proofs.Common.{List, ap, subst, ◌∙◌}
 use Rattle.std.specs.Prelude.{filter}
-use Rattle.db_records.specs.declared.key.Key.{Key}
-use Rattle.db_records.specs.declared.record.Record.{Record}
-use Rattle.db_records.specs.declared.table.TableId.{TableId}
-use Rattle.table_store.specs.Rows.{AllOfTable, TableRows, rows_from}
+use Rattle.depot_rows.specs.db_records.declared.key.Key.{Key}
+use Rattle.depot_rows.specs.db_records.declared.record.Record.{Record}
+use Rattle.depot_rows.specs.db_records.declared.table.TableId.{TableId}
+use Rattle.depot_rows.specs.table_store.Rows.{AllOfTable, TableRows, rows_from}
 use Rattle.shelf_ops.specs.ShelfRows.{is_of_shelf, leading}
 use Rattle.shelf_ops.proofs.Walking.{walk_shelf}
 use Rattle.shelf_ops.proofs.shelf_rows.rows_in.Goals as goal

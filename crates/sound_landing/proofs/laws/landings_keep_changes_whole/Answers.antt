@@ -1,6 +1,6 @@
 use Rattle.std.specs.List.{list_all}
-use Rattle.depot_model.specs.Numbers.{landings}
-use Rattle.depot_model.specs.Rules.{has_entries}
+use Rattle.depot_rows.specs.depot_model.Numbers.{landings}
+use Rattle.depot_rows.specs.depot_model.Rules.{has_entries}
 use Rattle.sound_landing.proofs.Landed.{both_true}
 use Rattle.sound_landing.proofs.laws.landings_keep_changes_whole.Goals as goal
 

@@ -1,5 +1,5 @@
 use Rattle.std.proofs.Common.{◌≡◌, ◌<◌, ℕ, true, get_or}
-use Rattle.depot_model.specs.declared.request.Content.{Content}
+use Rattle.depot_rows.specs.depot_model.declared.request.Content.{Content}
 use Rattle.sound_form_steps.specs.Contents.{is_of_bytes}
 use Rattle.sound_requests.proofs.types.know_contents.Given as goal
 

@@ -1,7 +1,7 @@
 use Rattle.std.proofs.Common.{◌≡◌, Bool, true, List, subst}
 use Rattle.std.specs.Prelude.{◌&&◌}
 use Rattle.std.specs.List.{list_all}
-use Rattle.depot_model.specs.declared.request.Content.{Content}
+use Rattle.depot_rows.specs.depot_model.declared.request.Content.{Content}
 use Rattle.sound_form_steps.specs.Contents.{is_of_bytes}
 use Rattle.sound_requests.proofs.Bytes.{all_of_bytes}
 use Rattle.sound_requests.proofs.types.requests_are_typed.Goals as goal

@@ -1,12 +1,12 @@
 use Rattle.std.proofs.Common.{◌≡◌, ◌<◌, List, ℕ, ap, sym, subst, ◌∙◌, arith}
 use Rattle.std.proofs.lemmas.Bool.Decides.{nat_tests}
-use Rattle.db_records.specs.declared.key.Key.TheVariants as keys
-use Rattle.db_records.specs.declared.table.TableId.TheVariants as table_ids
-use Rattle.depot_model.specs.Step.{Step as ModelStep}
-use Rattle.depot_model.specs.Steps.Checkpoint.{generation}
+use Rattle.depot_rows.specs.db_records.declared.key.Key.TheVariants as keys
+use Rattle.depot_rows.specs.db_records.declared.table.TableId.TheVariants as table_ids
+use Rattle.depot_rows.specs.depot_model.Step.{Step as ModelStep}
+use Rattle.depot_rows.specs.depot_model.Steps.Checkpoint.{generation}
 use Rattle.reply_rows.specs.Made.{IsMade}
-use Rattle.table_changes.specs.Changed.{rows_of}
-use Rattle.table_store.specs.Rows.{row_at}
+use Rattle.depot_rows.specs.table_changes.Changed.{rows_of}
+use Rattle.depot_rows.specs.table_store.Rows.{row_at}
 use Rattle.spec_ops.specs.Counters.{value_in}
 use Rattle.spec_ops.proofs.NextGeneration.{generation_is, is_next}
 use Rattle.spec_ops.proofs.checkpoints.checkpoint.Goals as goal

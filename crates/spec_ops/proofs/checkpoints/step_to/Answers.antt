@@ -1,8 +1,8 @@
 use Rattle.std.proofs.Common.{◌≡◌, ◌++◌, ◌∷◌, List, ℕ, [], Some, refl, sym, ap, ◌∙◌, subst}
 use Rattle.std.specs.Prelude.{codes}
-use Rattle.depot_model.specs.Deeds.{Count}
-use Rattle.depot_model.specs.Rows.{row, number_field}
-use Rattle.depot_model.specs.Step.{does}
+use Rattle.depot_rows.specs.depot_model.Deeds.{Count}
+use Rattle.depot_rows.specs.depot_model.Rows.{row, number_field}
+use Rattle.depot_rows.specs.depot_model.Step.{does}
 use Rattle.depot_rows.specs.Effects.{Follow}
 use Rattle.depot_rows.specs.declared.deed.Deed.{Deed}
 use Rattle.depot_rows.specs.declared.deed.Deed.TheVariants as deeds

@@ -1,5 +1,5 @@
-use Rattle.spec_form.specs.declared.shape.Shape.TheVariants.{Client}
-use Rattle.depot_model.specs.Steps.Clients.{saved}
+use Rattle.depot_rows.specs.spec_form.declared.shape.Shape.TheVariants.{Client}
+use Rattle.depot_rows.specs.depot_model.Steps.Clients.{saved}
 use Rattle.command_parts.proofs.Refused.{read_made}
 use Rattle.spec_ops.proofs.clients.client_save.Goals as goal
 

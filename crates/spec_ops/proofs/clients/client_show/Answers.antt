@@ -1,10 +1,10 @@
 use Rattle.std.proofs.Common.{ap, ◌∙◌}
 use Rattle.std.specs.Prelude.{codes}
 use Rattle.std.specs.Option.{option_copied}
-use Rattle.table_changes.specs.Changed.{rows_of}
-use Rattle.depot_model.specs.Deeds.{ClientForm}
-use Rattle.depot_model.specs.Latest.{spec}
-use Rattle.depot_model.specs.Steps.Clients.{client_row}
+use Rattle.depot_rows.specs.table_changes.Changed.{rows_of}
+use Rattle.depot_rows.specs.depot_model.Deeds.{ClientForm}
+use Rattle.depot_rows.specs.depot_model.Latest.{spec}
+use Rattle.depot_rows.specs.depot_model.Steps.Clients.{client_row}
 use Rattle.spec_ops.specs.Saving.{shown}
 use Rattle.spec_ops.proofs.Made.{client_bare, client_shown, tells_one}
 use Rattle.spec_ops.proofs.clients.client_show.Goals as goal

@@ -1,7 +1,7 @@
 use Rattle.std.proofs.Common.{◌≡◌, ◌++◌, ◌∷◌, List, [], refl, sym, ap, ◌∙◌, subst}
-use Rattle.depot_model.specs.Deeds.{Count}
-use Rattle.depot_model.specs.Step.{does}
-use Rattle.depot_model.specs.Steps.Counters.{counter_row}
+use Rattle.depot_rows.specs.depot_model.Deeds.{Count}
+use Rattle.depot_rows.specs.depot_model.Step.{does}
+use Rattle.depot_rows.specs.depot_model.Steps.Counters.{counter_row}
 use Rattle.depot_rows.specs.Effects.{Follow}
 use Rattle.depot_rows.specs.declared.deed.Deed.{Deed}
 use Rattle.depot_rows.specs.declared.deed.Deed.TheVariants as deeds

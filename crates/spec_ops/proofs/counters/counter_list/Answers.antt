@@ -1,8 +1,8 @@
 use Rattle.std.proofs.Common.{List, ap, sym, subst, ◌∙◌}
 use Rattle.std.specs.Prelude.{map}
-use Rattle.db_records.specs.declared.rows.CounterRecord.{CounterRecord}
-use Rattle.table_changes.specs.Changed.{rows_of}
-use Rattle.depot_model.specs.Steps.Counters.{counter_row, counters}
+use Rattle.depot_rows.specs.db_records.declared.rows.CounterRecord.{CounterRecord}
+use Rattle.depot_rows.specs.table_changes.Changed.{rows_of}
+use Rattle.depot_rows.specs.depot_model.Steps.Counters.{counter_row, counters}
 use Rattle.reply_rows.specs.declared.step.Step.{Step}
 use Rattle.reply_rows.specs.Made.{IsMade}
 use Rattle.spec_ops.proofs.Made.{counters_made}

@@ -1,6 +1,6 @@
 use Rattle.std.proofs.Common.{◌≡◌, take}
 use Rattle.std.specs.Prelude.{map}
-use Rattle.depot_model.specs.Steps.Counters.{counter_row}
+use Rattle.depot_rows.specs.depot_model.Steps.Counters.{counter_row}
 use Rattle.spec_ops.proofs.counters.counter_rows.Given as goal
 
 abbrev pub invariant-loop-counter : goal.invariant-loop-counter

@@ -1,5 +1,5 @@
-use Rattle.spec_form.specs.declared.shape.Shape.TheVariants.{Group}
-use Rattle.depot_model.specs.Steps.Groups.{saved}
+use Rattle.depot_rows.specs.spec_form.declared.shape.Shape.TheVariants.{Group}
+use Rattle.depot_rows.specs.depot_model.Steps.Groups.{saved}
 use Rattle.command_parts.proofs.Refused.{read_made}
 use Rattle.spec_ops.proofs.groups.group_save.Goals as goal
 

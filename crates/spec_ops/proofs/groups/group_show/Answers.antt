@@ -1,7 +1,7 @@
 use Rattle.std.proofs.Common.{refl, ap, ◌∙◌}
-use Rattle.table_changes.specs.Changed.{rows_of}
-use Rattle.depot_model.specs.Latest.{users}
-use Rattle.depot_model.specs.Steps.Groups.{by_name}
+use Rattle.depot_rows.specs.table_changes.Changed.{rows_of}
+use Rattle.depot_rows.specs.depot_model.Latest.{users}
+use Rattle.depot_rows.specs.depot_model.Steps.Groups.{by_name}
 use Rattle.spec_ops.specs.Saving.{group_row}
 use Rattle.spec_ops.proofs.Made.{tells_one}
 use Rattle.spec_ops.proofs.groups.group_show.Goals as goal

@@ -1,5 +1,5 @@
 use Rattle.std.proofs.Common.{true, ◌≡◌, List, ℕ}
-use Rattle.depot_path.specs.Name.{is_name}
+use Rattle.depot_rows.specs.depot_path.Name.{is_name}
 use Rattle.spec_ops.proofs.Made.{first_named}
 use Rattle.spec_ops.proofs.groups.names_of.Goals as goal
 

@@ -1,6 +1,6 @@
 use Rattle.std.proofs.Common.{◌≡◌, ◌++◌, true, length}
 use Rattle.std.specs.List.{list_all}
-use Rattle.depot_path.specs.Name.{is_name}
+use Rattle.depot_rows.specs.depot_path.Name.{is_name}
 use Rattle.spec_ops.proofs.groups.names_of.Given as goal
 
 abbrev pub invariant-loop-rest : goal.invariant-loop-rest

@@ -1,9 +1,9 @@
 use Rattle.std.proofs.Common.{sym, ap, ◌∙◌, subst}
 use Rattle.std.specs.Prelude.{codes}
-use Rattle.depot_model.specs.Step.{Step as ModelStep}
-use Rattle.depot_model.specs.Values.{value_of}
+use Rattle.depot_rows.specs.depot_model.Step.{Step as ModelStep}
+use Rattle.depot_rows.specs.depot_model.Values.{value_of}
 use Rattle.reply_rows.specs.Made.{IsMade}
-use Rattle.spec_form.specs.Form.{lines_of}
+use Rattle.depot_rows.specs.spec_form.Form.{lines_of}
 use Rattle.spec_ops.specs.Saving.{group_refusals}
 use Rattle.command_parts.proofs.Refused.{granted_made, refused_made}
 use Rattle.spec_ops.proofs.Made.{group_kept}

@@ -1,9 +1,9 @@
 use Rattle.std.proofs.Common.{ap, sym, subst, ◌∙◌}
 use Rattle.std.specs.Prelude.{filter_map, option_map}
-use Rattle.table_changes.specs.Changed.{rows_of}
-use Rattle.depot_model.specs.Deeds.{LabelForm}
-use Rattle.depot_model.specs.Latest.{spec}
-use Rattle.depot_model.specs.Steps.Labels.{labels, listed}
+use Rattle.depot_rows.specs.table_changes.Changed.{rows_of}
+use Rattle.depot_rows.specs.depot_model.Deeds.{LabelForm}
+use Rattle.depot_rows.specs.depot_model.Latest.{spec}
+use Rattle.depot_rows.specs.depot_model.Steps.Labels.{labels, listed}
 use Rattle.reply_rows.specs.declared.step.Step.{Step}
 use Rattle.reply_rows.specs.Made.{IsMade}
 use Rattle.spec_ops.proofs.Made.{labels_made}

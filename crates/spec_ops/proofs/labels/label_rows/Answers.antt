@@ -1,8 +1,8 @@
 use Rattle.std.proofs.Common.{◌∙◌, List, ℕ}
 use Rattle.std.specs.Prelude.{option_map}
-use Rattle.depot_model.specs.Deeds.{LabelForm}
-use Rattle.depot_model.specs.Latest.{spec}
-use Rattle.depot_model.specs.Steps.Labels.{listed}
+use Rattle.depot_rows.specs.depot_model.Deeds.{LabelForm}
+use Rattle.depot_rows.specs.depot_model.Latest.{spec}
+use Rattle.depot_rows.specs.depot_model.Steps.Labels.{listed}
 use Rattle.spec_ops.proofs.Made.{row_moved}
 use Rattle.spec_ops.proofs.labels.label_rows.Goals as goal
 

@@ -1,6 +1,6 @@
-use Rattle.table_changes.specs.Changed.{rows_of}
-use Rattle.spec_form.specs.declared.shape.Shape.TheVariants.{Label}
-use Rattle.depot_model.specs.Steps.Labels.{saved}
+use Rattle.depot_rows.specs.table_changes.Changed.{rows_of}
+use Rattle.depot_rows.specs.spec_form.declared.shape.Shape.TheVariants.{Label}
+use Rattle.depot_rows.specs.depot_model.Steps.Labels.{saved}
 use Rattle.command_parts.proofs.Refused.{read_made, unread_made}
 use Rattle.spec_ops.proofs.labels.label_save.Goals as goal
 

@@ -1,8 +1,8 @@
 use Rattle.std.proofs.Common.{sym, ap, ◌∙◌}
 use Rattle.std.specs.Prelude.{codes, option_map}
-use Rattle.depot_path.specs.Name.{is_name}
-use Rattle.depot_model.specs.Refusals.{refusal_row}
-use Rattle.depot_model.specs.Values.{value_of}
+use Rattle.depot_rows.specs.depot_path.Name.{is_name}
+use Rattle.depot_rows.specs.depot_model.Refusals.{refusal_row}
+use Rattle.depot_rows.specs.depot_model.Values.{value_of}
 use Rattle.spec_ops.specs.Saving.{locked_refusal}
 use Rattle.spec_ops.proofs.Made.{last_alone}
 use Rattle.spec_ops.proofs.labels.refusal.Goals as goal

@@ -1,5 +1,5 @@
 use Rattle.std.proofs.Common.{sym, ◌∙◌}
-use Rattle.table_changes.specs.Changed.{rows_of}
+use Rattle.depot_rows.specs.table_changes.Changed.{rows_of}
 use Rattle.spec_ops.specs.Saving.{label_refusals}
 use Rattle.command_parts.proofs.Refused.{granted_made, refused_made}
 use Rattle.spec_ops.proofs.Made.{label_kept}

@@ -1,6 +1,6 @@
 use Rattle.std.proofs.Common.{◌≡◌, take}
 use Rattle.std.specs.Prelude.{map}
-use Rattle.depot_model.specs.Steps.Protections.{kept_line}
+use Rattle.depot_rows.specs.depot_model.Steps.Protections.{kept_line}
 use Rattle.spec_ops.proofs.protections.kept_lines.Given as goal
 
 abbrev pub invariant-loop-line : goal.invariant-loop-line

@@ -1,8 +1,8 @@
 use Rattle.std.proofs.Common.{subst}
 use Rattle.std.specs.Prelude.{codes, List, ℕ}
-use Rattle.spec_form.specs.Form.{FormValue, lines_of}
-use Rattle.spec_form.specs.declared.shape.Shape.TheVariants.{Protect}
-use Rattle.depot_model.specs.Steps.Protections.{saved}
+use Rattle.depot_rows.specs.spec_form.Form.{FormValue, lines_of}
+use Rattle.depot_rows.specs.spec_form.declared.shape.Shape.TheVariants.{Protect}
+use Rattle.depot_rows.specs.depot_model.Steps.Protections.{saved}
 use Rattle.reply_rows.specs.Made.{IsMade}
 use Rattle.command_parts.proofs.Refused.{read_made}
 use Rattle.spec_ops.proofs.protections.protect_save.Goals as goal

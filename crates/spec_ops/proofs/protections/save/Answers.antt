@@ -1,5 +1,5 @@
 use Rattle.std.proofs.Common.{sym, ◌∙◌, subst}
-use Rattle.depot_model.specs.Step.{Step as ModelStep}
+use Rattle.depot_rows.specs.depot_model.Step.{Step as ModelStep}
 use Rattle.reply_rows.specs.Made.{IsMade}
 use Rattle.spec_ops.specs.Saving.{protect_refusals}
 use Rattle.command_parts.proofs.Refused.{granted_made}

@@ -1,7 +1,7 @@
 use Rattle.std.proofs.Common.{◌≡◌, ℕ, List, None, refl, sym, ap, ◌∙◌}
 use Rattle.std.specs.Option.{option_copied}
-use Rattle.table_changes.specs.Changed.{rows_of}
-use Rattle.depot_model.specs.Steps.Submitting.{block_of, content_at}
+use Rattle.depot_rows.specs.table_changes.Changed.{rows_of}
+use Rattle.depot_rows.specs.depot_model.Steps.Submitting.{block_of, content_at}
 use Rattle.submit_core.specs.declared.content.Found.TheVariants.{Block}
 use Rattle.submit_core.proofs.Finding.{is_first, is_other}
 use Rattle.submit_core.proofs.content.block_or_base.Goals as goal

@@ -1,8 +1,8 @@
 use Rattle.std.proofs.Common.{◌≡◌, ℕ, List, None, refl, sym, ap, ◌∙◌}
 use Rattle.std.specs.Prelude.{option_and_then}
 use Rattle.std.specs.Option.{option_copied, option_or}
-use Rattle.table_changes.specs.Changed.{rows_of}
-use Rattle.depot_model.specs.Steps.Submitting.{block_of, source_content}
+use Rattle.depot_rows.specs.table_changes.Changed.{rows_of}
+use Rattle.depot_rows.specs.depot_model.Steps.Submitting.{block_of, source_content}
 use Rattle.depot_rows.specs.Deed.{opening_of}
 use Rattle.submit_core.specs.declared.content.Found.TheVariants.{Block}
 use Rattle.submit_core.proofs.Finding.{is_first, is_other}

@@ -1,7 +1,7 @@
 use Rattle.std.proofs.Common.{◌≡◌, ℕ, List, Option, Some, sym, subst, ◌∙◌}
-use Rattle.table_changes.specs.Changed.{rows_of}
-use Rattle.depot_model.specs.Opened.{opened}
-use Rattle.depot_model.specs.Steps.Submitting.{content_of}
+use Rattle.depot_rows.specs.table_changes.Changed.{rows_of}
+use Rattle.depot_rows.specs.depot_model.Opened.{opened}
+use Rattle.depot_rows.specs.depot_model.Steps.Submitting.{content_of}
 use Rattle.depot_rows.specs.Deed.{IsStored, opening_of}
 use Rattle.depot_rows.specs.declared.deed.Stored.{Stored}
 use Rattle.depot_rows.proofs.Locks.{opened-is}

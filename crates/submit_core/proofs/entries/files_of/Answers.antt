@@ -1,6 +1,6 @@
 use Rattle.std.proofs.Common.{List, map, take, sym, ap, subst, refl, ◌∙◌}
-use Rattle.table_changes.specs.Changed.{rows_of}
-use Rattle.depot_model.specs.Deeds.{Opening}
+use Rattle.depot_rows.specs.table_changes.Changed.{rows_of}
+use Rattle.depot_rows.specs.depot_model.Deeds.{Opening}
 use Rattle.depot_rows.specs.Deed.{opening_of}
 use Rattle.submit_core.specs.Entries.{AreFiles}
 use Rattle.submit_core.proofs.Filing.{no_files}

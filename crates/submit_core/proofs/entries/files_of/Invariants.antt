@@ -1,7 +1,7 @@
 use Rattle.std.proofs.Common.{List, take, map}
-use Rattle.table_changes.specs.Changed.{rows_of}
-use Rattle.depot_model.specs.declared.request.Request.{Request}
-use Rattle.depot_model.specs.Deeds.{Deed}
+use Rattle.depot_rows.specs.table_changes.Changed.{rows_of}
+use Rattle.depot_rows.specs.depot_model.declared.request.Request.{Request}
+use Rattle.depot_rows.specs.depot_model.Deeds.{Deed}
 use Rattle.depot_rows.specs.Deed.{opening_of}
 use Rattle.submit_core.specs.Entries.{AreFiles}
 use Rattle.submit_core.specs.Premises.{AreOpened, Reads}

@@ -1,7 +1,7 @@
 use Rattle.std.proofs.Common.{List, take, sym, ap, subst, ◌∙◌, append-nil}
 use Rattle.std.specs.Prelude.{flat_map}
-use Rattle.depot_model.specs.Deeds.{Deed}
-use Rattle.depot_model.specs.Fixes.{closing}
+use Rattle.depot_rows.specs.depot_model.Deeds.{Deed}
+use Rattle.depot_rows.specs.depot_model.Fixes.{closing}
 use Rattle.submit_core.specs.Telling.{Tells}
 use Rattle.submit_core.proofs.Ending.{tells_none, tells_on}
 use Rattle.submit_core.proofs.Steps.{flat_on, front}

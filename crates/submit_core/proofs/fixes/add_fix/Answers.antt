@@ -1,6 +1,6 @@
 use Rattle.std.proofs.Common.{sym, ap, ◌∙◌}
-use Rattle.depot_model.specs.Deeds.{FixForm}
-use Rattle.depot_model.specs.Latest.{spec}
+use Rattle.depot_rows.specs.depot_model.Deeds.{FixForm}
+use Rattle.depot_rows.specs.depot_model.Latest.{spec}
 use Rattle.submit_core.specs.Fixes.{is_fix_of}
 use Rattle.submit_core.proofs.Keeping.{kept_in, left_out}
 use Rattle.submit_core.proofs.fixes.add_fix.Goals as goal

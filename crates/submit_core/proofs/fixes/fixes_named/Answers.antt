@@ -1,8 +1,8 @@
 use Rattle.std.proofs.Common.{◌+◌, ℕ, List, ◌++◌, drop, filter, ap, sym, ◌∙◌, append_assoc, []}
 use Rattle.std.specs.List.{cons_option, filter_map}
-use Rattle.spec_form.specs.Form.{FormValue}
-use Rattle.depot_model.specs.Deeds.{FixForm}
-use Rattle.depot_model.specs.Latest.{spec}
+use Rattle.depot_rows.specs.spec_form.Form.{FormValue}
+use Rattle.depot_rows.specs.depot_model.Deeds.{FixForm}
+use Rattle.depot_rows.specs.depot_model.Latest.{spec}
 use Rattle.submit_core.specs.Fixes.{is_fix_of}
 use Rattle.submit_core.proofs.Keeping.{one_more}
 use Rattle.submit_core.proofs.Steps.{back}

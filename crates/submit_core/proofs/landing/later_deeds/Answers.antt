@@ -1,6 +1,6 @@
 use Rattle.std.proofs.Common.{[], ◌++◌, List, ap, ◌∙◌}
 use Rattle.std.specs.Prelude.{flat_map}
-use Rattle.depot_model.specs.Fixes.{closing, fixes_of}
+use Rattle.depot_rows.specs.depot_model.Fixes.{closing, fixes_of}
 use Rattle.depot_rows.specs.declared.deed.Deed.{Deed}
 use Rattle.submit_core.specs.Landing.{dropped_by, ends_of}
 use Rattle.submit_core.proofs.Ending.{told_all, tells_on}

@@ -1,9 +1,9 @@
 use Rattle.std.proofs.Common.{◌+◌, List, map, drop, sym, ap, subst, ◌∙◌}
 use Rattle.std.specs.Prelude.{flat_map, option_map}
-use Rattle.depot_model.specs.declared.refusal.Refusal.{Refusal}
+use Rattle.depot_rows.specs.depot_model.declared.refusal.Refusal.{Refusal}
 use Rattle.std.proofs.Common.{Option}
-use Rattle.depot_model.specs.Refusals.{refusal_row}
-use Rattle.depot_model.specs.Steps.Submitting.{file_refusals}
+use Rattle.depot_rows.specs.depot_model.Refusals.{refusal_row}
+use Rattle.depot_rows.specs.depot_model.Steps.Submitting.{file_refusals}
 use Rattle.depot_rows.specs.Deed.{opening_of}
 use Rattle.depot_rows.specs.declared.deed.Opening.{Opening}
 use Rattle.reply_rows.specs.Refusing.{first_of}

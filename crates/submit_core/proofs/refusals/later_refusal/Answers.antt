@@ -1,9 +1,9 @@
 use Rattle.std.proofs.Common.{◌≡◌, ℕ, List, Some, sym, subst, ◌∙◌}
 use Rattle.std.specs.List.{list_any}
-use Rattle.depot_model.specs.Opened.{opened}
-use Rattle.depot_model.specs.Step.{refuse_if}
-use Rattle.depot_model.specs.Steps.Submitting.{is_unpaid, lacks_content, move_refusal, resolves_of}
-use Rattle.depot_model.specs.declared.refusal.Refusal.TheVariants.{MustResolve, NoContent}
+use Rattle.depot_rows.specs.depot_model.Opened.{opened}
+use Rattle.depot_rows.specs.depot_model.Step.{refuse_if}
+use Rattle.depot_rows.specs.depot_model.Steps.Submitting.{is_unpaid, lacks_content, move_refusal, resolves_of}
+use Rattle.depot_rows.specs.depot_model.declared.refusal.Refusal.TheVariants.{MustResolve, NoContent}
 use Rattle.depot_rows.specs.Deed.{opening_of}
 use Rattle.depot_rows.proofs.Locks.{opened-is}
 use Rattle.submit_core.proofs.Refusing.{first_row, second_row, third_row}

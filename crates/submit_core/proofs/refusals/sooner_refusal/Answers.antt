@@ -1,11 +1,11 @@
 use Rattle.std.proofs.Common.{sym, ◌∙◌}
 use Rattle.std.specs.Prelude.{◌==◌, not}
-use Rattle.depot_model.specs.Asking.{to_write}
-use Rattle.depot_model.specs.Revisions.{head}
-use Rattle.depot_model.specs.Step.{refuse_if}
-use Rattle.depot_model.specs.Steps.Opening.{right_refusal}
-use Rattle.depot_model.specs.Steps.Submitting.{lock_refusal}
-use Rattle.depot_model.specs.declared.refusal.Refusal.TheVariants.{Stale}
+use Rattle.depot_rows.specs.depot_model.Asking.{to_write}
+use Rattle.depot_rows.specs.depot_model.Revisions.{head}
+use Rattle.depot_rows.specs.depot_model.Step.{refuse_if}
+use Rattle.depot_rows.specs.depot_model.Steps.Opening.{right_refusal}
+use Rattle.depot_rows.specs.depot_model.Steps.Submitting.{lock_refusal}
+use Rattle.depot_rows.specs.depot_model.declared.refusal.Refusal.TheVariants.{Stale}
 use Rattle.depot_rows.specs.Deed.{opening_of}
 use Rattle.submit_core.proofs.Refusing.{first_row, second_row, third_row}
 use Rattle.submit_core.proofs.refusals.sooner_refusal.Goals as goal

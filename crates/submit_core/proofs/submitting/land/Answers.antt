@@ -1,10 +1,10 @@
 use Rattle.std.proofs.Common.{ℕ, List, [], ◌∷◌, ◌++◌, map, sym, ap, subst, ◌∙◌}
 use Rattle.std.specs.Prelude.{codes, flat_map}
-use Rattle.table_changes.specs.Changed.{rows_of}
-use Rattle.depot_model.specs.Deeds.{Opening}
-use Rattle.depot_model.specs.Fixes.{closing, fixes_of}
-use Rattle.depot_model.specs.Rows.{number_field, row}
-use Rattle.depot_model.specs.Steps.Submitting.{dropped, entry_of, got_and_shut, landing_number, landing_of, openings_of}
+use Rattle.depot_rows.specs.table_changes.Changed.{rows_of}
+use Rattle.depot_rows.specs.depot_model.Deeds.{Opening}
+use Rattle.depot_rows.specs.depot_model.Fixes.{closing, fixes_of}
+use Rattle.depot_rows.specs.depot_model.Rows.{number_field, row}
+use Rattle.depot_rows.specs.depot_model.Steps.Submitting.{dropped, entry_of, got_and_shut, landing_number, landing_of, openings_of}
 use Rattle.depot_rows.specs.Deed.{AreEntries, IsLanding}
 use Rattle.depot_rows.specs.declared.deed.Entry.{Entry}
 use Rattle.depot_rows.specs.declared.deed.Landing.{Landing}

@@ -1,5 +1,5 @@
 use Rattle.std.proofs.Common.{List, sym, ap, subst, ◌∙◌, map}
-use Rattle.depot_model.specs.declared.request.Content.{Content}
+use Rattle.depot_rows.specs.depot_model.declared.request.Content.{Content}
 use Rattle.depot_rows.specs.Deed.{opening_of}
 use Rattle.depot_rows.specs.declared.deed.Opening.{Opening}
 use Rattle.submit_core.specs.Blocks.{AreBlocks}

@@ -1,6 +1,6 @@
 use Rattle.std.proofs.Common.{◌≡◌, Some, None, ◌∙◌, subst}
-use Rattle.table_changes.specs.Changed.{rows_of}
-use Rattle.depot_model.specs.Step.{Step as ModelStep}
+use Rattle.depot_rows.specs.table_changes.Changed.{rows_of}
+use Rattle.depot_rows.specs.depot_model.Step.{Step as ModelStep}
 use Rattle.step_stores.specs.Stored.{IsStoring}
 use Rattle.submit_core.proofs.PendingRows.{own_change, own_submitted}
 use Rattle.submit_core.proofs.Stepping.{change_refused}

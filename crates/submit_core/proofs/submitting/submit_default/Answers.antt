@@ -1,5 +1,5 @@
 use Rattle.std.proofs.Common.{List, ℕ, inl, refl, subst}
-use Rattle.depot_model.specs.Rules.{IsName}
+use Rattle.depot_rows.specs.depot_model.Rules.{IsName}
 use Rattle.submit_core.proofs.submitting.submit_default.Goals as goal
 
 pub returns : goal.returns

@@ -1,10 +1,10 @@
 use Rattle.std.proofs.Common.{ℕ, List, inr, sym, ap, subst, ◌∙◌}
 use Rattle.std.specs.Prelude.{option_map}
 use Rattle.std.specs.Option.{option_copied}
-use Rattle.db_records.specs.declared.record.Record.TheVariants.{Change}
-use Rattle.table_changes.specs.Changed.{rows_of}
-use Rattle.depot_model.specs.Rules.{IsName}
-use Rattle.depot_model.specs.Steps.Submitting.{submit}
+use Rattle.depot_rows.specs.db_records.declared.record.Record.TheVariants.{Change}
+use Rattle.depot_rows.specs.table_changes.Changed.{rows_of}
+use Rattle.depot_rows.specs.depot_model.Rules.{IsName}
+use Rattle.depot_rows.specs.depot_model.Steps.Submitting.{submit}
 use Rattle.step_stores.specs.Stored.{IsStoring}
 use Rattle.submit_core.proofs.PendingRows.{has_row, text_is}
 use Rattle.submit_core.proofs.submitting.submit_pending.Goals as goal

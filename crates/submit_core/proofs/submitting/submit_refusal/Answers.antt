@@ -1,7 +1,7 @@
 use Rattle.std.proofs.Common.{ℕ, map, length, sym, ap, ◌∙◌}
 use Rattle.std.specs.Prelude.{flat_map, option_map}
-use Rattle.depot_model.specs.Refusals.{refusal_row}
-use Rattle.depot_model.specs.Steps.Submitting.{file_refusals}
+use Rattle.depot_rows.specs.depot_model.Refusals.{refusal_row}
+use Rattle.depot_rows.specs.depot_model.Steps.Submitting.{file_refusals}
 use Rattle.depot_rows.specs.Deed.{opening_of}
 use Rattle.reply_rows.specs.Refusing.{first_of}
 use Rattle.submit_core.specs.Submitting.{front_refusals, last_refusals}

@@ -1,6 +1,6 @@
 use Rattle.std.proofs.Common.{◌≡◌, take}
 use Rattle.std.specs.Prelude.{filter}
-use Rattle.db_records.specs.Table.{all_tables}
+use Rattle.depot_model.specs.db_records.Table.{all_tables}
 use Rattle.table_locks.specs.Gathered.{IsBelow, IsShown, tables_held, tables_seen}
 use Rattle.table_locks.specs.Ways.{holds_table, looks_at}
 use Rattle.table_locks.proofs.gathering.gather.Given as goal

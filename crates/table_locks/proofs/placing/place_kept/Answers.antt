@@ -1,5 +1,5 @@
 use Rattle.std.proofs.Common.{◌≡◌, [], ◌∷◌, List, sym, ap, subst, ◌∙◌}
-use Rattle.db_records.specs.declared.change.Change.{Change}
+use Rattle.depot_model.specs.db_records.declared.change.Change.{Change}
 use Rattle.locked_tables.specs.Held.{OnlyChange, lanes_next}
 use Rattle.locked_tables.specs.Taken.{TouchesItsTables, party_lane, rows_after}
 use Rattle.locked_tables.specs.declared.taken.Taken.{Taken}

@@ -1,8 +1,8 @@
 use Rattle.std.proofs.Common.{◌≡◌, ◌+◌, ℕ, Bool, false, List, sym, ap, subst, ◌∙◌, arith, Result, Ok, Err, OnOk}
 use Rattle.std.specs.Prelude.{is_err}
-use Rattle.depot_path.specs.Answers.{Answers}
-use Rattle.depot_path.specs.declared.fault.PathFault.{PathFault}
-use Rattle.depot_path.specs.declared.fault.PathFault.TheVariants.{Memory}
+use Rattle.db_records.specs.depot_path.Answers.{Answers}
+use Rattle.db_records.specs.depot_path.declared.fault.PathFault.{PathFault}
+use Rattle.db_records.specs.depot_path.declared.fault.PathFault.TheVariants.{Memory}
 use Rattle.depot_model.specs.declared.filter.FilterRule.{FilterRule}
 use Rattle.depot_model.specs.Filter.{rule_of}
 use Rattle.depot_model.proofs.Filters.{HasRead, one_more}

@@ -1,5 +1,5 @@
 use Rattle.std.proofs.Common.{List, ℕ, ap, ◌∙◌}
-use Rattle.depot_model.specs.Arguments.{is_in}
+use Rattle.depot_rows.specs.depot_model.Arguments.{is_in}
 use Rattle.file_steps.proofs.Inserting.{contains_is}
 use Rattle.file_steps.proofs.paths.PathSet.contains.Goals as goal
 

@@ -1,5 +1,5 @@
 use Rattle.std.proofs.Common.{ap, ◌∙◌}
-use Rattle.depot_model.specs.Sorted.{path_inserted}
+use Rattle.depot_rows.specs.depot_model.Sorted.{path_inserted}
 use Rattle.file_steps.proofs.Inserting.{inserted_is}
 use Rattle.file_steps.proofs.paths.PathSet.insert.Goals as goal
 

@@ -1,8 +1,8 @@
 use Rattle.std.proofs.Common.{List, refl, ap, ◌∙◌}
-use Rattle.table_changes.specs.Changed.{rows_of}
-use Rattle.view_map.specs.Mapping.{path_in}
-use Rattle.view_map.specs.declared.line.ViewLine.{ViewLine}
-use Rattle.depot_model.specs.Steps.Placing.{have_row}
+use Rattle.depot_rows.specs.table_changes.Changed.{rows_of}
+use Rattle.depot_rows.specs.view_map.Mapping.{path_in}
+use Rattle.depot_rows.specs.view_map.declared.line.ViewLine.{ViewLine}
+use Rattle.depot_rows.specs.depot_model.Steps.Placing.{have_row}
 use Rattle.reply_rows.proofs.Joined.{made_row}
 use Rattle.have_sync.specs.Having.{have_row_of}
 use Rattle.have_sync.proofs.having.HavingFileAct.act.Goals as goal

@@ -1,9 +1,9 @@
 use Rattle.std.proofs.Common.{ℕ, List, Option, map, sym, subst, Bor}
 use Rattle.std.specs.Prelude.{IfSome}
 use Rattle.std.specs.List.{All}
-use Rattle.db_records.specs.declared.record.Record.{Record}
-use Rattle.db_records.specs.declared.table.TableId.TheVariants as tables
-use Rattle.table_changes.specs.Changed.{rows_of}
+use Rattle.depot_rows.specs.db_records.declared.record.Record.{Record}
+use Rattle.depot_rows.specs.db_records.declared.table.TableId.TheVariants as tables
+use Rattle.depot_rows.specs.table_changes.Changed.{rows_of}
 use Rattle.named_files.specs.HeadRows.{IsHead}
 use Rattle.have_sync.specs.Heads.{IsHeadOf}
 use Rattle.have_sync.proofs.NewestRead.{live_is, rev_read}

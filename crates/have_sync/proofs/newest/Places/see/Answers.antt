@@ -1,7 +1,7 @@
 use Rattle.std.proofs.Common.{List, map, sym, ap, subst}
 use Rattle.std.specs.List.{All}
-use Rattle.db_records.specs.declared.record.Record.{Record}
-use Rattle.db_records.specs.declared.table.TableId.TheVariants as tables
+use Rattle.depot_rows.specs.db_records.declared.record.Record.{Record}
+use Rattle.depot_rows.specs.db_records.declared.table.TableId.TheVariants as tables
 use Rattle.named_files.specs.HeadRows.{IsHead}
 use Rattle.have_sync.proofs.newest.Places.see.Goals as goal
 

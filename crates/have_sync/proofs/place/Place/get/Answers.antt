@@ -1,6 +1,6 @@
 use Rattle.std.proofs.Common.{sym, ap, subst, ◌∙◌}
 use Rattle.std.specs.Option.{option_copied}
-use Rattle.table_store.specs.Rows.{IsRising, row_at}
+use Rattle.depot_rows.specs.table_store.Rows.{IsRising, row_at}
 use Rattle.have_sync.proofs.Onward.{found_here}
 use Rattle.have_sync.proofs.place.Place.get.Goals as goal
 

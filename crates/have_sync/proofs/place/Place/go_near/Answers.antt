@@ -1,6 +1,6 @@
 use Rattle.std.proofs.Common.{sym, subst, ◌∙◌}
 use Rattle.std.specs.Option.{option_copied}
-use Rattle.table_store.specs.Rows.{IsRising}
+use Rattle.depot_rows.specs.table_store.Rows.{IsRising}
 use Rattle.have_sync.proofs.Onward.{all_below}
 use Rattle.have_sync.proofs.place.Place.go_near.Goals as goal
 

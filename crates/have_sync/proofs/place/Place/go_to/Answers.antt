@@ -1,5 +1,5 @@
 use Rattle.std.proofs.Common.{sym, subst}
-use Rattle.table_store.specs.Rows.{IsRising}
+use Rattle.depot_rows.specs.table_store.Rows.{IsRising}
 use Rattle.have_sync.proofs.place.Place.go_to.Goals as goal
 
 pub returns-then-near-clause-place : goal.returns-then-near-clause-place

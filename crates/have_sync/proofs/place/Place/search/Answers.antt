@@ -1,5 +1,5 @@
 use Rattle.std.proofs.Common.{◌++◌, List, sym, ap, ◌∙◌}
-use Rattle.db_records.specs.declared.record.Record.{Record}
+use Rattle.depot_rows.specs.db_records.declared.record.Record.{Record}
 use Rattle.have_sync.proofs.Onward.{first_from, parted}
 use Rattle.have_sync.proofs.place.Place.search.Goals as goal
 

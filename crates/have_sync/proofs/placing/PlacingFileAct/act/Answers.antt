@@ -1,9 +1,9 @@
 use Rattle.std.proofs.Common.{ℕ, List, [], Option, refl, sym, ap, subst, ◌∙◌}
-use Rattle.table_changes.specs.Changed.{rows_of}
-use Rattle.view_map.specs.Mapping.{path_in}
-use Rattle.view_map.specs.declared.line.ViewLine.{ViewLine}
-use Rattle.depot_model.specs.Step.{nothing}
-use Rattle.depot_model.specs.Steps.Placing.{place_row}
+use Rattle.depot_rows.specs.table_changes.Changed.{rows_of}
+use Rattle.depot_rows.specs.view_map.Mapping.{path_in}
+use Rattle.depot_rows.specs.view_map.declared.line.ViewLine.{ViewLine}
+use Rattle.depot_rows.specs.depot_model.Step.{nothing}
+use Rattle.depot_rows.specs.depot_model.Steps.Placing.{place_row}
 use Rattle.reply_rows.specs.declared.step.Step.{Step}
 use Rattle.reply_rows.specs.Made.{IsMade}
 use Rattle.reply_rows.proofs.Bare.{tells_made}

@@ -1,7 +1,7 @@
 use Rattle.std.proofs.Common.{List, ℕ, ap, sym, ◌∙◌}
 use Rattle.std.specs.Prelude.{filter}
-use Rattle.depot_model.specs.Steps.Adding.{spelled}
-use Rattle.depot_model.specs.WellFormed.{spells_path}
+use Rattle.depot_rows.specs.depot_model.Steps.Adding.{spelled}
+use Rattle.depot_rows.specs.depot_model.WellFormed.{spells_path}
 use Rattle.have_sync.specs.Placing.{is_told}
 use Rattle.named_files.proofs.Spelled.{found_is, is_found}
 use Rattle.have_sync.proofs.Told.{told_is}

@@ -1,6 +1,6 @@
 use Rattle.std.proofs.Common.{List, ℕ, ap, ◌∙◌}
-use Rattle.depot_model.specs.declared.refusal.Refusal.TheVariants.{NotInView}
-use Rattle.depot_model.specs.Refusals.{refusal_row}
+use Rattle.depot_rows.specs.depot_model.declared.refusal.Refusal.TheVariants.{NotInView}
+use Rattle.depot_rows.specs.depot_model.Refusals.{refusal_row}
 use Rattle.reply_rows.proofs.Joined.{made_refusal}
 use Rattle.have_sync.proofs.placing.ToldFilesFileFinder.missing.Goals as goal
 

@@ -1,13 +1,13 @@
 use Rattle.std.proofs.Common.{◌≡◌, Bool, [], ◌∷◌, refl, sym, subst, ◌∙◌}
 use Rattle.std.specs.Prelude.{not}
-use Rattle.depot_path.specs.Path.{printed}
-use Rattle.table_changes.specs.Changed.{rows_of}
-use Rattle.protect_table.specs.Rights.{may}
-use Rattle.depot_model.specs.declared.refusal.Refusal.TheVariants.{Denied}
-use Rattle.depot_model.specs.Asking.{may_at}
-use Rattle.depot_model.specs.Choice.{chosen}
-use Rattle.depot_model.specs.Step.{refuse_if, unless}
-use Rattle.depot_model.specs.Steps.Syncing.{sync_to}
+use Rattle.depot_rows.specs.depot_path.Path.{printed}
+use Rattle.depot_rows.specs.table_changes.Changed.{rows_of}
+use Rattle.depot_rows.specs.protect_table.Rights.{may}
+use Rattle.depot_rows.specs.depot_model.declared.refusal.Refusal.TheVariants.{Denied}
+use Rattle.depot_rows.specs.depot_model.Asking.{may_at}
+use Rattle.depot_rows.specs.depot_model.Choice.{chosen}
+use Rattle.depot_rows.specs.depot_model.Step.{refuse_if, unless}
+use Rattle.depot_rows.specs.depot_model.Steps.Syncing.{sync_to}
 use Rattle.reply_rows.specs.Made.{IsMade}
 use Rattle.reply_rows.proofs.Joined.{made_refusal}
 use Rattle.have_sync.proofs.syncing.SyncingWalkActShownFiles.act.Goals as goal

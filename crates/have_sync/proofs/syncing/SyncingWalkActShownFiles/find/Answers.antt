@@ -2,7 +2,7 @@ use Rattle.std.proofs.Common.{◌≡◌, List, true, map, refl, sym, subst, ◌�
 use Rattle.std.specs.List.{All}
 use Rattle.std.proofs.lemmas.Bool.{false≢true}
 use Rattle.depot_rows.proofs.Keys.{right-true}
-use Rattle.table_changes.specs.Changed.{rows_of}
+use Rattle.depot_rows.specs.table_changes.Changed.{rows_of}
 use Rattle.named_files.specs.HeadRows.{IsHead}
 use Rattle.named_files.specs.Listed.{listing_table}
 use Rattle.named_files.specs.declared.listing.Listing.{Listing}

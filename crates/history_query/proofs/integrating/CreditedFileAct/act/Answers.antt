@@ -1,7 +1,7 @@
 use Rattle.std.proofs.Common.{sym, subst, map}
-use Rattle.table_changes.specs.Changed.{rows_of}
-use Rattle.depot_model.specs.Step.{tells}
-use Rattle.depot_model.specs.Steps.History.{integrated_row, records_of}
+use Rattle.depot_rows.specs.table_changes.Changed.{rows_of}
+use Rattle.depot_rows.specs.depot_model.Step.{tells}
+use Rattle.depot_rows.specs.depot_model.Steps.History.{integrated_row, records_of}
 use Rattle.reply_rows.specs.Made.{IsMade}
 use Rattle.reply_rows.specs.declared.step.Step.{Step}
 use Rattle.reply_rows.proofs.Bare.{tells_made}

@@ -1,9 +1,9 @@
 use Rattle.std.proofs.Common.{ℕ, Option, sym, ap, subst, ◌∙◌}
 use Rattle.std.specs.Prelude.{option_map}
-use Rattle.depot_path.specs.Path.{is_path}
-use Rattle.table_changes.specs.Changed.{rows_of}
-use Rattle.depot_model.specs.Step.{Step as ModelStep, tells}
-use Rattle.depot_model.specs.Steps.Listing.{Numbered, chosen_revision}
+use Rattle.depot_rows.specs.depot_path.Path.{is_path}
+use Rattle.depot_rows.specs.table_changes.Changed.{rows_of}
+use Rattle.depot_rows.specs.depot_model.Step.{Step as ModelStep, tells}
+use Rattle.depot_rows.specs.depot_model.Steps.Listing.{Numbered, chosen_revision}
 use Rattle.reply_rows.specs.Made.{IsMade, told}
 use Rattle.reply_rows.specs.declared.step.Step.{Step}
 use Rattle.reply_rows.proofs.Bare.{tells_made}

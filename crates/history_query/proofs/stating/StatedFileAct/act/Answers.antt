@@ -1,13 +1,13 @@
 use Rattle.std.proofs.Common.{List, sym, ap, subst, ◌∙◌}
 use Rattle.std.specs.Prelude.{option_map}
 use Rattle.std.specs.Option.{option_copied}
-use Rattle.view_map.specs.Mapping.{path_in}
-use Rattle.view_map.specs.declared.line.ViewLine.{ViewLine}
-use Rattle.table_changes.specs.Changed.{rows_of}
-use Rattle.depot_model.specs.Asking.{view}
-use Rattle.depot_model.specs.Latest.{have}
-use Rattle.depot_model.specs.Step.{Step as ModelStep, tells}
-use Rattle.depot_model.specs.Steps.Listing.{chosen_revision}
+use Rattle.depot_rows.specs.view_map.Mapping.{path_in}
+use Rattle.depot_rows.specs.view_map.declared.line.ViewLine.{ViewLine}
+use Rattle.depot_rows.specs.table_changes.Changed.{rows_of}
+use Rattle.depot_rows.specs.depot_model.Asking.{view}
+use Rattle.depot_rows.specs.depot_model.Latest.{have}
+use Rattle.depot_rows.specs.depot_model.Step.{Step as ModelStep, tells}
+use Rattle.depot_rows.specs.depot_model.Steps.Listing.{chosen_revision}
 use Rattle.reply_rows.specs.Made.{IsMade, told}
 use Rattle.reply_rows.specs.declared.step.Step.{Step}
 use Rattle.reply_rows.proofs.Bare.{tells_made}

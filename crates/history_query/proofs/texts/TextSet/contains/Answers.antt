@@ -1,6 +1,6 @@
 use Rattle.std.proofs.Common.{List, ℕ, ap, ◌∙◌}
 use Rattle.std.specs.List.{list_any}
-use Rattle.depot_path.specs.Bytes.{same}
+use Rattle.depot_rows.specs.depot_path.Bytes.{same}
 use Rattle.history_query.proofs.Taken.{contains_is}
 use Rattle.history_query.proofs.texts.TextSet.contains.Goals as goal
 

@@ -1,12 +1,12 @@
 use Rattle.std.proofs.Common.{◌≡◌, ℕ, List, Option, None, Some, sym, ap, subst, ◌∙◌}
-use Rattle.depot_path.specs.Path.{printed}
-use Rattle.table_changes.specs.Changed.{rows_of}
+use Rattle.depot_rows.specs.depot_path.Path.{printed}
+use Rattle.depot_rows.specs.table_changes.Changed.{rows_of}
 use Rattle.named_files.specs.declared.listing.Listing.TheVariants.{Submitted}
 use Rattle.named_files.proofs.Wanting.{reads_wanted}
-use Rattle.depot_model.specs.declared.refusal.Refusal.TheVariants.{NotInView}
-use Rattle.depot_model.specs.Step.{Step as ModelStep, refuses}
-use Rattle.depot_model.specs.Steps.Integrating.{integrate_to}
-use Rattle.depot_model.specs.Steps.Targets.{target_at, target_text}
+use Rattle.depot_rows.specs.depot_model.declared.refusal.Refusal.TheVariants.{NotInView}
+use Rattle.depot_rows.specs.depot_model.Step.{Step as ModelStep, refuses}
+use Rattle.depot_rows.specs.depot_model.Steps.Integrating.{integrate_to}
+use Rattle.depot_rows.specs.depot_model.Steps.Targets.{target_at, target_text}
 use Rattle.reply_rows.specs.Made.{IsMade}
 use Rattle.integ_records.proofs.integrating.Integrating.integrate_chosen.Goals as goal
 

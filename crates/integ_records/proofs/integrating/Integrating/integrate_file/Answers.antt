@@ -1,7 +1,7 @@
 use Rattle.std.proofs.Common.{◌≡◌, None, Some, ◌∙◌}
-use Rattle.table_changes.specs.Changed.{rows_of}
-use Rattle.depot_model.specs.Choice.{chosen}
-use Rattle.depot_model.specs.Steps.Opening.{right_refusal}
+use Rattle.depot_rows.specs.table_changes.Changed.{rows_of}
+use Rattle.depot_rows.specs.depot_model.Choice.{chosen}
+use Rattle.depot_rows.specs.depot_model.Steps.Opening.{right_refusal}
 use Rattle.reply_rows.proofs.Joined.{passed, refused}
 use Rattle.integ_records.specs.Integrates.{integrates_at}
 use Rattle.integ_records.proofs.integrating.Integrating.integrate_file.Goals as goal

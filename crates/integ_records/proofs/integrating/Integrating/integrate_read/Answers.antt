@@ -1,9 +1,9 @@
 use Rattle.std.proofs.Common.{[], sym, ap, subst, ◌∙◌}
-use Rattle.table_changes.specs.Changed.{rows_of}
+use Rattle.depot_rows.specs.table_changes.Changed.{rows_of}
 use Rattle.named_files.specs.declared.listing.Listing.TheVariants.{Submitted}
 use Rattle.named_files.proofs.Wanting.{reads_wanted}
-use Rattle.depot_model.specs.Choice.{Choice}
-use Rattle.depot_model.specs.Step.{nothing}
+use Rattle.depot_rows.specs.depot_model.Choice.{Choice}
+use Rattle.depot_rows.specs.depot_model.Step.{nothing}
 use Rattle.reply_rows.specs.Made.{IsMade}
 use Rattle.reply_rows.specs.declared.step.Step.{Step}
 use Rattle.reply_rows.proofs.Bare.{tells_made}

@@ -1,11 +1,11 @@
 use Rattle.std.proofs.Common.{Bool, [], ◌∷◌, Option, None, sym, subst, ◌∙◌}
 use Rattle.std.specs.Prelude.{unwrap_or}
 use Rattle.std.specs.List.{last_or}
-use Rattle.table_changes.specs.Changed.{rows_of}
-use Rattle.depot_model.specs.declared.refusal.Refusal.{Refusal}
-use Rattle.depot_model.specs.declared.refusal.Refusal.TheVariants.{AlreadyOpen}
-use Rattle.depot_model.specs.Step.{refuse_if, unless}
-use Rattle.depot_model.specs.Steps.Integrating.{integrate_revs, new_type, uncredited}
+use Rattle.depot_rows.specs.table_changes.Changed.{rows_of}
+use Rattle.depot_rows.specs.depot_model.declared.refusal.Refusal.{Refusal}
+use Rattle.depot_rows.specs.depot_model.declared.refusal.Refusal.TheVariants.{AlreadyOpen}
+use Rattle.depot_rows.specs.depot_model.Step.{refuse_if, unless}
+use Rattle.depot_rows.specs.depot_model.Steps.Integrating.{integrate_revs, new_type, uncredited}
 use Rattle.reply_rows.specs.Made.{IsMade}
 use Rattle.reply_rows.proofs.Joined.{made_refusal}
 use Rattle.opening_reads.proofs.OwnDeeds.{exclusive_still}

@@ -1,15 +1,15 @@
 use Rattle.std.proofs.Common.{◌≡◌, None, Some, subst, ◌∙◌}
 use Rattle.std.specs.Prelude.{is_some, not, unwrap_or}
 use Rattle.std.specs.List.{last_or}
-use Rattle.depot_path.specs.Path.{printed}
-use Rattle.depot_path.specs.declared.revision.Wanted.TheVariants.{Head}
-use Rattle.table_changes.specs.Changed.{rows_of}
-use Rattle.depot_model.specs.declared.refusal.Refusal.TheVariants.{AlreadyOpen, NotInView}
-use Rattle.depot_model.specs.Choice.{shown}
-use Rattle.depot_model.specs.Opened.{opened}
-use Rattle.depot_model.specs.Step.{Step as ModelStep, refuse_if}
-use Rattle.depot_model.specs.Steps.Integrating.{integrate_revs, new_type, uncredited}
-use Rattle.depot_model.specs.Steps.Opening.{exclusive_refusal, right_refusal}
+use Rattle.depot_rows.specs.depot_path.Path.{printed}
+use Rattle.depot_rows.specs.depot_path.declared.revision.Wanted.TheVariants.{Head}
+use Rattle.depot_rows.specs.table_changes.Changed.{rows_of}
+use Rattle.depot_rows.specs.depot_model.declared.refusal.Refusal.TheVariants.{AlreadyOpen, NotInView}
+use Rattle.depot_rows.specs.depot_model.Choice.{shown}
+use Rattle.depot_rows.specs.depot_model.Opened.{opened}
+use Rattle.depot_rows.specs.depot_model.Step.{Step as ModelStep, refuse_if}
+use Rattle.depot_rows.specs.depot_model.Steps.Integrating.{integrate_revs, new_type, uncredited}
+use Rattle.depot_rows.specs.depot_model.Steps.Opening.{exclusive_refusal, right_refusal}
 use Rattle.reply_rows.specs.Made.{IsMade}
 use Rattle.reply_rows.proofs.Joined.{passed, refused}
 use Rattle.integ_records.specs.Integrates.{integrates_permitted}

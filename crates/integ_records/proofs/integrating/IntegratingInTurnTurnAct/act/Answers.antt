@@ -1,5 +1,5 @@
 use Rattle.std.proofs.Common.{List, sym, subst}
-use Rattle.depot_model.specs.Steps.Integrating.{integrate_file}
+use Rattle.depot_rows.specs.depot_model.Steps.Integrating.{integrate_file}
 use Rattle.depot_rows.specs.Effects.{Follow}
 use Rattle.depot_rows.specs.declared.deed.Deed.{Deed}
 use Rattle.integ_records.proofs.Integrated.{file_own}

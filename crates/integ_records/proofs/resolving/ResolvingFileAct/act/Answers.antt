@@ -1,7 +1,7 @@
 use Rattle.std.proofs.Common.{◌≡◌, Some, None, ◌∙◌}
-use Rattle.table_changes.specs.Changed.{rows_of}
-use Rattle.depot_model.specs.Steps.Opening.{right_refusal}
-use Rattle.depot_model.specs.Steps.Resolving.{owings, resolve_next, resolve_opened}
+use Rattle.depot_rows.specs.table_changes.Changed.{rows_of}
+use Rattle.depot_rows.specs.depot_model.Steps.Opening.{right_refusal}
+use Rattle.depot_rows.specs.depot_model.Steps.Resolving.{owings, resolve_next, resolve_opened}
 use Rattle.reply_rows.proofs.Joined.{passed, refused}
 use Rattle.integ_records.proofs.resolving.ResolvingFileAct.act.Goals as goal
 

@@ -1,10 +1,10 @@
 use Rattle.std.proofs.Common.{◌≡◌, ℕ, List, Option, Some, None, Result, Ok, Err, refl, sym, ap, ◌∙◌}
 use Rattle.std.specs.Prelude.{IfOk, slice_get}
 use Rattle.std.specs.Option.{option_copied}
-use Rattle.table_changes.specs.Changed.{changed_by, rows_of}
+use Rattle.depot_rows.specs.table_changes.Changed.{changed_by, rows_of}
 use Rattle.command_core.specs.declared.outcome.Outcome.{Outcome}
-use Rattle.depot_model.specs.Deeds.{Deed}
-use Rattle.depot_model.specs.declared.request.Request.{Request}
+use Rattle.depot_rows.specs.depot_model.Deeds.{Deed}
+use Rattle.depot_rows.specs.depot_model.declared.request.Request.{Request}
 use Rattle.lock_machine.specs.Machine.{State}
 use Rattle.lock_machine.proofs.Places.{some_is}
 use Rattle.lock_core.specs.Core.{IsReady}

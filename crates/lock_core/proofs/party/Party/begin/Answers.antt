@@ -1,6 +1,6 @@
 use Rattle.std.proofs.Common.{Option, vec_len, sym, subst, ◌∙◌}
 use Rattle.std.proofs.lemmas.List.{nil_from_length}
-use Rattle.depot_model.specs.Tables.{needs_of}
+use Rattle.depot_rows.specs.depot_model.Tables.{needs_of}
 use Rattle.lock_machine.specs.Machine.{moved}
 use Rattle.lock_core.specs.Parties.{IsShownAs}
 use Rattle.lock_core.specs.declared.work.Work.{Work}

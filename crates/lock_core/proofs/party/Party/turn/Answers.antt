@@ -1,10 +1,10 @@
 use Rattle.std.proofs.Common.{ap, sym, subst, ◌∙◌}
 use Rattle.std.specs.Prelude.{IsSomeAnd, Option, Some}
-use Rattle.depot_model.specs.Tables.{needs_of}
+use Rattle.depot_rows.specs.depot_model.Tables.{needs_of}
 use Rattle.lock_machine.specs.Machine.{moved}
 use Rattle.lock_core.specs.Parties.{IsShownAs, is_judged, is_judged_at}
 use Rattle.lock_core.proofs.Turning.{gathered_as}
-use Rattle.table_changes.specs.Changed.{rows_of}
+use Rattle.depot_rows.specs.table_changes.Changed.{rows_of}
 use Rattle.lock_core.specs.Works.{IsRoomOf}
 use Rattle.lock_core.specs.declared.work.Work.{Work}
 use Rattle.lock_core.proofs.party.Party.turn.Goals as goal

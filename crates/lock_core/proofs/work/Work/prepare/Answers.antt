@@ -1,6 +1,6 @@
 use Rattle.std.proofs.Common.{List, sym, subst, refl}
-use Rattle.db_records.specs.declared.change.Change.{Change}
-use Rattle.table_changes.specs.Changed.{AllFitIn, rows_of}
+use Rattle.depot_rows.specs.db_records.declared.change.Change.{Change}
+use Rattle.depot_rows.specs.table_changes.Changed.{AllFitIn, rows_of}
 use Rattle.lock_core.specs.Works.{IsRoomOf}
 use Rattle.lock_core.proofs.work.Work.prepare.Goals as goal
 

@@ -1,7 +1,7 @@
 use Rattle.std.proofs.Common.{◌≡◌, ◌≤◌, ℕ, List, ap, subst, ◌∙◌, arith}
 use mathlib.Core.List.{IsPrefix}
 use borrow.Author.Tests.{eqb-true}
-use Rattle.db_records.specs.Table.{table_number}
+use Rattle.depot_model.specs.db_records.Table.{table_number}
 use Rattle.order_words.specs.Lanes.{last_touch}
 use Rattle.order_words.specs.Seats.{OrderState}
 use Rattle.order_words.proofs.Touches.{last_touch_prefix}

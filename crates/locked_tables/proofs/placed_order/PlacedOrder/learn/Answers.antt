@@ -1,5 +1,5 @@
 use Rattle.std.proofs.Common.{List, sym, ap, subst, ◌∙◌}
-use Rattle.db_records.specs.Table.{table_number}
+use Rattle.depot_model.specs.db_records.Table.{table_number}
 use Rattle.order_words.specs.Seats.{LaneState}
 use Rattle.locked_tables.specs.Known.{IsStill, OrderKnown, TableKnown}
 use Rattle.locked_tables.specs.Taken.{rows_after}

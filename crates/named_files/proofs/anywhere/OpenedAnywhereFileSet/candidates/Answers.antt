@@ -1,6 +1,6 @@
 use Rattle.std.proofs.Common.{ℕ, List, true, ap, subst, sym, ◌∙◌}
 use Rattle.std.specs.Prelude.{filter}
-use Rattle.depot_model.specs.Arguments.{names}
+use Rattle.depot_rows.specs.depot_model.Arguments.{names}
 use Rattle.named_files.specs.Anywhere.{opened_anywhere}
 use Rattle.named_files.specs.Beginnings.{AreApart, has_one}
 use Rattle.named_files.proofs.Naming.{placed_if_named}

@@ -1,7 +1,7 @@
 use Rattle.std.proofs.Common.{false}
 use Rattle.std.specs.Prelude.{is_some}
-use Rattle.depot_model.specs.Arguments.{names}
-use Rattle.depot_model.specs.Steps.Listing.{chosen_revision}
+use Rattle.depot_rows.specs.depot_model.Arguments.{names}
+use Rattle.depot_rows.specs.depot_model.Steps.Listing.{chosen_revision}
 use Rattle.depot_rows.proofs.Keys.{left-true}
 use Rattle.named_files.specs.Sets.{is_listed}
 use Rattle.named_files.proofs.Naming.{placed_if_shown}

@@ -1,8 +1,8 @@
 use Rattle.std.proofs.Common.{◌≡◌, Bool, true, false, sym, ap, ◌∙◌}
 use Rattle.std.specs.Prelude.{◌&&◌, is_some}
-use Rattle.table_changes.specs.Changed.{rows_of}
-use Rattle.depot_model.specs.Arguments.{names}
-use Rattle.depot_model.specs.Steps.Listing.{chosen_revision}
+use Rattle.depot_rows.specs.table_changes.Changed.{rows_of}
+use Rattle.depot_rows.specs.depot_model.Arguments.{names}
+use Rattle.depot_rows.specs.depot_model.Steps.Listing.{chosen_revision}
 use Rattle.revision_reads.specs.History.{numbered_record, seen}
 use Rattle.named_files.proofs.Naming.{shown_is}
 use Rattle.named_files.proofs.Wanting.{reads_wanted, some_alike}

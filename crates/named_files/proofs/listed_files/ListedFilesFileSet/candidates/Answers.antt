@@ -1,5 +1,5 @@
 use Rattle.std.proofs.Common.{true}
-use Rattle.depot_model.specs.Arguments.{names}
+use Rattle.depot_rows.specs.depot_model.Arguments.{names}
 use Rattle.named_files.proofs.Naming.{placed_if_named}
 use Rattle.named_files.proofs.listed_files.ListedFilesFileSet.candidates.Goals as goal
 

@@ -1,9 +1,9 @@
 use Rattle.std.proofs.Common.{true, sym, ap, subst, ◌∙◌}
 use Rattle.std.specs.Prelude.{filter}
-use Rattle.table_changes.specs.Changed.{rows_of}
-use Rattle.depot_model.specs.Arguments.{names}
-use Rattle.depot_model.specs.Opened.{opened}
-use Rattle.depot_model.specs.Steps.Reverting.{is_selected}
+use Rattle.depot_rows.specs.table_changes.Changed.{rows_of}
+use Rattle.depot_rows.specs.depot_model.Arguments.{names}
+use Rattle.depot_rows.specs.depot_model.Opened.{opened}
+use Rattle.depot_rows.specs.depot_model.Steps.Reverting.{is_selected}
 use Rattle.depot_rows.specs.Standing.{HasRows}
 use Rattle.depot_rows.proofs.Keys.{left-true}
 use Rattle.named_files.specs.Listed.{files_of, listing_table}

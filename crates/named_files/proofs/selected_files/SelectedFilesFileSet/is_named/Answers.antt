@@ -1,9 +1,9 @@
 use Rattle.std.proofs.Common.{◌≡◌, Bool, Option, true, sym, ap, ◌∙◌}
 use Rattle.std.specs.Prelude.{◌&&◌}
-use Rattle.db_records.specs.declared.record.Record.{Record}
-use Rattle.depot_model.specs.Arguments.{names}
-use Rattle.depot_model.specs.Opened.{opened}
-use Rattle.depot_model.specs.Steps.Reverting.{is_selected}
+use Rattle.depot_rows.specs.db_records.declared.record.Record.{Record}
+use Rattle.depot_rows.specs.depot_model.Arguments.{names}
+use Rattle.depot_rows.specs.depot_model.Opened.{opened}
+use Rattle.depot_rows.specs.depot_model.Steps.Reverting.{is_selected}
 use Rattle.named_files.specs.Sets.{selected_in}
 use Rattle.named_files.proofs.Selection.{row_selected}
 use Rattle.named_files.proofs.Naming.{named_is}

@@ -1,5 +1,5 @@
 use Rattle.std.proofs.Common.{false}
-use Rattle.depot_model.specs.Arguments.{names}
+use Rattle.depot_rows.specs.depot_model.Arguments.{names}
 use Rattle.named_files.proofs.Naming.{placed_if_shown}
 use Rattle.named_files.proofs.shown_files.ShownFiles.headed.Goals as goal
 

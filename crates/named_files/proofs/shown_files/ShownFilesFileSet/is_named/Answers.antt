@@ -1,5 +1,5 @@
 use Rattle.std.proofs.Common.{◌∙◌}
-use Rattle.table_changes.specs.Changed.{rows_of}
+use Rattle.depot_rows.specs.table_changes.Changed.{rows_of}
 use Rattle.named_files.proofs.Naming.{shown_is}
 use Rattle.named_files.proofs.Wanting.{reads_wanted}
 use Rattle.named_files.proofs.shown_files.ShownFilesFileSet.is_named.Goals as goal

@@ -1,11 +1,11 @@
 use Rattle.std.proofs.Common.{◌≡◌, Bool, [], ◌∷◌, Some, None, ap, ◌∙◌}
 use Rattle.std.specs.Prelude.{is_some, option_map}
-use Rattle.table_changes.specs.Changed.{rows_of}
-use Rattle.depot_model.specs.Opened.{opened}
-use Rattle.depot_model.specs.Refusals.{refusal_row}
-use Rattle.depot_model.specs.Revisions.{is_live_head}
-use Rattle.depot_model.specs.Steps.Adding.{opening}
-use Rattle.depot_model.specs.Steps.Opening.{exclusive_refusal}
+use Rattle.depot_rows.specs.table_changes.Changed.{rows_of}
+use Rattle.depot_rows.specs.depot_model.Opened.{opened}
+use Rattle.depot_rows.specs.depot_model.Refusals.{refusal_row}
+use Rattle.depot_rows.specs.depot_model.Revisions.{is_live_head}
+use Rattle.depot_rows.specs.depot_model.Steps.Adding.{opening}
+use Rattle.depot_rows.specs.depot_model.Steps.Opening.{exclusive_refusal}
 use Rattle.reply_rows.proofs.Joined.{passed, refused}
 use Rattle.opened_files.specs.Adds.{new_refusal}
 use Rattle.opened_files.specs.Opens.{open_step}

@@ -1,9 +1,9 @@
 use Rattle.std.proofs.Common.{List, ℕ, ap, sym, ◌∙◌}
-use Rattle.depot_path.specs.Path.{printed}
-use Rattle.depot_model.specs.declared.refusal.Refusal.TheVariants.{NotInView}
-use Rattle.depot_model.specs.Refusals.{refusal_row}
-use Rattle.depot_model.specs.Steps.Adding.{spelled}
-use Rattle.depot_model.specs.WellFormed.{spells_path}
+use Rattle.depot_rows.specs.depot_path.Path.{printed}
+use Rattle.depot_rows.specs.depot_model.declared.refusal.Refusal.TheVariants.{NotInView}
+use Rattle.depot_rows.specs.depot_model.Refusals.{refusal_row}
+use Rattle.depot_rows.specs.depot_model.Steps.Adding.{spelled}
+use Rattle.depot_rows.specs.depot_model.WellFormed.{spells_path}
 use Rattle.reply_rows.proofs.Joined.{made_refusal}
 use Rattle.named_files.proofs.Spelled.{found_is, is_found}
 use Rattle.opened_files.proofs.adding.FilesToAddFileFinder.missing.Goals as goal

@@ -1,9 +1,9 @@
 use Rattle.std.proofs.Common.{List, ℕ, [], ◌∷◌, Option, sym, subst, ◌∙◌}
 use Rattle.std.specs.Prelude.{is_none}
-use Rattle.depot_path.specs.Path.{printed}
-use Rattle.table_changes.specs.Changed.{rows_of}
-use Rattle.depot_model.specs.declared.refusal.Refusal.TheVariants.{NotInView}
-use Rattle.depot_model.specs.Step.{Step as ModelStep, refuse_if, unless}
+use Rattle.depot_rows.specs.depot_path.Path.{printed}
+use Rattle.depot_rows.specs.table_changes.Changed.{rows_of}
+use Rattle.depot_rows.specs.depot_model.declared.refusal.Refusal.TheVariants.{NotInView}
+use Rattle.depot_rows.specs.depot_model.Step.{Step as ModelStep, refuse_if, unless}
 use Rattle.depot_rows.specs.Deed.{action_of}
 use Rattle.reply_rows.specs.Made.{IsMade}
 use Rattle.reply_rows.proofs.Joined.{made_refusal}

@@ -1,8 +1,8 @@
 use Rattle.std.proofs.Common.{sym, ap, ◌∙◌}
 use Rattle.std.specs.Prelude.{option_map}
 use Rattle.std.specs.Option.{option_copied}
-use Rattle.db_records.specs.declared.record.Record.TheVariants.{Working}
-use Rattle.depot_model.specs.Opened.{opened}
+use Rattle.depot_rows.specs.db_records.declared.record.Record.TheVariants.{Working}
+use Rattle.depot_rows.specs.depot_model.Opened.{opened}
 use Rattle.opened_files.proofs.Opens.{not_opened}
 use Rattle.opened_files.proofs.editing.OpeningHad.open_shown.Goals as goal
 

@@ -1,5 +1,5 @@
 use Rattle.std.proofs.Common.{◌≡◌, Some, None, sym, ◌∙◌}
-use Rattle.depot_model.specs.Steps.Moving.{movable_refusal}
+use Rattle.depot_rows.specs.depot_model.Steps.Moving.{movable_refusal}
 use Rattle.depot_rows.specs.Deed.{opening_of}
 use Rattle.opened_files.specs.Moves.{place_refusal}
 use Rattle.opened_files.proofs.Moves.{told_first, told_then}

@@ -1,10 +1,10 @@
 use Rattle.std.proofs.Common.{◌≡◌, [], Option, Some, None, sym, ap, subst, ◌∙◌}
 use Rattle.std.specs.Prelude.{option_map}
-use Rattle.table_changes.specs.Changed.{rows_of}
-use Rattle.depot_model.specs.Deeds.{Opening}
-use Rattle.depot_model.specs.Opened.{opened}
-use Rattle.depot_model.specs.Step.{Step as ModelStep, nothing}
-use Rattle.depot_model.specs.Steps.Moving.{move_opening}
+use Rattle.depot_rows.specs.table_changes.Changed.{rows_of}
+use Rattle.depot_rows.specs.depot_model.Deeds.{Opening}
+use Rattle.depot_rows.specs.depot_model.Opened.{opened}
+use Rattle.depot_rows.specs.depot_model.Step.{Step as ModelStep, nothing}
+use Rattle.depot_rows.specs.depot_model.Steps.Moving.{move_opening}
 use Rattle.depot_rows.specs.Deed.{opening_of}
 use Rattle.depot_rows.specs.declared.deed.Opening.{Opening as Done}
 use Rattle.depot_rows.proofs.Locks.{opened-is}

@@ -1,7 +1,7 @@
 use Rattle.std.proofs.Common.{◌≡◌, Some, None, ◌∙◌}
-use Rattle.table_changes.specs.Changed.{rows_of}
-use Rattle.depot_model.specs.Asking.{to_open}
-use Rattle.depot_model.specs.Steps.Opening.{right_refusal}
+use Rattle.depot_rows.specs.table_changes.Changed.{rows_of}
+use Rattle.depot_rows.specs.depot_model.Asking.{to_open}
+use Rattle.depot_rows.specs.depot_model.Steps.Opening.{right_refusal}
 use Rattle.depot_rows.specs.Deed.{opening_of}
 use Rattle.reply_rows.proofs.Joined.{passed, refused}
 use Rattle.opened_files.specs.Moves.{moves_permitted}

@@ -1,12 +1,12 @@
 use Rattle.std.proofs.Common.{◌≡◌, ℕ, List, Option, Some, None, sym, ap, ◌∙◌}
 use Rattle.std.specs.Prelude.{is_none, option_map}
-use Rattle.depot_path.specs.Path.{printed}
-use Rattle.depot_path.specs.declared.revision.Wanted.TheVariants.{Head}
-use Rattle.depot_model.specs.declared.refusal.Refusal.TheVariants.{NotInView}
-use Rattle.depot_model.specs.declared.reply.Row.{Row}
-use Rattle.depot_model.specs.Choice.{shown}
-use Rattle.depot_model.specs.Refusals.{refusal_row}
-use Rattle.depot_model.specs.Step.{refuse_if}
+use Rattle.depot_rows.specs.depot_path.Path.{printed}
+use Rattle.depot_rows.specs.depot_path.declared.revision.Wanted.TheVariants.{Head}
+use Rattle.depot_rows.specs.depot_model.declared.refusal.Refusal.TheVariants.{NotInView}
+use Rattle.depot_rows.specs.depot_model.declared.reply.Row.{Row}
+use Rattle.depot_rows.specs.depot_model.Choice.{shown}
+use Rattle.depot_rows.specs.depot_model.Refusals.{refusal_row}
+use Rattle.depot_rows.specs.depot_model.Step.{refuse_if}
 use Rattle.depot_rows.specs.Deed.{opening_of}
 use Rattle.opened_files.specs.Moves.{taken_refusal}
 use Rattle.opened_files.proofs.Later.{shown_later}

@@ -1,6 +1,6 @@
 use Rattle.std.proofs.Common.{◌≡◌, Some, None, ◌∙◌}
-use Rattle.depot_model.specs.Asking.{to_open}
-use Rattle.depot_model.specs.Steps.Opening.{right_refusal}
+use Rattle.depot_rows.specs.depot_model.Asking.{to_open}
+use Rattle.depot_rows.specs.depot_model.Steps.Opening.{right_refusal}
 use Rattle.depot_rows.specs.Deed.{opening_of}
 use Rattle.opened_files.specs.Moves.{file_refusal}
 use Rattle.opened_files.proofs.Later.{asked_later}

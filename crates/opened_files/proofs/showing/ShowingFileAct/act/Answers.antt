@@ -1,9 +1,9 @@
 use Rattle.std.proofs.Common.{List, ap, sym, subst, ◌∙◌, map}
 use Rattle.std.specs.Prelude.{filter_map}
-use Rattle.table_changes.specs.Changed.{rows_of}
-use Rattle.depot_model.specs.declared.reply.Row.{Row}
-use Rattle.depot_model.specs.Opened.{opened}
-use Rattle.depot_model.specs.Steps.Reverting.{opened_row, openers_shown, show_opened}
+use Rattle.depot_rows.specs.table_changes.Changed.{rows_of}
+use Rattle.depot_rows.specs.depot_model.declared.reply.Row.{Row}
+use Rattle.depot_rows.specs.depot_model.Opened.{opened}
+use Rattle.depot_rows.specs.depot_model.Steps.Reverting.{opened_row, openers_shown, show_opened}
 use Rattle.reply_rows.specs.Made.{IsMade, told}
 use Rattle.reply_rows.specs.declared.step.Step.{Step}
 use Rattle.reply_rows.proofs.Bare.{tells_made}

@@ -1,8 +1,8 @@
 use Rattle.std.proofs.Common.{◌≡◌, ℕ, Bool, List, Option, subst, ◌∙◌}
-use Rattle.table_changes.specs.Changed.{rows_of}
-use Rattle.protect_table.specs.Rights.{may}
-use Rattle.depot_model.specs.Asking.{may_at}
-use Rattle.depot_model.specs.Opened.{holder}
+use Rattle.depot_rows.specs.table_changes.Changed.{rows_of}
+use Rattle.depot_rows.specs.protect_table.Rights.{may}
+use Rattle.depot_rows.specs.depot_model.Asking.{may_at}
+use Rattle.depot_rows.specs.depot_model.Opened.{holder}
 use Rattle.reply_rows.specs.Made.{IsMade}
 use Rattle.opened_files.specs.Locks.{unlocking}
 use Rattle.opened_files.proofs.unlocking.UnlockingFileAct.act.Goals as goal

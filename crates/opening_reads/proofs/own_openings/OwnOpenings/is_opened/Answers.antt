@@ -1,6 +1,6 @@
 use Rattle.std.proofs.Common.{Option, sym, ap, ◌∙◌}
 use Rattle.std.specs.Prelude.{is_some}
-use Rattle.depot_model.specs.Deeds.{Opening}
+use Rattle.depot_rows.specs.depot_model.Deeds.{Opening}
 use Rattle.opening_reads.proofs.OwnDeeds.{opened_before, opened_then, still_some}
 use Rattle.opening_reads.proofs.own_openings.OwnOpenings.is_opened.Goals as goal
 

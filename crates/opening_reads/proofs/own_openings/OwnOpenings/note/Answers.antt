@@ -1,5 +1,5 @@
 use Rattle.std.proofs.Common.{refl}
-use Rattle.depot_model.specs.Step.{after}
+use Rattle.depot_rows.specs.depot_model.Step.{after}
 use Rattle.opening_reads.proofs.OwnDeeds.{noted_all, noted_on}
 use Rattle.opening_reads.proofs.own_openings.OwnOpenings.note.Goals as goal
 

@@ -1,7 +1,7 @@
 use Rattle.std.proofs.Common.{◌≡◌, ℕ, List, true, length}
 use Rattle.std.specs.List.{list_all}
-use Rattle.depot_model.specs.Deeds.{Deed}
-use Rattle.depot_model.specs.Step.{after}
+use Rattle.depot_rows.specs.depot_model.Deeds.{Deed}
+use Rattle.depot_rows.specs.depot_model.Step.{after}
 use Rattle.depot_rows.specs.Effects.{Follow}
 use Rattle.opening_reads.specs.OwnOpenings.{IsOwn, is_of}
 use Rattle.opening_reads.proofs.OwnDeeds.{IsNoted}

@@ -1,6 +1,6 @@
 use Rattle.std.proofs.Common.{◌≡◌, ℕ, ◌-◌, List, [], ◌++◌, length, drop, sym, ◌∙◌, ap, subst}
 use Rattle.journal_groups.specs.Reader.{State}
-use Rattle.table_changes.specs.Changed.{rows_of}
+use Rattle.depot_rows.specs.table_changes.Changed.{rows_of}
 use Rattle.replica_pull.specs.Feed.{AreTaken}
 use Rattle.replica_pull.specs.Replica.{with_piece}
 use Rattle.replica_pull.proofs.Pieces.{last_left}

@@ -1,5 +1,5 @@
 use Rattle.std.proofs.Common.{◌≡◌, ℕ, ◌+◌, ◌-◌, [], length, refl, sym, ◌∙◌, ap, arith, length-append}
-use Rattle.table_changes.specs.Changed.{rows_of}
+use Rattle.depot_rows.specs.table_changes.Changed.{rows_of}
 use Rattle.journal_groups.specs.Reader.{State}
 use Rattle.replica_pull.specs.Replica.{with_piece}
 use Rattle.replica_pull.proofs.Pieces.{many_taken, rest_taken, rest_waits}

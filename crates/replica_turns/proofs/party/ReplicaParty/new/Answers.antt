@@ -1,6 +1,6 @@
 use Rattle.std.proofs.Common.{◌≡◌, List, length, ap, ◌∙◌}
 use Rattle.std.proofs.lemmas.List.{length-reverse}
-use Rattle.depot_model.specs.declared.request.Request.{Request}
+use Rattle.depot_rows.specs.depot_model.declared.request.Request.{Request}
 use Rattle.replica_turns.proofs.Turns.{requests_many}
 use Rattle.replica_turns.proofs.party.ReplicaParty.new.Goals as goal
 

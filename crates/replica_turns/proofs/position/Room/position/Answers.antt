@@ -1,7 +1,7 @@
 use Rattle.std.proofs.Common.{◌≡◌, List, ℕ, ◌∷◌, [], ◌++◌, ap, ◌∙◌}
 use Rattle.std.specs.Prelude.{codes, decimal}
-use Rattle.depot_model.specs.Printed.{printed, printed_field}
-use Rattle.depot_model.specs.Rows.{number_field}
+use Rattle.depot_rows.specs.depot_model.Printed.{printed, printed_field}
+use Rattle.depot_rows.specs.depot_model.Rows.{number_field}
 use Rattle.depot_runs.specs.Replica.{position_row}
 use Rattle.replica_turns.proofs.Positions.{position_parts}
 use Rattle.replica_turns.proofs.position.Room.position.Goals as goal

@@ -1,5 +1,5 @@
 use Rattle.std.proofs.Common.{◌≡◌, ◌++◌}
-use Rattle.table_changes.specs.Changed.{rows_of}
+use Rattle.depot_rows.specs.table_changes.Changed.{rows_of}
 use Rattle.row_changes.specs.Difference.{AreMade}
 use Rattle.depot_rows.specs.Standing.{row_in}
 use Rattle.row_changes.proofs.overlay.Overlay.differences.Given as goal

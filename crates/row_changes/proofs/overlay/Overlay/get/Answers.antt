@@ -1,7 +1,7 @@
 use Rattle.std.proofs.Common.{subst, sym, ◌∙◌, ap, Some, Option}
-use Rattle.db_records.specs.declared.record.Record.{Record}
-use Rattle.table_changes.specs.Changed.{rows_of}
-use Rattle.db_records.specs.Key.{key_table}
+use Rattle.depot_rows.specs.db_records.declared.record.Record.{Record}
+use Rattle.depot_rows.specs.table_changes.Changed.{rows_of}
+use Rattle.depot_rows.specs.db_records.Key.{key_table}
 use Rattle.row_changes.specs.Stored.{HasKey}
 use Rattle.row_changes.proofs.Keyed.{row_at-keyed, found-keyed, are-keyed}
 use Rattle.row_changes.proofs.overlay.Overlay.get.Goals as goal

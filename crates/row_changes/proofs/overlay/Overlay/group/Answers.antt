@@ -1,6 +1,6 @@
 use Rattle.std.proofs.Common.{◌≡◌, ap, ◌∙◌}
-use Rattle.table_changes.specs.Changed.{rows_of}
-use Rattle.depot_model.specs.Rules.{Rows}
+use Rattle.depot_rows.specs.table_changes.Changed.{rows_of}
+use Rattle.depot_rows.specs.depot_model.Rules.{Rows}
 use Rattle.depot_rows.specs.Standing.{row_in}
 use Rattle.row_ranges.specs.declared.range.KeyRange.{KeyRange}
 use Rattle.row_ranges.specs.declared.range.KeyRange.TheVariants.{GroupUsers}

@@ -1,16 +1,16 @@
 use Rattle.std.proofs.Common.{ap, ◌∙◌, refl, ◌≡◌}
-use Rattle.db_records.specs.declared.key.Key.{Key}
-use Rattle.db_records.specs.declared.key.Key.TheVariants as keys
-use Rattle.table_changes.specs.Changed.{rows_of}
-use Rattle.depot_model.specs.Rules.{Rows}
+use Rattle.depot_rows.specs.db_records.declared.key.Key.{Key}
+use Rattle.depot_rows.specs.db_records.declared.key.Key.TheVariants as keys
+use Rattle.depot_rows.specs.table_changes.Changed.{rows_of}
+use Rattle.depot_rows.specs.depot_model.Rules.{Rows}
 use Rattle.depot_rows.specs.declared.deed.Deed.TheVariants.{Open}
 use Rattle.depot_rows.specs.Effects.{effect, working_row}
 use Rattle.depot_rows.specs.Standing.{row_in}
 use Rattle.row_changes.specs.Overlay.{seen}
 use Rattle.row_changes.proofs.Puts.{becomes-put}
 use Rattle.std.proofs.Common.{Some}
-use Rattle.depot_path.specs.Path.{printed}
-use Rattle.depot_model.specs.Rules.{lock_of}
+use Rattle.depot_rows.specs.depot_path.Path.{printed}
+use Rattle.depot_rows.specs.depot_model.Rules.{lock_of}
 use Rattle.row_changes.proofs.overlay.Overlay.open.Goals as goal
 
 pub returns : goal.returns

@@ -1,8 +1,8 @@
 use Rattle.std.proofs.Common.{Option, List, ℕ, sym, ap, ◌∙◌, subst}
-use Rattle.protect_table.specs.Words.{words_of}
-use Rattle.db_records.specs.declared.key.Key.TheVariants as keys
-use Rattle.db_records.specs.declared.record.Record.{Record}
-use Rattle.depot_model.specs.Records.{protect_record}
+use Rattle.depot_rows.specs.protect_table.Words.{words_of}
+use Rattle.depot_rows.specs.db_records.declared.key.Key.TheVariants as keys
+use Rattle.depot_rows.specs.db_records.declared.record.Record.{Record}
+use Rattle.depot_rows.specs.depot_model.Records.{protect_record}
 use Rattle.depot_rows.specs.Effects.{put_at}
 use Rattle.row_changes.specs.Overlay.{seen}
 use Rattle.row_changes.specs.Stored.{HasKey}

@@ -1,6 +1,6 @@
 use Rattle.std.proofs.Common.{◌≡◌, take}
-use Rattle.db_records.specs.declared.key.Key.{Key}
-use Rattle.depot_model.specs.Rules.{Rows}
+use Rattle.depot_rows.specs.db_records.declared.key.Key.{Key}
+use Rattle.depot_rows.specs.depot_model.Rules.{Rows}
 use Rattle.row_changes.specs.Lines.{with_lines}
 use Rattle.row_changes.specs.Overlay.{seen}
 use Rattle.row_changes.proofs.overlay.Overlay.put_lines.Given as goal

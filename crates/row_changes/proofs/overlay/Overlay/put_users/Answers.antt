@@ -1,6 +1,6 @@
 use Rattle.std.proofs.Common.{ap, sym, ◌∙◌, Some}
-use Rattle.db_records.specs.declared.key.Key.TheVariants as keys
-use Rattle.depot_model.specs.Rules.{Rows}
+use Rattle.depot_rows.specs.db_records.declared.key.Key.TheVariants as keys
+use Rattle.depot_rows.specs.depot_model.Rules.{Rows}
 use Rattle.depot_rows.specs.Effects.{put_at, group_row}
 use Rattle.row_changes.specs.Overlay.{seen}
 use Rattle.row_changes.proofs.Ended.{users-more}

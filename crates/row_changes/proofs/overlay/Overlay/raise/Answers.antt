@@ -1,15 +1,15 @@
 use Rattle.std.proofs.Common.{ap, ◌∙◌, refl, ◌≡◌}
-use Rattle.db_records.specs.declared.key.Key.{Key}
-use Rattle.db_records.specs.declared.key.Key.TheVariants as keys
-use Rattle.table_changes.specs.Changed.{rows_of}
-use Rattle.depot_model.specs.Rules.{Rows}
+use Rattle.depot_rows.specs.db_records.declared.key.Key.{Key}
+use Rattle.depot_rows.specs.db_records.declared.key.Key.TheVariants as keys
+use Rattle.depot_rows.specs.table_changes.Changed.{rows_of}
+use Rattle.depot_rows.specs.depot_model.Rules.{Rows}
 use Rattle.depot_rows.specs.Effects.{raised}
 use Rattle.depot_rows.specs.Standing.{row_in}
 use Rattle.row_changes.specs.Overlay.{seen}
 use Rattle.row_changes.proofs.Puts.{becomes-put}
 use Rattle.std.specs.Prelude.{max, codes}
-use Rattle.depot_model.specs.Records.{numbered_record}
-use Rattle.depot_model.specs.Rules.{top_in, value_of}
+use Rattle.depot_rows.specs.depot_model.Records.{numbered_record}
+use Rattle.depot_rows.specs.depot_model.Rules.{top_in, value_of}
 use Rattle.depot_rows.specs.Effects.{counter_row}
 use Rattle.row_changes.proofs.overlay.Overlay.raise.Goals as goal
 

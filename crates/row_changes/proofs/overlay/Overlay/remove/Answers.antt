@@ -1,6 +1,6 @@
 use Rattle.std.proofs.Common.{List, [], ◌∷◌, ◌++◌, ap, sym, ◌∙◌, append_assoc, None}
-use Rattle.db_records.specs.declared.key.Key.{Key}
-use Rattle.depot_model.specs.Rules.{Rows}
+use Rattle.depot_rows.specs.db_records.declared.key.Key.{Key}
+use Rattle.depot_rows.specs.depot_model.Rules.{Rows}
 use Rattle.depot_rows.specs.Effects.{put_at}
 use Rattle.row_changes.specs.Overlay.{seen}
 use Rattle.row_changes.proofs.Removed.{removed-push}

@@ -1,6 +1,6 @@
 use Rattle.std.proofs.Common.{List, map, sym, ◌∙◌, None}
-use Rattle.db_records.specs.declared.record.Record.{Record}
-use Rattle.db_records.specs.Record.{key_of}
+use Rattle.depot_rows.specs.db_records.declared.record.Record.{Record}
+use Rattle.depot_rows.specs.db_records.Record.{key_of}
 use Rattle.depot_rows.specs.Effects.{put_at}
 use Rattle.row_changes.specs.Overlay.{seen}
 use Rattle.row_changes.specs.Ranges.{removed}

@@ -1,9 +1,9 @@
 use Rattle.std.proofs.Common.{◌≡◌, map}
 use Rattle.std.specs.Prelude.{filter}
-use Rattle.db_records.specs.declared.key.Key.{Key}
-use Rattle.db_records.specs.Record.{key_of}
-use Rattle.depot_model.specs.Rules.{Rows}
-use Rattle.table_changes.specs.Changed.{rows_of}
+use Rattle.depot_rows.specs.db_records.declared.key.Key.{Key}
+use Rattle.depot_rows.specs.db_records.Record.{key_of}
+use Rattle.depot_rows.specs.depot_model.Rules.{Rows}
+use Rattle.depot_rows.specs.table_changes.Changed.{rows_of}
 use Rattle.row_ranges.specs.Ranges.{has_row, range_table}
 use Rattle.row_changes.specs.Overlay.{seen}
 use Rattle.row_changes.specs.Ranges.{removed}

@@ -2,8 +2,8 @@ use Rattle.std.proofs.Common.{ap, ◌∙◌}
 use Rattle.std.specs.BTreeMap.Range.{entries_between}
 use Rattle.std.specs.Map.{keys_of}
 use Rattle.std.specs.declared.ops.Bound.TheVariants.{Included, Unbounded}
-use Rattle.db_records.specs.declared.key.Key.{Key}
-use Rattle.db_records.specs.Key.{key_cmp}
+use Rattle.depot_rows.specs.db_records.declared.key.Key.{Key}
+use Rattle.depot_rows.specs.db_records.Key.{key_cmp}
 use Rattle.row_changes.specs.Overlay.{Entries}
 use Rattle.row_changes.specs.Ranges.{leading}
 use Rattle.row_changes.proofs.Touched.{walk-touched}

@@ -1,6 +1,6 @@
 use Rattle.std.proofs.Common.{◌∙◌}
 use Rattle.std.specs.Prelude.{◌&&◌, slice_get}
-use Rattle.db_records.specs.Key.{key_fields}
+use Rattle.table_store.specs.db_records.Key.{key_fields}
 use Rattle.row_ranges.specs.Ranges.{range_texts}
 use Rattle.row_ranges.specs.Walking.{agrees}
 use Rattle.row_ranges.proofs.Between.{agrees-begins, two-at-most}

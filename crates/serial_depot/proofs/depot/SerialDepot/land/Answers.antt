@@ -2,8 +2,8 @@ use Rattle.std.proofs.Common.{◌≡◌, ℕ, ◌+◌, max, List, refl, sym, ap,
 use Rattle.archive_file.specs.Archive as archives
 use Rattle.outside_api.specs.Disk.{StillTells}
 use Rattle.disk_journal.specs.Stands.{generation_of_journal, next_number, nothing}
-use Rattle.table_changes.specs.Changed.{rows_of}
-use Rattle.depot_model.specs.Places.{taken}
+use Rattle.depot_rows.specs.table_changes.Changed.{rows_of}
+use Rattle.depot_rows.specs.depot_model.Places.{taken}
 use Rattle.depot_runs.specs.Today.{step}
 use Rattle.serial_depot.specs.Writing.{IsWritingOf, left_by}
 use Rattle.serial_depot.specs.Storing.{AllReach, AllStored, KeepsBelow, stores_end}

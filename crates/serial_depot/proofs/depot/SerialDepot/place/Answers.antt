@@ -1,8 +1,8 @@
 use Rattle.std.proofs.Common.{◌≡◌, ◌≢◌, ℕ, ◌+◌, ◌<◌, Bool, true, false, List, [], ◌∷◌, ◌++◌, length, refl, sym, ap, subst, ◌∙◌, arith}
 use Rattle.std.proofs.lemmas.Grind.{common_steps}
-use Rattle.db_records.specs.declared.change.Change.{Change}
-use Rattle.table_changes.specs.Changed.{AllRows, changed_by, rows_of}
-use Rattle.depot_model.specs.declared.order.Answer.{Answer}
+use Rattle.depot_rows.specs.db_records.declared.change.Change.{Change}
+use Rattle.depot_rows.specs.table_changes.Changed.{AllRows, changed_by, rows_of}
+use Rattle.depot_rows.specs.depot_model.declared.order.Answer.{Answer}
 use Rattle.session_loop.specs.Taking.{placed_by}
 use Rattle.serial_depot.specs.Committing.{AreChangesOf, AreRowsAfter, IsToldAt}
 use Rattle.serial_depot.specs.Running.{HasRun}

@@ -1,6 +1,6 @@
-use Rattle.table_changes.specs.Changed.{rows_of}
+use Rattle.depot_rows.specs.table_changes.Changed.{rows_of}
 use Rattle.depot_runs.specs.Today.{step}
-use Rattle.depot_model.specs.Step.{after}
+use Rattle.depot_rows.specs.depot_model.Step.{after}
 use Rattle.serial_depot.proofs.Differences.{no_changes}
 use Rattle.serial_depot.proofs.Finished.{none_read}
 use Rattle.serial_depot.proofs.depot.SerialDepot.place_outcome.Goals as goal

@@ -1,8 +1,8 @@
 use Rattle.std.proofs.Common.{◌≡◌, List, refl}
-use Rattle.table_changes.specs.Changed.{rows_of}
+use Rattle.depot_rows.specs.table_changes.Changed.{rows_of}
 use Rattle.depot_runs.specs.Today.{step}
-use Rattle.depot_model.specs.Step.{after}
-use Rattle.depot_model.specs.declared.request.Request.{Request}
+use Rattle.depot_rows.specs.depot_model.Step.{after}
+use Rattle.depot_rows.specs.depot_model.declared.request.Request.{Request}
 use Rattle.session_loop.specs.Taking.{IsProper}
 use Rattle.serial_depot.specs.Committing.{IsOutcomeOf}
 use Rattle.serial_depot.proofs.Differences.{no_changes}

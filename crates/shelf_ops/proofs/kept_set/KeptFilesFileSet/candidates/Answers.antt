@@ -1,6 +1,6 @@
 use Rattle.std.proofs.Common.{true, ap}
 use Rattle.std.specs.Prelude.{filter}
-use Rattle.depot_model.specs.Arguments.{names}
+use Rattle.depot_rows.specs.depot_model.Arguments.{names}
 use Rattle.shelf_ops.proofs.kept_set.KeptFilesFileSet.candidates.Goals as goal
 
 pub returns : goal.returns

@@ -1,11 +1,11 @@
 use Rattle.std.proofs.Common.{◌≡◌, Bool, [], ◌∷◌, sym, subst, ◌∙◌}
 use Rattle.std.specs.Prelude.{not}
-use Rattle.depot_path.specs.Path.{printed}
-use Rattle.table_changes.specs.Changed.{rows_of}
-use Rattle.protect_table.specs.Rights.{may}
-use Rattle.depot_model.specs.declared.refusal.Refusal.TheVariants.{Denied}
-use Rattle.depot_model.specs.Asking.{may_at}
-use Rattle.depot_model.specs.Step.{refuse_if, unless}
+use Rattle.depot_rows.specs.depot_path.Path.{printed}
+use Rattle.depot_rows.specs.table_changes.Changed.{rows_of}
+use Rattle.depot_rows.specs.protect_table.Rights.{may}
+use Rattle.depot_rows.specs.depot_model.declared.refusal.Refusal.TheVariants.{Denied}
+use Rattle.depot_rows.specs.depot_model.Asking.{may_at}
+use Rattle.depot_rows.specs.depot_model.Step.{refuse_if, unless}
 use Rattle.reply_rows.specs.Made.{IsMade}
 use Rattle.reply_rows.proofs.Joined.{made_refusal}
 use Rattle.shelf_ops.specs.Removed.{removal}

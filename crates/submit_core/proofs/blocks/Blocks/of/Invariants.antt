@@ -1,7 +1,7 @@
 use Rattle.std.proofs.Common.{◌≡◌, ℕ, List, drop}
 use Rattle.std.specs.Option.{option_copied, option_or}
-use Rattle.depot_path.specs.Bytes.{same}
-use Rattle.depot_model.specs.Steps.Submitting.{block_at}
+use Rattle.depot_rows.specs.depot_path.Bytes.{same}
+use Rattle.depot_rows.specs.depot_model.Steps.Submitting.{block_at}
 use Rattle.indexmap.specs.IndexMap.{get}
 use Rattle.submit_core.proofs.blocks.Blocks.of.Given as goal
 

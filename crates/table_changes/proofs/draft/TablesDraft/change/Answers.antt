@@ -1,8 +1,8 @@
 use Rattle.std.proofs.Common.{◌≡◌, ℕ, OnOk, get_or, set, ap, subst, sym, ◌∙◌}
-use Rattle.db_records.specs.Table.{table_number}
+use Rattle.table_store.specs.db_records.Table.{table_number}
 use Rattle.table_changes.specs.Changed.{changed_in}
 use Rattle.table_changes.specs.InOrder.{all_numbers, numbers_of}
-use Rattle.table_changes.proofs.Tables.{fits_at, order_after, rows_after, rows_at}
+use Rattle.table_changes.proofs.Drafts.{fits_at, order_after, rows_after, rows_at}
 use Rattle.table_changes.proofs.draft.TablesDraft.change.Goals as goal
 
 pub change-requires : goal.change-requires

@@ -1,6 +1,6 @@
 use Rattle.std.proofs.Common.{◌≡◌, ℕ, get_or, ap, subst, ◌∙◌}
 use Rattle.table_store.specs.Rows.{TableRows}
-use Rattle.table_changes.proofs.Tables.{own_at, read_at}
+use Rattle.table_changes.proofs.Drafts.{own_at, read_at}
 use Rattle.table_changes.proofs.draft.TablesDraft.draft.Goals as goal
 
 pub returns-clause-table : goal.returns-clause-table

@@ -2,7 +2,7 @@ use Rattle.std.proofs.Common.{◌≡◌, List, [], ◌∷◌, ◌++◌, length, 
 use Rattle.std.proofs.lemmas.List.{nil_from_length}
 use Rattle.std.specs.Vec.Iter.{into_iter_items}
 use Rattle.table_store.specs.Rows.{TableRows}
-use Rattle.table_changes.proofs.Tables.{AllPut, all_put, next_put, same_versions}
+use Rattle.table_changes.proofs.Drafts.{AllPut, all_put, next_put, same_versions}
 use Rattle.table_changes.proofs.draft.TablesDraft.finish.Goals as goal
 
 pub loop-draft-preserved : goal.loop-draft-preserved

@@ -1,6 +1,6 @@
 use Rattle.std.proofs.Common.{◌≡◌, ◌++◌, length}
 use Rattle.std.specs.Vec.Iter.{into_iter_items, into_iter_len}
-use Rattle.table_changes.proofs.Tables.{AllPut}
+use Rattle.table_changes.proofs.Drafts.{AllPut}
 use Rattle.table_changes.proofs.draft.TablesDraft.finish.Given as goal
 
 -- the drafts that were taken are put

@@ -1,5 +1,5 @@
 use Rattle.std.proofs.Common.{◌≡◌, map, take}
-use Rattle.db_records.specs.Table.{all_tables}
+use Rattle.table_store.specs.db_records.Table.{all_tables}
 use Rattle.table_store.specs.Tables.{version_of}
 use Rattle.table_changes.specs.InOrder.{all_numbers, numbers_of}
 use Rattle.table_changes.proofs.draft.TablesDraft.of.Given as goal

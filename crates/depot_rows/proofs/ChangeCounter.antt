@@ -2,10 +2,10 @@
 use Rattle.std.proofs.Common.{◌≡◌, ◌≢◌, ℕ, Bool, true, false, List, ◌∷◌, Option, Some, None, refl, sym, ap, ◌∙◌}
 use Rattle.std.specs.Prelude.{◌==◌, max, codes, if◌then◌else◌, option_map, is_some}
 use Rattle.std.specs.Option.{option_or, option_flatten}
-use Rattle.depot_path.specs.Bytes.{same}
-use Rattle.db_records.specs.declared.key.Key.{Key}
-use Rattle.db_records.specs.declared.key.Key.TheVariants as keys
-use Rattle.db_records.specs.declared.record.Record.{Record}
+use Rattle.depot_model.specs.depot_path.Bytes.{same}
+use Rattle.depot_model.specs.db_records.declared.key.Key.{Key}
+use Rattle.depot_model.specs.db_records.declared.key.Key.TheVariants as keys
+use Rattle.depot_model.specs.db_records.declared.record.Record.{Record}
 use Rattle.depot_model.specs.Deeds.{Deed, Pend, Drop, Pending, Landing}
 use Rattle.depot_model.specs.Latest.{latest, when, count_said}
 use Rattle.depot_model.specs.Numbers.{pending, pending_said, landing, top}

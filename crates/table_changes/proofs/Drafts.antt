@@ -5,11 +5,11 @@ use Rattle.std.proofs.Math.Seq.{map-set_same}
 use Rattle.std.proofs.lemmas.Bool.Decides.{Decides-eqb}
 use Rattle.std.proofs.lemmas.List.{get_or-map, get_or_at, get_or_read, get_or-set_other, get_or-set_same, length-map, length-append}
 use Rattle.std.proofs.lemmas.List.FromFn.{get_or-range_with_len}
-use Rattle.db_records.specs.Record.{table_of}
-use Rattle.db_records.specs.Table.{table_number, all_tables}
-use Rattle.db_records.specs.declared.change.Change.{Change}
-use Rattle.db_records.specs.declared.table.TableId.{TableId}
-use Rattle.db_records.specs.declared.table.TableId.TheVariants.{Counter, Group, Protect, Domain, Have, Label, Integed, Resolve, Working, Change as ChangeTable, Rev}
+use Rattle.table_store.specs.db_records.Record.{table_of}
+use Rattle.table_store.specs.db_records.Table.{table_number, all_tables}
+use Rattle.table_store.specs.db_records.declared.change.Change.{Change}
+use Rattle.table_store.specs.db_records.declared.table.TableId.{TableId}
+use Rattle.table_store.specs.db_records.declared.table.TableId.TheVariants.{Counter, Group, Protect, Domain, Have, Label, Integed, Resolve, Working, Change as ChangeTable, Rev}
 use Rattle.table_store.specs.Rows.{Fits, TableRows, changed_once, with_rows}
 use Rattle.table_store.specs.Tables.{version_of}
 use Rattle.table_store.specs.declared.tables.Tables.{Tables}

@@ -1,11 +1,11 @@
 -- What is said of the path that a text spells.
 use Rattle.std.proofs.Common.{◌≡◌, ℕ, Bool, true, false, List, Option, None, refl, Result, Ok, Err}
 use Rattle.std.specs.Prelude.{if◌then◌else◌}
-use Rattle.depot_path.specs.Bytes.{same}
-use Rattle.depot_path.specs.Path.{path_of, printed, is_path}
-use Rattle.depot_path.specs.declared.fault.PathFault.{PathFault}
-use Rattle.depot_path.proofs.Paths.{prints_path}
-use Rattle.db_records.specs.declared.record.Record.{Record}
+use Rattle.depot_model.specs.depot_path.Bytes.{same}
+use Rattle.depot_model.specs.depot_path.Path.{path_of, printed, is_path}
+use Rattle.depot_model.specs.depot_path.declared.fault.PathFault.{PathFault}
+use Rattle.depot_model.proofs.depot_path.Paths.{prints_path}
+use Rattle.depot_model.specs.db_records.declared.record.Record.{Record}
 use Rattle.depot_model.specs.Records.{at_path}
 use Rattle.depot_rows.proofs.Keys.{same-is, same-self}
 
