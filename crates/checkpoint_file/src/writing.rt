@@ -1,10 +1,11 @@
 //! Beginning the next generation of a journal.
 
-ghost use Rattle.std.specs.Prelude.{◌≡◌, ◌≢◌, ◌⊎◌, ◌+◌, ◌*◌, ◌≤◌, ℕ, List, OnOk, IfOk, IsErr, Err};
+ghost use Rattle.std.specs.Prelude.{◌≡◌, ◌≢◌, ◌⊎◌, ◌+◌, ◌*◌, ◌≤◌, ℕ, List, [], ◌∷◌, ◌++◌, OnOk, IfOk, IsErr, Err};
 ghost use Rattle.outside_api.specs.Count.{HasRisen, counted};
 ghost use Rattle.outside_api.specs.Disk.{After, Files, Follows, LeavesOnly};
 ghost use Rattle.depot_rows.specs.depot_model.Deeds.{Deed};
 ghost use Rattle.disk_journal.specs.Images.{Committed, HasEither, with_generation};
+ghost use Rattle.disk_journal.specs.Keeping.{KeepsOlder};
 ghost use Rattle.disk_journal.specs.Older.{SameBefore};
 ghost use Rattle.disk_journal.specs.Stands.{IsStill, Stands, disk_of, generation_of_journal, nothing, opening};
 ghost use Rattle.recovery.specs.Holding.{HasAllRows};
@@ -62,6 +63,10 @@ pub fn write_generation<D: Disk>(
     // The files of the generations before stay as they are, and so do this one's, at every moment.
     ensures older { Follows (SameBefore (3 + 2 * generation_of_journal journal.old)) (D.may_leave (disk_of journal.old)) (D.may_leave (disk_of journal.new)) }
     ensures any_older { LeavesOnly D.moment D.left_since (disk_of journal.old) (disk_of journal.new) (After (SameBefore (3 + 2 * generation_of_journal journal.old)) (D.may_leave (disk_of journal.old))) }
+    ensures keeps { (older : List (List (List ℕ))) → KeepsOlder D.seen D.may_leave journal.old older → IsErr result → KeepsOlder D.seen D.may_leave journal.new older }
+    // The journal that was the newest is one of them then.
+    ensures closes { (was : Committed) (older : List (List (List ℕ))) → Stands D.may_leave journal.old was nothing → KeepsOlder D.seen D.may_leave journal.old older →
+        OnOk result (KeepsOlder D.seen D.may_leave journal.new (older ++ was.groups ∷ [])) }
 
     ensures at_most { generation_of_journal journal.old ≢ 4095 → D.calls (disk_of journal.new) ≤ counted 5 (D.calls (disk_of journal.old)) }
     ensures never_falls { D.faults (disk_of journal.old) ≤ D.faults (disk_of journal.new) }

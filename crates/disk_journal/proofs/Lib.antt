@@ -4,6 +4,7 @@ mod Forms
 mod Grouped
 mod Heads
 mod Images
+mod Keeping
 mod Made
 mod Linked
 mod Opening

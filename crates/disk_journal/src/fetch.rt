@@ -6,6 +6,7 @@ ghost use Rattle.outside_api.specs.Disk.{Files, LeavesOnly, NoMore, Same};
 ghost use Rattle.outside_api.specs.Link.{Answers, Fits};
 ghost use Rattle.outside_api.specs.declared.link.Fetched.TheVariants.{End, Next};
 ghost use Rattle.disk_journal.specs.Text.{blocks};
+ghost use Rattle.disk_journal.specs.Keeping.{KeepsOlder};
 ghost use Rattle.disk_journal.specs.Older.{IsClosed, AreOlder, texts};
 ghost use Rattle.disk_journal.specs.Fetch.{Gives, IsBlockAt, ReachesTo};
 
@@ -47,6 +48,7 @@ impl<D: Disk> Journal<D> {
         ensures fits { IfOk result (λ fetched. Fits fetched (length buffer.old)) }
         ensures stands { (was : Committed) (doubt : Doubtful) → Stands D.may_leave self.old was doubt → Stands D.may_leave self.new was doubt }
         ensures number { next_number self.new ≡ next_number self.old }
+        ensures keeps { (older : List (List (List ℕ))) → KeepsOlder D.seen D.may_leave self.old older → KeepsOlder D.seen D.may_leave self.new older }
         ensures same { Same (D.seen (disk_of self.old)) (D.seen (disk_of self.new)) }
         ensures crash { NoMore (D.may_leave (disk_of self.old)) (D.may_leave (disk_of self.new)) }
         ensures any_moment { LeavesOnly D.moment D.left_since (disk_of self.old) (disk_of self.new) (D.may_leave (disk_of self.old)) }

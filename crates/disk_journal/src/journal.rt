@@ -1,6 +1,6 @@
 //! The journal of one generation, and the group that may be in doubt.
 
-ghost use Rattle.std.specs.Prelude.{◌≡◌, ◌≢◌, ◌⊎◌, ◌+◌, ◌*◌, ◌<◌, ◌≤◌, ◌^◌, length, OnOk, IfOk, IsErr, IsTrue, ◌↔◌};
+ghost use Rattle.std.specs.Prelude.{◌≡◌, ◌≢◌, ◌⊎◌, ◌+◌, ◌*◌, ◌<◌, ◌≤◌, ◌^◌, ℕ, List, [], ◌∷◌, ◌++◌, length, OnOk, IfOk, IsErr, IsTrue, ◌↔◌};
 ghost use Rattle.outside_api.specs.Count.{HasCause, counted};
 ghost use Rattle.outside_api.specs.Disk.{Files, After, Follows, LeavesOnly};
 ghost use Rattle.journal_groups.specs.Groups.{group_text};
@@ -66,6 +66,7 @@ pub struct Journal<D: Disk> {
 
 impl<D: Disk> Journal<D> {
     ghost use Rattle.disk_journal.specs.declared.journal.Doubt.TheVariants.{Nothing};
+    ghost use Rattle.disk_journal.specs.Keeping.{KeepsOlder};
     ghost use Rattle.disk_journal.specs.Marks.{HasClosedMark, IsShut};
     ghost use Rattle.disk_journal.specs.Images.{Committed, HasCommitted, with_group, with_generation, HasEither};
     ghost use Rattle.disk_journal.specs.Stands.{Doubtful, nothing, group, opening, HasWithOrWithout, Stands, IsStill, CanBeAdopted, group_of, IsPrepared, next_number, generation_of_journal, disk_of};
@@ -147,6 +148,7 @@ impl<D: Disk> Journal<D> {
         // The files of the generations before stay as they are, at every moment.
         ensures older { Follows (SameBefore (1 + 2 * generation_of_journal self.old)) (D.may_leave (disk_of self.old)) (D.may_leave (disk_of self.new)) }
         ensures any_older { LeavesOnly D.moment D.left_since (disk_of self.old) (disk_of self.new) (After (SameBefore (1 + 2 * generation_of_journal self.old)) (D.may_leave (disk_of self.old))) }
+        ensures keeps { (older : List (List (List ℕ))) → KeepsOlder D.seen D.may_leave self.old older → KeepsOlder D.seen D.may_leave self.new older }
 
         ensures asked { OnOk result (D.calls (disk_of self.new) ≡ counted 4 (D.calls (disk_of self.old))) }
         ensures at_most { D.calls (disk_of self.new) ≤ counted 4 (D.calls (disk_of self.old)) }
@@ -193,6 +195,7 @@ impl<D: Disk> Journal<D> {
         // The files of the generations before stay as they are, at every moment.
         ensures older { Follows (SameBefore (1 + 2 * generation_of_journal self.old)) (D.may_leave (disk_of self.old)) (D.may_leave (disk_of self.new)) }
         ensures any_older { LeavesOnly D.moment D.left_since (disk_of self.old) (disk_of self.new) (After (SameBefore (1 + 2 * generation_of_journal self.old)) (D.may_leave (disk_of self.old))) }
+        ensures keeps { (older : List (List (List ℕ))) → KeepsOlder D.seen D.may_leave self.old older → KeepsOlder D.seen D.may_leave self.new older }
         ensures asked { (was : Committed) (doubt : Doubtful) → Stands D.may_leave self.old was doubt → doubt ≢ nothing →
             OnOk result (D.calls (disk_of self.new) ≡ counted 2 (D.calls (disk_of self.old))) }
         ensures at_most { (was : Committed) (doubt : Doubtful) → Stands D.may_leave self.old was doubt → doubt ≢ nothing →
@@ -239,6 +242,10 @@ impl<D: Disk> Journal<D> {
         // The files of the generations before stay as they are, and so do this one's, at every moment.
         ensures older { Follows (SameBefore (3 + 2 * generation_of_journal self.old)) (D.may_leave (disk_of self.old)) (D.may_leave (disk_of self.new)) }
         ensures any_older { LeavesOnly D.moment D.left_since (disk_of self.old) (disk_of self.new) (After (SameBefore (3 + 2 * generation_of_journal self.old)) (D.may_leave (disk_of self.old))) }
+        ensures keeps { (older : List (List (List ℕ))) → KeepsOlder D.seen D.may_leave self.old older → IsErr result → KeepsOlder D.seen D.may_leave self.new older }
+        // The journal that was the newest is one of them then.
+        ensures closes { (was : Committed) (older : List (List (List ℕ))) → Stands D.may_leave self.old was nothing → KeepsOlder D.seen D.may_leave self.old older →
+            OnOk result (KeepsOlder D.seen D.may_leave self.new (older ++ was.groups ∷ [])) }
 
         ensures asked { OnOk result (D.calls (disk_of self.new) ≡ counted 5 (D.calls (disk_of self.old))) }
         ensures at_most { D.calls (disk_of self.new) ≤ counted 5 (D.calls (disk_of self.old)) }

@@ -1,9 +1,10 @@
 //! Commits with faults between them.
 
-ghost use Rattle.std.specs.Prelude.{◌≡◌, ◌⊎◌, ◌≤◌, ◌<◌, ℕ, [], length, get_or, OnOk, IsErr};
+ghost use Rattle.std.specs.Prelude.{◌≡◌, ◌⊎◌, ◌≤◌, ◌<◌, ℕ, List, [], length, get_or, OnOk, IsErr};
 ghost use Rattle.outside_api.specs.Count.{HasCause};
 ghost use Rattle.outside_api.specs.Disk.{LeavesOnly};
 ghost use Rattle.disk_journal.specs.Images.{Committed, with_group};
+ghost use Rattle.disk_journal.specs.Keeping.{KeepsOlder};
 ghost use Rattle.disk_journal.specs.Stands.{Doubtful, nothing, group, HasWithOrWithout, Stands, IsPrepared, group_of, next_number, disk_of};
 ghost use Rattle.journal_runs.specs.Runs.{IsAfterFault, next_group, StandsAfter, IsCaused, after, IsPrefix};
 
@@ -29,6 +30,7 @@ pub fn commit_settled<D: Disk>(
     ensures any_moment { (was : Committed) (doubt : Doubtful) → Stands D.may_leave journal.old was doubt →
         LeavesOnly D.moment D.left_since (disk_of journal.old) (disk_of journal.new)
         (λ c. HasWithOrWithout was doubt c ⊎ HasWithOrWithout was (group (group_of prepared)) c) }
+    ensures keeps { (older : List (List (List ℕ))) → KeepsOlder D.seen D.may_leave journal.old older → KeepsOlder D.seen D.may_leave journal.new older }
     ensures cause { HasCause (D.faults (disk_of journal.old)) (D.faults (disk_of journal.new)) result }
 {
     journal.settle()?;

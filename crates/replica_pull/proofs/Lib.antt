@@ -10,3 +10,4 @@ pub mod Fronts
 pub mod Counted
 pub mod Followed
 pub mod Firsts
+pub mod Standing

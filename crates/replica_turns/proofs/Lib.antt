@@ -1,7 +1,11 @@
+pub mod Along
 pub mod Contents
+pub mod CutContents
 pub mod Following
+pub mod Masters
 pub mod Positions
 pub mod Replies
 pub mod Turns
+pub mod Unmoved
 -- what stands below, for the crates above
 pub use Rattle.serial_depot.proofs as serial_depot

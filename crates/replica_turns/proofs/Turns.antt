@@ -33,11 +33,11 @@ or_false false = refl
 
 -- ---- requests
 
-abbrev IsAskedWell : Asked → Type 0
+abbrev pub IsAskedWell : Asked → Type 0
 IsAskedWell asked = AreProper asked.command asked.contents
 
 -- a command that keeps all that words promise keeps what its answer needs
-formed_of : (request : Request) → IsProper request → IsFormedBy request
+pub formed_of : (request : Request) → IsProper request → IsFormedBy request
 formed_of request proper = go request.command proper.0
   where
     go : (asked : Result Command WordFault) → IfOk asked IsWellFormed → IfOk asked IsFormed
@@ -45,7 +45,7 @@ formed_of request proper = go request.command proper.0
     go (Err fault) h = tt
 
 -- a request among those of a party has its number, and is well-formed as its command is
-at_place : (may_give : ℕ → Type 0) (party n : ℕ) (caller : Caller) (commands : List Asked) (before : List Request) (request : Request) (behind : List Request)
+pub at_place : (may_give : ℕ → Type 0) (party n : ℕ) (caller : Caller) (commands : List Asked) (before : List Request) (request : Request) (behind : List Request)
     → AreRequests may_give party n caller commands (before ++ request ∷ behind) → AllByRecursion IsAskedWell commands → (request.number ≡ n + length before) × IsProper request
 at_place may_give party n caller [] [] request behind are formed = absurd are
 at_place may_give party n caller [] (b ∷ before) request behind are formed = absurd are

@@ -1,4 +1,6 @@
+pub mod Along
 pub mod Going
+pub mod Master
 pub mod Position
 pub mod Replying
 pub mod Turning

@@ -2,11 +2,13 @@
 #![tactic(auto)]
 
 mod answers;
+mod laws;
 mod party;
 mod position;
 mod pulling;
 mod replying;
 
+pub use laws::{depots_grow_by_their_changes, replicas_reply_for_their_last_pull};
 pub use party::{Answered, ReplicaParty};
 
 // What stands below, for the crates above.

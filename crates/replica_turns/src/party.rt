@@ -6,6 +6,7 @@ ghost use Rattle.depot_rows.specs.depot_model.Deeds.{Deed};
 ghost use Rattle.depot_rows.specs.depot_model.Places.{Placed};
 ghost use Rattle.disk_journal.specs.Stands.{disk_of};
 ghost use Rattle.outside_api.specs.Count.{HasRisen};
+ghost use Rattle.serial_depot.specs.Growing.{Chronicle, HasGroups, KeepsStored};
 ghost use Rattle.serial_depot.specs.Running.{CanTake, HasRun};
 ghost use Rattle.replica_turns.specs.Going.{IsFresh, IsTurned};
 
@@ -75,6 +76,8 @@ impl ReplicaParty {
         ensures ran { (since : ℕ) (start : List Deed) (places : List Placed) → HasRun D.seen D.may_leave D.moment D.left_since depot.old since start places →
             HasRun D.seen D.may_leave D.moment D.left_since depot.new since start places }
         ensures tables { depot.new.tables ≡ depot.old.tables }
+        ensures groups { (c : Chronicle) → HasGroups D.seen D.may_leave depot.old.journal c → HasGroups D.seen D.may_leave depot.new.journal c }
+        ensures stored { KeepsStored D.may_leave depot.old.archive depot.new.archive }
         ensures turned { 0 < length self.old.left.items → IsTurned D.seen D.may_leave depot.old self.old self.new result }
         ensures left { 0 < length self.old.left.items → length self.old.left.items ≡ length self.new.left.items + 1 }
         ensures done { self.old.left.items ≡ [] → (self.new ≡ self.old) × (depot.new ≡ depot.old) }

@@ -75,7 +75,7 @@ abbrev no_deed_or_next : List Deed → List Deed → Type 0
 no_deed_or_next d deeds = (deeds ≡ []) ⊎ (generation_in (after d deeds) ≡ generation_in d + 1)
 
 -- the counter of the generation, as a row and as deeds count it
-told_is_counted : (d : List Deed) → generation_in d ≡ generation d
+pub told_is_counted : (d : List Deed) → generation_in d ≡ generation d
 told_is_counted d = go (count_of d (codes "journal"))
   where
     go : (said : Option ℕ) → value_of (option_map (λ value. CounterRow (record { name = codes "journal"; value = value })) said) ≡ unwrap_or said 0
@@ -108,7 +108,7 @@ no_checkpoint : (command : Command) → is_checkpoint command ≡ false → comm
 no_checkpoint Checkpoint other = absurd cc
 no_checkpoint _ other = λ e. cc
 
-only_checkpoint : (command : Command) → is_checkpoint command ≡ true → command ≡ Checkpoint
+pub only_checkpoint : (command : Command) → is_checkpoint command ≡ true → command ≡ Checkpoint
 only_checkpoint Checkpoint is = refl
 only_checkpoint _ is = absurd cc
 

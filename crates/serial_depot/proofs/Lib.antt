@@ -1,9 +1,11 @@
+pub mod Checkpointed
 mod Groups
-mod Differences
-mod Laws
-mod Staying
+pub mod Growing
+pub mod Differences
+pub mod Laws
+pub mod Staying
 pub mod Contents
-mod Stored
+pub mod Stored
 pub mod Places
 pub mod Kept
 mod Steps

@@ -116,7 +116,7 @@ some_is : {A : Type 0} {x y : A} → Some x ≡ Some y → x ≡ y
 some_is e = cc
 
 -- the path of a revision is one
-path_there : (d : List Deed) → IsSound d → (path : List ℕ) (n : ℕ) (r : Revision) → revision d path n ≡ Some r → is_path path ≡ true
+pub path_there : (d : List Deed) → IsSound d → (path : List ℕ) (n : ℕ) (r : Revision) → revision d path n ≡ Some r → is_path path ≡ true
 path_there d sound path zero r there = absurd cc
 path_there d sound path (suc n) r there = go (is_path path) refl
   where

@@ -1,5 +1,6 @@
 pub mod Committing
 pub mod Fetching
+pub mod Growing
 pub mod Holding
 pub mod Opening
 pub mod Running

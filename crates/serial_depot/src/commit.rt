@@ -1,14 +1,16 @@
 //! Committing the changes of one command.
 
-ghost use Rattle.std.specs.Prelude.{◌≡◌, ◌⊎◌, ◌<◌, ◌≤◌, ◌^◌, true, false, [], ◌∷◌, length, IfOk};
+ghost use Rattle.std.specs.Prelude.{◌≡◌, ◌⊎◌, ◌<◌, ◌≤◌, ◌^◌, ℕ, List, true, false, [], ◌∷◌, length, IfOk};
 ghost use Rattle.depot_rows.specs.depot_model.Printed.{printed};
 ghost use Rattle.depot_rows.specs.depot_model.Rows.{disk_row};
 ghost use Rattle.depot_rows.specs.db_records.declared.change.Change.{Change};
 ghost use Rattle.disk_journal.specs.Images.{Committed};
+ghost use Rattle.disk_journal.specs.Keeping.{KeepsOlder};
 ghost use Rattle.disk_journal.specs.Stands.{Doubtful, HasWithOrWithout, Stands, disk_of};
 ghost use Rattle.journal_groups.specs.Groups.{body_of};
 ghost use Rattle.outside_api.specs.Count.{HasRisen};
 ghost use Rattle.outside_api.specs.Disk.{LeavesOnly};
+ghost use Rattle.serial_depot.specs.Growing.{older_after};
 ghost use Rattle.serial_depot.specs.Writing.{CanWrite, StandsBy, left_by};
 
 use crate::writing::{Writing, write};
@@ -56,6 +58,8 @@ pub(crate) fn commit<D: Disk>(
     ensures any_moment { (was : Committed) (doubt : Doubtful) → Stands D.may_leave journal.old was doubt →
         LeavesOnly D.moment D.left_since (disk_of journal.old) (disk_of journal.new)
         (λ c. HasWithOrWithout was doubt c ⊎ HasWithOrWithout was (left_by writing) c) }
+    ensures keeps { (was : Committed) (doubt : Doubtful) (older : List (List (List ℕ))) → Stands D.may_leave journal.old was doubt → KeepsOlder D.seen D.may_leave journal.old older →
+        KeepsOlder D.seen D.may_leave journal.new (older_after was older (left_by writing) result) }
     ensures never_falls { D.faults (disk_of journal.old) ≤ D.faults (disk_of journal.new) }
     ensures cause { result ≡ true → HasRisen (D.faults (disk_of journal.old)) (D.faults (disk_of journal.new)) }
 {

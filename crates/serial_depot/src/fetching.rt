@@ -9,6 +9,7 @@ ghost use Rattle.depot_rows.specs.depot_model.Deeds.{Deed};
 ghost use Rattle.depot_rows.specs.depot_model.Places.{Placed};
 ghost use Rattle.disk_journal.specs.Stands.{disk_of};
 ghost use Rattle.serial_depot.specs.Fetching.{HasTexts};
+ghost use Rattle.serial_depot.specs.Growing.{Chronicle, HasGroups, KeepsStored};
 ghost use Rattle.serial_depot.specs.Running.{CanTake, HasRun};
 ghost use Rattle.serial_depot.specs.Storing.{AreAt};
 
@@ -35,8 +36,10 @@ impl<D: Disk> SerialDepot<D> {
         ensures can { CanTake D.may_leave self.old → CanTake D.may_leave self.new }
         ensures ran { (since : ℕ) (start : List Deed) (places : List Placed) → HasRun D.seen D.may_leave D.moment D.left_since self.old since start places →
             HasRun D.seen D.may_leave D.moment D.left_since self.new since start places }
+        ensures groups { (c : Chronicle) → HasGroups D.seen D.may_leave self.old.journal c → HasGroups D.seen D.may_leave self.new.journal c }
         ensures tables { self.new.tables ≡ self.old.tables }
         ensures archive { self.new.archive ≡ self.old.archive }
+        ensures stored { KeepsStored D.may_leave self.old.archive self.new.archive }
         ensures cause { HasCause (D.faults (disk_of self.old.journal)) (D.faults (disk_of self.new.journal)) result }
     {
         self.journal.fetch(generation, at, buffer)
@@ -55,6 +58,8 @@ impl<D: Disk> SerialDepot<D> {
             HasRun D.seen D.may_leave D.moment D.left_since self.new since start places }
         ensures tables { self.new.tables ≡ self.old.tables }
         ensures journal { self.new.journal ≡ self.old.journal }
+        ensures groups { (c : Chronicle) → HasGroups D.seen D.may_leave self.old.journal c → HasGroups D.seen D.may_leave self.new.journal c }
+        ensures stored { KeepsStored D.may_leave self.old.archive self.new.archive }
         ensures no_call { spots.now ≡ [] → self.new ≡ self.old }
         ensures cause { HasMemoryOr (D.faults (archive_disk_of self.old.archive)) (D.faults (archive_disk_of self.new.archive)) result }
     {

@@ -11,9 +11,11 @@ ghost use Rattle.depot_rows.specs.depot_model.Places.{Placed, taken};
 ghost use Rattle.depot_rows.specs.depot_model.Step.{after};
 ghost use Rattle.depot_rows.specs.depot_model.declared.request.Request.{Request};
 ghost use Rattle.disk_journal.specs.Stands.{disk_of, generation_of_journal, next_number};
+ghost use Rattle.journal_groups.specs.Groups.{AreRecords, IsGroup};
 ghost use Rattle.session_loop.specs.Taking.{placed_by, with_place};
 ghost use Rattle.stored_contents.specs.Placed.{StandAfter};
 ghost use Rattle.serial_depot.specs.Committing.{AreChangesOf, AreRowsAfter, IsToldAt};
+ghost use Rattle.serial_depot.specs.Growing.{Chronicle, HasGroups, IsWritten, KeepsStored, grown, landed};
 ghost use Rattle.serial_depot.specs.Running.{CanTake, HasRun};
 ghost use Rattle.serial_depot.specs.Writing.{CanWrite, IsWritingOf, left_by};
 
@@ -76,6 +78,12 @@ impl<D: Disk> SerialDepot<D> {
             HasRun D.seen D.may_leave D.moment D.left_since self.new since start (places ++ placed_by request result ∷ []) }
         ensures landed { result ≡ false → rows_of self.new.tables ≡ rows_of changed }
         ensures failed { result ≡ true → rows_of self.new.tables ≡ rows_of self.old.tables }
+        // The journal has one group more, or the next generation; at a fault it has the groups that it had.
+        ensures grows { (c : Chronicle) (opens : Bool) (changes : List AnyChange) → HasGroups D.seen D.may_leave self.old.journal c → IsWritten (next_number self.old.journal) opens (left_by writing) changes → IsGroup changes →
+            HasGroups D.seen D.may_leave self.new.journal (landed opens result changes c) }
+        ensures stored { KeepsStored D.may_leave self.old.archive self.new.archive }
+        // With nothing to store the contents end where they did.
+        ensures end { stores.now ≡ [] → self.new.tables.archive_end ≡ self.old.tables.archive_end }
         ensures never_falls { D.faults (disk_of self.old.journal) ≤ D.faults (disk_of self.new.journal) }
         ensures never_falls_contents { D.faults (archive_disk_of self.old.archive) ≤ D.faults (archive_disk_of self.new.archive) }
         ensures cause { result ≡ true → HasRisen (D.faults (disk_of self.old.journal)) (D.faults (disk_of self.new.journal)) ⊎ HasRisen (D.faults (archive_disk_of self.old.archive)) (D.faults (archive_disk_of self.new.archive)) }
@@ -122,6 +130,10 @@ impl<D: Disk> SerialDepot<D> {
             IfOk result (λ answer. HasRun D.seen D.may_leave D.moment D.left_since self.new since start (with_place places request answer)) }
         ensures rows { IfSome changed (λ given. rows_of given ≡ changed_by (rows_of self.old.tables) changes.now) →
             IfOk result (λ answer. AreRowsAfter (rows_of self.old.tables) changes.now answer.place.fault (rows_of self.new.tables)) }
+        ensures grows { (c : Chronicle) → HasGroups D.seen D.may_leave self.old.journal c → AreRecords changes.now →
+            IfOk result (λ answer. HasGroups D.seen D.may_leave self.new.journal (grown opens answer.place.fault changes.now c)) }
+        ensures stored { KeepsStored D.may_leave self.old.archive self.new.archive }
+        ensures end { stores.now ≡ [] → self.new.tables.archive_end ≡ self.old.tables.archive_end }
         ensures no_call { changes.now ≡ [] → self.new ≡ self.old }
         ensures never_falls { D.faults (disk_of self.old.journal) ≤ D.faults (disk_of self.new.journal) }
         ensures never_falls_contents { D.faults (archive_disk_of self.old.archive) ≤ D.faults (archive_disk_of self.new.archive) }

@@ -16,9 +16,11 @@ ghost use Rattle.command_core.specs.Outcomes.{IsOutcome};
 ghost use Rattle.reply_rows.specs.Made.{contents_of};
 ghost use Rattle.depot_rows.specs.table_changes.Changed.{AllFitIn, changed_by, rows_of};
 ghost use Rattle.disk_journal.specs.Stands.{disk_of};
+ghost use Rattle.journal_groups.specs.Groups.{AreRecords};
 ghost use Rattle.row_texts.specs.Texts.{is_counted};
 ghost use Rattle.session_loop.specs.Taking.{Answers, IsProper, place_by, with_place};
 ghost use Rattle.serial_depot.specs.Committing.{AreChangesOf, AreRowsAfter, IsOutcomeOf, IsToldAt};
+ghost use Rattle.serial_depot.specs.Growing.{Chronicle, HasGroups, KeepsStored, grown};
 ghost use Rattle.serial_depot.specs.Opening.{opens_generation};
 ghost use Rattle.serial_depot.specs.Running.{CanTake, HasRun};
 
@@ -94,6 +96,11 @@ impl<D: Disk> SerialDepot<D> {
         ensures rows { IfSome changed (λ given. rows_of given ≡ changed_by (rows_of self.old.tables) outcome.changes) →
             IfOk result (λ answer. AreRowsAfter (rows_of self.old.tables) outcome.changes answer.place.fault (rows_of self.new.tables)) }
         ensures same_tables { OnErr result (self.new.tables ≡ self.old.tables) }
+        ensures grows { (c : Chronicle) → HasGroups D.seen D.may_leave self.old.journal c → AreRecords outcome.changes →
+            IfOk result (λ answer. HasGroups D.seen D.may_leave self.new.journal (grown opens answer.place.fault outcome.changes c)) }
+        ensures same_journal { OnErr result (self.new.journal ≡ self.old.journal) }
+        ensures stored { KeepsStored D.may_leave self.old.archive self.new.archive }
+        ensures end { outcome.stores ≡ [] → self.new.tables.archive_end ≡ self.old.tables.archive_end }
         ensures no_write { outcome.changes ≡ [] → (self.new.journal ≡ self.old.journal) × (self.new.tables ≡ self.old.tables) }
         ensures no_call { outcome.changes ≡ [] → outcome.reads ≡ [] → self.new ≡ self.old }
         ensures never_falls { D.faults (disk_of self.old.journal) ≤ D.faults (disk_of self.new.journal) }
@@ -149,6 +156,11 @@ impl<D: Disk> SerialDepot<D> {
         ensures rows { IfSome changed (λ given. rows_of given ≡ changed_by (rows_of self.old.tables) outcome.changes) →
             IfOk result (λ answer. AreRowsAfter (rows_of self.old.tables) outcome.changes answer.place.fault (rows_of self.new.tables)) }
         ensures same_tables { OnErr result (self.new.tables ≡ self.old.tables) }
+        ensures grows { (d : List Deed) (c : Chronicle) → Stand (rows_of self.old.tables) d → IsProper request.now → IsOutcomeOf (rows_of self.old.tables) self.old.tables.archive_end request.now outcome →
+            HasGroups D.seen D.may_leave self.old.journal c → IfOk result (λ answer. HasGroups D.seen D.may_leave self.new.journal (grown (opens_generation request.now) answer.place.fault outcome.changes c)) }
+        ensures same_journal { OnErr result (self.new.journal ≡ self.old.journal) }
+        ensures stored { KeepsStored D.may_leave self.old.archive self.new.archive }
+        ensures end { outcome.stores ≡ [] → self.new.tables.archive_end ≡ self.old.tables.archive_end }
         ensures no_write { outcome.changes ≡ [] → (self.new.journal ≡ self.old.journal) × (self.new.tables ≡ self.old.tables) }
         ensures no_call { outcome.changes ≡ [] → outcome.reads ≡ [] → self.new ≡ self.old }
         ensures never_falls { D.faults (disk_of self.old.journal) ≤ D.faults (disk_of self.new.journal) }
@@ -205,6 +217,14 @@ impl<D: Disk> SerialDepot<D> {
         ensures rows { rows_of changed ≡ changed_by (rows_of self.old.tables) outcome.changes →
             IfOk result (λ answer. AreRowsAfter (rows_of self.old.tables) outcome.changes answer.place.fault (rows_of self.new.tables)) }
         ensures same_tables { OnErr result (self.new.tables ≡ self.old.tables) }
+        // The journal has one group more, or the next generation where the request opens one; at a fault, and without changes, it has the groups that it had.
+        ensures grows { (d : List Deed) (c : Chronicle) → Stand (rows_of self.old.tables) d → IsProper request.now → IsOutcomeOf (rows_of self.old.tables) self.old.tables.archive_end request.now outcome →
+            HasGroups D.seen D.may_leave self.old.journal c → IfOk result (λ answer. HasGroups D.seen D.may_leave self.new.journal (grown (opens_generation request.now) answer.place.fault outcome.changes c)) }
+        ensures same_journal { OnErr result (self.new.journal ≡ self.old.journal) }
+        // What lies in the archive below the end of what was used stays.
+        ensures stored { KeepsStored D.may_leave self.old.archive self.new.archive }
+        // With nothing to store the contents in the archive end where they did.
+        ensures end { outcome.stores ≡ [] → self.new.tables.archive_end ≡ self.old.tables.archive_end }
         // A command after which no row differs makes no call of the journal's disk, and none of the archive's where it prints no content.
         ensures no_write { (d : List Deed) → Stand (rows_of self.old.tables) d → IsOutcomeOf (rows_of self.old.tables) self.old.tables.archive_end request.now outcome →
             SameRows d (after d (step d request.now).deeds) → (self.new.journal ≡ self.old.journal) × (self.new.tables ≡ self.old.tables) }

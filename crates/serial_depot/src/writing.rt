@@ -1,12 +1,14 @@
 //! What a place writes to the disk of the journal: a group, or the checkpoint of the next generation.
 
-ghost use Rattle.std.specs.Prelude.{◌≡◌, ◌⊎◌, ◌<◌, ◌≤◌, true, IfOk, OnOk, IsErr};
+ghost use Rattle.std.specs.Prelude.{◌≡◌, ◌⊎◌, ◌<◌, ◌≤◌, ℕ, List, [], ◌∷◌, ◌++◌, true, IfOk, OnOk, IsErr};
 ghost use Rattle.disk_journal.specs.Images.{Committed, with_generation};
+ghost use Rattle.disk_journal.specs.Keeping.{KeepsOlder};
 ghost use Rattle.disk_journal.specs.Stands.{Doubtful, nothing, opening, HasWithOrWithout, Stands, disk_of, generation_of_journal, next_number};
 ghost use Rattle.journal_groups.specs.Groups.{IsGroup};
 ghost use Rattle.outside_api.specs.Count.{HasCause, HasRisen};
 ghost use Rattle.outside_api.specs.Disk.{LeavesOnly};
 ghost use Rattle.depot_rows.specs.table_changes.Changed.{AllFitIn, AllRows, changed_by, rows_of};
+ghost use Rattle.serial_depot.specs.Growing.{IsWritten, older_after};
 ghost use Rattle.serial_depot.specs.Writing.{CanWrite, IsLeft, IsWritingOf, StandsBy, left_by};
 
 use checkpoint_file::{print_generation, write_generation};
@@ -41,6 +43,9 @@ fn begin_settled<D: Disk>(journal: &mut Journal<D>, text: &Text) -> Result<(), D
     ensures any_moment { (was : Committed) (doubt : Doubtful) → Stands D.may_leave journal.old was doubt →
         LeavesOnly D.moment D.left_since (disk_of journal.old) (disk_of journal.new)
         (λ c. HasWithOrWithout was doubt c ⊎ HasWithOrWithout was (opening text.now) c) }
+    ensures keeps { (older : List (List (List ℕ))) → KeepsOlder D.seen D.may_leave journal.old older → IsErr result → KeepsOlder D.seen D.may_leave journal.new older }
+    ensures closes { (was : Committed) (doubt : Doubtful) (older : List (List (List ℕ))) → Stands D.may_leave journal.old was doubt → KeepsOlder D.seen D.may_leave journal.old older →
+        OnOk result (KeepsOlder D.seen D.may_leave journal.new (older ++ was.groups ∷ [])) }
     ensures cause { HasCause (D.faults (disk_of journal.old)) (D.faults (disk_of journal.new)) result }
 {
     journal.settle()?;
@@ -59,6 +64,8 @@ pub(crate) fn write<D: Disk>(journal: &mut Journal<D>, writing: Writing) -> bool
     ensures any_moment { (was : Committed) (doubt : Doubtful) → Stands D.may_leave journal.old was doubt →
         LeavesOnly D.moment D.left_since (disk_of journal.old) (disk_of journal.new)
         (λ c. HasWithOrWithout was doubt c ⊎ HasWithOrWithout was (left_by writing) c) }
+    ensures keeps { (was : Committed) (doubt : Doubtful) (older : List (List (List ℕ))) → Stands D.may_leave journal.old was doubt → KeepsOlder D.seen D.may_leave journal.old older →
+        KeepsOlder D.seen D.may_leave journal.new (older_after was older (left_by writing) result) }
     ensures never_falls { D.faults (disk_of journal.old) ≤ D.faults (disk_of journal.new) }
     ensures cause { result ≡ true → HasRisen (D.faults (disk_of journal.old)) (D.faults (disk_of journal.new)) }
 {
@@ -87,6 +94,7 @@ pub(crate) fn prepare<D: Disk>(
     ensures can { IfOk result (CanWrite journal.now) }
     ensures writes { (rows : AllRows) → AllFitIn rows changes.now → rows_of changed.now ≡ changed_by rows changes.now → IsGroup changes.now → IfOk result (λ writing.
         IsWritingOf rows (rows_of changed.now) (next_number journal.now) (generation_of_journal journal.now) opens (left_by writing) changes.now) }
+    ensures written { IfOk result (λ writing. IsWritten (next_number journal.now) opens (left_by writing) changes.now) }
 {
     if !opens {
         let prepared = journal.prepare(alloc, changes)?;

@@ -15,19 +15,20 @@ use Rattle.lock_core.specs.Drawing.{has_other}
 use Rattle.lock_core.specs.declared.machine.LockCore.{LockCore}
 use Rattle.lock_machine.specs.Machine.{Fault, State}
 use Rattle.lock_machine.proofs.Places.{set_here, some_is}
-use Rattle.replica_turns.specs.serial_depot.Running.{HasRun}
-use Rattle.replica_turns.specs.serial_depot.declared.depot.SerialDepot.{SerialDepot}
+use Rattle.run_parties.proofs.Replicas.{been_longer, been_now}
+use Rattle.run_parties.proofs.Slots.{also_at, at_set}
+use Rattle.run_parties.specs.Replicas.{HasBeenAt}
+use Rattle.run_parties.specs.serial_depot.Running.{HasRun}
+use Rattle.run_parties.specs.serial_depot.declared.depot.SerialDepot.{SerialDepot}
 use Rattle.session_loop.specs.Asking.{replica_commands}
 use Rattle.session_loop.specs.Requests.{AreRequestsOfAll}
 use Rattle.session_loop.specs.declared.reading.ReplicaScript.{ReplicaScript}
 use Rattle.session_loop.specs.declared.session.SessionRun.{SessionRun}
-use Rattle.session_turns.proofs.Following.{been_longer, been_now, following_stays, following_turned, following_wider}
-use Rattle.session_turns.proofs.Slots.{also_at, at_set}
+use Rattle.session_turns.proofs.Following.{following_stays, following_turned, following_wider}
 use Rattle.session_turns.proofs.Within.{served_other, stay_more}
 use Rattle.session_turns.specs.Answering.{IsSameAt, has_more_at}
 use Rattle.session_turns.specs.Drawn.{Progress, Turn, advanced, others_turned, turned}
 use Rattle.session_turns.specs.Going.{AreBounded, AreFollowing, AreGoing, IsLeft, IsReplicaTurn}
-use Rattle.session_turns.specs.Replicas.{HasBeenAt}
 use Rattle.session_turns.specs.Running.{left_after}
 use Rattle.session_turns.specs.Taking.{Advances, IsRunning, TakesTurn}
 use Rattle.session_turns.specs.declared.replicas.Replicas.{Replicas}

@@ -15,15 +15,17 @@ use Rattle.lock_core.specs.Drawing.{has_other, may_go_on}
 use Rattle.lock_core.specs.declared.machine.LockCore.{LockCore}
 use Rattle.lock_machine.specs.Machine.{is_enabled}
 use Rattle.lock_machine.proofs.Places.{neither, some_is}
-use Rattle.replica_turns.specs.serial_depot.declared.depot.SerialDepot.{SerialDepot}
+use Rattle.run_parties.proofs.Slots.{all_at}
+use Rattle.run_parties.specs.Replicas.{AreReplicasServed, AreReplicasTold}
+use Rattle.run_parties.specs.replica_turns.Master.{Past}
+use Rattle.run_parties.specs.serial_depot.declared.depot.SerialDepot.{SerialDepot}
 use Rattle.session_loop.specs.Asking.{AreWellFormed, replica_commands}
 use Rattle.session_loop.specs.declared.reading.ReplicaScript.{ReplicaScript}
 use Rattle.session_loop.specs.declared.session.SessionRun.{SessionRun}
-use Rattle.session_turns.proofs.Fresh.{all_at}
+use Rattle.session_turns.specs.Along.{AreAlong}
 use Rattle.session_turns.specs.Answering.{IsDoneAt, IsSameAt}
 use Rattle.session_turns.specs.Drawn.{Progress, going}
 use Rattle.session_turns.specs.Going.{AreBounded, AreGoing}
-use Rattle.session_turns.specs.Replicas.{AreReplicasServed}
 use Rattle.session_turns.specs.declared.replicas.Replicas.{Replicas}
 
 none_passes : (f : ℕ → Bool) (xs : List ℕ) → filter f xs ≡ [] → (k i : ℕ) → slice_get xs k ≡ Some i → f i ≡ false
@@ -67,6 +69,8 @@ module _ {D K : Type 0} (seen may_leave : D → Files → Type 0) (moment : D �
   pub replicas_served : All (λ (script : Option ReplicaScript). AreWellFormed (replica_commands script)) scripts → (totals bounds : List ℕ) → AreBounded scripts totals bounds → (runs' : List SessionRun) (sinks' : List K) → ((i : ℕ) → IsDoneAt runs bounds i → IsSameAt i runs runs' sinks sinks')
       → AreReplicasServed seen may_leave moment left_since may_give sessions scripts since start order runs' replicas.lost before (map given sinks')
   replicas_served formed totals bounds bounded runs' sinks' same = record {
+    flags = r.following.flags;
+    told = r.following.told;
     each = λ i script run had got at_script at_run at_had at_got.
         let stays = same i (replicas_done totals bounds bounded i script at_script) in
         let at_old = sym stays.0 ∙ at_run in
@@ -74,5 +78,18 @@ module _ {D K : Type 0} (seen may_leave : D → Files → Type 0) (moment : D �
         let left = r.following.left i script run at_script at_old in
         let well = all_at (λ (s : Option ReplicaScript). AreWellFormed (replica_commands s)) scripts i (Some script) (recursion_from_All (λ (s : Option ReplicaScript). AreWellFormed (replica_commands s)) scripts formed) at_script in
         let g = r.following.gave i script run left.p had got at_script at_old left.at_party at_had got_old well in
-        (g.its_lost, g.told, record { replica = left.p; texts = g.texts; count = g.count; going = g.going; got = g.got });
+        record { replica = left.p; texts = g.texts; count = g.count; going = g.going; got = g.got };
   }
+
+  -- and they told it along the depot that they followed
+  pub replicas_told : (past : Past) → AreAlong seen may_leave past start sessions scripts may_give order replicas runs before (map given sinks) depot
+      → All (λ (script : Option ReplicaScript). AreWellFormed (replica_commands script)) scripts → (totals bounds : List ℕ) → AreBounded scripts totals bounds → (runs' : List SessionRun) (sinks' : List K) → ((i : ℕ) → IsDoneAt runs bounds i → IsSameAt i runs runs' sinks sinks')
+      → AreReplicasTold past start sessions scripts may_give order runs' before (map given sinks')
+  replicas_told past along formed totals bounds bounded runs' sinks' same = λ i script run had got at_script at_run at_had at_got.
+      let stays = same i (replicas_done totals bounds bounded i script at_script) in
+      let at_old = sym stays.0 ∙ at_run in
+      let got_old : slice_get (map given sinks) i ≡ Some got = slice_get-map given sinks i ∙ (ap (option_map given) (sym stays.1) ∙ (sym (slice_get-map given sinks' i) ∙ at_got)) in
+      let left = r.following.left i script run at_script at_old in
+      let well = all_at (λ (s : Option ReplicaScript). AreWellFormed (replica_commands s)) scripts i (Some script) (recursion_from_All (λ (s : Option ReplicaScript). AreWellFormed (replica_commands s)) scripts formed) at_script in
+      let t = along.told i script run left.p had got at_script at_old left.at_party at_had got_old well in
+      record { replica = left.p; journal = along.all; texts = t.texts; count = t.count; along = t.along; got = t.got }

@@ -6,12 +6,12 @@ use Rattle.std.proofs.lemmas.List.{length-map}
 use Rattle.std.proofs.lemmas.Option.{slice_get-map}
 use Rattle.depot_rows.specs.depot_model.declared.request.Session.{Session}
 use Rattle.lock_machine.proofs.Places.{some_is}
+use Rattle.run_parties.proofs.Slots.{also_at}
+use Rattle.run_parties.specs.Served.{AreApart, total_of}
 use Rattle.session_loop.specs.Asking.{commands_of, replica_commands}
 use Rattle.session_loop.specs.declared.reading.ReplicaScript.{ReplicaScript}
-use Rattle.session_turns.proofs.Slots.{also_at}
 use Rattle.session_turns.specs.Drawn.{replica_totals}
 use Rattle.session_turns.specs.Going.{AreAtMost, AreBounded, AreBoundsOf, bound_of}
-use Rattle.session_turns.specs.Served.{AreApart, total_of}
 
 abbrev pub session_totals : List (Option Session) → List ℕ
 session_totals sessions = map (λ session. length (commands_of session)) sessions

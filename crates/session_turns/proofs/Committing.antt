@@ -6,7 +6,6 @@ use Rattle.std.proofs.lemmas.Bool.{lt-ltb}
 use Rattle.std.proofs.lemmas.List.{map-set}
 use Rattle.std.proofs.lemmas.Option.{slice_get-map, slice_get_within}
 use Rattle.outside_api.specs.Disk.{Files}
-use Rattle.replica_turns.specs.command_core.declared.outcome.Outcome.{Outcome}
 use Rattle.depot_rows.specs.depot_model.Deeds.{Deed}
 use Rattle.depot_rows.specs.depot_model.Places.{Placed, taken, told_at}
 use Rattle.depot_rows.specs.depot_model.Printed.{printed}
@@ -23,19 +22,21 @@ use Rattle.lock_core.specs.declared.machine.LockCore.{LockCore}
 use Rattle.lock_machine.specs.Machine.{Commit, Finish, Party, State, Work, event, is_enabled}
 use Rattle.lock_machine.specs.Machine as machine
 use Rattle.lock_machine.proofs.Places.{set_here, set_there, one_or_apart, some_is}
-use Rattle.replica_turns.specs.serial_depot.Committing.{AreRowsAfter, IsOutcomeOf}
-use Rattle.replica_turns.specs.serial_depot.Running.{HasRun}
-use Rattle.replica_turns.specs.serial_depot.declared.depot.SerialDepot.{SerialDepot}
+use Rattle.run_parties.proofs.Naming.{proper}
+use Rattle.run_parties.specs.Giving.{Got}
+use Rattle.run_parties.specs.Served.{session_counts}
+use Rattle.run_parties.specs.command_core.declared.outcome.Outcome.{Outcome}
+use Rattle.run_parties.specs.serial_depot.Committing.{AreRowsAfter, IsOutcomeOf}
+use Rattle.run_parties.specs.serial_depot.Running.{HasRun}
+use Rattle.run_parties.specs.serial_depot.declared.depot.SerialDepot.{SerialDepot}
 use Rattle.session_loop.specs.Taking.{Answers, IsProper, place_by, placed_by, with_place}
 use Rattle.session_loop.specs.declared.reading.ReplicaScript.{ReplicaScript}
 use Rattle.session_loop.specs.declared.session.SessionRun.{SessionRun}
-use Rattle.session_turns.proofs.Naming.{proper}
 use Rattle.session_turns.proofs.Orders.{IsNext}
 use Rattle.session_turns.proofs.Turning.{commit_more, here, its, more_left, n, next_with, next_without, places_more, places_of, whole}
 use Rattle.session_turns.specs.Drawn.{ended}
-use Rattle.session_turns.specs.Running.{Got, IsUnderWay}
+use Rattle.session_turns.specs.Running.{IsUnderWay}
 use Rattle.session_turns.specs.Answering.{IsAnsweredAt, has_more_at, reply_of}
-use Rattle.session_turns.specs.Served.{session_counts}
 use Rattle.session_turns.specs.Taking.{IsRunning, TakesTurn, finish_for}
 use Rattle.depot_rows.specs.table_changes.Changed.{AllRows, changed_by, rows_of}
 

@@ -4,12 +4,13 @@ use Rattle.std.specs.Prelude.{OnErr, slice_get}
 use Rattle.std.proofs.lemmas.List.{length-map}
 use Rattle.depot_rows.specs.depot_model.declared.request.Session.{Session}
 use Rattle.lock_machine.proofs.Places.{some_is}
+use Rattle.run_parties.specs.Asking.{fresh}
+use Rattle.run_parties.specs.Served.{AreEnds, total_of}
 use Rattle.session_loop.specs.declared.reading.ReplicaScript.{ReplicaScript}
 use Rattle.session_loop.specs.declared.session.SessionRun.{SessionRun}
 use Rattle.session_turns.proofs.Fresh.{fresh_at}
 use Rattle.session_turns.specs.Answering.{AreDone}
-use Rattle.session_turns.specs.Running.{AreWithin, IsWithin, fresh, fresh_runs}
-use Rattle.session_turns.specs.Served.{AreEnds, total_of}
+use Rattle.session_turns.specs.Running.{AreWithin, IsWithin, fresh_runs}
 
 -- at first
 pub within_none : {K : Type 0} (faults : K → ℕ) (totals : List ℕ) (sinks : List K) → AreWithin faults totals (fresh_runs totals) sinks sinks

@@ -1,72 +1,44 @@
 -- The replicas of a run from turn to turn.
-use Rattle.std.proofs.Common.{◌≡◌, ℕ, ◌+◌, ◌-◌, ◌≤◌, ◌<◌, Bool, true, false, List, [], ◌∷◌, ◌++◌, get_or, length, map, take, set, Option, Some, refl, sym, ap, subst, ◌∙◌, arith, inl, inr, append-nil}
+use Rattle.std.proofs.Common.{◌≡◌, ℕ, zero, suc, ◌+◌, ◌-◌, ◌<◌, Bool, true, false, List, [], ◌∷◌, ◌++◌, get_or, length, map, set, Option, Some, refl, sym, ap, subst, ◌∙◌, arith, inl, inr}
 use Rattle.std.specs.Prelude.{◌||◌, slice_get, option_map}
-use Rattle.std.proofs.Math.Seq.{take-length}
-use Rattle.std.proofs.lemmas.Grind.{flat_map-append}
-use Rattle.std.proofs.lemmas.List.{length-append, length-map, length-set, map-append, map-set, take-append-le}
-use Rattle.std.proofs.lemmas.Option.{get_or_from_slice_get, slice_get-map}
+use Rattle.std.specs.List.{list_any}
+use Rattle.std.proofs.lemmas.List.{get_or-set_other, get_or-set_same, length-append, length-set, map-set}
+use Rattle.std.proofs.lemmas.Option.{get_or_from_slice_get, slice_get-map, slice_get_within}
 use Rattle.outside_api.specs.Disk.{Files}
-use Rattle.outside_api.specs.Told.{extended}
-use Rattle.depot_rows.specs.depot_model.Deeds.{Deed}
-use Rattle.depot_rows.specs.depot_model.Places.{Placed}
-use Rattle.depot_rows.specs.depot_model.declared.order.Place.{Place}
-use Rattle.depot_rows.specs.depot_model.declared.request.Session.{Session}
-use Rattle.depot_runs.specs.Run.{placed}
-use Rattle.lock_machine.proofs.Places.{either_true, set_here, set_there, some_is}
-use Rattle.replica_turns.proofs.Turns.{goes_on, widened}
-use Rattle.replica_turns.specs.Going.{HasGotTexts, all_of, is_lost, reply_text}
-use Rattle.replica_turns.specs.declared.party.ReplicaParty.{ReplicaParty}
-use Rattle.replica_turns.specs.serial_depot.Running.{HasRun}
-use Rattle.replica_turns.specs.serial_depot.declared.depot.SerialDepot.{SerialDepot}
+use Rattle.lock_machine.proofs.Places.{set_here, set_there, some_is}
+use Rattle.run_parties.proofs.Outputs.{got_more}
+use Rattle.run_parties.proofs.Slots.{at_set}
+use Rattle.run_parties.proofs.replica_turns.Turns.{goes_on, widened}
+use Rattle.run_parties.specs.Giving.{Got, HasGiven}
+use Rattle.run_parties.specs.Replicas.{AreLost}
+use Rattle.run_parties.specs.replica_turns.Going.{HasGotTexts, IsGoing, is_lost, reply_text}
+use Rattle.run_parties.specs.replica_turns.declared.party.ReplicaParty.{ReplicaParty}
+use Rattle.run_parties.specs.serial_depot.declared.depot.SerialDepot.{SerialDepot}
 use Rattle.session_loop.specs.Asking.{AreWellFormed}
 use Rattle.session_loop.specs.declared.reading.ReplicaScript.{ReplicaScript}
 use Rattle.session_loop.specs.declared.session.SessionRun.{SessionRun}
-use Rattle.session_turns.proofs.Slots.{at_set}
 use Rattle.session_turns.specs.Drawn.{left_after_turn}
-use Rattle.session_turns.specs.Going.{AreFollowing, HasGiven, IsLeft, IsReplicaTurn}
-use Rattle.session_turns.specs.Replicas.{HasBeenAt}
-use Rattle.session_turns.specs.Running.{Got}
+use Rattle.session_turns.specs.Going.{AreFollowing, IsLeft, IsReplicaTurn}
 use Rattle.session_turns.specs.declared.replicas.Replicas.{Replicas}
-use Rattle.wire_text.proofs.Pieces.{extended-extended}
 
--- ---- the depots that have been
+-- ---- the flags
 
-module _ {D : Type 0} (seen may_leave : D → Files → Type 0) (moment : D → ℕ) (left_since : D → ℕ → Files → Type 0) (sessions : List (Option Session)) (since : ℕ) (start : List Deed) where
-  abbrev Been : List Place → SerialDepot D → Type 0
-  Been order depot = HasBeenAt seen may_leave moment left_since sessions since start order depot
+one_or : (f x rest : Bool) → ((f || x) || rest) ≡ ((f || rest) || x)
+one_or true x rest = refl
+one_or false true true = refl
+one_or false true false = refl
+one_or false false true = refl
+one_or false false false = refl
 
-  abbrev Ran : SerialDepot D → List Placed → Type 0
-  Ran depot places = HasRun seen may_leave moment left_since depot since start places
+or_more : (f rest x : Bool) → (f || (rest || x)) ≡ ((f || rest) || x)
+or_more true rest x = refl
+or_more false rest x = refl
 
-  -- those of an order have been those of a longer one
-  pub been_longer : (order more : List Place) (depot : SerialDepot D) → Been order depot → Been (order ++ more) depot
-  been_longer order more depot been =
-      let places = map (placed sessions) order in
-      let few : been.count ≤ length places = (let within = been.within in let same = length-map order (placed sessions) in omega (arith, within, same)) in
-      let same : take been.count (map (placed sessions) (order ++ more)) ≡ take been.count places =
-      ap (take been.count) (map-append (placed sessions) order more) ∙ take-append-le been.count places (map (placed sessions) more) few in
-      record {
-        count = been.count;
-        within = (let within = been.within in let long = length-append order more in omega (arith, within, long));
-        ran = subst (Ran depot) (sym same) been.ran;
-      }
-
-  -- the depot that is
-  pub been_now : (order : List Place) (depot : SerialDepot D) → Ran depot (map (placed sessions) order) → Been order depot
-  been_now order depot ran =
-      let places = map (placed sessions) order in
-      let all : take (length order) places ≡ places = ap (λ (n : ℕ). take n places) (sym (length-map order (placed sessions))) ∙ take-length places in
-      record { count = length order; within = omega arith; ran = subst (Ran depot) (sym all) ran }
-
--- ---- the sinks
-
-got_more : (failed : Bool) (texts : List (List ℕ)) (text : List ℕ) (before mid now : Option (List ℕ)) → HasGotTexts false texts before mid → Got failed text mid now → HasGotTexts failed (texts ++ text ∷ []) before now
-got_more false texts text before mid now was got =
-    let all : all_of texts ++ text ≡ all_of (texts ++ text ∷ []) =
-    ap (λ (more : List ℕ). all_of texts ++ more) (sym (append-nil text)) ∙ sym (flat_map-append (λ (t : List ℕ). t) texts (text ∷ [])) in
-    got ∙ (ap (λ (o : Option (List ℕ)). extended o text) was ∙ (extended-extended before (all_of texts) text ∙ ap (extended before) all))
-got_more true texts text before mid now was (front, proper, got) =
-    (texts, text, refl, front, proper, got ∙ (ap (λ (o : Option (List ℕ)). extended o front) was ∙ extended-extended before (all_of texts) front))
+-- one of them is raised, or not
+any_set : (flags : List Bool) (i : ℕ) (x : Bool) → i < length flags → list_any (λ (flag : Bool). flag) (set flags i (get_or flags i false || x)) ≡ (list_any (λ (flag : Bool). flag) flags || x)
+any_set [] i x low = absurd (omega arith)
+any_set (f ∷ flags) zero x low = one_or f x (list_any (λ (flag : Bool). flag) flags)
+any_set (f ∷ flags) (suc i) x low = ap (λ (b : Bool). f || b) (any_set flags i x (omega arith)) ∙ or_more f (list_any (λ (flag : Bool). flag) flags) x
 
 -- ---- all replicas
 
@@ -81,14 +53,14 @@ module _ {D : Type 0} (HasBeen : SerialDepot D → Type 0) (seen may_leave : D �
     count = h.count;
     none = h.none;
     left = h.left;
+    flags = h.flags;
+    told = h.told;
     gave = λ i script run p given got at_script at_run at_party at_given at_got formed.
         let g = h.gave i script run p given got at_script at_run at_party at_given at_got formed in
         record {
           texts = g.texts;
-          its_lost = g.its_lost;
-          told = g.told;
           count = g.count;
-          going = widened HasBeen seen may_leave may_give (i + 1) script Other more p g.texts g.its_lost g.going;
+          going = widened HasBeen seen may_leave may_give (i + 1) script Other more p g.texts (get_or h.flags i false) g.going;
           got = g.got;
         };
   }
@@ -101,6 +73,8 @@ module _ {D : Type 0} (HasBeen : SerialDepot D → Type 0) (seen may_leave : D �
     count = h.count;
     none = h.none;
     left = λ i script run at_script at_run. h.left i script run at_script (sym (same i script at_script).0 ∙ at_run);
+    flags = h.flags;
+    told = h.told;
     gave = λ i script run p given got at_script at_run at_party at_given at_got formed.
         h.gave i script run p given got at_script (sym (same i script at_script).0 ∙ at_run) at_party at_given (sym (same i script at_script).1 ∙ at_got) formed;
   }
@@ -119,8 +93,28 @@ module _ {D : Type 0} (HasBeen : SerialDepot D → Type 0) (seen may_leave : D �
     parties_are : new.parties.items ≡ set old.parties.items i (Some next)
     parties_are = t.parties ∙ t.stepped.parties
 
-    still : old.lost ≡ true → new.lost ≡ true
-    still is = t.lost ∙ t.stepped.still is
+    -- the flags
+    low : i < length h.flags
+    low = let within = slice_get_within scripts i (Some script) at_script in let count = h.told.count in omega (arith, within, count)
+
+    abbrev flag : Bool
+    flag = get_or h.flags i false || is_lost t.stepped.result
+
+    abbrev flags' : List Bool
+    flags' = set h.flags i flag
+
+    flag_here : get_or flags' i false ≡ flag
+    flag_here = get_or-set_same h.flags i flag false low
+
+    flag_there : (j : ℕ) → (i ≡ j → ⊥) → get_or flags' j false ≡ get_or h.flags j false
+    flag_there j apart = get_or-set_other h.flags i j flag false (λ e. apart (sym e))
+
+    flags_told : AreLost scripts flags' new.lost
+    flags_told = record {
+      count = length-set h.flags i flag ∙ h.told.count;
+      none = λ j at_none. flag_there j (λ e. let both = sym at_none ∙ (ap (slice_get scripts) (sym e) ∙ at_script) in cc) ∙ h.told.none j at_none;
+      one = t.lost ∙ (t.stepped.lost_is ∙ (ap (λ (b : Bool). b || is_lost t.stepped.result) h.told.one ∙ sym (any_set h.flags i (is_lost t.stepped.result) low)));
+    }
 
     abbrev pub was : IsLeft script old i t.answered.run
     was = h.left i script t.answered.run at_script t.answered.at_run
@@ -147,7 +141,7 @@ module _ {D : Type 0} (HasBeen : SerialDepot D → Type 0) (seen may_leave : D �
               omega (arith, one, before_it, some);
         }
 
-    gave_here : (had : Option (List ℕ)) → slice_get before i ≡ Some had → AreWellFormed script.session.commands → HasGiven HasBeen seen may_leave may_give (i + 1) script next run' new.lost had (given t.answered.new)
+    gave_here : (had : Option (List ℕ)) → slice_get before i ≡ Some had → AreWellFormed script.session.commands → HasGiven HasBeen seen may_leave may_give (i + 1) script next run' (get_or flags' i false) had (given t.answered.new)
     gave_here had at_had formed =
         let got_at : slice_get (map given sinks) i ≡ Some (given t.answered.sink) = slice_get-map given sinks i ∙ ap (option_map given) t.answered.at_sink in
         let g = h.gave i script t.answered.run p had (given t.answered.sink) at_script t.answered.at_run at_party at_had got_at formed in
@@ -158,13 +152,10 @@ module _ {D : Type 0} (HasBeen : SerialDepot D → Type 0) (seen may_leave : D �
         let gives : Q text = subst Q (t.stepped.text_is (t.answered.run.commands + 1) ∙ ap (λ (n : ℕ). reply_text result (n + 1)) (sym g.count)) t.answered.got in
         record {
           texts = g.texts ++ text ∷ [];
-          its_lost = g.its_lost || is_lost result;
-          told = λ is. elim (either_true g.its_lost (is_lost result) is) [
-            | inl first ↦ still (g.told first)
-            | inr last ↦ t.lost ∙ t.stepped.told last
-          ];
           count = (let long = length-append g.texts (text ∷ []) in let same = g.count in omega (arith, long, same));
-          going = goes_on HasBeen seen may_leave may_give (i + 1) script depot p next g.texts g.its_lost result been g.going t.stepped.turned;
+          going =
+              subst (IsGoing HasBeen seen may_leave may_give (i + 1) script next (g.texts ++ text ∷ [])) (sym flag_here)
+              (goes_on HasBeen seen may_leave may_give (i + 1) script depot p next g.texts (get_or h.flags i false) result been g.going t.stepped.turned);
           got = got_more t.failed g.texts text had (given t.answered.sink) (given t.answered.new) (subst P whole g.got) gives;
         }
 
@@ -197,6 +188,8 @@ module _ {D : Type 0} (HasBeen : SerialDepot D → Type 0) (seen may_leave : D �
                   total = l.total;
                 }
           ];
+      flags = flags';
+      told = flags_told;
       gave = λ j script' run q had got at_script' at_run at_q at_had at_got formed.
           elim (at_set runs i j run' run (ap (λ (rs : List SessionRun). slice_get rs j) (sym t.answered.runs) ∙ at_run)) [
             | inl here ↦
@@ -205,20 +198,13 @@ module _ {D : Type 0} (HasBeen : SerialDepot D → Type 0) (seen may_leave : D �
                 let got_is : given t.answered.new ≡ got =
                 some_is (sym (set_here (map given sinks) i (given t.answered.sink) (given t.answered.new) (slice_get-map given sinks i ∙ ap (option_map given) t.answered.at_sink))
                 ∙ (sym (ap (λ (os : List (Option (List ℕ))). slice_get os i) sinks_are) ∙ (ap (slice_get (map given sinks')) here.0 ∙ at_got))) in
-                let G : ℕ → ReplicaScript → ReplicaParty → SessionRun → Option (List ℕ) → Type 0 = λ k s r x o. HasGiven HasBeen seen may_leave may_give (k + 1) s r x new.lost had o in
+                let G : ℕ → ReplicaScript → ReplicaParty → SessionRun → Option (List ℕ) → Type 0 = λ k s r x o. HasGiven HasBeen seen may_leave may_give (k + 1) s r x (get_or flags' k false) had o in
                 let first : G i script next run' (given t.answered.new) = gave_here had (ap (slice_get before) here.0 ∙ at_had) (subst (λ (s : ReplicaScript). AreWellFormed s.session.commands) (sym same) formed) in
                 subst (λ (x : SessionRun). G j script' q x got) (sym here.1) (subst (λ (k : ℕ). G k script' q run' got) here.0 (subst (λ (s : ReplicaScript). G i s q run' got) same
                 (subst (λ (r : ReplicaParty). G i script r run' got) party (subst (λ (o : Option (List ℕ)). G i script next run' o) got_is first))))
             | inr there ↦
                 let g = h.gave j script' run q had got at_script' there.1 (sym (set_there old.parties.items i j (Some next) there.0) ∙ (sym (ap (λ (ps : List (Option ReplicaParty)). slice_get ps j) parties_are) ∙ at_q)) at_had
                 (sym (set_there (map given sinks) i j (given t.answered.new) there.0) ∙ (sym (ap (λ (os : List (Option (List ℕ))). slice_get os j) sinks_are) ∙ at_got)) formed in
-                record {
-                  texts = g.texts;
-                  its_lost = g.its_lost;
-                  told = λ is. still (g.told is);
-                  count = g.count;
-                  going = g.going;
-                  got = g.got;
-                }
+                subst (λ (b : Bool). HasGiven HasBeen seen may_leave may_give (j + 1) script' q run b had got) (sym (flag_there j there.0)) g
           ];
     }

@@ -1,11 +1,7 @@
-pub mod Slots
-pub mod Counts
 pub mod Events
-pub mod Naming
 pub mod Orders
 pub mod Turning
 pub mod Drawing
-pub mod Making
 pub mod Within
 pub mod Committing
 pub mod Starting
@@ -21,5 +17,5 @@ pub mod Fresh
 pub mod Answered
 pub mod Losing
 pub mod Stepping
--- what stands below, for the crates above
-pub use Rattle.replica_turns.proofs.serial_depot as serial_depot
+pub mod Mastering
+pub mod Telling

@@ -1,9 +1,8 @@
 -- A replica that was answered that a disk failed, from turn to turn.
 use Rattle.std.proofs.Common.{◌≡◌, ℕ, Bool, true, false, List, inl, inr, sym, ◌∙◌, arith}
 use Rattle.depot_rows.specs.depot_model.declared.order.Place.{Place}
+use Rattle.run_parties.specs.Replicas.{HasLost, OneHasRisen}
 use Rattle.session_loop.specs.Served.{AreCaused}
-use Rattle.session_turns.specs.Going.{HasLost}
-use Rattle.session_turns.specs.Replicas.{OneHasRisen}
 
 -- what had risen has risen
 pub risen_before : (before mid now contents_before contents_mid contents_now : ℕ) (first second : List Place) → AreCaused mid now contents_mid contents_now first second → OneHasRisen before mid contents_before contents_mid

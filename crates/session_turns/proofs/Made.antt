@@ -2,7 +2,6 @@
 use Rattle.std.proofs.Common.{◌≡◌, ℕ, Bool, true, List, [], ◌∷◌, ◌++◌, Option, Result, Ok, Err, length, map, refl, sym, ◌∙◌, append-nil}
 use Rattle.std.specs.Prelude.{IfOk, OnErr, slice_get}
 use Rattle.outside_api.specs.Disk.{Files}
-use Rattle.replica_turns.specs.command_core.declared.outcome.Outcome.{Outcome}
 use Rattle.depot_rows.specs.depot_model.Deeds.{Deed}
 use Rattle.depot_rows.specs.depot_model.Places.{Placed}
 use Rattle.depot_rows.specs.depot_model.declared.order.Answer.{Answer}
@@ -14,9 +13,10 @@ use Rattle.lock_core.specs.Core.{IsReady, Shows}
 use Rattle.lock_core.specs.Finished.{Finishes}
 use Rattle.lock_core.specs.declared.machine.LockCore.{LockCore}
 use Rattle.lock_machine.specs.Machine.{State}
-use Rattle.replica_turns.specs.serial_depot.Committing.{AreRowsAfter}
-use Rattle.replica_turns.specs.serial_depot.Running.{HasRun}
-use Rattle.replica_turns.specs.serial_depot.declared.depot.SerialDepot.{SerialDepot}
+use Rattle.run_parties.specs.command_core.declared.outcome.Outcome.{Outcome}
+use Rattle.run_parties.specs.serial_depot.Committing.{AreRowsAfter}
+use Rattle.run_parties.specs.serial_depot.Running.{HasRun}
+use Rattle.run_parties.specs.serial_depot.declared.depot.SerialDepot.{SerialDepot}
 use Rattle.session_loop.specs.Taking.{Answers, IsProper, with_place}
 use Rattle.session_loop.specs.declared.reading.ReplicaScript.{ReplicaScript}
 use Rattle.session_loop.specs.declared.session.SessionRun.{SessionRun}

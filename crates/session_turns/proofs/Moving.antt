@@ -10,7 +10,7 @@ use Rattle.lock_core.specs.Core.{IsTurn, Shows}
 use Rattle.lock_core.specs.declared.machine.LockCore.{LockCore}
 use Rattle.lock_core.specs.declared.turn.Turn.TheVariants.{Idle, Moved}
 use Rattle.lock_machine.specs.Machine.{NoMemory, State, is_enabled}
-use Rattle.replica_turns.specs.serial_depot.declared.depot.SerialDepot.{SerialDepot}
+use Rattle.run_parties.specs.serial_depot.declared.depot.SerialDepot.{SerialDepot}
 use Rattle.session_loop.specs.declared.reading.ReplicaScript.{ReplicaScript}
 use Rattle.session_loop.specs.declared.session.SessionRun.{SessionRun}
 use Rattle.session_turns.proofs.Drawing.{found_at}

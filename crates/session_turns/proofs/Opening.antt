@@ -11,14 +11,14 @@ use Rattle.depot_runs.specs.Run.{placed}
 use Rattle.lock_core.specs.Core.{AllProperIn, Shows}
 use Rattle.lock_core.specs.declared.machine.LockCore.{LockCore}
 use Rattle.lock_machine.specs.Runs.{beginning}
-use Rattle.replica_turns.specs.serial_depot.Running.{HasRun}
-use Rattle.replica_turns.specs.serial_depot.declared.depot.SerialDepot.{SerialDepot}
+use Rattle.run_parties.specs.Served.{AreApart}
+use Rattle.run_parties.specs.serial_depot.Running.{HasRun}
+use Rattle.run_parties.specs.serial_depot.declared.depot.SerialDepot.{SerialDepot}
 use Rattle.session_loop.specs.Asking.{AreWellFormed, commands_of}
 use Rattle.session_loop.specs.Requests.{AreRequestsOfAll}
 use Rattle.session_loop.specs.declared.reading.ReplicaScript.{ReplicaScript}
 use Rattle.session_loop.specs.declared.session.SessionRun.{SessionRun}
 use Rattle.session_turns.proofs.Starting.{all_proper, under_way}
-use Rattle.session_turns.specs.Served.{AreApart}
 use Rattle.session_turns.specs.Running.{IsUnderWay, fresh_runs}
 use Rattle.session_turns.specs.Taking.{IsRunning}
 use Rattle.depot_rows.specs.table_changes.Changed.{AllRows, rows_of}

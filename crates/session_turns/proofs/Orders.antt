@@ -1,12 +1,12 @@
 -- One more command of one of the parties.
-use Rattle.std.proofs.Common.{◌≡◌, ◌≢◌, ℕ, zero, suc, ◌+◌, ◌-◌, ◌≤◌, ◌<◌, Bool, true, false, eqb, List, [], ◌∷◌, ◌++◌, length, set, get_or, Option, Some, None, refl, sym, ap, subst, ◌∙◌, arith, inl, inr, add-one}
-use Rattle.std.specs.Prelude.{All, slice_get, ◌&&◌}
+use Rattle.std.proofs.Common.{◌≡◌, ◌≢◌, ℕ, ◌+◌, ◌-◌, ◌≤◌, ◌<◌, Bool, true, false, eqb, List, [], ◌∷◌, ◌++◌, length, set, get_or, Option, Some, None, refl, sym, ap, subst, ◌∙◌, arith, inl, inr}
+use Rattle.std.specs.Prelude.{All, slice_get}
 use Rattle.std.specs.Option.{IsSomeAnd}
+use Rattle.std.proofs.Math.Bool.{and-false}
 use Rattle.std.proofs.lemmas.Bool.{ne_eqb, eq-eqb}
 use Rattle.std.proofs.lemmas.List.{length-set}
 use Rattle.std.proofs.lemmas.List.Elements.{All-push, recursion_from_All}
 use Rattle.std.proofs.lemmas.List.Quantifiers.{all_pairs_push}
-use Rattle.outside_api.specs.Told.{extended}
 use Rattle.depot_rows.specs.depot_model.Deeds.{Deed}
 use Rattle.depot_rows.specs.depot_model.Order.{IsOrder, IsPlaceOf, Rises}
 use Rattle.depot_rows.specs.depot_model.Printed.{printed}
@@ -16,16 +16,15 @@ use Rattle.depot_rows.specs.depot_model.declared.reply.Row.{Row}
 use Rattle.depot_rows.specs.depot_model.declared.request.Session.{Session}
 use Rattle.depot_runs.specs.Run.{is_place_of, output_of, outputs, rows_at, run}
 use Rattle.lock_machine.proofs.Places.{one_or_apart, set_here}
+use Rattle.run_parties.proofs.Counts.{counts_set}
+use Rattle.run_parties.proofs.Outputs.{output_more, output_stays}
+use Rattle.run_parties.proofs.Slots.{at_set, bound_at, risen_at}
+use Rattle.run_parties.specs.Giving.{Got}
+use Rattle.run_parties.specs.Served.{AreServed, session_counts}
 use Rattle.session_loop.proofs.Orders.{IsUnplaced, outputs-other, reply_to-last, reply_to-other, reply_to-unplaced}
 use Rattle.session_loop.specs.Served.{IsOutput}
 use Rattle.session_loop.specs.declared.reading.ReplicaScript.{ReplicaScript}
 use Rattle.session_loop.specs.declared.session.SessionRun.{SessionRun}
-use Rattle.session_turns.proofs.Counts.{counts_set}
-use Rattle.session_turns.proofs.Slots.{at_set, bound_at, risen_at}
-use Rattle.session_turns.specs.Running.{Got}
-use Rattle.session_turns.specs.Served.{AreServed, session_counts}
-use Rattle.wire_text.proofs.Pieces.{extended-extended}
-use Rattle.wire_text.specs.Giving.{IsProperFront}
 
 module _ (may_give : ℕ → Type 0) (sessions : List (Option Session)) (start : List Deed) (counts : List ℕ) (i n : ℕ) (order : List Place) where
   -- The order after one more command of the party at a place of the list, which is answered a text: the party's earlier replies and those of all others
@@ -44,11 +43,7 @@ module _ (may_give : ℕ → Type 0) (sessions : List (Option Session)) (start :
         bound_at counts i ((get_or order k d).party - 1) (get_or order k d).number n here (omega (arith, party_is)) place.command
 
     other_number : (party number : ℕ) (place : Place) → (place.number ≡ number → ⊥) → is_place_of party number place ≡ false
-    other_number party number place ne = rw (ne_eqb place.number number ne) (and_false (eqb place.party party))
-      where
-        and_false : (b : Bool) → (b && false) ≡ false
-        and_false true = refl
-        and_false false = refl
+    other_number party number place ne = rw (ne_eqb place.number number ne) (and-false (eqb place.party party))
 
     other_party : (party number : ℕ) (place : Place) → (place.party ≡ party → ⊥) → is_place_of party number place ≡ false
     other_party party number place ne = rw (ne_eqb place.party party ne) refl
@@ -103,40 +98,6 @@ module _ (may_give : ℕ → Type 0) (sessions : List (Option Session)) (start :
       told = ap (λ (rows : List Row). printed rows (n + 1)) (reply_to-unplaced sessions start order (i + 1) (n + 1) unplaced);
     }
 
-  -- ---- the sinks
-
-  outputs_same : (order' : List Place) (party : ℕ) → ((k : ℕ) → output_of sessions start order' party k ≡ output_of sessions start order party k) → (m : ℕ)
-      → outputs sessions start order' party m ≡ outputs sessions start order party m
-  outputs_same order' party same zero = refl
-  outputs_same order' party same (suc m) = λ k. outputs_same order' party same m k ++ same (suc m) k
-
-  output_stays : (order' : List Place) (party : ℕ) → ((k : ℕ) → output_of sessions start order' party k ≡ output_of sessions start order party k) → (m : ℕ) (failed : Bool) (before now : Option (List ℕ))
-      → IsOutput sessions start order party m failed before now → IsOutput sessions start order' party m failed before now
-  output_stays order' party same m false before now is = is ∙ ap (extended before) (sym (outputs_same order' party same m))
-  output_stays order' party same m true before now (k, last, front, proper, got) = (
-    k,
-    last,
-    front,
-    subst (IsProperFront front) (sym (same m)) proper,
-    got ∙ ap (λ (o : List ℕ). extended before (o ++ front)) (sym (outputs_same order' party same k)),
-  )
-
-  pub output_more : (order' : List Place) (text : List ℕ) → IsNext order' text → (failed : Bool) (before mid now : Option (List ℕ)) → IsOutput sessions start order (i + 1) n false before mid → Got failed text mid now
-      → IsOutput sessions start order' (i + 1) (n + 1) failed before now
-  output_more order' text next false before mid now was got =
-      got ∙ (ap (λ (o : Option (List ℕ)). extended o text) was ∙ (extended-extended before (outputs sessions start order (i + 1) n) text
-      ∙ (ap (extended before) (λ k. sym next.own k ++ sym next.told k)
-      ∙ (ap (λ (m : ℕ). extended before (outputs sessions start order' (i + 1) n ++ output_of sessions start order' (i + 1) m)) (add-one n)
-      ∙ ap (λ (m : ℕ). extended before (outputs sessions start order' (i + 1) m)) (sym (add-one n))))))
-  output_more order' text next true before mid now was (front, proper, got) = (
-    n,
-    add-one n,
-    front,
-    subst (IsProperFront front) (sym next.told) proper,
-    got ∙ (ap (λ (o : Option (List ℕ)). extended o front) was ∙ (extended-extended before (outputs sessions start order (i + 1) n) front
-        ∙ ap (λ (o : List ℕ). extended before (o ++ front)) (sym next.own))),
-  )
-
   -- the party's sink got the answer, and no other sink got anything
   pub served_more : (scripts : List (Option ReplicaScript)) (runs : List SessionRun) → counts ≡ session_counts scripts runs → slice_get scripts i ≡ Some None
       → (run : SessionRun) → slice_get runs i ≡ Some run → run.commands ≡ n → run.failed ≡ false → (before now : List (Option (List ℕ))) → AreServed may_give sessions scripts start runs before now order
@@ -152,7 +113,7 @@ module _ (may_give : ℕ → Type 0) (sessions : List (Option Session)) (start :
               | inl here ↦ own j r given has here.0 here.1 at_given at_has
               | inr there ↦ elim (at_set now i j new has at_has) [
                 | inl wrong ↦ absurd (there.0 wrong.0)
-                | inr same ↦ output_stays order' (j + 1) (λ k. next.others j k there.0) r.commands r.failed given has (h.each j r given has at_script there.1 at_given same.1)
+                | inr same ↦ output_stays sessions start order order' (j + 1) (λ k. next.others j k there.0) r.commands r.failed given has (h.each j r given has at_script there.1 at_given same.1)
               ]
             ];
       }
@@ -166,7 +127,7 @@ module _ (may_give : ℕ → Type 0) (sessions : List (Option Session)) (start :
           subst (λ (m : ℕ). P m false) count (subst (λ (f : Bool). P run.commands f) whole (h.each i run given got here_script at (ap (slice_get before) same ∙ at_given) at_got)) in
           let Q : ℕ → SessionRun → Option (List ℕ) → Type 0 = λ k x o. IsOutput sessions start order' (k + 1) x.commands x.failed given o in
           subst (λ (k : ℕ). Q k r has) same (subst (λ (x : SessionRun). Q i x has) (sym is) (subst (λ (o : Option (List ℕ)). Q i (record { commands = n + 1; failed = failed }) o) is_new
-          (output_more order' text next failed given got new was gives)))
+          (output_more sessions start order order' (i + 1) n text next.own next.told failed given got new was gives)))
         where
           cc_some : {A : Type 0} {x y : A} → Some x ≡ Some y → x ≡ y
           cc_some e = cc

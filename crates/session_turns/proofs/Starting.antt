@@ -18,6 +18,9 @@ use Rattle.lock_core.specs.Core.{AllProper, AllProperIn}
 use Rattle.lock_machine.specs.Proper as machine
 use Rattle.lock_machine.specs.Runs.{beginning, idle}
 use Rattle.lock_machine.proofs.Places.{some_is}
+use Rattle.run_parties.proofs.Making.{asked_count, many_of}
+use Rattle.run_parties.specs.Asking.{fresh}
+use Rattle.run_parties.specs.Served.{AreApart}
 use Rattle.session_loop.specs.Asking.{AreProper, AreWellFormed, commands_of}
 use Rattle.session_loop.specs.Requests.{AreRequests, AreRequestsOf, AreRequestsOfAll, IsRequest}
 use Rattle.session_loop.specs.Served.{IsOutput}
@@ -26,40 +29,25 @@ use Rattle.session_loop.specs.declared.reading.ReplicaScript.{ReplicaScript}
 use Rattle.session_loop.specs.declared.session.SessionRun.{SessionRun}
 use Rattle.session_turns.proofs.Drawing.{AllShort}
 use Rattle.session_turns.proofs.Fresh.{fresh_at}
-use Rattle.session_turns.proofs.Turning.{asked_count}
-use Rattle.session_turns.specs.Running.{IsUnderWay, fresh, fresh_runs, left_after, unanswered}
-use Rattle.session_turns.specs.Served.{AreApart}
+use Rattle.session_turns.specs.Running.{IsUnderWay, fresh_runs, left_after, unanswered}
 use Rattle.wire_text.proofs.Pieces.{extended-nil}
-
-abbrev total : Option Session → ℕ
-total session = length (commands_of session)
 
 module _ (may_give : ℕ → Type 0) where
   -- ---- how many there are
-
-  count_is : (party number : ℕ) (caller : Caller) (commands : List Asked) (requests : List Request) → AreRequests may_give party number caller commands requests → length requests ≡ length commands
-  count_is party number caller [] [] all = refl
-  count_is party number caller [] (r ∷ requests) all = absurd all
-  count_is party number caller (a ∷ commands) [] all = absurd all
-  count_is party number caller (a ∷ commands) (r ∷ requests) all = ap suc (count_is party (suc number) caller commands requests all.1)
-
-  count_of : (party : ℕ) (session : Option Session) (requests : List Request) → AreRequestsOf may_give party session requests → length requests ≡ total session
-  count_of party None requests all = ap (length {A = Request}) all
-  count_of party (Some session) requests all = count_is party 1 session.caller session.commands requests all
 
   pub counts_are : (party : ℕ) (sessions : List (Option Session)) (requests : List (List Request)) → AreRequestsOfAll may_give party sessions requests
       → map (λ (own : List Request). length own) requests ≡ map (λ (session : Option Session). length (commands_of session)) sessions
   counts_are party [] [] all = refl
   counts_are party [] (r ∷ requests) all = absurd all
   counts_are party (s ∷ sessions) [] all = absurd all
-  counts_are party (s ∷ sessions) (r ∷ requests) all = λ k. count_of party s r all.0 k ∷ counts_are (suc party) sessions requests all.1 k
+  counts_are party (s ∷ sessions) (r ∷ requests) all = λ k. many_of may_give party s r all.0 k ∷ counts_are (suc party) sessions requests all.1 k
 
   short : (party : ℕ) (sessions : List (Option Session)) (requests : List (List Request)) → AreRequestsOfAll may_give party sessions requests
       → AllByRecursion (λ (session : Option Session). length (commands_of session) ≤ 67108864) sessions → AllShort requests
   short party [] [] all few = tt
   short party [] (r ∷ requests) all few = absurd all
   short party (s ∷ sessions) [] all few = absurd all
-  short party (s ∷ sessions) (r ∷ requests) all few = (let is = count_of party s r all.0 in let one = few.0 in omega (arith, is, one), short (suc party) sessions requests all.1 few.1)
+  short party (s ∷ sessions) (r ∷ requests) all few = (let is = many_of may_give party s r all.0 in let one = few.0 in omega (arith, is, one), short (suc party) sessions requests all.1 few.1)
 
   pub all_short : (sessions : List (Option Session)) (requests : List (List Request)) → AreRequestsOfAll may_give 1 sessions requests → All (λ (session : Option Session). length (commands_of session) ≤ 67108864) sessions → AllShort requests
   all_short sessions requests all few = short 1 sessions requests all (recursion_from_All (λ (session : Option Session). length (commands_of session) ≤ 67108864) sessions few)

@@ -1,5 +1,5 @@
 -- One more turn of one of the parties.
-use Rattle.std.proofs.Common.{◌≡◌, ◌≢◌, ◌⊎◌, ℕ, suc, ◌+◌, Bool, true, false, cond, List, [], ◌∷◌, ◌++◌, length, map, drop, set, Option, Some, None, refl, sym, ap, subst, ◌∙◌, inl, inr}
+use Rattle.std.proofs.Common.{◌≡◌, ◌≢◌, ◌⊎◌, ℕ, ◌+◌, Bool, true, false, cond, List, [], ◌∷◌, ◌++◌, length, map, drop, set, Option, Some, None, refl, sym, ap, subst, ◌∙◌, inl, inr}
 use Rattle.std.specs.Prelude.{slice_get}
 use Rattle.std.proofs.lemmas.List.{length-set, map-append, map_push}
 use Rattle.depot_rows.specs.depot_model.Deeds.{Deed}
@@ -16,24 +16,19 @@ use Rattle.lock_machine.specs.Machine.{Commit, Finish, NoMemory, Party, State, W
 use Rattle.lock_machine.specs.Machine as machine
 use Rattle.lock_machine.specs.declared.stage.Stage.TheVariants.{Judged}
 use Rattle.lock_machine.proofs.Places.{some_is}
-use Rattle.session_loop.specs.Requests.{AreRequestsOfAll}
+use Rattle.run_parties.proofs.Counts.{count_at, session_at}
+use Rattle.run_parties.proofs.Making.{asked_count}
+use Rattle.run_parties.proofs.Naming.{IsOf, moment_is, named, number_is, party_is, placed_is}
+use Rattle.run_parties.proofs.Slots.{also_at, at_set, drop_next}
+use Rattle.run_parties.specs.Giving.{Got}
+use Rattle.run_parties.specs.Served.{session_counts}
 use Rattle.session_loop.specs.Taking.{place_by, placed_by}
 use Rattle.session_loop.specs.declared.reading.ReplicaScript.{ReplicaScript}
 use Rattle.session_loop.specs.declared.session.SessionRun.{SessionRun}
-use Rattle.session_turns.proofs.Counts.{count_at, session_at}
 use Rattle.session_turns.proofs.Events.{IsJudged, commit_after, commit_is, commit_left, committed, quiet_is, quiet_left, stopped_is}
-use Rattle.session_turns.proofs.Naming.{IsOf, moment_is, named, number_is, party_is, placed_is}
 use Rattle.session_turns.proofs.Orders.{IsNext, next_placed, next_unplaced, served_more}
-use Rattle.session_turns.proofs.Slots.{also_at, at_set, drop_next}
 use Rattle.session_turns.specs.Drawn.{ended}
-use Rattle.session_turns.specs.Running.{Got, IsUnderWay, left_after, unanswered}
-use Rattle.session_turns.specs.Served.{session_counts}
-
-pub asked_count : (may_give : ℕ → Type 0) (party : ℕ) (sessions : List (Option Session)) (requests : List (List Request)) → AreRequestsOfAll may_give party sessions requests → length requests ≡ length sessions
-asked_count may_give party [] [] all = refl
-asked_count may_give party [] (r ∷ requests) all = absurd all
-asked_count may_give party (s ∷ sessions) [] all = absurd all
-asked_count may_give party (s ∷ sessions) (r ∷ requests) all = ap suc (asked_count may_give (suc party) sessions requests all.1)
+use Rattle.session_turns.specs.Running.{IsUnderWay, left_after, unanswered}
 
 abbrev pub places_of : List Commit → List Placed
 places_of order = map (λ (c : Commit). c.place) order

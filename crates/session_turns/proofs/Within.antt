@@ -13,14 +13,15 @@ use Rattle.depot_rows.specs.depot_model.declared.order.Answer.{Answer}
 use Rattle.depot_rows.specs.depot_model.declared.order.Place.{Place}
 use Rattle.depot_rows.specs.depot_model.declared.request.Session.{Session}
 use Rattle.lock_machine.proofs.Places.{one_or_apart, set_here, set_there, some_is}
+use Rattle.run_parties.proofs.Counts.{count_at, counts_stay}
+use Rattle.run_parties.proofs.Slots.{at_set}
+use Rattle.run_parties.specs.Giving.{Got, text_of}
+use Rattle.run_parties.specs.Served.{AreServed, session_counts}
 use Rattle.session_loop.specs.declared.reading.ReplicaScript.{ReplicaScript}
 use Rattle.session_loop.specs.declared.session.SessionRun.{SessionRun}
-use Rattle.session_turns.proofs.Counts.{count_at, counts_stay}
 use Rattle.session_turns.proofs.Orders.{next_unplaced, served_more}
-use Rattle.session_turns.proofs.Slots.{at_set}
-use Rattle.session_turns.specs.Running.{AreWithin, Got, IsWithin}
-use Rattle.session_turns.specs.Served.{AreServed, session_counts}
-use Rattle.session_turns.specs.Answering.{AnswersNone, IsAnsweredAt, IsDoneAt, IsSameAt, StayFailed, has_left_at, has_more_at, left_count, reply_in, reply_of, text_of}
+use Rattle.session_turns.specs.Running.{AreWithin, IsWithin}
+use Rattle.session_turns.specs.Answering.{AnswersNone, IsAnsweredAt, IsDoneAt, IsSameAt, StayFailed, has_left_at, has_more_at, left_count, reply_in, reply_of}
 use Rattle.session_turns.specs.Going.{AreAtMost}
 
 -- ---- what a test says

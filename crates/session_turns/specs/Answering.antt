@@ -1,17 +1,15 @@
 -- Answers to the parties, whatever the depot. This project's own choice.
-use Rattle.std.specs.Prelude.{◌≡◌, ◌≤◌, ◌+◌, ◌-◌, nat_lt, ℕ, Bool, true, false, List, [], ◌∷◌, map, slice_get, slice_set, Option, Some, None, Result, Ok, Err, if◌then◌else◌}
+use Rattle.std.specs.Prelude.{◌≡◌, ◌≤◌, ◌+◌, ◌-◌, nat_lt, ℕ, Bool, true, false, List, map, slice_get, slice_set, Option, Some, None, Result, Ok, Err, if◌then◌else◌}
 use Rattle.std.specs.Option.{IsSomeAnd}
 use Rattle.outside_api.specs.Count.{HasRisen}
 use Rattle.depot_rows.specs.depot_model.Deeds.{Deed}
-use Rattle.depot_rows.specs.depot_model.Printed.{printed}
-use Rattle.depot_rows.specs.depot_model.Rows.{memory_row}
 use Rattle.depot_rows.specs.depot_model.declared.order.Answer.{Answer}
 use Rattle.depot_rows.specs.depot_model.declared.order.Place.{Place}
 use Rattle.depot_rows.specs.depot_model.declared.request.Session.{Session}
+use Rattle.run_parties.specs.Giving.{Got, text_of}
+use Rattle.run_parties.specs.Served.{AreServed}
 use Rattle.session_loop.specs.declared.reading.ReplicaScript.{ReplicaScript}
 use Rattle.session_loop.specs.declared.session.SessionRun.{SessionRun}
-use Rattle.session_turns.specs.Running.{Got}
-use Rattle.session_turns.specs.Served.{AreServed}
 
 -- ---- one command
 
@@ -30,11 +28,7 @@ abbrev pub left_count : Option SessionRun → Option ℕ → ℕ
 left_count (Some run) (Some total) = total - run.commands
 left_count _ _ = 0
 
--- what is given of a reply: the reply, or, where there is none, that of a command that found no memory
-abbrev pub text_of : {E : Type 0} → Result (List ℕ) E → ℕ → List ℕ
-text_of (Ok text) number = text
-text_of (Err error) number = printed (memory_row ∷ []) number
-
+-- the reply of an answer, if there is one, and what is given of it
 abbrev pub reply_in : {E : Type 0} → Result Answer E → Result (List ℕ) E
 reply_in (Ok answer) = Ok answer.reply
 reply_in (Err error) = Err error

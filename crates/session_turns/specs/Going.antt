@@ -1,5 +1,5 @@
 -- How far the replicas of a run are, between two turns. This project's own choice.
-use Rattle.std.specs.Prelude.{◌≡◌, ◌⊎◌, ◌≤◌, ◌+◌, nat_lt, if◌then◌else◌, ℕ, suc, Bool, true, false, List, [], ◌∷◌, length, map, get_or, slice_get, slice_set, Option, Some, None, Result}
+use Rattle.std.specs.Prelude.{◌≡◌, ◌||◌, ◌≤◌, ◌+◌, nat_lt, if◌then◌else◌, ℕ, Bool, true, false, List, length, map, get_or, slice_get, slice_set, Option, Some, None, Result}
 use Rattle.std.specs.List.{sum}
 use Rattle.outside_api.specs.Disk.{Files}
 use Rattle.depot_rows.specs.depot_model.Deeds.{Deed}
@@ -9,36 +9,19 @@ use Rattle.depot_rows.specs.depot_model.declared.request.Request.{Request}
 use Rattle.depot_rows.specs.depot_model.declared.request.Session.{Session}
 use Rattle.lock_core.specs.declared.machine.LockCore.{LockCore}
 use Rattle.lock_machine.specs.Turns.{turns_left}
-use Rattle.replica_turns.specs.Going.{HasGotTexts, IsFresh, IsGoing, IsTurned, is_lost, reply_text}
-use Rattle.replica_turns.specs.declared.party.Answered.{Answered}
-use Rattle.replica_turns.specs.declared.party.ReplicaParty.{ReplicaParty}
-use Rattle.replica_turns.specs.serial_depot.declared.depot.SerialDepot.{SerialDepot}
+use Rattle.run_parties.specs.Giving.{HasGiven}
+use Rattle.run_parties.specs.Replicas.{AreLost, HasBeenAt}
+use Rattle.run_parties.specs.replica_turns.Going.{IsTurned, is_lost, reply_text}
+use Rattle.run_parties.specs.replica_turns.declared.party.Answered.{Answered}
+use Rattle.run_parties.specs.replica_turns.declared.party.ReplicaParty.{ReplicaParty}
+use Rattle.run_parties.specs.serial_depot.declared.depot.SerialDepot.{SerialDepot}
 use Rattle.session_loop.specs.Asking.{AreWellFormed, replica_commands}
 use Rattle.session_loop.specs.declared.reading.ReplicaScript.{ReplicaScript}
 use Rattle.session_loop.specs.declared.session.SessionRun.{SessionRun}
 use Rattle.session_turns.specs.Answering.{IsAnsweredAt}
 use Rattle.session_turns.specs.Drawn.{Progress, left_after_turn}
-use Rattle.session_turns.specs.Replicas.{HasBeenAt, OneHasRisen}
 use Rattle.session_turns.specs.Taking.{IsRunning}
 use Rattle.session_turns.specs.declared.replicas.Replicas.{Replicas}
-
--- ---- at first
-
-abbrev pub left_in : Option ReplicaParty → List Request
-left_in None = []
-left_in (Some p) = p.left.items
-
--- the party of a replica's script has all its commands left
-abbrev pub IsFreshParty : (ℕ → Type 0) → ℕ → Option ReplicaScript → Option ReplicaParty → Type 0
-IsFreshParty may_give party None None = Unit {0}
-IsFreshParty may_give party (Some script) (Some p) = IsFresh may_give party script p × (length p.left.items ≡ length script.session.commands)
-IsFreshParty may_give party _ _ = ⊥
-
--- so has each of those that are numbered from a number on
-abbrev pub AreFresh : (ℕ → Type 0) → ℕ → List (Option ReplicaScript) → List (Option ReplicaParty) → Type 0
-AreFresh may_give party [] [] = Unit {0}
-AreFresh may_give party (script ∷ scripts) (p ∷ parties) = IsFreshParty may_give party script p × AreFresh may_give (suc party) scripts parties
-AreFresh may_give party _ _ = ⊥
 
 -- ---- between two turns
 
@@ -52,23 +35,17 @@ pub record IsLeft (script : ReplicaScript) (replicas : Replicas) (i : ℕ) (run 
   pub left : run.failed ≡ false → other ≡ length p.left.items
   pub total : run.failed ≡ false → run.commands + other ≡ length (replica_commands (Some script))
 
--- The sink has the replies of a replica to the commands that its run tells of.
-pub record HasGiven {D : Type 0} (HasBeen : SerialDepot D → Type 0) (seen may_leave : D → Files → Type 0) (may_give : ℕ → Type 0) (party : ℕ) (script : ReplicaScript) (p : ReplicaParty) (run : SessionRun) (lost : Bool) (before now : Option (List ℕ)) : Type 0 where
-  pub texts : List (List ℕ)
-  pub its_lost : Bool
-  pub told : its_lost ≡ true → lost ≡ true
-  pub count : length texts ≡ run.commands
-  pub going : IsGoing HasBeen seen may_leave may_give party script p texts its_lost
-  pub got : HasGotTexts run.failed texts before now
-
--- So has each replica's, where its commands are well-formed; and no other party has commands left as one.
+-- Each replica's sink has the replies to the commands that its run tells of, where its commands are well-formed; and no other party has commands left as one. A
+-- flag a party tells whether one of its replies is that of a failed disk.
 pub record AreFollowing {D : Type 0} (HasBeen : SerialDepot D → Type 0) (seen may_leave : D → Files → Type 0) (may_give : ℕ → Type 0) (scripts : List (Option ReplicaScript)) (replicas : Replicas) (runs : List SessionRun) (before now : List (Option (List ℕ))) : Type 0 where
   pub count : length replicas.others.items ≡ length scripts
   pub none : (i other : ℕ) → slice_get scripts i ≡ Some None → slice_get replicas.others.items i ≡ Some other → other ≡ 0
   pub left : (i : ℕ) (script : ReplicaScript) (run : SessionRun) → slice_get scripts i ≡ Some (Some script) → slice_get runs i ≡ Some run → IsLeft script replicas i run
+  pub flags : List Bool
+  pub told : AreLost scripts flags replicas.lost
   pub gave : (i : ℕ) (script : ReplicaScript) (run : SessionRun) (p : ReplicaParty) (given got : Option (List ℕ)) → slice_get scripts i ≡ Some (Some script) → slice_get runs i ≡ Some run
       → slice_get replicas.parties.items i ≡ Some (Some p) → slice_get before i ≡ Some given → slice_get now i ≡ Some got → AreWellFormed script.session.commands
-      → HasGiven HasBeen seen may_leave may_give (i + 1) script p run replicas.lost given got
+      → HasGiven HasBeen seen may_leave may_give (i + 1) script p run (get_or flags i false) given got
 
 -- The sessions are running, and the replicas are following.
 pub record AreGoing {D K : Type 0} (seen may_leave : D → Files → Type 0) (moment : D → ℕ) (left_since : D → ℕ → Files → Type 0) (given : K → Option (List ℕ)) (may_give : ℕ → Type 0) (sessions : List (Option Session)) (scripts : List (Option ReplicaScript)) (since : ℕ) (start : List Deed) (requests : List (List Request)) (before : List (Option (List ℕ))) (progress : Progress) (core : LockCore) (replicas : Replicas) (runs : List SessionRun) (sinks : List K) (depot : SerialDepot D) (order : List Place) : Type 0 where
@@ -86,8 +63,7 @@ pub record IsStepped {D : Type 0} (seen may_leave : D → Files → Type 0) (dep
   pub turned : IsTurned seen may_leave depot p next result
   pub left : length p.left.items ≡ length next.left.items + 1
   pub text_is : (number : ℕ) → text number ≡ reply_text result number
-  pub still : old.lost ≡ true → new.lost ≡ true
-  pub told : is_lost result ≡ true → new.lost ≡ true
+  pub lost_is : new.lost ≡ (old.lost || is_lost result)
 
 -- It took its turn: its sink got the text, and one command fewer is left to it, or none where the sink failed.
 pub record IsReplicaTurn {D K : Type 0} (seen may_leave : D → Files → Type 0) (given : K → Option (List ℕ)) (faults : K → ℕ) (depot : SerialDepot D) (at : ℕ) (p : ReplicaParty) (old new : Replicas) (old_runs new_runs : List SessionRun) (old_sinks new_sinks : List K) : Type 0 where
@@ -99,10 +75,6 @@ pub record IsReplicaTurn {D K : Type 0} (seen may_leave : D → Files → Type 0
   pub lost : new.lost ≡ mid.lost
   pub others : new.others.items ≡ slice_set old.others.items at (left_after_turn (get_or old.others.items at 0) failed)
   pub answered : IsAnsweredAt given faults at text old_runs new_runs old_sinks new_sinks failed
-
--- a replica was answered that a disk failed only where one was already, or a count rose
-abbrev pub HasLost : Bool → Bool → ℕ → ℕ → ℕ → ℕ → Type 0
-HasLost old new before now contents_before contents_now = new ≡ true → (old ≡ true) ⊎ OneHasRisen before now contents_before contents_now
 
 -- ---- how many there are
 

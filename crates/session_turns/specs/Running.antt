@@ -1,7 +1,6 @@
 -- How far the parties of a run are, between two turns. This project's own choice.
-use Rattle.std.specs.Prelude.{◌≡◌, ◌≤◌, ℕ, Bool, true, false, List, [], ◌∷◌, length, map, drop, slice_get, Option, Some, None, if◌then◌else◌}
+use Rattle.std.specs.Prelude.{◌≡◌, ◌≤◌, ℕ, true, List, [], ◌∷◌, length, map, drop, slice_get, Option, Some, None, if◌then◌else◌}
 use Rattle.outside_api.specs.Count.{HasRisen}
-use Rattle.outside_api.specs.Told.{extended}
 use Rattle.depot_rows.specs.depot_model.Deeds.{Deed}
 use Rattle.depot_rows.specs.depot_model.declared.order.Place.{Place}
 use Rattle.depot_rows.specs.depot_model.declared.request.Request.{Request}
@@ -10,11 +9,11 @@ use Rattle.depot_runs.specs.Run.{placed}
 use Rattle.lock_machine.specs.Machine.{Party, State, Work}
 use Rattle.lock_machine.specs.declared.stage.Stage.{Stage}
 use Rattle.lock_machine.specs.declared.stage.Stage.TheVariants.{Gathering, Judged, Committed}
+use Rattle.run_parties.specs.Asking.{fresh}
+use Rattle.run_parties.specs.Served.{AreApart, AreServed}
 use Rattle.session_loop.specs.Requests.{AreRequestsOfAll}
 use Rattle.session_loop.specs.declared.reading.ReplicaScript.{ReplicaScript}
 use Rattle.session_loop.specs.declared.session.SessionRun.{SessionRun}
-use Rattle.session_turns.specs.Served.{AreApart, AreServed}
-use Rattle.wire_text.specs.Giving.{GotFront}
 
 -- ---- what isn't answered yet
 
@@ -36,17 +35,7 @@ unanswered p = unanswered_by p.left p.work
 abbrev pub left_after : List Request → SessionRun → List Request
 left_after requests run = if run.failed then [] else drop run.commands requests
 
--- ---- the sinks
-
--- what a sink got of a reply: the whole, or, where it failed, a front that isn't the whole
-abbrev pub Got : Bool → List ℕ → Option (List ℕ) → Option (List ℕ) → Type 0
-Got false text before now = now ≡ extended before text
-Got true text before now = GotFront before now text
-
 -- before any command was taken
-abbrev pub fresh : SessionRun
-fresh = record { commands = 0; failed = false }
-
 abbrev pub fresh_runs : List ℕ → List SessionRun
 fresh_runs totals = map (λ total. fresh) totals
 

@@ -1,7 +1,6 @@
 -- The machine, the depot in files and the sinks between two turns, and what a turn does. This project's own choice.
 use Rattle.std.specs.Prelude.{◌≡◌, ℕ, Bool, List, [], map, All, Option, Result, Ok, Err, if◌then◌else◌}
 use Rattle.outside_api.specs.Disk.{Files}
-use Rattle.replica_turns.specs.command_core.declared.outcome.Outcome.{Outcome}
 use Rattle.depot_rows.specs.depot_model.Deeds.{Deed}
 use Rattle.depot_rows.specs.depot_model.declared.order.Answer.{Answer}
 use Rattle.depot_rows.specs.depot_model.declared.order.Place.{Place}
@@ -13,8 +12,9 @@ use Rattle.lock_core.specs.declared.machine.LockCore.{LockCore}
 use Rattle.lock_core.specs.declared.turn.Finish as code
 use Rattle.lock_core.specs.declared.turn.Finish.TheVariants as ends
 use Rattle.lock_machine.specs.Machine.{Finish, State}
-use Rattle.replica_turns.specs.serial_depot.Running.{HasRun}
-use Rattle.replica_turns.specs.serial_depot.declared.depot.SerialDepot.{SerialDepot}
+use Rattle.run_parties.specs.command_core.declared.outcome.Outcome.{Outcome}
+use Rattle.run_parties.specs.serial_depot.Running.{HasRun}
+use Rattle.run_parties.specs.serial_depot.declared.depot.SerialDepot.{SerialDepot}
 use Rattle.session_loop.specs.Asking.{AreWellFormed, commands_of}
 use Rattle.session_loop.specs.declared.reading.ReplicaScript.{ReplicaScript}
 use Rattle.session_loop.specs.declared.session.SessionRun.{SessionRun}

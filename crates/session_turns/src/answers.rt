@@ -1,17 +1,17 @@
 //! Answering a command of one of the parties.
 
-ghost use Rattle.std.specs.Prelude.{◌≡◌, ◌≢◌, ◌≤◌, ◌<◌, ℕ, List, Some, length, slice_get, true};
-ghost use Rattle.outside_api.specs.Count.{HasRisen};
+ghost use Rattle.std.specs.Prelude.{◌≡◌, ◌≢◌, ◌<◌, ℕ, List, Some, length, slice_get, true};
+ghost use Rattle.run_parties.specs.Giving.{text_of};
 ghost use Rattle.session_loop.specs.declared.session.SessionRun.{SessionRun as AnyRun};
-ghost use Rattle.session_turns.specs.Running.{AreWithin, Got};
-ghost use Rattle.session_turns.specs.Answering.{AnswersNone, AreDone, IsAnsweredAt, IsDoneAt, IsSameAt, has_left_at, has_more_at, reply_in, text_of};
+ghost use Rattle.session_turns.specs.Running.{AreWithin};
+ghost use Rattle.session_turns.specs.Answering.{AnswersNone, AreDone, IsAnsweredAt, IsDoneAt, IsSameAt, has_left_at, has_more_at, reply_in};
 
 use depot_rows::model::Answer;
 use depot_rows::paths::Text;
 use outside_api::{Clock, Sink};
+use run_parties::give;
 use session_loop::SessionRun;
 use std::alloc::AllocError;
-use wire_text::{give_all, give_memory};
 
 /// Whether a party has a command that isn't answered.
 pub(crate) fn has_more(runs: &[SessionRun], totals: &[u32], at: usize) -> bool
@@ -34,24 +34,6 @@ pub(crate) fn reply_in(answer: Result<Answer, AllocError>) -> Result<Text, Alloc
     match answer {
         Ok(answer) => Ok(answer.reply),
         Err(error) => Err(error),
-    }
-}
-
-/// Gives a reply, or, where there is none, that of a command that found no memory. Answers whether the sink has failed.
-fn give<K: Sink>(sink: &mut K, reply: Result<Text, AllocError>, number: u32) -> bool
-    ensures got { Got result (text_of reply number) (K.given sink.old) (K.given sink.new) }
-    ensures counts { K.faults sink.old ≤ K.faults sink.new }
-    ensures cause { result ≡ true → HasRisen (K.faults sink.old) (K.faults sink.new) }
-{
-    match reply {
-        Ok(text) => match give_all(sink, text.as_bytes()) {
-            Ok(()) => false,
-            Err(_) => true,
-        },
-        Err(_) => match give_memory(sink, number) {
-            Ok(()) => false,
-            Err(_) => true,
-        },
     }
 }
 

@@ -1,14 +1,12 @@
 //! What a run begins with.
 
-ghost use Rattle.std.specs.Prelude.{◌≡◌, ◌≤◌, ◌<◌, ◌^◌, length, map, All, IfOk};
+ghost use Rattle.std.specs.Prelude.{◌≡◌, ◌≤◌, length, map, All, IfOk};
+ghost use Rattle.run_parties.specs.Asking.{fresh};
 ghost use Rattle.session_loop.specs.Asking.{commands_of};
-ghost use Rattle.session_loop.specs.Requests.{AreRequestsOfAll};
 ghost use Rattle.session_turns.specs.Going.{AreBoundsOf, bound_of};
-ghost use Rattle.session_turns.specs.Running.{fresh};
 
-use depot_rows::model::{Request, Session};
-use outside_api::Clock;
-use session_loop::{SessionRun, session_requests};
+use depot_rows::model::Session;
+use session_loop::SessionRun;
 use std::alloc::{AllocError, Global};
 
 /// How many commands a session has.
@@ -69,24 +67,4 @@ pub(crate) fn fresh_runs(alloc: Global, totals: &[u32]) -> Result<Vec<SessionRun
         })?;
     }
     Ok(runs)
-}
-
-/// The requests of all sessions, whose parties are numbered from 1.
-pub(crate) fn all_requests<C: Clock>(
-    alloc: Global,
-    sessions: Vec<Option<Session>>,
-    clock: &C,
-) -> Result<Vec<Vec<Request>>, AllocError>
-    requires few_parties { length sessions.items < 2 ^ 32 }
-    requires few { All (λ session. length (commands_of session) ≤ 67108864) sessions.items }
-    ensures { IfOk result (λ requests. AreRequestsOfAll (C.may_give clock.now) 1 sessions.items (map (λ own. own.items) requests.items)) }
-{
-    let mut requests = Vec::new(alloc);
-    let mut party = 0;
-    for session in sessions {
-        party += 1;
-        let own = session_requests(alloc, party, session, clock)?;
-        requests.push(own)?;
-    }
-    Ok(requests)
 }

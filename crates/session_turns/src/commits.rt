@@ -5,14 +5,17 @@ ghost use Rattle.archive_file.specs.Archive.{disk_of as archive_disk_of};
 ghost use Rattle.depot_rows.specs.depot_model.Deeds.{Deed};
 ghost use Rattle.depot_rows.specs.depot_model.Places.{Placed};
 ghost use Rattle.depot_rows.specs.depot_model.declared.request.Request.{Request as AnyRequest};
-ghost use Rattle.replica_turns.specs.command_core.declared.outcome.Outcome.{Outcome as AnyOutcome};
 ghost use Rattle.disk_journal.specs.Stands.{disk_of};
 ghost use Rattle.lock_core.specs.Core.{IsReady, Shows};
 ghost use Rattle.lock_machine.specs.Machine.{State};
-ghost use Rattle.replica_turns.specs.serial_depot.Committing.{AreRowsAfter, IsOutcomeOf};
-ghost use Rattle.replica_turns.specs.serial_depot.Running.{CanTake, HasRun};
+ghost use Rattle.run_parties.specs.command_core.declared.outcome.Outcome.{Outcome as AnyOutcome};
+ghost use Rattle.run_parties.specs.replica_turns.Master.{IsMaster, Past};
+ghost use Rattle.run_parties.specs.serial_depot.Committing.{AreRowsAfter, IsOutcomeOf};
+ghost use Rattle.run_parties.specs.serial_depot.Growing.{Chronicle};
+ghost use Rattle.run_parties.specs.serial_depot.Running.{CanTake, HasRun};
 ghost use Rattle.session_loop.specs.Served.{AreCaused};
 ghost use Rattle.session_loop.specs.Taking.{Answers, IsProper, with_place};
+ghost use Rattle.session_turns.specs.Along.{GrowsTo};
 ghost use Rattle.session_turns.specs.Drawn.{ended};
 ghost use Rattle.session_turns.specs.Taking.{finish_for};
 ghost use Rattle.depot_rows.specs.table_changes.Changed.{changed_by, rows_of};
@@ -21,8 +24,8 @@ use depot_rows::model::{Answer, Place, Request};
 use depot_rows::tables::Tables;
 use lock_core::{Finish, LockCore};
 use outside_api::{Disk, Gate};
-use replica_turns::commands::Outcome;
-use replica_turns::depots::SerialDepot;
+use run_parties::commands::Outcome;
+use run_parties::depots::SerialDepot;
 use std::alloc::{AllocError, Global};
 
 /// The tables after the commit that a party has at hand, with room behind the order for its place.
@@ -64,6 +67,11 @@ fn place_with_room<D: Disk, G: Gate>(
     ensures nothing { (since : ℕ) (start : List Deed) (places : List Placed) → HasRun D.seen D.may_leave D.moment D.left_since depot.old since start places →
         OnErr result (HasRun D.seen D.may_leave D.moment D.left_since depot.new since start places) }
     ensures same_tables { OnErr result (depot.new.tables ≡ depot.old.tables) }
+    // A depot that replicas follow stays one.
+    ensures master { (past : Past) (since : ℕ) (start : List Deed) (places : List Placed) (c : Chronicle) → HasRun D.seen D.may_leave D.moment D.left_since depot.old since start places → IsProper request.now →
+        IsOutcomeOf (rows_of depot.old.tables) depot.old.tables.archive_end request.now outcome → rows_of changed ≡ changed_by (rows_of depot.old.tables) outcome.changes →
+        IsMaster D.seen D.may_leave past start places depot.old c → IfOk result (λ answer. GrowsTo D.seen D.may_leave past start (with_place places request.now answer) depot.new c) }
+    ensures same_master { (past : Past) (start : List Deed) (places : List Placed) (c : Chronicle) → IsMaster D.seen D.may_leave past start places depot.old c → OnErr result (IsMaster D.seen D.may_leave past start places depot.new c) }
     ensures order { IfOk result (λ answer. order.new.items ≡ order.old.items ++ answer.place ∷ []) }
     ensures same_order { OnErr result (order.new.items ≡ order.old.items) }
     ensures faults { AreCaused (D.faults (disk_of depot.old.journal)) (D.faults (disk_of depot.new.journal)) (D.faults (archive_disk_of depot.old.archive)) (D.faults (archive_disk_of depot.new.archive)) order.old.items order.new.items }
@@ -96,6 +104,10 @@ fn commit<D: Disk, G: Gate>(
     ensures nothing { (since : ℕ) (start : List Deed) (places : List Placed) → HasRun D.seen D.may_leave D.moment D.left_since depot.old since start places →
         OnErr result (HasRun D.seen D.may_leave D.moment D.left_since depot.new since start places) }
     ensures same_tables { OnErr result (depot.new.tables ≡ depot.old.tables) }
+    ensures master { (past : Past) (since : ℕ) (start : List Deed) (places : List Placed) (c : Chronicle) (s : State) (request : AnyRequest) → HasRun D.seen D.may_leave D.moment D.left_since depot.old since start places →
+        IsReady start s core.now party request outcome → rows_of core.now.tables ≡ rows_of depot.old.tables → core.now.tables.archive_end ≡ depot.old.tables.archive_end → IsProper request →
+        IsMaster D.seen D.may_leave past start places depot.old c → IfOk result (λ answer. GrowsTo D.seen D.may_leave past start (with_place places request answer) depot.new c) }
+    ensures same_master { (past : Past) (start : List Deed) (places : List Placed) (c : Chronicle) → IsMaster D.seen D.may_leave past start places depot.old c → OnErr result (IsMaster D.seen D.may_leave past start places depot.new c) }
     ensures order { IfOk result (λ answer. order.new.items ≡ order.old.items ++ answer.place ∷ []) }
     ensures same_order { OnErr result (order.new.items ≡ order.old.items) }
     ensures faults { AreCaused (D.faults (disk_of depot.old.journal)) (D.faults (disk_of depot.new.journal)) (D.faults (archive_disk_of depot.old.archive)) (D.faults (archive_disk_of depot.new.archive)) order.old.items order.new.items }
@@ -137,6 +149,10 @@ pub(crate) fn place_commit<D: Disk, G: Gate>(
     ensures nothing { (since : ℕ) (start : List Deed) (places : List Placed) → HasRun D.seen D.may_leave D.moment D.left_since depot.old since start places →
         OnErr result (HasRun D.seen D.may_leave D.moment D.left_since depot.new since start places) }
     ensures same_tables { OnErr result (depot.new.tables ≡ depot.old.tables) }
+    ensures master { (past : Past) (since : ℕ) (start : List Deed) (places : List Placed) (c : Chronicle) (s : State) (request : AnyRequest) (ready : AnyOutcome) → HasRun D.seen D.may_leave D.moment D.left_since depot.old since start places →
+        outcome ≡ Ok ready → IsReady start s core.now party request ready → rows_of core.now.tables ≡ rows_of depot.old.tables → core.now.tables.archive_end ≡ depot.old.tables.archive_end → IsProper request →
+        IsMaster D.seen D.may_leave past start places depot.old c → IfOk result (λ answer. GrowsTo D.seen D.may_leave past start (with_place places request answer) depot.new c) }
+    ensures same_master { (past : Past) (start : List Deed) (places : List Placed) (c : Chronicle) → IsMaster D.seen D.may_leave past start places depot.old c → OnErr result (IsMaster D.seen D.may_leave past start places depot.new c) }
     ensures order { IfOk result (λ answer. order.new.items ≡ order.old.items ++ answer.place ∷ []) }
     ensures same_order { OnErr result (order.new.items ≡ order.old.items) }
     ensures faults { AreCaused (D.faults (disk_of depot.old.journal)) (D.faults (disk_of depot.new.journal)) (D.faults (archive_disk_of depot.old.archive)) (D.faults (archive_disk_of depot.new.archive)) order.old.items order.new.items }

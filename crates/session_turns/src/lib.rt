@@ -11,6 +11,3 @@ mod run;
 mod turns;
 
 pub use run::{Ran, run_sessions};
-
-// What stands below, for the crates above.
-pub use replica_turns::depots;

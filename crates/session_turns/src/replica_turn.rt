@@ -5,16 +5,18 @@ ghost use Rattle.archive_file.specs.Archive.{disk_of as archive_disk_of};
 ghost use Rattle.depot_rows.specs.depot_model.Deeds.{Deed};
 ghost use Rattle.depot_rows.specs.depot_model.Places.{Placed};
 ghost use Rattle.disk_journal.specs.Stands.{disk_of};
-ghost use Rattle.replica_turns.specs.declared.party.ReplicaParty.{ReplicaParty};
-ghost use Rattle.replica_turns.specs.serial_depot.Running.{CanTake, HasRun};
+ghost use Rattle.run_parties.specs.Replicas.{HasLost};
+ghost use Rattle.run_parties.specs.replica_turns.declared.party.ReplicaParty.{ReplicaParty};
+ghost use Rattle.run_parties.specs.serial_depot.Growing.{Chronicle, HasGroups, KeepsStored};
+ghost use Rattle.run_parties.specs.serial_depot.Running.{CanTake, HasRun};
 ghost use Rattle.session_turns.specs.Answering.{has_more_at};
-ghost use Rattle.session_turns.specs.Going.{HasLost, IsReplicaTurn};
+ghost use Rattle.session_turns.specs.Going.{IsReplicaTurn};
 ghost use Rattle.session_turns.specs.Running.{AreWithin};
 
 use crate::answers::{answer_party, has_more};
 use crate::replicas::Replicas;
 use outside_api::{Disk, Sink};
-use replica_turns::depots::SerialDepot;
+use run_parties::depots::SerialDepot;
 use session_loop::SessionRun;
 use std::alloc::Global;
 
@@ -36,6 +38,8 @@ pub(crate) fn take_replica_turn<D: Disk, K: Sink>(
     ensures ran { (since : ℕ) (start : List Deed) (places : List Placed) → HasRun D.seen D.may_leave D.moment D.left_since depot.old since start places →
         HasRun D.seen D.may_leave D.moment D.left_since depot.new since start places }
     ensures tables { depot.new.tables ≡ depot.old.tables }
+    ensures groups { (c : Chronicle) → HasGroups D.seen D.may_leave depot.old.journal c → HasGroups D.seen D.may_leave depot.new.journal c }
+    ensures stored { KeepsStored D.may_leave depot.old.archive depot.new.archive }
     ensures turn { (p : ReplicaParty) → slice_get replicas.old.parties.items party ≡ Some (Some p) → 0 < length p.left.items → has_more_at (slice_get runs.old.items party) (slice_get bounds.now party) ≡ true →
         (result ≡ true) × IsReplicaTurn D.seen D.may_leave K.given K.faults depot.old party p replicas.old replicas.new runs.old.items runs.new.items sinks.old.items sinks.new.items }
     ensures within { (before : List K) → AreWithin K.faults bounds.now runs.old.items before sinks.old.items → AreWithin K.faults bounds.now runs.new.items before sinks.new.items }

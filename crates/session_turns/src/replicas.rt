@@ -6,17 +6,21 @@ ghost use Rattle.depot_rows.specs.depot_model.Deeds.{Deed};
 ghost use Rattle.depot_rows.specs.depot_model.Places.{Placed};
 ghost use Rattle.disk_journal.specs.Stands.{disk_of};
 ghost use Rattle.lock_core.specs.Drawing.{has_other};
-ghost use Rattle.replica_turns.specs.declared.party.ReplicaParty.{ReplicaParty as AnyParty};
-ghost use Rattle.replica_turns.specs.serial_depot.Running.{CanTake, HasRun};
+ghost use Rattle.run_parties.specs.Asking.{AreFresh, left_in};
+ghost use Rattle.run_parties.specs.Giving.{text_of};
+ghost use Rattle.run_parties.specs.Replicas.{HasLost};
+ghost use Rattle.run_parties.specs.replica_turns.declared.party.ReplicaParty.{ReplicaParty as AnyParty};
+ghost use Rattle.run_parties.specs.serial_depot.Growing.{Chronicle, HasGroups, KeepsStored};
+ghost use Rattle.run_parties.specs.serial_depot.Running.{CanTake, HasRun};
 ghost use Rattle.session_loop.specs.Asking.{replica_commands};
-ghost use Rattle.session_turns.specs.Answering.{text_of};
 ghost use Rattle.session_turns.specs.Drawn.{left_after_turn, replica_totals};
-ghost use Rattle.session_turns.specs.Going.{AreFresh, HasLost, IsFreshParty, IsStepped, left_in};
+ghost use Rattle.session_turns.specs.Going.{IsStepped};
 
 use depot_rows::paths::Text;
 use outside_api::{Clock, Disk};
-use replica_turns::depots::SerialDepot;
-use replica_turns::{Answered, ReplicaParty};
+use run_parties::depots::SerialDepot;
+use run_parties::followers::{Answered, ReplicaParty};
+use run_parties::replica_parties;
 use session_loop::ReplicaScript;
 use std::alloc::{AllocError, Global};
 
@@ -29,45 +33,6 @@ pub(crate) struct Replicas {
     pub(crate) others: Vec<u32>,
     /// Whether one was answered that a disk failed.
     pub(crate) lost: bool,
-}
-
-/// The replica of a script, if it has the head of one.
-fn replica_party<C: Clock>(
-    alloc: Global,
-    party: u32,
-    script: Option<ReplicaScript>,
-    clock: &C,
-) -> Result<Option<ReplicaParty>, AllocError>
-    requires { length (replica_commands script) ≤ 67108864 }
-    ensures { IfOk result (IsFreshParty (C.may_give clock.now) party script) }
-{
-    match script {
-        None => Ok(None),
-        Some(script) => match ReplicaParty::new(alloc, party, script, clock) {
-            Ok(replica) => Ok(Some(replica)),
-            Err(error) => Err(error),
-        },
-    }
-}
-
-/// The replicas of scripts, whose parties are numbered from 1.
-fn replica_parties<C: Clock>(
-    alloc: Global,
-    scripts: Vec<Option<ReplicaScript>>,
-    clock: &C,
-) -> Result<Vec<Option<ReplicaParty>>, AllocError>
-    requires few_parties { length scripts.items < 2 ^ 32 }
-    requires few { All (λ script. length (replica_commands script) ≤ 67108864) scripts.items }
-    ensures { IfOk result (λ parties. AreFresh (C.may_give clock.now) 1 scripts.items parties.items) }
-{
-    let mut parties = Vec::new(alloc);
-    let mut party = 0;
-    for script in scripts {
-        party += 1;
-        let replica = replica_party(alloc, party, script, clock)?;
-        parties.push(replica)?;
-    }
-    Ok(parties)
 }
 
 /// How many commands a party has left as a replica.
@@ -136,6 +101,8 @@ impl Replicas {
         ensures ran { (since : ℕ) (start : List Deed) (places : List Placed) → HasRun D.seen D.may_leave D.moment D.left_since depot.old since start places →
             HasRun D.seen D.may_leave D.moment D.left_since depot.new since start places }
         ensures tables { depot.new.tables ≡ depot.old.tables }
+        ensures groups { (c : Chronicle) → HasGroups D.seen D.may_leave depot.old.journal c → HasGroups D.seen D.may_leave depot.new.journal c }
+        ensures stored { KeepsStored D.may_leave depot.old.archive depot.new.archive }
         ensures others { self.new.others ≡ self.old.others }
         ensures stepped { (p : AnyParty) → slice_get self.old.parties.items at ≡ Some (Some p) → 0 < length p.left.items → IsStepped D.seen D.may_leave depot.old at p self.old self.new (text_of result) }
         ensures never_falls { D.faults (disk_of depot.old.journal) ≤ D.faults (disk_of depot.new.journal) }

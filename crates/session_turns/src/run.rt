@@ -5,21 +5,24 @@ ghost use Rattle.archive_file.specs.Archive.{disk_of as archive_disk_of};
 ghost use Rattle.depot_rows.specs.depot_model.Deeds.{Deed};
 ghost use Rattle.depot_runs.specs.Run.{placed};
 ghost use Rattle.disk_journal.specs.Stands.{disk_of};
-ghost use Rattle.replica_turns.specs.serial_depot.Running.{CanTake, HasRun};
+ghost use Rattle.run_parties.specs.Replicas.{AreReplicasServed, AreReplicasTold, OneHasRisen};
+ghost use Rattle.run_parties.specs.Served.{AreApart, AreEnds, AreServed};
+ghost use Rattle.run_parties.specs.replica_turns.Master.{IsMaster, Past};
+ghost use Rattle.run_parties.specs.serial_depot.Growing.{Chronicle};
+ghost use Rattle.run_parties.specs.serial_depot.Running.{CanTake, HasRun};
 ghost use Rattle.session_loop.specs.Asking.{AreWellFormed, commands_of, replica_commands};
 ghost use Rattle.session_loop.specs.Served.{AreCaused};
 ghost use Rattle.session_turns.specs.Drawn.{IsDrawn};
-ghost use Rattle.session_turns.specs.Replicas.{AreReplicasServed, OneHasRisen};
-ghost use Rattle.session_turns.specs.Served.{AreApart, AreEnds, AreServed};
 
 use crate::answers::answer_rest;
-use crate::beginning::{all_requests, bounds_of, fresh_runs, totals_of};
+use crate::beginning::{bounds_of, fresh_runs, totals_of};
 use crate::replicas::Replicas;
 use crate::turns::take_turns;
 use depot_rows::model::{Place, Session};
 use lock_core::{LockCore, share_tables};
 use outside_api::{Clock, Disk, Gate, Sink};
-use replica_turns::depots::SerialDepot;
+use run_parties::all_requests;
+use run_parties::depots::SerialDepot;
 use session_loop::{ReplicaScript, SessionRun};
 use std::alloc::{AllocError, Global};
 
@@ -65,6 +68,11 @@ pub fn run_sessions<D: Disk, K: Sink, C: Clock, G: Gate>(
         IfOk result (λ ran. AreServed (C.may_give clock.now) sessions.items replicas.items start ran.runs.items (map K.given sinks.old.items) (map K.given sinks.new.items) order.new.items) }
     ensures replicas { (since : ℕ) (start : List Deed) → All (λ session. AreWellFormed (commands_of session)) sessions.items → All (λ script. AreWellFormed (replica_commands script)) replicas.items → HasRun D.seen D.may_leave D.moment D.left_since depot.old since start [] →
         IfOk result (λ ran. AreReplicasServed D.seen D.may_leave D.moment D.left_since (C.may_give clock.now) sessions.items replicas.items since start order.new.items ran.runs.items ran.lost (map K.given sinks.old.items) (map K.given sinks.new.items)) }
+    // Along a depot that they follow the replies of replicas are, but for those to `pull`, those of the depot after its first changes, as many as the last
+    // `pull` told, cut to their filters.
+    ensures told { (past : Past) (since : ℕ) (start : List Deed) (c : Chronicle) → All (λ session. AreWellFormed (commands_of session)) sessions.items → All (λ script. AreWellFormed (replica_commands script)) replicas.items →
+        HasRun D.seen D.may_leave D.moment D.left_since depot.old since start [] → IsMaster D.seen D.may_leave past start [] depot.old c →
+        IfOk result (λ ran. AreReplicasTold past start sessions.items replicas.items (C.may_give clock.now) order.new.items ran.runs.items (map K.given sinks.old.items) (map K.given sinks.new.items)) }
     ensures ran { (since : ℕ) (start : List Deed) → All (λ session. AreWellFormed (commands_of session)) sessions.items → HasRun D.seen D.may_leave D.moment D.left_since depot.old since start [] →
         IfOk result (λ ran. HasRun D.seen D.may_leave D.moment D.left_since depot.new since start (map (placed sessions.items) order.new.items)) }
     // The order is that of the machine with the turns that the seed draws.

@@ -8,12 +8,17 @@ ghost use Rattle.depot_rows.specs.depot_model.declared.request.Session.{Session}
 ghost use Rattle.disk_journal.specs.Stands.{disk_of};
 ghost use Rattle.lock_core.specs.Drawing.{may_go_on};
 ghost use Rattle.lock_machine.specs.Machine.{State, is_enabled};
-ghost use Rattle.replica_turns.specs.serial_depot.Running.{CanTake};
+ghost use Rattle.depot_runs.specs.Run.{placed};
+ghost use Rattle.run_parties.specs.Replicas.{HasLost};
+ghost use Rattle.run_parties.specs.replica_turns.Master.{IsMaster, Past};
+ghost use Rattle.run_parties.specs.serial_depot.Growing.{Chronicle};
+ghost use Rattle.run_parties.specs.serial_depot.Running.{CanTake};
 ghost use Rattle.session_loop.specs.Served.{AreCaused};
 ghost use Rattle.session_loop.specs.declared.reading.ReplicaScript.{ReplicaScript};
+ghost use Rattle.session_turns.specs.Along.{AreAlong, GrowsTo};
 ghost use Rattle.session_turns.specs.Answering.{IsSameAt};
 ghost use Rattle.session_turns.specs.Drawn.{Progress};
-ghost use Rattle.session_turns.specs.Going.{AreAtMost, AreBounded, AreGoing, HasLost, all_left};
+ghost use Rattle.session_turns.specs.Going.{AreAtMost, AreBounded, AreGoing, all_left};
 ghost use Rattle.session_turns.specs.Running.{AreWithin};
 ghost use Rattle.session_turns.specs.Taking.{Advances, IsAtHand, IsRunning, TakesTurn, TakesTurns};
 
@@ -24,8 +29,8 @@ use crate::replicas::Replicas;
 use depot_rows::model::Place;
 use lock_core::{LockCore, Turn};
 use outside_api::{Clock, Disk, Gate, Sink};
-use replica_turns::commands::Outcome;
-use replica_turns::depots::SerialDepot;
+use run_parties::commands::Outcome;
+use run_parties::depots::SerialDepot;
 use seeded_numbers::Draw;
 use session_loop::SessionRun;
 use std::alloc::{AllocError, Global};
@@ -54,6 +59,11 @@ fn make_commit<D: Disk, K: Sink, C: Clock, G: Gate>(
         map (λ own. length own) requests ≡ totals.now → is_enabled s party ≡ true → IsAtHand start s core.old party outcome →
         (result ≡ true) × TakesTurn s party runs.old.items runs.new.items (λ t.
         IsRunning D.seen D.may_leave D.moment D.left_since K.given (C.may_give clock.now) sessions scripts since start requests before t core.new runs.new.items sinks.new.items depot.new order.new.items) }
+    // A depot that replicas follow stays one.
+    ensures master { (sessions : List (Option Session)) (scripts : List (Option ReplicaScript)) (since : ℕ) (start : List Deed) (requests : List (List Request)) (before : List (Option (List ℕ))) (s : State) →
+        IsRunning D.seen D.may_leave D.moment D.left_since K.given (C.may_give clock.now) sessions scripts since start requests before s core.old runs.old.items sinks.old.items depot.old order.old.items →
+        map (λ own. length own) requests ≡ totals.now → is_enabled s party ≡ true → IsAtHand start s core.old party outcome → (past : Past) (c : Chronicle) →
+        IsMaster D.seen D.may_leave past start (map (placed sessions) order.old.items) depot.old c → GrowsTo D.seen D.may_leave past start (map (placed sessions) order.new.items) depot.new c }
     ensures within { (bounds : List ℕ) (before : List K) → AreAtMost totals.now bounds → AreWithin K.faults bounds runs.old.items before sinks.old.items → AreWithin K.faults bounds runs.new.items before sinks.new.items }
     ensures grown { (more : List Place) × (order.new.items ≡ order.old.items ++ more) }
     ensures others { (j : ℕ) → slice_get totals.now j ≡ Some 0 → IsSameAt j runs.old.items runs.new.items sinks.old.items sinks.new.items }
@@ -93,6 +103,10 @@ fn take_turn<D: Disk, K: Sink, C: Clock, G: Gate>(
         map (λ own. length own) requests ≡ totals.now → is_enabled s party ≡ true →
         (result ≡ true) × TakesTurn s party runs.old.items runs.new.items (λ t.
         IsRunning D.seen D.may_leave D.moment D.left_since K.given (C.may_give clock.now) sessions scripts since start requests before t core.new runs.new.items sinks.new.items depot.new order.new.items) }
+    ensures master { (sessions : List (Option Session)) (scripts : List (Option ReplicaScript)) (since : ℕ) (start : List Deed) (requests : List (List Request)) (before : List (Option (List ℕ))) (s : State) →
+        IsRunning D.seen D.may_leave D.moment D.left_since K.given (C.may_give clock.now) sessions scripts since start requests before s core.old runs.old.items sinks.old.items depot.old order.old.items →
+        map (λ own. length own) requests ≡ totals.now → is_enabled s party ≡ true → (past : Past) (c : Chronicle) →
+        IsMaster D.seen D.may_leave past start (map (placed sessions) order.old.items) depot.old c → GrowsTo D.seen D.may_leave past start (map (placed sessions) order.new.items) depot.new c }
     ensures within { (bounds : List ℕ) (before : List K) → AreAtMost totals.now bounds → AreWithin K.faults bounds runs.old.items before sinks.old.items → AreWithin K.faults bounds runs.new.items before sinks.new.items }
     ensures grown { (more : List Place) × (order.new.items ≡ order.old.items ++ more) }
     ensures others { (j : ℕ) → slice_get totals.now j ≡ Some 0 → IsSameAt j runs.old.items runs.new.items sinks.old.items sinks.new.items }
@@ -154,6 +168,12 @@ fn advance<D: Disk, K: Sink, C: Clock, G: Gate>(
         map (λ own. length own) requests ≡ totals.now → AreBounded scripts totals.now bounds.now → may_go_on p.machine p.others party ≡ true →
         (result ≡ true) × Advances p party runs.old.items runs.new.items (λ q.
         AreGoing D.seen D.may_leave D.moment D.left_since K.given (C.may_give clock.now) sessions scripts since start requests before q core.new replicas.new runs.new.items sinks.new.items depot.new order.new.items) }
+    // The replicas go on along a depot that they follow.
+    ensures along { (sessions : List (Option Session)) (scripts : List (Option ReplicaScript)) (since : ℕ) (start : List Deed) (requests : List (List Request)) (before : List (Option (List ℕ))) (p : Progress) →
+        AreGoing D.seen D.may_leave D.moment D.left_since K.given (C.may_give clock.now) sessions scripts since start requests before p core.old replicas.old runs.old.items sinks.old.items depot.old order.old.items →
+        map (λ own. length own) requests ≡ totals.now → AreBounded scripts totals.now bounds.now → may_go_on p.machine p.others party ≡ true → (past : Past) →
+        AreAlong D.seen D.may_leave past start sessions scripts (C.may_give clock.now) order.old.items replicas.old runs.old.items before (map K.given sinks.old.items) depot.old →
+        AreAlong D.seen D.may_leave past start sessions scripts (C.may_give clock.now) order.new.items replicas.new runs.new.items before (map K.given sinks.new.items) depot.new }
     ensures within { (before : List K) → AreAtMost totals.now bounds.now → AreWithin K.faults bounds.now runs.old.items before sinks.old.items → AreWithin K.faults bounds.now runs.new.items before sinks.new.items }
     ensures faults { AreCaused (D.faults (disk_of depot.old.journal)) (D.faults (disk_of depot.new.journal)) (D.faults (archive_disk_of depot.old.archive)) (D.faults (archive_disk_of depot.new.archive)) order.old.items order.new.items }
     ensures lost { HasLost replicas.old.lost replicas.new.lost (D.faults (disk_of depot.old.journal)) (D.faults (disk_of depot.new.journal)) (D.faults (archive_disk_of depot.old.archive)) (D.faults (archive_disk_of depot.new.archive)) }
@@ -191,6 +211,11 @@ pub(crate) fn take_turns<D: Disk, K: Sink, C: Clock, G: Gate>(
         map (λ own. length own) requests ≡ totals.now → AreBounded scripts totals.now bounds.now → length sessions < 2 ^ 32 → all_left p < 2 ^ 64 →
         TakesTurns seed p runs.new.items (λ q.
         AreGoing D.seen D.may_leave D.moment D.left_since K.given (C.may_give clock.now) sessions scripts since start requests before q core.new replicas.new runs.new.items sinks.new.items depot.new order.new.items) }
+    ensures along { (sessions : List (Option Session)) (scripts : List (Option ReplicaScript)) (since : ℕ) (start : List Deed) (requests : List (List Request)) (before : List (Option (List ℕ))) (p : Progress) →
+        AreGoing D.seen D.may_leave D.moment D.left_since K.given (C.may_give clock.now) sessions scripts since start requests before p core.old replicas.old runs.old.items sinks.old.items depot.old order.old.items →
+        map (λ own. length own) requests ≡ totals.now → AreBounded scripts totals.now bounds.now → length sessions < 2 ^ 32 → all_left p < 2 ^ 64 → (past : Past) →
+        AreAlong D.seen D.may_leave past start sessions scripts (C.may_give clock.now) order.old.items replicas.old runs.old.items before (map K.given sinks.old.items) depot.old →
+        AreAlong D.seen D.may_leave past start sessions scripts (C.may_give clock.now) order.new.items replicas.new runs.new.items before (map K.given sinks.new.items) depot.new }
     ensures within { (before : List K) → AreAtMost totals.now bounds.now → AreWithin K.faults bounds.now runs.old.items before sinks.old.items → AreWithin K.faults bounds.now runs.new.items before sinks.new.items }
     ensures faults { AreCaused (D.faults (disk_of depot.old.journal)) (D.faults (disk_of depot.new.journal)) (D.faults (archive_disk_of depot.old.archive)) (D.faults (archive_disk_of depot.new.archive)) order.old.items order.new.items }
     ensures lost { HasLost replicas.old.lost replicas.new.lost (D.faults (disk_of depot.old.journal)) (D.faults (disk_of depot.new.journal)) (D.faults (archive_disk_of depot.old.archive)) (D.faults (archive_disk_of depot.new.archive)) }

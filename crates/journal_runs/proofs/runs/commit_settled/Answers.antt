@@ -41,3 +41,9 @@ returns-clause-any_moment g c = λ was doubt stands.
     let first = weaker g.D.Disk.moment g.D.Disk.left_since c.args.journal.now.disk c.settle.new.self.disk (HasWithOrWithout was doubt) P (λ f has. inl has) (c.settle.ensures.any_moment was doubt stands) in
     let second = weaker g.D.Disk.moment g.D.Disk.left_since c.settle.new.self.disk c.commit.new.self.disk (HasEither was (with_group was (group_of c.args.prepared))) P (λ f has. inr has) (c.commit.ensures.any_moment was (c.in_ok-settle.ensures.ok was doubt stands)) in
     then g.D.Disk.moment g.D.Disk.left_since c.args.journal.now.disk c.settle.new.self.disk c.commit.new.self.disk P first second
+
+pub returns-in_err-receipt-clause-keeps : goal.returns-in_err-receipt-clause-keeps
+returns-in_err-receipt-clause-keeps g c = λ older keeps. c.commit.ensures.keeps older (c.settle.ensures.keeps older keeps)
+
+pub returns-clause-keeps : goal.returns-clause-keeps
+returns-clause-keeps g c = λ older keeps. c.commit.ensures.keeps older (c.settle.ensures.keeps older keeps)

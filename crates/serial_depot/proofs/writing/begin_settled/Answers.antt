@@ -63,3 +63,15 @@ returns-in-Err-clause-cause g c =
     let le = c.settle.ensures.cause.never_falls in
     let more = c.write_generation.ensures.never_falls in
     record { never_falls = omega (arith, le, more); risen = omega (arith, le, risen) }
+
+-- ---- the generations before
+
+pub returns-in-Ok-clause-closes : goal.returns-in-Ok-clause-closes
+returns-in-Ok-clause-closes g c = λ was doubt older stands keeps.
+    c.in-Ok.ensures.closes was older (c.in_ok-settle.ensures.ok was doubt stands) (c.settle.ensures.keeps older keeps)
+
+pub returns-in-Err-clause-keeps : goal.returns-in-Err-clause-keeps
+returns-in-Err-clause-keeps g c = λ older keeps is_err. c.in-Err.ensures.keeps older (c.settle.ensures.keeps older keeps) refl
+
+pub returns-in_err-settle-clause-keeps : goal.returns-in_err-settle-clause-keeps
+returns-in_err-settle-clause-keeps g c = λ older keeps is_err. c.settle.ensures.keeps older keeps

@@ -1,7 +1,8 @@
-use Rattle.std.proofs.Common.{◌≡◌, ◌+◌, ℕ, Bool, sym, subst}
+use Rattle.std.proofs.Common.{◌≡◌, ◌+◌, ℕ, Bool, refl, sym, ap, subst}
 use Rattle.checkpoint_file.specs.Checkpoint.{IsCheckpointOf}
-use Rattle.disk_journal.specs.Stands.{generation_of_journal, next_number}
+use Rattle.disk_journal.specs.Stands.{generation_of_journal, group, next_number}
 use Rattle.depot_rows.specs.table_changes.Changed.{rows_of}
+use Rattle.serial_depot.specs.Growing.{IsWritten}
 use Rattle.serial_depot.specs.Writing.{IsWritingOf, left_by}
 use Rattle.serial_depot.specs.declared.writing.Writing.TheVariants.{Group, Generation}
 use Rattle.serial_depot.proofs.Writings.{writes_generation, writes_group}
@@ -19,3 +20,13 @@ returns-clause-writes g c = λ rows fit rows_are is_group.
     subst P (sym c.if-not-opens.false)
     (writes_generation rows (rows_of c.args.changed.now) (next_number c.args.journal.now) (generation_of_journal c.args.journal.now) c.args.changes.now rows_are c.in_ok-text.text is_group.0
     (λ texts. subst (λ (n : ℕ). IsCheckpointOf (n + 1) (rows_of c.args.changed.now) c.in_ok-text.text) c.generation-generation.ensures (c.in_ok-text.ensures.checkpoint texts)))
+
+pub returns-then-not-opens-clause-written : goal.returns-then-not-opens-clause-written
+returns-then-not-opens-clause-written g c =
+    let P : Bool → Type 0 = λ opens. IsWritten (next_number c.args.journal.now) opens (left_by (Group c.in_ok-prepared.prepared)) c.args.changes.now in
+    subst P (sym c.if-not-opens.true) (ap group c.in_ok-prepared.ensures.group)
+
+pub returns-clause-written : goal.returns-clause-written
+returns-clause-written g c =
+    let P : Bool → Type 0 = λ opens. IsWritten (next_number c.args.journal.now) opens (left_by (Generation c.in_ok-text.text)) c.args.changes.now in
+    subst P (sym c.if-not-opens.false) (c.in_ok-text.text, refl)

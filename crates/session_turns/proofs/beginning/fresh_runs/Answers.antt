@@ -1,7 +1,7 @@
 use Rattle.std.proofs.Common.{ℕ, List, [], ◌∷◌, ◌++◌, map, take, get_or, sym, ap, ◌∙◌}
 use Rattle.std.proofs.lemmas.List.{map_push, take_more}
+use Rattle.run_parties.specs.Asking.{fresh}
 use Rattle.session_loop.specs.declared.session.SessionRun.{SessionRun}
-use Rattle.session_turns.specs.Running.{fresh}
 use Rattle.session_turns.proofs.beginning.fresh_runs.Goals as goal
 
 pub loop-total-preserved : goal.loop-total-preserved

@@ -1,5 +1,5 @@
 use Rattle.std.proofs.Common.{◌≡◌, map, take}
-use Rattle.session_turns.specs.Running.{fresh}
+use Rattle.run_parties.specs.Asking.{fresh}
 use Rattle.session_turns.proofs.beginning.fresh_runs.Given as goal
 
 -- one for each so far

@@ -6,11 +6,12 @@ use Rattle.depot_rows.specs.depot_model.declared.order.Place.{Place}
 use Rattle.depot_rows.specs.depot_model.declared.request.Request.{Request}
 use Rattle.disk_journal.specs.Stands.{disk_of}
 use Rattle.lock_machine.proofs.Places.{some_is}
+use Rattle.run_parties.specs.serial_depot.Committing.{IsOutcomeOf}
+use Rattle.run_parties.specs.serial_depot.Running.{HasRun}
 use Rattle.session_loop.proofs.Faults.{caused_same}
 use Rattle.session_loop.specs.Served.{AreCaused}
 use Rattle.session_loop.specs.Taking.{Answers, IsProper, with_place}
-use Rattle.replica_turns.specs.serial_depot.Committing.{IsOutcomeOf}
-use Rattle.replica_turns.specs.serial_depot.Running.{HasRun}
+use Rattle.session_turns.specs.Along.{GrowsTo}
 use Rattle.session_turns.proofs.Committing.{outcome_of}
 use Rattle.depot_rows.specs.table_changes.Changed.{AllRows, changed_by, rows_of}
 use Rattle.session_turns.proofs.commits.commit.Goals as goal
@@ -37,6 +38,18 @@ returns-in-Ok-clause-answers g c = λ since start places s request h ready rows 
     let asked : c.in-Some.request.now ≡ request = some_is (sym (ap option_copied c.in-Some.is) ∙ c.request.ensures start s request ready.commit) in
     let is : Asks request = outcome_of start s core c.args.party request outcome depot ready rows end in
     subst Told asked (c.place_with_room.ensures.answers since start places h (subst Asks (sym asked) is))
+
+pub returns-in-Ok-clause-master : goal.returns-in-Ok-clause-master
+returns-in-Ok-clause-master g c = λ past since start places all s request h ready rows end proper master.
+    let core = c.args.core.now in
+    let depot = c.args.depot.now in
+    let outcome = c.args.outcome in
+    let Asks : Request → Type 0 = λ r. IsOutcomeOf (rows_of depot.tables) depot.tables.archive_end r outcome in
+    let Grows : Request → Type 0 = λ r. IfOk c.place_with_room.result (λ (answer : Answer). GrowsTo g.D.Disk.seen g.D.Disk.may_leave past start (with_place places r answer) c.place_with_room.new.depot all) in
+    let asked : c.in-Some.request.now ≡ request = some_is (sym (ap option_copied c.in-Some.is) ∙ c.request.ensures start s request ready.commit) in
+    let is : Asks request = outcome_of start s core c.args.party request outcome depot ready rows end in
+    let changed = c.in-Ok.ensures.rows start s request outcome ready ∙ ap (λ (all : AllRows). changed_by all outcome.changes) rows in
+    subst Grows asked (c.place_with_room.ensures.master past since start places all h (subst IsProper (sym asked) proper) (subst Asks (sym asked) is) changed master)
 
 pub returns-in-Ok-clause-rows : goal.returns-in-Ok-clause-rows
 returns-in-Ok-clause-rows g c = λ start s request ready rows.

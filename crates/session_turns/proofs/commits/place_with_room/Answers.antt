@@ -1,10 +1,17 @@
-use Rattle.std.proofs.Common.{◌≡◌, ◌⊎◌, ◌∷◌, ◌++◌, [], true, List, refl, sym, subst}
+use Rattle.std.proofs.Common.{◌≡◌, ◌⊎◌, ◌∷◌, ◌++◌, [], true, List, refl, sym, ap, subst}
 use Rattle.archive_file.specs.Archive.{disk_of as archive_disk_of}
 use Rattle.depot_rows.specs.depot_model.declared.order.Place.{Place}
 use Rattle.disk_journal.specs.Stands.{disk_of}
 use Rattle.outside_api.specs.Count.{HasRisen}
+use Rattle.depot_rows.specs.depot_model.Places.{taken}
+use Rattle.depot_runs.specs.Today.{step}
+use Rattle.disk_journal.specs.declared.journal.Journal.{Journal}
+use Rattle.run_parties.proofs.replica_turns.Masters.{place_master, texts_grow, unmoved_master}
+use Rattle.run_parties.specs.serial_depot.Growing.{HasGroups, grown}
+use Rattle.run_parties.specs.serial_depot.Opening.{opens_generation}
 use Rattle.session_loop.proofs.Faults.{caused_once, caused_same}
 use Rattle.session_loop.specs.Served.{AreCaused}
+use Rattle.depot_rows.specs.table_changes.Changed.{rows_of}
 use Rattle.session_turns.proofs.Ending.{on_error}
 use Rattle.session_turns.proofs.commits.place_with_room.Goals as goal
 
@@ -30,3 +37,25 @@ returns-clause-faults g c =
     let Caused : List Place → Type 0 = AreCaused before now contents_before contents_now old_order in
     subst Caused (sym more)
     (caused_once before now contents_before contents_now old_order place place.fault refl c.place_outcome.ensures.never_falls c.place_outcome.ensures.never_falls_contents risen)
+
+-- ---- a depot that replicas follow
+
+pub returns-in_err-answer-clause-same_master : goal.returns-in_err-answer-clause-same_master
+returns-in_err-answer-clause-same_master g c = λ past start places all master.
+    let new = c.place_outcome.new.self in
+    let Groups : Journal g.row.D.Denot → Type 0 = λ journal. HasGroups g.D.Disk.seen g.D.Disk.may_leave journal all in
+    on_error c.from_residual.result
+    (unmoved_master g.D.Disk.seen g.D.Disk.may_leave past start places c.args.depot.now new all master c.place_outcome.ensures.stored (ap rows_of c.in_err-answer.ensures.same_tables)
+    (subst Groups (sym c.in_err-answer.ensures.same_journal) master.groups))
+
+pub returns-clause-master : goal.returns-clause-master
+returns-clause-master g c = λ past since start places all h proper is changed master.
+    let request = c.args.request.now in
+    let answer = c.in_ok-answer.answer in
+    let new = c.place_outcome.new.self in
+    let current = taken step start places in (
+      grown (opens_generation request) answer.place.fault c.args.outcome.changes all,
+      place_master g.D.Disk.seen g.D.Disk.may_leave g.D.Disk.moment g.D.Disk.left_since past start places c.args.depot.now new all master since h c.place_outcome.ensures.stored request c.args.outcome (is current h.stand)
+          answer.place.fault (c.in_ok-answer.ensures.ran since start places h proper is changed) (c.in_ok-answer.ensures.rows changed) (c.in_ok-answer.ensures.grows current all h.stand proper is master.groups),
+      texts_grow (opens_generation request) answer.place.fault c.args.outcome.changes all,
+    )

@@ -1,8 +1,9 @@
 use Rattle.std.proofs.Common.{◌≡◌, List, true, false, refl, sym, ap, ◌∙◌, arith, inl}
 use Rattle.std.specs.Prelude.{get_or, slice_get, slice_set}
+use Rattle.run_parties.specs.Giving.{text_of}
 use Rattle.session_loop.specs.declared.session.SessionRun.{SessionRun}
 use Rattle.session_turns.proofs.Within.{as_many_more, more_there, within_more}
-use Rattle.session_turns.specs.Answering.{has_more_at, text_of}
+use Rattle.session_turns.specs.Answering.{has_more_at}
 use Rattle.session_turns.specs.Drawn.{left_after_turn}
 use Rattle.session_turns.proofs.replica_turn.take_replica_turn.Goals as goal
 

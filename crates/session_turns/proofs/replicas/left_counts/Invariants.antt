@@ -1,5 +1,5 @@
 use Rattle.std.proofs.Common.{◌≡◌, length, map, take}
-use Rattle.session_turns.specs.Going.{left_in}
+use Rattle.run_parties.specs.Asking.{left_in}
 use Rattle.session_turns.proofs.replicas.left_counts.Given as goal
 
 -- those so far

@@ -7,12 +7,19 @@ use Rattle.depot_rows.specs.depot_model.declared.request.Request.{Request}
 use Rattle.depot_rows.specs.depot_model.declared.request.Session.{Session}
 use Rattle.disk_journal.specs.Stands.{disk_of}
 use Rattle.lock_machine.specs.Runs.{beginning}
+use Rattle.run_parties.proofs.Making.{asked_count}
+use Rattle.run_parties.specs.Asking.{fresh}
+use Rattle.run_parties.specs.Replicas.{HasBeenAt}
+use Rattle.run_parties.specs.Served.{total_of}
+use Rattle.run_parties.specs.replica_turns.Master.{IsMaster}
 use Rattle.session_loop.proofs.Faults.{caused_same}
 use Rattle.session_loop.specs.Asking.{commands_of, replica_commands}
 use Rattle.session_loop.specs.Served.{AreCaused}
 use Rattle.session_loop.specs.declared.reading.ReplicaScript.{ReplicaScript}
 use Rattle.session_loop.specs.declared.session.SessionRun.{SessionRun}
-use Rattle.session_turns.proofs.Answered.{replicas_served}
+use Rattle.depot_rows.specs.depot_model.Places.{Placed}
+use Rattle.depot_runs.specs.Run.{placed}
+use Rattle.session_turns.proofs.Answered.{replicas_served, replicas_told}
 use Rattle.session_turns.proofs.Bounds.{at_most, bounded, bounds_are, session_totals}
 use Rattle.session_turns.proofs.Drawing.{all_replica_count, beginning_count}
 use Rattle.session_turns.proofs.Ending.{ends_are, on_error, within_none}
@@ -21,13 +28,12 @@ use Rattle.session_turns.proofs.Losing.{not_before}
 use Rattle.session_turns.proofs.Opening.{begins}
 use Rattle.session_turns.proofs.Rounds.{all_stay}
 use Rattle.session_turns.proofs.Starting.{all_short, counts_are}
-use Rattle.session_turns.proofs.Turning.{asked_count}
+use Rattle.session_turns.proofs.Telling.{along_begins}
+use Rattle.session_turns.specs.Along.{AreAlong}
 use Rattle.session_turns.specs.Answering.{IsDoneAt, IsSameAt}
 use Rattle.session_turns.specs.Drawn.{Progress, replica_totals}
 use Rattle.session_turns.specs.Going.{AreAtMost, AreBounded, AreBoundsOf, AreFollowing}
-use Rattle.session_turns.specs.Replicas.{HasBeenAt}
-use Rattle.session_turns.specs.Running.{AreWithin, fresh, fresh_runs}
-use Rattle.session_turns.specs.Served.{total_of}
+use Rattle.session_turns.specs.Running.{AreWithin, fresh_runs}
 use Rattle.depot_rows.specs.table_changes.Changed.{rows_of}
 use Rattle.depot_rows.specs.table_store.declared.tables.Tables.{Tables}
 use Rattle.session_turns.proofs.run.run_sessions.Goals as goal
@@ -53,7 +59,7 @@ returns-clause-served g c = λ since start formed h.
     c.in_ok-tables.tables c.in_ok-core.core formed asked count c.requires.as_many_replicas c.requires.apart runs_are c.requires.no_places (c.in_ok-tables.ensures.rows ∙ ap rows_of c.tables.ensures) (c.in_ok-tables.ensures.end ∙ ap (λ (t : Tables). t.archive_end) c.tables.ensures) c.in_ok-core.ensures.tables c.in_ok-core.ensures.shows h in
     let Followed : List SessionRun → Type 0 = λ rs. AreFollowing (HasBeenAt g.D.Disk.seen g.D.Disk.may_leave g.D.Disk.moment g.D.Disk.left_since sessions since start c.args.order.now.items) g.D.Disk.seen g.D.Disk.may_leave may_give scripts replicas rs (map given c.args.sinks.now.items) (map given c.args.sinks.now.items) in
     let following = subst Followed (sym runs_are) (following_first (HasBeenAt g.D.Disk.seen g.D.Disk.may_leave g.D.Disk.moment g.D.Disk.left_since sessions since start c.args.order.now.items) g.D.Disk.seen g.D.Disk.may_leave may_give scripts replicas bounds (map given c.args.sinks.now.items)
-    c.in_ok-replicas.ensures.fresh c.in_ok-replicas.ensures.others) in
+    c.in_ok-replicas.ensures.fresh c.in_ok-replicas.ensures.others c.in_ok-replicas.ensures.lost) in
     let progress : Progress = record { machine = beginning requests; others = replica_totals scripts } in
     let most = beginning_count requests (all_short may_give sessions requests asked c.requires.few) in
     let most_others = all_replica_count scripts c.requires.few_replicas in
@@ -86,7 +92,7 @@ returns-clause-replicas g c = λ since start formed well_formed h.
     c.in_ok-tables.tables c.in_ok-core.core formed asked count c.requires.as_many_replicas c.requires.apart runs_are c.requires.no_places (c.in_ok-tables.ensures.rows ∙ ap rows_of c.tables.ensures) (c.in_ok-tables.ensures.end ∙ ap (λ (t : Tables). t.archive_end) c.tables.ensures) c.in_ok-core.ensures.tables c.in_ok-core.ensures.shows h in
     let Followed : List SessionRun → Type 0 = λ rs. AreFollowing (HasBeenAt g.D.Disk.seen g.D.Disk.may_leave g.D.Disk.moment g.D.Disk.left_since sessions since start c.args.order.now.items) g.D.Disk.seen g.D.Disk.may_leave may_give scripts replicas rs (map given c.args.sinks.now.items) (map given c.args.sinks.now.items) in
     let following = subst Followed (sym runs_are) (following_first (HasBeenAt g.D.Disk.seen g.D.Disk.may_leave g.D.Disk.moment g.D.Disk.left_since sessions since start c.args.order.now.items) g.D.Disk.seen g.D.Disk.may_leave may_give scripts replicas bounds (map given c.args.sinks.now.items)
-    c.in_ok-replicas.ensures.fresh c.in_ok-replicas.ensures.others) in
+    c.in_ok-replicas.ensures.fresh c.in_ok-replicas.ensures.others c.in_ok-replicas.ensures.lost) in
     let progress : Progress = record { machine = beginning requests; others = replica_totals scripts } in
     let most = beginning_count requests (all_short may_give sessions requests asked c.requires.few) in
     let most_others = all_replica_count scripts c.requires.few_replicas in
@@ -99,6 +105,49 @@ returns-clause-replicas g c = λ since start formed well_formed h.
     let Same : List ℕ → Type 0 = λ bs. (i : ℕ) → IsDoneAt c.take_turns.new.runs.items bs i → IsSameAt i c.take_turns.new.runs.items c.answer_rest.new.runs.items c.take_turns.new.sinks.items c.answer_rest.new.sinks.items in
     replicas_served g.D.Disk.seen g.D.Disk.may_leave g.D.Disk.moment g.D.Disk.left_since given may_give sessions scripts since start requests (map given c.args.sinks.now.items) taken.end c.take_turns.new.core c.take_turns.new.replicas
     c.take_turns.new.runs.items c.take_turns.new.sinks.items c.take_turns.new.depot c.take_turns.new.order.items taken.is_then taken.done well_formed totals bounds bound_all c.answer_rest.new.runs.items c.answer_rest.new.sinks.items
+    (subst Same c.deref-7.ensures.value c.answer_rest.ensures.same)
+
+pub returns-clause-told : goal.returns-clause-told
+returns-clause-told g c = λ past since start all formed well_formed h master.
+    let given = g.K.Sink.given in
+    let may_give = g.C.Clock.may_give c.args.clock.now in
+    let sessions = c.args.sessions.items in
+    let scripts = c.args.replicas.items in
+    let requests = map (λ (own : Vec Request Global). own.items) c.in_ok-requests.requests.items in
+    let totals = c.in_ok-totals.totals.items in
+    let bounds = c.in_ok-bounds.bounds.items in
+    let replicas = c.in_ok-replicas.replicas in
+    let totals_are : totals ≡ session_totals sessions = c.in_ok-totals.ensures ∙ ap session_totals c.deref.ensures.value in
+    let are : AreBoundsOf totals replicas.others.items bounds = (λ i total other at_total at_other.
+    c.in_ok-bounds.ensures.each i total other (ap (λ (ts : List ℕ). slice_get ts i) c.deref-2.ensures.value ∙ at_total) (ap (λ (os : List ℕ). slice_get os i) c.deref-3.ensures.value ∙ at_other)) in
+    let asked = c.in_ok-requests.ensures in
+    let count : length bounds ≡ length sessions = c.in_ok-bounds.ensures.count ∙ (ap (length {A = ℕ}) (c.deref-2.ensures.value ∙ totals_are) ∙ length-map sessions (λ (session : Option Session). length (commands_of session))) in
+    let runs_are : c.in_ok-runs.runs.items ≡ fresh_runs bounds = c.in_ok-runs.ensures ∙ ap fresh_runs c.deref-4.ensures.value in
+    let bound_all = bounded sessions scripts totals replicas.others.items bounds totals_are c.in_ok-replicas.ensures.others are c.requires.apart in
+    let running = begins g.D.Disk.seen g.D.Disk.may_leave g.D.Disk.moment g.D.Disk.left_since given may_give sessions scripts since start requests bounds c.in_ok-runs.runs.items c.args.sinks.now.items c.args.depot.now c.args.order.now.items
+    c.in_ok-tables.tables c.in_ok-core.core formed asked count c.requires.as_many_replicas c.requires.apart runs_are c.requires.no_places (c.in_ok-tables.ensures.rows ∙ ap rows_of c.tables.ensures) (c.in_ok-tables.ensures.end ∙ ap (λ (t : Tables). t.archive_end) c.tables.ensures) c.in_ok-core.ensures.tables c.in_ok-core.ensures.shows h in
+    let Followed : List SessionRun → Type 0 = λ rs. AreFollowing (HasBeenAt g.D.Disk.seen g.D.Disk.may_leave g.D.Disk.moment g.D.Disk.left_since sessions since start c.args.order.now.items) g.D.Disk.seen g.D.Disk.may_leave may_give scripts replicas rs (map given c.args.sinks.now.items) (map given c.args.sinks.now.items) in
+    let following = subst Followed (sym runs_are) (following_first (HasBeenAt g.D.Disk.seen g.D.Disk.may_leave g.D.Disk.moment g.D.Disk.left_since sessions since start c.args.order.now.items) g.D.Disk.seen g.D.Disk.may_leave may_give scripts replicas bounds (map given c.args.sinks.now.items)
+    c.in_ok-replicas.ensures.fresh c.in_ok-replicas.ensures.others c.in_ok-replicas.ensures.lost) in
+    let progress : Progress = record { machine = beginning requests; others = replica_totals scripts } in
+    let most = beginning_count requests (all_short may_give sessions requests asked c.requires.few) in
+    let most_others = all_replica_count scripts c.requires.few_replicas in
+    let many = asked_count may_give 1 sessions requests asked in
+    let many_scripts = c.requires.as_many_replicas in
+    let few = c.requires.few_parties in
+    let Bounded : List ℕ → List ℕ → Type 0 = λ ts bs. AreBounded scripts ts bs in
+    let taken = c.take_turns.ensures.turns sessions scripts since start requests (map given c.args.sinks.now.items) progress (record { running = running; others = sym c.in_ok-replicas.ensures.others; following = following })
+    (counts_are may_give 1 sessions requests asked ∙ (sym totals_are ∙ sym c.deref-5.ensures.value)) (subst (λ (ts : List ℕ). Bounded ts c.deref-6.result.now) (sym c.deref-5.ensures.value) (subst (Bounded totals) (sym c.deref-6.ensures.value) bound_all)) few (omega (arith, most, most_others, many, many_scripts, few)) in
+    let before = map given c.args.sinks.now.items in
+    let Master : List Placed → Type 0 = λ ps. IsMaster g.D.Disk.seen g.D.Disk.may_leave past start ps c.args.depot.now all in
+    let At : List SessionRun → Type 0 = λ rs. AreAlong g.D.Disk.seen g.D.Disk.may_leave past start sessions scripts may_give c.args.order.now.items replicas rs before before c.args.depot.now in
+    let first = subst At (sym runs_are) (along_begins g.D.Disk.seen g.D.Disk.may_leave past start sessions scripts may_give c.args.order.now.items replicas bounds before c.args.depot.now all c.in_ok-replicas.ensures.fresh
+    (subst Master (sym (ap (map (placed sessions)) c.requires.no_places)) master)) in
+    let last = c.take_turns.ensures.along sessions scripts since start requests before progress (record { running = running; others = sym c.in_ok-replicas.ensures.others; following = following })
+    (counts_are may_give 1 sessions requests asked ∙ (sym totals_are ∙ sym c.deref-5.ensures.value)) (subst (λ (ts : List ℕ). Bounded ts c.deref-6.result.now) (sym c.deref-5.ensures.value) (subst (Bounded totals) (sym c.deref-6.ensures.value) bound_all)) few (omega (arith, most, most_others, many, many_scripts, few)) past first in
+    let Same : List ℕ → Type 0 = λ bs. (i : ℕ) → IsDoneAt c.take_turns.new.runs.items bs i → IsSameAt i c.take_turns.new.runs.items c.answer_rest.new.runs.items c.take_turns.new.sinks.items c.answer_rest.new.sinks.items in
+    replicas_told g.D.Disk.seen g.D.Disk.may_leave g.D.Disk.moment g.D.Disk.left_since given may_give sessions scripts since start requests (map given c.args.sinks.now.items) taken.end c.take_turns.new.core c.take_turns.new.replicas
+    c.take_turns.new.runs.items c.take_turns.new.sinks.items c.take_turns.new.depot c.take_turns.new.order.items taken.is_then taken.done past last well_formed totals bounds bound_all c.answer_rest.new.runs.items c.answer_rest.new.sinks.items
     (subst Same c.deref-7.ensures.value c.answer_rest.ensures.same)
 
 pub returns-clause-ran : goal.returns-clause-ran
@@ -122,7 +171,7 @@ returns-clause-ran g c = λ since start formed h.
     c.in_ok-tables.tables c.in_ok-core.core formed asked count c.requires.as_many_replicas c.requires.apart runs_are c.requires.no_places (c.in_ok-tables.ensures.rows ∙ ap rows_of c.tables.ensures) (c.in_ok-tables.ensures.end ∙ ap (λ (t : Tables). t.archive_end) c.tables.ensures) c.in_ok-core.ensures.tables c.in_ok-core.ensures.shows h in
     let Followed : List SessionRun → Type 0 = λ rs. AreFollowing (HasBeenAt g.D.Disk.seen g.D.Disk.may_leave g.D.Disk.moment g.D.Disk.left_since sessions since start c.args.order.now.items) g.D.Disk.seen g.D.Disk.may_leave may_give scripts replicas rs (map given c.args.sinks.now.items) (map given c.args.sinks.now.items) in
     let following = subst Followed (sym runs_are) (following_first (HasBeenAt g.D.Disk.seen g.D.Disk.may_leave g.D.Disk.moment g.D.Disk.left_since sessions since start c.args.order.now.items) g.D.Disk.seen g.D.Disk.may_leave may_give scripts replicas bounds (map given c.args.sinks.now.items)
-    c.in_ok-replicas.ensures.fresh c.in_ok-replicas.ensures.others) in
+    c.in_ok-replicas.ensures.fresh c.in_ok-replicas.ensures.others c.in_ok-replicas.ensures.lost) in
     let progress : Progress = record { machine = beginning requests; others = replica_totals scripts } in
     let most = beginning_count requests (all_short may_give sessions requests asked c.requires.few) in
     let most_others = all_replica_count scripts c.requires.few_replicas in
@@ -155,7 +204,7 @@ returns-clause-drawn g c = λ since start formed h.
     c.in_ok-tables.tables c.in_ok-core.core formed asked count c.requires.as_many_replicas c.requires.apart runs_are c.requires.no_places (c.in_ok-tables.ensures.rows ∙ ap rows_of c.tables.ensures) (c.in_ok-tables.ensures.end ∙ ap (λ (t : Tables). t.archive_end) c.tables.ensures) c.in_ok-core.ensures.tables c.in_ok-core.ensures.shows h in
     let Followed : List SessionRun → Type 0 = λ rs. AreFollowing (HasBeenAt g.D.Disk.seen g.D.Disk.may_leave g.D.Disk.moment g.D.Disk.left_since sessions since start c.args.order.now.items) g.D.Disk.seen g.D.Disk.may_leave may_give scripts replicas rs (map given c.args.sinks.now.items) (map given c.args.sinks.now.items) in
     let following = subst Followed (sym runs_are) (following_first (HasBeenAt g.D.Disk.seen g.D.Disk.may_leave g.D.Disk.moment g.D.Disk.left_since sessions since start c.args.order.now.items) g.D.Disk.seen g.D.Disk.may_leave may_give scripts replicas bounds (map given c.args.sinks.now.items)
-    c.in_ok-replicas.ensures.fresh c.in_ok-replicas.ensures.others) in
+    c.in_ok-replicas.ensures.fresh c.in_ok-replicas.ensures.others c.in_ok-replicas.ensures.lost) in
     let progress : Progress = record { machine = beginning requests; others = replica_totals scripts } in
     let most = beginning_count requests (all_short may_give sessions requests asked c.requires.few) in
     let most_others = all_replica_count scripts c.requires.few_replicas in

@@ -1,11 +1,13 @@
-use Rattle.std.proofs.Common.{◌≡◌, List, [], true, false, refl, sym, ap, subst, ◌∙◌, arith, append-nil}
-use Rattle.std.specs.Prelude.{slice_get}
+use Rattle.std.proofs.Common.{◌≡◌, List, [], true, false, inl, refl, sym, ap, subst, ◌∙◌, arith, append-nil}
+use Rattle.std.specs.Prelude.{map, slice_get}
+use Rattle.depot_runs.specs.Run.{placed}
 use Rattle.archive_file.specs.Archive.{disk_of as archive_disk_of}
 use Rattle.disk_journal.specs.Stands.{disk_of}
 use Rattle.lock_core.specs.Finished.{Finishes}
 use Rattle.lock_core.specs.declared.turn.Finish.{Finish}
 use Rattle.session_loop.proofs.Faults.{caused_same}
 use Rattle.session_loop.specs.declared.session.SessionRun.{SessionRun}
+use Rattle.session_turns.proofs.Mastering.{made_master}
 use Rattle.session_turns.proofs.Made.{grown_by, hand_more, made}
 use Rattle.session_turns.proofs.Within.{as_many_more, more_there, more_wider, others_none, reply_answered, within_more}
 use Rattle.session_turns.specs.Answering.{has_more_at}
@@ -106,3 +108,19 @@ returns-then-not-has_more-clause-faults g c =
 
 pub returns-clause-faults : goal.returns-clause-faults
 returns-clause-faults g c = c.place_commit-answer.ensures.faults
+
+-- ---- a depot that replicas follow
+
+pub returns-then-not-has_more-clause-master : goal.returns-then-not-has_more-clause-master
+returns-then-not-has_more-clause-master g c = λ sessions scripts since start requests before s r totals enabled hand past all master. (all, master, inl refl)
+
+pub returns-clause-master : goal.returns-clause-master
+returns-clause-master g c = λ sessions scripts since start requests before s r totals enabled hand past all master.
+    let at = c.args.party in
+    let place = c.place_commit-answer in
+    let places = map (placed sessions) c.args.order.now.items in
+    made_master g.D.Disk.seen g.D.Disk.may_leave g.D.Disk.moment g.D.Disk.left_since g.K.Sink.given (g.C.Clock.may_give c.args.clock.now) sessions scripts since start requests before s c.args.core.now c.args.runs.now.items
+    c.args.sinks.now.items c.args.depot.now c.args.order.now.items r at past all place.new.depot place.new.order.items c.args.outcome place.result hand master
+    (λ request ready ran is_ok is_ready rows end proper m. place.ensures.master past since start places all s request ready ran is_ok is_ready rows end proper m)
+    (λ request ready ran is_ok is_ready rows end. place.ensures.answers since start places s request ready ran is_ok is_ready rows end)
+    place.ensures.ready (λ m. place.ensures.same_master past start places all m) place.ensures.order place.ensures.same_order

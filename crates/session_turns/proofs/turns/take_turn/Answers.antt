@@ -1,4 +1,4 @@
-use Rattle.std.proofs.Common.{[], refl, sym, subst, arith, append-nil}
+use Rattle.std.proofs.Common.{[], inl, refl, sym, subst, arith, append-nil}
 use Rattle.lock_core.specs.Core.{IsTurn}
 use Rattle.lock_core.specs.declared.turn.Turn.{Turn}
 use Rattle.session_loop.proofs.Faults.{caused_same}
@@ -85,3 +85,26 @@ returns-in-Ok-Ready-clause-others g c = c.make_commit.ensures.others
 
 pub returns-in-Err-clause-others : goal.returns-in-Err-clause-others
 returns-in-Err-clause-others g c = c.make_commit-in-Err.ensures.others
+
+pub returns-in-Ok-Idle-clause-master : goal.returns-in-Ok-Idle-clause-master
+returns-in-Ok-Idle-clause-master g c = λ sessions scripts since start requests before s r totals enabled past all master. (all, master, inl refl)
+
+pub returns-in-Ok-Moved-clause-master : goal.returns-in-Ok-Moved-clause-master
+returns-in-Ok-Moved-clause-master g c = λ sessions scripts since start requests before s r totals enabled past all master. (all, master, inl refl)
+
+pub returns-in-Ok-Ready-clause-master : goal.returns-in-Ok-Ready-clause-master
+returns-in-Ok-Ready-clause-master g c = λ sessions scripts since start requests before s r totals enabled past all master.
+    let Did : Turn → Type 0 = IsTurn start s c.args.core.now c.turn.new.self c.args.party in
+    let did = subst Did c.in-Ok-Ready.field-0-is (c.in-Ok-Ready.ensures.turn start s r.shows) in
+    let hand = did.0 in
+    let same = same_machine g.D.Disk.seen g.D.Disk.may_leave g.D.Disk.moment g.D.Disk.left_since g.K.Sink.given (g.C.Clock.may_give c.args.clock.now) sessions scripts since start requests before s c.args.core.now c.args.runs.now.items
+    c.args.sinks.now.items c.args.depot.now c.args.order.now.items r c.turn.new.self hand.1.commit.shows did.1 in
+    c.make_commit.ensures.master sessions scripts since start requests before s same totals enabled hand past all master
+
+pub returns-in-Err-clause-master : goal.returns-in-Err-clause-master
+returns-in-Err-clause-master g c = λ sessions scripts since start requests before s r totals enabled past all master.
+    let hand = c.in-Err.ensures.commit start s r.shows in
+    let as_before = c.in-Err.ensures.same in
+    let same = same_machine g.D.Disk.seen g.D.Disk.may_leave g.D.Disk.moment g.D.Disk.left_since g.K.Sink.given (g.C.Clock.may_give c.args.clock.now) sessions scripts since start requests before s c.args.core.now c.args.runs.now.items
+    c.args.sinks.now.items c.args.depot.now c.args.order.now.items r c.turn.new.self hand.1.shows as_before.0 in
+    c.make_commit-in-Err.ensures.master sessions scripts since start requests before s same totals enabled hand past all master

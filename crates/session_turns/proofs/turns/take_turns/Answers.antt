@@ -15,6 +15,7 @@ turns-init g c = record {
   as_many = c.requires.as_many;
   so_far = λ sessions scripts since start requests before p r totals bounded few bound.
       none_so_far c.args.seed p c.args.runs.now.items _ c.new-draw.result 18446744073709551615 (sym c.new-draw.ensures) r (omega (arith, bound));
+  along = λ sessions scripts since start requests before p r totals bounded few bound past along. along;
   within = λ before most h. h;
   lost = λ is. inl is;
   faults = caused_same _ _ _ _ c.args.order.now.items c.args.order.now.items refl (omega arith) (omega arith);
@@ -37,6 +38,14 @@ turns-preserved g c =
           let may = chosen_going was.progress (value_of (next_number at.draw)) party (sym chose) in
           let takes = c.advance.ensures.turn sessions scripts since start requests before was.progress was.is_then totals bounded may in
           one_more c.args.seed p at.runs.items c.advance.new.runs.items _ _ at.draw at.turns _ c.next.new.self party was c.next.ensures.number chose (let more = c.turns-test.true in omega (arith, more)) takes.1;
+      along = λ sessions scripts since start requests before p r totals bounded few bound past along.
+          let was = at.invariant.so_far sessions scripts since start requests before p r totals bounded few bound in
+          let count = was.is_then.running.under_way.count in
+          let others = was.is_then.others ∙ sym c.deref.ensures.value in
+          let drawn = c.drawn.ensures start was.progress.machine was.is_then.running.shows (omega (arith, count, few)) in
+          let chose : Some party ≡ chosen (going was.progress) (value_of (next_number at.draw)) = sym c.in-Some.is ∙ (drawn ∙ (λ k. chosen (going_parties was.progress.machine (sym others k)) (value k))) in
+          let may = chosen_going was.progress (value_of (next_number at.draw)) party (sym chose) in
+          c.advance.ensures.along sessions scripts since start requests before was.progress was.is_then totals bounded may past (at.invariant.along sessions scripts since start requests before p r totals bounded few bound past along);
       within = λ before most h. c.advance.ensures.within before most (at.invariant.within before most h);
       lost = lost_more _ _ _ _ _ _ _ _ _ c.args.order.now.items at.order.items c.advance.new.order.items at.invariant.faults c.advance.ensures.faults at.invariant.lost c.advance.ensures.lost;
       faults = caused_more _ _ _ _ _ _ c.args.order.now.items at.order.items c.advance.new.order.items at.invariant.faults c.advance.ensures.faults;
@@ -102,3 +111,26 @@ returns-clause-lost g c = c.turns.invariant.lost
 
 pub returns-then-not-advance-clause-lost : goal.returns-then-not-advance-clause-lost
 returns-then-not-advance-clause-lost g c = lost_more _ _ _ _ _ _ _ _ _ c.args.order.now.items c.turns.order.items c.advance.new.order.items c.turns.invariant.faults c.advance.ensures.faults c.turns.invariant.lost c.advance.ensures.lost
+
+-- ---- along the depot that the replicas follow
+
+pub returns-in_default-clause-along : goal.returns-in_default-clause-along
+returns-in_default-clause-along g c = λ sessions scripts since start requests before p r totals bounded few bound past along.
+    c.turns.invariant.along sessions scripts since start requests before p r totals bounded few bound past along
+
+pub returns-clause-along : goal.returns-clause-along
+returns-clause-along g c = λ sessions scripts since start requests before p r totals bounded few bound past along.
+    c.turns.invariant.along sessions scripts since start requests before p r totals bounded few bound past along
+
+pub returns-then-not-advance-clause-along : goal.returns-then-not-advance-clause-along
+returns-then-not-advance-clause-along g c = λ sessions scripts since start requests before p r totals bounded few bound past along.
+    let at = c.turns in
+    let party = c.in-Some.party in
+    let value = c.next.ensures.value in
+    let was = at.invariant.so_far sessions scripts since start requests before p r totals bounded few bound in
+    let count = was.is_then.running.under_way.count in
+    let others = was.is_then.others ∙ sym c.deref.ensures.value in
+    let drawn = c.drawn.ensures start was.progress.machine was.is_then.running.shows (omega (arith, count, few)) in
+    let chose : Some party ≡ chosen (going was.progress) (value_of (next_number at.draw)) = sym c.in-Some.is ∙ (drawn ∙ (λ k. chosen (going_parties was.progress.machine (sym others k)) (value k))) in
+    let may = chosen_going was.progress (value_of (next_number at.draw)) party (sym chose) in
+    c.advance.ensures.along sessions scripts since start requests before was.progress was.is_then totals bounded may past (at.invariant.along sessions scripts since start requests before p r totals bounded few bound past along)

@@ -5,6 +5,7 @@ use Rattle.disk_journal.specs.Images.{HasCommitted, HasEither, with_generation, 
 use Rattle.disk_journal.specs.Stands.{nothing, opening}
 use Rattle.disk_journal.proofs.Images.{rest_holds}
 use Rattle.disk_journal.proofs.Opening.{opening_holds}
+use Rattle.disk_journal.proofs.Keeping.{older_closed, older_kept, tells_two}
 use Rattle.disk_journal.proofs.Standing.{standing, first_file, second_file, both_files, root_torn, root_opened, opening_room, next_mark}
 use Rattle.disk_journal.proofs.Runs.{IsApart, Keeps, KeepsAlways, kept_one, kept_two, always_call, always_one, always_two}
 use Rattle.disk_journal.proofs.journal.Journal.begin_generation.Goals as goal
@@ -169,3 +170,19 @@ returns-clause-closed g c = λ was stands image left.
     let first : (f : Files) → g.D.Disk.may_leave c.write_at.new.self f → IsAtRest was f = λ f there. first_file g.D.Disk.seen g.D.Disk.may_leave g.met.D.Disk.reads_an_image c.args.self.now was stands c.checkpoint_file.result (length c.args.checkpoint.now) f (omega (arith, c.checkpoint_file.ensures)) (c.write_at.ensures.crash f there) in
     let both : (f : Files) → g.D.Disk.may_leave c.write_through.new.disk f → IsOpening was c.args.checkpoint.now f = λ f there. both_files g.D.Disk.seen g.D.Disk.may_leave g.met.D.Disk.reads_an_image c.args.self.now was stands c.write_at.new.self first c.args.checkpoint.now c.checkpoint_file.result c.journal_file.result (omega (arith, c.checkpoint_file.ensures)) (omega (arith, c.journal_file.ensures)) c.requires.below c.in_ok-write_at.ensures.written.from f (c.in_ok-write_through.ensures.durable f there) in
     next_mark g.D.Disk.seen g.D.Disk.may_leave g.met.D.Disk.reads_an_image c.args.self.now was stands c.args.checkpoint.now c.write_through.new.disk both image (c.in_ok-write_through-2.ensures.durable image left)
+
+pub returns-in_err-write_at-clause-keeps : goal.returns-in_err-write_at-clause-keeps
+returns-in_err-write_at-clause-keeps g c = λ older keeps is_err.
+    older_kept g.D.Disk.seen g.D.Disk.may_leave c.args.self.now _ older keeps (3 + 2 * c.args.self.now.end.generation) (omega arith) refl c.write_at.ensures.told (returns-in_err-write_at-clause-older g c)
+
+pub returns-in_err-write_through-clause-keeps : goal.returns-in_err-write_through-clause-keeps
+returns-in_err-write_through-clause-keeps g c = λ older keeps is_err.
+    older_kept g.D.Disk.seen g.D.Disk.may_leave c.args.self.now _ older keeps (3 + 2 * c.args.self.now.end.generation) (omega arith) refl (tells_two (g.D.Disk.seen c.args.self.now.disk) (g.D.Disk.seen c.write_at.new.self) (g.D.Disk.seen c.write_through.new.disk) c.write_at.ensures.told c.write_through.ensures.told) (returns-in_err-write_through-clause-older g c)
+
+pub returns-in_err-write_through-2-clause-keeps : goal.returns-in_err-write_through-2-clause-keeps
+returns-in_err-write_through-2-clause-keeps g c = λ older keeps is_err.
+    older_kept g.D.Disk.seen g.D.Disk.may_leave c.args.self.now _ older keeps (3 + 2 * c.args.self.now.end.generation) (omega arith) refl (tells_two (g.D.Disk.seen c.args.self.now.disk) (g.D.Disk.seen c.write_through.new.disk) (g.D.Disk.seen c.write_through-2.new.disk) (tells_two (g.D.Disk.seen c.args.self.now.disk) (g.D.Disk.seen c.write_at.new.self) (g.D.Disk.seen c.write_through.new.disk) c.write_at.ensures.told c.write_through.ensures.told) c.write_through-2.ensures.told) (returns-in_err-write_through-2-clause-older g c)
+
+pub returns-clause-closes : goal.returns-clause-closes
+returns-clause-closes g c = λ was older stands keeps.
+    older_closed g.D.Disk.seen g.D.Disk.may_leave c.args.self.now _ older keeps was stands (3 + 2 * c.args.self.now.end.generation) (omega arith) refl (tells_two (g.D.Disk.seen c.args.self.now.disk) (g.D.Disk.seen c.write_through.new.disk) (g.D.Disk.seen c.write_through-2.new.disk) (tells_two (g.D.Disk.seen c.args.self.now.disk) (g.D.Disk.seen c.write_at.new.self) (g.D.Disk.seen c.write_through.new.disk) c.write_at.ensures.told c.write_through.ensures.told) c.write_through-2.ensures.told) (returns-clause-older g c)

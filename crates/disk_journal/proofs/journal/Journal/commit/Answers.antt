@@ -6,6 +6,7 @@ use Rattle.disk_journal.specs.Images.{HasCommitted, HasEither, with_group, IsRea
 use Rattle.disk_journal.specs.Stands.{nothing, group, group_of}
 use Rattle.disk_journal.proofs.Blocks.{are_groups-push, length_push}
 use Rattle.disk_journal.proofs.Images.{rest_holds, ready_holds}
+use Rattle.disk_journal.proofs.Keeping.{older_kept, tells_two}
 use Rattle.disk_journal.proofs.Standing.{standing, room, behind_rest, behind_ready, mark_room, mark_ready, mark_opened, mark_behind}
 use Rattle.disk_journal.proofs.Runs.{IsApart, kept_one, kept_two, always_one, always_two}
 use Rattle.disk_journal.proofs.journal.Journal.commit.Goals as goal
@@ -119,3 +120,15 @@ returns-clause-closed g c = λ was stands image left.
     let file_of : c.journal_file-file.result ≡ 1 + 2 * was.generation = omega (arith, c.journal_file-file.ensures, stands.generation) in
     let ready : (f : Files) → g.D.Disk.may_leave c.write_through.new.disk f → IsReady was added f = λ f there. behind_ready g.D.Disk.seen g.D.Disk.may_leave g.met.D.Disk.reads_an_image c.args.self.now was c.journal_file-file.result stands c.journal_file-file.ensures added c.as_bytes-text.result.now (c.as_bytes-text.ensures ∙ c.requires.prepared.text) f (c.in_ok-write_through.ensures.durable f there) in
     mark_behind g.D.Disk.seen g.D.Disk.may_leave g.met.D.Disk.reads_an_image c.args.self.now was c.journal_file-file.result added file_of stands.length c.write_through.new.disk ready image (c.in_ok-write_through-2.ensures.durable image left)
+
+pub returns-in_err-write_through-clause-keeps : goal.returns-in_err-write_through-clause-keeps
+returns-in_err-write_through-clause-keeps g c = λ older keeps.
+    older_kept g.D.Disk.seen g.D.Disk.may_leave c.args.self.now _ older keeps (1 + 2 * c.args.self.now.end.generation) (omega arith) refl c.write_through.ensures.told (returns-in_err-write_through-clause-older g c)
+
+pub returns-in_err-write_through-2-clause-keeps : goal.returns-in_err-write_through-2-clause-keeps
+returns-in_err-write_through-2-clause-keeps g c = λ older keeps.
+    older_kept g.D.Disk.seen g.D.Disk.may_leave c.args.self.now _ older keeps (1 + 2 * c.args.self.now.end.generation) (omega arith) refl (tells_two (g.D.Disk.seen c.args.self.now.disk) (g.D.Disk.seen c.write_through.new.disk) (g.D.Disk.seen c.write_through-2.new.disk) c.write_through.ensures.told c.write_through-2.ensures.told) (returns-in_err-write_through-2-clause-older g c)
+
+pub returns-clause-keeps : goal.returns-clause-keeps
+returns-clause-keeps g c = λ older keeps.
+    older_kept g.D.Disk.seen g.D.Disk.may_leave c.args.self.now _ older keeps (1 + 2 * c.args.self.now.end.generation) (omega arith) refl (tells_two (g.D.Disk.seen c.args.self.now.disk) (g.D.Disk.seen c.write_through.new.disk) (g.D.Disk.seen c.write_through-2.new.disk) c.write_through.ensures.told c.write_through-2.ensures.told) (returns-clause-older g c)

@@ -3,6 +3,7 @@ use Rattle.disk_journal.specs.Text.{blocks}
 use Rattle.outside_api.specs.declared.link.Fetched.TheVariants.{Bytes, End}
 use Rattle.disk_journal.specs.Older.{IsClosed}
 use Rattle.disk_journal.proofs.Fetched.{text_read}
+use Rattle.disk_journal.proofs.Keeping.{older_read}
 use Rattle.disk_journal.proofs.Linked.{answers_older, answers_newest, answers_later}
 use Rattle.disk_journal.proofs.Standing.{image_text}
 use Rattle.disk_journal.proofs.journal.Journal.fetch.Goals as goal
@@ -63,3 +64,15 @@ returns-then-at-self-clause-as_link g c = λ was doubt before files stands read 
 
 pub returns-clause-older : goal.returns-clause-older
 returns-clause-older g c = λ groups files below read is. absurd (omega (arith, c.if-generation-self-2.false, below))
+
+pub returns-then-generation-self-2-clause-keeps : goal.returns-then-generation-self-2-clause-keeps
+returns-then-generation-self-2-clause-keeps g c = λ older keeps. older_read g.D.Disk.seen g.D.Disk.may_leave c.args.self.now _ older keeps refl c.fetch_closed.ensures.same c.fetch_closed.ensures.crash
+
+pub returns-in_err-fetched-clause-keeps : goal.returns-in_err-fetched-clause-keeps
+returns-in_err-fetched-clause-keeps g c = λ older keeps. older_read g.D.Disk.seen g.D.Disk.may_leave c.args.self.now _ older keeps refl c.fetch_closed.ensures.same c.fetch_closed.ensures.crash
+
+pub returns-clause-keeps : goal.returns-clause-keeps
+returns-clause-keeps g c = λ older keeps. older_read g.D.Disk.seen g.D.Disk.may_leave c.args.self.now _ older keeps refl c.fill.ensures.same c.fill.ensures.crash
+
+pub returns-in_err-count-clause-keeps : goal.returns-in_err-count-clause-keeps
+returns-in_err-count-clause-keeps g c = λ older keeps. older_read g.D.Disk.seen g.D.Disk.may_leave c.args.self.now _ older keeps refl c.fill.ensures.same c.fill.ensures.crash

@@ -2,6 +2,7 @@ use Rattle.std.proofs.Common.{◌+◌, ◌*◌, refl, arith}
 use Rattle.outside_api.specs.Disk.{Torn}
 use Rattle.outside_api.specs.Moments.{weaker}
 use Rattle.disk_journal.specs.Stands.{nothing, HasWithOrWithout}
+use Rattle.disk_journal.proofs.Keeping.{older_kept}
 use Rattle.disk_journal.proofs.Standing.{standing, room, root_room, image_holds, root_settling, root_settled, settling, settled, settled_mark, root_settled_mark, at_rest, no_call, known_doubt, nothing_shut}
 use Rattle.disk_journal.proofs.Runs.{IsApart, kept_none, kept_one, always_none, always_one}
 use Rattle.disk_journal.proofs.journal.Journal.settle.Goals as goal
@@ -125,3 +126,19 @@ returns-in_ok-write_through-in-Group-clause-closed g c = λ was doubt stands ima
 pub returns-in_ok-write_through-in-Generation-clause-closed : goal.returns-in_ok-write_through-in-Generation-clause-closed
 returns-in_ok-write_through-in-Generation-clause-closed g c = λ was doubt stands image left.
     root_settled_mark g.D.Disk.seen g.D.Disk.may_leave g.met.D.Disk.reads_an_image c.args.self.now was c.in-Generation.is doubt stands image (c.in_ok-write_through-in-Generation.ensures.durable image left)
+
+pub returns-in_err-write_through-in-Group-clause-keeps : goal.returns-in_err-write_through-in-Group-clause-keeps
+returns-in_err-write_through-in-Group-clause-keeps g c = λ older keeps.
+    older_kept g.D.Disk.seen g.D.Disk.may_leave c.args.self.now _ older keeps (1 + 2 * c.args.self.now.end.generation) (omega arith) refl c.write_through.ensures.told (returns-in_err-write_through-in-Group-clause-older g c)
+
+pub returns-in_ok-write_through-in-Group-clause-keeps : goal.returns-in_ok-write_through-in-Group-clause-keeps
+returns-in_ok-write_through-in-Group-clause-keeps g c = λ older keeps.
+    older_kept g.D.Disk.seen g.D.Disk.may_leave c.args.self.now _ older keeps (1 + 2 * c.args.self.now.end.generation) (omega arith) refl c.write_through.ensures.told (returns-in_ok-write_through-in-Group-clause-older g c)
+
+pub returns-in_err-write_through-in-Generation-clause-keeps : goal.returns-in_err-write_through-in-Generation-clause-keeps
+returns-in_err-write_through-in-Generation-clause-keeps g c = λ older keeps.
+    older_kept g.D.Disk.seen g.D.Disk.may_leave c.args.self.now _ older keeps (1 + 2 * c.args.self.now.end.generation) (omega arith) refl c.write_through-in-Generation.ensures.told (returns-in_err-write_through-in-Generation-clause-older g c)
+
+pub returns-in_ok-write_through-in-Generation-clause-keeps : goal.returns-in_ok-write_through-in-Generation-clause-keeps
+returns-in_ok-write_through-in-Generation-clause-keeps g c = λ older keeps.
+    older_kept g.D.Disk.seen g.D.Disk.may_leave c.args.self.now _ older keeps (1 + 2 * c.args.self.now.end.generation) (omega arith) refl c.write_through-in-Generation.ensures.told (returns-in_ok-write_through-in-Generation-clause-older g c)

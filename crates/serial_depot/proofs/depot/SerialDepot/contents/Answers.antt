@@ -1,4 +1,5 @@
 use Rattle.serial_depot.proofs.Finished.{read_can, read_run}
+use Rattle.serial_depot.proofs.Growing.{stored_read, stored_same}
 use Rattle.serial_depot.proofs.depot.SerialDepot.contents.Goals as goal
 
 pub returns-clause-can : goal.returns-clause-can
@@ -13,3 +14,9 @@ pub returns-clause-no_call : goal.returns-clause-no_call
 returns-clause-no_call g c = λ none.
     let same = c.read_all.ensures.no_call none in
     λ i. record { tables = c.args.self.now.tables; journal = c.args.self.now.journal; archive = same i }
+
+pub returns-then-not-are_within-clause-stored : goal.returns-then-not-are_within-clause-stored
+returns-then-not-are_within-clause-stored g c = stored_same g.D.Disk.may_leave c.args.self.now.archive
+
+pub returns-clause-stored : goal.returns-clause-stored
+returns-clause-stored g c = stored_read g.D.Disk.may_leave c.args.self.now.archive c.read_all.new.archive c.read_all.ensures.used c.read_all.ensures.crash

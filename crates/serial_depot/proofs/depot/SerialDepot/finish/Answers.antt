@@ -6,6 +6,7 @@ use Rattle.outside_api.specs.Disk.{Files}
 use Rattle.depot_rows.specs.db_records.declared.change.Change.{Change}
 use Rattle.depot_rows.specs.db_records.declared.change.Spot.{Spot}
 use Rattle.depot_rows.specs.db_records.declared.table.TableId.TheVariants.{Rev}
+use Rattle.journal_groups.specs.Groups.{AreRecords}
 use Rattle.depot_rows.specs.table_changes.Changed.{AllFitIn, AllRows, changed_by, rows_of}
 use Rattle.depot_rows.specs.table_store.declared.tables.Tables.{Tables}
 use Rattle.depot_runs.specs.Today.{step}
@@ -17,10 +18,12 @@ use Rattle.depot_rows.specs.depot_model.declared.reply.Row.{Row}
 use Rattle.session_loop.specs.Taking.{placed_by}
 use Rattle.stored_contents.specs.Placed.{StandAfter}
 use Rattle.serial_depot.specs.Committing.{AreChangesOf, AreRowsAfter, IsToldAt}
+use Rattle.serial_depot.specs.Growing.{HasGroups, grown}
 use Rattle.serial_depot.specs.Running.{HasRun}
 use Rattle.serial_depot.specs.Storing.{AreAt}
 use Rattle.serial_depot.specs.declared.depot.SerialDepot.{SerialDepot}
 use Rattle.serial_depot.proofs.Finished.{contents_are, read_can, read_faulted, read_run}
+use Rattle.serial_depot.proofs.Growing.{grown_fault, stored_read, stored_two}
 use Rattle.serial_depot.proofs.Stored.{on_err}
 use Rattle.serial_depot.proofs.depot.SerialDepot.finish.Goals as goal
 
@@ -168,3 +171,46 @@ returns-clause-cause g c = λ fault.
       | inl commits ↦ inl commits
       | inr contents ↦ inr (omega (arith, le, contents))
     ]
+
+-- ---- with nothing to store
+
+pub returns-in_err-answer-clause-end : goal.returns-in_err-answer-clause-end
+returns-in_err-answer-clause-end g c = λ none. c.place.ensures.end (c.as_slice-3.ensures ∙ none)
+
+pub returns-clause-end : goal.returns-clause-end
+returns-clause-end g c = λ none. c.place.ensures.end (c.as_slice-3.ensures ∙ none)
+
+-- ---- the groups of the journal
+
+pub returns-in-Err-DiskFault-clause-grows : goal.returns-in-Err-DiskFault-clause-grows
+returns-in-Err-DiskFault-clause-grows g c = λ all has records.
+    let P : Answer → Type 0 = λ answer. HasGroups g.D.Disk.seen g.D.Disk.may_leave c.args.self.now.journal (grown c.args.opens answer.place.fault c.args.outcome.changes all) in
+    subst P (sym c.fault_answer.ensures) (subst (HasGroups g.D.Disk.seen g.D.Disk.may_leave c.args.self.now.journal) (grown_fault c.args.opens c.args.outcome.changes all) has)
+
+pub returns-clause-grows : goal.returns-clause-grows
+returns-clause-grows g c = λ all has records.
+    let P : List Change → Type 0 = λ changes. HasGroups g.D.Disk.seen g.D.Disk.may_leave c.place.new.self.journal (grown c.args.opens c.in_ok-answer.answer.place.fault changes all) in
+    subst P c.as_slice-2.ensures (c.in_ok-answer.ensures.grows all has (subst AreRecords (sym c.as_slice-2.ensures) records))
+
+pub returns-in_err-answer-clause-same_journal : goal.returns-in_err-answer-clause-same_journal
+returns-in_err-answer-clause-same_journal g c =
+    on_err c.from_residual-in_err-answer.result _ (ap (λ (depot : SerialDepot g.row.D.Denot). depot.journal) c.in_err-answer.ensures.nothing)
+
+-- ---- the contents
+
+pub returns-in-Err-DiskFault-clause-stored : goal.returns-in-Err-DiskFault-clause-stored
+returns-in-Err-DiskFault-clause-stored g c = stored_read g.D.Disk.may_leave c.args.self.now.archive c.read_all.new.archive c.read_all.ensures.used c.read_all.ensures.crash
+
+pub returns-in-Err-Memory-clause-stored : goal.returns-in-Err-Memory-clause-stored
+returns-in-Err-Memory-clause-stored g c = stored_read g.D.Disk.may_leave c.args.self.now.archive c.read_all.new.archive c.read_all.ensures.used c.read_all.ensures.crash
+
+pub returns-in_err-text-clause-stored : goal.returns-in_err-text-clause-stored
+returns-in_err-text-clause-stored g c = stored_read g.D.Disk.may_leave c.args.self.now.archive c.read_all.new.archive c.read_all.ensures.used c.read_all.ensures.crash
+
+pub returns-in_err-answer-clause-stored : goal.returns-in_err-answer-clause-stored
+returns-in_err-answer-clause-stored g c =
+    stored_two g.D.Disk.may_leave c.args.self.now.archive c.read_all.new.archive c.place.new.self.archive (stored_read g.D.Disk.may_leave c.args.self.now.archive c.read_all.new.archive c.read_all.ensures.used c.read_all.ensures.crash) c.place.ensures.stored
+
+pub returns-clause-stored : goal.returns-clause-stored
+returns-clause-stored g c =
+    stored_two g.D.Disk.may_leave c.args.self.now.archive c.read_all.new.archive c.place.new.self.archive (stored_read g.D.Disk.may_leave c.args.self.now.archive c.read_all.new.archive c.read_all.ensures.used c.read_all.ensures.crash) c.place.ensures.stored

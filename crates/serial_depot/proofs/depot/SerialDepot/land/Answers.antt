@@ -1,14 +1,17 @@
-use Rattle.std.proofs.Common.{◌≡◌, ℕ, ◌+◌, max, List, refl, sym, ap, subst, ◌∙◌, inl, inr, arith}
+use Rattle.std.proofs.Common.{length, ◌≡◌, ℕ, ◌+◌, max, List, refl, sym, ap, subst, ◌∙◌, inl, inr, arith}
+use Rattle.std.specs.Prelude.{map}
 use Rattle.archive_file.specs.Archive as archives
 use Rattle.outside_api.specs.Disk.{StillTells}
 use Rattle.disk_journal.specs.Stands.{generation_of_journal, next_number, nothing}
 use Rattle.depot_rows.specs.table_changes.Changed.{rows_of}
+use Rattle.recovery.specs.Holding.{group_texts}
 use Rattle.depot_rows.specs.depot_model.Places.{taken}
 use Rattle.depot_runs.specs.Today.{step}
 use Rattle.serial_depot.specs.Writing.{IsWritingOf, left_by}
 use Rattle.serial_depot.specs.Storing.{AllReach, AllStored, KeepsBelow, stores_end}
 use Rattle.serial_depot.proofs.Writings.{can_write, same_generation}
 use Rattle.serial_depot.proofs.Finished.{committed, standing, stored_run, unsettled_run, unstored_can, unstored_run, used_more, with_contents}
+use Rattle.serial_depot.proofs.Growing.{same_groups, stored_same, written_groups}
 use Rattle.serial_depot.proofs.Moved.{has_run_settled}
 use Rattle.serial_depot.proofs.Stored.{grows}
 use Rattle.serial_depot.proofs.depot.SerialDepot.land.Goals as goal
@@ -144,6 +147,10 @@ returns-clause-failed g c = λ e.
     let same_rows : rows_of c.set_archive_end.new.self ≡ rows_of c.commit-failed.new.tables = λ i table. (c.set_archive_end.ensures.versions table i).rows in
     same_rows ∙ ap rows_of (c.commit-failed.ensures.failed e)
 
+pub returns-clause-end : goal.returns-clause-end
+returns-clause-end g c = λ none.
+    c.set_archive_end.ensures.end ∙ (c.in-Ok-store_all.ensures.end ∙ (ap (λ (stores : List (List ℕ)). stores_end stores c.archive_end.result) none ∙ c.archive_end.ensures.end))
+
 -- ---- a fault only where a count rose
 
 pub returns-in-Err-clause-cause : goal.returns-in-Err-clause-cause
@@ -157,3 +164,42 @@ returns-clause-cause g c = λ failed.
     let le = c.settle.ensures.cause.never_falls in
     let risen = c.commit-failed.ensures.cause failed in
     inl (omega (arith, le, risen))
+
+-- ---- the groups of the journal
+
+pub returns-in-Err-clause-grows : goal.returns-in-Err-clause-grows
+returns-in-Err-clause-grows g c = λ all opens changes has is is_group.
+    same_groups g.D.Disk.seen g.D.Disk.may_leave c.settle.new.self has.was all has.are has.are_groups has.doubt (c.in-Err.ensures.err has.was has.doubt has.stands refl) (c.settle.ensures.keeps (map (group_texts 1) all.closed) has.keeps)
+
+pub returns-in-Err-store_all-clause-grows : goal.returns-in-Err-store_all-clause-grows
+returns-in-Err-store_all-clause-grows g c = λ all opens changes has is is_group.
+    same_groups g.D.Disk.seen g.D.Disk.may_leave c.settle.new.self has.was all has.are has.are_groups nothing (c.in-Ok.ensures.ok has.was has.doubt has.stands) (c.settle.ensures.keeps (map (group_texts 1) all.closed) has.keeps)
+
+pub returns-clause-grows : goal.returns-clause-grows
+returns-clause-grows g c = λ all opens changes has is is_group.
+    let older = map (group_texts 1) all.closed in
+    let settled = c.in-Ok.ensures.ok has.was has.doubt has.stands in
+    let number : next_number c.args.self.now.journal ≡ length has.was.groups + 1 = (let count = has.stands.count in omega (arith, count)) in
+    written_groups g.D.Disk.seen g.D.Disk.may_leave c.commit-failed.new.journal has.was all has.are has.are_groups (next_number c.args.self.now.journal) opens (left_by c.args.writing) changes number is is_group c.commit-failed.result
+    (c.commit-failed.ensures.stands has.was nothing settled) (c.commit-failed.ensures.keeps has.was nothing older settled (c.settle.ensures.keeps older has.keeps))
+
+-- ---- the contents
+
+pub returns-in-Err-clause-stored : goal.returns-in-Err-clause-stored
+returns-in-Err-clause-stored g c = stored_same g.D.Disk.may_leave c.args.self.now.archive
+
+pub returns-in-Err-store_all-clause-stored : goal.returns-in-Err-store_all-clause-stored
+returns-in-Err-store_all-clause-stored g c =
+    let old = g.D.Disk.may_leave (archives.disk_of c.args.self.now.archive) in
+    let new = g.D.Disk.may_leave (archives.disk_of c.store_all.new.archive) in
+    let used = c.store_all.ensures.used in
+    record { below = subst (KeepsBelow old new) (c.archive_end.ensures.end ∙ c.requires.can.end) c.store_all.ensures.kept; more = omega (arith, used) }
+
+pub returns-clause-stored : goal.returns-clause-stored
+returns-clause-stored g c =
+    let old = g.D.Disk.may_leave (archives.disk_of c.args.self.now.archive) in
+    let Keeps : g.row.D.Denot → Type 0 = λ disk. KeepsBelow old (g.D.Disk.may_leave disk) (archives.used_of c.args.self.now.archive) in
+    let kept = subst (KeepsBelow old (g.D.Disk.may_leave (archives.disk_of c.store_all.new.archive))) (c.archive_end.ensures.end ∙ c.requires.can.end) c.store_all.ensures.kept in
+    let used = c.store_all.ensures.used in
+    let most = c.keep.ensures.used in
+    record { below = subst Keeps (sym c.keep.ensures.disk) kept; more = omega (arith, used, most) }

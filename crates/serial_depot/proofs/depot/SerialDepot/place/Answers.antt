@@ -5,7 +5,9 @@ use Rattle.depot_rows.specs.table_changes.Changed.{AllRows, changed_by, rows_of}
 use Rattle.depot_rows.specs.depot_model.declared.order.Answer.{Answer}
 use Rattle.session_loop.specs.Taking.{placed_by}
 use Rattle.serial_depot.specs.Committing.{AreChangesOf, AreRowsAfter, IsToldAt}
+use Rattle.serial_depot.specs.Growing.{HasGroups, grown}
 use Rattle.serial_depot.specs.Running.{HasRun}
+use Rattle.serial_depot.proofs.Growing.{grown_none, grown_some, stored_same}
 use Rattle.serial_depot.proofs.Steps.{has_run_idle}
 use Rattle.serial_depot.proofs.depot.SerialDepot.place.Goals as goal
 
@@ -64,3 +66,42 @@ pub returns-clause-rows : goal.returns-clause-rows
 returns-clause-rows g c = λ given.
     let P : Bool → Type 0 = λ fault. AreRowsAfter (rows_of c.args.self.now.tables) c.args.changes.now fault (rows_of c.land.new.self.tables) in
     subst P (sym c.requires.no_fault) (c.if-land.ensures.landed refl ∙ c.in_ok-changed.ensures given)
+
+-- ---- the groups of the journal
+
+pub returns-then-is_empty-clause-grows : goal.returns-then-is_empty-clause-grows
+returns-then-is_empty-clause-grows g c = λ all has records.
+    let empty : length c.args.changes.now ≡ 0 = grind (arith, common_steps) in
+    subst (HasGroups g.D.Disk.seen g.D.Disk.may_leave c.args.self.now.journal) (grown_none c.args.opens c.args.place.fault c.args.changes.now all (none_left c.args.changes.now empty)) has
+
+pub returns-then-land-clause-grows : goal.returns-then-land-clause-grows
+returns-then-land-clause-grows g c = λ all has records.
+    let few = c.in_ok-measure.ensures in
+    let some = some_left c.args.changes.now (grind (arith, common_steps)) in
+    let P : Answer → Type 0 = λ answer. HasGroups g.D.Disk.seen g.D.Disk.may_leave c.land.new.self.journal (grown c.args.opens answer.place.fault c.args.changes.now all) in
+    subst P (sym c.fault_answer.ensures)
+    (subst (HasGroups g.D.Disk.seen g.D.Disk.may_leave c.land.new.self.journal) (grown_some c.args.opens true c.args.changes.now all some)
+    (c.if-land.ensures.grows all c.args.opens c.args.changes.now has c.in_ok-writing.ensures.written (records, omega (arith, few))))
+
+pub returns-clause-grows : goal.returns-clause-grows
+returns-clause-grows g c = λ all has records.
+    let few = c.in_ok-measure.ensures in
+    let some = some_left c.args.changes.now (grind (arith, common_steps)) in
+    let P : Bool → Type 0 = λ fault. HasGroups g.D.Disk.seen g.D.Disk.may_leave c.land.new.self.journal (grown c.args.opens fault c.args.changes.now all) in
+    subst P (sym c.requires.no_fault)
+    (subst (HasGroups g.D.Disk.seen g.D.Disk.may_leave c.land.new.self.journal) (grown_some c.args.opens false c.args.changes.now all some)
+    (c.if-land.ensures.grows all c.args.opens c.args.changes.now has c.in_ok-writing.ensures.written (records, omega (arith, few))))
+
+-- ---- the contents
+
+pub returns-then-is_empty-clause-stored : goal.returns-then-is_empty-clause-stored
+returns-then-is_empty-clause-stored g c = stored_same g.D.Disk.may_leave c.args.self.now.archive
+
+pub returns-in_err-measure-clause-stored : goal.returns-in_err-measure-clause-stored
+returns-in_err-measure-clause-stored g c = stored_same g.D.Disk.may_leave c.args.self.now.archive
+
+pub returns-in_err-changed-clause-stored : goal.returns-in_err-changed-clause-stored
+returns-in_err-changed-clause-stored g c = stored_same g.D.Disk.may_leave c.args.self.now.archive
+
+pub returns-in_err-writing-clause-stored : goal.returns-in_err-writing-clause-stored
+returns-in_err-writing-clause-stored g c = stored_same g.D.Disk.may_leave c.args.self.now.archive

@@ -1,4 +1,4 @@
-use Rattle.std.proofs.Common.{◌≡◌, ◌≤◌, List, [], refl, sym, ap, subst, ◌∙◌}
+use Rattle.std.proofs.Common.{◌≡◌, ◌≤◌, Bool, List, [], refl, sym, ap, subst, ◌∙◌}
 use Rattle.std.specs.Prelude.{All}
 use Rattle.archive_file.specs.Archive.{end_of, used_of}
 use Rattle.depot_rows.specs.db_records.declared.change.Change.{Change}
@@ -12,6 +12,8 @@ use Rattle.depot_rows.specs.Standing.{Stand}
 use Rattle.row_changes.specs.Differences.{AreDifferences}
 use Rattle.row_texts.specs.Texts.{IsOf64Bits}
 use Rattle.serial_depot.specs.Committing.{AreChangesOf}
+use Rattle.serial_depot.specs.Growing.{HasGroups, grown}
+use Rattle.serial_depot.proofs.Growing.{stored_same}
 use Rattle.serial_depot.proofs.Outcomes.{answers, are_changes}
 use Rattle.serial_depot.proofs.depot.SerialDepot.take_outcome.Goals as goal
 
@@ -38,3 +40,21 @@ returns-clause-answers g c = λ since start places h is.
     let request = c.args.request.now in
     answers start places request _ c.in-Ok.text c.place_of.result c.in_ok-answer.answer c.place_of.ensures refl c.in-Ok.ensures
     (c.in_ok-answer.ensures.told since start places request h (is current h.stand))
+
+pub returns-clause-grows : goal.returns-clause-grows
+returns-clause-grows g c = λ d all stand proper is has.
+    let rows = rows_of c.args.self.now.tables in
+    let request = c.args.request.now in
+    let outcome = c.args.outcome in
+    let ready = c.is_ready.ensures c.if-not-is_ready.false in
+    let differences : (e : List Deed) → Stand rows e → AreDifferences rows e (after e (step e request).deeds) outcome.changes = λ e on. (is e on).changes in
+    let Small : List Change → Type 0 = λ l. All (λ (change : Change). IsOf64Bits change.row) l in
+    let made = are_changes rows d request outcome.changes stand proper c.requests_are_typed.ensures differences (subst Small c.as_slice.ensures c.know_records.ensures) ready.0 in
+    let P : Bool → Type 0 = λ opens. HasGroups g.D.Disk.seen g.D.Disk.may_leave c.finish.new.self.journal (grown opens c.in_ok-answer.answer.place.fault outcome.changes all) in
+    subst P c.opens.ensures (c.in_ok-answer.ensures.grows all has made.records)
+
+pub returns-then-not-is_ready-clause-stored : goal.returns-then-not-is_ready-clause-stored
+returns-then-not-is_ready-clause-stored g c = stored_same g.D.Disk.may_leave c.args.self.now.archive
+
+pub returns-in-Err-clause-stored : goal.returns-in-Err-clause-stored
+returns-in-Err-clause-stored g c = stored_same g.D.Disk.may_leave c.args.self.now.archive

@@ -1,11 +1,12 @@
 use Rattle.std.proofs.Common.{◌≤◌, List, Option, length, map, sym, ap, subst, ◌∙◌}
 use Rattle.std.specs.Prelude.{All}
 use Rattle.std.proofs.lemmas.List.Elements.{All-from_recursion, recursion_from_All}
-use Rattle.replica_turns.specs.declared.party.ReplicaParty.{ReplicaParty}
+use Rattle.run_parties.proofs.Fresh.{few_left}
+use Rattle.run_parties.specs.Asking.{left_in}
+use Rattle.run_parties.specs.replica_turns.declared.party.ReplicaParty.{ReplicaParty}
 use Rattle.session_loop.specs.Asking.{replica_commands}
 use Rattle.session_loop.specs.declared.reading.ReplicaScript.{ReplicaScript}
-use Rattle.session_turns.proofs.Fresh.{few_left, lefts_are}
-use Rattle.session_turns.specs.Going.{left_in}
+use Rattle.session_turns.proofs.Fresh.{lefts_are}
 use Rattle.session_turns.proofs.replicas.Replicas.new.Goals as goal
 
 pub left_counts-requires : goal.left_counts-requires

@@ -1,8 +1,9 @@
-use Rattle.std.proofs.Common.{◌≡◌, ◌<◌, length, true, false, Ok, Err, Some, refl, sym, ap, ◌∙◌, arith}
-use Rattle.std.specs.Prelude.{slice_get}
+use Rattle.std.proofs.Common.{◌≡◌, ◌<◌, length, Bool, true, false, Ok, Err, Some, refl, sym, ap, ◌∙◌, arith}
+use Rattle.std.specs.Prelude.{◌||◌, slice_get}
+use Rattle.std.proofs.Math.Bool.{or-false}
 use Rattle.std.proofs.lemmas.Option.{slice_get_read}
 use Rattle.lock_machine.proofs.Places.{some_is}
-use Rattle.replica_turns.specs.declared.party.ReplicaParty.{ReplicaParty}
+use Rattle.run_parties.specs.replica_turns.declared.party.ReplicaParty.{ReplicaParty}
 use Rattle.session_turns.proofs.Stepping.{stepped}
 use Rattle.session_turns.proofs.replicas.Replicas.reply.Goals as goal
 use Rattle.session_turns.proofs.replicas.Replicas.reply.Goals.{then-self, else-self}
@@ -18,13 +19,9 @@ returns-after-self-clause-stepped g c = λ p at_p some.
     let here : 0 < length c.in-Some.party.left.items = (let less = ap (λ (q : ReplicaParty). length q.left.items) same in omega (arith, some, less)) in
     stepped g.D.Disk.seen g.D.Disk.may_leave c.args.depot.now at p c.in-Some.party c.answer_next.new.self c.args.self.now _ (Ok c.in-Ok.field-0) (Ok c.in-Ok.field-0.text) same refl
     (c.in-Ok.ensures.turned here) (c.in-Ok.ensures.left here) (λ number. refl)
-    (λ had. elim c.if-self.branch [
-      | then-self w ↦ w.self-is ∙ w.if-self.true
-      | else-self w ↦ absurd (let both : true ≡ false = sym had ∙ w.if-self.false in cc)
-    ])
-    (λ lost. elim c.if-self.branch [
-      | then-self w ↦ w.self-is ∙ w.if-self.true
-      | else-self w ↦ w.self-is ∙ lost
+    (elim c.if-self.branch [
+      | then-self w ↦ (w.self-is ∙ w.if-self.true) ∙ sym (ap (λ (b : Bool). b || c.in-Ok.field-0.lost) w.if-self.true)
+      | else-self w ↦ w.self-is ∙ sym (ap (λ (b : Bool). b || c.in-Ok.field-0.lost) w.if-self.false)
     ])
 
 pub returns-in-Err-clause-stepped : goal.returns-in-Err-clause-stepped
@@ -37,4 +34,4 @@ returns-in-Err-clause-stepped g c = λ p at_p some.
     let same : p ≡ c.in-Some.party = some_is (some_is (sym at_p ∙ at_i) ∙ c.in-Some.is) in
     let here : 0 < length c.in-Some.party.left.items = (let less = ap (λ (q : ReplicaParty). length q.left.items) same in omega (arith, some, less)) in
     stepped g.D.Disk.seen g.D.Disk.may_leave c.args.depot.now at p c.in-Some.party c.answer_next.new.self c.args.self.now _ (Err c.in-Err.error) (Err c.in-Err.error) same refl
-    (c.in-Err.ensures.turned here) (c.in-Err.ensures.left here) (λ number. refl) (λ had. had) (λ lost. absurd (let both : false ≡ true = lost in cc))
+    (c.in-Err.ensures.turned here) (c.in-Err.ensures.left here) (λ number. refl) (sym (or-false c.args.self.now.lost))

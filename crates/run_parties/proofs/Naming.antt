@@ -4,12 +4,12 @@ use Rattle.std.specs.Prelude.{All, slice_get, option_map}
 use Rattle.std.specs.List.{AllByRecursion}
 use Rattle.std.specs.Option.{option_flatten}
 use Rattle.std.proofs.lemmas.List.Elements.{recursion_from_All}
-use Rattle.depot_rows.specs.depot_model.Places.{Placed}
-use Rattle.depot_rows.specs.depot_model.declared.order.Place.{Place}
-use Rattle.depot_rows.specs.depot_model.declared.request.Asked.{Asked}
-use Rattle.depot_rows.specs.depot_model.declared.request.Caller.{Caller}
-use Rattle.depot_rows.specs.depot_model.declared.request.Request.{Request}
-use Rattle.depot_rows.specs.depot_model.declared.request.Session.{Session}
+use Rattle.depot_model.specs.Places.{Placed}
+use Rattle.depot_model.specs.declared.order.Place.{Place}
+use Rattle.depot_model.specs.declared.request.Asked.{Asked}
+use Rattle.depot_model.specs.declared.request.Caller.{Caller}
+use Rattle.depot_model.specs.declared.request.Request.{Request}
+use Rattle.depot_model.specs.declared.request.Session.{Session}
 use Rattle.depot_runs.specs.Run.{placed, request_by, request_of}
 use Rattle.session_loop.specs.Asking.{AreProper, AreWellFormed, commands_of}
 use Rattle.session_loop.specs.Requests.{AreRequests, AreRequestsOf, AreRequestsOfAll, IsRequest}

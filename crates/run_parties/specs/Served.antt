@@ -1,10 +1,10 @@
 -- What the parties of a run are answered, and how they end. That each has a sink of its own is this project's own choice.
 use Rattle.std.specs.Prelude.{◌≡◌, ◌≤◌, ◌+◌, ℕ, true, false, List, [], ◌∷◌, length, slice_get, Option, Some, None}
 use Rattle.outside_api.specs.Count.{HasRisen}
-use Rattle.depot_rows.specs.depot_model.Deeds.{Deed}
-use Rattle.depot_rows.specs.depot_model.Order.{IsOrder}
-use Rattle.depot_rows.specs.depot_model.declared.order.Place.{Place}
-use Rattle.depot_rows.specs.depot_model.declared.request.Session.{Session}
+use Rattle.depot_model.specs.Deeds.{Deed}
+use Rattle.depot_model.specs.Order.{IsOrder}
+use Rattle.depot_model.specs.declared.order.Place.{Place}
+use Rattle.depot_model.specs.declared.request.Session.{Session}
 use Rattle.session_loop.specs.Asking.{commands_of, replica_commands}
 use Rattle.session_loop.specs.Served.{IsOutput}
 use Rattle.session_loop.specs.declared.reading.ReplicaScript.{ReplicaScript}

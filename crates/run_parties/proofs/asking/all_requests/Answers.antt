@@ -1,11 +1,11 @@
 use Rattle.std.proofs.Common.{◌≡◌, ◌+◌, List, [], ◌∷◌, ◌++◌, Option, length, map, sym, ap, subst, ◌∙◌, append_assoc, append-nil, arith, Vec, Global}
 use Rattle.std.specs.Vec.Iter.{into_iter_items}
 use Rattle.std.proofs.lemmas.List.{length_push, map_push, nil_from_length}
-use Rattle.depot_rows.specs.depot_model.declared.request.Request.{Request}
-use Rattle.depot_rows.specs.depot_model.declared.request.Session.{Session}
+use Rattle.depot_model.specs.declared.request.Request.{Request}
+use Rattle.depot_model.specs.declared.request.Session.{Session}
+use Rattle.run_parties.proofs.Making.{all_push}
 use Rattle.session_loop.specs.Requests.{AreRequestsOfAll}
-use Rattle.session_turns.proofs.Making.{all_push}
-use Rattle.session_turns.proofs.beginning.all_requests.Goals as goal
+use Rattle.run_parties.proofs.asking.all_requests.Goals as goal
 
 pub loop-session-preserved : goal.loop-session-preserved
 loop-session-preserved g c =

@@ -1,7 +1,7 @@
 use Rattle.std.proofs.Common.{◌≡◌, ◌++◌, length, map}
 use Rattle.std.specs.Vec.Iter.{into_iter_items, into_iter_len}
 use Rattle.session_loop.specs.Requests.{AreRequestsOfAll}
-use Rattle.session_turns.proofs.beginning.all_requests.Given as goal
+use Rattle.run_parties.proofs.asking.all_requests.Given as goal
 
 -- the requests of the sessions that were taken
 abbrev pub invariant-loop-session : goal.invariant-loop-session

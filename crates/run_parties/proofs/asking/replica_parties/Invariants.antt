@@ -1,7 +1,7 @@
 use Rattle.std.proofs.Common.{◌≡◌, ◌++◌, length}
 use Rattle.std.specs.Vec.Iter.{into_iter_items, into_iter_len}
-use Rattle.session_turns.specs.Going.{AreFresh}
-use Rattle.session_turns.proofs.replicas.replica_parties.Given as goal
+use Rattle.run_parties.specs.Asking.{AreFresh}
+use Rattle.run_parties.proofs.asking.replica_parties.Given as goal
 
 -- the replicas of the scripts that were taken
 abbrev pub invariant-loop-script : goal.invariant-loop-script

@@ -2,12 +2,12 @@ use Rattle.std.proofs.Common.{◌≡◌, ◌≤◌, ◌+◌, List, [], ◌∷◌
 use Rattle.std.specs.Vec.Iter.{into_iter_items}
 use Rattle.std.proofs.lemmas.List.{length_push, nil_from_length}
 use Rattle.replica_turns.specs.declared.party.ReplicaParty.{ReplicaParty}
+use Rattle.run_parties.proofs.Fresh.{fresh_push}
+use Rattle.run_parties.proofs.Making.{holds_next}
+use Rattle.run_parties.specs.Asking.{AreFresh}
 use Rattle.session_loop.specs.Asking.{replica_commands}
 use Rattle.session_loop.specs.declared.reading.ReplicaScript.{ReplicaScript}
-use Rattle.session_turns.proofs.Fresh.{fresh_push}
-use Rattle.session_turns.proofs.Making.{holds_next}
-use Rattle.session_turns.specs.Going.{AreFresh}
-use Rattle.session_turns.proofs.replicas.replica_parties.Goals as goal
+use Rattle.run_parties.proofs.asking.replica_parties.Goals as goal
 
 pub loop-script-preserved : goal.loop-script-preserved
 loop-script-preserved g c =

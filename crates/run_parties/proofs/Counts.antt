@@ -1,19 +1,19 @@
 -- How many commands of each party were taken that may have a place.
 use Rattle.std.proofs.Common.{◌≡◌, ◌≢◌, ℕ, zero, suc, List, [], ◌∷◌, length, set, Option, Some, None, refl, sym, ap, ◌∙◌}
 use Rattle.std.specs.Prelude.{slice_get}
-use Rattle.depot_rows.specs.depot_model.declared.request.Session.{Session}
-use Rattle.lock_machine.proofs.Places.{some_is}
+use Rattle.std.proofs.lemmas.Option.{same_Some}
+use Rattle.depot_model.specs.declared.request.Session.{Session}
+use Rattle.run_parties.proofs.Slots.{also_at}
+use Rattle.run_parties.specs.Served.{AreApart, session_counts}
 use Rattle.session_loop.specs.declared.reading.ReplicaScript.{ReplicaScript}
 use Rattle.session_loop.specs.declared.session.SessionRun.{SessionRun}
-use Rattle.session_turns.proofs.Slots.{also_at}
-use Rattle.session_turns.specs.Served.{AreApart, session_counts}
 
 -- that of a session is its run's
 pub count_at : (scripts : List (Option ReplicaScript)) (runs : List SessionRun) (i : ℕ) (run : SessionRun) → slice_get scripts i ≡ Some None → slice_get runs i ≡ Some run
     → slice_get (session_counts scripts runs) i ≡ Some run.commands
 count_at [] runs i run at_script at = absurd cc
 count_at (s ∷ scripts) [] i run at_script at = absurd cc
-count_at (None ∷ scripts) (r ∷ runs) zero run at_script at = ap (λ (x : SessionRun). Some x.commands) (some_is at)
+count_at (None ∷ scripts) (r ∷ runs) zero run at_script at = ap (λ (x : SessionRun). Some x.commands) (same_Some _ _ at)
 count_at (Some script ∷ scripts) (r ∷ runs) zero run at_script at = absurd cc
 count_at (None ∷ scripts) (r ∷ runs) (suc i) run at_script at = count_at scripts runs i run at_script at
 count_at (Some script ∷ scripts) (r ∷ runs) (suc i) run at_script at = count_at scripts runs i run at_script at

@@ -1,0 +1,82 @@
+-- The depot that the replicas of a run follow, as its journal tells it from the first change on (Server Administrator Guide, on filtered replicas). That each
+-- group of the journal is one change, and so is the beginning of each generation but the first, is this project's own choice.
+use Rattle.std.specs.Prelude.{◌≡◌, ◌≤◌, ◌<◌, ◌⊎◌, ◌+◌, ℕ, suc, List, [], ◌∷◌, length, map}
+use Rattle.std.specs.List.{AllByRecursion}
+use Rattle.outside_api.specs.Disk.{Files}
+use Rattle.archive_file.specs.Archive.{disk_of, used_of}
+use Rattle.archive_file.specs.declared.archive.Archive.{Archive}
+use Rattle.depot_rows.specs.db_records.declared.change.Change.{Change}
+use Rattle.depot_rows.specs.depot_model.Deeds.{Deed}
+use Rattle.depot_rows.specs.depot_model.Places.{Placed, done_at}
+use Rattle.depot_rows.specs.depot_model.Step.{after}
+use Rattle.depot_rows.specs.Standing.{Stand}
+use Rattle.depot_runs.specs.Kept.{IsChange}
+use Rattle.depot_runs.specs.Replica.{IsAfterChanges}
+use Rattle.depot_runs.specs.Today.{step}
+use Rattle.journal_groups.specs.Groups.{IsGroup, groups_text}
+use Rattle.recovery.specs.Holding.{joined}
+use Rattle.replica_pull.specs.Prefix.{HasGrown, changes_from, first_rows}
+use Rattle.serial_depot.specs.Growing.{Chronicle, HasGroups, generations_of}
+use Rattle.serial_depot.specs.Holding.{KeepContents}
+use Rattle.serial_depot.specs.declared.depot.SerialDepot.{SerialDepot}
+use Rattle.depot_rows.specs.table_changes.Changed.{AllRows, changed_by, no_rows, rows_of}
+
+-- ---- a journal
+
+-- the changes of all its generations
+abbrev pub all_changes : Chronicle → List (List Change)
+all_changes c = changes_from 0 (generations_of c)
+
+-- each of its groups is one
+abbrev pub AreGroupsOf : Chronicle → Type 0
+AreGroupsOf c = AllByRecursion (AllByRecursion IsGroup) (generations_of c)
+
+-- the rows that its first n changes make
+abbrev pub first_of : ℕ → Chronicle → AllRows
+first_of n c = first_rows n (generations_of c)
+
+-- its texts
+abbrev pub texts_in : Chronicle → List (List ℕ)
+texts_in c = map (groups_text 1) (generations_of c)
+
+-- they are the same, or they grew
+abbrev pub HasGrownTo : Chronicle → Chronicle → Type 0
+HasGrownTo c now = HasGrown (texts_in c) (texts_in now)
+
+-- ---- the first changes
+
+-- what a depot has done before a run: how many changes, and the depot after each of them
+pub record Past : Type 0 where
+  pub count : ℕ
+  pub after : ℕ → List Deed
+
+-- the depot after the first n changes: those before the run, and then those among its places
+abbrev pub IsNth : Past → List Deed → List Placed → ℕ → List Deed → Type 0
+IsNth past start places n d =
+    ((n < past.count) × (d ≡ past.after n)) ⊎ ((m : ℕ) × (n ≡ past.count + m) × IsAfterChanges m start places d)
+
+-- exactly n of these places are changes
+abbrev pub AreChanges : ℕ → List Deed → List Placed → Type 0
+AreChanges n d [] = n ≡ 0
+AreChanges n d (p ∷ places) =
+    ((IsChange d p → ⊥) × AreChanges n (after d (done_at step d p)) places)
+    ⊎ (IsChange d p × (m : ℕ) × (n ≡ suc m) × AreChanges m (after d (done_at step d p)) places)
+
+-- ---- a depot in files
+
+-- The rows that its first n changes make stand for the depot after these, whose contents each image of the archive's disk has.
+pub record HasNth {D : Type 0} (may_leave : D → Files → Type 0) (archive : Archive D) (IsIt : List Deed → Type 0) (c : Chronicle) (n : ℕ) : Type 0 where
+  pub depot : List Deed
+  pub is : IsIt depot
+  pub stand : Stand (first_rows n (generations_of c)) depot
+  pub kept : KeepContents (may_leave (disk_of archive)) (used_of archive) (first_rows n (generations_of c)) depot
+
+-- The journal has these groups, which make the rows of the tables; of its changes there are those before the run and those among the places that were taken,
+-- and after each number of them it had a depot that is known.
+pub record IsMaster {D : Type 0} (seen may_leave : D → Files → Type 0) (past : Past) (start : List Deed) (places : List Placed) (depot : SerialDepot D) (c : Chronicle) : Type 0 where
+  pub groups : HasGroups seen may_leave depot.journal c
+  pub rows : rows_of depot.tables ≡ changed_by no_rows (joined (all_changes c))
+  pub changes : ℕ
+  pub count : length (all_changes c) ≡ past.count + changes
+  pub are_changes : AreChanges changes start places
+  pub each : (n : ℕ) → n ≤ length (all_changes c) → HasNth may_leave depot.archive (IsNth past start places n) c n

@@ -1,0 +1,56 @@
+//! Laws of replicas that follow a depot which takes commands.
+
+ghost use Rattle.std.specs.Prelude.{◌≡◌, ℕ, Bool, List, Result, [], ◌∷◌, ◌++◌, ◌+◌, length};
+ghost use Rattle.archive_file.specs.Archive.{disk_of as archive_disk_of};
+ghost use Rattle.serial_depot.specs.command_core.Outcomes.{IsOutcome};
+ghost use Rattle.serial_depot.specs.command_core.declared.outcome.Outcome.{Outcome};
+ghost use Rattle.depot_rows.specs.db_records.declared.change.Change.{Change};
+ghost use Rattle.depot_rows.specs.depot_model.Deeds.{Deed};
+ghost use Rattle.depot_rows.specs.depot_model.Places.{Placed, taken};
+ghost use Rattle.depot_rows.specs.depot_model.declared.request.Request.{Request};
+ghost use Rattle.depot_runs.specs.Today.{step};
+ghost use Rattle.outside_api.specs.Disk.{Files};
+ghost use Rattle.serial_depot.specs.Committing.{AreRowsAfter};
+ghost use Rattle.serial_depot.specs.Growing.{Chronicle, HasGroups, KeepsStored, grown};
+ghost use Rattle.serial_depot.specs.Opening.{opens_generation};
+ghost use Rattle.serial_depot.specs.Running.{HasRun};
+ghost use Rattle.serial_depot.specs.declared.depot.SerialDepot.{SerialDepot as AnyDepot};
+ghost use Rattle.session_loop.specs.Asking.{AreWellFormed};
+ghost use Rattle.session_loop.specs.Taking.{placed_by};
+ghost use Rattle.session_loop.specs.declared.reading.ReplicaScript.{ReplicaScript};
+ghost use Rattle.depot_rows.specs.table_changes.Changed.{rows_of};
+ghost use Rattle.replica_turns.specs.Along.{IsAlong};
+ghost use Rattle.replica_turns.specs.Going.{IsFresh, IsTurned, reply_text};
+ghost use Rattle.replica_turns.specs.Master.{HasGrownTo, IsMaster, IsNth, Past};
+ghost use Rattle.replica_turns.specs.declared.party.Answered.{Answered};
+ghost use Rattle.replica_turns.specs.declared.party.ReplicaParty.{ReplicaParty};
+
+use outside_api::{Clock, Disk};
+
+/// A depot that replicas follow stays one when it takes a command: where rows differ after it, its journal has one change more, and else the changes that
+/// it had; where it takes none, they stay. So its journal's texts grow.
+pub fn depots_grow_by_their_changes<D: Disk>()
+    ensures placed { (past : Past) (start : List Deed) (places : List Placed) (old new : AnyDepot D) (c : Chronicle) (since : ℕ) (request : Request) (outcome : Outcome) (fault : Bool) →
+        IsMaster D.seen D.may_leave past start places old c → HasRun D.seen D.may_leave D.moment D.left_since old since start places →
+        IsOutcome (rows_of old.tables) old.tables.archive_end (taken step start places) request outcome → KeepsStored D.may_leave old.archive new.archive →
+        HasRun D.seen D.may_leave D.moment D.left_since new since start (places ++ placed_by request fault ∷ []) → AreRowsAfter (rows_of old.tables) outcome.changes fault (rows_of new.tables) →
+        HasGroups D.seen D.may_leave new.journal (grown (opens_generation request) fault outcome.changes c) →
+        IsMaster D.seen D.may_leave past start (places ++ placed_by request fault ∷ []) new (grown (opens_generation request) fault outcome.changes c) }
+    ensures kept { (past : Past) (start : List Deed) (places : List Placed) (old new : AnyDepot D) (c : Chronicle) → IsMaster D.seen D.may_leave past start places old c → rows_of new.tables ≡ rows_of old.tables →
+        HasGroups D.seen D.may_leave new.journal c → KeepsStored D.may_leave old.archive new.archive → IsMaster D.seen D.may_leave past start places new c }
+    ensures texts { (opens fault : Bool) (changes : List Change) (c : Chronicle) → HasGrownTo c (grown opens fault changes c) }
+{}
+
+/// A replica that follows it goes on telling what it told: each reply other than to `pull` is that of a replica of the depot after the first n changes, cut to
+/// its filter, where n is what its last `pull` told, and 0 before one.
+pub fn replicas_reply_for_their_last_pull<D: Disk, C: Clock>(clock: &C)
+    ensures first { (past : Past) (start : List Deed) (places : List Placed) (party : ℕ) (script : ReplicaScript) (p : ReplicaParty) (c : Chronicle) →
+        IsFresh (C.may_give clock.now) party script p → AreWellFormed script.session.commands → IsAlong (IsNth past start places) (C.may_give clock.now) party script p c [] }
+    ensures grown { (past : Past) (start : List Deed) (places more : List Placed) (party : ℕ) (script : ReplicaScript) (p : ReplicaParty) (c now : Chronicle) (texts : List (List ℕ)) →
+        HasGrownTo c now → IsAlong (IsNth past start places) (C.may_give clock.now) party script p c texts → IsAlong (IsNth past start (places ++ more)) (C.may_give clock.now) party script p now texts }
+    ensures turned { (past : Past) (start : List Deed) (places : List Placed) (depot : AnyDepot D) (files : Files) (party : ℕ) (script : ReplicaScript) (old new : ReplicaParty) (c : Chronicle) (texts : List (List ℕ)) (result : Result Answered (Unit {0})) →
+        IsMaster D.seen D.may_leave past start places depot c → D.seen (archive_disk_of depot.archive) files → IsAlong (IsNth past start places) (C.may_give clock.now) party script old c texts →
+        IsTurned D.seen D.may_leave depot old new result → IsAlong (IsNth past start places) (C.may_give clock.now) party script new c (texts ++ reply_text result (length texts + 1) ∷ []) }
+{
+    let _clock = clock;
+}

@@ -1,0 +1,33 @@
+-- What the parties of a run are given. This project's own choice.
+use Rattle.std.specs.Prelude.{◌≡◌, ℕ, Bool, true, false, List, [], ◌∷◌, length, Option, Result, Ok, Err}
+use Rattle.depot_model.specs.Printed.{printed}
+use Rattle.depot_model.specs.Rows.{memory_row}
+use Rattle.outside_api.specs.Disk.{Files}
+use Rattle.outside_api.specs.Told.{extended}
+use Rattle.replica_turns.specs.Going.{HasGotTexts, IsGoing}
+use Rattle.replica_turns.specs.declared.party.ReplicaParty.{ReplicaParty}
+use Rattle.replica_turns.specs.serial_depot.declared.depot.SerialDepot.{SerialDepot}
+use Rattle.session_loop.specs.declared.reading.ReplicaScript.{ReplicaScript}
+use Rattle.session_loop.specs.declared.session.SessionRun.{SessionRun}
+use Rattle.wire_text.specs.Giving.{GotFront}
+
+-- ---- one reply
+
+-- what is given of a reply: the reply, or, where there is none, that of a command that found no memory
+abbrev pub text_of : {E : Type 0} → Result (List ℕ) E → ℕ → List ℕ
+text_of (Ok text) number = text
+text_of (Err error) number = printed (memory_row ∷ []) number
+
+-- what a sink got of a reply: the whole, or, where it failed, a front that isn't the whole
+abbrev pub Got : Bool → List ℕ → Option (List ℕ) → Option (List ℕ) → Type 0
+Got false text before now = now ≡ extended before text
+Got true text before now = GotFront before now text
+
+-- ---- a replica
+
+-- The sink has the replies of a replica to the commands that its run tells of. Whether one of them tells that a disk failed.
+pub record HasGiven {D : Type 0} (HasBeen : SerialDepot D → Type 0) (seen may_leave : D → Files → Type 0) (may_give : ℕ → Type 0) (party : ℕ) (script : ReplicaScript) (p : ReplicaParty) (run : SessionRun) (lost : Bool) (before now : Option (List ℕ)) : Type 0 where
+  pub texts : List (List ℕ)
+  pub count : length texts ≡ run.commands
+  pub going : IsGoing HasBeen seen may_leave may_give party script p texts lost
+  pub got : HasGotTexts run.failed texts before now
