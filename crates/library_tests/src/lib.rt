@@ -19,6 +19,9 @@ mod filters;
 /// Values that the tests share.
 #[cfg(test)]
 mod fixtures;
+/// Gates that hold commands back (`waiting_gates`).
+#[cfg(test)]
+mod gates;
 /// Journals that are read at once and byte by byte (`journal_groups`).
 #[cfg(test)]
 mod groups;

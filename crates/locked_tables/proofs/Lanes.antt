@@ -1,17 +1,17 @@
--- The lanes of an entry, and the entries that touch one.
-use Rattle.std.proofs.Common.{◌≡◌, ◌≢◌, ◌≤◌, ◌==◌, ◌||◌, ℕ, Bool, true, false, List, [], ◌∷◌, ◌++◌, length, if◌then◌else◌, refl, sym, ap, ◌∙◌, subst, arith}
+-- The lanes of an entry.
+use Rattle.std.proofs.Common.{◌≡◌, ◌≢◌, ◌≤◌, ◌<◌, ◌==◌, ◌||◌, ℕ, Bool, true, false, List, [], ◌∷◌, Option, Some, None, refl, sym, ap, ◌∙◌, arith}
 use mathlib.Core.Logic.{dite}
-use mathlib.Core.List.{IsPrefix}
 use native.Mathlib.Decide.{ℕ_discrete}
-use borrow.Author.Tests.{eq-eqb}
-use Rattle.std.proofs.lemmas.List.{append-nil}
+use Rattle.std.proofs.lemmas.Bool.{eq-eqb, ne_eqb}
 use Rattle.std.proofs.lemmas.Nat.Bits.{bit_at-zero}
-use Rattle.order_words.specs.Lanes.{has_lane, is_among, last_touch}
-use Rattle.locked_tables.proofs.Rows.{none_behind, none_past}
-use Rattle.order_words.proofs.Touches.{last_touch_within}
-use Rattle.locked_tables.specs.Taken.{IsOwn, lanes_of, touching}
-use Rattle.locked_tables.specs.Held.{AreAmong}
-use Rattle.locked_tables.specs.declared.taken.Taken.{Taken}
+use Rattle.depot_model.specs.db_records.Table.{table_number}
+use Rattle.depot_model.specs.db_records.declared.table.TableId.{TableId}
+use Rattle.depot_model.specs.db_records.declared.table.TableId.TheVariants.{Counter, Group, Protect, Domain, Have, Label, Integed, Resolve, Working, Change, Rev}
+use Rattle.order_words.specs.Lanes.{has_lane, is_among}
+use Rattle.table_changes.specs.table_store.Rows.{TableRows}
+use Rattle.locked_tables.specs.Held.{AreAmong, lane_next, lanes_next, table_held}
+use Rattle.locked_tables.specs.Taken.{archive_lane, party_lane}
+use Rattle.locked_tables.specs.declared.held_table.HeldTable.{HeldTable}
 
 pub or_first : (a b : Bool) → a ≡ true → (a || b) ≡ true
 or_first a b e = ap (λ (c : Bool). c || b) e
@@ -22,6 +22,10 @@ or_second false b e = e
 
 pub or_no_first : (a b : Bool) → a ≡ false → (a || b) ≡ b
 or_no_first a b e = ap (λ (c : Bool). c || b) e
+
+pub or_no_second : (a b : Bool) → b ≡ false → (a || b) ≡ a
+or_no_second true b e = refl
+or_no_second false b e = e
 
 -- no bit of zero is set
 pub no_lane : (lane : ℕ) → has_lane 0 lane ≡ false
@@ -43,37 +47,48 @@ module _ (lanes more n : ℕ) (one : has_lane more n ≡ true) (others : (i : �
   pub lanes_or : (result : ℕ) (rest : List ℕ) → ((i : ℕ) → has_lane result i ≡ (has_lane more i || is_among i rest)) → (i : ℕ) → has_lane result i ≡ (has_lane lanes i || is_among i (n ∷ rest))
   lanes_or result rest all i = all i ∙ or_same i rest (i == n) refl
 
--- ---- a party's own entries
+-- ---- lanes of tables, of the archive and of parties
 
-module _ (lane : ℕ) where
-  touching_none : (order : List Taken) → last_touch lanes_of lane order ≡ 0 → touching lane order ≡ []
-  touching_none [] e = refl
-  touching_none (taken ∷ order) e =
-      let h = none_behind (has_lane taken.lanes lane) (last_touch lanes_of lane order) e in
-      ap (λ (b : Bool). if b then taken ∷ touching lane order else touching lane order) h.0 ∙ touching_none order h.1
+small : (table : TableId) → table_number table < 11
+small Counter = omega arith
+small Group = omega arith
+small Protect = omega arith
+small Domain = omega arith
+small Have = omega arith
+small Label = omega arith
+small Integed = omega arith
+small Resolve = omega arith
+small Working = omega arith
+small Change = omega arith
+small Rev = omega arith
 
-  touching_head : (b : Bool) (x : Taken) (xs ys zs : List Taken) → zs ≡ xs ++ ys → (if b then x ∷ zs else zs) ≡ (if b then x ∷ xs else xs) ++ ys
-  touching_head true x xs ys zs e = ap (λ (l : List Taken). x ∷ l) e
-  touching_head false x xs ys zs e = e
+-- a lane behind those of the tables is that of none
+not_of_table : (lane : ℕ) (table : TableId) → 11 ≤ lane → (lane == table_number table) ≡ false
+not_of_table lane table past = let less = small table in ne_eqb lane (table_number table) (λ e. absurd (omega arith))
 
-  touching_append : (xs ys : List Taken) → touching lane (xs ++ ys) ≡ touching lane xs ++ touching lane ys
-  touching_append [] ys = refl
-  touching_append (x ∷ xs) ys = touching_head (has_lane x.lanes lane) x (touching lane xs) (touching lane ys) (touching lane (xs ++ ys)) (touching_append xs ys)
+module _ {N : Type 0} where
+  -- nor is it among those of the held tables that are changed
+  pub not_next : (lane : ℕ) (held : List (HeldTable N)) → 11 ≤ lane → is_among lane (lanes_next held) ≡ false
+  not_next lane [] past = refl
+  not_next lane (h ∷ held) past = go h.next (not_next lane held past)
+    where
+      go : (next : Option TableRows) → is_among lane (lanes_next held) ≡ false → is_among lane (lane_next next (table_held h) (lanes_next held)) ≡ false
+      go None none = none
+      go (Some version) none = ap (λ (b : Bool). b || is_among lane (lanes_next held)) (not_of_table lane (table_held h) past) ∙ none
 
-  touching_kept : (xs ys : List Taken) → IsPrefix xs ys → last_touch lanes_of lane ys ≡ last_touch lanes_of lane xs → touching lane ys ≡ touching lane xs
-  touching_kept xs ys p e =
-      let short = last_touch_within lanes_of lane xs in
-      let whole : last_touch lanes_of lane (xs ++ p.0) ≤ length xs = subst (λ (l : List Taken). last_touch lanes_of lane l ≤ length xs) (sym p.1) (omega arith) in
-      ap (touching lane) (sym p.1) ∙ touching_append xs p.0 ∙ ap (λ (l : List Taken). touching lane xs ++ l) (touching_none p.0 (none_past lane xs p.0 whole)) ∙ append-nil (touching lane xs)
+-- the lane of a party is that of another just where they are one
+same_lane : (party other : ℕ) → (party_lane party == party_lane other) ≡ (other == party)
+same_lane party other = dite (ℕ_discrete other party)
+    (λ e. eq-eqb (party_lane party) (party_lane other) (ap party_lane (sym e)) ∙ sym (eq-eqb other party e))
+    (λ ne. ne_eqb (party_lane party) (party_lane other) (λ e. ne (omega arith)) ∙ sym (ne_eqb other party ne))
 
-  touching_one : (taken : Taken) → has_lane taken.lanes lane ≡ true → touching lane (taken ∷ []) ≡ taken ∷ []
-  touching_one taken is = ap (λ (b : Bool). if b then taken ∷ [] else []) is
+-- of the lanes of a party and of some below, a party's lane is that party's
+pub lane_of_party : (party other : ℕ) (lanes : List ℕ) → is_among (party_lane party) lanes ≡ false → is_among (party_lane party) (party_lane other ∷ lanes) ≡ (other == party)
+lane_of_party party other lanes none = or_no_second (party_lane party == party_lane other) (is_among (party_lane party) lanes) none ∙ same_lane party other
 
-  -- a list that knows each entry of the lane knows all but the one that comes now
-  pub is_own : (known before after : List Taken) (taken : Taken) → IsPrefix known before → last_touch lanes_of lane before ≡ last_touch lanes_of lane known
-      → after ≡ before ++ taken ∷ [] → has_lane taken.lanes lane ≡ true → IsOwn lane known before after
-  is_own known before after taken begins same last is = record {
-    taken = taken;
-    last = last;
-    own = ap (touching lane) last ∙ touching_append before (taken ∷ []) ∙ (λ i. touching_kept known before begins same i ++ touching_one taken is i);
-  }
+-- none of a party is the archive's
+pub not_archive : (party : ℕ) → 1 ≤ party → (party_lane party == archive_lane) ≡ false
+not_archive party low = ne_eqb (party_lane party) archive_lane (λ e. absurd (omega arith))
+
+pub not_party : (party : ℕ) → 1 ≤ party → (archive_lane == party_lane party) ≡ false
+not_party party low = ne_eqb archive_lane (party_lane party) (λ e. absurd (omega arith))

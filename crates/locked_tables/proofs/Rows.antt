@@ -11,6 +11,7 @@ use Rattle.order_words.specs.Lanes.{has_lane, last_touch, last_with_first}
 use Rattle.order_words.proofs.Touches.{last_touch_within}
 use Rattle.table_changes.specs.table_store.Rows.{changed_once}
 use Rattle.table_changes.specs.Changed.{AllRows, changed_in, changed_by}
+use Rattle.locked_tables.specs.Known.{KnowsLane}
 use Rattle.locked_tables.specs.Taken.{TouchesItsTables, changes_of, lanes_of, rows_after, rows_behind}
 use Rattle.locked_tables.specs.declared.taken.Taken.{Taken}
 
@@ -30,6 +31,13 @@ within_behind false (suc n) m h = omega arith
 pub none_past : (lane : ℕ) (xs rest : List Taken) → last_touch lanes_of lane (xs ++ rest) ≤ length xs → last_touch lanes_of lane rest ≡ 0
 none_past lane [] rest h = omega arith
 none_past lane (x ∷ xs) rest h = none_past lane xs rest (within_behind (has_lane x.lanes lane) (last_touch lanes_of lane (xs ++ rest)) (length xs) h)
+
+-- nor does one of the rest, where the lane's last place is known
+pub past_known : (lane : ℕ) (known order : List Taken) → (knows : KnowsLane lane known order) → last_touch lanes_of lane knows.begins.0 ≡ 0
+past_known lane known order knows =
+    let short = last_touch_within lanes_of lane known in
+    let last = knows.last in
+    none_past lane known knows.begins.0 (subst (λ (l : List Taken). last_touch lanes_of lane l ≤ length known) (sym knows.begins.1) (omega arith))
 
 changed_append : (xs ys : List Change) (rows : AllRows) → changed_by rows (xs ++ ys) ≡ changed_by (changed_by rows xs) ys
 changed_append [] ys rows = refl
@@ -62,9 +70,8 @@ module _ (table : TableId) where
   -- two beginnings with the same last touching place leave the same rows
   pub rows_kept : (rows : AllRows) (xs ys : List Taken) → IsPrefix xs ys → last_touch lanes_of (table_number table) ys ≡ last_touch lanes_of (table_number table) xs → rows_after rows ys table ≡ rows_after rows xs table
   rows_kept rows xs ys p e =
-      let short = last_touch_within lanes_of (table_number table) xs in
-      let whole : last_touch lanes_of (table_number table) (xs ++ p.0) ≤ length xs = subst (λ (l : List Taken). last_touch lanes_of (table_number table) l ≤ length xs) (sym p.1) (omega arith) in
-      ap (λ (l : List Taken). rows_after rows l table) (sym p.1) ∙ (ap (λ (r : AllRows). r table) (after_append xs p.0 rows) ∙ untouched p.0 (rows_after rows xs) (none_past (table_number table) xs p.0 whole))
+      ap (λ (l : List Taken). rows_after rows l table) (sym p.1)
+      ∙ (ap (λ (r : AllRows). r table) (after_append xs p.0 rows) ∙ untouched p.0 (rows_after rows xs) (past_known (table_number table) xs ys (record { begins = p; last = e })))
 
   -- one more entry that touches the table leaves what its changes do
   pub rows_placed : (rows : AllRows) (xs : List Taken) (taken : Taken) → has_lane taken.lanes (table_number table) ≡ true → rows_after rows (xs ++ taken ∷ []) table ≡ changed_by (rows_after rows xs) taken.changes table

@@ -1,5 +1,6 @@
 -- What is known behind each lock. This project's own choice.
 use Rattle.std.specs.Prelude.{◌≡◌, ◌<◌, ℕ, ◌-◌, true, List, [], ◌∷◌, ◌++◌}
+use mathlib.Core.List.{IsPrefix}
 use Rattle.depot_model.specs.db_records.declared.table.TableId.{TableId}
 use Rattle.order_words.specs.Lanes.{last_touch}
 use Rattle.order_words.specs.Seats.{Run, LaneState, fresh_lane}
@@ -33,6 +34,11 @@ pub record OrderKnown : Type 0 where
 -- one more entry, for which there was room
 abbrev pub with_entry : OrderKnown → Taken → OrderKnown
 with_entry known taken = record { list = known.list ++ taken ∷ []; room = known.room - 1 }
+
+-- a list begins the order, and no place behind it touches the lane
+pub record KnowsLane (lane : ℕ) (known order : List Taken) : Type 0 where
+  pub begins : IsPrefix known order
+  pub last : last_touch lanes_of lane order ≡ last_touch lanes_of lane known
 
 -- a table is after all entries as it was after those of a list
 abbrev pub IsStill : AllRows → List Taken → TableKnown → Type 0

@@ -1,10 +1,13 @@
 -- The entries of the order, and the rows that they leave in the tables. This project's own choice.
-use Rattle.std.specs.Prelude.{◌≡◌, ℕ, ◌+◌, ◌++◌, false, List, [], ◌∷◌, if◌then◌else◌}
+use Rattle.std.specs.Prelude.{◌≡◌, ℕ, ◌+◌, ◌==◌, ◌≤◌, ◌<◌, ◌++◌, false, List, [], ◌∷◌, Some, if◌then◌else◌}
+use mathlib.Core.List.{IsPrefix}
 use Rattle.depot_model.specs.db_records.Table.{table_number}
 use Rattle.depot_model.specs.db_records.declared.change.Change.{Change}
 use Rattle.depot_model.specs.db_records.declared.table.TableId.{TableId}
+use Rattle.depot_model.specs.Places.{Placed}
 use Rattle.depot_model.specs.declared.order.Place.{Place}
 use Rattle.order_words.specs.Lanes.{has_lane}
+use Rattle.order_words.specs.Seats.{Run, lane_count}
 use Rattle.table_changes.specs.Changed.{AllRows, changed_by}
 use Rattle.locked_tables.specs.declared.taken.Taken.{Taken}
 
@@ -25,16 +28,35 @@ lanes_of taken = taken.lanes
 abbrev pub place_of : Taken → Place
 place_of taken = record { party = taken.request.party; number = taken.request.number; moment = taken.request.moment; fault = taken.fault }
 
--- those of the entries that touch a lane, in order
-abbrev pub touching : ℕ → List Taken → List Taken
-touching lane [] = []
-touching lane (taken ∷ order) = if has_lane taken.lanes lane then taken ∷ touching lane order else touching lane order
+-- its place with what it asked
+abbrev pub placed_of : Taken → Placed
+placed_of taken = record { request = Some taken.request; fault = taken.fault }
 
--- the order has one more entry, and of those that touch the lane a list that knew them all has just that one more
-pub record IsOwn (lane : ℕ) (known before after : List Taken) : Type 0 where
+-- ---- parties
+
+-- a party of a run: it has one of the sixteen numbers, and its lane is one of the run's
+pub record IsParty (run : Run) (party : ℕ) : Type 0 where
+  pub low : 1 ≤ party
+  pub high : party ≤ 16
+  pub lane : party_lane party < lane_count run
+
+-- an entry is of a party of the run, and of the parties' lanes it touches that party's alone
+pub record TouchesItsParty (run : Run) (taken : Taken) : Type 0 where
+  pub party : IsParty run taken.request.party
+  pub lanes : (party : ℕ) → 1 ≤ party → party ≤ 16 → has_lane taken.lanes (party_lane party) ≡ (taken.request.party == party)
+
+-- those of the entries that a party asked for, in order
+abbrev pub of_party : ℕ → List Taken → List Taken
+of_party party [] = []
+of_party party (taken ∷ order) = if taken.request.party == party then taken ∷ of_party party order else of_party party order
+
+-- The order has one more entry. What the party knew begins the order before, with all that it had asked for, and of its own there is just that one more
+pub record IsOwn (party : ℕ) (known before after : List Taken) : Type 0 where
   pub taken : Taken
   pub last : after ≡ before ++ taken ∷ []
-  pub own : touching lane after ≡ touching lane known ++ taken ∷ []
+  pub begins : IsPrefix known before
+  pub earlier : of_party party before ≡ of_party party known
+  pub own : of_party party after ≡ of_party party known ++ taken ∷ []
 
 -- ---- rows
 
@@ -55,3 +77,10 @@ rows_behind rows taken table = if has_lane taken.lanes (table_number table) then
 abbrev pub rows_after : AllRows → List Taken → AllRows
 rows_after rows [] = rows
 rows_after rows (taken ∷ order) = rows_after (rows_behind rows taken) order
+
+-- ---- the archive
+
+-- how much of the archive is used after all entries, one after another: each that touches the archive's lane says it anew
+abbrev pub end_after : ℕ → List Taken → ℕ
+end_after end [] = end
+end_after end (taken ∷ order) = end_after (if has_lane taken.lanes archive_lane then taken.end else end) order

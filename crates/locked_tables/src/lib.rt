@@ -3,9 +3,10 @@
 //!
 //! The order is that of `order_words`: it exists in contracts alone. What lies behind the lock of
 //! a table is a version of the table, with the seat of the table's lane: the version is the table
-//! after the list of places of that seat ([`LockedTable`]). Behind the lock of the order lies the
-//! seat of the order, which has the list of all places ([`PlacedOrder`]). A party has a seat too,
-//! whose list has each of the party's own places ([`PartyPass`]).
+//! after the list of places of that seat ([`LockedTable`]). Behind the lock of the archive lies the
+//! seat of its lane, with how much of the archive is used ([`LockedArchive`]). Behind the lock of
+//! the order lies the seat of the order, which has the list of all places ([`PlacedOrder`]). A party
+//! has a seat too, whose list has each of the party's own places ([`PartyPass`]).
 //!
 //! How a command goes through them:
 //!
@@ -17,8 +18,8 @@
 //!   place of those that the place changes.
 #![tactic(auto)]
 
-mod archive_lane;
 mod held_table;
+mod locked_archive;
 mod locked_table;
 mod naming;
 mod party_pass;
@@ -29,8 +30,8 @@ mod table_locks;
 mod taken;
 mod words;
 
-pub use archive_lane::ArchiveLane;
 pub use held_table::HeldTable;
+pub use locked_archive::LockedArchive;
 pub use locked_table::LockedTable;
 pub use naming::Naming;
 pub use party_pass::PartyPass;

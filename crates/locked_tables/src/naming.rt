@@ -1,16 +1,19 @@
 //! Which run it is. The seats behind the locks and those of the parties are seats of one table of
-//! words, and all versions began with the same rows.
+//! words, and all versions began with the same rows, beside the same archive.
 use std::marker::Brand;
 
-/// Names the words of one run, and the rows that the tables had when it began. Each call of a
-/// program picks them.
+/// Names the words of one run, the rows that the tables had when it began, and how many bytes of
+/// the archive were used then. Each call of a program picks them.
 pub trait Naming {
+    ghost use Rattle.std.specs.Prelude.{ℕ};
     ghost use Rattle.order_words.specs.Seats.{Run};
     ghost use Rattle.table_changes.specs.Changed.{AllRows};
 
     ghost run: { Run };
 
     ghost rows: { AllRows };
+
+    ghost end: { ℕ };
 }
 
 impl Naming for Brand {
@@ -20,4 +23,6 @@ impl Naming for Brand {
     ghost run = { no_run };
 
     ghost rows = { no_rows };
+
+    ghost end = { 0 };
 }

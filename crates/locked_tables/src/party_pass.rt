@@ -1,7 +1,7 @@
 //! The token of a party.
-ghost use Rattle.std.specs.Prelude.{◌≡◌, ◌+◌, [], ◌<◌, ◌≤◌};
+ghost use Rattle.std.specs.Prelude.{◌≡◌, []};
 ghost use Rattle.order_words.specs.Seats.{fresh_lane};
-ghost use Rattle.locked_tables.specs.Taken.{party_lane};
+ghost use Rattle.locked_tables.specs.Taken.{IsParty, party_lane};
 
 use crate::naming::Naming;
 use crate::taken::Taken;
@@ -18,21 +18,22 @@ pub struct PartyPass<N: Naming> {
 }
 
 impl<N: Naming> Model for PartyPass<N> {
-    ghost use Rattle.std.specs.Prelude.{◌≡◌, ◌≤◌};
+    ghost use Rattle.std.specs.Prelude.{◌≡◌};
     ghost use Rattle.locked_tables.specs.Known.{PartyKnown, at_rest};
-    ghost use Rattle.locked_tables.specs.Taken.{party_lane};
+    ghost use Rattle.locked_tables.specs.Taken.{IsParty, party_lane};
 
     ghost Value = { PartyKnown };
 
     ghost view = { λ p. record { party = p.party; list = p.seat.list } };
 
-    ghost invariant = { λ p. (p.seat ≡ at_rest N.run (party_lane p.party) p.seat.list) × (p.party ≤ 16) };
+    ghost invariant = { λ p. (p.seat ≡ at_rest N.run (party_lane p.party) p.seat.list) × IsParty N.run p.party };
 }
 
 impl<N: Naming> PartyPass<N> {
     /// The pass of a party that knows no place. Parties have the numbers from 1 to 16.
     pub fn new(seat: LaneSeat<Taken>, party: u32) -> PartyPass<N>
-        requires { (seat ≡ fresh_lane N.run (party_lane party)) × (1 ≤ party) × (party ≤ 16) }
+        requires seat { seat ≡ fresh_lane N.run (party_lane party) }
+        requires party { IsParty N.run party }
         ensures { result ≡ record { party = party; list = [] } }
     {
         PartyPass {
@@ -44,7 +45,8 @@ impl<N: Naming> PartyPass<N> {
 
     /// The party's number.
     pub fn party(&self) -> u32
-        ensures { (result ≡ self.now.party) × (result ≤ 16) }
+        ensures party { result ≡ self.now.party }
+        ensures of_run { IsParty N.run result }
     {
         self.party
     }

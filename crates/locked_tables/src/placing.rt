@@ -1,12 +1,12 @@
 //! What is done with the seats of lanes under the lock of the order.
-ghost use Rattle.std.specs.Prelude.{◌≡◌, ◌+◌, ◌-◌, ◌^◌, ◌<◌, ℕ, [], ◌∷◌, ◌++◌, ◌||◌, length, drop};
+ghost use Rattle.std.specs.Prelude.{◌≡◌, ◌+◌, ◌-◌, ◌^◌, ◌<◌, ◌≤◌, ℕ, [], ◌∷◌, ◌++◌, ◌||◌, length, drop};
 ghost use Rattle.order_words.specs.Lanes.{has_lane, is_among};
-ghost use Rattle.locked_tables.specs.Taken.{archive_lane, party_lane, IsOwn};
-ghost use Rattle.locked_tables.specs.Known.{IsStill};
+ghost use Rattle.locked_tables.specs.Taken.{IsParty, archive_lane, party_lane};
+ghost use Rattle.locked_tables.specs.Known.{IsStill, KnowsLane};
 ghost use Rattle.locked_tables.specs.Held.{AllHaveLearnt, AllNext, AllStill, AreAmong, HasLearnt, HaveLearntFrom, known_of, lanes_next};
 
-use crate::archive_lane::ArchiveLane;
 use crate::held_table::HeldTable;
+use crate::locked_archive::LockedArchive;
 use crate::naming::Naming;
 use crate::party_pass::PartyPass;
 use crate::taken::Taken;
@@ -114,7 +114,8 @@ pub(crate) fn place_touching<N: Naming>(
     ensures order { order.new ≡ record order.old { list = order.old.list ++ record taken { lanes = result } ∷ []; checked = [] } }
     ensures lanes { (lane : ℕ) → has_lane result lane ≡ (has_lane lanes lane || is_among lane (party_lane pass.old.party ∷ lanes_next held.old)) }
     ensures pass { pass.new ≡ record pass.old { list = order.new.list } }
-    ensures own { IsOwn (party_lane pass.old.party) pass.old.list order.old.list order.new.list }
+    ensures knew { KnowsLane (party_lane pass.old.party) pass.old.list order.old.list }
+    ensures party { IsParty N.run pass.old.party }
 {
     words.orders.announce_next(order, &mut pass.seat);
     let more = with_lane(lanes, pass.party + 11);
@@ -124,27 +125,31 @@ pub(crate) fn place_touching<N: Naming>(
 }
 
 /// The same for a command that stored contents, which touches the archive's lane too. The archive's
-/// lane then knows the whole order.
+/// lane then knows the whole order, and as much of the archive is used as the command says.
 pub(crate) fn place_stored_at<N: Naming>(
     words: &OrderWords<N>,
     order: &mut OrderSeat<Taken>,
     held: &mut [HeldTable<'_, N>],
-    archive: &mut ArchiveLane<N>,
+    archive: &mut LockedArchive<N>,
     pass: &mut PartyPass<N>,
     taken: Taken,
 ) -> u32
     requires run { order.old.run ≡ N.run }
     requires room { length order.old.list < 2 ^ 64 - 1 }
+    requires fits { taken.end ≤ 2 ^ 63 - 1 }
     requires next { AllNext N.rows taken.changes held.old }
     ensures order { order.new ≡ record order.old { list = order.old.list ++ record taken { lanes = result } ∷ []; checked = [] } }
     ensures lanes { (lane : ℕ) → has_lane result lane ≡ is_among lane (archive_lane ∷ party_lane pass.old.party ∷ lanes_next held.old) }
     ensures archive { archive.new ≡ order.new.list }
     ensures pass { pass.new ≡ record pass.old { list = order.new.list } }
-    ensures own { IsOwn (party_lane pass.old.party) pass.old.list order.old.list order.new.list }
+    ensures knew { KnowsLane (party_lane pass.old.party) pass.old.list order.old.list }
+    ensures party { IsParty N.run pass.old.party }
 {
+    let end = taken.end;
     words.orders.announce_next(order, &mut archive.seat);
     let lanes = with_lane(0, 11);
     let all = place_touching(words, order, held, pass, lanes, taken);
     words.orders.settle(order, &mut archive.seat);
+    archive.end = end;
     all
 }

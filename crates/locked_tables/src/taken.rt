@@ -1,7 +1,7 @@
 //! An entry of the order.
 
 use depot_model::paths::Sequence;
-use depot_model::records::{Change, Spot};
+use depot_model::records::Change;
 use depot_model::{Place, Request};
 use order_words::Entry;
 
@@ -16,8 +16,9 @@ pub struct Taken {
     pub lanes: u32,
     /// What it changed in the tables.
     pub changes: Sequence<Change>,
-    /// Where the contents stand in the archive that it stored, in the order in which they were.
-    pub spots: Sequence<Spot>,
+    /// How many bytes of the archive are used after it. It counts where the archive's lane is
+    /// touched.
+    pub end: u64,
 }
 
 impl Entry for Taken {

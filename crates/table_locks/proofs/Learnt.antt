@@ -1,10 +1,8 @@
 -- Held tables that have learnt the whole order.
 use Rattle.std.proofs.Common.{◌≡◌, Bool, true, false, List, [], ◌∷◌, Result, Ok, Err, refl, sym, ap, subst, ◌∙◌}
-use Rattle.std.specs.Prelude.{◌||◌, IsTrue}
+use Rattle.std.specs.Prelude.{◌||◌}
 use Rattle.std.specs.List.{AllByRecursion, list_any}
-use Rattle.depot_model.specs.db_records.Table.{table_number}
 use Rattle.depot_model.specs.db_records.declared.table.TableId.{TableId}
-use Rattle.depot_model.specs.Tables.{touches}
 use Rattle.depot_model.specs.declared.command.Command.{Command}
 use Rattle.depot_model.specs.declared.request.Request.{Request}
 use Rattle.depot_model.specs.declared.request.WordFault.{WordFault}

@@ -1,8 +1,12 @@
 pub mod Tables
 pub mod Sets
+pub mod Alone
 pub mod Seen
 pub mod Adding
 pub mod Written
 pub mod Learnt
 pub mod Next
 pub mod Placed
+pub mod Fitting
+pub mod Following
+pub mod Ends

@@ -1,7 +1,6 @@
 -- The next versions of held tables.
-use Rattle.std.proofs.Common.{◌≡◌, ℕ, Bool, true, false, cond, List, [], ◌∷◌, Option, Some, None, IfSome, refl, sym, ap, subst, ◌∙◌}
+use Rattle.std.proofs.Common.{◌≡◌, ℕ, Bool, true, false, List, [], ◌∷◌, Option, Some, None, IfSome, refl, sym, ap, subst, ◌∙◌}
 use Rattle.std.specs.Prelude.{◌==◌, ◌||◌, ◌&&◌, if◌then◌else◌}
-use Rattle.std.specs.List.{AllByRecursion, list_all, list_any}
 use Rattle.std.proofs.lemmas.Bool.{eqb-true, eq-eqb, true≢false, false≢true}
 use Rattle.depot_model.specs.db_records.Record.{table_of}
 use Rattle.depot_model.specs.db_records.Table.{table_number}
@@ -17,7 +16,7 @@ use Rattle.order_words.specs.Lanes.{is_among}
 use Rattle.table_changes.specs.Changed.{AllRows, changed_by, changed_in}
 use Rattle.table_changes.specs.table_store.Rows.{TableRows, changed_once}
 use Rattle.table_locks.specs.Confirmed.{tables_of}
-use Rattle.table_locks.specs.Gathered.{AllHeldSeen, HasSeen, is_of}
+use Rattle.table_locks.specs.Gathered.{AllHeldSeen, HasSeen}
 use Rattle.table_locks.specs.Prepared.{AllFollow, Follows, are_held, is_changed, is_held, next_of}
 use Rattle.table_locks.proofs.Tables.{same_number}
 

@@ -1,5 +1,5 @@
 -- Held tables that were written through a slice of their list.
-use Rattle.std.proofs.Common.{◌≡◌, ℕ, suc, List, [], ◌∷◌, ◌++◌, length, take, drop, refl, sym, ap, ◌∙◌, append-nil, arith}
+use Rattle.std.proofs.Common.{◌≡◌, ℕ, suc, List, [], ◌∷◌, ◌++◌, length, take, drop, refl, ap, ◌∙◌, append-nil, arith}
 use Rattle.std.proofs.lemmas.List.{drop_all, take_all}
 use Rattle.depot_model.specs.db_records.declared.change.Change.{Change}
 use Rattle.locked_tables.specs.Held.{AllHaveLearnt}

@@ -6,7 +6,7 @@ use Rattle.locked_tables.specs.Held.{known_of, table_held}
 use Rattle.locked_tables.specs.declared.held_table.HeldTable.{HeldTable}
 use Rattle.locked_tables.specs.declared.taken.Taken.{Taken}
 use Rattle.table_changes.specs.Changed.{AllRows, rows_of}
-use Rattle.table_locks.specs.Gathered.{AllHeldSeen, tables_held}
+use Rattle.table_locks.specs.Gathered.{AllHeldSeen}
 use Rattle.table_locks.specs.declared.confirmed.Confirmed.{Confirmed}
 use Rattle.table_locks.specs.declared.gathered.Gathered.{Gathered}
 

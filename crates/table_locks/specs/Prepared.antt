@@ -1,5 +1,5 @@
 -- What a command has once its changes are prepared. This project's own choice.
-use Rattle.std.specs.Prelude.{◌≡◌, ◌==◌, Bool, List, [], ◌∷◌, Option, Some, None, if◌then◌else◌}
+use Rattle.std.specs.Prelude.{◌≡◌, ◌==◌, ℕ, zero, suc, Bool, List, [], ◌∷◌, Option, Some, None, if◌then◌else◌}
 use Rattle.std.specs.List.{list_all, list_any}
 use Rattle.depot_model.specs.db_records.Record.{table_of}
 use Rattle.depot_model.specs.db_records.Table.{table_number}
@@ -40,6 +40,13 @@ module _ {N : Type 0} where
   AllFollow after changes [] [] = Unit {0}
   AllFollow after changes (old ∷ olds) (new ∷ news) = Follows after changes old new × AllFollow after changes olds news
   AllFollow after changes _ _ = ⊥
+
+  -- so is each of them from an index on, and those before it are the same
+  abbrev pub FollowFrom : ℕ → AllRows → List Change → List (HeldTable N) → List (HeldTable N) → Type 0
+  FollowFrom zero after changes olds news = AllFollow after changes olds news
+  FollowFrom (suc from) after changes [] [] = Unit {0}
+  FollowFrom (suc from) after changes (old ∷ olds) (new ∷ news) = (new ≡ old) × FollowFrom from after changes olds news
+  FollowFrom (suc from) after changes _ _ = ⊥
 
   -- The versions that are to follow are those after the changes. They are of the tables of which a row changes, and no other table changes
   pub record IsPrepared (start : AllRows) (changes : List Change) (prepared : Prepared N) : Type 0 where

@@ -1,7 +1,10 @@
 //! What a command has gathered of its set.
-ghost use Rattle.std.specs.Prelude.{◌≡◌, [], IfOk, OnOk};
+ghost use Rattle.std.specs.Prelude.{◌≡◌, ◌≤◌, ◌-◌, ◌^◌, [], IfOk, OnOk};
 ghost use Rattle.depot_model.specs.db_records.Table.{table_number};
-ghost use Rattle.table_locks.specs.Gathered.{AddsHeld, AddsPeek, IsBelow, IsShown};
+ghost use Rattle.depot_model.specs.db_records.declared.table.TableId.{TableId as AnyTable};
+ghost use Rattle.depot_model.specs.declared.request.Request.{Request};
+ghost use Rattle.table_changes.specs.table_store.Tables.{version_of};
+ghost use Rattle.table_locks.specs.Gathered.{AddsHeld, AddsPeek, Covers, IsBelow, IsShown};
 
 use depot_model::records::TableId;
 use locked_tables::{HeldTable, Naming, OrderWords, Peek, TableLocks};
@@ -35,6 +38,18 @@ impl<'a, N: Naming> Gathered<'a, N> {
         ensures { result.now ≡ self.now.tables }
     {
         &self.tables
+    }
+
+    /// Sets how many bytes of the archive are used. All else stays.
+    pub fn set_archive_end(&mut self, used: u64)
+        requires { used ≤ 2 ^ 63 - 1 }
+        ensures end { self.new.tables.archive_end ≡ used }
+        ensures versions { (table : AnyTable) → version_of self.new.tables table ≡ version_of self.old.tables table }
+        ensures same { (self.new.held ≡ self.old.held) × (self.new.peeks ≡ self.old.peeks) }
+        ensures shown { IsShown N.rows self.old → IsShown N.rows self.new }
+        ensures covers { (request : Request) → Covers self.old request → Covers self.new request }
+    {
+        self.tables.set_archive_end(used);
     }
 
     /// Takes the lock of a table behind those that it has. The error is that of `hold`, or stands

@@ -1,5 +1,5 @@
 //! How a command gathers its set.
-ghost use Rattle.std.specs.Prelude.{◌≡◌, map, filter, IfOk, OnOk};
+ghost use Rattle.std.specs.Prelude.{◌≡◌, [], map, filter, IfOk, IsTrue, OnOk};
 ghost use Rattle.command_needs.specs.Sets.{need_of};
 ghost use Rattle.depot_model.specs.db_records.Table.{all_tables, table_number};
 ghost use Rattle.depot_model.specs.Tables.{needs_of};
@@ -42,8 +42,8 @@ impl<'a, N: Naming> Gathered<'a, N> {
 }
 
 /// Gathers the tables of a set in rising order: takes the locks of those that are written, and
-/// looks at those that are only read; where the whole set is to be held, takes the lock of each.
-/// The error stands for want of memory, or is one that `TableLocks::hold` names.
+/// looks at those that are only read; where the whole set is to be held, takes the lock of each,
+/// and looks at none. The error stands for want of memory, or is one that `TableLocks::hold` names.
 pub fn gather<'a, N: Naming>(
     rt: &impl Wait,
     alloc: Global,
@@ -55,6 +55,7 @@ pub fn gather<'a, N: Naming>(
     ensures shown { IfOk result (IsShown N.rows) }
     ensures held { IfOk result (λ gathered. tables_held gathered ≡ filter (holds_table whole needs.now) all_tables) }
     ensures seen { IfOk result (λ gathered. tables_seen gathered ≡ filter (looks_at whole needs.now) all_tables) }
+    ensures alone { IfOk result (λ gathered. IsTrue whole → gathered.peeks.items ≡ []) }
     ensures covers { IfOk result (λ gathered. (request : Request) → map need_of needs.now ≡ needs_of request → Covers gathered request) }
 {
     let mut gathered = Gathered::empty(alloc)?;

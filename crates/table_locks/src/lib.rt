@@ -16,6 +16,7 @@ mod gathered;
 mod gathering;
 mod placing;
 mod prepared;
+mod preparing;
 mod ways;
 
 pub use confirmed::Confirmed;

@@ -1,15 +1,15 @@
 //! How a command is given its place.
-ghost use Rattle.std.specs.Prelude.{◌≡◌, ◌<◌, ℕ, [], ◌∷◌};
+ghost use Rattle.std.specs.Prelude.{◌≡◌, ◌<◌, ◌≤◌, ◌-◌, ◌^◌, ℕ, [], ◌∷◌};
 ghost use Rattle.depot_model.specs.db_records.declared.table.TableId.{TableId};
 ghost use Rattle.locked_tables.specs.Held.{lanes_next};
 ghost use Rattle.locked_tables.specs.Known.{with_entry};
-ghost use Rattle.locked_tables.specs.Taken.{IsOwn, archive_lane, party_lane, rows_after};
+ghost use Rattle.locked_tables.specs.Taken.{IsOwn, archive_lane, end_after, party_lane, rows_after};
 ghost use Rattle.order_words.specs.Lanes.{has_lane, is_among};
 ghost use Rattle.table_changes.specs.Changed.{changed_by};
 ghost use Rattle.table_locks.specs.Prepared.{IsPrepared};
 
 use crate::prepared::Prepared;
-use locked_tables::{ArchiveLane, Naming, OrderWords, PartyPass, PlacedOrder, Taken};
+use locked_tables::{LockedArchive, Naming, OrderWords, PartyPass, PlacedOrder, Taken};
 use std::alloc::Global;
 
 impl<'a, N: Naming> Prepared<'a, N> {
@@ -24,34 +24,40 @@ impl<'a, N: Naming> Prepared<'a, N> {
         taken: Taken,
     ) -> u32
         requires room { 0 < order.old.room }
+        requires party { taken.request.party ≡ pass.old.party }
         requires prepared { IsPrepared N.rows taken.changes self }
         ensures placed { order.new ≡ with_entry order.old (record taken { lanes = result }) }
         ensures rows { (table : TableId) → rows_after N.rows order.new.list table ≡ changed_by (rows_after N.rows order.old.list) taken.changes table }
         ensures lanes { (lane : ℕ) → has_lane result lane ≡ is_among lane (party_lane pass.old.party ∷ lanes_next self.entry.held.items) }
         ensures pass { pass.new ≡ record pass.old { list = order.new.list } }
-        ensures own { IsOwn (party_lane pass.old.party) pass.old.list order.old.list order.new.list }
+        ensures own { IsOwn pass.old.party pass.old.list order.old.list order.new.list }
+        ensures end { end_after N.end order.new.list ≡ end_after N.end order.old.list }
     {
         let Prepared { mut held } = self;
         order.place(words, held.as_mut_slice(), pass, taken)
     }
 
-    /// The same for a command that stored contents, which touches the archive's lane too.
+    /// The same for a command that stored contents, which touches the archive's lane too: as much
+    /// of the archive is used then as it says.
     pub fn place_stored(
         self,
         words: &OrderWords<N>,
         order: &mut PlacedOrder<N>,
-        archive: &mut ArchiveLane<N>,
+        archive: &mut LockedArchive<N>,
         pass: &mut PartyPass<N>,
         taken: Taken,
     ) -> u32
         requires room { 0 < order.old.room }
+        requires fits { taken.end ≤ 2 ^ 63 - 1 }
+        requires party { taken.request.party ≡ pass.old.party }
         requires prepared { IsPrepared N.rows taken.changes self }
         ensures placed { order.new ≡ with_entry order.old (record taken { lanes = result }) }
         ensures rows { (table : TableId) → rows_after N.rows order.new.list table ≡ changed_by (rows_after N.rows order.old.list) taken.changes table }
         ensures lanes { (lane : ℕ) → has_lane result lane ≡ is_among lane (archive_lane ∷ party_lane pass.old.party ∷ lanes_next self.entry.held.items) }
         ensures archive { archive.new ≡ order.new.list }
         ensures pass { pass.new ≡ record pass.old { list = order.new.list } }
-        ensures own { IsOwn (party_lane pass.old.party) pass.old.list order.old.list order.new.list }
+        ensures own { IsOwn pass.old.party pass.old.list order.old.list order.new.list }
+        ensures end { end_after N.end order.new.list ≡ taken.end }
     {
         let Prepared { mut held } = self;
         order.place_stored(words, held.as_mut_slice(), archive, pass, taken)
@@ -68,35 +74,40 @@ pub fn place_unchanged<N: Naming>(
     taken: Taken,
 ) -> u32
     requires room { 0 < order.old.room }
+    requires party { taken.request.party ≡ pass.old.party }
     requires unchanged { taken.changes ≡ [] }
     ensures placed { order.new ≡ with_entry order.old (record taken { lanes = result }) }
     ensures rows { (table : TableId) → rows_after N.rows order.new.list table ≡ rows_after N.rows order.old.list table }
     ensures lanes { (lane : ℕ) → has_lane result lane ≡ is_among lane (party_lane pass.old.party ∷ []) }
     ensures pass { pass.new ≡ record pass.old { list = order.new.list } }
-    ensures own { IsOwn (party_lane pass.old.party) pass.old.list order.old.list order.new.list }
+    ensures own { IsOwn pass.old.party pass.old.list order.old.list order.new.list }
+    ensures end { end_after N.end order.new.list ≡ end_after N.end order.old.list }
 {
     let mut held = Vec::new(alloc);
     order.place(words, held.as_mut_slice(), pass, taken)
 }
 
 /// The same for a command that stored contents which are kept, though a disk failed. It touches
-/// the archive's lane too.
+/// the archive's lane too: as much of the archive is used then as it says.
 pub fn place_kept<N: Naming>(
     alloc: Global,
     words: &OrderWords<N>,
     order: &mut PlacedOrder<N>,
-    archive: &mut ArchiveLane<N>,
+    archive: &mut LockedArchive<N>,
     pass: &mut PartyPass<N>,
     taken: Taken,
 ) -> u32
     requires room { 0 < order.old.room }
+    requires fits { taken.end ≤ 2 ^ 63 - 1 }
+    requires party { taken.request.party ≡ pass.old.party }
     requires unchanged { taken.changes ≡ [] }
     ensures placed { order.new ≡ with_entry order.old (record taken { lanes = result }) }
     ensures rows { (table : TableId) → rows_after N.rows order.new.list table ≡ rows_after N.rows order.old.list table }
     ensures lanes { (lane : ℕ) → has_lane result lane ≡ is_among lane (archive_lane ∷ party_lane pass.old.party ∷ []) }
     ensures archive { archive.new ≡ order.new.list }
     ensures pass { pass.new ≡ record pass.old { list = order.new.list } }
-    ensures own { IsOwn (party_lane pass.old.party) pass.old.list order.old.list order.new.list }
+    ensures own { IsOwn pass.old.party pass.old.list order.old.list order.new.list }
+    ensures end { end_after N.end order.new.list ≡ taken.end }
 {
     let mut held = Vec::new(alloc);
     order.place_stored(words, held.as_mut_slice(), archive, pass, taken)

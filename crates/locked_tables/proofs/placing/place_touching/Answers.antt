@@ -1,11 +1,11 @@
 use Rattle.std.proofs.Common.{◌≡◌, ◌||◌, ℕ, [], ◌∷◌, ◌++◌, true, List, sym, ap, subst, ◌∙◌}
 use Rattle.order_words.specs.Lanes.{has_lane, is_among}
 use Rattle.order_words.specs.Seats.{LaneState, OrderState}
-use Rattle.locked_tables.specs.Known.{PartyKnown}
-use Rattle.locked_tables.specs.Taken.{IsOwn, party_lane}
+use Rattle.locked_tables.specs.Known.{KnowsLane, PartyKnown}
+use Rattle.locked_tables.specs.Taken.{IsParty, party_lane}
 use Rattle.locked_tables.specs.Held.{lanes_next}
 use Rattle.locked_tables.specs.declared.taken.Taken.{Taken}
-use Rattle.locked_tables.proofs.Lanes.{is_own, lanes_or, or_first}
+use Rattle.locked_tables.proofs.Lanes.{lanes_or, or_first}
 use Rattle.locked_tables.proofs.Announced.{announced_placed}
 use Rattle.locked_tables.proofs.Seats.{same_touch}
 use Rattle.locked_tables.proofs.placing.place_touching.Goals as goal
@@ -29,16 +29,16 @@ returns-clause-lanes g c =
     λ lane. lanes_or c.args.lanes c.with_lane-more.result (party_lane c.pass.inside.party) c.with_lane-more.ensures.one c.with_lane-more.ensures.others c.place_tables-all.result (lanes_next c.args.held.now) c.place_tables-all.ensures.lanes lane
     ∙ ap (λ (n : ℕ). has_lane c.args.lanes lane || is_among lane (party_lane n ∷ lanes_next c.args.held.now)) party
 
-pub returns-clause-own : goal.returns-clause-own
-returns-clause-own g c =
-    let result = c.place_tables-all.result in
-    let entry : Taken = record c.args.taken { lanes = result } in
+pub returns-clause-knew : goal.returns-clause-knew
+returns-clause-knew g c =
     let order = c.args.order.now.list in
     let seat = c.pass.inside.seat in
     let lane = party_lane c.pass.inside.party in
-    let last : c.settle.new.order.list ≡ order ++ entry ∷ [] =
-    ap (λ (o : OrderState Taken). o.list) c.settle.ensures.order ∙ (ap (λ (o : OrderState Taken). o.list) c.place_tables-all.ensures.order ∙ ap (λ (l : List Taken). l ++ entry ∷ []) (ap (λ (o : OrderState Taken). o.list) c.announce_next.ensures.order)) in
-    let has : has_lane result lane ≡ true = c.place_tables-all.ensures.lanes lane ∙ or_first (has_lane c.with_lane-more.result lane) _ c.with_lane-more.ensures.one in
-    let inner : IsOwn lane seat.list order c.settle.new.order.list =
-    is_own lane seat.list order c.settle.new.order.list entry c.announce_next.ensures.begins (same_touch g.N.Naming.run lane order seat.list seat c.pass.invariant.0 c.announce_next.ensures.last) last has in
-    subst (λ (p : PartyKnown). IsOwn (party_lane p.party) p.list order c.settle.new.order.list) c.pass.view_is inner
+    let inner : KnowsLane lane seat.list order = record {
+      begins = c.announce_next.ensures.begins;
+      last = same_touch g.N.Naming.run lane order seat.list seat c.pass.invariant.0 c.announce_next.ensures.last;
+    } in
+    subst (λ (p : PartyKnown). KnowsLane (party_lane p.party) p.list order) c.pass.view_is inner
+
+pub returns-clause-party : goal.returns-clause-party
+returns-clause-party g c = subst (λ (p : PartyKnown). IsParty g.N.Naming.run p.party) c.pass.view_is c.pass.invariant.1

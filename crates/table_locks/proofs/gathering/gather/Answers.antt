@@ -3,6 +3,7 @@ use Rattle.locked_tables.specs.Held.{table_held}
 use Rattle.locked_tables.specs.Known.{TableKnown}
 use Rattle.table_locks.specs.Ways.{holds_table, looks_at}
 use Rattle.table_locks.proofs.Adding.{below_at, below_more, filter_all, filter_next, none_below, none_shown}
+use Rattle.table_locks.proofs.Alone.{none_seen}
 use Rattle.table_locks.proofs.Sets.{covers}
 use Rattle.table_locks.proofs.gathering.gather.Goals as goal
 
@@ -38,6 +39,11 @@ returns-clause-held g c = filter_all (holds_table c.args.whole c.args.needs.now)
 
 pub returns-clause-seen : goal.returns-clause-seen
 returns-clause-seen g c = filter_all (looks_at c.args.whole c.args.needs.now) c.loop-table.table-index c.loop-table-test.false _ c.loop-table.invariant.seen
+
+pub returns-clause-alone : goal.returns-clause-alone
+returns-clause-alone g c = λ yes.
+    let seen = filter_all (looks_at c.args.whole c.args.needs.now) c.loop-table.table-index c.loop-table-test.false _ c.loop-table.invariant.seen in
+    none_seen c.loop-table.gathered c.args.whole c.args.needs.now seen yes
 
 pub returns-clause-covers : goal.returns-clause-covers
 returns-clause-covers g c = λ request set.

@@ -1,9 +1,8 @@
-use Rattle.std.proofs.Common.{◌≡◌, [], ◌∷◌, List, sym, ap, subst, ◌∙◌}
+use Rattle.std.proofs.Common.{List, ap, ◌∙◌}
 use Rattle.depot_model.specs.db_records.declared.change.Change.{Change}
-use Rattle.locked_tables.specs.Held.{OnlyChange, lanes_next}
-use Rattle.locked_tables.specs.Taken.{TouchesItsTables, party_lane, rows_after}
+use Rattle.locked_tables.specs.Taken.{rows_after}
 use Rattle.locked_tables.specs.declared.taken.Taken.{Taken}
-use Rattle.table_changes.specs.Changed.{AllRows, changed_by}
+use Rattle.table_changes.specs.Changed.{changed_by}
 use Rattle.table_locks.proofs.Placed.{changes_none, rows_with, touches_none}
 use Rattle.table_locks.proofs.placing.place_kept.Goals as goal
 

@@ -1,0 +1,22 @@
+use Rattle.std.proofs.Common.{[], Vec, Global}
+use Rattle.std.specs.List.{AllByRecursion}
+use Rattle.archive_file.specs.Archive.{disk_of as archive_disk_of}
+use Rattle.depot_model.specs.declared.request.Request.{Request}
+use Rattle.disk_journal.specs.Stands.{disk_of}
+use Rattle.run_parties.specs.serial_depot.Running.{HasRun}
+use Rattle.session_loop.specs.Taking.{IsProper}
+use Rattle.table_changes.specs.Changed.{rows_of}
+use Rattle.party_threads.proofs.run.run_on_threads.Given as goal
+
+-- the words that were just made, and the tables and the archive as they are
+abbrev pub ghosts-run_named-N-Naming : goal.ghosts-run_named-N-Naming
+ghosts-run_named-N-Naming g a = record { run = a.words.0; rows = rows_of a.depot.tables; end = a.depot.tables.archive_end }
+
+-- the depots from which the depot in files has run no place, where all requests are proper
+abbrev pub ghosts-run_named-N-Serving : goal.ghosts-run_named-N-Serving
+ghosts-run_named-N-Serving g a = record {
+  begins = λ since start.
+      AllByRecursion (λ (own : Vec Request Global). AllByRecursion IsProper own.items) a.requests.items × HasRun g.D.Disk.seen g.D.Disk.may_leave g.D.Disk.moment g.D.Disk.left_since a.depot since start [];
+  faults = g.D.Disk.faults (disk_of a.depot.journal);
+  content_faults = g.D.Disk.faults (archive_disk_of a.depot.archive);
+}

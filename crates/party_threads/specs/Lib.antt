@@ -1,0 +1,8 @@
+pub mod Entries
+pub mod Parties
+pub mod Replicas
+pub mod Rooms
+-- what stands below, for the crates above
+pub use Rattle.run_parties.specs as run_parties
+pub use Rattle.run_parties.specs.replica_turns as replica_turns
+pub use Rattle.run_parties.specs.serial_depot as serial_depot

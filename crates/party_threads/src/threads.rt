@@ -1,0 +1,186 @@
+//! The sessions of all parties, each on a thread of its own.
+
+ghost use Rattle.std.specs.Prelude.{◌≡◌, ◌≤◌, ◌+◌, ℕ, List, [], false, length, map, vec_capacity, All, IfErr, IfOk};
+ghost use Rattle.archive_file.specs.Archive.{disk_of as archive_disk_of};
+ghost use Rattle.depot_model.specs.db_records.declared.table.TableId.{TableId};
+ghost use Rattle.depot_model.specs.Deeds.{Deed};
+ghost use Rattle.disk_journal.specs.Stands.{disk_of};
+ghost use Rattle.order_words.specs.Seats.{fresh_lanes, fresh_order, lane_count};
+ghost use Rattle.party_threads.specs.Parties.{AreAsked, AreCollected, HasRunParty, HaveRun, HaveRunSessions, IsReady};
+ghost use Rattle.party_threads.specs.Rooms.{IsRoom};
+ghost use Rattle.run_parties.specs.serial_depot.Running.{CanTake, HasRun};
+ghost use Rattle.shared_depot.specs.Sharing.{fresh_passes};
+ghost use Rattle.table_changes.specs.Changed.{rows_of};
+
+use crate::party::{ThreadParty, put_parties};
+use crate::run::ThreadsRun;
+use depot_model::Request;
+use locked_tables::{Naming, Taken};
+use order_words::{LaneSeat, OrderSeat, Orders};
+use outside_api::{Disk, Gate, Sink};
+use run_parties::depots::SerialDepot;
+use session_loop::SessionRun;
+use shared_depot::{Closed, OpenedDepot, Serving, Shared, SharedDepot};
+use std::alloc::{AllocError, Global};
+use std::sync::Wait;
+use std::thread::{Threads, for_each_mut};
+
+/// Runs each party on a thread of its own where one can be started.
+fn run_parties<
+    R: Threads + Wait + Sync,
+    D: Disk + Send,
+    K: Sink + Send + Drop,
+    G: Gate + Sync,
+    N: Naming + Serving + Send + Sync,
+>(rt: &R, alloc: Global, depot: &SharedDepot<D, N>, gate: &G, parties: &mut [ThreadParty<K, N>])
+    requires { All (IsReady N.begins) parties.old }
+    ensures run { HaveRun K.given K.faults N.begins parties.old parties.new }
+    ensures count { length parties.new ≡ length parties.old }
+{
+    let threads = parties.len().max(1);
+    for_each_mut(
+        rt,
+        parties,
+        threads,
+        &|_, party: &mut ThreadParty<K, N>|
+            requires { IsReady N.begins party.now }
+            ensures { HasRunParty K.given K.faults N.begins party.entry.now party.exit.now }
+        { party.run(rt, alloc, depot, gate) },
+    );
+}
+
+/// Hears what each party knows, and puts together what the parties leave. It takes no memory.
+fn collect<D: Disk, K: Sink + Drop, N: Naming + Serving>(
+    depot: &mut OpenedDepot<D, N>,
+    parties: Vec<ThreadParty<K, N>>,
+    runs: &mut Vec<SessionRun>,
+    sinks: &mut Vec<K>,
+)
+    requires no_runs { runs.old.items ≡ [] }
+    requires no_sinks { sinks.old.items ≡ [] }
+    requires room { length parties.items ≤ vec_capacity runs.old }
+    requires room_for_sinks { length parties.items ≤ vec_capacity sinks.old }
+    ensures same { depot.new ≡ depot.old }
+    ensures collected { AreCollected depot.old parties.items runs.new.items sinks.new.items }
+{
+    for party in parties {
+        let ThreadParty {
+            requests: _,
+            mut pass,
+            sink,
+            run,
+        } = party;
+        depot.hear(&mut pass);
+        runs.push(run).unwrap();
+        sinks.push(sink).unwrap();
+    }
+}
+
+/// Room for the parties, and for what they leave.
+#[derive(Drop)]
+struct Room<K: Sink, N: Naming> {
+    parties: Vec<ThreadParty<K, N>>,
+    runs: Vec<SessionRun>,
+    sinks: Vec<K>,
+}
+
+impl<K: Sink + Drop, N: Naming> Room<K, N> {
+    /// Room for so many parties. The one error is want of memory.
+    fn new(alloc: Global, parties: usize) -> Result<Room<K, N>, AllocError>
+        ensures { IfOk result (IsRoom parties) }
+    {
+        Ok(Room {
+            parties: Vec::with_capacity(alloc, parties)?,
+            runs: Vec::with_capacity(alloc, parties)?,
+            sinks: Vec::with_capacity(alloc, parties)?,
+        })
+    }
+}
+
+/// Runs the sessions of parties over a shared depot, which it closes behind the last of them.
+fn run_and_close<
+    R: Threads + Wait + Sync,
+    D: Disk + Send,
+    K: Sink + Send + Drop,
+    G: Gate + Sync,
+    N: Naming + Serving + Send + Sync,
+>(
+    rt: &R,
+    alloc: Global,
+    shared: Shared<D, N>,
+    requests: Vec<Vec<Request>>,
+    gate: &G,
+    sinks: Vec<K>,
+    room: Room<K, N>,
+) -> ThreadsRun<D, K>
+    requires passes { shared.passes.items ≡ fresh_passes (length requests.items) }
+    requires lanes { lane_count N.run ≡ 12 + length requests.items }
+    requires as_many { length sinks.items ≡ length requests.items }
+    requires asked { AreAsked N.begins (map (λ own. own.items) requests.items) }
+    requires room { IsRoom (length requests.items) room }
+    ensures run { HaveRunSessions D.seen D.may_leave D.moment D.left_since D.faults K.given K.faults N.begins N.faults N.content_faults (map (λ own. own.items) requests.items) sinks.items result }
+    ensures lost { result.lost ≡ false }
+{
+    let Room {
+        mut parties,
+        mut runs,
+        sinks: mut left,
+    } = room;
+    let Shared { depot, passes } = shared;
+    put_parties(requests, passes, sinks, &mut parties);
+    run_parties(rt, alloc, &depot, gate, &mut parties);
+    let mut opened = depot.open();
+    collect(&mut opened, parties, &mut runs, &mut left);
+    let Closed { depot, order } = opened.close();
+    ThreadsRun {
+        runs,
+        sinks: left,
+        order,
+        lost: false,
+        depot,
+    }
+}
+
+/// Runs the sessions of all parties, numbered from 1, over a depot, with words for them. The one error is want of memory before the first thread; it gives
+/// back the depot, with which nothing was done.
+pub(crate) fn run_named<
+    R: Threads + Wait + Sync,
+    D: Disk + Send,
+    K: Sink + Send + Drop,
+    G: Gate + Sync,
+    N: Naming + Serving + Send + Sync,
+>(
+    rt: &R,
+    alloc: Global,
+    words: (Orders<Taken>, OrderSeat<Taken>, Vec<LaneSeat<Taken>>),
+    requests: Vec<Vec<Request>>,
+    gate: &G,
+    sinks: Vec<K>,
+    depot: SerialDepot<D>,
+) -> Result<ThreadsRun<D, K>, SerialDepot<D>>
+    requires run { words.0 ≡ N.run }
+    requires few_parties { length requests.items ≤ 16 }
+    requires lanes { lane_count N.run ≡ 12 + length requests.items }
+    requires order { words.1 ≡ fresh_order N.run (12 + length requests.items) }
+    requires seats { words.2.items ≡ fresh_lanes N.run (12 + length requests.items) }
+    requires rows { (table : TableId) → rows_of depot.tables table ≡ N.rows table }
+    requires end { depot.tables.archive_end ≡ N.end }
+    requires can { CanTake D.may_leave depot }
+    requires begins { (since : ℕ) (start : List Deed) → N.begins since start → HasRun D.seen D.may_leave D.moment D.left_since depot since start [] }
+    requires faults { N.faults ≡ D.faults (disk_of depot.journal) }
+    requires content_faults { N.content_faults ≡ D.faults (archive_disk_of depot.archive) }
+    requires as_many { length sinks.items ≡ length requests.items }
+    requires asked { AreAsked N.begins (map (λ own. own.items) requests.items) }
+    ensures run { IfOk result (HaveRunSessions D.seen D.may_leave D.moment D.left_since D.faults K.given K.faults N.begins N.faults N.content_faults (map (λ own. own.items) requests.items) sinks.items) }
+    ensures lost { IfOk result (λ ran. ran.lost ≡ false) }
+    ensures kept { IfErr result (λ kept. kept ≡ depot) }
+{
+    let count = requests.len();
+    match Room::new(alloc, count) {
+        Err(_) => Err(depot),
+        Ok(room) => match SharedDepot::<D, N>::new(alloc, words, count as u32, depot) {
+            Err(depot) => Err(depot),
+            Ok(shared) => Ok(run_and_close(rt, alloc, shared, requests, gate, sinks, room)),
+        },
+    }
+}

@@ -1,0 +1,5 @@
+mod Held
+mod Order
+mod Seats
+mod Sets
+mod Outcomes

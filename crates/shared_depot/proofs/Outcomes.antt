@@ -1,0 +1,65 @@
+-- An outcome that was found over gathered tables is the request's over the tables after the order.
+use Rattle.std.proofs.Common.{◌≡◌, ◌⊎◌, ℕ, Bool, List, [], map, Result, Ok, Err, inl, inr, subst}
+use Rattle.std.specs.Prelude.{IfOk}
+use Rattle.serial_depot.specs.command_core.Outcomes.{HasNeeded, IsFormed, IsFormedBy, IsOutcome}
+use Rattle.serial_depot.specs.command_core.declared.outcome.Outcome.{Outcome}
+use Rattle.command_needs.specs.Sets.{need_of}
+use Rattle.command_needs.specs.declared.sets.Need.{Need}
+use Rattle.depot_rows.specs.depot_model.Deeds.{Deed}
+use Rattle.depot_rows.specs.depot_model.Rules.{IsSound}
+use Rattle.depot_rows.specs.depot_model.Tables.{needs_of}
+use Rattle.command_words.specs.WellFormed.{IsWellFormed}
+use Rattle.depot_rows.specs.depot_model.declared.command.Command.{Command}
+use Rattle.depot_rows.specs.depot_model.declared.request.Request.{Request}
+use Rattle.depot_rows.specs.depot_model.declared.request.WordFault.{WordFault}
+use Rattle.depot_rows.specs.Standing.{Stand}
+use Rattle.locked_tables.specs.Taken.{end_after, rows_after}
+use Rattle.locked_tables.specs.declared.taken.Taken.{Taken}
+use Rattle.needed_tables.proofs.Sets.{in_set_needed}
+use Rattle.needed_tables.proofs.Whole.{have_needed, outcome_alike, outcome_anywhere}
+use Rattle.needed_tables.specs.Needed.{AgreeOnNeeded, AgreeOnNeededBy}
+use Rattle.session_loop.specs.Taking.{IsProper}
+use Rattle.depot_rows.specs.table_changes.Changed.{AllRows, rows_of}
+use Rattle.table_locks.specs.Gathered.{HasSet, HasSetBy}
+use Rattle.table_locks.specs.declared.gathered.Gathered.{Gathered}
+use Rattle.shared_depot.specs.Ready.{IsGatheredFor}
+use Rattle.shared_depot.specs.Room.{IsStillSo, StandsAfter}
+use Rattle.shared_depot.proofs.Sets.{changes_in_set}
+
+-- a command that is well-formed is formed
+formed_of : (request : Request) → IsProper request → IsFormedBy request
+formed_of request proper = go request.command proper.0
+  where
+    go : (asked : Result Command WordFault) → IfOk asked IsWellFormed → IfOk asked IsFormed
+    go (Ok command) h = (h.form, h.heads)
+    go (Err fault) h = tt
+
+agree_of : (all rows : AllRows) (request : Request) → HasSet all rows request → AgreeOnNeeded rows all request
+agree_of all rows request set = go request.command set
+  where
+    go : (asked : Result Command WordFault) → HasSetBy all rows asked → AgreeOnNeededBy rows all asked
+    go (Ok command) has = has
+    go (Err fault) has = tt
+
+module _ {N : Type 0} (rows : AllRows) (end : ℕ) (begins : ℕ → List Deed → Type 0) (order : List Taken) (g : Gathered N) (whole : Bool) (needs : List Need) (request : Request) (outcome : Outcome)
+    (gathered : IsGatheredFor rows whole needs g) (set : map need_of needs ≡ needs_of request) (proper : (since : ℕ) (start : List Deed) → begins since start → IsProper request)
+    (found : (d : List Deed) → IsSound d → IsFormedBy request → HasNeeded (rows_of g.tables) d request → IsOutcome (rows_of g.tables) g.tables.archive_end d request outcome)
+    (still : IsStillSo rows end order g outcome) where
+  abbrev all : AllRows
+  all = rows_after rows order
+
+  agree : AgreeOnNeeded (rows_of g.tables) all request
+  agree = agree_of all (rows_of g.tables) request (still.set request (gathered.covers request set))
+
+  over_all : (d : List Deed) → Stand all d → IsFormedBy request → IsOutcome all g.tables.archive_end d request outcome
+  over_all d stand formed =
+      outcome_alike (rows_of g.tables) all g.tables.archive_end d request outcome stand agree
+      (in_set_needed request outcome.changes (changes_in_set g whole needs gathered.held request set outcome.changes still.held))
+      (found d stand.sound formed (have_needed (rows_of g.tables) all d request stand agree))
+
+  at_end : (d : List Deed) → (outcome.stores ≡ []) ⊎ (g.tables.archive_end ≡ end_after end order) → IsOutcome all g.tables.archive_end d request outcome → IsOutcome all (end_after end order) d request outcome
+  at_end d (inl none) is = outcome_anywhere all g.tables.archive_end (end_after end order) d request outcome is none
+  at_end d (inr same) is = subst (λ (from : ℕ). IsOutcome all from d request outcome) same is
+
+  pub stands_after : StandsAfter rows end begins order request outcome
+  stands_after = λ since start at d stand. at_end d still.end_is (over_all d stand (formed_of request (proper since start at)))

@@ -1,0 +1,4 @@
+pub mod Common
+pub mod Sharing
+pub mod Room
+pub mod Ready

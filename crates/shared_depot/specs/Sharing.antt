@@ -1,0 +1,27 @@
+-- What a party is promised whose commands are taken beside those of others. This project's own choice.
+use Rattle.std.specs.Prelude.{◌≡◌, ℕ, zero, suc, List, [], ◌∷◌, ◌++◌, map}
+use mathlib.Core.List.{IsPrefix}
+use Rattle.depot_rows.specs.depot_model.Deeds.{Deed}
+use Rattle.depot_rows.specs.depot_model.declared.order.Answer.{Answer}
+use Rattle.depot_rows.specs.depot_model.declared.request.Request.{Request}
+use Rattle.locked_tables.specs.Known.{PartyKnown}
+use Rattle.locked_tables.specs.Taken.{of_party, place_of, placed_of}
+use Rattle.locked_tables.specs.declared.taken.Taken.{Taken}
+use Rattle.session_loop.specs.Taking.{Answers}
+
+-- A command of a party was taken: it has a place behind all that the party knew, which is the last that the party knows now; there it is answered what one
+-- thread answers that takes the commands before it.
+pub record IsTakenAt (begins : ℕ → List Deed → Type 0) (old new : PartyKnown) (request : Request) (answer : Answer) : Type 0 where
+  pub before : List Taken
+  pub entry : Taken
+  pub known : new ≡ record old { list = before ++ entry ∷ [] }
+  pub later : IsPrefix old.list before
+  pub own : of_party old.party before ≡ of_party old.party old.list
+  pub asks : entry.request ≡ request
+  pub place : answer.place ≡ place_of entry
+  pub answers : (since : ℕ) (start : List Deed) → begins since start → Answers start (map placed_of before) request answer
+
+-- what so many parties know where no place is yet: they are numbered from 1
+abbrev pub fresh_passes : ℕ → List PartyKnown
+fresh_passes zero = []
+fresh_passes (suc n) = fresh_passes n ++ record { party = suc n; list = [] } ∷ []

@@ -1,0 +1,132 @@
+//! Making a shared depot.
+ghost use Rattle.std.specs.Prelude.{◌≡◌, ◌≤◌, ◌-◌, ◌+◌, ◌++◌, ℕ, List, [], IfOk, OnOk};
+ghost use Rattle.std.specs.Result.{IfErr};
+ghost use Rattle.archive_file.specs.Archive.{disk_of as archive_disk_of};
+ghost use Rattle.depot_rows.specs.db_records.declared.table.TableId.{TableId};
+ghost use Rattle.depot_rows.specs.depot_model.Deeds.{Deed};
+ghost use Rattle.disk_journal.specs.Stands.{disk_of};
+ghost use Rattle.order_words.specs.Seats.{fresh_lanes, fresh_order, lane_count};
+ghost use Rattle.serial_depot.specs.Running.{CanTake, HasRun};
+ghost use Rattle.depot_rows.specs.table_changes.Changed.{rows_of};
+ghost use Rattle.shared_depot.specs.Sharing.{fresh_passes};
+
+use crate::common::CommonDepot;
+use crate::serving::Serving;
+use crate::shared::SharedDepot;
+use locked_tables::{LockedArchive, Naming, OrderWords, PartyPass, PlacedOrder, TableLocks, Taken};
+use order_words::{LaneSeat, OrderSeat, Orders};
+use outside_api::Disk;
+use serial_depot::SerialDepot;
+use std::alloc::{AllocError, Global};
+use std::sync::Mutex;
+
+/// A depot that threads share, and the passes of the parties, which are numbered from 1.
+#[derive(Drop)]
+pub struct Shared<D: Disk, N: Naming + Serving> {
+    pub depot: SharedDepot<D, N>,
+    pub passes: Vec<PartyPass<N>>,
+}
+
+/// Makes the passes of the first so many parties of their seats, which are the last.
+fn make_passes<N: Naming>(
+    lanes: &mut Vec<LaneSeat<Taken>>,
+    passes: &mut Vec<PartyPass<N>>,
+    count: u32,
+) -> Result<(), AllocError>
+    requires few { (count ≤ 16) × (count + 12 ≤ lane_count N.run) }
+    requires seats { lanes.old.items ≡ fresh_lanes N.run (count + 12) }
+    ensures seats { OnOk result (lanes.new.items ≡ fresh_lanes N.run 12) }
+    ensures passes { OnOk result (passes.new.items ≡ passes.old.items ++ fresh_passes count) }
+{
+    if count == 0 {
+        return Ok(());
+    }
+    let Some(seat) = lanes.pop() else {
+        return Err(AllocError);
+    };
+    make_passes(lanes, passes, count - 1)?;
+    passes.push(PartyPass::new(seat, count))?;
+    Ok(())
+}
+
+/// What lies behind the locks of the tables and of the archive, and the passes.
+#[derive(Drop)]
+struct Parts<N: Naming> {
+    tables: TableLocks<N>,
+    archive: LockedArchive<N>,
+    passes: Vec<PartyPass<N>>,
+}
+
+/// Makes them of the seats of the lanes. The one error is want of memory.
+fn make_parts<D: Disk, N: Naming>(
+    alloc: Global,
+    mut lanes: Vec<LaneSeat<Taken>>,
+    count: u32,
+    depot: &SerialDepot<D>,
+) -> Result<Parts<N>, AllocError>
+    requires few { (count ≤ 16) × (count + 12 ≤ lane_count N.run) }
+    requires seats { lanes.items ≡ fresh_lanes N.run (count + 12) }
+    requires rows { (table : TableId) → rows_of depot.now.tables table ≡ N.rows table }
+    requires end { depot.now.tables.archive_end ≡ N.end }
+    ensures { IfOk result (λ parts. parts.passes.items ≡ fresh_passes count) }
+{
+    let mut passes = Vec::new(alloc);
+    make_passes(&mut lanes, &mut passes, count)?;
+    let Some(seat) = lanes.pop() else {
+        return Err(AllocError);
+    };
+    let archive = LockedArchive::new(seat, depot.tables().archive_end());
+    let tables = TableLocks::new(alloc, lanes, depot.tables())?;
+    Ok(Parts {
+        tables,
+        archive,
+        passes,
+    })
+}
+
+impl<D: Disk, N: Naming + Serving> SharedDepot<D, N> {
+    /// Shares a depot in files among parties, from 1 to 16, with the words that were made for them: those
+    /// of `Orders::new` with 12 lanes more than parties. Where memory is wanting, the depot is given
+    /// back as it was.
+    pub fn new(
+        alloc: Global,
+        words: (Orders<Taken>, OrderSeat<Taken>, Vec<LaneSeat<Taken>>),
+        parties: u32,
+        depot: SerialDepot<D>,
+    ) -> Result<Shared<D, N>, SerialDepot<D>>
+        requires run { words.0 ≡ N.run }
+        requires few { (parties ≤ 16) × (lane_count N.run ≡ 12 + parties) }
+        requires order { words.1 ≡ fresh_order N.run (12 + parties) }
+        requires seats { words.2.items ≡ fresh_lanes N.run (12 + parties) }
+        requires rows { (table : TableId) → rows_of depot.tables table ≡ N.rows table }
+        requires end { depot.tables.archive_end ≡ N.end }
+        requires can { CanTake D.may_leave depot }
+        requires begins { (since : ℕ) (start : List Deed) → N.begins since start → HasRun D.seen D.may_leave D.moment D.left_since depot since start [] }
+        requires faults { N.faults ≡ D.faults (disk_of depot.journal) }
+        requires content_faults { N.content_faults ≡ D.faults (archive_disk_of depot.archive) }
+        ensures passes { IfOk result (λ shared. shared.passes.items ≡ fresh_passes parties) }
+        ensures back { IfErr result (λ given. given ≡ depot) }
+    {
+        let (orders, order, lanes) = words;
+        match make_parts(alloc, lanes, parties, &depot) {
+            Err(_) => Err(depot),
+            Ok(parts) => {
+                let order = PlacedOrder::new(alloc, order);
+                let Parts {
+                    tables,
+                    archive,
+                    passes,
+                } = parts;
+                Ok(Shared {
+                    depot: SharedDepot {
+                        words: OrderWords::new(orders),
+                        tables,
+                        archive: Mutex::new(archive),
+                        common: Mutex::new(CommonDepot::new(order, depot)),
+                    },
+                    passes,
+                })
+            }
+        }
+    }
+}

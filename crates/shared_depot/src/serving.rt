@@ -1,0 +1,29 @@
+//! What a run of many threads began with.
+use std::marker::Brand;
+
+/// Names what a run began with, beside its words and tables. Each call of a program picks it.
+pub trait Serving {
+    ghost use Rattle.std.specs.Prelude.{ℕ, List};
+    ghost use Rattle.depot_rows.specs.depot_model.Deeds.{Deed};
+
+    /// From which moments of the journal's disk, and from which depots, the depot in files had run
+    /// no place then.
+    ghost begins: { ℕ → List Deed → Type 0 };
+
+    /// How often the journal's disk had failed then.
+    ghost faults: { ℕ };
+
+    /// How often the archive's disk had.
+    ghost content_faults: { ℕ };
+}
+
+impl Serving for Brand {
+    ghost use Rattle.std.specs.Prelude.{ℕ, List};
+    ghost use Rattle.depot_rows.specs.depot_model.Deeds.{Deed};
+
+    ghost begins = { λ since start. Unit {0} };
+
+    ghost faults = { 0 };
+
+    ghost content_faults = { 0 };
+}
