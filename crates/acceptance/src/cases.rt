@@ -4,7 +4,7 @@ ghost use Rattle.std.specs.Prelude.{◌≤◌, ◌<◌, length};
 ghost use Rattle.std.specs.Iterator.{at_most};
 
 use crate::fault::CaseFault;
-use crate::step::{Step, cut, damage, script};
+use crate::step::{Step, cut, damage, gate, script};
 
 /// A line of a file of cases.
 #[derive(Clone, Copy)]
@@ -81,6 +81,7 @@ impl<'a> Cases<'a> {
         match form {
             "case" => Ok(Step::Case(words)),
             "script" => self.take_script(words),
+            "gate" => gate(words),
             "run" => Ok(Step::Run(words)),
             "damage" => damage(words),
             "cut" => cut(words),

@@ -8,12 +8,19 @@
 //! | `case NAME` | begins a case: the disks are empty, and no script is there |
 //! | `script NAME LENGTH` | LENGTH bytes and a line feed follow: the script that the door NAME brings from now on |
 //! | `run WORDS..` | runs the server with these words over the disks as they are |
+//! | `gate turn PARTY NUMBER PARTY NUMBER TURNS` | holds in the next run the first command until the second was answered, for so many looks at most |
+//! | `gate meet PARTY NUMBER PARTY NUMBER TURNS` | holds in the next run each of two commands until the other has come, for so many looks at most |
 //! | `damage DISK FILE PLACE BYTE` | changes a byte of a file of the disk `journal` or `archive` |
 //! | `cut DISK FILE LENGTH` | cuts a file of that disk to a length |
 //!
 //! A case is answered by `== NAME`, and a run by `$ WORDS`, what the server gave out, `status N`, and for each party in order `[NAME]` and
-//! what its sink got. The clock says 1700000000. A line of another form, or one that can't be followed, ends the program: its last line is then
-//! the fault's name and the line's number.
+//! what its sink got. Behind a run that was given a gate stands `released yes`, `released no`, `met yes` or `met no`: whether the gate got what it
+//! waited for before its looks were spent. The clock says 1700000000. A line of another form, or one that can't be followed, ends the program: its
+//! last line is then the fault's name and the line's number.
+//!
+//! In a run of `serve` each party has a thread of its own, and the order of the commands depends on these threads. So the lines `place ..` and
+//! `fault ..` that tell it are printed in rising order of their bytes, unless the run has a gate of the form `turn`, by which a case can fix the
+//! order. In all other runs what the server gave out is printed as it came.
 //!
 //! The gate runs the files that `args` names, which lie in `data/`, and compares what is printed with `stdout`. So a further file of cases
 //! is put into `data/`, its name becomes the last line of `args`, and its answers are put behind those of `stdout`: answers from the
@@ -23,6 +30,7 @@
 mod answers;
 mod cases;
 mod fault;
+mod gate;
 mod step;
 mod world;
 

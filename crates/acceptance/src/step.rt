@@ -9,6 +9,28 @@ pub enum DiskName {
     Archive,
 }
 
+/// What the gate of a run waits for.
+#[derive(Clone, Copy)]
+pub enum GateForm {
+    /// It holds the first of its commands until the second was answered.
+    Turn,
+    /// It holds each of its commands until the other has come.
+    Meet,
+}
+
+/// The gate that the next run is to have.
+#[derive(Clone, Copy)]
+pub struct GatePlan {
+    /// What it waits for.
+    pub form: GateForm,
+    /// A party, and the number of a command of it.
+    pub one: (u32, u32),
+    /// Another.
+    pub other: (u32, u32),
+    /// How many looks it waits at most.
+    pub turns: u64,
+}
+
 /// What a line of a file of cases asks.
 #[derive(Clone, Copy)]
 pub enum Step<'a> {
@@ -21,6 +43,8 @@ pub enum Step<'a> {
         name: &'a str,
         bytes: &'a [u8],
     },
+    /// Give the next run this gate.
+    Gate(GatePlan),
     /// Run the server with these words, between which spaces stand.
     Run(&'a str),
     /// Change a byte of a file.
@@ -75,9 +99,25 @@ impl<'a> Words<'a> {
         }
     }
 
-    /// The next word as the number of a file.
-    fn file(&mut self) -> Result<u32, CaseFault> {
+    /// The next word as a number below `2 ^ 32`.
+    fn short_number(&mut self) -> Result<u32, CaseFault> {
         u32::try_from(self.number()?).or(Err(CaseFault::BadNumber))
+    }
+
+    /// The next two words as a party and the number of a command of it.
+    fn command(&mut self) -> Result<(u32, u32), CaseFault> {
+        let party = self.short_number()?;
+        let number = self.short_number()?;
+        Ok((party, number))
+    }
+
+    /// What the gate waits for that the next word names.
+    fn gate_form(&mut self) -> Result<GateForm, CaseFault> {
+        match self.word()? {
+            "turn" => Ok(GateForm::Turn),
+            "meet" => Ok(GateForm::Meet),
+            _ => Err(CaseFault::UnknownGate),
+        }
     }
 
     /// The next word as a byte.
@@ -103,11 +143,27 @@ pub fn script<'a>(text: &'a str) -> Result<(&'a str, u64), CaseFault> {
     Ok((name, length))
 }
 
+/// The gate of the next run.
+pub fn gate<'a>(text: &'a str) -> Result<Step<'a>, CaseFault> {
+    let mut words = Words::new(text);
+    let form = words.gate_form()?;
+    let one = words.command()?;
+    let other = words.command()?;
+    let turns = words.number()?;
+    words.end()?;
+    Ok(Step::Gate(GatePlan {
+        form,
+        one,
+        other,
+        turns,
+    }))
+}
+
 /// The change of a byte.
 pub fn damage<'a>(text: &'a str) -> Result<Step<'a>, CaseFault> {
     let mut words = Words::new(text);
     let disk = words.disk()?;
-    let file = words.file()?;
+    let file = words.short_number()?;
     let place = words.number()?;
     let byte = words.byte()?;
     words.end()?;
@@ -123,7 +179,7 @@ pub fn damage<'a>(text: &'a str) -> Result<Step<'a>, CaseFault> {
 pub fn cut<'a>(text: &'a str) -> Result<Step<'a>, CaseFault> {
     let mut words = Words::new(text);
     let disk = words.disk()?;
-    let file = words.file()?;
+    let file = words.short_number()?;
     let length = words.number()?;
     words.end()?;
     Ok(Step::Cut { disk, file, length })

@@ -4,6 +4,8 @@ use Rattle.std.specs.Prelude.{IfSome, IfNone}
 use Rattle.std.proofs.lemmas.Bool.{true≢false}
 use Rattle.outside_api.specs.Disk.{Files}
 use Rattle.depot_rows.specs.depot_model.declared.order.Place.{Place}
+use Rattle.party_threads.specs.replica_turns.Master.{Past}
+use Rattle.session_turns.specs.Drawn.{IsDrawn}
 use Rattle.p4_server.specs.declared.ended.Ended.{Ended}
 use Rattle.p4_server.specs.declared.ended.PartyEnd.{PartyEnd}
 use Rattle.p4_server.specs.declared.ended.Cause.{Cause}
@@ -11,13 +13,16 @@ use Rattle.p4_server.specs.declared.ended.Cause.TheVariants as causes
 use Rattle.p4_server.specs.Checkpoint.{Checkpoints, IsUntaken, IsTaken, IsInDoubt}
 use Rattle.p4_server.specs.Dump.{Dumps, IsDumped}
 use Rattle.p4_server.specs.Ends.{status_of, ends_cause, has_fault_place, has_failed_party, has_faulty_party}
+use Rattle.p4_server.specs.Headline.{Ordering}
 use Rattle.p4_server.specs.Init.{Inits, IsInited, IsThere, IsFailed}
 use Rattle.p4_server.specs.Opening.{IsUnopened, IsUnmade, IsDamaged, IsUnread}
 use Rattle.p4_server.specs.Promise.{IsRefused, Keeps, KeepsPromise}
-use Rattle.p4_server.specs.Schedule.{Schedules, IsClosed, IsShut, IsRun}
+use Rattle.p4_server.specs.Runs.{RunsParties, IsClosed, IsShut, IsRun}
+use Rattle.p4_server.specs.Serve.{AnyOrder, NotSaid}
 use Rattle.p4_server.specs.Telling.{IsTold, IsToldAlone}
 use Rattle.p4_server.specs.declared.words.Mode.{Mode}
-use Rattle.p4_server.specs.Words.{HasParties, Job, asked, job_of, init, dump, checkpoint, load, schedule}
+use Rattle.p4_server.specs.Words.{HasParties, Job, asked, job_of, init, dump, checkpoint, load, schedule, serve}
+use Rattle.p4_server.specs.Written.{AreWritten}
 
 abbrev is_usage : Cause → Bool
 is_usage causes.Usage = true
@@ -96,11 +101,11 @@ module _ {D S K : Type 0} (seen may_leave : D → Files → Type 0) (moment : D 
       go (inr (inr (inr is))) = other ended.cause causes.Fault is.cause_is refl
 
 module _ {D S K H : Type 0} (seen may_leave : D → Files → Type 0) (moment : D → ℕ) (left_since : D → ℕ → Files → Type 0) (disk_faults : D → ℕ) (left : S → Option (List ℕ)) (source_faults : S → ℕ) (given : K → Option (List ℕ)) (sink_faults : K → ℕ) (may_give : ℕ → Type 0) (input output : H → List ℕ → Option (List ℕ)) (door_faults : H → ℕ) (old_doors new_doors : H) (journal archive : D) (old_out new_out : K) (ended : Ended D S K) where
-  schedules : (seed : ℕ) (names : List (List ℕ))
-      → Schedules seen may_leave moment left_since disk_faults left source_faults given sink_faults may_give input output door_faults old_doors new_doors journal archive old_out new_out seed names ended → ended.cause ≢ causes.Usage
-  schedules seed names it = go it.ends
+  runs_parties : (IsOrdered : Ordering) (began : Past → Type 0) (names : List (List ℕ))
+      → RunsParties seen may_leave moment left_since disk_faults left source_faults given sink_faults may_give input output door_faults old_doors new_doors journal archive old_out new_out IsOrdered began names ended → ended.cause ≢ causes.Usage
+  runs_parties IsOrdered began names it = go it.ends
     where
-      shut : (is : IsShut seen may_leave moment left_since disk_faults left source_faults given sink_faults may_give input output door_faults old_doors new_doors journal archive old_out new_out seed names ended) → ended.cause ≢ causes.Usage
+      shut : (is : IsShut seen may_leave moment left_since disk_faults left source_faults given sink_faults may_give input output door_faults old_doors new_doors journal archive old_out new_out IsOrdered began names ended) → ended.cause ≢ causes.Usage
       shut is = elim is.why [
         | inl fault ↦ other ended.cause causes.Fault fault.0 refl
         | inr memory ↦ other ended.cause causes.Memory memory refl
@@ -112,15 +117,15 @@ module _ {D S K H : Type 0} (seen may_leave : D → Files → Type 0) (moment : 
         | inr front ↦ other ended.cause causes.Fault front.0 refl
       ]
 
-      ran : (is : IsRun seen may_leave moment left_since disk_faults left source_faults given sink_faults may_give input output door_faults old_doors new_doors journal archive old_out new_out seed names ended) → ended.cause ≢ causes.Usage
+      ran : (is : IsRun seen may_leave moment left_since disk_faults left source_faults given sink_faults may_give input output door_faults old_doors new_doors journal archive old_out new_out IsOrdered began names ended) → ended.cause ≢ causes.Usage
       ran is = elim is.told [
         | inl parties ↦ told is.lost parties.2
         | inr untold ↦ other ended.cause causes.Memory untold.cause_is refl
       ]
 
-      go : IsClosed seen may_leave moment left_since disk_faults left source_faults given sink_faults may_give input output door_faults old_doors new_doors journal archive old_out new_out seed names ended
-          ⊎ (IsShut seen may_leave moment left_since disk_faults left source_faults given sink_faults may_give input output door_faults old_doors new_doors journal archive old_out new_out seed names ended
-          ⊎ IsRun seen may_leave moment left_since disk_faults left source_faults given sink_faults may_give input output door_faults old_doors new_doors journal archive old_out new_out seed names ended) → ended.cause ≢ causes.Usage
+      go : IsClosed seen may_leave moment left_since disk_faults left source_faults given sink_faults may_give input output door_faults old_doors new_doors journal archive old_out new_out IsOrdered began names ended
+          ⊎ (IsShut seen may_leave moment left_since disk_faults left source_faults given sink_faults may_give input output door_faults old_doors new_doors journal archive old_out new_out IsOrdered began names ended
+          ⊎ IsRun seen may_leave moment left_since disk_faults left source_faults given sink_faults may_give input output door_faults old_doors new_doors journal archive old_out new_out IsOrdered began names ended) → ended.cause ≢ causes.Usage
       go (inl is) = unopened seen may_leave moment left_since disk_faults given sink_faults journal archive old_out new_out ended is.unopened
       go (inr (inl is)) = shut is
       go (inr (inr is)) = ran is
@@ -131,7 +136,8 @@ module _ {D S K H : Type 0} (seen may_leave : D → Files → Type 0) (moment : 
   keeps dump words it = dumps seen may_leave moment left_since disk_faults given sink_faults journal archive old_out new_out ended it.0
   keeps checkpoint words it = checkpoints seen may_leave moment left_since disk_faults given sink_faults journal archive old_out new_out ended may_give it.0
   keeps (load seed count) words it = it.0.no_usage
-  keeps (schedule seed names) words it = schedules seed names it
+  keeps (schedule seed names) words it = runs_parties (IsDrawn may_give seed) (AreWritten seen journal archive) names it
+  keeps (serve names) words it = runs_parties AnyOrder NotSaid names it
 
   -- ---- the promise
 

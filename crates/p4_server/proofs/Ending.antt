@@ -78,7 +78,7 @@ lost false scripts.Whole = refl
 lost false (scripts.Fault fault) = refl
 lost false scripts.ReadFault = refl
 
-run_is : {K : Type 0} (number : ℕ) (run : SessionRun) (end : ScriptEnd) (sink : K) → run_of (ended_party number run end sink) ≡ run
+pub run_is : {K : Type 0} (number : ℕ) (run : SessionRun) (end : ScriptEnd) (sink : K) → run_of (ended_party number run end sink) ≡ run
 run_is number run end sink = ap (λ (failed : Bool). let r : SessionRun = record { commands = run.commands; failed = failed } in r) (lost run.failed end)
 
 -- the parties tell how far their sessions came

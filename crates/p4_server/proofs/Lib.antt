@@ -19,3 +19,4 @@ pub mod Mades
 pub mod Names
 pub mod Asked
 mod Inits
+pub mod Writtens

@@ -14,8 +14,8 @@ use Rattle.load_script.specs.Script.{script_of}
 use Rattle.load_script.specs.declared.lines.LoadFigures.{LoadFigures}
 use Rattle.load_session.specs.Loading.{IsAskedBy, IsLoaded, load_session, numbers_from}
 use Rattle.load_session.proofs.Whole.{load_scripts_whole}
-use Rattle.session_turns.specs.serial_depot.Running.{HasRun}
-use Rattle.session_turns.specs.serial_depot.declared.depot.SerialDepot.{SerialDepot}
+use Rattle.party_threads.specs.serial_depot.Running.{HasRun}
+use Rattle.party_threads.specs.serial_depot.declared.depot.SerialDepot.{SerialDepot}
 use Rattle.session_loop.specs.Served.{AreCaused}
 use Rattle.depot_rows.specs.table_changes.Changed.{AllRows, rows_of}
 use Rattle.depot_rows.specs.Standing.{Stand}

@@ -8,7 +8,7 @@ use Rattle.std.proofs.lemmas.Slice.Eq.{bytes_eq-Decides}
 use Rattle.depot_rows.specs.depot_path.Bytes.{same}
 use Rattle.depot_rows.specs.depot_model.Rules.{are_distinct}
 use Rattle.p4_server.specs.Parties.{AreDifferent}
-use Rattle.p4_server.specs.Words.{Job, Said, asked, asked_by, init, dump, checkpoint, load, schedule, said_from, job_of_words, job_with, seed_given, count_given, are_party_names}
+use Rattle.p4_server.specs.Words.{Job, Said, asked, asked_by, init, dump, checkpoint, load, schedule, serve, said_from, job_of_words, job_with, seed_given, count_given, are_party_names}
 use Rattle.p4_server.specs.declared.words.Coming.TheVariants.{Anything}
 
 left_of : (a b : Bool) → (a && b) ≡ true → a ≡ true
@@ -41,38 +41,53 @@ different_of (name ∷ names) e =
 
 -- ---- what is asked
 
-module _ (seed : ℕ) (names : List (List ℕ)) where
-  abbrev Asks : Option Job → Type 0
-  Asks job = job ≡ Some (schedule seed names)
+-- the names of a mode are those that parties can have
+abbrev AreNamed : Job → Type 0
+AreNamed (schedule seed names) = are_party_names names ≡ true
+AreNamed (serve names) = are_party_names names ≡ true
+AreNamed _ = Unit {0}
 
-  with_names : (test : Bool) (given : ℕ) (others : List (List ℕ)) → (test ≡ true → are_party_names others ≡ true) → Asks (cond test (Some (schedule given others)) None) → are_party_names names ≡ true
-  with_names true given others holds e = let is : others ≡ names = cc in subst (λ ns. are_party_names ns ≡ true) is (holds refl)
-  with_names false given others holds e = absurd cc
+abbrev AllNamed : Option Job → Type 0
+AllNamed (Some job) = AreNamed job
+AllNamed None = Unit {0}
 
-  alone : (s n : ℕ) (a b c l : Bool) → Asks (cond a (Some init) (cond b (Some dump) (cond c (Some checkpoint) (cond l (Some (load s n)) None)))) → are_party_names names ≡ true
-  alone s n true b c l e = absurd cc
-  alone s n false true c l e = absurd cc
-  alone s n false false true l e = absurd cc
-  alone s n false false false true e = absurd cc
-  alone s n false false false false e = absurd cc
+by_names : (a b : Bool) (seed : ℕ) (names : List (List ℕ)) → are_party_names names ≡ true → AllNamed (cond a (Some (schedule seed names)) (cond b (Some (serve names)) None))
+by_names true b seed names holds = holds
+by_names false true seed names holds = holds
+by_names false false seed names holds = tt
 
-  of_words : (s n : ℕ) (words : List (List ℕ)) → Asks (job_of_words s n words) → are_party_names names ≡ true
-  of_words s n [] e = absurd cc
-  of_words s n (word ∷ []) e = alone s n _ _ _ _ e
-  of_words s n (word ∷ name ∷ others) e = with_names _ s (name ∷ others) (λ holds. right_of _ (are_party_names (name ∷ others)) holds) e
+with_names : (test a b : Bool) (seed : ℕ) (names : List (List ℕ)) → (test ≡ true → are_party_names names ≡ true)
+    → AllNamed (cond test (cond a (Some (schedule seed names)) (cond b (Some (serve names)) None)) None)
+with_names true a b seed names holds = by_names a b seed names (holds refl)
+with_names false a b seed names holds = tt
 
-  of_numbers : (s n : Option ℕ) (words : List (List ℕ)) → Asks (job_with s n words) → are_party_names names ≡ true
-  of_numbers (Some s) (Some n) words e = of_words s n words e
-  of_numbers (Some s) None words e = absurd cc
-  of_numbers None n words e = absurd cc
+alone : (s n : ℕ) (a b c l : Bool) → AllNamed (cond a (Some init) (cond b (Some dump) (cond c (Some checkpoint) (cond l (Some (load s n)) None))))
+alone s n true b c l = tt
+alone s n false true c l = tt
+alone s n false false true l = tt
+alone s n false false false true = tt
+alone s n false false false false = tt
 
-  of_said : (said : Option Said) → Asks (option_and_then asked_by said) → are_party_names names ≡ true
-  of_said None e = absurd cc
-  of_said (Some said) e = of_numbers (seed_given said.seeds) (count_given said.counts) said.plain e
+of_words : (s n : ℕ) (words : List (List ℕ)) → AllNamed (job_of_words s n words)
+of_words s n [] = tt
+of_words s n (word ∷ []) = alone s n _ _ _ _
+of_words s n (word ∷ name ∷ others) = with_names (are_party_names (name ∷ others)) _ _ s (name ∷ others) (λ holds. holds)
 
-  pub party_names : (words : List (List ℕ)) → Asks (asked words) → are_party_names names ≡ true
-  party_names words e = of_said (said_from Anything words) e
+of_numbers : (s n : Option ℕ) (words : List (List ℕ)) → AllNamed (job_with s n words)
+of_numbers (Some s) (Some n) words = of_words s n words
+of_numbers (Some s) None words = tt
+of_numbers None n words = tt
 
-  -- the names are different, and at most 16
-  pub names_differ : (words : List (List ℕ)) → Asks (asked words) → AreDifferent names
-  names_differ words e = different_of names (right_of _ (are_distinct names) (party_names words e))
+of_said : (said : Option Said) → AllNamed (option_and_then asked_by said)
+of_said None = tt
+of_said (Some said) = of_numbers (seed_given said.seeds) (count_given said.counts) said.plain
+
+party_names : (words : List (List ℕ)) → AllNamed (asked words)
+party_names words = of_said (said_from Anything words)
+
+-- the names are different
+pub names_differ : (seed : ℕ) (names words : List (List ℕ)) → asked words ≡ Some (schedule seed names) → AreDifferent names
+names_differ seed names words asks = different_of names (right_of _ (are_distinct names) (subst AllNamed asks (party_names words)))
+
+pub served_differ : (names words : List (List ℕ)) → asked words ≡ Some (serve names) → AreDifferent names
+served_differ names words asks = different_of names (right_of _ (are_distinct names) (subst AllNamed asks (party_names words)))

@@ -12,6 +12,7 @@ use Rattle.depot_rows.specs.depot_model.declared.request.Session.{Session}
 use Rattle.wire_text.specs.declared.script.ScriptEnd.{ScriptEnd}
 use Rattle.wire_text.specs.declared.script.ScriptEnd.TheVariants as scripts
 use Rattle.wire_text.specs.Giving.{GotFront}
+use Rattle.party_threads.specs.replica_turns.Master.{Past}
 use Rattle.session_loop.specs.Asking.{Asking}
 use Rattle.session_loop.specs.Reading.{IsAsked}
 use Rattle.session_loop.specs.declared.reading.ReplicaScript.{ReplicaScript}
@@ -21,11 +22,11 @@ use Rattle.p4_server.specs.declared.ended.PartyEnd.{PartyEnd}
 use Rattle.p4_server.specs.declared.ended.Cause.{Cause}
 use Rattle.p4_server.specs.declared.ended.Cause.TheVariants as causes
 use Rattle.p4_server.specs.Ends.{ends_cause, is_failed, is_faulty, party_end, has_fault_place, has_failed_party, has_faulty_party}
-use Rattle.p4_server.specs.Headline.{IsPartyEnd}
+use Rattle.p4_server.specs.Headline.{IsPartyEnd, Ordering}
 use Rattle.p4_server.specs.Lines.{run_lines, place_lines, end_lines, fault_line}
 use Rattle.p4_server.specs.Opening.{IsUnopened}
 use Rattle.p4_server.specs.Parties.{OnlyTheseCome}
-use Rattle.p4_server.specs.Schedule.{IsShut, IsRun, IsWhole, SomeRose, Schedules}
+use Rattle.p4_server.specs.Runs.{IsShut, IsRun, IsWhole, RunsParties, SomeRose}
 use Rattle.p4_server.proofs.FaultPlaces.{place_rose}
 use Rattle.p4_server.proofs.Openings.{fault_of_unopened, complete_of_unopened}
 use Rattle.p4_server.proofs.Together.{all_at, all_of, any_of, there}
@@ -91,15 +92,15 @@ not_true : (b : Bool) → ¬ (b ≡ true) → b ≡ false
 not_true true h = absurd (h refl)
 not_true false h = refl
 
-module _ {D S K H : Type 0} (seen may_leave : D → Files → Type 0) (moment : D → ℕ) (left_since : D → ℕ → Files → Type 0) (disk_faults : D → ℕ) (left : S → Option (List ℕ)) (source_faults : S → ℕ) (given : K → Option (List ℕ)) (sink_faults : K → ℕ) (may_give : ℕ → Type 0) (input output : H → List ℕ → Option (List ℕ)) (door_faults : H → ℕ) (old_doors new_doors : H) (journal archive : D) (old_out new_out : K) (seed : ℕ) (names : List (List ℕ)) (ended : Ended D S K) where
+module _ {D S K H : Type 0} (seen may_leave : D → Files → Type 0) (moment : D → ℕ) (left_since : D → ℕ → Files → Type 0) (disk_faults : D → ℕ) (left : S → Option (List ℕ)) (source_faults : S → ℕ) (given : K → Option (List ℕ)) (sink_faults : K → ℕ) (may_give : ℕ → Type 0) (input output : H → List ℕ → Option (List ℕ)) (door_faults : H → ℕ) (old_doors new_doors : H) (journal archive : D) (old_out new_out : K) (IsOrdered : Ordering) (began : Past → Type 0) (names : List (List ℕ)) (ended : Ended D S K) where
   abbrev pub Promised : Type 0
-  Promised = Schedules seen may_leave moment left_since disk_faults left source_faults given sink_faults may_give input output door_faults old_doors new_doors journal archive old_out new_out seed names ended
+  Promised = RunsParties seen may_leave moment left_since disk_faults left source_faults given sink_faults may_give input output door_faults old_doors new_doors journal archive old_out new_out IsOrdered began names ended
 
   abbrev pub Ran : Type 0
-  Ran = IsRun seen may_leave moment left_since disk_faults left source_faults given sink_faults may_give input output door_faults old_doors new_doors journal archive old_out new_out seed names ended
+  Ran = IsRun seen may_leave moment left_since disk_faults left source_faults given sink_faults may_give input output door_faults old_doors new_doors journal archive old_out new_out IsOrdered began names ended
 
   abbrev Rose : Type 0
-  Rose = SomeRose seen may_leave moment left_since disk_faults left source_faults given sink_faults may_give input output door_faults old_doors new_doors journal archive old_out new_out seed names ended
+  Rose = SomeRose seen may_leave moment left_since disk_faults left source_faults given sink_faults may_give input output door_faults old_doors new_doors journal archive old_out new_out IsOrdered began names ended
 
   abbrev pub Only : Type 0
   Only = OnlyTheseCome (input old_doors) (output old_doors) (input new_doors) (output new_doors) names
@@ -185,8 +186,8 @@ module _ {D S K H : Type 0} (seen may_leave : D → Files → Type 0) (moment : 
     | inr untold ↦ inr untold.cause_is
   ]
 
-  pub schedules_run : Only → Ran → Promised
-  schedules_run only run = record {
+  pub parties_run : Only → Ran → Promised
+  parties_run only run = record {
     ends = inr (inr run);
     doors = only;
     fault = fault_of run;
@@ -194,7 +195,7 @@ module _ {D S K H : Type 0} (seen may_leave : D → Files → Type 0) (moment : 
   }
 
   abbrev pub Shut : Type 0
-  Shut = IsShut seen may_leave moment left_since disk_faults left source_faults given sink_faults may_give input output door_faults old_doors new_doors journal archive old_out new_out seed names ended
+  Shut = IsShut seen may_leave moment left_since disk_faults left source_faults given sink_faults may_give input output door_faults old_doors new_doors journal archive old_out new_out IsOrdered began names ended
 
   fault_of_shut : Shut → ended.cause ≡ causes.Fault → Rose
   fault_of_shut shut is = elim shut.why [
@@ -205,16 +206,16 @@ module _ {D S K H : Type 0} (seen may_leave : D → Files → Type 0) (moment : 
   complete_of_shut : Shut → ¬ Rose → (ended.cause ≡ causes.Done) ⊎ (ended.cause ≡ causes.Memory)
   complete_of_shut shut none = elim shut.why [ inl fault ↦ absurd (none (inl fault.1)) | inr memory ↦ inr memory ]
 
-  pub schedules_shut : Only → Shut → Promised
-  schedules_shut only shut = record {
+  pub parties_shut : Only → Shut → Promised
+  parties_shut only shut = record {
     ends = inr (inl shut);
     doors = only;
     fault = fault_of_shut shut;
     complete = λ d start whole none. complete_of_shut shut none;
   }
 
-  pub schedules_unopened : new_doors ≡ old_doors → IsUnopened seen may_leave moment left_since disk_faults given sink_faults journal archive old_out new_out ended → Promised
-  schedules_unopened stay unopened = record {
+  pub parties_unopened : new_doors ≡ old_doors → IsUnopened seen may_leave moment left_since disk_faults given sink_faults journal archive old_out new_out ended → Promised
+  parties_unopened stay unopened = record {
     ends = inl (record { unopened = unopened; doors_stay = stay });
     doors = rw stay (record { inputs = λ other apart. refl; outputs = λ other apart. refl });
     fault = λ is. inr (inr (inl (fault_of_unopened seen may_leave moment left_since disk_faults given sink_faults journal archive old_out new_out ended unopened.why is)));

@@ -1,5 +1,5 @@
 -- The parties of a run, from what came by their doors, what was read of their scripts and how their turns ended.
-use Rattle.std.proofs.Common.{◌≡◌, ℕ, ◌+◌, Bool, List, length, map, Option, Some, None, refl, sym, ap, subst, ◌∙◌, arith}
+use Rattle.std.proofs.Common.{◌≡◌, ℕ, ◌+◌, Bool, false, List, get_or, length, map, Option, Some, None, refl, sym, ap, subst, ◌∙◌, arith}
 use Rattle.std.specs.Prelude.{slice_get, option_map}
 use Rattle.std.proofs.lemmas.Option.{slice_get_within, slice_get-map}
 use Rattle.outside_api.specs.Count.{HasRisen}
@@ -10,18 +10,19 @@ use Rattle.depot_rows.specs.depot_model.Places.{Placed}
 use Rattle.depot_rows.specs.depot_model.declared.order.Place.{Place}
 use Rattle.depot_rows.specs.depot_model.declared.request.Session.{Session}
 use Rattle.depot_runs.specs.Run.{placed}
+use Rattle.party_threads.specs.replica_turns.Along.{IsToldOutput}
+use Rattle.party_threads.specs.replica_turns.Master.{IsNth, Past}
+use Rattle.party_threads.specs.run_parties.Replicas.{AreReplicasServed, AreReplicasTold}
+use Rattle.party_threads.specs.run_parties.Served.{AreServed, IsEnd, AreEnds as TurnsEnd, session_counts, total_of}
 use Rattle.session_loop.specs.Reading.{IsAsked}
 use Rattle.session_loop.specs.declared.reading.ReplicaScript.{ReplicaScript}
 use Rattle.session_loop.specs.declared.session.SessionRun.{SessionRun}
-use Rattle.session_turns.specs.Drawn.{IsDrawn}
-use Rattle.session_turns.specs.Replicas.{AreReplicasServed}
-use Rattle.session_turns.specs.Served.{AreServed, IsEnd, AreEnds as TurnsEnd, session_counts, total_of}
 use Rattle.wire_text.specs.declared.script.ScriptEnd.{ScriptEnd}
 use Rattle.p4_server.specs.declared.ended.PartyEnd.{PartyEnd}
-use Rattle.p4_server.specs.Ends.{ended_party, ended_parties}
-use Rattle.p4_server.specs.Headline.{AreEnds, AreReplies, IsPartyEnd, IsPartyOf, IsRunFrom}
+use Rattle.p4_server.specs.Ends.{ended_party, ended_parties, run_of}
+use Rattle.p4_server.specs.Headline.{AreEnds, AreReplies, AreRepliesTold, IsPartyEnd, IsPartyOf, IsRunFrom, Ordering}
 use Rattle.p4_server.specs.Parties.{AreRead, HaveCome, IsPair, IsRead}
-use Rattle.p4_server.proofs.Ending.{ended_at, ended_length, runs_are}
+use Rattle.p4_server.proofs.Ending.{ended_at, ended_length, run_is, runs_are}
 use Rattle.p4_server.proofs.Together.{at_once, there}
 
 module _ {S K : Type 0} (left : S → Option (List ℕ)) (source_faults : S → ℕ) (given : K → Option (List ℕ)) (sink_faults : K → ℕ) where
@@ -118,56 +119,82 @@ module _ {S K : Type 0} (left : S → Option (List ℕ)) (source_faults : S → 
     module _ {D : Type 0} (seen may_leave : D → Files → Type 0) (moment : D → ℕ) (left_since : D → ℕ → Files → Type 0) (may_give : ℕ → Type 0) (since : ℕ) (start : List Deed) (order : List Place) (lost : Bool)
         (served : AreServed may_give sessions replicas start runs (map given firsts) (map given sinks) order)
         (copies : AreReplicasServed seen may_leave moment left_since may_give sessions replicas since start order runs lost (map given firsts) (map given sinks)) where
-      abbrev Replies : ℕ → Option ReplicaScript → ℕ → Bool → Option (List ℕ) → Option (List ℕ) → Type 0
-      Replies number replica commands failed was now = AreReplies seen may_leave moment left_since left source_faults given sink_faults may_give since start sessions order lost number replica commands failed was now
+      abbrev Replies : Bool → ℕ → Option ReplicaScript → ℕ → Bool → Option (List ℕ) → Option (List ℕ) → Type 0
+      Replies flag number replica commands failed was now = AreReplies seen may_leave moment left_since left source_faults given sink_faults may_give since start sessions order flag number replica commands failed was now
 
-      abbrev Party : Option (List ℕ) → Option (List ℕ) → ℕ → Option Session → Option ReplicaScript → S → PartyEnd K → Type 0
-      Party input output number session replica source party = IsPartyOf seen may_leave moment left_since left source_faults given sink_faults may_give since start sessions order lost input output number session replica source party
+      abbrev Party : Bool → Option (List ℕ) → Option (List ℕ) → ℕ → Option Session → Option ReplicaScript → S → PartyEnd K → Type 0
+      Party flag input output number session replica source party = IsPartyOf seen may_leave moment left_since left source_faults given sink_faults may_give since start sessions order flag input output number session replica source party
 
       given_at : (ks : List K) (i : ℕ) (k : K) → slice_get ks i ≡ Some k → slice_get (map given ks) i ≡ Some (given k)
       given_at ks i k at = slice_get-map given ks i ∙ ap (option_map given) at
 
       replies_at : (i : ℕ) (replica : Option ReplicaScript) (run : SessionRun) (first sink : K) → slice_get replicas i ≡ Some replica → slice_get runs i ≡ Some run → slice_get firsts i ≡ Some first → slice_get sinks i ≡ Some sink
-          → Replies (i + 1) replica run.commands run.failed (given first) (given sink)
+          → Replies (get_or copies.flags i false) (i + 1) replica run.commands run.failed (given first) (given sink)
       replies_at i None run first sink replica_at run_at first_at sink_at = served.each i run (given first) (given sink) replica_at run_at (given_at firsts i first first_at) (given_at sinks i sink sink_at)
       replies_at i (Some script) run first sink replica_at run_at first_at sink_at =
-          let copy = copies.each i script run (given first) (given sink) replica_at run_at (given_at firsts i first first_at) (given_at sinks i sink sink_at) in
-          record { one_lost = copy.0; tells = copy.1; output = copy.2 }
+          record { output = copies.each i script run (given first) (given sink) replica_at run_at (given_at firsts i first first_at) (given_at sinks i sink sink_at) }
 
       party_of : (i : ℕ) (name : List ℕ) (session : Option Session) (replica : Option ReplicaScript) (source : S) (party : PartyEnd K) → slice_get names i ≡ Some name → slice_get sessions i ≡ Some session → slice_get replicas i ≡ Some replica
-          → slice_get sources i ≡ Some source → slice_get (ended_parties 1 runs ends sinks) i ≡ Some party → Party (inputs name) (outputs name) (i + 1) session replica source party
+          → slice_get sources i ≡ Some source → slice_get (ended_parties 1 runs ends sinks) i ≡ Some party → Party (get_or copies.flags i false) (inputs name) (outputs name) (i + 1) session replica source party
       party_of i name session replica source party name_at session_at replica_at source_at party_at =
           let f = found i name source party name_at source_at party_at in
+          let flag = get_or copies.flags i false in
           let same : session ≡ f.session = at_once sessions i f.session session f.session_at session_at in
           let same_replica : replica ≡ f.replica = at_once replicas i f.replica replica f.replica_at replica_at in
-          let P : Option (List ℕ) → Type 0 = λ o. Replies (i + 1) f.replica f.run.commands f.run.failed o (given f.sink) in
-          let own : Party (inputs name) (outputs name) (i + 1) f.session f.replica source (ended_party f.place f.run f.end f.sink) = record {
+          let P : Option (List ℕ) → Type 0 = λ o. Replies flag (i + 1) f.replica f.run.commands f.run.failed o (given f.sink) in
+          let own : Party flag (inputs name) (outputs name) (i + 1) f.session f.replica source (ended_party f.place f.run f.end f.sink) = record {
             ends = end_of i f.place f.place_is (inputs name) (outputs name) f.was source f.first f.sink f.session f.replica f.run f.end f.pair f.one f.ended;
             session_is = refl;
             replica_is = refl;
             replies = subst P f.pair.gives (replies_at i f.replica f.run f.first f.sink f.replica_at f.run_at f.first_at f.sink_at);
           } in
-          let with_session : Option Session → Type 0 = λ s. Party (inputs name) (outputs name) (i + 1) s f.replica source (ended_party f.place f.run f.end f.sink) in
-          let with_replica : Option ReplicaScript → Type 0 = λ r. Party (inputs name) (outputs name) (i + 1) session r source (ended_party f.place f.run f.end f.sink) in
-          let with_party : PartyEnd K → Type 0 = λ p. Party (inputs name) (outputs name) (i + 1) session replica source p in
+          let with_session : Option Session → Type 0 = λ s. Party flag (inputs name) (outputs name) (i + 1) s f.replica source (ended_party f.place f.run f.end f.sink) in
+          let with_replica : Option ReplicaScript → Type 0 = λ r. Party flag (inputs name) (outputs name) (i + 1) session r source (ended_party f.place f.run f.end f.sink) in
+          let with_party : PartyEnd K → Type 0 = λ p. Party flag (inputs name) (outputs name) (i + 1) session replica source p in
           subst with_party (sym f.is) (subst with_replica (sym same_replica) (subst with_session (sym same) own))
 
-      pub run_from : (has_run : List Deed → List Placed → Type 0) (seed : ℕ) → has_run start (map (placed sessions) order) → IsDrawn may_give seed sessions replicas start order runs
-          → IsRunFrom seen may_leave moment left_since left source_faults given sink_faults may_give since start has_run seed inputs outputs names order lost (ended_parties 1 runs ends sinks) sources
-      run_from has_run seed ran drawn =
-          let P : List SessionRun → Type 0 = λ rs. IsOrder may_give (session_counts replicas rs) order in
-          let Q : List SessionRun → Type 0 = λ rs. IsDrawn may_give seed sessions replicas start order rs in
-          record {
-            headline = record {
-              sessions = sessions;
-              replicas = replicas;
-              sessions_count = read.sessions_count ∙ come.sources_count;
-              replicas_count = read.replicas_count ∙ come.sources_count;
-              parties_count = ends_of.parties_count;
-              sources_count = ends_of.sources_count;
-              places = subst P (sym (runs_are 1 runs ends sinks runs_count ends_count)) served.places;
-              each = party_of;
-            };
-            ran = ran;
-            drawn = subst Q (sym (runs_are 1 runs ends sinks runs_count ends_count)) drawn;
-          }
+      module _ (began : Past → Type 0) (copies_told : (past : Past) → began past → AreReplicasTold past start sessions replicas may_give order runs (map given firsts) (map given sinks)) where
+        told_at : (past : Past) → began past
+            → AreRepliesTold seen may_leave moment left_since left source_faults given sink_faults may_give since start past outputs names sessions replicas order (ended_parties 1 runs ends sinks)
+        told_at past b i name script party name_at script_at party_at =
+            let lt = slice_get_within names i name name_at in
+            let source = there sources i (omega (arith, lt, read.sources_count, come.sources_count)) in
+            let f = found i name source.0 party name_at source.1 party_at in
+            let its_run : run_of party ≡ f.run = ap (λ (p : PartyEnd K). run_of p) f.is ∙ run_is f.place f.run f.end f.sink in
+            let sink_is : given party.sink ≡ given f.sink = ap (λ (p : PartyEnd K). given p.sink) f.is in
+            let T : SessionRun → Option (List ℕ) → Option (List ℕ) → Type 0 = λ r was now. IsToldOutput (IsNth past start (map (placed sessions) order)) may_give (i + 1) script r.commands r.failed was now in
+            let own : T f.run (given f.first) (given f.sink) = copies_told past b i script f.run (given f.first) (given f.sink) script_at f.run_at (given_at firsts i f.first f.first_at) (given_at sinks i f.sink f.sink_at) in
+            subst (λ (r : SessionRun). T r (outputs name) (given party.sink)) (sym its_run)
+            (subst (λ (o : Option (List ℕ)). T f.run (outputs name) o) (sym sink_is) (subst (λ (o : Option (List ℕ)). T f.run o (given f.sink)) f.pair.gives own))
+
+        pub run_from : (has_run : List Deed → List Placed → Type 0) (IsOrdered : Ordering) → has_run start (map (placed sessions) order) → IsOrdered sessions replicas start order runs
+            → IsRunFrom seen may_leave moment left_since left source_faults given sink_faults may_give since start has_run IsOrdered began inputs outputs names order lost (ended_parties 1 runs ends sinks) sources
+        run_from has_run IsOrdered ran ordered =
+            let P : List SessionRun → Type 0 = λ rs. IsOrder may_give (session_counts replicas rs) order in
+            let Q : List SessionRun → Type 0 = λ rs. IsOrdered sessions replicas start order rs in
+            record {
+              headline = record {
+                sessions = sessions;
+                replicas = replicas;
+                sessions_count = read.sessions_count ∙ come.sources_count;
+                replicas_count = read.replicas_count ∙ come.sources_count;
+                parties_count = ends_of.parties_count;
+                sources_count = ends_of.sources_count;
+                places = subst P (sym (runs_are 1 runs ends sinks runs_count ends_count)) served.places;
+                flags = copies.flags;
+                told = copies.told;
+                each = party_of;
+              };
+              ran = ran;
+              ordered = subst Q (sym (runs_are 1 runs ends sinks runs_count ends_count)) ordered;
+              told = told_at;
+            }
+
+-- where a run began is said by less
+module _ {D S K : Type 0} (seen may_leave : D → Files → Type 0) (moment : D → ℕ) (left_since : D → ℕ → Files → Type 0) (left : S → Option (List ℕ)) (source_faults : S → ℕ) (given : K → Option (List ℕ)) (sink_faults : K → ℕ) (may_give : ℕ → Type 0) (since : ℕ) (start : List Deed) where
+  pub began_from : (has_run : List Deed → List Placed → Type 0) (IsOrdered : Ordering) (began other : Past → Type 0) (inputs outputs : List ℕ → Option (List ℕ)) (names : List (List ℕ)) (order : List Place) (lost : Bool) (parties : List (PartyEnd K)) (sources : List S)
+      → ((past : Past) → other past → began past)
+      → IsRunFrom seen may_leave moment left_since left source_faults given sink_faults may_give since start has_run IsOrdered began inputs outputs names order lost parties sources
+      → IsRunFrom seen may_leave moment left_since left source_faults given sink_faults may_give since start has_run IsOrdered other inputs outputs names order lost parties sources
+  began_from has_run IsOrdered began other inputs outputs names order lost parties sources leads r =
+      record { headline = r.headline; ran = r.ran; ordered = r.ordered; told = λ past b. r.told past (leads past b) }

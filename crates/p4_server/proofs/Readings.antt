@@ -3,8 +3,8 @@ use Rattle.std.proofs.Common.{◌≡◌, ℕ, ◌+◌, List, [], ◌∷◌, ◌+
 use Rattle.std.proofs.lemmas.List.{length_push}
 use Rattle.std.proofs.lemmas.Option.{slice_get_within}
 use Rattle.depot_rows.specs.depot_model.declared.request.Session.{Session}
+use Rattle.party_threads.specs.run_parties.Served.{AreApart}
 use Rattle.session_loop.specs.declared.reading.ReplicaScript.{ReplicaScript}
-use Rattle.session_turns.specs.Served.{AreApart}
 use Rattle.wire_text.specs.declared.script.ScriptEnd.{ScriptEnd}
 use Rattle.p4_server.specs.Parties.{AreRead, IsRead}
 use Rattle.p4_server.proofs.Together.{at_pushed, pushed_before, pushed_last, there}

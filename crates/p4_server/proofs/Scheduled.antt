@@ -17,11 +17,12 @@ use Rattle.recovery.specs.Opening.{IsOpen, HasSynced}
 use Rattle.recovery.specs.Rules.{DeletesAreUnplaced}
 use Rattle.recovery.specs.Standing.{StandFor}
 use Rattle.recovery.specs.declared.open.Opened.{Opened}
-use Rattle.session_turns.specs.serial_depot.Holding.{generation_in, AllHaveContents, KeepContents, StandsWith}
-use Rattle.session_turns.specs.serial_depot.Running.{CanTake, HasRun}
-use Rattle.session_turns.specs.serial_depot.declared.depot.SerialDepot.{SerialDepot}
-use Rattle.session_turns.proofs.serial_depot.Kept.{kept_leads, kept_now}
-use Rattle.session_turns.proofs.serial_depot.Places.{kept_whole}
+use Rattle.party_threads.specs.replica_turns.Master.{Past}
+use Rattle.party_threads.specs.serial_depot.Holding.{generation_in, AllHaveContents, KeepContents, StandsWith}
+use Rattle.party_threads.specs.serial_depot.Running.{CanTake, HasRun}
+use Rattle.party_threads.specs.serial_depot.declared.depot.SerialDepot.{SerialDepot}
+use Rattle.party_threads.proofs.serial_depot.Kept.{kept_leads, kept_now}
+use Rattle.party_threads.proofs.serial_depot.Places.{kept_whole}
 use Rattle.p4_server.specs.declared.ended.Ended.{Ended}
 use Rattle.p4_server.specs.declared.ended.PartyEnd.{PartyEnd}
 use Rattle.p4_server.specs.declared.ended.Cause.{Cause}
@@ -29,8 +30,8 @@ use Rattle.p4_server.specs.declared.ended.Cause.TheVariants as causes
 use Rattle.p4_server.specs.declared.party.NotRun.{NotRun}
 use Rattle.p4_server.specs.declared.party.NotRun.TheVariants.{Doors, Memory}
 use Rattle.p4_server.specs.Files.{IsStart, HasOpened, PairIsKept}
-use Rattle.p4_server.specs.Headline.{AreEnds, IsRunFrom}
-use Rattle.p4_server.specs.Schedule.{AreKept, IsRun, unrun_cause}
+use Rattle.p4_server.specs.Headline.{AreEnds, IsRunFrom, Ordering}
+use Rattle.p4_server.specs.Runs.{AreKept, IsRun, unrun_cause}
 use Rattle.p4_server.specs.Telling.{IsReport, IsUntold}
 use Rattle.p4_server.proofs.FaultPlaces.{caused_since, rose_since}
 use Rattle.p4_server.proofs.Contents.{contents_opened, deletes_opened, pair_stands}
@@ -135,9 +136,9 @@ module _ {D : Type 0} (seen may_leave : D → Files → Type 0) (moment : D → 
 
 -- ---- the end
 
-module _ {D S K H : Type 0} (seen may_leave : D → Files → Type 0) (moment : D → ℕ) (left_since : D → ℕ → Files → Type 0) (disk_faults : D → ℕ) (left : S → Option (List ℕ)) (source_faults : S → ℕ) (given : K → Option (List ℕ)) (sink_faults : K → ℕ) (may_give : ℕ → Type 0) (input output : H → List ℕ → Option (List ℕ)) (door_faults : H → ℕ) (old_doors new_doors : H) (journal archive : D) (old_out new_out : K) (seed : ℕ) (names : List (List ℕ)) (ended : Ended D S K) where
+module _ {D S K H : Type 0} (seen may_leave : D → Files → Type 0) (moment : D → ℕ) (left_since : D → ℕ → Files → Type 0) (disk_faults : D → ℕ) (left : S → Option (List ℕ)) (source_faults : S → ℕ) (given : K → Option (List ℕ)) (sink_faults : K → ℕ) (may_give : ℕ → Type 0) (input output : H → List ℕ → Option (List ℕ)) (door_faults : H → ℕ) (old_doors new_doors : H) (journal archive : D) (old_out new_out : K) (IsOrdered : Ordering) (began : Past → Type 0) (names : List (List ℕ)) (ended : Ended D S K) where
   abbrev Kept : D → List Deed → List Placed → Type 0
-  Kept opened d places = AreKept seen may_leave moment left_since disk_faults left source_faults given sink_faults may_give input output door_faults old_doors new_doors journal archive old_out new_out seed names ended opened d places
+  Kept opened d places = AreKept seen may_leave moment left_since disk_faults left source_faults given sink_faults may_give input output door_faults old_doors new_doors journal archive old_out new_out IsOrdered began names ended opened d places
 
   -- what a depot that has run leaves, once it is closed
   pub are_kept : (depot : SerialDepot D) (opened : D) → ended.journal ≡ disk_of depot.journal → ended.archive ≡ archives.disk_of depot.archive → (d : List Deed) (places : List Placed) → HasRun seen may_leave moment left_since depot (moment opened) d places → Kept opened d places
@@ -149,14 +150,14 @@ module _ {D S K H : Type 0} (seen may_leave : D → Files → Type 0) (moment : 
   -- the parties were run over the depot
   pub run_of : (depot : SerialDepot D) (opened : D) (opened_faults opened_contents : ℕ) (order : List Place) (lost : Bool) (parties : List (PartyEnd K)) (sources : List S) → ended.journal ≡ disk_of depot.journal → ended.archive ≡ archives.disk_of depot.archive → HasOpened seen may_leave moment left_since journal archive opened → ended.order ≡ order
       → AreEnds left source_faults sink_faults (input old_doors) names parties sources
-      → ((d : List Deed) → IsStart seen journal archive d → IsRunFrom seen may_leave moment left_since left source_faults given sink_faults may_give (moment opened) d (HasRun seen may_leave moment left_since depot (moment opened)) seed (input old_doors) (output old_doors) names order lost parties sources)
+      → ((d : List Deed) → IsStart seen journal archive d → IsRunFrom seen may_leave moment left_since left source_faults given sink_faults may_give (moment opened) d (HasRun seen may_leave moment left_since depot (moment opened)) IsOrdered began (input old_doors) (output old_doors) names order lost parties sources)
       → disk_faults journal ≤ opened_faults → disk_faults archive ≤ opened_contents
       → AreCaused opened_faults (disk_faults (disk_of depot.journal)) opened_contents (disk_faults (archives.disk_of depot.archive)) [] order
       → (lost ≡ true → HasRisen opened_faults (disk_faults (disk_of depot.journal)) ⊎ HasRisen opened_contents (disk_faults (archives.disk_of depot.archive)))
       → IsReport given sink_faults old_out new_out ended order parties sources lost ⊎ IsUntold ended
-      → IsRun seen may_leave moment left_since disk_faults left source_faults given sink_faults may_give input output door_faults old_doors new_doors journal archive old_out new_out seed names ended
+      → IsRun seen may_leave moment left_since disk_faults left source_faults given sink_faults may_give input output door_faults old_doors new_doors journal archive old_out new_out IsOrdered began names ended
   run_of depot opened opened_faults opened_contents order lost parties sources journal_is archive_is opens order_is ends runs before contents_before counts lost_rose told =
-      let P : List Place → Type 0 = λ o. (d : List Deed) → IsStart seen journal archive d → IsRunFrom seen may_leave moment left_since left source_faults given sink_faults may_give (moment opened) d (HasRun seen may_leave moment left_since depot (moment opened)) seed (input old_doors) (output old_doors) names o lost parties sources in
+      let P : List Place → Type 0 = λ o. (d : List Deed) → IsStart seen journal archive d → IsRunFrom seen may_leave moment left_since left source_faults given sink_faults may_give (moment opened) d (HasRun seen may_leave moment left_since depot (moment opened)) IsOrdered began (input old_doors) (output old_doors) names o lost parties sources in
       let all = subst P (sym order_is) runs in
       record {
         parties = parties;
@@ -167,7 +168,7 @@ module _ {D S K H : Type 0} (seen may_leave : D → Files → Type 0) (moment : 
         lost = lost;
         lost_rose = λ is. rw (journal_is, archive_is)
             (rose_since (disk_faults journal) opened_faults (disk_faults (disk_of depot.journal)) (disk_faults archive) opened_contents (disk_faults (archives.disk_of depot.archive)) before contents_before (lost_rose is));
-        run = λ d start. record { headline = (all d start).headline; drawn = (all d start).drawn; kept = are_kept depot opened journal_is archive_is d _ (all d start).ran };
+        run = λ d start. record { headline = (all d start).headline; ordered = (all d start).ordered; told = (all d start).told; kept = are_kept depot opened journal_is archive_is d _ (all d start).ran };
         fault_places = rw (journal_is, archive_is, order_is)
             (caused_since (disk_faults journal) opened_faults (disk_faults (disk_of depot.journal)) (disk_faults archive) opened_contents (disk_faults (archives.disk_of depot.archive)) order before contents_before counts);
         told = elim told [ inl report ↦ inl (report.parties_are, report.sources_are, report.told) | inr untold ↦ inr untold ];

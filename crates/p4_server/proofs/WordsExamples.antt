@@ -1,7 +1,7 @@
 -- Some command lines, and what they ask.
 use Rattle.std.proofs.Common.{◌≡◌, [], ◌∷◌, Some, None, refl}
 use Rattle.std.specs.Prelude.{codes}
-use Rattle.p4_server.specs.Words.{asked, init, dump, load, schedule}
+use Rattle.p4_server.specs.Words.{asked, init, dump, load, schedule, serve}
 
 -- `--seed 1 --count 3 dump`
 options_before : asked (codes "--seed" ∷ codes "1" ∷ codes "--count" ∷ codes "3" ∷ codes "dump" ∷ []) ≡ Some dump
@@ -58,3 +58,11 @@ one_name_twice = refl
 -- `--help`
 no_help : asked (codes "--help" ∷ []) ≡ None
 no_help = refl
+
+-- `serve a b`
+on_threads : asked (codes "serve" ∷ codes "a" ∷ codes "b" ∷ []) ≡ Some (serve (codes "a" ∷ codes "b" ∷ []))
+on_threads = refl
+
+-- `serve`: a mode with names has one at least
+no_names : asked (codes "serve" ∷ []) ≡ None
+no_names = refl

@@ -1,5 +1,5 @@
 -- The headline: one order of the commands of all parties explains every party's output.
-use Rattle.std.specs.Prelude.{◌≡◌, ◌≤◌, ℕ, ◌+◌, Bool, true, false, List, length, map, slice_get, Option, Some, None, IfSome}
+use Rattle.std.specs.Prelude.{◌≡◌, ◌≤◌, ℕ, ◌+◌, Bool, true, false, List, length, map, get_or, slice_get, Option, Some, None, IfSome}
 use Rattle.outside_api.specs.Count.{HasRisen}
 use Rattle.outside_api.specs.Disk.{Files}
 use Rattle.depot_rows.specs.depot_model.Deeds.{Deed}
@@ -8,16 +8,22 @@ use Rattle.depot_runs.specs.Run.{placed}
 use Rattle.depot_rows.specs.depot_model.declared.order.Place.{Place}
 use Rattle.depot_rows.specs.depot_model.declared.request.Session.{Session}
 use Rattle.depot_rows.specs.depot_model.Order.{IsOrder}
-use Rattle.session_turns.specs.replica_turns.Going.{IsReplicaOutput}
+use Rattle.party_threads.specs.replica_turns.Along.{IsToldOutput}
+use Rattle.party_threads.specs.replica_turns.Going.{IsReplicaOutput}
+use Rattle.party_threads.specs.replica_turns.Master.{IsNth, Past}
+use Rattle.party_threads.specs.run_parties.Replicas.{AreLost, HasBeenAt}
+use Rattle.party_threads.specs.run_parties.Served.{session_counts, total_of}
 use Rattle.session_loop.specs.declared.reading.ReadSession.{ReadSession}
 use Rattle.session_loop.specs.declared.reading.ReplicaScript.{ReplicaScript}
+use Rattle.session_loop.specs.declared.session.SessionRun.{SessionRun}
 use Rattle.session_loop.specs.Reading.{IsReadSession}
 use Rattle.session_loop.specs.Served.{IsOutput}
 use Rattle.p4_server.specs.declared.ended.PartyEnd.{PartyEnd}
-use Rattle.session_turns.specs.Drawn.{IsDrawn}
-use Rattle.session_turns.specs.Replicas.{HasBeenAt}
-use Rattle.session_turns.specs.Served.{session_counts, total_of}
 use Rattle.p4_server.specs.Ends.{party_end, run_of}
+
+-- How an order came about: what holds of the sessions and the replicas, the depot at the start, the order, and how far each party came.
+abbrev pub Ordering : Type 1
+Ordering = List (Option Session) → List (Option ReplicaScript) → List Deed → List Place → List SessionRun → Type 0
 
 -- no script has the heads of both
 abbrev pub IsApart : Option Session → Option ReplicaScript → Type 0
@@ -45,11 +51,9 @@ pub record AreEnds {S K : Type 0} (left : S → Option (List ℕ)) (source_fault
 
 module _ {D S K : Type 0} (seen may_leave : D → Files → Type 0) (moment : D → ℕ) (left_since : D → ℕ → Files → Type 0) (left : S → Option (List ℕ)) (source_faults : S → ℕ) (given : K → Option (List ℕ)) (sink_faults : K → ℕ) (may_give : ℕ → Type 0) (since : ℕ) (start : List Deed) where
   -- What the sink of a replica got: the replies to its first commands, in order, where each `pull` took what the journal answered of a depot in files that had
-  -- run a beginning of the order, and each other reply is that of the rows which it had then. Where a reply says that a disk failed, that is told.
+  -- run a beginning of the order, and each other reply is that of the rows which it had then. Whether a reply says that a disk failed is told.
   pub record IsReplicaPart (sessions : List (Option Session)) (order : List Place) (lost : Bool) (number : ℕ) (script : ReplicaScript) (commands : ℕ) (failed : Bool) (before now : Option (List ℕ)) : Type 0 where
-    pub one_lost : Bool
-    pub tells : one_lost ≡ true → lost ≡ true
-    pub output : IsReplicaOutput (HasBeenAt seen may_leave moment left_since sessions since start order) seen may_leave may_give number script commands failed one_lost before now
+    pub output : IsReplicaOutput (HasBeenAt seen may_leave moment left_since sessions since start order) seen may_leave may_give number script commands failed lost before now
 
   -- What a party's sink got. A session's has what one thread answers to its commands, in order, when it takes the commands of all sessions in the order, from
   -- the depot `start` on. So has that of a script without a head, which has no commands.
@@ -65,7 +69,8 @@ module _ {D S K : Type 0} (seen may_leave : D → Files → Type 0) (moment : D 
     pub replies : AreReplies sessions order lost number replica party.commands ends.failed output (given party.sink)
 
   -- Each name has its party, and there is one order of the commands of all sessions, each up to its party's `commands` at most
-  -- once, by which every session's output is that of one thread. The commands of replicas have no place in it.
+  -- once, by which every session's output is that of one thread. The commands of replicas have no place in it. That a disk failed for one of them is told
+  -- exactly where a reply of one of the replicas says so: of which, a flag a party tells.
   pub record IsHeadline (inputs outputs : List ℕ → Option (List ℕ)) (names : List (List ℕ)) (order : List Place) (lost : Bool) (parties : List (PartyEnd K)) (sources : List S) : Type 0 where
     pub sessions : List (Option Session)
     pub replicas : List (Option ReplicaScript)
@@ -74,12 +79,22 @@ module _ {D S K : Type 0} (seen may_leave : D → Files → Type 0) (moment : D 
     pub parties_count : length parties ≡ length names
     pub sources_count : length sources ≡ length names
     pub places : IsOrder may_give (session_counts replicas (map run_of parties)) order
+    pub flags : List Bool
+    pub told : AreLost replicas flags lost
     pub each : (i : ℕ) (name : List ℕ) (session : Option Session) (replica : Option ReplicaScript) (source : S) (party : PartyEnd K) → slice_get names i ≡ Some name → slice_get sessions i ≡ Some session → slice_get replicas i ≡ Some replica
-        → slice_get sources i ≡ Some source → slice_get parties i ≡ Some party → IsPartyOf sessions order lost (inputs name) (outputs name) (i + 1) session replica source party
+        → slice_get sources i ≡ Some source → slice_get parties i ≡ Some party → IsPartyOf sessions order (get_or flags i false) (inputs name) (outputs name) (i + 1) session replica source party
 
-  -- The headline, who took the commands has run their places, and the order is that of the turns which the seed draws, where a party whose sink failed
-  -- takes no further turn.
-  pub record IsRunFrom (has_run : List Deed → List Placed → Type 0) (seed : ℕ) (inputs outputs : List ℕ → Option (List ℕ)) (names : List (List ℕ)) (order : List Place) (lost : Bool) (parties : List (PartyEnd K)) (sources : List S) : Type 0 where
+  -- Each reply of a replica other than to `pull` is that of a replica of the depot after the first n changes, those before the run and then those among the
+  -- places of the order, cut to its filter, where n is what its last `pull` told, and 0 before one; n never falls.
+  abbrev pub AreRepliesTold : Past → (List ℕ → Option (List ℕ)) → List (List ℕ) → List (Option Session) → List (Option ReplicaScript) → List Place → List (PartyEnd K) → Type 0
+  AreRepliesTold past outputs names sessions replicas order parties =
+      (i : ℕ) (name : List ℕ) (script : ReplicaScript) (party : PartyEnd K) → slice_get names i ≡ Some name → slice_get replicas i ≡ Some (Some script) → slice_get parties i ≡ Some party
+      → IsToldOutput (IsNth past start (map (placed sessions) order)) may_give (i + 1) script (run_of party).commands (run_of party).failed (outputs name) (given party.sink)
+
+  -- The headline, who took the commands has run their places, and the order came about so. Where the run began over a depot with such changes before it, the
+  -- replies of replicas are those for numbers of changes.
+  pub record IsRunFrom (has_run : List Deed → List Placed → Type 0) (IsOrdered : Ordering) (began : Past → Type 0) (inputs outputs : List ℕ → Option (List ℕ)) (names : List (List ℕ)) (order : List Place) (lost : Bool) (parties : List (PartyEnd K)) (sources : List S) : Type 0 where
     pub headline : IsHeadline inputs outputs names order lost parties sources
     pub ran : has_run start (map (placed headline.sessions) order)
-    pub drawn : IsDrawn may_give seed headline.sessions headline.replicas start order (map run_of parties)
+    pub ordered : IsOrdered headline.sessions headline.replicas start order (map run_of parties)
+    pub told : (past : Past) → began past → AreRepliesTold past outputs names headline.sessions headline.replicas order parties

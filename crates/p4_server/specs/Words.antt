@@ -1,5 +1,5 @@
 -- The words with which the program is called: `[--seed N] [--count N] MODE NAME...` (this project's own choice).
-use Rattle.std.specs.Prelude.{ℕ, ◌≤◌, Bool, ◌&&◌, nat_le, List, [], ◌∷◌, ◌++◌, map, length, drop, Option, Some, None, codes, if◌then◌else◌}
+use Rattle.std.specs.Prelude.{ℕ, ◌≤◌, Bool, true, false, ◌&&◌, nat_le, List, [], ◌∷◌, ◌++◌, map, length, drop, Option, Some, None, codes, if◌then◌else◌}
 use Rattle.std.specs.Borrow.{Bor}
 use Rattle.std.specs.List.{list_all}
 use Rattle.std.specs.Option.{option_and_then, option_map}
@@ -126,13 +126,14 @@ count_given texts = number_given 1 10000 100 texts
 -- ---- modes
 
 -- What is asked: to make the files, to print their rows, to begin their next generation, to run the script of a seed and a count, or to run the scripts of
--- names, by turns that a seed draws. A mode allows an option for which it has no use.
+-- names, by turns that a seed draws or each on a thread. A mode allows an option for which it has no use.
 pub data Job : Type 0 where
   init : Job
   dump : Job
   checkpoint : Job
   load : ℕ → ℕ → Job
   schedule : ℕ → List (List ℕ) → Job
+  serve : List (List ℕ) → Job
 
 -- what a mode of the code asks
 abbrev pub job_of : Mode → Job
@@ -141,10 +142,12 @@ job_of modes.Dump = dump
 job_of modes.Checkpoint = checkpoint
 job_of (modes.Load seed count) = load seed count
 job_of (modes.Schedule seed names) = schedule seed (words_of names.items)
+job_of (modes.Serve names) = serve (words_of names.items)
 
 -- a mode with names has 1 to 16
 abbrev pub HasParties : Mode → Type 0
 HasParties (modes.Schedule seed names) = (1 ≤ length names.items) × (length names.items ≤ 16)
+HasParties (modes.Serve names) = (1 ≤ length names.items) × (length names.items ≤ 16)
 HasParties _ = Unit {0}
 
 -- a mode without names
@@ -159,9 +162,15 @@ job_alone seed count word =
 abbrev pub are_party_names : List (List ℕ) → Bool
 are_party_names names = nat_le (length names) 16 && list_all is_name names && are_distinct names
 
+-- a word that has names behind it
+abbrev pub job_by_names : ℕ → List ℕ → List (List ℕ) → Option Job
+job_by_names seed word names =
+    if bytes_eq word (codes "schedule") then Some (schedule seed names) else
+    (if bytes_eq word (codes "serve") then Some (serve names) else None)
+
 -- a mode with names
 abbrev pub job_with_names : ℕ → List ℕ → List (List ℕ) → Option Job
-job_with_names seed word names = if bytes_eq word (codes "schedule") && are_party_names names then Some (schedule seed names) else None
+job_with_names seed word names = if are_party_names names then job_by_names seed word names else None
 
 -- MODE NAME..
 abbrev pub job_of_words : ℕ → ℕ → List (List ℕ) → Option Job
@@ -179,3 +188,18 @@ asked_by said = job_with (seed_given said.seeds) (count_given said.counts) said.
 -- what the words ask; None is what words of no mode ask
 abbrev pub asked : List (List ℕ) → Option Job
 asked words = option_and_then asked_by (said_from Anything words)
+
+-- ---- threads
+
+-- a mode that needs no threads
+abbrev pub is_alone : Job → Bool
+is_alone (serve names) = false
+is_alone _ = true
+
+-- the words ask for none that needs them
+abbrev pub alone_by : Option Job → Bool
+alone_by (Some job) = is_alone job
+alone_by None = true
+
+abbrev pub asks_alone : List (List ℕ) → Bool
+asks_alone words = alone_by (asked words)

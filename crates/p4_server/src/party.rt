@@ -5,8 +5,11 @@ ghost use Rattle.outside_api.specs.Count.{HasRisen};
 ghost use Rattle.archive_file.specs.Archive.{disk_of as archive_disk_of};
 ghost use Rattle.disk_journal.specs.Stands.{disk_of};
 ghost use Rattle.depot_rows.specs.depot_model.Deeds.{Deed};
-ghost use Rattle.session_turns.specs.serial_depot.Running.{CanTake, HasRun};
+ghost use Rattle.party_threads.specs.replica_turns.Master.{IsMaster};
+ghost use Rattle.party_threads.specs.serial_depot.Growing.{Chronicle};
+ghost use Rattle.party_threads.specs.serial_depot.Running.{CanTake, HasRun};
 ghost use Rattle.session_loop.specs.Served.{AreCaused};
+ghost use Rattle.session_turns.specs.Drawn.{IsDrawn};
 ghost use Rattle.p4_server.specs.declared.party.NotRun.{NotRun};
 ghost use Rattle.p4_server.specs.Headline.{AreEnds, IsRunFrom};
 ghost use Rattle.p4_server.specs.Parties.{AreDifferent, AreFew, AreFormed, AreRead, CanBeTold, HaveCome, OnlyTheseCome, parties_of};
@@ -15,8 +18,8 @@ ghost use Rattle.p4_server.specs.Words.{words_of};
 use depot_rows::model::{Place, Session};
 use depot_rows::paths::Sequence;
 use outside_api::{Clock, Disk, Doors, Gate, Sink, Source};
+use party_threads::depots::SerialDepot;
 use session_loop::{ReadSession, ReplicaScript, SessionRun, read_session};
-use session_turns::depots::SerialDepot;
 use session_turns::{Ran, run_sessions};
 use std::alloc::{AllocError, Global};
 use wire_text::ScriptEnd;
@@ -184,7 +187,7 @@ pub fn run_parties<H: Doors, D: Disk, C: Clock, G: Gate>(
     ensures told { IfOk result CanBeTold }
     ensures ends { IfOk result (λ run. AreEnds H.In.left H.In.faults H.Out.faults (H.input doors.old) (words_of names.now) (parties_of run) run.sources.items) }
     ensures run { (since : ℕ) (start : List Deed) → HasRun D.seen D.may_leave D.moment D.left_since depot.old since start [] → IfOk result (λ run.
-        IsRunFrom D.seen D.may_leave D.moment D.left_since H.In.left H.In.faults H.Out.given H.Out.faults (C.may_give clock.now) since start (HasRun D.seen D.may_leave D.moment D.left_since depot.new since) seed (H.input doors.old) (H.output doors.old) (words_of names.now) run.order run.lost (parties_of run) run.sources.items) }
+        IsRunFrom D.seen D.may_leave D.moment D.left_since H.In.left H.In.faults H.Out.given H.Out.faults (C.may_give clock.now) since start (HasRun D.seen D.may_leave D.moment D.left_since depot.new since) (IsDrawn (C.may_give clock.now) seed) (λ past. (c : Chronicle) × IsMaster D.seen D.may_leave past start [] depot.old c) (H.input doors.old) (H.output doors.old) (words_of names.now) run.order run.lost (parties_of run) run.sources.items) }
     ensures lost { IfOk result (λ run. run.lost ≡ true → HasRisen (D.faults (disk_of depot.old.journal)) (D.faults (disk_of depot.new.journal)) ⊎ HasRisen (D.faults (archive_disk_of depot.old.archive)) (D.faults (archive_disk_of depot.new.archive))) }
     ensures faults { IfOk result (λ run. AreCaused (D.faults (disk_of depot.old.journal)) (D.faults (disk_of depot.new.journal)) (D.faults (archive_disk_of depot.old.archive)) (D.faults (archive_disk_of depot.new.archive)) [] run.order) }
     ensures unrun { (why : NotRun) → result ≡ Err why → depot.new ≡ depot.old }

@@ -1,8 +1,8 @@
 //! The program: its words, its modes, its end.
 
-ghost use Rattle.std.specs.Prelude.{◌≡◌};
+ghost use Rattle.std.specs.Prelude.{◌≡◌, true};
 ghost use Rattle.p4_server.specs.Promise.{KeepsPromise};
-ghost use Rattle.p4_server.specs.Words.{words_of};
+ghost use Rattle.p4_server.specs.Words.{asks_alone, words_of};
 
 use crate::checkpoint::checkpoint;
 use crate::dump::dump;
@@ -10,15 +10,16 @@ use crate::ended::{Cause, Ended};
 use crate::init::init;
 use crate::load::load;
 use crate::schedule::schedule;
+use crate::serve::serve;
 use crate::telling::end_alone;
-use crate::words::{Mode, mode_of};
+use crate::words::{Mode, mode_of, served_names};
 use outside_api::{Clock, Disk, Doors, Gate};
 use std::alloc::Global;
 use std::sync::Wait;
 use std::thread::Threads;
 
 /// Does all that the program does in a mode that runs on one thread. With words of no mode nothing but
-/// `out` is touched.
+/// `out` is touched. What asks for threads is no such mode.
 pub fn p4_alone<H: Doors, D: Disk, C: Clock, G: Gate>(
     alloc: Global,
     words: &[&str],
@@ -29,6 +30,7 @@ pub fn p4_alone<H: Doors, D: Disk, C: Clock, G: Gate>(
     clock: &C,
     gate: &G,
 ) -> Ended<D, H::In, H::Out>
+    requires alone { asks_alone (words_of words.now) ≡ true }
     ensures promise { KeepsPromise D.seen D.may_leave D.moment D.left_since D.faults H.In.left H.In.faults H.Out.given H.Out.faults (C.may_give clock.now) H.input H.output H.faults doors.old doors.new (words_of words.now) journal archive out.old out.new result }
 {
     let mode = match mode_of(alloc, words) {
@@ -56,12 +58,13 @@ pub fn p4_alone<H: Doors, D: Disk, C: Clock, G: Gate>(
                 gate,
             )
         }
+        Some(Mode::Serve { .. }) => end_alone(alloc, Cause::Usage, out, journal, archive),
     }
 }
 
-/// Does all that the program does. There is no mode with threads yet.
+/// Does all that the program does. With words of no mode nothing but `out` is touched.
 pub fn p4_top<R: Threads + Wait + Sync, H: Doors, D: Disk + Send, C: Clock + Sync, G: Gate + Sync>(
-    _rt: &R,
+    rt: &R,
     alloc: Global,
     words: &[&str],
     doors: &mut H,
@@ -71,7 +74,23 @@ pub fn p4_top<R: Threads + Wait + Sync, H: Doors, D: Disk + Send, C: Clock + Syn
     clock: &C,
     gate: &G,
 ) -> Ended<D, H::In, H::Out>
+where
+    H::Out: Send,
     ensures promise { KeepsPromise D.seen D.may_leave D.moment D.left_since D.faults H.In.left H.In.faults H.Out.given H.Out.faults (C.may_give clock.now) H.input H.output H.faults doors.old doors.new (words_of words.now) journal archive out.old out.new result }
 {
-    p4_alone(alloc, words, doors, journal, archive, out, clock, gate)
+    match served_names(alloc, words) {
+        Err(_) => end_alone(alloc, Cause::Memory, out, journal, archive),
+        Ok(None) => p4_alone(alloc, words, doors, journal, archive, out, clock, gate),
+        Ok(Some(names)) => serve(
+            rt,
+            alloc,
+            names.as_slice(),
+            doors,
+            journal,
+            archive,
+            out,
+            clock,
+            gate,
+        ),
+    }
 }

@@ -7,7 +7,7 @@ ghost use Rattle.depot_rows.specs.depot_model.Rules.{are_distinct as distinct_te
 ghost use Rattle.depot_rows.specs.depot_path.Bytes.{begins_with, same};
 ghost use Rattle.depot_rows.specs.depot_path.Name.{is_name as name_test};
 ghost use Rattle.p4_server.specs.Words as spec;
-ghost use Rattle.p4_server.specs.Words.{words_of, HasParties, job_of, job_alone, job_with_names, job_of_words, asked, asked_by, said_from, read_from};
+ghost use Rattle.p4_server.specs.Words.{words_of, HasParties, job_of, job_alone, job_by_names, job_with_names, job_of_words, asked, asked_by, asks_alone, said_from, read_from};
 
 use depot_rows::paths::{is_name, number_up_to};
 use std::alloc::{AllocError, Global};
@@ -25,6 +25,8 @@ pub enum Mode<'a> {
     Load { seed: u32, count: u32 },
     /// Run the scripts of these names, by turns that the seed draws.
     Schedule { seed: u32, names: Vec<&'a str> },
+    /// Run the scripts of these names, each on a thread of its own.
+    Serve { names: Vec<&'a str> },
 }
 
 /// An option.
@@ -288,6 +290,20 @@ fn mode_alone<'a>(seed: u32, count: u32, word: &str) -> Option<Mode<'a>>
     }
 }
 
+/// The mode of a word that has these names behind it.
+fn mode_by_names<'a>(seed: u32, word: &str, names: Vec<&'a str>) -> Option<Mode<'a>>
+    ensures mode { option_map job_of result ≡ job_by_names seed word.now (words_of names.entry.items) }
+    ensures parties { (1 ≤ length names.entry.items) × (length names.entry.items ≤ 16) → IfSome result HasParties }
+{
+    if word == "schedule" {
+        Some(Mode::Schedule { seed, names })
+    } else if word == "serve" {
+        Some(Mode::Serve { names })
+    } else {
+        None
+    }
+}
+
 /// The mode of a word with names.
 fn mode_with_names<'a>(
     alloc: Global,
@@ -298,11 +314,11 @@ fn mode_with_names<'a>(
     ensures mode { IfOk result (λ mode. option_map job_of mode ≡ job_with_names seed word.now (words_of names.now)) }
     ensures parties { 1 ≤ length names.now → IfOk result (λ mode. IfSome mode HasParties) }
 {
-    if word != "schedule" || !are_party_names(names) {
+    if !are_party_names(names) {
         return Ok(None);
     }
     let names = Vec::from_slice(alloc, names)?;
-    Ok(Some(Mode::Schedule { seed, names }))
+    Ok(mode_by_names(seed, word, names))
 }
 
 /// The mode of plain words.
@@ -348,4 +364,22 @@ pub fn mode_of<'a>(alloc: Global, words: &[&'a str]) -> Result<Option<Mode<'a>>,
 {
     let reader = reader_of(alloc, words)?;
     mode_by(alloc, reader)
+}
+
+/// The names of the parties that are to run on threads, where the words ask for that. The one error is want of memory.
+pub fn served_names<'a>(
+    alloc: Global,
+    words: &[&'a str],
+) -> Result<Option<Vec<&'a str>>, AllocError>
+    ensures serve { IfOk result (λ names. IfSome names (λ names. asked (words_of words.now) ≡ Some (spec.serve (words_of names.items)))) }
+    ensures few { IfOk result (λ names. IfSome names (λ names. length names.items ≤ 16)) }
+    ensures alone { IfOk result (λ names. IfNone names (asks_alone (words_of words.now) ≡ true)) }
+{
+    match mode_of(alloc, words)? {
+        Some(Mode::Serve { names }) => Ok(Some(names)),
+        Some(
+            Mode::Init | Mode::Dump | Mode::Checkpoint | Mode::Load { .. } | Mode::Schedule { .. },
+        ) => Ok(None),
+        None => Ok(None),
+    }
 }

@@ -1,7 +1,7 @@
 use Rattle.std.proofs.Common.{[], ◌∙◌, ap}
 use Rattle.archive_file.specs.Archive as archives
 use Rattle.disk_journal.specs.Stands.{disk_of}
-use Rattle.session_turns.specs.serial_depot.declared.depot.SerialDepot.{SerialDepot}
+use Rattle.party_threads.specs.serial_depot.declared.depot.SerialDepot.{SerialDepot}
 use Rattle.depot_rows.specs.table_changes.Changed.{rows_of}
 use Rattle.p4_server.proofs.Loadings.{load_kept, load_of, loads_run, loads_unloaded, loads_unopened}
 use Rattle.p4_server.proofs.Openings.{opened_of, unopened_of}

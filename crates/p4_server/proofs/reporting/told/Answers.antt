@@ -1,6 +1,6 @@
 use Rattle.std.proofs.Common.{inl, refl}
 use Rattle.p4_server.proofs.Promises.{told_of}
-use Rattle.p4_server.proofs.schedule.told.Goals as goal
+use Rattle.p4_server.proofs.reporting.told.Goals as goal
 
 pub returns-in-Ok-clause-told : goal.returns-in-Ok-clause-told
 returns-in-Ok-clause-told g c = inl (record {

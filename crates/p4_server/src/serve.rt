@@ -1,0 +1,60 @@
+//! The mode `serve`: the run of the parties over the files of the depot, each on a thread of its own.
+
+ghost use Rattle.std.specs.Prelude.{◌≡◌, ◌≤◌, length};
+ghost use Rattle.p4_server.specs.Ends.{status_of};
+ghost use Rattle.p4_server.specs.Parties.{AreDifferent};
+ghost use Rattle.p4_server.specs.Serve.{Serves};
+ghost use Rattle.p4_server.specs.Words.{words_of};
+
+use crate::ended::Ended;
+use crate::opening::end_unopened;
+use crate::reporting::{cause_of_unrun, told};
+use crate::serving::{Served, serve_parties};
+use crate::telling::end_alone;
+use outside_api::{Clock, Disk, Doors, Gate};
+use party_threads::depots::{Closed, SerialDepot};
+use recovery::{Opened, open_files};
+use std::alloc::Global;
+use std::sync::Wait;
+use std::thread::Threads;
+
+/// Runs the scripts of 1 to 16 different names over the files of the depot, each on a thread of its own, and tells the order and the ends. Party i is the
+/// i-th name, from 1. No door is asked before the files are open.
+pub fn serve<R: Threads + Wait + Sync, H: Doors, D: Disk + Send, C: Clock + Sync, G: Gate + Sync>(
+    rt: &R,
+    alloc: Global,
+    names: &[&str],
+    doors: &mut H,
+    journal: D,
+    archive: D,
+    out: &mut H::Out,
+    clock: &C,
+    gate: &G,
+) -> Ended<D, H::In, H::Out>
+where
+    H::Out: Send,
+    requires different { AreDifferent (words_of names.now) }
+    requires few { length names.now ≤ 16 }
+    ensures serves { Serves D.seen D.may_leave D.moment D.left_since D.faults H.In.left H.In.faults H.Out.given H.Out.faults (C.may_give clock.now) H.input H.output H.faults doors.old doors.new journal archive out.old out.new (words_of names.now) result }
+    ensures status { result.status ≡ status_of result.cause }
+{
+    let Opened {
+        tables,
+        journal,
+        archive,
+    } = match open_files(alloc, journal, archive) {
+        Ok(opened) => opened,
+        Err(found) => return end_unopened(alloc, found, out),
+    };
+    let depot = SerialDepot::new(tables, journal, archive);
+    let Served { depot, run } = serve_parties(rt, alloc, names, doors, clock, gate, depot);
+    let Closed {
+        journal,
+        archive,
+        ..
+    } = depot.close();
+    match run {
+        Ok(run) => told(alloc, run, out, journal, archive),
+        Err(why) => end_alone(alloc, cause_of_unrun(why), out, journal, archive),
+    }
+}
