@@ -1,5 +1,5 @@
 -- A command whose contents were read, and one whose contents were stored and whose group or generation was written.
-use Rattle.std.proofs.Common.{◌≡◌, ◌≢◌, ◌⊎◌, ℕ, ◌≤◌, ◌+◌, Bool, true, false, List, [], ◌∷◌, ◌++◌, length, refl, sym, ap, subst, ◌∙◌, arith}
+use Rattle.std.proofs.Common.{◌≡◌, ◌≢◌, ◌⊎◌, ℕ, ◌≤◌, ◌+◌, Bool, true, false, List, [], ◌∷◌, ◌++◌, length, refl, sym, subst, ◌∙◌, arith}
 use Rattle.archive_file.specs.Archive as archives
 use Rattle.archive_file.specs.declared.archive.Archive.{Archive}
 use Rattle.outside_api.specs.Disk.{Files, LeavesOnly, NoMore, Same, StillTells}
@@ -29,7 +29,7 @@ use Rattle.serial_depot.specs.Writing.{IsWritingOf, StandsBy, with_doubtful}
 use Rattle.serial_depot.specs.Running.{CanTake, HasRun}
 use Rattle.serial_depot.specs.Storing.{AllReach, AllStored, AreAt, KeepsBelow, stores_end}
 use Rattle.serial_depot.specs.declared.depot.SerialDepot.{SerialDepot}
-use Rattle.serial_depot.proofs.Moved.{has_run_moved, has_run_settled, has_run_unsettled}
+use Rattle.serial_depot.proofs.Moved.{has_run_moved, has_run_unsettled}
 use Rattle.serial_depot.proofs.Steps.{has_run_done, has_run_failed, has_run_faulted}
 use Rattle.serial_depot.proofs.Stored.{contents_at, contents_follow, contents_kept, grows, keeps_more, keeps_reach}
 
@@ -65,15 +65,13 @@ module _ {D : Type 0} (seen may_leave : D → Files → Type 0) (moment : D → 
         → HasRun seen may_leave moment left_since read since start (places ++ placed_by request true ∷ [])
     read_faulted since start places request h = has_run_faulted seen may_leave moment left_since read since start places request (read_run since start places h)
 
-  -- what was read are the contents that the reply waits for
-  pub contents_are : ((disk : D) (files : Files) → seen disk files → may_leave disk files) → (since : ℕ) (start : List Deed) (places : List Placed) (request : Request) (from : ℕ) (outcome : Outcome)
-      → HasRun seen may_leave moment left_since depot since start places → IsOutcome (rows_of depot.tables) from (taken step start places) request outcome
-      → (texts : List (List ℕ)) → ((files : Files) (contents : List (List ℕ)) → seen (archives.disk_of depot.archive) files → AreAt (files 0) outcome.reads contents → texts ≡ contents)
-      → texts ≡ contents_of (step (taken step start places) request).rows
-  contents_are images since start places request from outcome h is texts read =
-      read h.tells.0 (contents_of (step (taken step start places) request).rows) h.tells.1
-      (contents_at (may_leave (archives.disk_of depot.archive)) (archives.used_of depot.archive) (rows_of depot.tables) (taken step start places) h.kept h.tells.0
-      (images (archives.disk_of depot.archive) h.tells.0 h.tells.1) (contents_of (step (taken step start places) request).rows) outcome.reads is.reads)
+  -- the contents that the reply waits for are at the spots that are read
+  pub contents_there : ((disk : D) (files : Files) → seen disk files → may_leave disk files) → (since : ℕ) (start : List Deed) (places : List Placed) (request : Request) (from : ℕ) (outcome : Outcome)
+      → (h : HasRun seen may_leave moment left_since depot since start places) → IsOutcome (rows_of depot.tables) from (taken step start places) request outcome
+      → AreAt (h.tells.0 0) outcome.reads (contents_of (step (taken step start places) request).rows)
+  contents_there images since start places request from outcome h is =
+      contents_at (may_leave (archives.disk_of depot.archive)) (archives.used_of depot.archive) (rows_of depot.tables) (taken step start places) h.kept h.tells.0
+      (images (archives.disk_of depot.archive) h.tells.0 h.tells.1) (contents_of (step (taken step start places) request).rows) outcome.reads is.reads
 
   -- what is in doubt couldn't be settled
   pub unsettled_run : (since : ℕ) (start : List Deed) (places : List Placed) (request : Request) (h : HasRun seen may_leave moment left_since depot since start places) (journal : Journal D)

@@ -1,5 +1,5 @@
 -- A depot in files whose journal was settled, or whose archive was read or stored in.
-use Rattle.std.proofs.Common.{◌≡◌, ◌⊎◌, ℕ, ◌≤◌, List, length, sym, subst, ⊎_elim, arith}
+use Rattle.std.proofs.Common.{◌≡◌, ℕ, ◌≤◌, List, length, sym, subst, ⊎_elim, arith}
 use Rattle.archive_file.specs.Archive as archives
 use Rattle.archive_file.specs.declared.archive.Archive.{Archive}
 use Rattle.outside_api.specs.Disk.{Files, LeavesOnly}
@@ -11,7 +11,6 @@ use Rattle.depot_rows.specs.table_store.declared.tables.Tables.{Tables}
 use Rattle.depot_runs.specs.Today.{step}
 use Rattle.depot_rows.specs.depot_model.Deeds.{Deed}
 use Rattle.depot_rows.specs.depot_model.Places.{Placed, taken}
-use Rattle.depot_rows.specs.depot_model.Step.{after}
 use Rattle.depot_rows.specs.Standing.{Stand}
 use Rattle.recovery.specs.Holding.{HasAllRows}
 use Rattle.serial_depot.specs.Holding.{KeepContents, StandsWith, IsKeptSometime}

@@ -1,5 +1,5 @@
 -- A depot in files after one place more.
-use Rattle.std.proofs.Common.{◌≡◌, ◌≢◌, ◌⊎◌, ℕ, ◌≤◌, ◌+◌, Bool, true, false, List, [], ◌∷◌, ◌++◌, length, Some, refl, sym, ap, subst, ◌∙◌, inl, inr, ⊎_elim, arith, append_assoc}
+use Rattle.std.proofs.Common.{◌≡◌, ◌≢◌, ◌⊎◌, ℕ, Bool, true, false, List, [], ◌∷◌, ◌++◌, length, refl, sym, ap, subst, ◌∙◌, inl, inr, ⊎_elim, arith, append_assoc}
 use Rattle.std.proofs.lemmas.List.{length_push}
 use Rattle.std.specs.Prelude.{codes}
 use Rattle.archive_file.specs.Archive as archives
@@ -14,7 +14,7 @@ use Rattle.depot_rows.specs.table_store.declared.tables.Tables.{Tables}
 use Rattle.depot_runs.specs.Today.{step}
 use Rattle.depot_rows.specs.depot_model.Deeds.{Deed}
 use Rattle.depot_runs.specs.Kept.{IsChange}
-use Rattle.depot_rows.specs.depot_model.Places.{Placed, done_at, taken}
+use Rattle.depot_rows.specs.depot_model.Places.{Placed, taken}
 use Rattle.depot_rows.specs.depot_model.Records.{SameRows}
 use Rattle.depot_rows.specs.depot_model.Rules.{value_of}
 use Rattle.depot_rows.specs.depot_model.Step.{after}

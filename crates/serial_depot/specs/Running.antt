@@ -1,5 +1,5 @@
 -- A depot in files that has taken commands.
-use Rattle.std.specs.Prelude.{◌≡◌, ℕ, ◌≤◌, true, List, ◌∷◌, ◌++◌, length}
+use Rattle.std.specs.Prelude.{◌≡◌, ℕ, ◌≤◌, true, List, ◌∷◌, ◌++◌}
 use Rattle.outside_api.specs.Disk.{Files}
 use Rattle.archive_file.specs.Archive as archives
 use Rattle.disk_journal.specs.Images.{Committed, with_generation, with_group}

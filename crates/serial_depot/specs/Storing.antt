@@ -1,5 +1,5 @@
 -- Contents that are stored in the archive, one after another from a place on, and read there. This project's own choice.
-use Rattle.std.specs.Prelude.{◌≡◌, ◌≤◌, ◌+◌, ℕ, List, [], ◌∷◌, length}
+use Rattle.std.specs.Prelude.{◌≤◌, ◌+◌, ℕ, List, [], ◌∷◌, length}
 use Rattle.outside_api.specs.Disk.{Files}
 use Rattle.depot_rows.specs.db_records.declared.change.Spot.{Spot}
 use Rattle.archive_file.specs.Archive.{AllHave, Has, end_of}

@@ -13,7 +13,5 @@ mod storing;
 mod taking;
 mod writing;
 
+pub use commit::fault_reply;
 pub use depot::{Closed, SerialDepot};
-
-// What stands below, for the crates above.
-pub use command_core as commands;

@@ -1,6 +1,6 @@
 //! Giving a command its place.
 
-ghost use Rattle.std.specs.Prelude.{◌≡◌, ◌≢◌, ◌⊎◌, ◌≤◌, ℕ, Bool, List, [], ◌∷◌, ◌++◌, true, false, None, IfOk, IfSome, OnErr};
+ghost use Rattle.std.specs.Prelude.{◌≡◌, ◌≢◌, ◌⊎◌, ◌≤◌, ◌<◌, ◌^◌, ℕ, Bool, List, [], ◌∷◌, ◌++◌, length, true, false, None, IfOk, IfSome, OnOk, OnErr};
 ghost use Rattle.archive_file.specs.Archive.{disk_of as archive_disk_of};
 ghost use Rattle.outside_api.specs.Count.{HasRisen};
 ghost use Rattle.depot_rows.specs.db_records.declared.change.Change.{Change as AnyChange};
@@ -11,7 +11,7 @@ ghost use Rattle.depot_rows.specs.depot_model.Places.{Placed, taken};
 ghost use Rattle.depot_rows.specs.depot_model.Step.{after};
 ghost use Rattle.depot_rows.specs.depot_model.declared.request.Request.{Request};
 ghost use Rattle.disk_journal.specs.Stands.{disk_of, generation_of_journal, next_number};
-ghost use Rattle.journal_groups.specs.Groups.{AreRecords, IsGroup};
+ghost use Rattle.journal_groups.specs.Groups.{AreRecords, IsGroup, body_of};
 ghost use Rattle.session_loop.specs.Taking.{placed_by, with_place};
 ghost use Rattle.stored_contents.specs.Placed.{StandAfter};
 ghost use Rattle.serial_depot.specs.Committing.{AreChangesOf, AreRowsAfter, IsToldAt};
@@ -19,7 +19,7 @@ ghost use Rattle.serial_depot.specs.Growing.{Chronicle, HasGroups, IsWritten, Ke
 ghost use Rattle.serial_depot.specs.Running.{CanTake, HasRun};
 ghost use Rattle.serial_depot.specs.Writing.{CanWrite, IsWritingOf, left_by};
 
-use crate::commit::{commit, measure};
+use crate::commit::commit;
 use crate::depot::SerialDepot;
 use crate::storing::store_all;
 use crate::writing::{Writing, prepare};
@@ -28,6 +28,7 @@ use depot_rows::model::{Answer, Place};
 use depot_rows::paths::Text;
 use depot_rows::records::{Change, Spot};
 use depot_rows::tables::Tables;
+use disk_journal::Journal;
 use outside_api::{Disk, DiskFault};
 use std::alloc::{AllocError, Global};
 
@@ -57,6 +58,43 @@ fn tables_after(
     match changed {
         Some(given) => Ok(given),
         None => change_tables(alloc, tables, changes),
+    }
+}
+
+/// What the changes of a command write, and the tables after them.
+#[derive(Drop)]
+struct Made {
+    tables: Tables,
+    writing: Writing,
+}
+
+/// What changes write, and the tables after them, which may be given.
+fn make<D: Disk>(
+    alloc: Global,
+    tables: &Tables,
+    journal: &Journal<D>,
+    changed: Option<Tables>,
+    changes: &[Change],
+    opens: bool,
+) -> Result<Made, AllocError>
+    requires { changed ≡ None → AllFitIn (rows_of tables.now) changes.now }
+    ensures can { IfOk result (λ made. CanWrite journal.now made.writing) }
+    ensures few { OnOk result (length (body_of changes.now) < 2 ^ 64) }
+    ensures rows { IfSome changed (λ given. rows_of given ≡ changed_by (rows_of tables.now) changes.now) → IfOk result (λ made. rows_of made.tables ≡ changed_by (rows_of tables.now) changes.now) }
+    ensures writes { AllFitIn (rows_of tables.now) changes.now → IfSome changed (λ given. rows_of given ≡ changed_by (rows_of tables.now) changes.now) → IsGroup changes.now → IfOk result (λ made.
+        IsWritingOf (rows_of tables.now) (rows_of made.tables) (next_number journal.now) (generation_of_journal journal.now) opens (left_by made.writing) changes.now) }
+    ensures written { IfOk result (λ made. IsWritten (next_number journal.now) opens (left_by made.writing) changes.now) }
+{
+    let changed = tables_after(alloc, tables, changed, changes)?;
+    match prepare(alloc, journal, &changed, changes, opens) {
+        Ok(writing) => Ok(Made {
+            tables: changed,
+            writing,
+        }),
+        Err(error) => {
+            drop(changed);
+            Err(error)
+        }
     }
 }
 
@@ -90,11 +128,19 @@ impl<D: Disk> SerialDepot<D> {
     {
         match self.journal.settle() {
             Ok(()) => {}
-            Err(DiskFault) => return true,
+            Err(DiskFault) => {
+                drop(changed);
+                drop(writing);
+                return true;
+            }
         }
         let end = match store_all(&mut self.archive, self.tables.archive_end(), stores) {
             Ok(end) => end,
-            Err(DiskFault) => return true,
+            Err(DiskFault) => {
+                drop(changed);
+                drop(writing);
+                return true;
+            }
         };
         let failed = commit(&mut self.tables, &mut self.journal, changed, writing);
         self.archive.keep(Spot { at: end, length: 0 });
@@ -143,10 +189,8 @@ impl<D: Disk> SerialDepot<D> {
             drop(changed);
             return Ok(Answer { place, reply });
         }
-        measure(alloc, changes)?;
-        let changed = tables_after(alloc, &self.tables, changed, changes)?;
-        let writing = prepare(alloc, &self.journal, &changed, changes, opens)?;
-        if self.land(changed, writing, stores) {
+        let made = make(alloc, &self.tables, &self.journal, changed, changes, opens)?;
+        if self.land(made.tables, made.writing, stores) {
             return Ok(fault_answer(place, of_fault));
         }
         Ok(Answer { place, reply })

@@ -1,8 +1,9 @@
 //! Taking commands one after another.
 
-ghost use Rattle.std.specs.Prelude.{◌≡◌, ◌⊎◌, ◌≤◌, ℕ, List, [], All, IsTrue, true, false, None, IfOk, IfSome, OnErr};
-ghost use Rattle.archive_file.specs.Archive.{disk_of as archive_disk_of, end_of, used_of};
+ghost use Rattle.std.specs.Prelude.{◌≡◌, ◌⊎◌, ◌≤◌, ℕ, List, [], ◌∷◌, map, All, IsTrue, true, false, None, IfOk, IfSome, OnOk, OnErr};
+ghost use Rattle.archive_file.specs.Archive.{HasMemoryOr, disk_of as archive_disk_of, end_of, used_of};
 ghost use Rattle.outside_api.specs.Count.{HasRisen};
+ghost use Rattle.outside_api.specs.Disk.{Files, NoMore, Same};
 ghost use Rattle.depot_rows.specs.depot_model.Deeds.{Deed};
 ghost use Rattle.depot_rows.specs.depot_model.Printed.{printed};
 ghost use Rattle.depot_rows.specs.depot_model.Rows.{disk_row};
@@ -13,26 +14,29 @@ ghost use Rattle.depot_rows.specs.depot_model.Step.{after};
 ghost use Rattle.depot_rows.specs.depot_model.declared.request.Request.{Request as AnyRequest};
 ghost use Rattle.depot_rows.specs.Standing.{Stand};
 ghost use Rattle.command_core.specs.Outcomes.{IsOutcome};
-ghost use Rattle.reply_rows.specs.Made.{contents_of};
+ghost use Rattle.depot_rows.specs.depot_model.declared.reply.Row.{Row};
+ghost use Rattle.reply_rows.specs.Made.{contents_of, waiting};
 ghost use Rattle.depot_rows.specs.table_changes.Changed.{AllFitIn, changed_by, rows_of};
 ghost use Rattle.disk_journal.specs.Stands.{disk_of};
 ghost use Rattle.journal_groups.specs.Groups.{AreRecords};
-ghost use Rattle.row_texts.specs.Texts.{is_counted};
+ghost use Rattle.row_texts.specs.Texts.{IsOf64Bits, is_counted};
 ghost use Rattle.session_loop.specs.Taking.{Answers, IsProper, place_by, with_place};
 ghost use Rattle.serial_depot.specs.Committing.{AreChangesOf, AreRowsAfter, IsOutcomeOf, IsToldAt};
 ghost use Rattle.serial_depot.specs.Growing.{Chronicle, HasGroups, KeepsStored, grown};
 ghost use Rattle.serial_depot.specs.Opening.{opens_generation};
 ghost use Rattle.serial_depot.specs.Running.{CanTake, HasRun};
+ghost use Rattle.serial_depot.specs.Storing.{AreAt};
 
 use crate::commit::fault_reply;
 use crate::counting::{are_counted, know_records};
 use crate::depot::SerialDepot;
 use crate::placing::fault_answer;
 use crate::storing::{are_within, read_all};
-use archive_file::ContentFault;
+use archive_file::{Archive, ContentFault};
 use command_core::{Outcome, evaluate, filled};
-use depot_rows::model::{Answer, Command, Place, Request};
+use depot_rows::model::{Answer, Command, Place, Reply, Request};
 use depot_rows::paths::Text;
+use depot_rows::records::Spot;
 use depot_rows::tables::Tables;
 use outside_api::{Disk, Gate};
 use session_loop::Taker;
@@ -66,6 +70,61 @@ fn is_ready(outcome: &Outcome, used: u64) -> bool
     ensures { result ≡ true → All (λ change. IsTrue (is_counted change.row)) outcome.now.changes × All (λ spot. end_of spot ≤ used) outcome.now.reads }
 {
     are_within(outcome.reads.as_slice(), used) && are_counted(outcome.changes.as_slice())
+}
+
+/// The reply at a fault place, where the outcome is ready; one that isn't is answered as want of memory.
+fn reply_if_ready(
+    alloc: Global,
+    outcome: &Outcome,
+    used: u64,
+    number: u32,
+) -> Result<Text, AllocError>
+    ensures small { All (λ change. IsOf64Bits change.row) outcome.now.changes }
+    ensures counted { OnOk result (All (λ change. IsTrue (is_counted change.row)) outcome.now.changes) }
+    ensures within { OnOk result (All (λ spot. end_of spot ≤ used) outcome.now.reads) }
+    ensures of_fault { IfOk result (λ text. text ≡ printed (disk_row ∷ []) number) }
+{
+    know_records(outcome.changes.as_slice());
+    if !is_ready(outcome, used) {
+        return Err(AllocError);
+    }
+    fault_reply(alloc, number)
+}
+
+/// The printed reply with the contents at these spots in the rows that wait for theirs.
+fn print_whole<D: Disk>(
+    alloc: Global,
+    archive: &mut Archive<D>,
+    reply: Reply,
+    reads: &[Spot],
+    number: u32,
+) -> Result<Text, ContentFault>
+    requires { All (λ spot. end_of spot ≤ used_of archive.old) reads.now }
+    ensures told { (files : Files) (rows : List Row) → D.seen (archive_disk_of archive.old) files → AreAt (files 0) reads.now (contents_of rows) → reply.rows ≡ map waiting rows → IfOk result (λ text. text ≡ printed rows number) }
+    ensures same { Same (D.seen (archive_disk_of archive.old)) (D.seen (archive_disk_of archive.new)) }
+    ensures crash { NoMore (D.may_leave (archive_disk_of archive.old)) (D.may_leave (archive_disk_of archive.new)) }
+    ensures used { used_of archive.new ≡ used_of archive.old }
+    ensures no_call { reads.now ≡ [] → archive.new ≡ archive.old }
+    ensures cause { HasMemoryOr (D.faults (archive_disk_of archive.old)) (D.faults (archive_disk_of archive.new)) result }
+{
+    let contents = match read_all(alloc, archive, reads) {
+        Ok(contents) => contents,
+        Err(fault) => {
+            drop(reply);
+            return Err(fault);
+        }
+    };
+    let whole = filled(reply, contents);
+    match print_reply(alloc, &whole, number) {
+        Ok(text) => {
+            drop(whole);
+            Ok(text)
+        }
+        Err(_) => {
+            drop(whole);
+            Err(ContentFault::Memory)
+        }
+    }
 }
 
 impl<D: Disk> SerialDepot<D> {
@@ -113,24 +172,44 @@ impl<D: Disk> SerialDepot<D> {
             stores,
             reads,
         } = outcome;
-        let contents = match read_all(alloc, &mut self.archive, reads.as_slice()) {
-            Ok(contents) => contents,
-            Err(ContentFault::DiskFault) => return Ok(fault_answer(place, of_fault)),
-            Err(ContentFault::Memory) => return Err(AllocError),
-        };
-        let whole = filled(reply, contents);
-        let text = print_reply(alloc, &whole, place.number)?;
-        let answer = self.place(
+        match print_whole(
             alloc,
-            place,
-            text,
-            of_fault,
-            changes.as_slice(),
-            opens,
-            stores.as_slice(),
-            changed,
-        )?;
-        Ok(answer)
+            &mut self.archive,
+            reply,
+            reads.as_slice(),
+            place.number,
+        ) {
+            Ok(text) => {
+                let answer = self.place(
+                    alloc,
+                    place,
+                    text,
+                    of_fault,
+                    changes.as_slice(),
+                    opens,
+                    stores.as_slice(),
+                    changed,
+                );
+                drop(changes);
+                drop(stores);
+                drop(reads);
+                answer
+            }
+            Err(ContentFault::DiskFault) => {
+                drop(changes);
+                drop(stores);
+                drop(reads);
+                drop(changed);
+                Ok(fault_answer(place, of_fault))
+            }
+            Err(ContentFault::Memory) => {
+                drop(changes);
+                drop(stores);
+                drop(reads);
+                drop(changed);
+                Err(AllocError)
+            }
+        }
     }
 
     /// Gives the command of a request its place, whose outcome these tables tell; the tables after its changes may be given. A command that would
@@ -168,18 +247,12 @@ impl<D: Disk> SerialDepot<D> {
         ensures cause { IfOk result (λ answer. answer.place.fault ≡ true → HasRisen (D.faults (disk_of self.old.journal)) (D.faults (disk_of self.new.journal)) ⊎ HasRisen (D.faults (archive_disk_of self.old.archive)) (D.faults (archive_disk_of self.new.archive))) }
     {
         requests_are_typed(request);
-        if !is_ready(&outcome, self.archive.used()) {
-            drop(outcome);
-            drop(changed);
-            return Err(AllocError);
-        }
-        know_records(outcome.changes.as_slice());
-        let of_fault = match fault_reply(alloc, request.number) {
+        let of_fault = match reply_if_ready(alloc, &outcome, self.archive.used(), request.number) {
             Ok(text) => text,
-            Err(_) => {
+            Err(error) => {
                 drop(outcome);
                 drop(changed);
-                return Err(AllocError);
+                return Err(error);
             }
         };
         gate.pass(request.party, request.number);
@@ -262,8 +335,7 @@ impl<D: Disk> SerialDepot<D> {
         ensures cause { IfOk result (λ answer. answer.place.fault ≡ true → HasRisen (D.faults (disk_of self.old.journal)) (D.faults (disk_of self.new.journal)) ⊎ HasRisen (D.faults (archive_disk_of self.old.archive)) (D.faults (archive_disk_of self.new.archive))) }
     {
         let outcome = evaluate(alloc, &self.tables, request)?;
-        let answer = self.take_outcome(alloc, gate, request, outcome, None)?;
-        Ok(answer)
+        self.take_outcome(alloc, gate, request, outcome, None)
     }
 }
 

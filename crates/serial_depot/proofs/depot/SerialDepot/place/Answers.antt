@@ -1,7 +1,7 @@
-use Rattle.std.proofs.Common.{◌≡◌, ◌≢◌, ℕ, ◌+◌, ◌<◌, Bool, true, false, List, [], ◌∷◌, ◌++◌, length, refl, sym, ap, subst, ◌∙◌, arith}
+use Rattle.std.proofs.Common.{◌≡◌, ◌≢◌, ◌<◌, Bool, true, false, List, [], ◌∷◌, ◌++◌, length, refl, sym, ap, subst, ◌∙◌, arith}
 use Rattle.std.proofs.lemmas.Grind.{common_steps}
 use Rattle.depot_rows.specs.db_records.declared.change.Change.{Change}
-use Rattle.depot_rows.specs.table_changes.Changed.{AllRows, changed_by, rows_of}
+use Rattle.depot_rows.specs.table_changes.Changed.{changed_by, rows_of}
 use Rattle.depot_rows.specs.depot_model.declared.order.Answer.{Answer}
 use Rattle.session_loop.specs.Taking.{placed_by}
 use Rattle.serial_depot.specs.Committing.{AreChangesOf, AreRowsAfter, IsToldAt}
@@ -32,14 +32,14 @@ returns-then-land-clause-ran g c = λ since start places request h fits given ma
     let P : Answer → Type 0 = λ answer. HasRun g.D.Disk.seen g.D.Disk.may_leave g.D.Disk.moment g.D.Disk.left_since c.land.new.self since start (places ++ placed_by request answer.place.fault ∷ []) in
     subst P (sym c.fault_answer.ensures)
     (c.if-land.ensures.ran since start places request c.args.opens c.args.changes.now h (some_left c.args.changes.now (grind (arith, common_steps)))
-    (c.in_ok-writing.ensures.writes (rows_of c.args.self.now.tables) fits (c.in_ok-changed.ensures given) (made.records, let few = c.in_ok-measure.ensures in omega (arith, few))) made placed)
+    (c.in_ok-made.ensures.writes fits given (made.records, let few = c.in_ok-made.ensures.few in omega (arith, few))) made placed)
 
 pub returns-clause-ran : goal.returns-clause-ran
 returns-clause-ran g c = λ since start places request h fits given made placed.
     let P : Bool → Type 0 = λ fault. HasRun g.D.Disk.seen g.D.Disk.may_leave g.D.Disk.moment g.D.Disk.left_since c.land.new.self since start (places ++ placed_by request fault ∷ []) in
     subst P (sym c.requires.no_fault)
     (c.if-land.ensures.ran since start places request c.args.opens c.args.changes.now h (some_left c.args.changes.now (grind (arith, common_steps)))
-    (c.in_ok-writing.ensures.writes (rows_of c.args.self.now.tables) fits (c.in_ok-changed.ensures given) (made.records, let few = c.in_ok-measure.ensures in omega (arith, few))) made placed)
+    (c.in_ok-made.ensures.writes fits given (made.records, let few = c.in_ok-made.ensures.few in omega (arith, few))) made placed)
 
 pub returns-then-land-clause-told : goal.returns-then-land-clause-told
 returns-then-land-clause-told g c = subst (IsToldAt c.args.place c.args.reply c.args.of_fault) (sym c.fault_answer.ensures) (record { place_is = refl; reply_is = refl })
@@ -65,7 +65,7 @@ returns-then-land-clause-rows g c = λ given.
 pub returns-clause-rows : goal.returns-clause-rows
 returns-clause-rows g c = λ given.
     let P : Bool → Type 0 = λ fault. AreRowsAfter (rows_of c.args.self.now.tables) c.args.changes.now fault (rows_of c.land.new.self.tables) in
-    subst P (sym c.requires.no_fault) (c.if-land.ensures.landed refl ∙ c.in_ok-changed.ensures given)
+    subst P (sym c.requires.no_fault) (c.if-land.ensures.landed refl ∙ c.in_ok-made.ensures.rows given)
 
 -- ---- the groups of the journal
 
@@ -76,32 +76,26 @@ returns-then-is_empty-clause-grows g c = λ all has records.
 
 pub returns-then-land-clause-grows : goal.returns-then-land-clause-grows
 returns-then-land-clause-grows g c = λ all has records.
-    let few = c.in_ok-measure.ensures in
+    let few = c.in_ok-made.ensures.few in
     let some = some_left c.args.changes.now (grind (arith, common_steps)) in
     let P : Answer → Type 0 = λ answer. HasGroups g.D.Disk.seen g.D.Disk.may_leave c.land.new.self.journal (grown c.args.opens answer.place.fault c.args.changes.now all) in
     subst P (sym c.fault_answer.ensures)
     (subst (HasGroups g.D.Disk.seen g.D.Disk.may_leave c.land.new.self.journal) (grown_some c.args.opens true c.args.changes.now all some)
-    (c.if-land.ensures.grows all c.args.opens c.args.changes.now has c.in_ok-writing.ensures.written (records, omega (arith, few))))
+    (c.if-land.ensures.grows all c.args.opens c.args.changes.now has c.in_ok-made.ensures.written (records, omega (arith, few))))
 
 pub returns-clause-grows : goal.returns-clause-grows
 returns-clause-grows g c = λ all has records.
-    let few = c.in_ok-measure.ensures in
+    let few = c.in_ok-made.ensures.few in
     let some = some_left c.args.changes.now (grind (arith, common_steps)) in
     let P : Bool → Type 0 = λ fault. HasGroups g.D.Disk.seen g.D.Disk.may_leave c.land.new.self.journal (grown c.args.opens fault c.args.changes.now all) in
     subst P (sym c.requires.no_fault)
     (subst (HasGroups g.D.Disk.seen g.D.Disk.may_leave c.land.new.self.journal) (grown_some c.args.opens false c.args.changes.now all some)
-    (c.if-land.ensures.grows all c.args.opens c.args.changes.now has c.in_ok-writing.ensures.written (records, omega (arith, few))))
+    (c.if-land.ensures.grows all c.args.opens c.args.changes.now has c.in_ok-made.ensures.written (records, omega (arith, few))))
 
 -- ---- the contents
 
 pub returns-then-is_empty-clause-stored : goal.returns-then-is_empty-clause-stored
 returns-then-is_empty-clause-stored g c = stored_same g.D.Disk.may_leave c.args.self.now.archive
 
-pub returns-in_err-measure-clause-stored : goal.returns-in_err-measure-clause-stored
-returns-in_err-measure-clause-stored g c = stored_same g.D.Disk.may_leave c.args.self.now.archive
-
-pub returns-in_err-changed-clause-stored : goal.returns-in_err-changed-clause-stored
-returns-in_err-changed-clause-stored g c = stored_same g.D.Disk.may_leave c.args.self.now.archive
-
-pub returns-in_err-writing-clause-stored : goal.returns-in_err-writing-clause-stored
-returns-in_err-writing-clause-stored g c = stored_same g.D.Disk.may_leave c.args.self.now.archive
+pub returns-in_err-made-clause-stored : goal.returns-in_err-made-clause-stored
+returns-in_err-made-clause-stored g c = stored_same g.D.Disk.may_leave c.args.self.now.archive
