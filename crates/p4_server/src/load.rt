@@ -18,8 +18,8 @@ use depot_rows::tables::Tables;
 use load_script::{LoadFigures, load_lines};
 use load_session::{LoadRun, run_load};
 use outside_api::{Clock, Disk, Gate, Sink};
-use party_threads::depots::{Closed, SerialDepot};
 use recovery::{MakeFault, Opened, make_files, open_files};
+use serial_depot::{Closed, SerialDepot};
 use std::alloc::{AllocError, Global};
 use wire_text::{ScriptEnd, give_all};
 

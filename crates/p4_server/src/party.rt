@@ -18,7 +18,7 @@ ghost use Rattle.p4_server.specs.Words.{words_of};
 use depot_rows::model::{Place, Session};
 use depot_rows::paths::Sequence;
 use outside_api::{Clock, Disk, Doors, Gate, Sink, Source};
-use party_threads::depots::SerialDepot;
+use serial_depot::SerialDepot;
 use session_loop::{ReadSession, ReplicaScript, SessionRun, read_session};
 use session_turns::{Ran, run_sessions};
 use std::alloc::{AllocError, Global};

@@ -12,8 +12,8 @@ use crate::party::run_parties;
 use crate::reporting::{cause_of_unrun, told};
 use crate::telling::end_alone;
 use outside_api::{Clock, Disk, Doors, Gate};
-use party_threads::depots::{Closed, SerialDepot};
 use recovery::{Opened, open_files};
+use serial_depot::{Closed, SerialDepot};
 use std::alloc::Global;
 
 /// Runs the scripts of 1 to 16 different names over the files of the depot, by turns that the seed draws, and tells the order and the ends. Party i is the

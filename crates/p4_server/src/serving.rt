@@ -16,8 +16,8 @@ ghost use Rattle.p4_server.specs.Words.{words_of};
 use crate::party::{Came, NotRun, PartiesRun, Scripts, open_doors, read_scripts};
 use depot_rows::paths::Sequence;
 use outside_api::{Clock, Disk, Doors, Gate};
-use party_threads::depots::SerialDepot;
 use party_threads::{ThreadsRun, run_on_threads};
+use serial_depot::SerialDepot;
 use std::alloc::Global;
 use std::sync::Wait;
 use std::thread::Threads;
@@ -31,8 +31,8 @@ pub struct Served<D: Disk, S, K> {
     pub run: Result<PartiesRun<S, K>, NotRun>,
 }
 
-/// Opens the doors of the names, reads all scripts and takes their commands, those of each session on a thread of its own. Where the parties aren't run, nothing
-/// is taken.
+/// Opens the doors of the names, reads all scripts and has their commands taken or answered, those of each party on a thread of its own. Where the parties
+/// aren't run, nothing is taken.
 pub fn serve_parties<
     R: Threads + Wait + Sync,
     H: Doors,

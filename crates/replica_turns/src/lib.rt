@@ -10,7 +10,3 @@ mod replying;
 
 pub use laws::{depots_grow_by_their_changes, replicas_reply_for_their_last_pull};
 pub use party::{Answered, ReplicaParty};
-
-// What stands below, for the crates above.
-pub use serial_depot as depots;
-pub use serial_depot::commands;

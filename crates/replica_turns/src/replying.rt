@@ -22,13 +22,13 @@ use crate::answers::{fault_reply, loses, tells};
 use crate::party::Answered;
 use crate::pulling::pull;
 use archive_file::ContentFault;
+use command_core::filled;
 use depot_rows::model::{Command, Reply, Request};
 use depot_rows::paths::{Sequence, Text};
 use outside_api::Disk;
 use replica_answers::{Answered as Waiting, answer};
 use replica_pull::Replica;
 use serial_depot::SerialDepot;
-use serial_depot::commands::filled;
 use std::alloc::{AllocError, Global};
 use wire_text::print_reply;
 

@@ -6,7 +6,3 @@ mod giving;
 
 pub use asking::{all_requests, replica_parties};
 pub use giving::give;
-
-// What stands below, for the crates above.
-pub use replica_turns as followers;
-pub use replica_turns::{commands, depots};

@@ -20,12 +20,12 @@ ghost use Rattle.session_turns.specs.Drawn.{ended};
 ghost use Rattle.session_turns.specs.Taking.{finish_for};
 ghost use Rattle.depot_rows.specs.table_changes.Changed.{changed_by, rows_of};
 
+use command_core::Outcome;
 use depot_rows::model::{Answer, Place, Request};
 use depot_rows::tables::Tables;
 use lock_core::{Finish, LockCore};
 use outside_api::{Disk, Gate};
-use run_parties::commands::Outcome;
-use run_parties::depots::SerialDepot;
+use serial_depot::SerialDepot;
 use std::alloc::{AllocError, Global};
 
 /// The tables after the commit that a party has at hand, with room behind the order for its place.

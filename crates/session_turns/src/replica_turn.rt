@@ -16,7 +16,7 @@ ghost use Rattle.session_turns.specs.Running.{AreWithin};
 use crate::answers::{answer_party, has_more};
 use crate::replicas::Replicas;
 use outside_api::{Disk, Sink};
-use run_parties::depots::SerialDepot;
+use serial_depot::SerialDepot;
 use session_loop::SessionRun;
 use std::alloc::Global;
 

@@ -18,9 +18,9 @@ ghost use Rattle.session_turns.specs.Going.{IsStepped};
 
 use depot_rows::paths::Text;
 use outside_api::{Clock, Disk};
-use run_parties::depots::SerialDepot;
-use run_parties::followers::{Answered, ReplicaParty};
+use replica_turns::{Answered, ReplicaParty};
 use run_parties::replica_parties;
+use serial_depot::SerialDepot;
 use session_loop::ReplicaScript;
 use std::alloc::{AllocError, Global};
 

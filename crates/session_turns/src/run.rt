@@ -22,7 +22,7 @@ use depot_rows::model::{Place, Session};
 use lock_core::{LockCore, share_tables};
 use outside_api::{Clock, Disk, Gate, Sink};
 use run_parties::all_requests;
-use run_parties::depots::SerialDepot;
+use serial_depot::SerialDepot;
 use session_loop::{ReplicaScript, SessionRun};
 use std::alloc::{AllocError, Global};
 

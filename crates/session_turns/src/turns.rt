@@ -26,12 +26,12 @@ use crate::answers::{answer_party, has_more, reply_in};
 use crate::commits::{how_of, place_commit, stop_if};
 use crate::replica_turn::take_replica_turn;
 use crate::replicas::Replicas;
+use command_core::Outcome;
 use depot_rows::model::Place;
 use lock_core::{LockCore, Turn};
 use outside_api::{Clock, Disk, Gate, Sink};
-use run_parties::commands::Outcome;
-use run_parties::depots::SerialDepot;
 use seeded_numbers::Draw;
+use serial_depot::SerialDepot;
 use session_loop::SessionRun;
 use std::alloc::{AllocError, Global};
 
