@@ -1,49 +1,142 @@
--- A replica's answers, one after another, over depots that have run the same places.
-use Rattle.std.proofs.Common.{◌+◌, ℕ, Bool, false, List, [], ◌∷◌, ◌++◌, length, Option, refl, sym, ap, subst, arith}
+-- A replica's answers, one after another, each over a depot that had run the places of all that its party knew then.
+use Rattle.std.proofs.Common.{◌≡◌, ◌≤◌, ◌+◌, ◌||◌, ℕ, Bool, true, false, List, [], ◌∷◌, ◌++◌, length, Option, Result, Ok, Err, refl, sym, ap, subst, ◌∙◌, arith}
 use Rattle.std.proofs.lemmas.List.{length-append}
+use mathlib.Core.List.{IsPrefix}
+use Rattle.depot_model.specs.Deeds.{Deed}
+use Rattle.locked_tables.specs.Known.{PartyKnown}
+use Rattle.locked_tables.specs.Taken.{of_party}
+use Rattle.locked_tables.specs.declared.taken.Taken.{Taken}
+use Rattle.order_words.proofs.Prefixes.{prefix_self, prefix_trans}
+use Rattle.outside_api.specs.Count.{HasRisen}
 use Rattle.outside_api.specs.Disk.{Files}
-use Rattle.outside_api.specs.Told.{extended}
+use Rattle.party_marks.specs.Known.{PassKnown}
+use Rattle.party_marks.specs.Marks.{has_marks}
 use Rattle.run_parties.proofs.Outputs.{got_more}
-use Rattle.run_parties.proofs.replica_turns.Turns.{begins, goes_on, widened}
+use Rattle.run_parties.proofs.Replicas.{plain, turned_plain}
+use Rattle.run_parties.proofs.replica_turns.Turns.{begins as fresh_goes, goes_on, widened}
 use Rattle.run_parties.specs.Giving.{Got, HasGiven}
-use Rattle.run_parties.specs.replica_turns.Going.{IsFresh, IsGoing, IsReplicaOutput, reply_text}
+use Rattle.run_parties.specs.Served.{IsEnd}
+use Rattle.run_parties.specs.replica_turns.Going.{IsFresh, IsGoing, IsReplicaOutput, is_lost, reply_text}
+use Rattle.run_parties.specs.replica_turns.declared.party.Answered.{Answered}
 use Rattle.run_parties.specs.replica_turns.declared.party.ReplicaParty.{ReplicaParty}
 use Rattle.run_parties.specs.serial_depot.declared.depot.SerialDepot.{SerialDepot}
 use Rattle.session_loop.specs.Asking.{AreWellFormed}
 use Rattle.session_loop.specs.declared.reading.ReplicaScript.{ReplicaScript}
+use Rattle.session_loop.specs.declared.session.SessionRun.{SessionRun}
+use Rattle.shared_depot.specs.Replicas.{IsReplicaTurn}
 use Rattle.wire_text.proofs.Pieces.{extended-nil}
-use Rattle.party_threads.specs.Replicas.{IsStep}
+use Rattle.party_threads.specs.Replicas.{HasRunFront, IsReplicaServed, IsStep}
 
-module _ {D : Type 0} (HasBeen : SerialDepot D → Type 0) (seen may_leave : D → Files → Type 0) (may_give : ℕ → Type 0) (party : ℕ) (script : ReplicaScript) where
-  abbrev Answers : ReplicaParty → ℕ → Bool → Bool → Option (List ℕ) → Option (List ℕ) → Type 0
-  Answers p commands failed lost before now = HasGiven HasBeen seen may_leave may_give party script p (record { commands = commands; failed = failed }) lost before now
+-- ---- answers
 
-  pub answered_none : (p : ReplicaParty) (given : Option (List ℕ)) → IsFresh may_give party script p → AreWellFormed script.session.commands → Answers p 0 false false given given
-  answered_none p given first well = record { texts = []; count = refl; going = begins HasBeen seen may_leave may_give party script p first well; got = sym (extended-nil given) }
+lost_plain : {E : Type 0} (result : Result Answered E) → is_lost result ≡ is_lost (plain result)
+lost_plain (Ok answered) = refl
+lost_plain (Err error) = refl
+
+-- the same turn, whatever its error
+pub turn_plain : {D E : Type 0} (seen may_leave : D → Files → Type 0) (moment : D → ℕ) (left_since : D → ℕ → Files → Type 0) (begins : ℕ → List Deed → Type 0) (old new : PartyKnown) (old_marks new_marks : PassKnown) (p q : ReplicaParty) (result : Result Answered E)
+    → IsReplicaTurn seen may_leave moment left_since begins old new old_marks new_marks p q result → IsReplicaTurn seen may_leave moment left_since begins old new old_marks new_marks p q (plain result)
+turn_plain seen may_leave moment left_since begins old new old_marks new_marks p q result t = record {
+  depot = t.depot;
+  ran = t.ran;
+  turned = turned_plain seen may_leave t.depot p q result t.turned;
+  party = t.party;
+  later = t.later;
+  own = t.own;
+  marks_party = t.marks_party;
+  marked = t.marked ∙ ap (λ (b : Bool). has_marks old_marks.party old_marks.list || b) (lost_plain result);
+}
+
+-- ---- over more depots
+
+module _ {D : Type 0} (HasBeen Other : SerialDepot D → Type 0) (seen may_leave : D → Files → Type 0) (may_give : ℕ → Type 0) (party : ℕ) (script : ReplicaScript) (more : (depot : SerialDepot D) → HasBeen depot → Other depot) where
+  given_wider : (p : ReplicaParty) (run : SessionRun) (lost : Bool) (before now : Option (List ℕ)) → HasGiven HasBeen seen may_leave may_give party script p run lost before now → HasGiven Other seen may_leave may_give party script p run lost before now
+  given_wider p run lost before now g = record { texts = g.texts; count = g.count; going = widened HasBeen seen may_leave may_give party script Other more p g.texts lost g.going; got = g.got }
+
+  pub output_wider : (commands : ℕ) (failed lost : Bool) (before now : Option (List ℕ)) → IsReplicaOutput HasBeen seen may_leave may_give party script commands failed lost before now
+      → IsReplicaOutput Other seen may_leave may_give party script commands failed lost before now
+  output_wider commands failed lost before now o =
+      record { replica = o.replica; texts = o.texts; count = o.count; going = widened HasBeen seen may_leave may_give party script Other more o.replica o.texts lost o.going; got = o.got }
+
+module _ {D K : Type 0} (seen may_leave : D → Files → Type 0) (moment : D → ℕ) (left_since : D → ℕ → Files → Type 0) (begins : ℕ → List Deed → Type 0) (given : K → Option (List ℕ)) (faults : K → ℕ) (may_give : ℕ → Type 0) (party : ℕ) (p : ReplicaParty)
+    (first : K) where
+  abbrev Front : ℕ → List Deed → List Taken → SerialDepot D → Type 0
+  Front since start order depot = HasRunFront seen may_leave moment left_since since start order depot
+
+  pub front_longer : (since : ℕ) (start : List Deed) (known order : List Taken) → IsPrefix known order → (depot : SerialDepot D) → Front since start known depot → Front since start order depot
+  front_longer since start known order begins depot f = record { front = f.front; begins = prefix_trans f.front known order f.begins begins; ran = f.ran }
+
+  -- The replica answered its first commands, so many, and the sink got the replies.
+  pub record HasAnswered (n : ℕ) (failed : Bool) (known : PartyKnown) (marks : PassKnown) (q : ReplicaParty) (sink : K) : Type 0 where
+    pub party_is : known.party ≡ party
+    pub none : of_party party known.list ≡ []
+    pub gave : (since : ℕ) (start : List Deed) (script : ReplicaScript) → begins since start → IsFresh may_give party script p → AreWellFormed script.session.commands
+        → HasGiven (Front since start known.list) seen may_leave may_give party script q (record { commands = n; failed = failed }) (has_marks marks.party marks.list) (given first) (given sink)
+    pub counts : faults first ≤ faults sink
+
+  pub answered_none : (known : PartyKnown) (marks : PassKnown) → known.party ≡ party → known.list ≡ [] → marks.list ≡ [] → HasAnswered 0 false known marks p first
+  answered_none known marks party_is none unmarked = record {
+    party_is = party_is;
+    none = ap (of_party party) none;
+    gave = λ since start script begun fresh well.
+        let Given : Bool → Type 0 = λ lost. HasGiven (Front since start known.list) seen may_leave may_give party script p (record { commands = 0; failed = false }) lost (given first) (given first) in
+        subst Given (sym (ap (has_marks marks.party) unmarked))
+        (record { texts = []; count = refl; going = fresh_goes (Front since start known.list) seen may_leave may_give party script p fresh well; got = sym (extended-nil (given first)) });
+    counts = omega arith;
+  }
 
   -- one more
-  pub answered_more : {K : Type 0} (given : K → Option (List ℕ)) (faults : K → ℕ) (depot : SerialDepot D) → HasBeen depot → (n : ℕ) (p q : ReplicaParty) (lost lost' : Bool) (sink sink' : K) (failed : Bool)
-      → IsStep seen may_leave given faults depot (n + 1) p q lost lost' sink sink' failed → (before : Option (List ℕ)) → Answers p n false lost before (given sink) → Answers q (n + 1) failed lost' before (given sink')
-  answered_more given faults depot been n p q lost lost' sink sink' failed step before g =
-      let result = step.result in
-      let text = reply_text result (length g.texts + 1) in
-      let Gets : List ℕ → Type 0 = λ x. Got failed x (given sink) (given sink') in
-      let gives : Gets text = subst Gets (ap (λ (k : ℕ). reply_text result (k + 1)) (sym g.count)) step.got in
-      let Goes : Bool → Type 0 = IsGoing HasBeen seen may_leave may_give party script q (g.texts ++ text ∷ []) in
-      record {
-        texts = g.texts ++ text ∷ [];
-        count = (let long = length-append g.texts (text ∷ []) in let same = g.count in omega (arith, long, same));
-        going = subst Goes (sym step.told) (goes_on HasBeen seen may_leave may_give party script depot p q g.texts lost result been g.going step.turned);
-        got = got_more failed g.texts text before (given sink) (given sink') g.got gives;
-      }
+  module _ (n : ℕ) (failed : Bool) (old new : PartyKnown) (old_marks new_marks : PassKnown) (q r : ReplicaParty) (sink now : K) (a : HasAnswered n false old old_marks q sink)
+      (step : IsStep seen may_leave moment left_since begins given faults (n + 1) old new old_marks new_marks q r sink now failed) where
+    more_given : (since : ℕ) (start : List Deed) (script : ReplicaScript) → begins since start
+        → HasGiven (Front since start old.list) seen may_leave may_give party script q (record { commands = n; failed = false }) (has_marks old_marks.party old_marks.list) (given first) (given sink)
+        → HasGiven (Front since start new.list) seen may_leave may_give party script r (record { commands = n + 1; failed = failed }) (has_marks new_marks.party new_marks.list) (given first) (given now)
+    more_given since start script begun was =
+        let Been : SerialDepot D → Type 0 = Front since start new.list in
+        let turn = step.turn in
+        let before = has_marks old_marks.party old_marks.list in
+        let g = given_wider (Front since start old.list) Been seen may_leave may_give party script (front_longer since start old.list new.list turn.later) q (record { commands = n; failed = false }) before (given first) (given sink) was in
+        let result = step.result in
+        let text = reply_text result (length g.texts + 1) in
+        let here : Been turn.depot = record { front = new.list; begins = prefix_self new.list; ran = turn.ran since start begun } in
+        let Gets : List ℕ → Type 0 = λ x. Got failed x (given sink) (given now) in
+        let gives : Gets text = subst Gets (ap (λ (k : ℕ). reply_text result (k + 1)) (sym g.count)) step.got in
+        let Goes : Bool → Type 0 = IsGoing Been seen may_leave may_give party script r (g.texts ++ text ∷ []) in
+        record {
+          texts = g.texts ++ text ∷ [];
+          count = (let long = length-append g.texts (text ∷ []) in let same = g.count in omega (arith, long, same));
+          going = subst Goes (sym turn.marked) (goes_on Been seen may_leave may_give party script turn.depot q r g.texts before result here g.going turn.turned);
+          got = got_more failed g.texts text (given first) (given sink) (given now) g.got gives;
+        }
 
-  -- what its sink got
-  pub output_of : (p : ReplicaParty) (commands : ℕ) (failed lost : Bool) (before now : Option (List ℕ)) → Answers p commands failed lost before now
-      → IsReplicaOutput HasBeen seen may_leave may_give party script commands failed lost before now
-  output_of p commands failed lost before now g = record { replica = p; texts = g.texts; count = g.count; going = g.going; got = g.got }
+    pub answered_more : HasAnswered (n + 1) failed new new_marks r now
+    answered_more = record {
+      party_is = step.turn.party ∙ a.party_is;
+      none = subst (λ (k : ℕ). of_party k new.list ≡ of_party k old.list) a.party_is step.turn.own ∙ a.none;
+      gave = λ since start script begun fresh well. more_given since start script begun (a.gave since start script begun fresh well);
+      counts = (let counts = a.counts in let more = step.counts in omega (arith, counts, more));
+    }
 
-  -- over more depots
-  pub output_wider : (Other : SerialDepot D → Type 0) → ((depot : SerialDepot D) → HasBeen depot → Other depot) → (commands : ℕ) (failed lost : Bool) (before now : Option (List ℕ))
-      → IsReplicaOutput HasBeen seen may_leave may_give party script commands failed lost before now → IsReplicaOutput Other seen may_leave may_give party script commands failed lost before now
-  output_wider Other more commands failed lost before now o =
-      record { replica = o.replica; texts = o.texts; count = o.count; going = widened HasBeen seen may_leave may_give party script Other more o.replica o.texts lost o.going; got = o.got }
+    -- its sink failed then
+    pub failed_end : n + 1 ≤ length p.left.items → failed ≡ true → IsEnd faults (length p.left.items) (record { commands = n + 1; failed = true }) first now
+    failed_end within is = record {
+      all = λ whole. absurd cc;
+      within = within;
+      counts = answered_more.counts;
+      cause = λ sure. let low = a.counts in let risen = step.cause is in rises (faults first) (faults sink) (faults now) low risen;
+    }
+      where
+        rises : (before mid after : ℕ) → before ≤ mid → HasRisen mid after → HasRisen before after
+        rises before mid after le risen = omega (arith, le, risen)
+
+  -- its sink got them so
+  pub replica_served : (n : ℕ) (failed : Bool) (known : PartyKnown) (marks : PassKnown) (q : ReplicaParty) (sink : K) → HasAnswered n failed known marks q sink
+      → IsEnd faults (length p.left.items) (record { commands = n; failed = failed }) first sink
+      → IsReplicaServed seen may_leave moment left_since begins given faults may_give party p (record { commands = n; failed = failed }) (has_marks marks.party marks.list) first sink known.list
+  replica_served n failed known marks q sink a end = record {
+    gave = λ since start script begun fresh well.
+        let g = a.gave since start script begun fresh well in
+        record { replica = q; texts = g.texts; count = g.count; going = g.going; got = g.got };
+    end = end;
+    none = a.none;
+  }

@@ -4,7 +4,6 @@ use Rattle.std.specs.Prelude.{◌&&◌, slice_get}
 use Rattle.std.specs.List.{AllByRecursion}
 use Rattle.std.proofs.Math.Bool.{and-false}
 use Rattle.std.proofs.lemmas.Bool.{eq-eqb, ne_eqb}
-use Rattle.outside_api.specs.Told.{extended}
 use Rattle.depot_model.specs.Deeds.{Deed}
 use Rattle.depot_model.specs.Places.{Placed, taken, told_at}
 use Rattle.depot_model.specs.Printed.{printed}
@@ -13,7 +12,7 @@ use Rattle.depot_model.specs.declared.order.Place.{Place}
 use Rattle.depot_model.specs.declared.reply.Row.{Row}
 use Rattle.depot_model.specs.declared.request.Request.{Request}
 use Rattle.depot_model.specs.declared.request.Session.{Session}
-use Rattle.depot_runs.specs.Run.{is_place_of, output_of, outputs, placed}
+use Rattle.depot_runs.specs.Run.{is_place_of, output_of, placed}
 use Rattle.depot_runs.specs.Today.{step}
 use Rattle.locked_tables.specs.Known.{PartyKnown}
 use Rattle.locked_tables.specs.Taken.{of_party, place_of, placed_of}
@@ -36,7 +35,7 @@ each_is : {X : Type 0} (P Q : X → Type 0) → ((x : X) → P x → Q x) → (x
 each_is P Q more [] all = tt
 each_is P Q more (x ∷ xs) all = (more x all.0, each_is P Q more xs all.1)
 
-all_push : {X : Type 0} (P : X → Type 0) (xs : List X) (y : X) → AllByRecursion P xs → P y → AllByRecursion P (xs ++ y ∷ [])
+pub all_push : {X : Type 0} (P : X → Type 0) (xs : List X) (y : X) → AllByRecursion P xs → P y → AllByRecursion P (xs ++ y ∷ [])
 all_push P [] y all one = (one, tt)
 all_push P (x ∷ xs) y all one = (all.0, all_push P xs y all.1 one)
 

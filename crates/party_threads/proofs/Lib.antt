@@ -1,11 +1,9 @@
-mod Answered
 mod Answering
 mod Asked
 mod Behind
 mod Collecting
 mod Entries
 mod Finishing
-mod Risen
 mod Together
 -- what stands below, for the crates above
 pub use Rattle.run_parties.proofs.serial_depot as serial_depot

@@ -7,7 +7,6 @@ use Rattle.std.proofs.lemmas.Bool.{eq-eqb}
 use Rattle.std.proofs.lemmas.List.Elements.{All-from_recursion}
 use Rattle.depot_model.specs.Deeds.{Deed}
 use Rattle.depot_model.specs.Order.{IsOrder, IsPlaceOf, Rises}
-use Rattle.depot_model.specs.Places.{Placed}
 use Rattle.depot_model.specs.declared.order.Place.{Place}
 use Rattle.depot_model.specs.declared.request.Request.{Request}
 use Rattle.depot_model.specs.declared.request.Session.{Session}
@@ -104,33 +103,46 @@ pairs_of (x ∷ xs) ordered = go (pairs_of xs ordered.1)
 
 -- ---- all parties
 
--- each party's commands were taken, as far as its run tells
-abbrev pub AllHaveTaken : (ℕ → List Deed → Type 0) → List (List Request) → List SessionRun → List (Option (List ℕ)) → List (Option (List ℕ)) → List Taken → Type 0
-AllHaveTaken begins requests runs before now order =
-    (i : ℕ) (own : List Request) (run : SessionRun) (given got : Option (List ℕ)) → slice_get requests i ≡ Some own → slice_get runs i ≡ Some run → slice_get before i ≡ Some given → slice_get now i ≡ Some got
+-- each session's commands were taken, as far as its run tells
+abbrev pub AllHaveTaken : (ℕ → List Deed → Type 0) → List (Option ReplicaScript) → List (List Request) → List SessionRun → List (Option (List ℕ)) → List (Option (List ℕ)) → List Taken → Type 0
+AllHaveTaken begins scripts requests runs before now order =
+    (i : ℕ) (own : List Request) (run : SessionRun) (given got : Option (List ℕ)) → slice_get scripts i ≡ Some None → slice_get requests i ≡ Some own → slice_get runs i ≡ Some run → slice_get before i ≡ Some given → slice_get now i ≡ Some got
     → HasTaken begins (i + 1) own run given got order
+
+-- a replica has no entry
+abbrev pub NoneHasPlace : List (Option ReplicaScript) → List Taken → Type 0
+NoneHasPlace scripts order = (i : ℕ) (script : ReplicaScript) → slice_get scripts i ≡ Some (Some script) → of_party (i + 1) order ≡ []
 
 module _ (may_give : ℕ → Type 0) (begins : ℕ → List Deed → Type 0) (sessions : List (Option Session)) (scripts : List (Option ReplicaScript)) (requests : List (List Request)) (asked : AreRequestsOfAll may_give 1 sessions requests)
     (as_many : length scripts ≡ length sessions) (apart : AreApart sessions scripts) (runs : List SessionRun) (before now : List (Option (List ℕ))) (order : List Taken) (requests_count : length requests ≡ length sessions)
-    (runs_count : length runs ≡ length sessions) (before_count : length before ≡ length sessions) (now_count : length now ≡ length sessions) (all : AllHaveTaken begins requests runs before now order)
+    (runs_count : length runs ≡ length sessions) (before_count : length before ≡ length sessions) (now_count : length now ≡ length sessions) (all : AllHaveTaken begins scripts requests runs before now order) (none : NoneHasPlace scripts order)
     (among : AllByRecursion (IsAmong (length sessions)) order) where
-  -- what a party was answered
-  record IsAnswered (i : ℕ) : Type 0 where
+  -- the entries of a party
+  record HasOwn (i : ℕ) : Type 0 where
     own : List Request
     run : SessionRun
-    given : Option (List ℕ)
-    got : Option (List ℕ)
     at_own : slice_get requests i ≡ Some own
     at_run : slice_get runs i ≡ Some run
-    taken : HasTaken begins (i + 1) own run given got order
+    are : AllByRecursion (IsOneOf own run.commands) (of_party (i + 1) order)
+    rising : AreRising (of_party (i + 1) order)
 
-  answered_at : (i : ℕ) → i < length sessions → IsAnswered i
-  answered_at i lt =
+  own_as : (i : ℕ) (own : List Request) (run : SessionRun) (given got : Option (List ℕ)) (script : Option ReplicaScript) → slice_get scripts i ≡ Some script → slice_get requests i ≡ Some own → slice_get runs i ≡ Some run
+      → slice_get before i ≡ Some given → slice_get now i ≡ Some got → HasOwn i
+  own_as i own run given got None at_script at_own at_run at_given at_got =
+      let taken = all i own run given got at_script at_own at_run at_given at_got in
+      record { own = own; run = run; at_own = at_own; at_run = at_run; are = taken.own; rising = taken.rising }
+  own_as i own run given got (Some script) at_script at_own at_run at_given at_got =
+      let empty = sym (none i script at_script) in
+      record { own = own; run = run; at_own = at_own; at_run = at_run; are = subst (AllByRecursion (IsOneOf own run.commands)) empty tt; rising = subst AreRising empty tt }
+
+  own_at : (i : ℕ) → i < length sessions → HasOwn i
+  own_at i lt =
       let own = at_place requests i (omega (arith, lt, requests_count)) in
       let run = at_place runs i (omega (arith, lt, runs_count)) in
       let given = at_place before i (omega (arith, lt, before_count)) in
       let got = at_place now i (omega (arith, lt, now_count)) in
-      record { own = own.0; run = run.0; given = given.0; got = got.0; at_own = own.1; at_run = run.1; taken = all i own.0 run.0 given.0 got.0 own.1 run.1 given.1 got.1 }
+      let script = at_place scripts i (omega (arith, lt, as_many)) in
+      own_as i own.0 run.0 given.0 got.0 script.0 script.1 own.1 run.1 given.1 got.1
     where
       at_place : {X : Type 0} (xs : List X) (i : ℕ) → i < length xs → (x : X) × (slice_get xs i ≡ Some x)
       at_place [] i lt = absurd (omega (arith, lt))
@@ -139,15 +151,15 @@ module _ (may_give : ℕ → Type 0) (begins : ℕ → List Deed → Type 0) (se
 
   -- ---- what they ask
 
-  module _ (i : ℕ) (a : IsAnswered i) (entry : Taken) (one : IsOneOf a.own a.run.commands entry) where
+  module _ (i : ℕ) (a : HasOwn i) (entry : Taken) (one : IsOneOf a.own a.run.commands entry) where
     of : IsOf may_give sessions i (entry.request.number - 1) entry.request
     of = named may_give sessions requests asked i (entry.request.number - 1) a.own entry.request a.at_own one.asks
 
     its_name : Names sessions entry
     its_name = placed_is may_give sessions i (entry.request.number - 1) entry.request of entry.fault
 
-    its_place : (runs' : List SessionRun) → slice_get runs' i ≡ Some a.run → IsPlaceOf may_give (session_counts scripts runs') (place_of entry)
-    its_place runs' at_run =
+    its_place : IsPlaceOf may_give (session_counts scripts runs) (place_of entry)
+    its_place =
         let party = party_is may_give sessions i (entry.request.number - 1) entry.request of in
         let at : entry.request.party - 1 ≡ i = omega (arith, party) in
         let no_replica = session_at sessions scripts i of.session as_many apart of.has in
@@ -155,46 +167,42 @@ module _ (may_give : ℕ → Type 0) (begins : ℕ → List Deed → Type 0) (se
         record {
           party = omega (arith, party);
           number = one.first;
-          command = subst (λ (k : ℕ). Low (slice_get (session_counts scripts runs') k)) (sym at) (subst Low (sym (count_at scripts runs' i a.run no_replica at_run)) one.last);
+          command = subst (λ (k : ℕ). Low (slice_get (session_counts scripts runs) k)) (sym at) (subst Low (sym (count_at scripts runs i a.run no_replica a.at_run)) one.last);
           moment = moment_is may_give sessions i (entry.request.number - 1) entry.request of;
         }
 
   pub names : AllByRecursion (Names sessions) order
-  names = each_entry (Names sessions) (length sessions) order (λ i lt. let a = answered_at i lt in each_named i a (of_party (i + 1) order) a.taken.own) among
+  names = each_entry (Names sessions) (length sessions) order (λ i lt. let a = own_at i lt in each_named i a (of_party (i + 1) order) a.are) among
     where
-      each_named : (i : ℕ) (a : IsAnswered i) (xs : List Taken) → AllByRecursion (IsOneOf a.own a.run.commands) xs → AllByRecursion (Names sessions) xs
+      each_named : (i : ℕ) (a : HasOwn i) (xs : List Taken) → AllByRecursion (IsOneOf a.own a.run.commands) xs → AllByRecursion (Names sessions) xs
       each_named i a [] own = tt
       each_named i a (x ∷ xs) own = (its_name i a x own.0, each_named i a xs own.1)
 
   -- ---- the order
 
-  module _ (runs' : List SessionRun) (same : (i : ℕ) → slice_get scripts i ≡ Some None → slice_get runs' i ≡ slice_get runs i) where
-    each_placed : (i : ℕ) (a : IsAnswered i) (xs : List Taken) → AllByRecursion (IsOneOf a.own a.run.commands) xs → AllByRecursion (λ (x : Taken). IsPlaceOf may_give (session_counts scripts runs') (place_of x)) xs
-    each_placed i a [] own = tt
-    each_placed i a (x ∷ xs) own =
-        let no_replica = session_at sessions scripts i (of i a x own.0).session as_many apart (of i a x own.0).has in
-        (its_place i a x own.0 runs' (same i no_replica ∙ a.at_run), each_placed i a xs own.1)
+  each_placed : (i : ℕ) (a : HasOwn i) (xs : List Taken) → AllByRecursion (IsOneOf a.own a.run.commands) xs → AllByRecursion (λ (x : Taken). IsPlaceOf may_give (session_counts scripts runs) (place_of x)) xs
+  each_placed i a [] own = tt
+  each_placed i a (x ∷ xs) own = (its_place i a x own.0, each_placed i a xs own.1)
 
-    by_places : (P : Place → Type 0) (xs : List Taken) → AllByRecursion (λ (x : Taken). P (place_of x)) xs → AllByRecursion P (map place_of xs)
-    by_places P [] each = tt
-    by_places P (x ∷ xs) each = (each.0, by_places P xs each.1)
+  by_places : (P : Place → Type 0) (xs : List Taken) → AllByRecursion (λ (x : Taken). P (place_of x)) xs → AllByRecursion P (map place_of xs)
+  by_places P [] each = tt
+  by_places P (x ∷ xs) each = (each.0, by_places P xs each.1)
 
-    order_is : IsOrder may_give (session_counts scripts runs') (map place_of order)
-    order_is =
-        let Placed : Place → Type 0 = IsPlaceOf may_give (session_counts scripts runs') in
-        record {
-          places = All-from_recursion Placed (map place_of order) (by_places Placed order
-              (each_entry (λ (x : Taken). Placed (place_of x)) (length sessions) order (λ i lt. let a = answered_at i lt in each_placed i a (of_party (i + 1) order) a.taken.own) among));
-          rising = pairs_of order (ordered_all (length sessions) order (λ i lt. (answered_at i lt).taken.rising) among);
-        }
+  order_is : IsOrder may_give (session_counts scripts runs) (map place_of order)
+  order_is =
+      let Placed : Place → Type 0 = IsPlaceOf may_give (session_counts scripts runs) in
+      record {
+        places = All-from_recursion Placed (map place_of order) (by_places Placed order
+            (each_entry (λ (x : Taken). Placed (place_of x)) (length sessions) order (λ i lt. let a = own_at i lt in each_placed i a (of_party (i + 1) order) a.are) among));
+        rising = pairs_of order (ordered_all (length sessions) order (λ i lt. (own_at i lt).rising) among);
+      }
 
-    -- the sessions are served, whatever the replicas are answered then
-    pub served : (now' : List (Option (List ℕ))) → length runs' ≡ length sessions → ((i : ℕ) → slice_get scripts i ≡ Some None → slice_get now' i ≡ slice_get now i) → (since : ℕ) (start : List Deed) → begins since start
-        → AreServed may_give sessions scripts start runs' before now' (map place_of order)
-    served now' count same_now since start begun = record {
-      count = count;
-      places = order_is;
-      each = λ i run given got at_script at_run at_given at_got.
-          let own = also_at scripts requests i None (as_many ∙ sym requests_count) at_script in
-          (all i own.0 run given got own.1 (sym (same i at_script) ∙ at_run) at_given (sym (same_now i at_script) ∙ at_got)).output since start sessions begun names;
-    }
+  -- the sessions are served
+  pub served : (since : ℕ) (start : List Deed) → begins since start → AreServed may_give sessions scripts start runs before now (map place_of order)
+  served since start begun = record {
+    count = runs_count;
+    places = order_is;
+    each = λ i run given got at_script at_run at_given at_got.
+        let own = also_at scripts requests i None (as_many ∙ sym requests_count) at_script in
+        (all i own.0 run given got at_script own.1 at_run at_given at_got).output since start sessions begun names;
+  }

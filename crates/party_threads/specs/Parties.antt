@@ -1,6 +1,6 @@
 -- The parties of a run on their threads, and what they leave together. This project's own choice.
-use Rattle.std.specs.Prelude.{◌≡◌, ◌≤◌, ◌+◌, ℕ, List, [], length, map, slice_get, Option, Some, Vec}
-use Rattle.std.specs.List.{AllByRecursion}
+use Rattle.std.specs.Prelude.{◌≡◌, ◌≤◌, ◌+◌, ℕ, Bool, true, false, List, [], length, map, get_or, slice_get, Option, Some, None, Vec}
+use Rattle.std.specs.List.{AllByRecursion, list_any}
 use Rattle.std.specs.Global.{Global}
 use mathlib.Core.List.{IsPrefix}
 use Rattle.archive_file.specs.Archive as archives
@@ -11,12 +11,19 @@ use Rattle.locked_tables.specs.Known.{PartyKnown}
 use Rattle.locked_tables.specs.Taken.{of_party, place_of, placed_of}
 use Rattle.locked_tables.specs.declared.taken.Taken.{Taken}
 use Rattle.outside_api.specs.Disk.{Files}
+use Rattle.party_marks.specs.Known.{PassKnown}
+use Rattle.party_marks.specs.Marks.{has_marks, is_empty}
+use Rattle.run_parties.specs.Asking.{left_in}
+use Rattle.run_parties.specs.Replicas.{OneHasRisen}
 use Rattle.run_parties.specs.Served.{IsEnd}
+use Rattle.run_parties.specs.replica_turns.declared.party.ReplicaParty.{ReplicaParty}
 use Rattle.run_parties.specs.serial_depot.Running.{CanTake, HasRun}
 use Rattle.session_loop.specs.Served.{AreCaused}
 use Rattle.session_loop.specs.Taking.{IsProper}
 use Rattle.session_loop.specs.declared.session.SessionRun.{SessionRun}
+use Rattle.shared_depot.specs.Common.{OpenedKnown}
 use Rattle.party_threads.specs.Entries.{AreNumbered, HasTaken}
+use Rattle.party_threads.specs.Replicas.{IsReplicaServed}
 use Rattle.party_threads.specs.declared.party.ThreadParty.{ThreadParty}
 use Rattle.party_threads.specs.declared.run.ThreadsRun.{ThreadsRun}
 
@@ -38,62 +45,80 @@ abbrev pub AreAsked : (ℕ → List Deed → Type 0) → List (List Request) →
 AreAsked begins requests = (i : ℕ) (own : List Request) → slice_get requests i ≡ Some own → IsAsked begins (i + 1) own
 
 module _ {K N : Type 0} where
-  -- it knows no place, and has its own requests
+  -- it knows no place and has no mark, and has its own requests or a replica's
   pub record IsReady (begins : ℕ → List Deed → Type 0) (p : ThreadParty K N) : Type 0 where
     pub none : p.pass.list ≡ []
+    pub unmarked : p.marks.list ≡ []
     pub asked : IsAsked begins p.pass.party p.requests.items
+    pub few : length (left_in p.replica) ≤ 67108864
 
-  -- it ran on its thread
-  pub record HasRunParty (given : K → Option (List ℕ)) (faults : K → ℕ) (begins : ℕ → List Deed → Type 0) (old new : ThreadParty K N) : Type 0 where
-    pub same : new.pass.party ≡ old.pass.party
-    pub served : IsServedAlone given faults begins old.pass.party old.requests.items new.run old.sink new.sink new.pass.list
+  -- whether it has marks
+  abbrev pub is_marked : ThreadParty K N → Bool
+  is_marked p = has_marks p.marks.party p.marks.list
 
 -- what it knows begins an order, in which it has no more entries of its own
 pub record IsHeard (order : List Taken) (known : PartyKnown) : Type 0 where
   pub begins : IsPrefix known.list order
   pub own : of_party known.party order ≡ of_party known.party known.list
 
--- ---- all parties
+module _ {D K : Type 0} (seen may_leave : D → Files → Type 0) (moment : D → ℕ) (left_since : D → ℕ → Files → Type 0) (may_give : ℕ → Type 0) (given : K → Option (List ℕ)) (faults : K → ℕ) (begins : ℕ → List Deed → Type 0) where
+  -- its session's commands were taken, or its replica's answered; only a replica may have been told that a disk failed
+  abbrev pub IsPartyServed : ℕ → List Request → Option ReplicaParty → SessionRun → Bool → K → K → List Taken → Type 0
+  IsPartyServed party requests None run lost old new entries = IsServedAlone given faults begins party requests run old new entries × (lost ≡ false)
+  IsPartyServed party requests (Some p) run lost old new entries = IsReplicaServed seen may_leave moment left_since begins given faults may_give party p run lost old new entries
 
-module _ {K N : Type 0} where
-  -- parties with these requests, passes and sinks
-  pub record AreFreshParties (requests : List (Vec Request Global)) (passes : List PartyKnown) (sinks : List K) (parties : List (ThreadParty K N)) : Type 0 where
-    pub asks : map (λ (p : ThreadParty K N). p.requests) parties ≡ requests
-    pub knows : map (λ (p : ThreadParty K N). p.pass) parties ≡ passes
-    pub gives : map (λ (p : ThreadParty K N). p.sink) parties ≡ sinks
+  -- it ran on its thread
+  pub record HasRunParty {N : Type 0} (old new : ThreadParty K N) : Type 0 where
+    pub same : new.pass.party ≡ old.pass.party
+    pub served : IsPartyServed old.pass.party old.requests.items old.replica new.run (is_marked new) old.sink new.sink new.pass.list
+
+  -- ---- all parties
 
   -- each ran on its thread
-  abbrev pub HaveRun : (K → Option (List ℕ)) → (K → ℕ) → (ℕ → List Deed → Type 0) → List (ThreadParty K N) → List (ThreadParty K N) → Type 0
-  HaveRun given faults begins olds news =
-      (i : ℕ) (old new : ThreadParty K N) → slice_get olds i ≡ Some old → slice_get news i ≡ Some new → HasRunParty given faults begins old new
+  abbrev pub HaveRun : {N : Type 0} → List (ThreadParty K N) → List (ThreadParty K N) → Type 0
+  HaveRun {N} olds news = (i : ℕ) (old new : ThreadParty K N) → slice_get olds i ≡ Some old → slice_get news i ≡ Some new → HasRunParty old new
 
-  -- what they leave, and an order that is heard of each
-  pub record AreCollected (order : List Taken) (parties : List (ThreadParty K N)) (runs : List SessionRun) (sinks : List K) : Type 0 where
-    pub heard : AllByRecursion (λ (p : ThreadParty K N). IsHeard order p.pass) parties
+  -- each party was served, as the entries of one order tell; a flag a party tells whether it was told that a disk failed
+  abbrev pub AreAllServed : List (List Request) → List (Option ReplicaParty) → List SessionRun → List Bool → List K → List K → List Taken → Type 0
+  AreAllServed requests replicas runs flags olds news order =
+      (i : ℕ) (own : List Request) (replica : Option ReplicaParty) (run : SessionRun) (old new : K) → slice_get requests i ≡ Some own → slice_get replicas i ≡ Some replica → slice_get runs i ≡ Some run
+      → slice_get olds i ≡ Some old → slice_get news i ≡ Some new → IsPartyServed (i + 1) own replica run (get_or flags i false) old new order
+
+module _ {K N : Type 0} where
+  -- parties with these requests, replicas, passes and sinks
+  pub record AreFreshParties (requests : List (Vec Request Global)) (replicas : List (Option ReplicaParty)) (passes : List PartyKnown) (marks : List PassKnown) (sinks : List K) (parties : List (ThreadParty K N)) : Type 0 where
+    pub asks : map (λ (p : ThreadParty K N). p.requests) parties ≡ requests
+    pub follows : map (λ (p : ThreadParty K N). p.replica) parties ≡ replicas
+    pub knows : map (λ (p : ThreadParty K N). p.pass) parties ≡ passes
+    pub marks_are : map (λ (p : ThreadParty K N). p.marks) parties ≡ marks
+    pub gives : map (λ (p : ThreadParty K N). p.sink) parties ≡ sinks
+
+  -- what they leave, and an order and marks that are heard of each
+  pub record AreCollected (known : OpenedKnown) (parties : List (ThreadParty K N)) (runs : List SessionRun) (sinks : List K) (lost : Bool) : Type 0 where
+    pub heard : AllByRecursion (λ (p : ThreadParty K N). IsHeard known.order p.pass) parties
     pub runs_are : runs ≡ map (λ (p : ThreadParty K N). p.run) parties
     pub sinks_are : sinks ≡ map (λ (p : ThreadParty K N). p.sink) parties
+    pub told : lost ≡ list_any (λ (p : ThreadParty K N). is_marked p) parties
+    pub marked : lost ≡ true → is_empty known.marks ≡ false
 
 -- an entry is of one of the first n parties
 abbrev pub IsAmong : ℕ → Taken → Type 0
 IsAmong n entry = (1 ≤ entry.request.party) × (entry.request.party ≤ n)
 
--- each party's commands were taken, as the entries of one order tell
-abbrev pub AreServedAlone : {K : Type 0} → (K → Option (List ℕ)) → (K → ℕ) → (ℕ → List Deed → Type 0) → List (List Request) → List SessionRun → List K → List K → List Taken → Type 0
-AreServedAlone {K} given faults begins requests runs olds news order =
-    (i : ℕ) (own : List Request) (run : SessionRun) (old new : K) → slice_get requests i ≡ Some own → slice_get runs i ≡ Some run → slice_get olds i ≡ Some old → slice_get news i ≡ Some new
-    → IsServedAlone given faults begins (i + 1) own run old new order
-
-module _ {D K : Type 0} (seen may_leave : D → Files → Type 0) (moment : D → ℕ) (left_since : D → ℕ → Files → Type 0) (disk_faults : D → ℕ) (given : K → Option (List ℕ)) (faults : K → ℕ) where
-  -- All parties ran on their threads: there is one order, in which each was served, and which the depot has run.
-  pub record HaveRunSessions (begins : ℕ → List Deed → Type 0) (faults_then contents_then : ℕ) (requests : List (List Request)) (sinks : List K) (ran : ThreadsRun D K) : Type 0 where
+module _ {D K : Type 0} (seen may_leave : D → Files → Type 0) (moment : D → ℕ) (left_since : D → ℕ → Files → Type 0) (disk_faults : D → ℕ) (may_give : ℕ → Type 0) (given : K → Option (List ℕ)) (faults : K → ℕ) where
+  -- All parties ran on their threads: there is one order, in which each was served, and which the depot has run. The run is told of a failed disk exactly
+  -- where a replica was, and then a count of one of the two disks rose.
+  pub record HaveRunAll (begins : ℕ → List Deed → Type 0) (faults_then contents_then : ℕ) (requests : List (List Request)) (replicas : List (Option ReplicaParty)) (sinks : List K) (ran : ThreadsRun D K) : Type 0 where
     pub order : List Taken
     pub places : ran.order.items ≡ map place_of order
     pub runs_count : length ran.runs.items ≡ length requests
     pub sinks_count : length ran.sinks.items ≡ length requests
-    pub served : AreServedAlone given faults begins requests ran.runs.items sinks ran.sinks.items order
+    pub flags : List Bool
+    pub flags_count : length flags ≡ length requests
+    pub told : ran.lost ≡ list_any (λ flag. flag) flags
+    pub served : AreAllServed seen may_leave moment left_since may_give given faults begins requests replicas ran.runs.items flags sinks ran.sinks.items order
     pub among : AllByRecursion (IsAmong (length requests)) order
     pub can : CanTake may_leave ran.depot
     pub ran_by : (since : ℕ) (start : List Deed) → begins since start → HasRun seen may_leave moment left_since ran.depot since start (map placed_of order)
     pub caused : AreCaused faults_then (disk_faults (disk_of ran.depot.journal)) contents_then (disk_faults (archives.disk_of ran.depot.archive)) [] ran.order.items
-    pub no_fewer : faults_then ≤ disk_faults (disk_of ran.depot.journal)
-    pub no_fewer_contents : contents_then ≤ disk_faults (archives.disk_of ran.depot.archive)
+    pub lost : ran.lost ≡ true → OneHasRisen faults_then (disk_faults (disk_of ran.depot.journal)) contents_then (disk_faults (archives.disk_of ran.depot.archive))

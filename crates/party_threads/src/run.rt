@@ -3,12 +3,10 @@
 ghost use Rattle.std.specs.Prelude.{◌≡◌, ◌≤◌, ◌+◌, ℕ, List, [], true, length, map, All, IfErr, IfOk};
 ghost use Rattle.archive_file.specs.Archive.{disk_of as archive_disk_of};
 ghost use Rattle.depot_model.specs.Deeds.{Deed};
-ghost use Rattle.depot_model.specs.Places.{Placed};
 ghost use Rattle.depot_runs.specs.Run.{placed};
 ghost use Rattle.disk_journal.specs.Stands.{disk_of};
 ghost use Rattle.order_words.specs.Seats.{fresh_lanes, fresh_order, lane_count};
-ghost use Rattle.party_threads.specs.Replicas.{AreAnswered};
-ghost use Rattle.run_parties.specs.Asking.{left_in};
+ghost use Rattle.run_parties.specs.Asking.{AreFresh};
 ghost use Rattle.run_parties.specs.Replicas.{AreReplicasServed, OneHasRisen};
 ghost use Rattle.run_parties.specs.Served.{AreApart, AreEnds, AreServed};
 ghost use Rattle.run_parties.specs.serial_depot.Running.{CanTake, HasRun};
@@ -16,15 +14,15 @@ ghost use Rattle.session_loop.specs.Asking.{AreWellFormed, commands_of, replica_
 ghost use Rattle.session_loop.specs.Requests.{AreRequestsOfAll};
 ghost use Rattle.session_loop.specs.Served.{AreCaused};
 
-use crate::replicas::answer_replicas;
 use crate::threads::run_named;
 use depot_model::{Place, Request, Session};
 use locked_tables::Taken;
 use order_words::{LaneSeat, OrderSeat, Orders};
 use outside_api::{Clock, Disk, Gate, Sink};
-use run_parties::depots::SerialDepot;
-use run_parties::followers::ReplicaParty;
+use party_marks::Mark;
+use replica_turns::ReplicaParty;
 use run_parties::{all_requests, replica_parties};
+use serial_depot::SerialDepot;
 use session_loop::{ReplicaScript, SessionRun};
 use std::alloc::{AllocError, Global};
 use std::marker::Brand;
@@ -46,75 +44,89 @@ pub struct ThreadsRun<D: Disk, K> {
     pub depot: SerialDepot<D>,
 }
 
-/// The requests of all sessions, and the words of the order of their places.
+/// What all parties ask, and the words of the order of their places and of their marks.
 #[derive(Drop)]
 struct Brought {
     requests: Vec<Vec<Request>>,
+    replicas: Vec<Option<ReplicaParty>>,
     words: (Orders<Taken>, OrderSeat<Taken>, Vec<LaneSeat<Taken>>),
+    mark_words: (Orders<Mark>, OrderSeat<Mark>, Vec<LaneSeat<Mark>>),
 }
 
-/// The requests of sessions, whose parties are numbered from 1, and words for as many parties. The one error is want of memory.
+/// The words of the order of so many parties' places, and those of their marks. The one error is want of memory.
+fn words_for(
+    alloc: Global,
+    parties: u32,
+) -> Result<
+    (
+        (Orders<Taken>, OrderSeat<Taken>, Vec<LaneSeat<Taken>>),
+        (Orders<Mark>, OrderSeat<Mark>, Vec<LaneSeat<Mark>>),
+    ),
+    AllocError,
+>
+    requires { parties ≤ 16 }
+    ensures lanes { IfOk result (λ r. lane_count r.0.0 ≡ 12 + parties) }
+    ensures order { IfOk result (λ r. r.0.1 ≡ fresh_order r.0.0 (12 + parties)) }
+    ensures seats { IfOk result (λ r. r.0.2.items ≡ fresh_lanes r.0.0 (12 + parties)) }
+    ensures mark_lanes { IfOk result (λ r. lane_count r.1.0 ≡ 1 + parties) }
+    ensures mark_order { IfOk result (λ r. r.1.1 ≡ fresh_order r.1.0 (1 + parties)) }
+    ensures mark_seats { IfOk result (λ r. r.1.2.items ≡ fresh_lanes r.1.0 (1 + parties)) }
+{
+    let words = Orders::new(alloc, 12 + parties)?;
+    let mark_words = Orders::new(alloc, 1 + parties)?;
+    Ok((words, mark_words))
+}
+
+/// The requests of sessions and the replicas of scripts, whose parties are numbered from 1, and words for as many parties. The one error is want of memory.
 fn bring<C: Clock>(
     alloc: Global,
     sessions: Vec<Option<Session>>,
+    scripts: Vec<Option<ReplicaScript>>,
     clock: &C,
 ) -> Result<Brought, AllocError>
     requires few_parties { length sessions.items ≤ 16 }
+    requires as_many { length scripts.items ≡ length sessions.items }
     requires few { All (λ session. length (commands_of session) ≤ 67108864) sessions.items }
+    requires few_replicas { All (λ script. length (replica_commands script) ≤ 67108864) scripts.items }
     ensures requests { IfOk result (λ brought. AreRequestsOfAll (C.may_give clock.now) 1 sessions.items (map (λ own. own.items) brought.requests.items)) }
+    ensures replicas { IfOk result (λ brought. AreFresh (C.may_give clock.now) 1 scripts.items brought.replicas.items) }
     ensures lanes { IfOk result (λ brought. lane_count brought.words.0 ≡ 12 + length sessions.items) }
     ensures order { IfOk result (λ brought. brought.words.1 ≡ fresh_order brought.words.0 (12 + length sessions.items)) }
     ensures seats { IfOk result (λ brought. brought.words.2.items ≡ fresh_lanes brought.words.0 (12 + length sessions.items)) }
+    ensures mark_lanes { IfOk result (λ brought. lane_count brought.mark_words.0 ≡ 1 + length sessions.items) }
+    ensures mark_order { IfOk result (λ brought. brought.mark_words.1 ≡ fresh_order brought.mark_words.0 (1 + length sessions.items)) }
+    ensures mark_seats { IfOk result (λ brought. brought.mark_words.2.items ≡ fresh_lanes brought.mark_words.0 (1 + length sessions.items)) }
 {
     let parties = sessions.len() as u32;
-    let requests = all_requests(alloc, sessions, clock)?;
-    let words = Orders::new(alloc, 12 + parties)?;
-    Ok(Brought { requests, words })
-}
-
-/// What a run leaves once its replicas have answered too.
-fn with_replicas<D: Disk, K: Sink + Drop, C: Clock>(
-    alloc: Global,
-    clock: &C,
-    replicas: Vec<Option<ReplicaParty>>,
-    ran: ThreadsRun<D, K>,
-) -> ThreadsRun<D, K>
-    requires can { CanTake D.may_leave ran.depot }
-    requires few { All (λ replica. length (left_in replica) ≤ 67108864) replicas.items }
-    requires runs { length ran.runs.items ≡ length replicas.items }
-    requires sinks { length ran.sinks.items ≡ length replicas.items }
-    ensures order { result.order ≡ ran.order }
-    ensures can { CanTake D.may_leave result.depot }
-    ensures ran { (since : ℕ) (start : List Deed) (places : List Placed) → HasRun D.seen D.may_leave D.moment D.left_since ran.depot since start places →
-        HasRun D.seen D.may_leave D.moment D.left_since result.depot since start places }
-    ensures answered { AreAnswered D.seen D.may_leave D.moment D.left_since (C.may_give clock.now) K.given K.faults ran.depot replicas.items ran.runs.items result.runs.items result.lost ran.sinks.items result.sinks.items }
-    ensures never_falls { D.faults (disk_of ran.depot.journal) ≤ D.faults (disk_of result.depot.journal) }
-    ensures never_falls_contents { D.faults (archive_disk_of ran.depot.archive) ≤ D.faults (archive_disk_of result.depot.archive) }
-    ensures lost { result.lost ≡ true → OneHasRisen (D.faults (disk_of ran.depot.journal)) (D.faults (disk_of result.depot.journal)) (D.faults (archive_disk_of ran.depot.archive)) (D.faults (archive_disk_of result.depot.archive)) }
-{
-    let ThreadsRun {
-        mut runs,
-        mut sinks,
-        order,
-        lost: _,
-        mut depot,
-    } = ran;
-    let lost = answer_replicas(alloc, clock, replicas, &mut runs, &mut sinks, &mut depot);
-    ThreadsRun {
-        runs,
-        sinks,
-        order,
-        lost,
-        depot,
+    let Ok((words, mark_words)) = words_for(alloc, parties) else {
+        drop(sessions);
+        drop(scripts);
+        return Err(AllocError);
+    };
+    let Ok(replicas) = replica_parties(alloc, scripts, clock) else {
+        drop(sessions);
+        return Err(AllocError);
+    };
+    match all_requests(alloc, sessions, clock) {
+        Ok(requests) => Ok(Brought {
+            requests,
+            replicas,
+            words,
+            mark_words,
+        }),
+        Err(error) => {
+            drop(replicas);
+            Err(error)
+        }
     }
 }
 
-/// Takes the commands of sessions, each on a thread of its own where one can be started, and gives each reply to the sink of its party. Then, on the thread
-/// of the caller, replicas answer theirs. Parties are numbered from 1, in the order of both lists, of which each party has a place in either; one whose
-/// script has no head is in neither and asks nothing. All requests are made before the first thread is started. A command of a session whose commit failed
-/// has a fault place; one that finds no memory is answered so and has no place. A replica has the rows of the files inside its filter, as far as it has
-/// followed the journal of this depot; its commands have no place. A party whose sink failed takes no further command. The one error is want of memory
-/// before the first thread; it gives back the depot, with which nothing was done.
+/// Takes the commands of sessions and has replicas answer theirs, each party on a thread of its own where one can be started, and gives each reply to the
+/// sink of its party. Parties are numbered from 1, in the order of both lists, of which each party has a place in either; one whose script has no head is in
+/// neither and asks nothing. All requests are made before the first thread is started. A command of a session whose commit failed has a fault place; one
+/// that finds no memory is answered so and has no place. A replica has the rows of the files inside its filter, as far as it has followed the journal of this
+/// depot, while sessions commit; its commands have no place. A party whose sink failed takes no further command. Where no thread can be started, the caller's
+/// runs the party. The one error is want of memory before the first thread; it gives back the depot, with which nothing was done.
 pub fn run_on_threads<
     R: Threads + Wait + Sync,
     D: Disk + Send,
@@ -155,16 +167,17 @@ pub fn run_on_threads<
     ensures faults { IfOk result (λ ran. AreCaused (D.faults (disk_of depot.journal)) (D.faults (disk_of ran.depot.journal)) (D.faults (archive_disk_of depot.archive)) (D.faults (archive_disk_of ran.depot.archive)) [] ran.order.items) }
     ensures lost { IfOk result (λ ran. ran.lost ≡ true → OneHasRisen (D.faults (disk_of depot.journal)) (D.faults (disk_of ran.depot.journal)) (D.faults (archive_disk_of depot.archive)) (D.faults (archive_disk_of ran.depot.archive))) }
 {
-    let Ok(replicas) = replica_parties(alloc, replicas, clock) else {
-        return Err(depot);
-    };
-    match bring(alloc, sessions, clock) {
+    match bring(alloc, sessions, replicas, clock) {
         Err(_) => Err(depot),
-        Ok(Brought { requests, words }) => {
-            match run_named::<R, D, K, G, Brand>(rt, alloc, words, requests, gate, sinks, depot) {
-                Err(depot) => Err(depot),
-                Ok(ran) => Ok(with_replicas(alloc, clock, replicas, ran)),
-            }
-        }
+        Ok(
+            Brought {
+                requests,
+                replicas,
+                words,
+                mark_words,
+            },
+        ) => run_named::<R, D, K, C, G, Brand>(
+            rt, alloc, words, mark_words, requests, replicas, clock, gate, sinks, depot,
+        ),
     }
 }

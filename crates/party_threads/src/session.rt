@@ -11,6 +11,7 @@ ghost use Rattle.session_loop.specs.Taking.{IsProper};
 use depot_model::{Answer, Request};
 use locked_tables::{Naming, PartyPass};
 use outside_api::{Disk, Gate, Sink};
+use party_marks::Marking;
 use run_parties::give;
 use session_loop::SessionRun;
 use shared_depot::{Serving, SharedDepot};
@@ -19,7 +20,7 @@ use std::sync::Wait;
 
 /// Has a command of a party taken, and gives its reply to the party's sink. Answers whether the sink
 /// has failed.
-fn take_command<R: Wait, D: Disk, K: Sink, G: Gate, N: Naming + Serving>(
+fn take_command<R: Wait, D: Disk, K: Sink, G: Gate, N: Naming + Marking + Serving>(
     rt: &R,
     alloc: Global,
     depot: &SharedDepot<D, N>,
@@ -43,7 +44,7 @@ fn take_command<R: Wait, D: Disk, K: Sink, G: Gate, N: Naming + Serving>(
 
 /// Has the commands of a party taken, one after another, as long as its sink takes the replies. A
 /// command that finds no memory is answered so, has no place, and the party goes on.
-pub(crate) fn take_commands<R: Wait, D: Disk, K: Sink, G: Gate, N: Naming + Serving>(
+pub(crate) fn take_commands<R: Wait, D: Disk, K: Sink, G: Gate, N: Naming + Marking + Serving>(
     rt: &R,
     alloc: Global,
     depot: &SharedDepot<D, N>,

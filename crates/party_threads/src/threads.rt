@@ -1,15 +1,17 @@
-//! The sessions of all parties, each on a thread of its own.
+//! All parties, each on a thread of its own.
 
-ghost use Rattle.std.specs.Prelude.{◌≡◌, ◌≤◌, ◌+◌, ℕ, List, [], false, length, map, vec_capacity, All, IfErr, IfOk};
+ghost use Rattle.std.specs.Prelude.{◌≡◌, ◌≤◌, ◌<◌, ◌+◌, ◌++◌, ◌∷◌, ◌||◌, ℕ, List, [], true, false, length, map, vec_len, vec_capacity, All, IfErr, IfOk};
 ghost use Rattle.archive_file.specs.Archive.{disk_of as archive_disk_of};
 ghost use Rattle.depot_model.specs.db_records.declared.table.TableId.{TableId};
 ghost use Rattle.depot_model.specs.Deeds.{Deed};
 ghost use Rattle.disk_journal.specs.Stands.{disk_of};
 ghost use Rattle.order_words.specs.Seats.{fresh_lanes, fresh_order, lane_count};
-ghost use Rattle.party_threads.specs.Parties.{AreAsked, AreCollected, HasRunParty, HaveRun, HaveRunSessions, IsReady};
+ghost use Rattle.party_marks.specs.Marks.{is_empty};
+ghost use Rattle.party_threads.specs.Parties.{AreAsked, AreCollected, HasRunParty, HaveRun, HaveRunAll, IsHeard, IsReady, is_marked};
 ghost use Rattle.party_threads.specs.Rooms.{IsRoom};
+ghost use Rattle.run_parties.specs.Asking.{left_in};
 ghost use Rattle.run_parties.specs.serial_depot.Running.{CanTake, HasRun};
-ghost use Rattle.shared_depot.specs.Sharing.{fresh_passes};
+ghost use Rattle.shared_depot.specs.Sharing.{fresh_marks, fresh_passes};
 ghost use Rattle.table_changes.specs.Changed.{rows_of};
 
 use crate::party::{ThreadParty, put_parties};
@@ -17,8 +19,10 @@ use crate::run::ThreadsRun;
 use depot_model::Request;
 use locked_tables::{Naming, Taken};
 use order_words::{LaneSeat, OrderSeat, Orders};
-use outside_api::{Disk, Gate, Sink};
-use run_parties::depots::SerialDepot;
+use outside_api::{Clock, Disk, Gate, Sink};
+use party_marks::{Mark, Marking};
+use replica_turns::ReplicaParty;
+use serial_depot::SerialDepot;
 use session_loop::SessionRun;
 use shared_depot::{Closed, OpenedDepot, Serving, Shared, SharedDepot};
 use std::alloc::{AllocError, Global};
@@ -30,11 +34,19 @@ fn run_parties<
     R: Threads + Wait + Sync,
     D: Disk + Send,
     K: Sink + Send + Drop,
+    C: Clock + Sync,
     G: Gate + Sync,
-    N: Naming + Serving + Send + Sync,
->(rt: &R, alloc: Global, depot: &SharedDepot<D, N>, gate: &G, parties: &mut [ThreadParty<K, N>])
+    N: Naming + Marking + Serving + Send + Sync,
+>(
+    rt: &R,
+    alloc: Global,
+    depot: &SharedDepot<D, N>,
+    clock: &C,
+    gate: &G,
+    parties: &mut [ThreadParty<K, N>],
+)
     requires { All (IsReady N.begins) parties.old }
-    ensures run { HaveRun K.given K.faults N.begins parties.old parties.new }
+    ensures run { HaveRun D.seen D.may_leave D.moment D.left_since (C.may_give clock.now) K.given K.faults N.begins parties.old parties.new }
     ensures count { length parties.new ≡ length parties.old }
 {
     let threads = parties.len().max(1);
@@ -44,47 +56,86 @@ fn run_parties<
         threads,
         &|_, party: &mut ThreadParty<K, N>|
             requires { IsReady N.begins party.now }
-            ensures { HasRunParty K.given K.faults N.begins party.entry.now party.exit.now }
-        { party.run(rt, alloc, depot, gate) },
+            ensures { HasRunParty D.seen D.may_leave D.moment D.left_since (C.may_give clock.entry.now) K.given K.faults N.begins party.entry.now party.exit.now }
+        { party.run(rt, alloc, depot, clock, gate) },
     );
 }
 
-/// Hears what each party knows, and puts together what the parties leave. It takes no memory.
-fn collect<D: Disk, K: Sink + Drop, N: Naming + Serving>(
+/// Hears what a party knows, and puts what it leaves behind what others left. Answers whether it was told that a disk failed. It takes no memory.
+fn hear_party<D: Disk, K: Sink + Drop, N: Naming + Marking + Serving>(
+    depot: &mut OpenedDepot<D, N>,
+    party: ThreadParty<K, N>,
+    runs: &mut Vec<SessionRun>,
+    sinks: &mut Vec<K>,
+) -> bool
+    requires room { vec_len runs.old < vec_capacity runs.old }
+    requires room_for_sinks { vec_len sinks.old < vec_capacity sinks.old }
+    ensures same { depot.new ≡ depot.old }
+    ensures heard { IsHeard depot.old.order party.pass }
+    ensures runs { runs.new.items ≡ runs.old.items ++ party.run ∷ [] }
+    ensures runs_len { vec_len runs.new ≡ vec_len runs.old + 1 }
+    ensures runs_room { vec_capacity runs.old ≤ vec_capacity runs.new }
+    ensures sinks { sinks.new.items ≡ sinks.old.items ++ party.sink ∷ [] }
+    ensures sinks_len { vec_len sinks.new ≡ vec_len sinks.old + 1 }
+    ensures sinks_room { vec_capacity sinks.old ≤ vec_capacity sinks.new }
+    ensures told { result ≡ is_marked party }
+    ensures marked { result ≡ true → is_empty depot.old.marks ≡ false }
+{
+    let ThreadParty {
+        requests,
+        replica,
+        mut pass,
+        mut marks,
+        sink,
+        run,
+    } = party;
+    drop(requests);
+    drop(replica);
+    let told = marks.has_marks();
+    depot.hear(&mut pass, &mut marks);
+    runs.push(run).unwrap();
+    sinks.push(sink).unwrap();
+    told
+}
+
+/// Whether one of two tests holds.
+fn either(first: bool, second: bool) -> bool
+    ensures { result ≡ (first || second) }
+{
+    first || second
+}
+
+/// Hears what each party knows, and puts together what the parties leave. Answers whether one was told that a disk failed. It takes no memory.
+fn collect<D: Disk, K: Sink + Drop, N: Naming + Marking + Serving>(
     depot: &mut OpenedDepot<D, N>,
     parties: Vec<ThreadParty<K, N>>,
     runs: &mut Vec<SessionRun>,
     sinks: &mut Vec<K>,
-)
+) -> bool
     requires no_runs { runs.old.items ≡ [] }
     requires no_sinks { sinks.old.items ≡ [] }
     requires room { length parties.items ≤ vec_capacity runs.old }
     requires room_for_sinks { length parties.items ≤ vec_capacity sinks.old }
     ensures same { depot.new ≡ depot.old }
-    ensures collected { AreCollected depot.old parties.items runs.new.items sinks.new.items }
+    ensures collected { AreCollected depot.old parties.items runs.new.items sinks.new.items result }
 {
+    let mut lost = false;
     for party in parties {
-        let ThreadParty {
-            requests: _,
-            mut pass,
-            sink,
-            run,
-        } = party;
-        depot.hear(&mut pass);
-        runs.push(run).unwrap();
-        sinks.push(sink).unwrap();
+        let told = hear_party(depot, party, runs, sinks);
+        lost = either(lost, told);
     }
+    lost
 }
 
 /// Room for the parties, and for what they leave.
 #[derive(Drop)]
-struct Room<K: Sink, N: Naming> {
+struct Room<K: Sink, N: Naming + Marking> {
     parties: Vec<ThreadParty<K, N>>,
     runs: Vec<SessionRun>,
     sinks: Vec<K>,
 }
 
-impl<K: Sink + Drop, N: Naming> Room<K, N> {
+impl<K: Sink + Drop, N: Naming + Marking> Room<K, N> {
     /// Room for so many parties. The one error is want of memory.
     fn new(alloc: Global, parties: usize) -> Result<Room<K, N>, AllocError>
         ensures { IfOk result (IsRoom parties) }
@@ -97,63 +148,76 @@ impl<K: Sink + Drop, N: Naming> Room<K, N> {
     }
 }
 
-/// Runs the sessions of parties over a shared depot, which it closes behind the last of them.
+/// Runs parties over a shared depot, which it closes behind the last of them.
 fn run_and_close<
     R: Threads + Wait + Sync,
     D: Disk + Send,
     K: Sink + Send + Drop,
+    C: Clock + Sync,
     G: Gate + Sync,
-    N: Naming + Serving + Send + Sync,
+    N: Naming + Marking + Serving + Send + Sync,
 >(
     rt: &R,
     alloc: Global,
     shared: Shared<D, N>,
     requests: Vec<Vec<Request>>,
+    replicas: Vec<Option<ReplicaParty>>,
+    clock: &C,
     gate: &G,
     sinks: Vec<K>,
     room: Room<K, N>,
 ) -> ThreadsRun<D, K>
     requires passes { shared.passes.items ≡ fresh_passes (length requests.items) }
+    requires marks { shared.marks.items ≡ fresh_marks (length requests.items) }
     requires lanes { lane_count N.run ≡ 12 + length requests.items }
     requires as_many { length sinks.items ≡ length requests.items }
+    requires as_many_replicas { length replicas.items ≡ length requests.items }
     requires asked { AreAsked N.begins (map (λ own. own.items) requests.items) }
+    requires few { All (λ replica. length (left_in replica) ≤ 67108864) replicas.items }
     requires room { IsRoom (length requests.items) room }
-    ensures run { HaveRunSessions D.seen D.may_leave D.moment D.left_since D.faults K.given K.faults N.begins N.faults N.content_faults (map (λ own. own.items) requests.items) sinks.items result }
-    ensures lost { result.lost ≡ false }
+    ensures { HaveRunAll D.seen D.may_leave D.moment D.left_since D.faults (C.may_give clock.now) K.given K.faults N.begins N.faults N.content_faults (map (λ own. own.items) requests.items) replicas.items sinks.items result }
 {
     let Room {
         mut parties,
         mut runs,
         sinks: mut left,
     } = room;
-    let Shared { depot, passes } = shared;
-    put_parties(requests, passes, sinks, &mut parties);
-    run_parties(rt, alloc, &depot, gate, &mut parties);
+    let Shared {
+        depot,
+        passes,
+        marks,
+    } = shared;
+    put_parties(requests, replicas, passes, marks, sinks, &mut parties);
+    run_parties(rt, alloc, &depot, clock, gate, &mut parties);
     let mut opened = depot.open();
-    collect(&mut opened, parties, &mut runs, &mut left);
+    let lost = collect(&mut opened, parties, &mut runs, &mut left);
     let Closed { depot, order } = opened.close();
     ThreadsRun {
         runs,
         sinks: left,
         order,
-        lost: false,
+        lost,
         depot,
     }
 }
 
-/// Runs the sessions of all parties, numbered from 1, over a depot, with words for them. The one error is want of memory before the first thread; it gives
-/// back the depot, with which nothing was done.
+/// Runs all parties, numbered from 1, over a depot, with words for their places and marks. The one error is want of memory before the first thread; it
+/// gives back the depot, with which nothing was done.
 pub(crate) fn run_named<
     R: Threads + Wait + Sync,
     D: Disk + Send,
     K: Sink + Send + Drop,
+    C: Clock + Sync,
     G: Gate + Sync,
-    N: Naming + Serving + Send + Sync,
+    N: Naming + Marking + Serving + Send + Sync,
 >(
     rt: &R,
     alloc: Global,
     words: (Orders<Taken>, OrderSeat<Taken>, Vec<LaneSeat<Taken>>),
+    mark_words: (Orders<Mark>, OrderSeat<Mark>, Vec<LaneSeat<Mark>>),
     requests: Vec<Vec<Request>>,
+    replicas: Vec<Option<ReplicaParty>>,
+    clock: &C,
     gate: &G,
     sinks: Vec<K>,
     depot: SerialDepot<D>,
@@ -163,6 +227,10 @@ pub(crate) fn run_named<
     requires lanes { lane_count N.run ≡ 12 + length requests.items }
     requires order { words.1 ≡ fresh_order N.run (12 + length requests.items) }
     requires seats { words.2.items ≡ fresh_lanes N.run (12 + length requests.items) }
+    requires marks { mark_words.0 ≡ N.marks }
+    requires mark_lanes { lane_count N.marks ≡ 1 + length requests.items }
+    requires mark_order { mark_words.1 ≡ fresh_order N.marks (1 + length requests.items) }
+    requires mark_seats { mark_words.2.items ≡ fresh_lanes N.marks (1 + length requests.items) }
     requires rows { (table : TableId) → rows_of depot.tables table ≡ N.rows table }
     requires end { depot.tables.archive_end ≡ N.end }
     requires can { CanTake D.may_leave depot }
@@ -170,17 +238,20 @@ pub(crate) fn run_named<
     requires faults { N.faults ≡ D.faults (disk_of depot.journal) }
     requires content_faults { N.content_faults ≡ D.faults (archive_disk_of depot.archive) }
     requires as_many { length sinks.items ≡ length requests.items }
+    requires as_many_replicas { length replicas.items ≡ length requests.items }
     requires asked { AreAsked N.begins (map (λ own. own.items) requests.items) }
-    ensures run { IfOk result (HaveRunSessions D.seen D.may_leave D.moment D.left_since D.faults K.given K.faults N.begins N.faults N.content_faults (map (λ own. own.items) requests.items) sinks.items) }
-    ensures lost { IfOk result (λ ran. ran.lost ≡ false) }
+    requires few { All (λ replica. length (left_in replica) ≤ 67108864) replicas.items }
+    ensures run { IfOk result (HaveRunAll D.seen D.may_leave D.moment D.left_since D.faults (C.may_give clock.now) K.given K.faults N.begins N.faults N.content_faults (map (λ own. own.items) requests.items) replicas.items sinks.items) }
     ensures kept { IfErr result (λ kept. kept ≡ depot) }
 {
     let count = requests.len();
     match Room::new(alloc, count) {
         Err(_) => Err(depot),
-        Ok(room) => match SharedDepot::<D, N>::new(alloc, words, count as u32, depot) {
+        Ok(room) => match SharedDepot::<D, N>::new(alloc, words, mark_words, count as u32, depot) {
             Err(depot) => Err(depot),
-            Ok(shared) => Ok(run_and_close(rt, alloc, shared, requests, gate, sinks, room)),
+            Ok(shared) => Ok(run_and_close(
+                rt, alloc, shared, requests, replicas, clock, gate, sinks, room,
+            )),
         },
     }
 }

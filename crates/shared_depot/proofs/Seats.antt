@@ -4,7 +4,8 @@ use Rattle.std.proofs.lemmas.List.{append_assoc}
 use Rattle.std.specs.List.{AllByRecursion}
 use Rattle.locked_tables.specs.Known.{IsSeatOfTable, PartyKnown}
 use Rattle.order_words.specs.Seats.{LaneState, Run, fresh_lane, fresh_lanes}
-use Rattle.shared_depot.specs.Sharing.{fresh_passes}
+use Rattle.party_marks.specs.Known.{PassKnown}
+use Rattle.shared_depot.specs.Sharing.{fresh_marks, fresh_passes}
 
 no_more : {X : Type 0} (xs : List X) (x : X) → [] ≡ xs ++ x ∷ [] → ⊥
 no_more [] x e = cc
@@ -49,3 +50,11 @@ passes_more before after count some is =
     ∙ (append_assoc before (fresh_passes (count - 1)) (record { party = count; list = [] } ∷ [])
     ∙ (ap (λ (n : ℕ). before ++ (fresh_passes (count - 1) ++ record { party = n; list = [] } ∷ [])) (sym next)
     ∙ ap (λ (n : ℕ). before ++ fresh_passes n) next))
+
+pub marks_more : (before after : List PassKnown) (count : ℕ) → 1 ≤ count → after ≡ before ++ fresh_marks (count - 1) → after ++ record { party = count; list = [] } ∷ [] ≡ before ++ fresh_marks count
+marks_more before after count some is =
+    let next : suc (count - 1) ≡ count = omega arith in
+    ap (λ (l : List PassKnown). l ++ record { party = count; list = [] } ∷ []) is
+    ∙ (append_assoc before (fresh_marks (count - 1)) (record { party = count; list = [] } ∷ [])
+    ∙ (ap (λ (n : ℕ). before ++ (fresh_marks (count - 1) ++ record { party = n; list = [] } ∷ [])) (sym next)
+    ∙ ap (λ (n : ℕ). before ++ fresh_marks n) next))

@@ -1,4 +1,5 @@
 pub mod Common
 pub mod Sharing
+pub mod Replicas
 pub mod Room
 pub mod Ready

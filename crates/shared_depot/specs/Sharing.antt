@@ -7,6 +7,7 @@ use Rattle.depot_rows.specs.depot_model.declared.request.Request.{Request}
 use Rattle.locked_tables.specs.Known.{PartyKnown}
 use Rattle.locked_tables.specs.Taken.{of_party, place_of, placed_of}
 use Rattle.locked_tables.specs.declared.taken.Taken.{Taken}
+use Rattle.party_marks.specs.Known.{PassKnown}
 use Rattle.session_loop.specs.Taking.{Answers}
 
 -- A command of a party was taken: it has a place behind all that the party knew, which is the last that the party knows now; there it is answered what one
@@ -25,3 +26,8 @@ pub record IsTakenAt (begins : ℕ → List Deed → Type 0) (old new : PartyKno
 abbrev pub fresh_passes : ℕ → List PartyKnown
 fresh_passes zero = []
 fresh_passes (suc n) = fresh_passes n ++ record { party = suc n; list = [] } ∷ []
+
+-- what so many parties know where no mark is yet
+abbrev pub fresh_marks : ℕ → List PassKnown
+fresh_marks zero = []
+fresh_marks (suc n) = fresh_marks n ++ record { party = suc n; list = [] } ∷ []

@@ -1,15 +1,16 @@
 //! How a command is made ready to be committed.
-ghost use Rattle.std.specs.Prelude.{◌≡◌, ◌&&◌, ◌==◌, ℕ, List, None, [], IfOk, IfSome, IsSome, IsTrue, IsFalse, map};
+ghost use Rattle.std.specs.Prelude.{◌≡◌, ◌<◌, ◌&&◌, ◌==◌, ℕ, List, None, [], IfOk, IfSome, IsSome, IsTrue, IsFalse, OnOk, map};
 ghost use Rattle.std.specs.List.{list_any};
 ghost use Rattle.serial_depot.specs.command_core.Outcomes.{HasNeeded, IsFormedBy, IsOutcome};
 ghost use Rattle.command_needs.specs.Sets.{need_of};
 ghost use Rattle.command_needs.specs.declared.sets.Need.{Need as AnyNeed};
+ghost use Rattle.depot_rows.specs.db_records.declared.table.TableId.{TableId};
 ghost use Rattle.depot_rows.specs.depot_model.Deeds.{Deed};
 ghost use Rattle.depot_rows.specs.depot_model.Rules.{IsSound};
 ghost use Rattle.depot_rows.specs.depot_model.Tables.{needs_of};
 ghost use Rattle.locked_tables.specs.Taken.{rows_after};
 ghost use Rattle.session_loop.specs.Taking.{IsProper};
-ghost use Rattle.depot_rows.specs.table_changes.Changed.{AllFitIn, rows_of};
+ghost use Rattle.depot_rows.specs.table_changes.Changed.{AllFitIn, changed_by, rows_of};
 ghost use Rattle.table_locks.specs.Confirmed.{IsConfirmed};
 ghost use Rattle.table_locks.specs.Gathered.{IsShown};
 ghost use Rattle.table_locks.specs.Prepared.{are_held};
@@ -23,11 +24,15 @@ use crate::ready::Ready;
 use crate::room::Room;
 use crate::serving::Serving;
 use crate::shared::SharedDepot;
+use command_core::{Outcome, evaluate};
 use command_needs::{Need, request_needs};
 use depot_rows::model::Request;
+use depot_rows::paths::Sequence;
+use depot_rows::records::Change;
+use depot_rows::tables::Tables;
 use locked_tables::{LockedArchive, Naming, OrderWords};
 use outside_api::{Disk, Gate};
-use serial_depot::commands::{Outcome, evaluate};
+use party_marks::Marking;
 use std::alloc::{AllocError, Global};
 use std::sync::{MutexGuard, Wait};
 use table_locks::{Confirmed, Gathered, gather};
@@ -46,7 +51,31 @@ fn may_store_so(outcome: &Outcome, held: bool) -> bool
     outcome.stores.is_empty() || held
 }
 
-impl<D: Disk, N: Naming + Serving> CommonDepot<D, N> {
+impl<D: Disk, N: Naming + Marking + Serving> CommonDepot<D, N> {
+    /// Makes room for one more place, the tables after changes, and a copy of these changes. The one
+    /// error is want of memory.
+    fn prepare_changes(
+        &mut self,
+        alloc: Global,
+        changes: &[Change],
+    ) -> Result<(Tables, Sequence<Change>), AllocError>
+        requires { AllFitIn (rows_after N.rows self.old.list) changes.now }
+        ensures same { self.new.list ≡ self.old.list }
+        ensures room { OnOk result (0 < self.new.room) }
+        ensures rows { IfOk result (λ made. (table : TableId) → rows_of made.0 table ≡ changed_by (rows_after N.rows self.old.list) changes.now table) }
+        ensures copied { IfOk result (λ made. made.1 ≡ changes.now) }
+    {
+        self.make_room()?;
+        let after = self.tables_after(alloc, changes)?;
+        match copy_changes(alloc, changes) {
+            Ok(copied) => Ok((after, copied)),
+            Err(error) => {
+                drop(after);
+                Err(error)
+            }
+        }
+    }
+
     /// Makes room for an outcome, where the tables that it changes are held. The one error is want of
     /// memory.
     fn make_room_for<'a>(
@@ -64,16 +93,27 @@ impl<D: Disk, N: Naming + Serving> CommonDepot<D, N> {
         ensures room { IfOk result (IsRoomFor N.rows self.new outcome.now) }
     {
         let changes = outcome.changes.as_slice();
-        self.make_room()?;
-        let after = self.tables_after(alloc, changes)?;
-        let prepared = confirmed.prepare(&after, changes)?;
-        let changes = copy_changes(alloc, changes)?;
-        Ok(Room {
-            archive,
-            prepared,
-            after,
-            changes,
-        })
+        match self.prepare_changes(alloc, changes) {
+            Err(error) => {
+                drop(confirmed);
+                drop(archive);
+                Err(error)
+            }
+            Ok((after, copied)) => match confirmed.prepare(&after, changes) {
+                Err(error) => {
+                    drop(archive);
+                    drop(after);
+                    drop(copied);
+                    Err(error)
+                }
+                Ok(prepared) => Ok(Room {
+                    archive,
+                    prepared,
+                    after,
+                    changes: copied,
+                }),
+            },
+        }
     }
 
     /// Makes room for an outcome that was found over gathered tables, where no table that was looked at
@@ -100,12 +140,17 @@ impl<D: Disk, N: Naming + Serving> CommonDepot<D, N> {
         ensures always { IfOk result (λ found. gathered.entry.peeks.items ≡ [] → IsSome found) }
     {
         let Some(confirmed) = self.confirm(words, gathered) else {
+            drop(archive);
             return Ok(None);
         };
         if !confirmed.holds(outcome.changes.as_slice()) {
+            drop(confirmed);
+            drop(archive);
             return Err(AllocError);
         }
         if !may_store_so(outcome, archive.is_some()) {
+            drop(confirmed);
+            drop(archive);
             return Err(AllocError);
         }
         let archive = self.learn_archive(words, archive);
@@ -114,7 +159,7 @@ impl<D: Disk, N: Naming + Serving> CommonDepot<D, N> {
     }
 }
 
-impl<D: Disk, N: Naming + Serving> SharedDepot<D, N> {
+impl<D: Disk, N: Naming + Marking + Serving> SharedDepot<D, N> {
     /// Gathers a set. Where contents may be stored, takes the lock of the archive too, and sees where
     /// the archive ends.
     fn reach<'a, R: Wait>(

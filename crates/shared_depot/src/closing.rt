@@ -1,37 +1,47 @@
 //! A shared depot once all threads have ended.
-ghost use Rattle.std.specs.Prelude.{◌≡◌, ◌≤◌, ℕ, List, [], map};
+ghost use Rattle.std.specs.Prelude.{◌≡◌, ◌≤◌, ℕ, List, [], map, true, false};
 ghost use Rattle.std.specs.List.{AllByRecursion};
 ghost use mathlib.Core.List.{IsPrefix};
 ghost use Rattle.archive_file.specs.Archive.{disk_of as archive_disk_of};
 ghost use Rattle.depot_rows.specs.depot_model.Deeds.{Deed};
 ghost use Rattle.disk_journal.specs.Stands.{disk_of};
 ghost use Rattle.locked_tables.specs.Taken.{IsParty, of_party, place_of, placed_of};
+ghost use Rattle.party_marks.specs.Marks.{has_marks, is_empty};
 ghost use Rattle.serial_depot.specs.Running.{CanTake, HasRun};
 ghost use Rattle.session_loop.specs.Served.{AreCaused};
+ghost use Rattle.shared_depot.specs.Common.{AreMarksCaused};
 
 use crate::common::CommonDepot;
 use crate::serving::Serving;
 use crate::shared::SharedDepot;
 use depot_rows::model::Place;
-use locked_tables::{Naming, OrderWords, PartyPass};
+use locked_tables::{Naming, OrderWords, PartyPass, PlacedOrder};
 use outside_api::Disk;
+use party_marks::{MarkPass, MarkWords, Marking, Marks};
 use serial_depot::SerialDepot;
 use std::marker::Model;
 
-/// A shared depot, out of its locks. Contracts see the one order of all places.
+/// A shared depot, out of its locks. Contracts see the one order of all places, and all marks.
 #[derive(Drop)]
-pub struct OpenedDepot<D: Disk, N: Naming + Serving> {
+pub struct OpenedDepot<D: Disk, N: Naming + Marking + Serving> {
     words: OrderWords<N>,
-    common: CommonDepot<D, N>,
+    mark_words: MarkWords<N>,
+    order: PlacedOrder<N>,
+    depot: SerialDepot<D>,
+    marks: Marks<N>,
 }
 
-impl<D: Disk, N: Naming + Serving> Model for OpenedDepot<D, N> {
-    ghost use Rattle.std.specs.Prelude.{List};
-    ghost use Rattle.locked_tables.specs.declared.taken.Taken.{Taken};
+impl<D: Disk, N: Naming + Marking + Serving> Model for OpenedDepot<D, N> {
+    ghost use Rattle.archive_file.specs.Archive.{disk_of as archive_disk_of};
+    ghost use Rattle.disk_journal.specs.Stands.{disk_of};
+    ghost use Rattle.shared_depot.specs.Common.{AreMarksCaused, HasRunOrder, OpenedKnown};
 
-    ghost Value = { List Taken };
+    ghost Value = { OpenedKnown };
 
-    ghost view = { λ o. o.common.list };
+    ghost view = { λ o. record { order = o.order.list; marks = o.marks.list } };
+
+    ghost invariant = { λ o. HasRunOrder D.seen D.may_leave D.moment D.left_since D.faults N.rows N.end N.begins N.faults N.content_faults o.order.list o.depot ×
+        AreMarksCaused N.faults (D.faults (disk_of o.depot.journal)) N.content_faults (D.faults (archive_disk_of o.depot.archive)) o.marks.list };
 }
 
 /// What a shared depot that is closed gives back.
@@ -43,7 +53,7 @@ pub struct Closed<D: Disk> {
     pub order: Vec<Place>,
 }
 
-impl<D: Disk, N: Naming + Serving> SharedDepot<D, N> {
+impl<D: Disk, N: Naming + Marking + Serving> SharedDepot<D, N> {
     /// Takes the depot out of its locks. What its order is, the passes of the parties tell.
     pub fn open(self) -> OpenedDepot<D, N> {
         let SharedDepot {
@@ -51,42 +61,63 @@ impl<D: Disk, N: Naming + Serving> SharedDepot<D, N> {
             tables,
             archive,
             common,
+            mark_words,
         } = self;
         drop(tables);
         drop(archive);
+        let CommonDepot {
+            order,
+            depot,
+            marks,
+        } = common.into_inner();
         OpenedDepot {
             words,
-            common: common.into_inner(),
+            mark_words,
+            order,
+            depot,
+            marks,
         }
     }
 }
 
-impl<D: Disk, N: Naming + Serving> OpenedDepot<D, N> {
+impl<D: Disk, N: Naming + Marking + Serving> OpenedDepot<D, N> {
     /// A party learns the whole order, which begins with what it knew; each of its own places was
-    /// known to it.
-    pub fn hear(&mut self, pass: &mut PartyPass<N>)
+    /// known to it. Where it has marks, they are among all.
+    pub fn hear(&mut self, pass: &mut PartyPass<N>, marks: &mut MarkPass<N>)
         ensures same { self.new ≡ self.old }
-        ensures told { pass.new ≡ record pass.old { list = self.old } }
-        ensures begins { IsPrefix pass.old.list self.old }
-        ensures own { of_party pass.old.party self.old ≡ of_party pass.old.party pass.old.list }
+        ensures told { pass.new ≡ record pass.old { list = self.old.order } }
+        ensures begins { IsPrefix pass.old.list self.old.order }
+        ensures own { of_party pass.old.party self.old.order ≡ of_party pass.old.party pass.old.list }
+        ensures marked { has_marks marks.old.party marks.old.list ≡ true → is_empty self.old.marks ≡ false }
     {
-        self.common.tell(&self.words, pass);
+        self.order.tell(&self.words, pass);
+        self.marks.tell(&self.mark_words, marks);
     }
 
     /// Gives back the depot in files, which has run the order, and the order. It takes no memory.
     pub fn close(self) -> Closed<D>
-        ensures order { result.order.items ≡ map place_of self }
+        ensures order { result.order.items ≡ map place_of self.order }
         // Each place is of a party whose lane is one of the run's.
-        ensures parties { AllByRecursion (λ taken. IsParty N.run taken.request.party) self }
+        ensures parties { AllByRecursion (λ taken. IsParty N.run taken.request.party) self.order }
         ensures can { CanTake D.may_leave result.depot }
-        ensures ran { (since : ℕ) (start : List Deed) → N.begins since start → HasRun D.seen D.may_leave D.moment D.left_since result.depot since start (map placed_of self) }
-        // There are at most as many fault places as the counts of the two disks rose.
+        ensures ran { (since : ℕ) (start : List Deed) → N.begins since start → HasRun D.seen D.may_leave D.moment D.left_since result.depot since start (map placed_of self.order) }
+        // There are at most as many fault places as the counts of the two disks rose, and marks only where one rose.
         ensures faults { AreCaused N.faults (D.faults (disk_of result.depot.journal)) N.content_faults (D.faults (archive_disk_of result.depot.archive)) [] result.order.items }
+        ensures marks { AreMarksCaused N.faults (D.faults (disk_of result.depot.journal)) N.content_faults (D.faults (archive_disk_of result.depot.archive)) self.marks }
         ensures never_falls { N.faults ≤ D.faults (disk_of result.depot.journal) }
         ensures never_falls_contents { N.content_faults ≤ D.faults (archive_disk_of result.depot.archive) }
     {
-        let OpenedDepot { words: _, common } = self;
-        let (depot, order) = common.into_parts();
-        Closed { depot, order }
+        let OpenedDepot {
+            words: _,
+            mark_words: _,
+            order,
+            depot,
+            marks: _,
+        } = self;
+        order.parties_are_of_run();
+        Closed {
+            depot,
+            order: order.into_places(),
+        }
     }
 }

@@ -13,13 +13,14 @@ use crate::placing::{entry_of, place_entry};
 use crate::ready::Ready;
 use crate::room::Room;
 use crate::serving::Serving;
+use command_core::Outcome;
 use depot_rows::model::{Answer, Request};
 use locked_tables::{Naming, OrderWords, PartyPass};
 use outside_api::Disk;
-use serial_depot::commands::Outcome;
+use party_marks::Marking;
 use std::alloc::{AllocError, Global};
 
-impl<D: Disk, N: Naming + Serving> CommonDepot<D, N> {
+impl<D: Disk, N: Naming + Marking + Serving> CommonDepot<D, N> {
     /// Has the depot in files commit an outcome, gives the command the next place, and all locks but
     /// that of the order back. The one error is want of memory, and then nothing is done.
     fn commit(
@@ -77,7 +78,7 @@ impl<D: Disk, N: Naming + Serving> CommonDepot<D, N> {
     }
 }
 
-impl<'a, D: Disk, N: Naming + Serving> Ready<'a, D, N> {
+impl<'a, D: Disk, N: Naming + Marking + Serving> Ready<'a, D, N> {
     /// Commits it, and gives all locks back. The one error is want of memory, and then nothing is
     /// done.
     pub(crate) fn commit(

@@ -2,7 +2,7 @@
 //!
 //! Each table lies behind a lock of its own, and so does the end of the archive. Behind one lock
 //! more lie the order of all places and the depot in files, which has run exactly the commands of
-//! these places ([`SharedDepot`]). How a thread has a command taken:
+//! these places ([`SharedDepot`]). How a thread has a session's command taken:
 //!
 //! - It gathers the tables of the command's set, and finds over them what the command does. No other
 //!   thread waits for that but those that want a table that the command writes.
@@ -11,10 +11,15 @@
 //!   set, so that nothing overtakes it.
 //! - The depot in files then commits what the command does, and the command has the next place.
 //!
+//! A replica's command is answered over the depot in files under the lock of the order, so that a
+//! `pull` follows the journal between two commits; it has no place. Where the answer tells that a disk
+//! failed, the party makes a mark under the same lock.
+//!
 //! Once all threads have ended, the depot is opened ([`OpenedDepot`]), each party's pass is heard,
 //! and the depot in files and the order are given back ([`Closed`]).
 #![tactic(auto)]
 
+mod answering;
 mod attempts;
 mod closing;
 mod commits;

@@ -8,7 +8,7 @@ ghost use Rattle.disk_journal.specs.Stands.{disk_of};
 ghost use Rattle.order_words.specs.Seats.{fresh_lanes, fresh_order, lane_count};
 ghost use Rattle.serial_depot.specs.Running.{CanTake, HasRun};
 ghost use Rattle.depot_rows.specs.table_changes.Changed.{rows_of};
-ghost use Rattle.shared_depot.specs.Sharing.{fresh_passes};
+ghost use Rattle.shared_depot.specs.Sharing.{fresh_marks, fresh_passes};
 
 use crate::common::CommonDepot;
 use crate::serving::Serving;
@@ -16,15 +16,17 @@ use crate::shared::SharedDepot;
 use locked_tables::{LockedArchive, Naming, OrderWords, PartyPass, PlacedOrder, TableLocks, Taken};
 use order_words::{LaneSeat, OrderSeat, Orders};
 use outside_api::Disk;
+use party_marks::{Mark, MarkPass, MarkWords, Marking, Marks};
 use serial_depot::SerialDepot;
 use std::alloc::{AllocError, Global};
 use std::sync::Mutex;
 
 /// A depot that threads share, and the passes of the parties, which are numbered from 1.
 #[derive(Drop)]
-pub struct Shared<D: Disk, N: Naming + Serving> {
+pub struct Shared<D: Disk, N: Naming + Marking + Serving> {
     pub depot: SharedDepot<D, N>,
     pub passes: Vec<PartyPass<N>>,
+    pub marks: Vec<MarkPass<N>>,
 }
 
 /// Makes the passes of the first so many parties of their seats, which are the last.
@@ -47,6 +49,45 @@ fn make_passes<N: Naming>(
     make_passes(lanes, passes, count - 1)?;
     passes.push(PartyPass::new(seat, count))?;
     Ok(())
+}
+
+/// Makes the passes for marks of the first so many parties, in the same way.
+fn make_mark_passes<N: Marking>(
+    lanes: &mut Vec<LaneSeat<Mark>>,
+    passes: &mut Vec<MarkPass<N>>,
+    count: u32,
+) -> Result<(), AllocError>
+    requires few { (count ≤ 16) × (count ≤ lane_count N.marks) }
+    requires seats { lanes.old.items ≡ fresh_lanes N.marks count }
+    ensures { OnOk result (passes.new.items ≡ passes.old.items ++ fresh_marks count) }
+{
+    if count == 0 {
+        return Ok(());
+    }
+    let Some(seat) = lanes.pop() else {
+        return Err(AllocError);
+    };
+    make_mark_passes(lanes, passes, count - 1)?;
+    passes.push(MarkPass::new(seat, count))?;
+    Ok(())
+}
+
+/// Makes the passes for marks of so many parties of the seats of their lanes, behind which is one more.
+fn mark_passes<N: Marking>(
+    alloc: Global,
+    mut lanes: Vec<LaneSeat<Mark>>,
+    count: u32,
+) -> Result<Vec<MarkPass<N>>, AllocError>
+    requires few { (count ≤ 16) × (count ≤ lane_count N.marks) }
+    requires seats { lanes.items ≡ fresh_lanes N.marks (1 + count) }
+    ensures { IfOk result (λ passes. passes.items ≡ fresh_marks count) }
+{
+    let mut passes = Vec::new(alloc);
+    if lanes.pop().is_none() {
+        return Err(AllocError);
+    }
+    make_mark_passes(&mut lanes, &mut passes, count)?;
+    Ok(passes)
 }
 
 /// What lies behind the locks of the tables and of the archive, and the passes.
@@ -84,13 +125,14 @@ fn make_parts<D: Disk, N: Naming>(
     })
 }
 
-impl<D: Disk, N: Naming + Serving> SharedDepot<D, N> {
-    /// Shares a depot in files among parties, from 1 to 16, with the words that were made for them: those
-    /// of `Orders::new` with 12 lanes more than parties. Where memory is wanting, the depot is given
-    /// back as it was.
+impl<D: Disk, N: Naming + Marking + Serving> SharedDepot<D, N> {
+    /// Shares a depot in files among parties, up to 16, with the words that were made for them: those
+    /// of `Orders::new` with 12 lanes more than parties, and for the marks with one more. Where memory
+    /// is wanting, the depot is given back as it was.
     pub fn new(
         alloc: Global,
         words: (Orders<Taken>, OrderSeat<Taken>, Vec<LaneSeat<Taken>>),
+        mark_words: (Orders<Mark>, OrderSeat<Mark>, Vec<LaneSeat<Mark>>),
         parties: u32,
         depot: SerialDepot<D>,
     ) -> Result<Shared<D, N>, SerialDepot<D>>
@@ -98,6 +140,10 @@ impl<D: Disk, N: Naming + Serving> SharedDepot<D, N> {
         requires few { (parties ≤ 16) × (lane_count N.run ≡ 12 + parties) }
         requires order { words.1 ≡ fresh_order N.run (12 + parties) }
         requires seats { words.2.items ≡ fresh_lanes N.run (12 + parties) }
+        requires marks { mark_words.0 ≡ N.marks }
+        requires mark_lanes { lane_count N.marks ≡ 1 + parties }
+        requires mark_order { mark_words.1 ≡ fresh_order N.marks (1 + parties) }
+        requires mark_seats { mark_words.2.items ≡ fresh_lanes N.marks (1 + parties) }
         requires rows { (table : TableId) → rows_of depot.tables table ≡ N.rows table }
         requires end { depot.tables.archive_end ≡ N.end }
         requires can { CanTake D.may_leave depot }
@@ -105,8 +151,13 @@ impl<D: Disk, N: Naming + Serving> SharedDepot<D, N> {
         requires faults { N.faults ≡ D.faults (disk_of depot.journal) }
         requires content_faults { N.content_faults ≡ D.faults (archive_disk_of depot.archive) }
         ensures passes { IfOk result (λ shared. shared.passes.items ≡ fresh_passes parties) }
+        ensures mark_passes { IfOk result (λ shared. shared.marks.items ≡ fresh_marks parties) }
         ensures back { IfErr result (λ given. given ≡ depot) }
     {
+        let (mark_orders, mark_order, mark_lanes) = mark_words;
+        let Ok(marks) = mark_passes(alloc, mark_lanes, parties) else {
+            return Err(depot);
+        };
         let (orders, order, lanes) = words;
         match make_parts(alloc, lanes, parties, &depot) {
             Err(_) => Err(depot),
@@ -122,9 +173,11 @@ impl<D: Disk, N: Naming + Serving> SharedDepot<D, N> {
                         words: OrderWords::new(orders),
                         tables,
                         archive: Mutex::new(archive),
-                        common: Mutex::new(CommonDepot::new(order, depot)),
+                        common: Mutex::new(CommonDepot::new(order, depot, Marks::new(mark_order))),
+                        mark_words: MarkWords::new(mark_orders),
                     },
                     passes,
+                    marks,
                 })
             }
         }

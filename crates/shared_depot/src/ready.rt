@@ -2,14 +2,15 @@
 use crate::common::CommonDepot;
 use crate::room::Room;
 use crate::serving::Serving;
+use command_core::Outcome;
 use locked_tables::Naming;
 use outside_api::Disk;
-use serial_depot::commands::Outcome;
+use party_marks::Marking;
 use std::sync::MutexGuard;
 
 /// What a command does, with the lock of the order and the room that is made under it.
 #[derive(Drop)]
-pub(crate) struct Ready<'a, D: Disk, N: Naming + Serving> {
+pub(crate) struct Ready<'a, D: Disk, N: Naming + Marking + Serving> {
     pub(crate) common: MutexGuard<'a, CommonDepot<D, N>>,
     pub(crate) room: Room<'a, N>,
     pub(crate) outcome: Outcome,

@@ -1,7 +1,8 @@
 //! A depot that many threads share.
-ghost use Rattle.std.specs.Prelude.{◌≡◌, ℕ, List, IfOk, OnErr};
+ghost use Rattle.std.specs.Prelude.{◌≡◌, ◌<◌, ◌+◌, ℕ, List, length, IfOk, OnErr};
 ghost use Rattle.depot_rows.specs.depot_model.Deeds.{Deed};
 ghost use Rattle.session_loop.specs.Taking.{IsProper};
+ghost use Rattle.shared_depot.specs.Replicas.{IsReplicaTurn};
 ghost use Rattle.shared_depot.specs.Sharing.{IsTakenAt};
 
 use crate::common::CommonDepot;
@@ -9,19 +10,22 @@ use crate::serving::Serving;
 use depot_rows::model::{Answer, Request};
 use locked_tables::{LockedArchive, Naming, OrderWords, PartyPass, TableLocks};
 use outside_api::{Disk, Gate};
+use party_marks::{MarkPass, MarkWords, Marking};
+use replica_turns::{Answered, ReplicaParty};
 use std::alloc::{AllocError, Global};
 use std::sync::{Mutex, Wait};
 
 /// A depot in files whose tables lie behind locks of their own.
 #[derive(Drop)]
-pub struct SharedDepot<D: Disk, N: Naming + Serving> {
+pub struct SharedDepot<D: Disk, N: Naming + Marking + Serving> {
     pub(crate) words: OrderWords<N>,
     pub(crate) tables: TableLocks<N>,
     pub(crate) archive: Mutex<LockedArchive<N>>,
     pub(crate) common: Mutex<CommonDepot<D, N>>,
+    pub(crate) mark_words: MarkWords<N>,
 }
 
-impl<D: Disk, N: Naming + Serving> SharedDepot<D, N> {
+impl<D: Disk, N: Naming + Marking + Serving> SharedDepot<D, N> {
     /// Has the command of a party's request taken. It gets a place behind all that the party knew, and is
     /// answered as one thread would be that took the commands of all places before it; at a fault place
     /// the commit failed, or a content couldn't be read or stored, and the command did nothing. The one
@@ -52,5 +56,26 @@ impl<D: Disk, N: Naming + Serving> SharedDepot<D, N> {
                 Ok(answer)
             }
         }
+    }
+
+    /// Answers the next command of a replica, which is one of the parties, over the depot in files as
+    /// it is then. The party learns all places so far, of which it has none that it didn't know; it has
+    /// one mark more where the answer tells that a disk failed. `pull` fetches of the journal, and
+    /// `print` reads the archive. The one error is want of memory, or that there are 2^64 - 1 marks; the
+    /// command counts as answered then too, and the replica is as it was.
+    pub fn answer_replica<R: Wait>(
+        &self,
+        rt: &R,
+        alloc: Global,
+        pass: &mut PartyPass<N>,
+        marks: &mut MarkPass<N>,
+        replica: &mut ReplicaParty,
+    ) -> Result<Answered, AllocError>
+        requires { 0 < length replica.old.left.items }
+        ensures turn { IsReplicaTurn D.seen D.may_leave D.moment D.left_since N.begins pass.old pass.new marks.old marks.new replica.old replica.new result }
+        ensures left { length replica.old.left.items ≡ length replica.new.left.items + 1 }
+    {
+        let mut common = self.common.lock(rt);
+        common.answer_replica(&self.words, &self.mark_words, alloc, pass, marks, replica)
     }
 }

@@ -12,6 +12,10 @@ use Rattle.party_threads.proofs.run.run_on_threads.Given as goal
 abbrev pub ghosts-run_named-N-Naming : goal.ghosts-run_named-N-Naming
 ghosts-run_named-N-Naming g a = record { run = a.words.0; rows = rows_of a.depot.tables; end = a.depot.tables.archive_end }
 
+-- the words of the marks
+abbrev pub ghosts-run_named-N-Marking : goal.ghosts-run_named-N-Marking
+ghosts-run_named-N-Marking g a = record { marks = a.mark_words.0 }
+
 -- the depots from which the depot in files has run no place, where all requests are proper
 abbrev pub ghosts-run_named-N-Serving : goal.ghosts-run_named-N-Serving
 ghosts-run_named-N-Serving g a = record {

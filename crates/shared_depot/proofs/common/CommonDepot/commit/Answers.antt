@@ -1,7 +1,9 @@
 use Rattle.std.proofs.Common.{◌≡◌, ◌++◌, ◌∷◌, [], ℕ, Bool, false, List, map, sym, ap, subst, ◌∙◌}
 use Rattle.std.specs.Prelude.{if◌then◌else◌, is_some}
+use Rattle.archive_file.specs.Archive.{disk_of as archive_disk_of}
 use Rattle.depot_rows.specs.depot_model.Deeds.{Deed}
 use Rattle.depot_rows.specs.depot_model.Places.{Placed}
+use Rattle.disk_journal.specs.Stands.{disk_of}
 use Rattle.locked_tables.specs.Known.{OrderKnown}
 use Rattle.locked_tables.specs.Taken.{end_after, placed_of, rows_after}
 use Rattle.locked_tables.specs.declared.taken.Taken.{Taken}
@@ -10,16 +12,20 @@ use Rattle.serial_depot.specs.Running.{HasRun}
 use Rattle.depot_rows.specs.table_changes.Changed.{rows_of}
 use Rattle.depot_rows.specs.table_store.declared.tables.Tables.{Tables}
 use Rattle.shared_depot.specs.Common.{HasRunOrder}
+use Rattle.shared_depot.proofs.Marks.{marks_stay}
 use Rattle.shared_depot.proofs.Order.{changed_here, end_now, none_there, not_run, outcome_here, run_more, taken_so}
 use Rattle.shared_depot.proofs.common.CommonDepot.commit.Goals as goal
 
 pub invariant_of-self : goal.invariant_of-self
 invariant_of-self g c =
-    let D = g.D.Disk in
-    not_run D.seen D.may_leave D.moment D.left_since D.faults g.N.Naming.rows g.N.Naming.end g.N.Serving.begins g.N.Serving.faults g.N.Serving.content_faults
-    c.self.inside.order.list c.self.inside.depot c.place_outcome.new.self c.self.invariant
-    c.place_outcome.ensures.can c.place_outcome.ensures.never_falls c.place_outcome.ensures.never_falls_contents
-    c.in-Err.ensures.same_tables (λ since start places h. c.in-Err.ensures.nothing since start places h)
+    let D = g.D.Disk in (
+      not_run D.seen D.may_leave D.moment D.left_since D.faults g.N.Naming.rows g.N.Naming.end g.N.Serving.begins g.N.Serving.faults g.N.Serving.content_faults
+          c.self.inside.order.list c.self.inside.depot c.place_outcome.new.self c.self.invariant.0
+          c.place_outcome.ensures.can c.place_outcome.ensures.never_falls c.place_outcome.ensures.never_falls_contents
+          c.in-Err.ensures.same_tables (λ since start places h. c.in-Err.ensures.nothing since start places h),
+      marks_stay g.N.Serving.faults (D.faults (disk_of c.self.inside.depot.journal)) (D.faults (disk_of c.place_outcome.new.self.journal)) g.N.Serving.content_faults (D.faults (archive_disk_of c.self.inside.depot.archive)) (D.faults (archive_disk_of c.place_outcome.new.self.archive))
+          c.place_outcome.ensures.never_falls c.place_outcome.ensures.never_falls_contents c.self.inside.marks.list c.self.invariant.1,
+    )
 
 pub invariant_of-self-in-Ok : goal.invariant_of-self-in-Ok
 invariant_of-self-in-Ok g c =
@@ -35,7 +41,7 @@ invariant_of-self-in-Ok g c =
     let told = c.in-Ok.answer in
     let taken = c.entry_of-taken.result in
     let entry : Taken = record taken { lanes = c.place_entry.result } in
-    let was = c.self.invariant in
+    let was = c.self.invariant.0 in
     let here : order ≡ c.args.self.now.list = ap (λ (o : OrderKnown). o.list) c.self.view_is in
     let more : c.place_entry.new.order.list ≡ order ++ entry ∷ [] = ap (λ (o : OrderKnown). o.list) c.place_entry.ensures.placed in
     let fault : taken.fault ≡ told.place.fault = ap (λ (t : Taken). t.fault) c.entry_of-taken.ensures in
@@ -55,11 +61,14 @@ invariant_of-self-in-Ok g c =
     let ran : (since : ℕ) (start : List Deed) → begins since start → HasRun D.seen D.may_leave D.moment D.left_since new since start (map placed_of order ++ placed_of entry ∷ []) =
     λ since start at. subst (λ (p : Placed). HasRun D.seen D.may_leave D.moment D.left_since new since start (map placed_of order ++ p ∷ [])) (sym (ap placed_of c.entry_of-taken.ensures))
     (c.in-Ok.ensures.ran since start (map placed_of order) (was.ran since start at) (c.requires.proper since start at)
-    (outcome_here D.seen D.may_leave D.moment D.left_since D.faults rows end begins g.N.Serving.faults g.N.Serving.content_faults order c.args.self.now.list depot was here request outcome c.requires.stands since start at) after) in
-    subst (λ (l : List Taken). HasRunOrder D.seen D.may_leave D.moment D.left_since D.faults rows end begins g.N.Serving.faults g.N.Serving.content_faults l new) (sym more)
-    (run_more D.seen D.may_leave D.moment D.left_since D.faults rows end begins g.N.Serving.faults g.N.Serving.content_faults order depot new was
-    c.place_outcome.ensures.can c.place_outcome.ensures.never_falls c.place_outcome.ensures.never_falls_contents entry outcome.changes rows_now own
-    (λ table. ap (λ (l : List Taken). rows_after rows l table) (sym more) ∙ c.place_entry.ensures.rows table) end_placed ran (λ failed. c.in-Ok.ensures.cause (sym fault ∙ failed)))
+    (outcome_here D.seen D.may_leave D.moment D.left_since D.faults rows end begins g.N.Serving.faults g.N.Serving.content_faults order c.args.self.now.list depot was here request outcome c.requires.stands since start at) after) in (
+      subst (λ (l : List Taken). HasRunOrder D.seen D.may_leave D.moment D.left_since D.faults rows end begins g.N.Serving.faults g.N.Serving.content_faults l new) (sym more)
+          (run_more D.seen D.may_leave D.moment D.left_since D.faults rows end begins g.N.Serving.faults g.N.Serving.content_faults order depot new was
+          c.place_outcome.ensures.can c.place_outcome.ensures.never_falls c.place_outcome.ensures.never_falls_contents entry outcome.changes rows_now own
+          (λ table. ap (λ (l : List Taken). rows_after rows l table) (sym more) ∙ c.place_entry.ensures.rows table) end_placed ran (λ failed. c.in-Ok.ensures.cause (sym fault ∙ failed))),
+      marks_stay g.N.Serving.faults (D.faults (disk_of depot.journal)) (D.faults (disk_of new.journal)) g.N.Serving.content_faults (D.faults (archive_disk_of depot.archive)) (D.faults (archive_disk_of new.archive))
+          c.place_outcome.ensures.never_falls c.place_outcome.ensures.never_falls_contents c.self.inside.marks.list c.self.invariant.1,
+    )
 
 pub returns-in-Ok-clause-taken : goal.returns-in-Ok-clause-taken
 returns-in-Ok-clause-taken g c =
@@ -74,7 +83,7 @@ returns-in-Ok-clause-taken g c =
     let told = c.in-Ok.answer in
     let taken = c.entry_of-taken.result in
     let entry : Taken = record taken { lanes = c.place_entry.result } in
-    let was = c.self.invariant in
+    let was = c.self.invariant.0 in
     let here : order ≡ c.args.self.now.list = ap (λ (o : OrderKnown). o.list) c.self.view_is in
     let more : c.place_entry.new.order.list ≡ order ++ entry ∷ [] = ap (λ (o : OrderKnown). o.list) c.place_entry.ensures.placed in
     taken_so begins order c.place_entry.new.order.list c.args.pass.now c.place_entry.new.pass entry request told _ more c.place_entry.ensures.pass c.place_entry.ensures.own
