@@ -14,10 +14,16 @@ pub enum Op {
 }
 
 /// A change of one row: the new one, or the one that goes away.
-#[derive(Clone, Drop, PartialEq, Eq)]
+#[derive(Clone, PartialEq, Eq)]
 pub struct Change {
     pub op: Op,
     pub row: Record,
+}
+
+impl Drop for Change {
+    fn drop(self) {
+        let Change { op: _, row: _ } = self;
+    }
 }
 
 /// Where a content stands in the archive.

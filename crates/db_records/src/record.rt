@@ -15,7 +15,7 @@ use std::alloc::AllocError;
 use std::cmp::Ordering;
 
 /// A row of one of the tables.
-#[derive(Clone, Drop, PartialEq, Eq)]
+#[derive(Clone, PartialEq, Eq)]
 pub enum Record {
     Counter(CounterRecord),
     Group(GroupRecord),
@@ -28,6 +28,24 @@ pub enum Record {
     Working(WorkingRecord),
     Change(ChangeRecord),
     Rev(RevRecord),
+}
+
+impl Drop for Record {
+    fn drop(self) {
+        match self {
+            Record::Counter(_) => {}
+            Record::Group(_) => {}
+            Record::Protect(_) => {}
+            Record::Domain(_) => {}
+            Record::Have(_) => {}
+            Record::Label(_) => {}
+            Record::Integed(_) => {}
+            Record::Resolve(_) => {}
+            Record::Working(_) => {}
+            Record::Change(_) => {}
+            Record::Rev(_) => {}
+        }
+    }
 }
 
 impl Record {

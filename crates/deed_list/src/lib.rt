@@ -21,9 +21,14 @@ pub fn append<T: Drop>(list: &mut Sequence<T>, more: Sequence<T>) -> Result<(), 
 }
 
 /// Deeds, the first first. The one error of each method is want of memory; where one deed is added, the deeds then stay as they were.
-#[derive(Drop)]
 pub struct Deeds {
     list: Sequence<Deed>,
+}
+
+impl Drop for Deeds {
+    fn drop(self) {
+        let Deeds { list: _ } = self;
+    }
 }
 
 impl Model for Deeds {
@@ -56,7 +61,8 @@ impl Deeds {
     pub fn append(&mut self, more: Deeds) -> Result<(), AllocError>
         ensures { OnOk result (self.new ≡ self.old ++ more) }
     {
-        append(&mut self.list, more.list)
+        let Deeds { list } = more;
+        append(&mut self.list, list)
     }
 
     /// A form is saved under a name.

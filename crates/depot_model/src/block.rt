@@ -8,9 +8,14 @@ use std::marker::Model;
 use std::sync::Arc;
 
 /// The bytes of a block of a script, which all commands share that take it. They never change.
-#[derive(Drop)]
 pub struct Block {
     bytes: Arc<Text, Global>,
+}
+
+impl Drop for Block {
+    fn drop(self) {
+        let Block { bytes: _ } = self;
+    }
 }
 
 impl Model for Block {

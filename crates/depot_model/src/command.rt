@@ -44,7 +44,6 @@ pub enum Labelling {
 }
 
 /// A command, one variant for each form of words.
-#[derive(Drop)]
 pub enum Command {
     /// `counter NAME`
     CounterShow {
@@ -352,6 +351,131 @@ pub enum Command {
     Checkpoint,
     /// `pull`
     Pull,
+}
+
+impl Drop for Command {
+    fn drop(self) {
+        match self {
+            Command::CounterShow { name: _ } => {}
+            Command::CounterSet { name: _, value: _ } => {}
+            Command::CounterDelete { name: _ } => {}
+            Command::Counters => {}
+            Command::ClientShow { name: _ } => {}
+            Command::ClientSave => {}
+            Command::LabelShow { name: _ } => {}
+            Command::LabelSave => {}
+            Command::GroupShow { name: _ } => {}
+            Command::GroupSave => {}
+            Command::ProtectShow => {}
+            Command::ProtectSave => {}
+            Command::Where { paths: _ } => {}
+            Command::Add {
+                change: _,
+                file_type: _,
+                paths: _,
+            } => {}
+            Command::Edit {
+                change: _,
+                file_type: _,
+                files: _,
+            } => {}
+            Command::Delete {
+                change: _,
+                files: _,
+            } => {}
+            Command::Move {
+                change: _,
+                from: _,
+                to: _,
+            } => {}
+            Command::Revert {
+                change: _,
+                files: _,
+            } => {}
+            Command::Reopen {
+                change: _,
+                file_type: _,
+                files: _,
+            } => {}
+            Command::Lock {
+                change: _,
+                files: _,
+            } => {}
+            Command::Unlock {
+                change: _,
+                files: _,
+            } => {}
+            Command::Opened { all: _, files: _ } => {}
+            Command::ChangeSave => {}
+            Command::ChangeShow { change: _ } => {}
+            Command::ChangeDelete { change: _ } => {}
+            Command::Changes {
+                most: _,
+                status: _,
+                user: _,
+                client: _,
+                files: _,
+            } => {}
+            Command::SubmitChange { change: _ } => {}
+            Command::SubmitDefault { text: _ } => {}
+            Command::Sync {
+                again: _,
+                shows: _,
+                files: _,
+            } => {}
+            Command::Have { files: _ } => {}
+            Command::Tag {
+                label: _,
+                removes: _,
+                files: _,
+            } => {}
+            Command::LabelSync {
+                label: _,
+                labelling: _,
+                files: _,
+            } => {}
+            Command::Labels => {}
+            Command::Integrate {
+                change: _,
+                from: _,
+                to: _,
+            } => {}
+            Command::Resolve {
+                taking: _,
+                files: _,
+            } => {}
+            Command::Integrated { files: _ } => {}
+            Command::Files { live: _, files: _ } => {}
+            Command::FileLog { files: _ } => {}
+            Command::Print { files: _ } => {}
+            Command::Describe { change: _ } => {}
+            Command::Dirs { patterns: _ } => {}
+            Command::FileStat { files: _ } => {}
+            Command::Shelve {
+                change: _,
+                replaces: _,
+                files: _,
+            } => {}
+            Command::ShelveDelete {
+                change: _,
+                files: _,
+            } => {}
+            Command::Unshelve {
+                shelved: _,
+                change: _,
+                files: _,
+            } => {}
+            Command::DescribeShelved { change: _ } => {}
+            Command::JobShow { job: _ } => {}
+            Command::JobSave => {}
+            Command::Jobs => {}
+            Command::Fix { change: _, jobs: _ } => {}
+            Command::FixDelete { change: _, jobs: _ } => {}
+            Command::Fixes { change: _, job: _ } => {}
+            Command::Checkpoint => {}
+            Command::Pull => {}
+        }
+    }
 }
 
 impl Command {

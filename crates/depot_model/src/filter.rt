@@ -18,9 +18,14 @@ pub struct FilterRule {
 }
 
 /// Which files a replica has, seen in contracts as its rules. The last rule that fits a file decides.
-#[derive(Drop)]
 pub struct Filter {
     rules: Sequence<FilterRule>,
+}
+
+impl Drop for Filter {
+    fn drop(self) {
+        let Filter { rules: _ } = self;
+    }
 }
 
 impl Model for Filter {

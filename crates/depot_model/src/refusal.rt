@@ -28,7 +28,6 @@ pub enum Limit {
 }
 
 /// Why a command or a file is refused, one variant a code.
-#[derive(Drop)]
 pub enum Refusal {
     /// 1: no command of that word.
     UnknownCommand(Text),
@@ -102,4 +101,47 @@ pub enum Refusal {
     Fixed(u32),
     /// 38: a content in the archive that isn't as it should be, and its place.
     BadArchive(u64),
+}
+
+impl Drop for Refusal {
+    fn drop(self) {
+        match self {
+            Refusal::UnknownCommand(_) => {}
+            Refusal::BadUsage(_) => {}
+            Refusal::BadPath(_, _) => {}
+            Refusal::BadRevision(_, _) => {}
+            Refusal::Denied(_, _) => {}
+            Refusal::NoClient(_) => {}
+            Refusal::NotInView(_) => {}
+            Refusal::NoSuchFile(_) => {}
+            Refusal::NoSuchChange(_) => {}
+            Refusal::NotYours(_) => {}
+            Refusal::AlreadyOpen(_) => {}
+            Refusal::NotOpen(_) => {}
+            Refusal::ExclusiveOpen(_, _) => {}
+            Refusal::Locked(_, _) => {}
+            Refusal::Stale(_, _, _) => {}
+            Refusal::MustResolve(_) => {}
+            Refusal::NoContent(_) => {}
+            Refusal::EmptyChange(_) => {}
+            Refusal::BadForm(_) => {}
+            Refusal::NoSuchLabel(_) => {}
+            Refusal::LabelLocked(_) => {}
+            Refusal::NotDeletable(_) => {}
+            Refusal::ReadOnly(_) => {}
+            Refusal::OverLimit(_) => {}
+            Refusal::Unbuilt(_) => {}
+            Refusal::AllIntegrated(_) => {}
+            Refusal::Exists(_) => {}
+            Refusal::NotMovable(_) => {}
+            Refusal::InMove(_, _) => {}
+            Refusal::Shelved(_) => {}
+            Refusal::AlreadyShelved(_) => {}
+            Refusal::NotShelvable(_) => {}
+            Refusal::NoShelf(_) => {}
+            Refusal::NoSuchJob(_) => {}
+            Refusal::Fixed(_) => {}
+            Refusal::BadArchive(_) => {}
+        }
+    }
 }

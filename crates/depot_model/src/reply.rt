@@ -12,12 +12,20 @@ pub struct Field {
 }
 
 /// A row of a reply: its fields in order, and the content of a file where one is printed.
-#[derive(Drop)]
 pub struct Row {
     /// The fields.
     pub fields: Sequence<Field>,
     /// The content.
     pub content: Option<Text>,
+}
+
+impl Drop for Row {
+    fn drop(self) {
+        let Row {
+            fields: _,
+            content: _,
+        } = self;
+    }
 }
 
 /// The answer to a command.

@@ -41,7 +41,6 @@ pub struct Content {
 }
 
 /// Why the words of a command line are no command.
-#[derive(Drop)]
 pub enum WordFault {
     /// No command of that word.
     UnknownCommand(Text),
@@ -55,6 +54,19 @@ pub enum WordFault {
     BadNumber(Text),
     /// No memory.
     Memory,
+}
+
+impl Drop for WordFault {
+    fn drop(self) {
+        match self {
+            WordFault::UnknownCommand(_) => {}
+            WordFault::BadUsage(_) => {}
+            WordFault::BadPath(_, _) => {}
+            WordFault::BadRevision(_, _) => {}
+            WordFault::BadNumber(_) => {}
+            WordFault::Memory => {}
+        }
+    }
 }
 
 /// What a command line asks, with all that it brings.
@@ -78,7 +90,6 @@ pub struct Session {
 }
 
 /// A command with all that its reply depends on beside the depot.
-#[derive(Drop)]
 pub struct Request {
     /// Who asks.
     pub caller: Caller,
@@ -94,4 +105,18 @@ pub struct Request {
     pub input: Option<Text>,
     /// For a submit or a shelve, the contents of the session's files.
     pub contents: Sequence<Content>,
+}
+
+impl Drop for Request {
+    fn drop(self) {
+        let Request {
+            caller: _,
+            party: _,
+            number: _,
+            moment: _,
+            command: _,
+            input: _,
+            contents: _,
+        } = self;
+    }
 }

@@ -12,12 +12,21 @@ use crate::revision::{Wanted, read_wanted};
 use std::alloc::Global;
 
 /// Files, and the revisions of them that are asked for.
-#[derive(Clone, Drop, PartialEq, Eq)]
+#[derive(Clone, PartialEq, Eq)]
 pub struct FileSpec {
     /// Which files.
     pub pattern: Pattern,
     /// Which revisions.
     pub wanted: Wanted,
+}
+
+impl Drop for FileSpec {
+    fn drop(self) {
+        let FileSpec {
+            pattern: _,
+            wanted: _,
+        } = self;
+    }
 }
 
 fn mark_in(text: &[u8]) -> Option<usize>

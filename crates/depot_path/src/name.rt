@@ -30,9 +30,15 @@ pub enum NameFault {
 
 /// A name of 1 to 128 bytes of UTF-8 without control bytes, spaces and `/@#*%"`, which doesn't begin
 /// with `-` and isn't all digits.
-#[derive(Clone, Drop)]
+#[derive(Clone)]
 pub struct Name {
     text: Text,
+}
+
+impl Drop for Name {
+    fn drop(self) {
+        let Name { text: _ } = self;
+    }
 }
 
 impl Model for Name {

@@ -19,9 +19,15 @@ use std::marker::Model;
 /// The path of a file in a depot, or in a client workspace where its first component is a client's name.
 ///
 /// It is written with escapes and kept without them, and has two or more components and at most 1,024 bytes as it is written.
-#[derive(Clone, Drop)]
+#[derive(Clone)]
 pub struct DepotPath {
     bytes: Text,
+}
+
+impl Drop for DepotPath {
+    fn drop(self) {
+        let DepotPath { bytes: _ } = self;
+    }
 }
 
 /// The path of a file in a client workspace: its first component is the client's name.

@@ -22,9 +22,15 @@ use std::alloc::{AllocError, Global};
 use std::marker::Model;
 
 /// A pattern of paths, as of a file specification or of a side of a view line.
-#[derive(Clone, Drop, PartialEq, Eq)]
+#[derive(Clone, PartialEq, Eq)]
 pub struct Pattern {
     pieces: Sequence<Piece>,
+}
+
+impl Drop for Pattern {
+    fn drop(self) {
+        let Pattern { pieces: _ } = self;
+    }
 }
 
 impl Model for Pattern {

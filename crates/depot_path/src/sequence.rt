@@ -7,9 +7,15 @@ use std::alloc::{AllocError, Global};
 use std::marker::Model;
 
 /// A vector that contracts see as a list.
-#[derive(Clone, Drop)]
+#[derive(Clone)]
 pub struct Sequence<T> {
     items: Vec<T>,
+}
+
+impl<T: Drop> Drop for Sequence<T> {
+    fn drop(self) {
+        let Sequence { items: _ } = self;
+    }
 }
 
 impl<T> Model for Sequence<T> {
@@ -41,7 +47,8 @@ impl<T> Sequence<T> {
     pub fn into_vec(self) -> Vec<T>
         ensures { result.items ≡ self }
     {
-        self.items
+        let Sequence { items } = self;
+        items
     }
 
     /// The items.

@@ -14,9 +14,15 @@ use std::hash::{Hash, Hasher};
 use std::marker::Model;
 
 /// Bytes of any kind: a word, a value, a line, a content. Texts are ordered by their bytes.
-#[derive(Clone, Drop)]
+#[derive(Clone)]
 pub struct Text {
     bytes: Vec<u8>,
+}
+
+impl Drop for Text {
+    fn drop(self) {
+        let Text { bytes: _ } = self;
+    }
 }
 
 impl Model for Text {
@@ -57,7 +63,8 @@ impl Text {
     pub fn into_vec(self) -> Vec<u8>
         ensures { result.items ≡ self }
     {
-        self.bytes
+        let Text { bytes } = self;
+        bytes
     }
 
     /// The bytes.

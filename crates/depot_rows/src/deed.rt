@@ -138,7 +138,6 @@ pub struct Landing {
 }
 
 /// What is done in a depot.
-#[derive(Drop)]
 pub enum Deed {
     /// A form is saved under a name.
     Spec(SpecKind, Text, Form),
@@ -170,4 +169,26 @@ pub enum Deed {
     Paid(Held, DepotPath, How),
     /// A change is submitted.
     Land(Landing),
+}
+
+impl Drop for Deed {
+    fn drop(self) {
+        match self {
+            Deed::Spec(_, _, _) => {}
+            Deed::Guard(_) => {}
+            Deed::Group(_, _) => {}
+            Deed::Count(_, _) => {}
+            Deed::Pend(_) => {}
+            Deed::Drop(_) => {}
+            Deed::Open(_) => {}
+            Deed::Shut(_) => {}
+            Deed::Hold(_) => {}
+            Deed::Free(_) => {}
+            Deed::Got(_, _) => {}
+            Deed::Tag(_, _, _) => {}
+            Deed::Owe(_) => {}
+            Deed::Paid(_, _, _) => {}
+            Deed::Land(_) => {}
+        }
+    }
 }

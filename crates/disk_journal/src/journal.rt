@@ -33,9 +33,14 @@ pub(crate) enum Doubt {
 }
 
 /// The text of a journal's next group and of the closed mark behind it.
-#[derive(Drop)]
 pub struct Prepared {
     text: Text,
+}
+
+impl Drop for Prepared {
+    fn drop(self) {
+        let Prepared { text: _ } = self;
+    }
 }
 
 /// A group that is on the disk: its generation, and its number in it, from 1.

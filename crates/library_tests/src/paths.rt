@@ -8,24 +8,23 @@ use std::collections::HashMap;
 use std::test::Fail;
 
 /// A number that tells the form of a revision and what it holds.
-fn form_of(revision: RevSpec) -> i64 {
+fn form_of(revision: &RevSpec) -> i64 {
     match revision {
-        RevSpec::Number(number) => i64::from(number),
+        RevSpec::Number(number) => i64::from(*number),
         RevSpec::Newest => -1,
         RevSpec::Have => -2,
         RevSpec::Zero => -3,
         RevSpec::Named(_) => -4,
-        RevSpec::Change(number) => 10_000 + i64::from(number),
-        RevSpec::Only(number) => 20_000 + i64::from(number),
-        RevSpec::Moment(second) => second,
+        RevSpec::Change(number) => 10_000 + i64::from(*number),
+        RevSpec::Only(number) => 20_000 + i64::from(*number),
+        RevSpec::Moment(second) => *second,
     }
 }
 
 /// The forms of the revisions that a file specification asks for; -9 where there are none.
 fn forms_of(alloc: Global, text: &[u8]) -> Result<(i64, i64), Fail> {
-    let FileSpec { pattern, wanted } = given(FileSpec::read(alloc, text))?;
-    drop(pattern);
-    match wanted {
+    let spec = given(FileSpec::read(alloc, text))?;
+    match &spec.wanted {
         Wanted::Head => Ok((-9, -9)),
         Wanted::One(revision) => Ok((form_of(revision), -9)),
         Wanted::Range(first, second) => Ok((form_of(first), form_of(second))),

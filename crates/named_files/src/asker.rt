@@ -20,7 +20,6 @@ use row_reads::{in_client_syntax, protects_of, view_of, who_of};
 use std::alloc::{AllocError, Global};
 
 /// Who asks: the client, the rights and the view.
-#[derive(Drop)]
 pub struct Asker {
     /// The client.
     pub client: Name,
@@ -30,6 +29,17 @@ pub struct Asker {
     pub who: Who,
     /// The view of the client, without lines where it isn't saved.
     pub view: View,
+}
+
+impl Drop for Asker {
+    fn drop(self) {
+        let Asker {
+            client: _,
+            protects: _,
+            who: _,
+            view: _,
+        } = self;
+    }
 }
 
 /// A copy of a name.

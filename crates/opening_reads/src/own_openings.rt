@@ -25,10 +25,15 @@ use std::collections::BTreeMap;
 
 /// What a client has opened after the deeds that a command has made for it so far. The tables stay those of the depot before the command; what
 /// the deeds changed of the client's openings stands here. What it costs follows the files that were opened and shut.
-#[derive(Drop)]
 pub struct OwnOpenings {
     /// Each file that was opened or shut, with its opening, or none where it was shut last.
     pub(crate) changed: BTreeMap<DepotPath, Option<Opening>>,
+}
+
+impl Drop for OwnOpenings {
+    fn drop(self) {
+        let OwnOpenings { changed: _ } = self;
+    }
 }
 
 /// A copy of a name.

@@ -16,9 +16,14 @@ use std::alloc::Global;
 use std::marker::Model;
 
 /// The protections table, seen in contracts as the list of its lines.
-#[derive(Drop)]
 pub struct Protects {
     lines: Sequence<ProtectLine>,
+}
+
+impl Drop for Protects {
+    fn drop(self) {
+        let Protects { lines: _ } = self;
+    }
 }
 
 impl Model for Protects {

@@ -3,7 +3,6 @@
 use depot_path::{Name, Sequence};
 
 /// A caller.
-#[derive(Drop)]
 pub struct Who {
     /// The user.
     pub user: Name,
@@ -11,6 +10,16 @@ pub struct Who {
     pub groups: Sequence<Name>,
     /// The host that the caller comes from.
     pub host: Name,
+}
+
+impl Drop for Who {
+    fn drop(self) {
+        let Who {
+            user: _,
+            groups: _,
+            host: _,
+        } = self;
+    }
 }
 
 /// A need, 1 list, 2 read, 3 open, 4 write, 5 admin or 6 super; or the greatest need that is granted, 0 where none is.

@@ -8,7 +8,6 @@ use depot_rows::tables::Tables;
 
 /// A replica of a depot, which has the rows of the files inside a filter alone. It follows the journal of
 /// its master from generation 0 on.
-#[derive(Drop)]
 pub struct Replica {
     pub(crate) filter: Filter,
     pub(crate) tables: Tables,
@@ -29,4 +28,19 @@ pub struct Replica {
     ghost numbered: { 5 * number + Rattle.std.specs.Prelude.length rest ≤ 5 + at },
     ghost counted: { changes + Rattle.std.specs.Prelude.length rest ≤ taken + generation },
     ghost last: { generation ≤ 4095 },
+}
+
+impl Drop for Replica {
+    fn drop(self) {
+        let Replica {
+            filter: _,
+            tables: _,
+            generation: _,
+            at: _,
+            rest: _,
+            number: _,
+            taken: _,
+            changes: _,
+        } = self;
+    }
 }

@@ -20,11 +20,19 @@ use session_loop::{ReplicaScript, requests_of};
 use std::alloc::{AllocError, Global};
 
 /// A replica among the parties of a run, with the commands that it hasn't answered yet.
-#[derive(Drop)]
 pub struct ReplicaParty {
     pub(crate) replica: Replica,
     /// The next one last.
     pub(crate) left: Vec<Request>,
+}
+
+impl Drop for ReplicaParty {
+    fn drop(self) {
+        let ReplicaParty {
+            replica: _,
+            left: _,
+        } = self;
+    }
 }
 
 /// The answer to a command.

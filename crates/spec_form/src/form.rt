@@ -28,10 +28,18 @@ pub struct Field {
 /// A form of some shape, with its fields in the order in which they were first seen (Helix Core
 /// Command-Line Reference, on specs and their forms). Each form that there is prints to a text
 /// that reads to the same form.
-#[derive(Drop)]
 pub struct Form {
     shape: Shape,
     fields: Fields,
+}
+
+impl Drop for Form {
+    fn drop(self) {
+        let Form {
+            shape: _,
+            fields: _,
+        } = self;
+    }
 }
 
 impl Model for Form {

@@ -8,7 +8,6 @@ use db_records::TableId;
 use std::alloc::{AllocError, Global};
 
 /// A version of each table, and how many bytes of the archive are used.
-#[derive(Drop)]
 pub struct Tables {
     counter: Version,
     group: Version,
@@ -34,6 +33,25 @@ pub struct Tables {
     ghost own_change: { change.table ≡ table_ids.Change },
     ghost own_rev: { rev.table ≡ table_ids.Rev },
     ghost end_fits: { archive_end ≤ 2 ^ 63 - 1 },
+}
+
+impl Drop for Tables {
+    fn drop(self) {
+        let Tables {
+            counter: _,
+            group: _,
+            protect: _,
+            domain: _,
+            have: _,
+            label: _,
+            integed: _,
+            resolve: _,
+            working: _,
+            change: _,
+            rev: _,
+            archive_end: _,
+        } = self;
+    }
 }
 
 impl Tables {

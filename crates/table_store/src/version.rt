@@ -15,10 +15,15 @@ use std::marker::Model;
 use std::sync::Arc;
 
 /// The rows of one table, in the order of their keys. It never changes.
-#[derive(Drop)]
 pub struct Version {
     table: TableId,
     tree: Arc<Tree, Global>,
+}
+
+impl Drop for Version {
+    fn drop(self) {
+        let Version { table: _, tree: _ } = self;
+    }
 }
 
 impl Model for Version {

@@ -22,9 +22,14 @@ use std::marker::Model;
 const LINES: usize = 200;
 
 /// A client's view, seen in contracts as the list of its lines. Both sides of each line have the same specifiers.
-#[derive(Drop)]
 pub struct View {
     lines: Sequence<ViewLine>,
+}
+
+impl Drop for View {
+    fn drop(self) {
+        let View { lines: _ } = self;
+    }
 }
 
 impl Model for View {

@@ -56,7 +56,6 @@ fn read_item<S: Source>(
 }
 
 /// A script that is read command by command: its head first, and then each command with the contents that are in force at its line.
-#[derive(Drop)]
 pub struct ScriptReader {
     intake: Intake,
     /// The client of the head, until the script ends.
@@ -65,6 +64,18 @@ pub struct ScriptReader {
     input: Option<Text>,
     contents: IndexMap<ClientPath, Block>,
     ghost numbered: { number ≤ intake.place },
+}
+
+impl Drop for ScriptReader {
+    fn drop(self) {
+        let ScriptReader {
+            intake: _,
+            client: _,
+            number: _,
+            input: _,
+            contents: _,
+        } = self;
+    }
 }
 
 impl ScriptReader {
