@@ -1,9 +1,10 @@
 -- How much of the archive is used after the entries that touch its lane.
 use Rattle.std.proofs.Common.{◌≡◌, ◌≤◌, ◌==◌, ℕ, Bool, true, false, List, [], ◌∷◌, ◌++◌, if◌then◌else◌, refl, sym, ap, ◌∙◌, arith}
+use Rattle.std.specs.List.{AllByRecursion}
 use Rattle.std.proofs.lemmas.Bool.{eq-eqb}
 use Rattle.order_words.specs.Lanes.{has_lane, is_among, last_touch}
 use Rattle.locked_tables.specs.Held.{lanes_next}
-use Rattle.locked_tables.specs.Known.{KnowsLane}
+use Rattle.locked_tables.specs.Known.{GoesOnWithout, KnowsLane}
 use Rattle.locked_tables.specs.Taken.{archive_lane, end_after, lanes_of, party_lane}
 use Rattle.locked_tables.specs.declared.held_table.HeldTable.{HeldTable}
 use Rattle.locked_tables.specs.declared.taken.Taken.{Taken}
@@ -20,6 +21,22 @@ end_untouched (taken ∷ order) end e =
     let h = none_behind (has_lane taken.lanes archive_lane) (last_touch lanes_of archive_lane order) e in
     end_untouched order (if has_lane taken.lanes archive_lane then taken.end else end) h.1 ∙ ap (λ (b : Bool). if b then taken.end else end) h.0
 
+none_touch : (lane : ℕ) (order : List Taken) → last_touch lanes_of lane order ≡ 0 → AllByRecursion (λ (taken : Taken). has_lane taken.lanes lane ≡ false) order
+none_touch lane [] e = tt
+none_touch lane (taken ∷ order) e = let h = none_behind (has_lane taken.lanes lane) (last_touch lanes_of lane order) e in (h.0, none_touch lane order h.1)
+
+-- who knows a lane knows that no place behind it touches the lane
+pub goes_on : (lane : ℕ) (known order : List Taken) → KnowsLane lane known order → GoesOnWithout lane known order
+goes_on lane known order knows = record { behind = knows.begins.0; parts = sym knows.begins.1; untouched = none_touch lane knows.begins.0 (past_known lane known order knows) }
+
+-- lanes of a party and of tables alone don't have the archive's
+pub spared : {N : Type 0} (lanes party : ℕ) (held : List (HeldTable N)) → 1 ≤ party → ((i : ℕ) → has_lane lanes i ≡ is_among i (party_lane party ∷ lanes_next held)) → has_lane lanes archive_lane ≡ false
+spared lanes party held low are =
+    are archive_lane ∙ (or_no_first (archive_lane == party_lane party) (is_among archive_lane (lanes_next held)) (not_party party low) ∙ not_next archive_lane held (omega arith))
+
+pub touched : (lanes : ℕ) (others : List ℕ) → ((i : ℕ) → has_lane lanes i ≡ is_among i (archive_lane ∷ others)) → has_lane lanes archive_lane ≡ true
+touched lanes others are = are archive_lane ∙ or_first (archive_lane == archive_lane) (is_among archive_lane others) (eq-eqb archive_lane archive_lane refl)
+
 module _ (end : ℕ) where
   -- who knows the archive's lane knows how much is used
   pub end_kept : (known order : List Taken) → KnowsLane archive_lane known order → end_after end order ≡ end_after end known
@@ -32,10 +49,8 @@ module _ (end : ℕ) where
   module _ {N : Type 0} (order after : List Taken) (entry : Taken) (last : after ≡ order ++ entry ∷ []) (party : ℕ) (held : List (HeldTable N)) where
     -- a place that touches the lanes of a party and of tables leaves it
     pub end_same : 1 ≤ party → ((i : ℕ) → has_lane entry.lanes i ≡ is_among i (party_lane party ∷ lanes_next held)) → end_after end after ≡ end_after end order
-    end_same low are =
-        ap (end_after end) last ∙ end_with order entry false
-        (are archive_lane ∙ (or_no_first (archive_lane == party_lane party) (is_among archive_lane (lanes_next held)) (not_party party low) ∙ not_next archive_lane held (omega arith)))
+    end_same low are = ap (end_after end) last ∙ end_with order entry false (spared entry.lanes party held low are)
 
     -- one that touches the archive's lane says it
     pub end_said : ((i : ℕ) → has_lane entry.lanes i ≡ is_among i (archive_lane ∷ party_lane party ∷ lanes_next held)) → end_after end after ≡ entry.end
-    end_said are = ap (end_after end) last ∙ end_with order entry true (are archive_lane ∙ or_first (archive_lane == archive_lane) (is_among archive_lane (party_lane party ∷ lanes_next held)) (eq-eqb archive_lane archive_lane refl))
+    end_said are = ap (end_after end) last ∙ end_with order entry true (touched entry.lanes (party_lane party ∷ lanes_next held) are)

@@ -1,8 +1,9 @@
 -- What is known behind each lock. This project's own choice.
-use Rattle.std.specs.Prelude.{◌≡◌, ◌<◌, ℕ, ◌-◌, true, List, [], ◌∷◌, ◌++◌}
+use Rattle.std.specs.Prelude.{◌≡◌, ◌<◌, ℕ, ◌-◌, true, false, List, [], ◌∷◌, ◌++◌}
+use Rattle.std.specs.List.{AllByRecursion}
 use mathlib.Core.List.{IsPrefix}
 use Rattle.depot_model.specs.db_records.declared.table.TableId.{TableId}
-use Rattle.order_words.specs.Lanes.{last_touch}
+use Rattle.order_words.specs.Lanes.{has_lane, last_touch}
 use Rattle.order_words.specs.Seats.{Run, LaneState, fresh_lane}
 use Rattle.table_changes.specs.Changed.{AllRows}
 use Rattle.locked_tables.specs.Taken.{lanes_of, rows_after}
@@ -39,6 +40,12 @@ with_entry known taken = record { list = known.list ++ taken ∷ []; room = know
 pub record KnowsLane (lane : ℕ) (known order : List Taken) : Type 0 where
   pub begins : IsPrefix known order
   pub last : last_touch lanes_of lane order ≡ last_touch lanes_of lane known
+
+-- a list begins the order, and no place behind it touches the lane, place by place
+pub record GoesOnWithout (lane : ℕ) (known order : List Taken) : Type 0 where
+  pub behind : List Taken
+  pub parts : order ≡ known ++ behind
+  pub untouched : AllByRecursion (λ taken. has_lane taken.lanes lane ≡ false) behind
 
 -- a table is after all entries as it was after those of a list
 abbrev pub IsStill : AllRows → List Taken → TableKnown → Type 0

@@ -1,12 +1,12 @@
 //! What lies behind the lock of the order.
-ghost use Rattle.std.specs.Prelude.{◌≡◌, ◌<◌, ◌≤◌, ◌-◌, ◌^◌, ℕ, [], ◌∷◌, map, OnOk, IsTrue};
+ghost use Rattle.std.specs.Prelude.{◌≡◌, ◌<◌, ◌≤◌, ◌-◌, ◌^◌, ℕ, [], ◌∷◌, map, true, false, OnOk, IsTrue};
 ghost use Rattle.std.specs.List.{AllByRecursion};
 ghost use mathlib.Core.List.{IsPrefix};
 ghost use Rattle.depot_model.specs.db_records.declared.table.TableId.{TableId};
 ghost use Rattle.table_changes.specs.Changed.{changed_by};
 ghost use Rattle.order_words.specs.Lanes.{has_lane, is_among};
 ghost use Rattle.locked_tables.specs.Held.{AllHaveLearnt, AllNext, AllStill, OnlyChange, lanes_next};
-ghost use Rattle.locked_tables.specs.Known.{IsStill, with_entry};
+ghost use Rattle.locked_tables.specs.Known.{GoesOnWithout, IsStill, with_entry};
 ghost use Rattle.locked_tables.specs.Taken.{archive_lane, changes_of, end_after, of_party, party_lane, place_of, rows_after, IsOwn, IsParty};
 
 use crate::held_table::HeldTable;
@@ -126,11 +126,12 @@ impl<N: Naming> PlacedOrder<N> {
     }
 
     /// The archive's lane learns the whole order, after which as much of the archive is used as
-    /// after the places that it knew.
+    /// after the places that it knew: none behind these touches it.
     pub fn learn_archive(&mut self, words: &OrderWords<N>, archive: &mut LockedArchive<N>)
         ensures same { self.new ≡ self.old }
         ensures learnt { archive.new ≡ self.old.list }
         ensures begins { IsPrefix archive.old self.old.list }
+        ensures behind { GoesOnWithout archive_lane archive.old self.old.list }
         ensures still { end_after N.end self.old.list ≡ end_after N.end archive.old }
     {
         words.orders.learn(&mut self.seat, &mut archive.seat);
@@ -152,6 +153,7 @@ impl<N: Naming> PlacedOrder<N> {
         requires only { OnlyChange taken.changes (lanes_next held.old) }
         ensures placed { self.new ≡ with_entry self.old (record taken { lanes = result }) }
         ensures lanes { (lane : ℕ) → has_lane result lane ≡ is_among lane (party_lane pass.old.party ∷ lanes_next held.old) }
+        ensures spares { has_lane result archive_lane ≡ false }
         ensures pass { pass.new ≡ record pass.old { list = self.new.list } }
         ensures own { IsOwn pass.old.party pass.old.list self.old.list self.new.list }
         ensures end { end_after N.end self.new.list ≡ end_after N.end self.old.list }
@@ -179,6 +181,7 @@ impl<N: Naming> PlacedOrder<N> {
         requires only { OnlyChange taken.changes (lanes_next held.old) }
         ensures placed { self.new ≡ with_entry self.old (record taken { lanes = result }) }
         ensures lanes { (lane : ℕ) → has_lane result lane ≡ is_among lane (archive_lane ∷ party_lane pass.old.party ∷ lanes_next held.old) }
+        ensures touches { has_lane result archive_lane ≡ true }
         ensures archive { archive.new ≡ self.new.list }
         ensures pass { pass.new ≡ record pass.old { list = self.new.list } }
         ensures own { IsOwn pass.old.party pass.old.list self.old.list self.new.list }

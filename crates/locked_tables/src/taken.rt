@@ -1,6 +1,6 @@
 //! An entry of the order.
 
-use depot_model::paths::Sequence;
+use depot_model::paths::{Sequence, Text};
 use depot_model::records::Change;
 use depot_model::{Place, Request};
 use order_words::Entry;
@@ -12,6 +12,8 @@ pub struct Taken {
     pub request: Request,
     /// Whether a disk failed, so that nothing was changed.
     pub fault: bool,
+    /// Whether it was the archive's. It counts where the archive's lane is touched.
+    pub lost: bool,
     /// The lanes that it touches, bit i for lane i.
     pub lanes: u32,
     /// What it changed in the tables.
@@ -19,6 +21,9 @@ pub struct Taken {
     /// How many bytes of the archive are used after it. It counts where the archive's lane is
     /// touched.
     pub end: u64,
+    /// The contents that it stored behind those of the places before it. They count where the
+    /// archive's lane is touched.
+    pub stores: Sequence<Text>,
 }
 
 impl Entry for Taken {

@@ -219,7 +219,7 @@ module _ {D S K : Type 0} (seen may_leave : D → Files → Type 0) (moment : D 
         fault_places = rw (journal_is, archive_is, order_is)
             (caused_since (disk_faults journal) opened_faults (disk_faults (disk_of depot.journal)) (disk_faults archive) opened_contents (disk_faults (archives.disk_of depot.archive)) order before contents_before counts);
         told = rw order_is (told_more (given old_out) (given new_out) (sink_faults old_out) (sink_faults new_out) _ _
-            (λ figures known. λ d start. known (depot_after seed count d order) (rw rows_are (loaded d start).ran.stand)) ended.cause (load_cause (load_commands seed count) end order) here);
+            (λ figures known. λ d start. known (depot_after seed count d order) (rw rows_are (loaded d start).ran.over.stand)) ended.cause (load_cause (load_commands seed count) end order) here);
       }
 
 -- a count that rose later has risen

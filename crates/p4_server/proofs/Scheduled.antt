@@ -60,29 +60,31 @@ module _ {D : Type 0} (seen may_leave : D → Files → Type 0) (moment : D → 
       let used : archives.used_of opened.archive ≡ spots_end (rows_of opened.tables Rev) = is.used ∙ is.archive_end in
       let kept : KeepContents (may_leave (archives.disk_of opened.archive)) (archives.used_of opened.archive) (rows_of opened.tables) d = record { ends = omega (arith, used); deletes = deletes; contents = contents } in
       record {
-        was = was;
-        doubt = nothing;
-        stands = is.stands;
-        has = is.rows;
-        stand = stand;
-        generation = generation;
         tells = tells;
-        kept = kept;
-        in_doubt = tt;
-        later = omega arith;
-        any_moment = λ image left. (
-          0,
-          omega arith,
-          inl (record {
-            was = was;
-            committed = is.stands.holds image (now image left);
-            rows = rows_of opened.tables;
-            has = is.rows;
-            stand = stand;
-            generation = generation;
-            kept = kept;
-          }),
-        );
+        over = record {
+          was = was;
+          doubt = nothing;
+          stands = is.stands;
+          has = is.rows;
+          stand = stand;
+          generation = generation;
+          kept = kept;
+          in_doubt = tt;
+          later = omega arith;
+          any_moment = λ image left. (
+            0,
+            omega arith,
+            inl (record {
+              was = was;
+              committed = is.stands.holds image (now image left);
+              rows = rows_of opened.tables;
+              has = is.rows;
+              stand = stand;
+              generation = generation;
+              kept = kept;
+            }),
+          );
+        };
       }
 
   -- commands can be taken then
@@ -123,7 +125,7 @@ module _ {D : Type 0} (seen may_leave : D → Files → Type 0) (moment : D → 
       let used = archives.used_of depot.archive in
       kept_leads (StandsWith images used j) (λ e. StandFor e j a) (pair_stands images used j a a_left) d places (length places)
       (kept_whole (StandsWith images used j) d places
-      (kept_now images used ran.was (rows_of depot.tables) d places ran.has ran.stand ran.generation ran.kept ran.doubt ran.in_doubt j (ran.stands.holds j j_left)))
+      (kept_now images used ran.over.was (rows_of depot.tables) d places ran.over.has ran.over.stand ran.over.generation ran.over.kept ran.over.doubt ran.over.in_doubt j (ran.over.stands.holds j j_left)))
 
   -- and each of those of some moment since, for some of the first
   pub kept_since : (depot : SerialDepot D) (since : ℕ) (d : List Deed) (places : List Placed) → HasRun seen may_leave moment left_since depot since d places
@@ -131,7 +133,7 @@ module _ {D : Type 0} (seen may_leave : D → Files → Type 0) (moment : D → 
   kept_since depot since d places ran j a j_left a_left =
       let images = may_leave (archives.disk_of depot.archive) in
       let used = archives.used_of depot.archive in
-      let kept = ran.any_moment j j_left in
+      let kept = ran.over.any_moment j j_left in
       (kept.0, kept.1, kept_leads (StandsWith images used j) (λ e. StandFor e j a) (pair_stands images used j a a_left) d places kept.0 kept.2)
 
 -- ---- the end

@@ -45,8 +45,8 @@ module _ {D : Type 0} (seen may_leave : D → Files → Type 0) (moment : D → 
       record {
         depot = d;
         is = inr (0, count, (refl, refl));
-        stand = subst (λ (r : AllRows). Stand r d) (sym same) h.stand;
-        kept = subst (λ (r : AllRows). KeepContents (may_leave (archives.disk_of opened.archive)) (archives.used_of opened.archive) r d) (sym same) h.kept;
+        stand = subst (λ (r : AllRows). Stand r d) (sym same) h.over.stand;
+        kept = subst (λ (r : AllRows). KeepContents (may_leave (archives.disk_of opened.archive)) (archives.used_of opened.archive) r d) (sym same) h.over.kept;
       }
   nth n (inr less) =
       let low : n < past.count = (let all = w.count in omega (arith, less, all)) in

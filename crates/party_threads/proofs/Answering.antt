@@ -2,6 +2,7 @@
 use Rattle.std.proofs.Common.{◌≡◌, ◌≤◌, ◌+◌, ◌||◌, ℕ, Bool, true, false, List, [], ◌∷◌, ◌++◌, length, Option, Result, Ok, Err, refl, sym, ap, subst, ◌∙◌, arith}
 use Rattle.std.proofs.lemmas.List.{length-append}
 use mathlib.Core.List.{IsPrefix}
+use Rattle.archive_file.specs.declared.archive.Archive.{Archive}
 use Rattle.depot_model.specs.Deeds.{Deed}
 use Rattle.locked_tables.specs.Known.{PartyKnown}
 use Rattle.locked_tables.specs.Taken.{of_party}
@@ -23,6 +24,8 @@ use Rattle.run_parties.specs.serial_depot.declared.depot.SerialDepot.{SerialDepo
 use Rattle.session_loop.specs.Asking.{AreWellFormed}
 use Rattle.session_loop.specs.declared.reading.ReplicaScript.{ReplicaScript}
 use Rattle.session_loop.specs.declared.session.SessionRun.{SessionRun}
+use Rattle.shared_depot.proofs.Fronts.{stored_front}
+use Rattle.shared_depot.specs.Common.{HasAllStored}
 use Rattle.shared_depot.specs.Replicas.{IsReplicaTurn}
 use Rattle.wire_text.proofs.Pieces.{extended-nil}
 use Rattle.party_threads.specs.Replicas.{HasRunFront, IsReplicaServed, IsStep}
@@ -34,17 +37,17 @@ lost_plain (Ok answered) = refl
 lost_plain (Err error) = refl
 
 -- the same turn, whatever its error
-pub turn_plain : {D E : Type 0} (seen may_leave : D → Files → Type 0) (moment : D → ℕ) (left_since : D → ℕ → Files → Type 0) (begins : ℕ → List Deed → Type 0) (old new : PartyKnown) (old_marks new_marks : PassKnown) (p q : ReplicaParty) (result : Result Answered E)
-    → IsReplicaTurn seen may_leave moment left_since begins old new old_marks new_marks p q result → IsReplicaTurn seen may_leave moment left_since begins old new old_marks new_marks p q (plain result)
-turn_plain seen may_leave moment left_since begins old new old_marks new_marks p q result t = record {
-  depot = t.depot;
-  ran = t.ran;
-  turned = turned_plain seen may_leave t.depot p q result t.turned;
-  party = t.party;
-  later = t.later;
-  own = t.own;
-  marks_party = t.marks_party;
-  marked = t.marked ∙ ap (λ (b : Bool). has_marks old_marks.party old_marks.list || b) (lost_plain result);
+pub turn_plain : {D E : Type 0} (seen may_leave : D → Files → Type 0) (moment : D → ℕ) (left_since : D → ℕ → Files → Type 0) (end : ℕ) (images : Files → Type 0) (begins : ℕ → List Deed → Type 0) (old new : PartyKnown) (old_marks new_marks : PassKnown) (p q : ReplicaParty) (result : Result Answered E)
+    → IsReplicaTurn seen may_leave moment left_since end images begins old new old_marks new_marks p q result → IsReplicaTurn seen may_leave moment left_since end images begins old new old_marks new_marks p q (plain result)
+turn_plain seen may_leave moment left_since end images begins old new old_marks new_marks p q result t = record {
+  turned = λ archive all. let over = t.turned archive all in (over.0, (over.1.0, turned_plain seen may_leave over.0 p q result over.1.1));
+  heard = record {
+    party = t.heard.party;
+    later = t.heard.later;
+    own = t.heard.own;
+    marks_party = t.heard.marks_party;
+    marked = t.heard.marked ∙ ap (λ (b : Bool). has_marks old_marks.party old_marks.list || b) (lost_plain result);
+  };
 }
 
 -- ---- over more depots
@@ -58,10 +61,13 @@ module _ {D : Type 0} (HasBeen Other : SerialDepot D → Type 0) (seen may_leave
   output_wider commands failed lost before now o =
       record { replica = o.replica; texts = o.texts; count = o.count; going = widened HasBeen seen may_leave may_give party script Other more o.replica o.texts lost o.going; got = o.got }
 
-module _ {D K : Type 0} (seen may_leave : D → Files → Type 0) (moment : D → ℕ) (left_since : D → ℕ → Files → Type 0) (begins : ℕ → List Deed → Type 0) (given : K → Option (List ℕ)) (faults : K → ℕ) (may_give : ℕ → Type 0) (party : ℕ) (p : ReplicaParty)
+module _ {D K : Type 0} (seen may_leave : D → Files → Type 0) (moment : D → ℕ) (left_since : D → ℕ → Files → Type 0) (end : ℕ) (images : Files → Type 0) (begins : ℕ → List Deed → Type 0) (given : K → Option (List ℕ)) (faults : K → ℕ) (may_give : ℕ → Type 0) (party : ℕ) (p : ReplicaParty)
     (first : K) where
   abbrev Front : ℕ → List Deed → List Taken → SerialDepot D → Type 0
   Front since start order depot = HasRunFront seen may_leave moment left_since since start order depot
+
+  abbrev Stored : List Taken → Archive D → Type 0
+  Stored order archive = HasAllStored seen may_leave moment left_since end images begins order archive
 
   pub front_longer : (since : ℕ) (start : List Deed) (known order : List Taken) → IsPrefix known order → (depot : SerialDepot D) → Front since start known depot → Front since start order depot
   front_longer since start known order begins depot f = record { front = f.front; begins = prefix_trans f.front known order f.begins begins; ran = f.ran }
@@ -70,7 +76,7 @@ module _ {D K : Type 0} (seen may_leave : D → Files → Type 0) (moment : D �
   pub record HasAnswered (n : ℕ) (failed : Bool) (known : PartyKnown) (marks : PassKnown) (q : ReplicaParty) (sink : K) : Type 0 where
     pub party_is : known.party ≡ party
     pub none : of_party party known.list ≡ []
-    pub gave : (since : ℕ) (start : List Deed) (script : ReplicaScript) → begins since start → IsFresh may_give party script p → AreWellFormed script.session.commands
+    pub gave : (archive : Archive D) → Stored known.list archive → (since : ℕ) (start : List Deed) (script : ReplicaScript) → begins since start → IsFresh may_give party script p → AreWellFormed script.session.commands
         → HasGiven (Front since start known.list) seen may_leave may_give party script q (record { commands = n; failed = failed }) (has_marks marks.party marks.list) (given first) (given sink)
     pub counts : faults first ≤ faults sink
 
@@ -78,7 +84,7 @@ module _ {D K : Type 0} (seen may_leave : D → Files → Type 0) (moment : D �
   answered_none known marks party_is none unmarked = record {
     party_is = party_is;
     none = ap (of_party party) none;
-    gave = λ since start script begun fresh well.
+    gave = λ archive all since start script begun fresh well.
         let Given : Bool → Type 0 = λ lost. HasGiven (Front since start known.list) seen may_leave may_give party script p (record { commands = 0; failed = false }) lost (given first) (given first) in
         subst Given (sym (ap (has_marks marks.party) unmarked))
         (record { texts = []; count = refl; going = fresh_goes (Front since start known.list) seen may_leave may_give party script p fresh well; got = sym (extended-nil (given first)) });
@@ -87,33 +93,36 @@ module _ {D K : Type 0} (seen may_leave : D → Files → Type 0) (moment : D �
 
   -- one more
   module _ (n : ℕ) (failed : Bool) (old new : PartyKnown) (old_marks new_marks : PassKnown) (q r : ReplicaParty) (sink now : K) (a : HasAnswered n false old old_marks q sink)
-      (step : IsStep seen may_leave moment left_since begins given faults (n + 1) old new old_marks new_marks q r sink now failed) where
-    more_given : (since : ℕ) (start : List Deed) (script : ReplicaScript) → begins since start
+      (step : IsStep seen may_leave moment left_since end images begins given faults (n + 1) old new old_marks new_marks q r sink now failed) where
+    more_given : (archive : Archive D) → Stored new.list archive → (since : ℕ) (start : List Deed) (script : ReplicaScript) → begins since start
         → HasGiven (Front since start old.list) seen may_leave may_give party script q (record { commands = n; failed = false }) (has_marks old_marks.party old_marks.list) (given first) (given sink)
         → HasGiven (Front since start new.list) seen may_leave may_give party script r (record { commands = n + 1; failed = failed }) (has_marks new_marks.party new_marks.list) (given first) (given now)
-    more_given since start script begun was =
+    more_given archive all since start script begun was =
         let Been : SerialDepot D → Type 0 = Front since start new.list in
-        let turn = step.turn in
+        let heard = step.turn.heard in
+        let over = step.turn.turned archive all in
         let before = has_marks old_marks.party old_marks.list in
-        let g = given_wider (Front since start old.list) Been seen may_leave may_give party script (front_longer since start old.list new.list turn.later) q (record { commands = n; failed = false }) before (given first) (given sink) was in
+        let g = given_wider (Front since start old.list) Been seen may_leave may_give party script (front_longer since start old.list new.list heard.later) q (record { commands = n; failed = false }) before (given first) (given sink) was in
         let result = step.result in
         let text = reply_text result (length g.texts + 1) in
-        let here : Been turn.depot = record { front = new.list; begins = prefix_self new.list; ran = turn.ran since start begun } in
+        let here : Been over.0 = record { front = new.list; begins = prefix_self new.list; ran = over.1.0 since start begun } in
         let Gets : List ℕ → Type 0 = λ x. Got failed x (given sink) (given now) in
         let gives : Gets text = subst Gets (ap (λ (k : ℕ). reply_text result (k + 1)) (sym g.count)) step.got in
         let Goes : Bool → Type 0 = IsGoing Been seen may_leave may_give party script r (g.texts ++ text ∷ []) in
         record {
           texts = g.texts ++ text ∷ [];
           count = (let long = length-append g.texts (text ∷ []) in let same = g.count in omega (arith, long, same));
-          going = subst Goes (sym turn.marked) (goes_on Been seen may_leave may_give party script turn.depot q r g.texts before result here g.going turn.turned);
+          going = subst Goes (sym heard.marked) (goes_on Been seen may_leave may_give party script over.0 q r g.texts before result here g.going over.1.1);
           got = got_more failed g.texts text (given first) (given sink) (given now) g.got gives;
         }
 
     pub answered_more : HasAnswered (n + 1) failed new new_marks r now
     answered_more = record {
-      party_is = step.turn.party ∙ a.party_is;
-      none = subst (λ (k : ℕ). of_party k new.list ≡ of_party k old.list) a.party_is step.turn.own ∙ a.none;
-      gave = λ since start script begun fresh well. more_given since start script begun (a.gave since start script begun fresh well);
+      party_is = step.turn.heard.party ∙ a.party_is;
+      none = subst (λ (k : ℕ). of_party k new.list ≡ of_party k old.list) a.party_is step.turn.heard.own ∙ a.none;
+      gave = λ archive all since start script begun fresh well.
+          let before = stored_front seen may_leave moment left_since end images begins old.list new.list archive step.turn.heard.later all in
+          more_given archive all since start script begun (a.gave archive before since start script begun fresh well);
       counts = (let counts = a.counts in let more = step.counts in omega (arith, counts, more));
     }
 
@@ -132,11 +141,11 @@ module _ {D K : Type 0} (seen may_leave : D → Files → Type 0) (moment : D �
   -- its sink got them so
   pub replica_served : (n : ℕ) (failed : Bool) (known : PartyKnown) (marks : PassKnown) (q : ReplicaParty) (sink : K) → HasAnswered n failed known marks q sink
       → IsEnd faults (length p.left.items) (record { commands = n; failed = failed }) first sink
-      → IsReplicaServed seen may_leave moment left_since begins given faults may_give party p (record { commands = n; failed = failed }) (has_marks marks.party marks.list) first sink known.list
-  replica_served n failed known marks q sink a end = record {
-    gave = λ since start script begun fresh well.
-        let g = a.gave since start script begun fresh well in
+      → IsReplicaServed seen may_leave moment left_since end images begins given faults may_give party p (record { commands = n; failed = failed }) (has_marks marks.party marks.list) first sink known.list
+  replica_served n failed known marks q sink a ends = record {
+    gave = λ archive all since start script begun fresh well.
+        let g = a.gave archive all since start script begun fresh well in
         record { replica = q; texts = g.texts; count = g.count; going = g.going; got = g.got };
-    end = end;
+    end = ends;
     none = a.none;
   }

@@ -73,10 +73,10 @@ front_taken f xs ys =
     ap (λ (n : ℕ). take n (map f (xs ++ ys))) (sym (length-map xs f))
     ∙ (ap (take (length (map f xs))) (map-append f xs ys) ∙ take-append_seam (map f xs) (map f ys))
 
-module _ {D K : Type 0} (seen may_leave : D → Files → Type 0) (moment : D → ℕ) (left_since : D → ℕ → Files → Type 0) (disk_faults : D → ℕ) (given : K → Option (List ℕ)) (faults : K → ℕ) (may_give : ℕ → Type 0)
+module _ {D K : Type 0} (seen may_leave : D → Files → Type 0) (moment : D → ℕ) (left_since : D → ℕ → Files → Type 0) (end : ℕ) (images : Files → Type 0) (disk_faults : D → ℕ) (given : K → Option (List ℕ)) (faults : K → ℕ) (may_give : ℕ → Type 0)
     (sessions : List (Option Session)) (scripts : List (Option ReplicaScript)) (requests : List (List Request)) (asked : AreRequestsOfAll may_give 1 sessions requests) (as_many : length scripts ≡ length sessions) (apart : AreApart sessions scripts)
     (parties : List (Option ReplicaParty)) (first : AreFresh may_give 1 scripts parties) (begins : ℕ → List Deed → Type 0) (faults_then contents_then : ℕ) (sinks : List K) (sinks_as_many : length sinks ≡ length sessions) (ran : ThreadsRun D K)
-    (s : HaveRunAll seen may_leave moment left_since disk_faults may_give given faults begins faults_then contents_then requests parties sinks ran) where
+    (s : HaveRunAll seen may_leave moment left_since end images disk_faults may_give given faults begins faults_then contents_then requests parties sinks ran) where
   count : length requests ≡ length sessions
   count = asked_count may_give 1 sessions requests asked
 
@@ -90,7 +90,7 @@ module _ {D K : Type 0} (seen may_leave : D → Files → Type 0) (moment : D �
   among = let Among : ℕ → Type 0 = λ n. AllByRecursion (IsAmong n) s.order in subst Among count s.among
 
   abbrev Served : ℕ → List Request → Option ReplicaParty → SessionRun → Bool → K → K → Type 0
-  Served party own replica run lost old new = IsPartyServed seen may_leave moment left_since may_give given faults begins party own replica run lost old new s.order
+  Served party own replica run lost old new = IsPartyServed seen may_leave moment left_since end images may_give given faults begins party own replica run lost old new s.order
 
   -- a party that is known to have a script, or none
   record IsThere (i : ℕ) (replica : Option ReplicaParty) : Type 0 where
@@ -180,7 +180,7 @@ module _ {D K : Type 0} (seen may_leave : D → Files → Type 0) (moment : D �
         let Front : SerialDepot D → Type 0 = HasRunFront seen may_leave moment left_since since start s.order in
         let Been : SerialDepot D → Type 0 = HasBeenAt seen may_leave moment left_since sessions since start ran.order.items in
         let flag = get_or s.flags i false in
-        let gave = (s.served i own.0 (Some p.0) run old.0 new.0 own.1 p.1 at_run old.1 new.1).gave since start script begun one well in
+        let gave = (s.served i own.0 (Some p.0) run old.0 new.0 own.1 p.1 at_run old.1 new.1).gave ran.depot.archive s.stored since start script begun one well in
         let Output : Option (List ℕ) → Option (List ℕ) → Type 0 = λ x y. IsReplicaOutput Been seen may_leave may_give (i + 1) script run.commands run.failed flag x y in
         subst (λ (y : Option (List ℕ)). Output had y) new.2 (subst (λ (x : Option (List ℕ)). Output x (given new.0)) old.2
         (output_wider Front Been seen may_leave may_give (i + 1) script (front_been since start) run.commands run.failed flag (given old.0) (given new.0) gave));

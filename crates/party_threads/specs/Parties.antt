@@ -21,7 +21,7 @@ use Rattle.run_parties.specs.serial_depot.Running.{CanTake, HasRun}
 use Rattle.session_loop.specs.Served.{AreCaused}
 use Rattle.session_loop.specs.Taking.{IsProper}
 use Rattle.session_loop.specs.declared.session.SessionRun.{SessionRun}
-use Rattle.shared_depot.specs.Common.{OpenedKnown}
+use Rattle.shared_depot.specs.Common.{HasAllStored, OpenedKnown}
 use Rattle.party_threads.specs.Entries.{AreNumbered, HasTaken}
 use Rattle.party_threads.specs.Replicas.{IsReplicaServed}
 use Rattle.party_threads.specs.declared.party.ThreadParty.{ThreadParty}
@@ -61,11 +61,11 @@ pub record IsHeard (order : List Taken) (known : PartyKnown) : Type 0 where
   pub begins : IsPrefix known.list order
   pub own : of_party known.party order ≡ of_party known.party known.list
 
-module _ {D K : Type 0} (seen may_leave : D → Files → Type 0) (moment : D → ℕ) (left_since : D → ℕ → Files → Type 0) (may_give : ℕ → Type 0) (given : K → Option (List ℕ)) (faults : K → ℕ) (begins : ℕ → List Deed → Type 0) where
+module _ {D K : Type 0} (seen may_leave : D → Files → Type 0) (moment : D → ℕ) (left_since : D → ℕ → Files → Type 0) (end : ℕ) (images : Files → Type 0) (may_give : ℕ → Type 0) (given : K → Option (List ℕ)) (faults : K → ℕ) (begins : ℕ → List Deed → Type 0) where
   -- its session's commands were taken, or its replica's answered; only a replica may have been told that a disk failed
   abbrev pub IsPartyServed : ℕ → List Request → Option ReplicaParty → SessionRun → Bool → K → K → List Taken → Type 0
   IsPartyServed party requests None run lost old new entries = IsServedAlone given faults begins party requests run old new entries × (lost ≡ false)
-  IsPartyServed party requests (Some p) run lost old new entries = IsReplicaServed seen may_leave moment left_since begins given faults may_give party p run lost old new entries
+  IsPartyServed party requests (Some p) run lost old new entries = IsReplicaServed seen may_leave moment left_since end images begins given faults may_give party p run lost old new entries
 
   -- it ran on its thread
   pub record HasRunParty {N : Type 0} (old new : ThreadParty K N) : Type 0 where
@@ -105,7 +105,7 @@ module _ {K N : Type 0} where
 abbrev pub IsAmong : ℕ → Taken → Type 0
 IsAmong n entry = (1 ≤ entry.request.party) × (entry.request.party ≤ n)
 
-module _ {D K : Type 0} (seen may_leave : D → Files → Type 0) (moment : D → ℕ) (left_since : D → ℕ → Files → Type 0) (disk_faults : D → ℕ) (may_give : ℕ → Type 0) (given : K → Option (List ℕ)) (faults : K → ℕ) where
+module _ {D K : Type 0} (seen may_leave : D → Files → Type 0) (moment : D → ℕ) (left_since : D → ℕ → Files → Type 0) (end : ℕ) (images : Files → Type 0) (disk_faults : D → ℕ) (may_give : ℕ → Type 0) (given : K → Option (List ℕ)) (faults : K → ℕ) where
   -- All parties ran on their threads: there is one order, in which each was served, and which the depot has run. The run is told of a failed disk exactly
   -- where a replica was, and then a count of one of the two disks rose.
   pub record HaveRunAll (begins : ℕ → List Deed → Type 0) (faults_then contents_then : ℕ) (requests : List (List Request)) (replicas : List (Option ReplicaParty)) (sinks : List K) (ran : ThreadsRun D K) : Type 0 where
@@ -116,9 +116,10 @@ module _ {D K : Type 0} (seen may_leave : D → Files → Type 0) (moment : D �
     pub flags : List Bool
     pub flags_count : length flags ≡ length requests
     pub told : ran.lost ≡ list_any (λ flag. flag) flags
-    pub served : AreAllServed seen may_leave moment left_since may_give given faults begins requests replicas ran.runs.items flags sinks ran.sinks.items order
+    pub served : AreAllServed seen may_leave moment left_since end images may_give given faults begins requests replicas ran.runs.items flags sinks ran.sinks.items order
     pub among : AllByRecursion (IsAmong (length requests)) order
     pub can : CanTake may_leave ran.depot
+    pub stored : HasAllStored seen may_leave moment left_since end images begins order ran.depot.archive
     pub ran_by : (since : ℕ) (start : List Deed) → begins since start → HasRun seen may_leave moment left_since ran.depot since start (map placed_of order)
     pub caused : AreCaused faults_then (disk_faults (disk_of ran.depot.journal)) contents_then (disk_faults (archives.disk_of ran.depot.archive)) [] ran.order.items
     pub lost : ran.lost ≡ true → OneHasRisen faults_then (disk_faults (disk_of ran.depot.journal)) contents_then (disk_faults (archives.disk_of ran.depot.archive))

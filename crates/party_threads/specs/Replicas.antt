@@ -1,6 +1,7 @@
 -- What a replica on a thread of its own is answered, beside the sessions. This project's own choice.
 use Rattle.std.specs.Prelude.{◌≡◌, ◌≤◌, ℕ, Bool, true, List, [], length, map, Option, Result}
 use mathlib.Core.List.{IsPrefix}
+use Rattle.archive_file.specs.declared.archive.Archive.{Archive}
 use Rattle.depot_model.specs.Deeds.{Deed}
 use Rattle.locked_tables.specs.Known.{PartyKnown}
 use Rattle.locked_tables.specs.Taken.{of_party, placed_of}
@@ -18,6 +19,7 @@ use Rattle.run_parties.specs.serial_depot.declared.depot.SerialDepot.{SerialDepo
 use Rattle.session_loop.specs.Asking.{AreWellFormed}
 use Rattle.session_loop.specs.declared.reading.ReplicaScript.{ReplicaScript}
 use Rattle.session_loop.specs.declared.session.SessionRun.{SessionRun}
+use Rattle.shared_depot.specs.Common.{HasAllStored}
 use Rattle.shared_depot.specs.Replicas.{IsReplicaTurn}
 
 module _ {D : Type 0} (seen may_leave : D → Files → Type 0) (moment : D → ℕ) (left_since : D → ℕ → Files → Type 0) where
@@ -27,18 +29,19 @@ module _ {D : Type 0} (seen may_leave : D → Files → Type 0) (moment : D → 
     pub begins : IsPrefix front order
     pub ran : HasRun seen may_leave moment left_since depot since start (map placed_of front)
 
-  module _ {K : Type 0} (begins : ℕ → List Deed → Type 0) (given : K → Option (List ℕ)) (faults : K → ℕ) where
+  module _ {K : Type 0} (archive_end : ℕ) (images : Files → Type 0) (begins : ℕ → List Deed → Type 0) (given : K → Option (List ℕ)) (faults : K → ℕ) where
     -- A replica answered its next command, which has this number, and its sink got the reply.
     pub record IsStep (number : ℕ) (old new : PartyKnown) (old_marks new_marks : PassKnown) (p q : ReplicaParty) (before now : K) (failed : Bool) : Type 0 where
       pub result : Result Answered (Unit {0})
-      pub turn : IsReplicaTurn seen may_leave moment left_since begins old new old_marks new_marks p q result
+      pub turn : IsReplicaTurn seen may_leave moment left_since archive_end images begins old new old_marks new_marks p q result
       pub got : Got failed (reply_text result number) (given before) (given now)
       pub counts : faults before ≤ faults now
       pub cause : failed ≡ true → HasRisen (faults before) (faults now)
 
-    -- A replica that had answered nothing answered its commands over such depots, and its sink got the replies. None of the entries is of its party.
+    -- A replica that had answered nothing answered its commands over such depots, and its sink got the replies. None of the entries is of its party. Where no
+    -- archive was asked, it is any in which the contents of the entries were stored.
     pub record IsReplicaServed (may_give : ℕ → Type 0) (party : ℕ) (p : ReplicaParty) (run : SessionRun) (lost : Bool) (old new : K) (entries : List Taken) : Type 0 where
-      pub gave : (since : ℕ) (start : List Deed) (script : ReplicaScript) → begins since start → IsFresh may_give party script p → AreWellFormed script.session.commands
+      pub gave : (archive : Archive D) → HasAllStored seen may_leave moment left_since archive_end images begins entries archive → (since : ℕ) (start : List Deed) (script : ReplicaScript) → begins since start → IsFresh may_give party script p → AreWellFormed script.session.commands
           → IsReplicaOutput (HasRunFront since start entries) seen may_leave may_give party script run.commands run.failed lost (given old) (given new)
       pub end : IsEnd faults (length p.left.items) run old new
       pub none : of_party party entries ≡ []

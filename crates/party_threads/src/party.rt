@@ -8,17 +8,18 @@ use crate::session::take_commands;
 use depot_model::Request;
 use locked_tables::{Naming, PartyPass};
 use outside_api::{Clock, Disk, Gate, Sink};
-use party_marks::{MarkPass, Marking};
+use party_marks::Marking;
 use replica_turns::ReplicaParty;
+use serial_depot::Imaging;
 use session_loop::SessionRun;
-use shared_depot::{Serving, SharedDepot};
+use shared_depot::{BothMarks, Serving, SharedDepot};
 use std::alloc::Global;
 use std::mem;
 use std::sync::Wait;
 
 /// What a party has on its thread.
 #[derive(Drop)]
-pub(crate) struct ThreadParty<K: Sink, N: Naming + Marking> {
+pub(crate) struct ThreadParty<K: Sink, N: Naming + Marking + Serving> {
     /// The requests of its session, the next one first. A party without a session has none.
     pub(crate) requests: Vec<Request>,
     /// Its replica, if it is one; it has no session then.
@@ -26,14 +27,14 @@ pub(crate) struct ThreadParty<K: Sink, N: Naming + Marking> {
     /// What it knows of the order.
     pub(crate) pass: PartyPass<N>,
     /// What it knows of the marks.
-    pub(crate) marks: MarkPass<N>,
+    pub(crate) marks: BothMarks<N>,
     /// Where its replies go.
     pub(crate) sink: K,
     /// How far it came.
     pub(crate) run: SessionRun,
 }
 
-impl<K: Sink, N: Naming + Marking + Serving> ThreadParty<K, N> {
+impl<K: Sink, N: Naming + Marking + Imaging + Serving> ThreadParty<K, N> {
     /// Has the commands of its session taken, or those of its replica answered.
     pub(crate) fn run<R: Wait, D: Disk, C: Clock, G: Gate>(
         &mut self,
@@ -44,7 +45,7 @@ impl<K: Sink, N: Naming + Marking + Serving> ThreadParty<K, N> {
         gate: &G,
     )
         requires { IsReady N.begins self.old }
-        ensures { HasRunParty D.seen D.may_leave D.moment D.left_since (C.may_give clock.now) K.given K.faults N.begins self.old self.new }
+        ensures { HasRunParty D.seen D.may_leave D.moment D.left_since N.end N.images (C.may_give clock.now) K.given K.faults N.begins self.old self.new }
     {
         match self.replica.take() {
             Some(replica) => {
@@ -76,11 +77,11 @@ impl<K: Sink, N: Naming + Marking + Serving> ThreadParty<K, N> {
 }
 
 /// A party that has had no command taken.
-fn fresh_party<K: Sink, N: Naming + Marking>(
+fn fresh_party<K: Sink, N: Naming + Marking + Serving>(
     requests: Vec<Request>,
     replica: Option<ReplicaParty>,
     pass: PartyPass<N>,
-    marks: MarkPass<N>,
+    marks: BothMarks<N>,
     sink: K,
 ) -> ThreadParty<K, N>
     ensures requests { result.requests ≡ requests }
@@ -103,11 +104,11 @@ fn fresh_party<K: Sink, N: Naming + Marking>(
 }
 
 /// Puts the parties of a run into a list with room for them, in order. It takes no memory.
-pub(crate) fn put_parties<K: Sink + Drop, N: Naming + Marking>(
+pub(crate) fn put_parties<K: Sink + Drop, N: Naming + Marking + Serving>(
     requests: Vec<Vec<Request>>,
     replicas: Vec<Option<ReplicaParty>>,
     passes: Vec<PartyPass<N>>,
-    marks: Vec<MarkPass<N>>,
+    marks: Vec<BothMarks<N>>,
     sinks: Vec<K>,
     parties: &mut Vec<ThreadParty<K, N>>,
 )

@@ -6,27 +6,28 @@ ghost use Rattle.party_marks.specs.Marks.{has_marks};
 
 use locked_tables::{Naming, PartyPass};
 use outside_api::{Clock, Disk, Sink};
-use party_marks::{MarkPass, Marking};
+use party_marks::Marking;
 use replica_turns::{Answered, ReplicaParty};
 use run_parties::give;
+use serial_depot::Imaging;
 use session_loop::SessionRun;
-use shared_depot::{Serving, SharedDepot};
+use shared_depot::{BothMarks, Serving, SharedDepot};
 use std::alloc::{AllocError, Global};
 use std::sync::Wait;
 
 /// Answers the next command of a replica, which has this number, and gives its sink the reply. Answers whether the sink has failed.
-fn answer_command<R: Wait, D: Disk, K: Sink, N: Naming + Marking + Serving>(
+fn answer_command<R: Wait, D: Disk, K: Sink, N: Naming + Marking + Imaging + Serving>(
     rt: &R,
     alloc: Global,
     depot: &SharedDepot<D, N>,
     number: u32,
     pass: &mut PartyPass<N>,
-    marks: &mut MarkPass<N>,
+    marks: &mut BothMarks<N>,
     sink: &mut K,
     replica: &mut ReplicaParty,
 ) -> bool
     requires { 0 < length replica.old.left.items }
-    ensures step { IsStep D.seen D.may_leave D.moment D.left_since N.begins K.given K.faults number pass.old pass.new marks.old marks.new replica.old replica.new sink.old sink.new result }
+    ensures step { IsStep D.seen D.may_leave D.moment D.left_since N.end N.images N.begins K.given K.faults number pass.old pass.new marks.old marks.new replica.old replica.new sink.old sink.new result }
     ensures left { length replica.old.left.items ≡ length replica.new.left.items + 1 }
 {
     match depot.answer_replica(rt, alloc, pass, marks, replica) {
@@ -37,13 +38,19 @@ fn answer_command<R: Wait, D: Disk, K: Sink, N: Naming + Marking + Serving>(
 
 /// Answers the commands of a replica, one after another, as long as its sink takes the replies. The party makes a mark where an answer tells that a disk
 /// failed.
-pub(crate) fn answer_commands<R: Wait, D: Disk, K: Sink, C: Clock, N: Naming + Marking + Serving>(
+pub(crate) fn answer_commands<
+    R: Wait,
+    D: Disk,
+    K: Sink,
+    C: Clock,
+    N: Naming + Marking + Imaging + Serving,
+>(
     rt: &R,
     alloc: Global,
     depot: &SharedDepot<D, N>,
     clock: &C,
     pass: &mut PartyPass<N>,
-    marks: &mut MarkPass<N>,
+    marks: &mut BothMarks<N>,
     sink: &mut K,
     mut replica: ReplicaParty,
 ) -> SessionRun
@@ -51,7 +58,7 @@ pub(crate) fn answer_commands<R: Wait, D: Disk, K: Sink, C: Clock, N: Naming + M
     requires unmarked { marks.old.list ≡ [] }
     requires few { length replica.left.items ≤ 67108864 }
     ensures party { pass.new.party ≡ pass.old.party }
-    ensures served { IsReplicaServed D.seen D.may_leave D.moment D.left_since N.begins K.given K.faults (C.may_give clock.now) pass.old.party replica result (has_marks marks.new.party marks.new.list) sink.old sink.new pass.new.list }
+    ensures served { IsReplicaServed D.seen D.may_leave D.moment D.left_since N.end N.images N.begins K.given K.faults (C.may_give clock.now) pass.old.party replica result (has_marks marks.new.party marks.new.list) sink.old sink.new pass.new.list }
 {
     let total = replica.left_count();
     for number in 0..total {

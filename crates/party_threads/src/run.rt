@@ -51,6 +51,7 @@ struct Brought {
     replicas: Vec<Option<ReplicaParty>>,
     words: (Orders<Taken>, OrderSeat<Taken>, Vec<LaneSeat<Taken>>),
     mark_words: (Orders<Mark>, OrderSeat<Mark>, Vec<LaneSeat<Mark>>),
+    content_words: (Orders<Mark>, OrderSeat<Mark>, Vec<LaneSeat<Mark>>),
 }
 
 /// The words of the order of so many parties' places, and those of their marks. The one error is want of memory.
@@ -60,6 +61,7 @@ fn words_for(
 ) -> Result<
     (
         (Orders<Taken>, OrderSeat<Taken>, Vec<LaneSeat<Taken>>),
+        (Orders<Mark>, OrderSeat<Mark>, Vec<LaneSeat<Mark>>),
         (Orders<Mark>, OrderSeat<Mark>, Vec<LaneSeat<Mark>>),
     ),
     AllocError,
@@ -71,10 +73,14 @@ fn words_for(
     ensures mark_lanes { IfOk result (λ r. lane_count r.1.0 ≡ 1 + parties) }
     ensures mark_order { IfOk result (λ r. r.1.1 ≡ fresh_order r.1.0 (1 + parties)) }
     ensures mark_seats { IfOk result (λ r. r.1.2.items ≡ fresh_lanes r.1.0 (1 + parties)) }
+    ensures content_lanes { IfOk result (λ r. lane_count r.2.0 ≡ 1 + parties) }
+    ensures content_order { IfOk result (λ r. r.2.1 ≡ fresh_order r.2.0 (1 + parties)) }
+    ensures content_seats { IfOk result (λ r. r.2.2.items ≡ fresh_lanes r.2.0 (1 + parties)) }
 {
     let words = Orders::new(alloc, 12 + parties)?;
     let mark_words = Orders::new(alloc, 1 + parties)?;
-    Ok((words, mark_words))
+    let content_words = Orders::new(alloc, 1 + parties)?;
+    Ok((words, mark_words, content_words))
 }
 
 /// The requests of sessions and the replicas of scripts, whose parties are numbered from 1, and words for as many parties. The one error is want of memory.
@@ -96,9 +102,12 @@ fn bring<C: Clock>(
     ensures mark_lanes { IfOk result (λ brought. lane_count brought.mark_words.0 ≡ 1 + length sessions.items) }
     ensures mark_order { IfOk result (λ brought. brought.mark_words.1 ≡ fresh_order brought.mark_words.0 (1 + length sessions.items)) }
     ensures mark_seats { IfOk result (λ brought. brought.mark_words.2.items ≡ fresh_lanes brought.mark_words.0 (1 + length sessions.items)) }
+    ensures content_lanes { IfOk result (λ brought. lane_count brought.content_words.0 ≡ 1 + length sessions.items) }
+    ensures content_order { IfOk result (λ brought. brought.content_words.1 ≡ fresh_order brought.content_words.0 (1 + length sessions.items)) }
+    ensures content_seats { IfOk result (λ brought. brought.content_words.2.items ≡ fresh_lanes brought.content_words.0 (1 + length sessions.items)) }
 {
     let parties = sessions.len() as u32;
-    let Ok((words, mark_words)) = words_for(alloc, parties) else {
+    let Ok((words, mark_words, content_words)) = words_for(alloc, parties) else {
         drop(sessions);
         drop(scripts);
         return Err(AllocError);
@@ -113,6 +122,7 @@ fn bring<C: Clock>(
             replicas,
             words,
             mark_words,
+            content_words,
         }),
         Err(error) => {
             drop(replicas);
@@ -175,9 +185,20 @@ pub fn run_on_threads<
                 replicas,
                 words,
                 mark_words,
+                content_words,
             },
         ) => run_named::<R, D, K, C, G, Brand>(
-            rt, alloc, words, mark_words, requests, replicas, clock, gate, sinks, depot,
+            rt,
+            alloc,
+            words,
+            mark_words,
+            content_words,
+            requests,
+            replicas,
+            clock,
+            gate,
+            sinks,
+            depot,
         ),
     }
 }

@@ -13,6 +13,7 @@ use locked_tables::{Naming, PartyPass};
 use outside_api::{Disk, Gate, Sink};
 use party_marks::Marking;
 use run_parties::give;
+use serial_depot::Imaging;
 use session_loop::SessionRun;
 use shared_depot::{Serving, SharedDepot};
 use std::alloc::{AllocError, Global};
@@ -20,7 +21,7 @@ use std::sync::Wait;
 
 /// Has a command of a party taken, and gives its reply to the party's sink. Answers whether the sink
 /// has failed.
-fn take_command<R: Wait, D: Disk, K: Sink, G: Gate, N: Naming + Marking + Serving>(
+fn take_command<R: Wait, D: Disk, K: Sink, G: Gate, N: Naming + Marking + Imaging + Serving>(
     rt: &R,
     alloc: Global,
     depot: &SharedDepot<D, N>,
@@ -44,7 +45,13 @@ fn take_command<R: Wait, D: Disk, K: Sink, G: Gate, N: Naming + Marking + Servin
 
 /// Has the commands of a party taken, one after another, as long as its sink takes the replies. A
 /// command that finds no memory is answered so, has no place, and the party goes on.
-pub(crate) fn take_commands<R: Wait, D: Disk, K: Sink, G: Gate, N: Naming + Marking + Serving>(
+pub(crate) fn take_commands<
+    R: Wait,
+    D: Disk,
+    K: Sink,
+    G: Gate,
+    N: Naming + Marking + Imaging + Serving,
+>(
     rt: &R,
     alloc: Global,
     depot: &SharedDepot<D, N>,

@@ -1,10 +1,11 @@
 //! All parties, each on a thread of its own.
 
-ghost use Rattle.std.specs.Prelude.{◌≡◌, ◌≤◌, ◌<◌, ◌+◌, ◌++◌, ◌∷◌, ◌||◌, ℕ, List, [], true, false, length, map, vec_len, vec_capacity, All, IfErr, IfOk};
+ghost use Rattle.std.specs.Prelude.{◌≡◌, ◌≤◌, ◌<◌, ◌+◌, ◌++◌, ◌∷◌, ◌||◌, ◌↔◌, ℕ, List, [], true, false, length, map, vec_len, vec_capacity, All, IfErr, IfOk};
 ghost use Rattle.archive_file.specs.Archive.{disk_of as archive_disk_of};
 ghost use Rattle.depot_model.specs.db_records.declared.table.TableId.{TableId};
 ghost use Rattle.depot_model.specs.Deeds.{Deed};
 ghost use Rattle.disk_journal.specs.Stands.{disk_of};
+ghost use Rattle.outside_api.specs.Disk.{Files};
 ghost use Rattle.order_words.specs.Seats.{fresh_lanes, fresh_order, lane_count};
 ghost use Rattle.party_marks.specs.Marks.{is_empty};
 ghost use Rattle.party_threads.specs.Parties.{AreAsked, AreCollected, HasRunParty, HaveRun, HaveRunAll, IsHeard, IsReady, is_marked};
@@ -22,7 +23,7 @@ use order_words::{LaneSeat, OrderSeat, Orders};
 use outside_api::{Clock, Disk, Gate, Sink};
 use party_marks::{Mark, Marking};
 use replica_turns::ReplicaParty;
-use serial_depot::SerialDepot;
+use serial_depot::{Imaging, SerialDepot};
 use session_loop::SessionRun;
 use shared_depot::{Closed, OpenedDepot, Serving, Shared, SharedDepot};
 use std::alloc::{AllocError, Global};
@@ -36,7 +37,7 @@ fn run_parties<
     K: Sink + Send + Drop,
     C: Clock + Sync,
     G: Gate + Sync,
-    N: Naming + Marking + Serving + Send + Sync,
+    N: Naming + Marking + Imaging + Serving + Send + Sync,
 >(
     rt: &R,
     alloc: Global,
@@ -46,7 +47,7 @@ fn run_parties<
     parties: &mut [ThreadParty<K, N>],
 )
     requires { All (IsReady N.begins) parties.old }
-    ensures run { HaveRun D.seen D.may_leave D.moment D.left_since (C.may_give clock.now) K.given K.faults N.begins parties.old parties.new }
+    ensures run { HaveRun D.seen D.may_leave D.moment D.left_since N.end N.images (C.may_give clock.now) K.given K.faults N.begins parties.old parties.new }
     ensures count { length parties.new ≡ length parties.old }
 {
     let threads = parties.len().max(1);
@@ -56,13 +57,13 @@ fn run_parties<
         threads,
         &|_, party: &mut ThreadParty<K, N>|
             requires { IsReady N.begins party.now }
-            ensures { HasRunParty D.seen D.may_leave D.moment D.left_since (C.may_give clock.entry.now) K.given K.faults N.begins party.entry.now party.exit.now }
+            ensures { HasRunParty D.seen D.may_leave D.moment D.left_since N.end N.images (C.may_give clock.entry.now) K.given K.faults N.begins party.entry.now party.exit.now }
         { party.run(rt, alloc, depot, clock, gate) },
     );
 }
 
 /// Hears what a party knows, and puts what it leaves behind what others left. Answers whether it was told that a disk failed. It takes no memory.
-fn hear_party<D: Disk, K: Sink + Drop, N: Naming + Marking + Serving>(
+fn hear_party<D: Disk, K: Sink + Drop, N: Naming + Marking + Imaging + Serving>(
     depot: &mut OpenedDepot<D, N>,
     party: ThreadParty<K, N>,
     runs: &mut Vec<SessionRun>,
@@ -106,7 +107,7 @@ fn either(first: bool, second: bool) -> bool
 }
 
 /// Hears what each party knows, and puts together what the parties leave. Answers whether one was told that a disk failed. It takes no memory.
-fn collect<D: Disk, K: Sink + Drop, N: Naming + Marking + Serving>(
+fn collect<D: Disk, K: Sink + Drop, N: Naming + Marking + Imaging + Serving>(
     depot: &mut OpenedDepot<D, N>,
     parties: Vec<ThreadParty<K, N>>,
     runs: &mut Vec<SessionRun>,
@@ -129,13 +130,13 @@ fn collect<D: Disk, K: Sink + Drop, N: Naming + Marking + Serving>(
 
 /// Room for the parties, and for what they leave.
 #[derive(Drop)]
-struct Room<K: Sink, N: Naming + Marking> {
+struct Room<K: Sink, N: Naming + Marking + Serving> {
     parties: Vec<ThreadParty<K, N>>,
     runs: Vec<SessionRun>,
     sinks: Vec<K>,
 }
 
-impl<K: Sink + Drop, N: Naming + Marking> Room<K, N> {
+impl<K: Sink + Drop, N: Naming + Marking + Serving> Room<K, N> {
     /// Room for so many parties. The one error is want of memory.
     fn new(alloc: Global, parties: usize) -> Result<Room<K, N>, AllocError>
         ensures { IfOk result (IsRoom parties) }
@@ -155,7 +156,7 @@ fn run_and_close<
     K: Sink + Send + Drop,
     C: Clock + Sync,
     G: Gate + Sync,
-    N: Naming + Marking + Serving + Send + Sync,
+    N: Naming + Marking + Imaging + Serving + Send + Sync,
 >(
     rt: &R,
     alloc: Global,
@@ -175,7 +176,7 @@ fn run_and_close<
     requires asked { AreAsked N.begins (map (λ own. own.items) requests.items) }
     requires few { All (λ replica. length (left_in replica) ≤ 67108864) replicas.items }
     requires room { IsRoom (length requests.items) room }
-    ensures { HaveRunAll D.seen D.may_leave D.moment D.left_since D.faults (C.may_give clock.now) K.given K.faults N.begins N.faults N.content_faults (map (λ own. own.items) requests.items) replicas.items sinks.items result }
+    ensures { HaveRunAll D.seen D.may_leave D.moment D.left_since N.end N.images D.faults (C.may_give clock.now) K.given K.faults N.begins N.faults N.content_faults (map (λ own. own.items) requests.items) replicas.items sinks.items result }
 {
     let Room {
         mut parties,
@@ -209,12 +210,13 @@ pub(crate) fn run_named<
     K: Sink + Send + Drop,
     C: Clock + Sync,
     G: Gate + Sync,
-    N: Naming + Marking + Serving + Send + Sync,
+    N: Naming + Marking + Imaging + Serving + Send + Sync,
 >(
     rt: &R,
     alloc: Global,
     words: (Orders<Taken>, OrderSeat<Taken>, Vec<LaneSeat<Taken>>),
     mark_words: (Orders<Mark>, OrderSeat<Mark>, Vec<LaneSeat<Mark>>),
+    content_words: (Orders<Mark>, OrderSeat<Mark>, Vec<LaneSeat<Mark>>),
     requests: Vec<Vec<Request>>,
     replicas: Vec<Option<ReplicaParty>>,
     clock: &C,
@@ -231,8 +233,13 @@ pub(crate) fn run_named<
     requires mark_lanes { lane_count N.marks ≡ 1 + length requests.items }
     requires mark_order { mark_words.1 ≡ fresh_order N.marks (1 + length requests.items) }
     requires mark_seats { mark_words.2.items ≡ fresh_lanes N.marks (1 + length requests.items) }
+    requires content_marks { content_words.0 ≡ N.content_marks }
+    requires content_lanes { lane_count N.content_marks ≡ 1 + length requests.items }
+    requires content_order { content_words.1 ≡ fresh_order N.content_marks (1 + length requests.items) }
+    requires content_seats { content_words.2.items ≡ fresh_lanes N.content_marks (1 + length requests.items) }
     requires rows { (table : TableId) → rows_of depot.tables table ≡ N.rows table }
     requires end { depot.tables.archive_end ≡ N.end }
+    requires images { (files : Files) → N.images files ↔ D.may_leave (archive_disk_of depot.archive) files }
     requires can { CanTake D.may_leave depot }
     requires begins { (since : ℕ) (start : List Deed) → N.begins since start → HasRun D.seen D.may_leave D.moment D.left_since depot since start [] }
     requires faults { N.faults ≡ D.faults (disk_of depot.journal) }
@@ -241,13 +248,20 @@ pub(crate) fn run_named<
     requires as_many_replicas { length replicas.items ≡ length requests.items }
     requires asked { AreAsked N.begins (map (λ own. own.items) requests.items) }
     requires few { All (λ replica. length (left_in replica) ≤ 67108864) replicas.items }
-    ensures run { IfOk result (HaveRunAll D.seen D.may_leave D.moment D.left_since D.faults (C.may_give clock.now) K.given K.faults N.begins N.faults N.content_faults (map (λ own. own.items) requests.items) replicas.items sinks.items) }
+    ensures run { IfOk result (HaveRunAll D.seen D.may_leave D.moment D.left_since N.end N.images D.faults (C.may_give clock.now) K.given K.faults N.begins N.faults N.content_faults (map (λ own. own.items) requests.items) replicas.items sinks.items) }
     ensures kept { IfErr result (λ kept. kept ≡ depot) }
 {
     let count = requests.len();
     match Room::new(alloc, count) {
         Err(_) => Err(depot),
-        Ok(room) => match SharedDepot::<D, N>::new(alloc, words, mark_words, count as u32, depot) {
+        Ok(room) => match SharedDepot::<D, N>::new(
+            alloc,
+            words,
+            mark_words,
+            content_words,
+            count as u32,
+            depot,
+        ) {
             Err(depot) => Err(depot),
             Ok(shared) => Ok(run_and_close(
                 rt, alloc, shared, requests, replicas, clock, gate, sinks, room,

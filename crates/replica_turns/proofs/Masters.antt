@@ -191,8 +191,8 @@ module _ {D : Type 0} (seen may_leave : D → Files → Type 0) (moment : D → 
         record {
           depot = taken step start (places ++ p ∷ []);
           is = inr (master.changes + 1, last ∙ counted, after_all (master.changes + 1) start (places ++ p ∷ []) now_changes);
-          stand = subst (λ (r : AllRows). Stand r (taken step start (places ++ p ∷ []))) (sym same) ran.stand;
-          kept = subst (λ (r : AllRows). KeepContents images (archives.used_of new.archive) r (taken step start (places ++ p ∷ []))) (sym same) ran.kept;
+          stand = subst (λ (r : AllRows). Stand r (taken step start (places ++ p ∷ []))) (sym same) ran.over.stand;
+          kept = subst (λ (r : AllRows). KeepContents images (archives.used_of new.archive) r (taken step start (places ++ p ∷ []))) (sym same) ran.over.kept;
         }
     nth_now n (inr less) =
         let within : n ≤ length (all_changes c) = (let all = long in omega (arith, less, all)) in
@@ -215,8 +215,8 @@ module _ {D : Type 0} (seen may_leave : D → Files → Type 0) (moment : D → 
     -- the generation that it tells
     generation_is : generation_in current + 1 ≡ suc (length c.closed)
     generation_is =
-        let told = h.generation in
-        let stands = h.stands.generation in
+        let told = h.over.generation in
+        let stands = h.over.stands.generation in
         let count = master.groups.keeps.count in
         let same = length-map c.closed (group_texts 1) in
         omega (arith, told, stands, count, same)
@@ -225,13 +225,13 @@ module _ {D : Type 0} (seen may_leave : D → Files → Type 0) (moment : D → 
         → rows_of new.tables ≡ changed_by (rows_of old.tables) outcome.changes → HasGroups seen may_leave new.journal (with_changes opens outcome.changes c)
         → IsMaster seen may_leave past start (places ++ placed_by request false ∷ []) new (with_changes opens outcome.changes c)
     written false opening some ran rows groups =
-        changed_place (placed_by request false) (refl, some_differ (rows_of old.tables) old.tables.archive_end current request outcome h.stand is some) (with_changes false outcome.changes c) groups ran
+        changed_place (placed_by request false) (refl, some_differ (rows_of old.tables) old.tables.archive_end current request outcome h.over.stand is some) (with_changes false outcome.changes c) groups ran
         (outcome.changes ∷ []) (with_groups 0 c.closed c.newest (outcome.changes ∷ [])) refl
         (ap (changed_by (rows_of old.tables)) (append-nil outcome.changes) ∙ sym rows)
     written true opening some ran rows groups =
         let index : suc (length c.closed) ≡ 0 + length (c.closed ++ c.newest ∷ []) = (let all = length-append c.closed (c.newest ∷ []) in omega (arith, all)) in
-        let opened = opened_rows (rows_of old.tables) old.tables.archive_end current request outcome h.stand is some opening in
-        changed_place (placed_by request false) (refl, some_differ (rows_of old.tables) old.tables.archive_end current request outcome h.stand is some) (with_changes true outcome.changes c) groups ran
+        let opened = opened_rows (rows_of old.tables) old.tables.archive_end current request outcome h.over.stand is some opening in
+        changed_place (placed_by request false) (refl, some_differ (rows_of old.tables) old.tables.archive_end current request outcome h.over.stand is some) (with_changes true outcome.changes c) groups ran
         (begun (suc (length c.closed))) (with_next 0 (c.closed ++ c.newest ∷ []) (suc (length c.closed)) index) refl
         (ap (λ (n : ℕ). changed_by (rows_of old.tables) (joined (begun n))) (sym generation_is) ∙ (again (generation_in current) ∙ (sym opened ∙ sym rows)))
       where
@@ -254,9 +254,9 @@ module _ {D : Type 0} (seen may_leave : D → Files → Type 0) (moment : D → 
         go false [] same ran rows groups =
             let after_it : Stand (rows_of old.tables) (after current (step current request).deeds) =
             subst (λ (r : AllRows). Stand r (after current (step current request).deeds)) rows
-            (subst (Stand (rows_of new.tables)) (taken-push start places (placed_by request false)) ran.stand) in
+            (subst (Stand (rows_of new.tables)) (taken-push start places (placed_by request false)) ran.over.stand) in
             quiet_place (placed_by request false)
-            (λ change. no_difference current (after current (step current request).deeds) (same_stand (rows_of old.tables) current (after current (step current request).deeds) h.stand after_it) change.1) rows groups
+            (λ change. no_difference current (after current (step current request).deeds) (same_stand (rows_of old.tables) current (after current (step current request).deeds) h.over.stand after_it) change.1) rows groups
         go false (change ∷ changes) same ran rows groups =
             let some : outcome.changes ≢ [] = λ none. (let e = sym same ∙ none in cc) in
             let Grows : List Change → Type 0 = λ cs. HasGroups seen may_leave new.journal (with_changes (opens_generation request) cs c) in

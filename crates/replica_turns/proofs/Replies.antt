@@ -8,7 +8,10 @@ use Rattle.depot_rows.specs.depot_model.Deeds.{Deed}
 use Rattle.depot_rows.specs.depot_model.Printed.{printed}
 use Rattle.depot_rows.specs.depot_model.Rows.{disk_row}
 use Rattle.depot_rows.specs.depot_model.declared.reply.Row.{Row}
+use Rattle.depot_rows.specs.depot_model.declared.command.Command.{Command}
+use Rattle.depot_rows.specs.depot_model.declared.command.Command.TheVariants.{Print}
 use Rattle.depot_rows.specs.depot_model.declared.request.Request.{Request}
+use Rattle.depot_rows.specs.depot_model.declared.request.WordFault.{WordFault}
 use Rattle.depot_rows.specs.Standing.{Stand}
 use Rattle.depot_runs.specs.Replica.{replica_reply}
 use Rattle.recovery.specs.Standing.{HasContents}
@@ -16,7 +19,6 @@ use Rattle.replica_answers.specs.Answering.{IsAnswerOf}
 use Rattle.replica_answers.specs.declared.answers.Answered.{Answered as Waiting}
 use Rattle.replica_pull.specs.declared.replica.Replica.{Replica}
 use Rattle.replica_replies.specs.Prints.{prints}
-use Rattle.reply_rows.specs.Made.{contents_of}
 use Rattle.serial_depot.specs.declared.depot.SerialDepot.{SerialDepot}
 use Rattle.depot_rows.specs.table_changes.Changed.{AllRows, rows_of}
 use Rattle.replica_turns.specs.Going.{IsTurned}
@@ -48,20 +50,25 @@ module _ {D E : Type 0} (depot : SerialDepot D) (seen : D → Files → Type 0) 
             reply = λ d files stand sees has. told (rows_of replica.tables) d files (replica_reply d request) (answer d stand) sees has e;
           }
 
+module _ {D E : Type 0} (depot : SerialDepot D) (seen : D → Files → Type 0) (replica : Replica) (request : Request) (result : Result Answered E) where
   -- without contents
-  pub of_other : ((d : List Deed) → contents_of (replica_reply d request) ≡ [])
-      → ((d : List Deed) → Stand (rows_of replica.tables) d → IsAnswerOf (rows_of replica.tables) d (replica_reply d request) waiting) → IfOk result (λ answered. answered.lost ≡ false)
-      → ((all : AllRows) (d : List Deed) (rows : List Row) → IsAnswerOf all d rows waiting → contents_of rows ≡ [] → IfOk result (λ answered. answered.text ≡ printed rows request.number))
+  pub of_bare : IfOk result (λ answered. answered.lost ≡ false)
+      → ((d : List Deed) → Stand (rows_of replica.tables) d → IfOk result (λ answered. answered.text ≡ printed (replica_reply d request) request.number))
       → IfOk result (λ answered. IsReply (λ been. been ≡ depot) seen replica request answered.text answered.lost)
-  of_other bare answer kept told = go result kept told
+  of_bare kept told = go result kept told
     where
       go : (r : Result Answered E) → IfOk r (λ answered. answered.lost ≡ false)
-          → ((all : AllRows) (d : List Deed) (rows : List Row) → IsAnswerOf all d rows waiting → contents_of rows ≡ [] → IfOk r (λ answered. answered.text ≡ printed rows request.number))
+          → ((d : List Deed) → Stand (rows_of replica.tables) d → IfOk r (λ answered. answered.text ≡ printed (replica_reply d request) request.number))
           → IfOk r (λ answered. IsReply (λ been. been ≡ depot) seen replica request answered.text answered.lost)
       go (Err error) kept told = tt
       go (Ok answered) kept told =
-          subst (IsReply (λ been. been ≡ depot) seen replica request answered.text) (sym kept)
-          (record { depot = depot; been = refl; reply = λ d files stand sees has. told (rows_of replica.tables) d (replica_reply d request) (answer d stand) (bare d) })
+          subst (IsReply (λ been. been ≡ depot) seen replica request answered.text) (sym kept) (record { depot = depot; been = refl; reply = λ d files stand sees has. told d stand })
+
+-- a command that prints doesn't pull
+pub prints_no_pull : (command : Result Command WordFault) → prints command ≡ true → pulls command ≡ false
+prints_no_pull (Ok (Print files)) is = refl
+prints_no_pull (Ok _) is = absurd cc
+prints_no_pull (Err fault) is = refl
 
 module _ {D E : Type 0} (HasBeen : SerialDepot D → Type 0) (seen may_leave : D → Files → Type 0) (old new : Replica) (request : Request) (result : Result Answered E) where
   pub by_pull : pulls request.command ≡ true → IfOk result (λ answered. IsPullAnswer HasBeen seen may_leave old new request.number answered.text answered.lost)

@@ -56,6 +56,10 @@ IsPullAnswer HasBeen seen may_leave old new number text false = IsPulled HasBeen
 
 -- ---- other commands
 
+-- a command that prints contents, which it reads in the archive
+abbrev pub reads_archive : Request → Bool
+reads_archive request = prints request.command
+
 -- The reply is a replica's for each depot for which its rows stand, and whose contents are at their spots in the archive of a depot of the run.
 pub record IsReplied {D : Type 0} (HasBeen : SerialDepot D → Type 0) (seen : D → Files → Type 0) (replica : Replica) (request : Request) (text : List ℕ) : Type 0 where
   pub depot : SerialDepot D

@@ -1,6 +1,6 @@
 //! A replica with the commands that it is still asked.
 
-ghost use Rattle.std.specs.Prelude.{◌≡◌, ◌⊎◌, ◌≤◌, ◌<◌, ◌+◌, ◌^◌, ℕ, List, [], length, true, IfOk};
+ghost use Rattle.std.specs.Prelude.{◌≡◌, ◌⊎◌, ◌≤◌, ◌<◌, ◌+◌, ◌++◌, ◌∷◌, ◌^◌, ℕ, List, [], length, true, false, IfOk, IfSome, IsSome, OnErr};
 ghost use Rattle.archive_file.specs.Archive.{disk_of as archive_disk_of};
 ghost use Rattle.depot_rows.specs.depot_model.Deeds.{Deed};
 ghost use Rattle.depot_rows.specs.depot_model.Places.{Placed};
@@ -8,11 +8,17 @@ ghost use Rattle.disk_journal.specs.Stands.{disk_of};
 ghost use Rattle.outside_api.specs.Count.{HasRisen};
 ghost use Rattle.serial_depot.specs.Growing.{Chronicle, HasGroups, KeepsStored};
 ghost use Rattle.serial_depot.specs.Running.{CanTake, HasRun};
+ghost use Rattle.serial_depot.specs.Fetching.{IsFetched, IsRead};
+ghost use Rattle.serial_depot.specs.command_core.Outcomes.{IsFormedBy};
+ghost use Rattle.serial_depot.specs.declared.depot.SerialDepot.{SerialDepot as AnyDepot};
 ghost use Rattle.replica_turns.specs.Going.{IsFresh, IsTurned};
+ghost use Rattle.replica_turns.specs.Replying.{IsAnsweredBy, reads_archive};
 
-use crate::replying::answer_request;
+use crate::replying::{answer_by_journal, answer_request, reply_print};
+use archive_file::Archive;
 use depot_rows::model::Request;
 use depot_rows::paths::Text;
+use disk_journal::Journal;
 use outside_api::{Clock, Disk};
 use replica_pull::Replica;
 use serial_depot::SerialDepot;
@@ -69,6 +75,52 @@ impl ReplicaParty {
         ensures { length self.now.left.items < 2 ^ 32 → result ≡ length self.now.left.items }
     {
         u32::try_from(self.left.len()).unwrap_or(u32::MAX)
+    }
+
+    /// Takes the next command, which counts as answered then.
+    pub fn take_next(&mut self) -> Option<Request>
+        ensures left { IfSome result (λ request. self.old.left.items ≡ self.new.left.items ++ request ∷ []) }
+        ensures some { 0 < length self.old.left.items → IsSome result }
+        ensures same { self.new.replica ≡ self.old.replica }
+    {
+        self.left.pop()
+    }
+
+    /// Answers a `print`, with the contents that it reads in the archive. The one error is want of memory.
+    pub fn answer_print<D: Disk>(
+        &self,
+        alloc: Global,
+        archive: &mut Archive<D>,
+        request: &Request,
+    ) -> Result<Answered, AllocError>
+        requires { reads_archive request.now ≡ true }
+        ensures answered { (depot : AnyDepot D) → depot.archive ≡ archive.old → IsFormedBy request.now →
+            IfOk result (λ answered. IsAnsweredBy (λ been. been ≡ depot) D.seen D.may_leave self.now.replica self.now.replica request.now answered.text answered.lost) }
+        ensures read { IsRead D.seen D.may_leave archive.old archive.new }
+        ensures never_falls { D.faults (archive_disk_of archive.old) ≤ D.faults (archive_disk_of archive.new) }
+        ensures cause { IfOk result (λ answered. answered.lost ≡ true → HasRisen (D.faults (archive_disk_of archive.old)) (D.faults (archive_disk_of archive.new))) }
+    {
+        reply_print(alloc, &self.replica, archive, request)
+    }
+
+    /// Answers another command; `pull` fetches of the journal where the replica awaits its next piece. The
+    /// one error is want of memory, and then the replica is as it was.
+    pub fn answer_by_journal<D: Disk>(
+        &mut self,
+        alloc: Global,
+        journal: &mut Journal<D>,
+        request: &Request,
+    ) -> Result<Answered, AllocError>
+        requires { reads_archive request.now ≡ false }
+        ensures answered { (depot : AnyDepot D) → depot.journal ≡ journal.old → IsFormedBy request.now →
+            IfOk result (λ answered. IsAnsweredBy (λ been. been ≡ depot) D.seen D.may_leave self.old.replica self.new.replica request.now answered.text answered.lost) }
+        ensures kept { OnErr result (self.new.replica ≡ self.old.replica) }
+        ensures left { self.new.left ≡ self.old.left }
+        ensures fetched { IsFetched D.seen D.may_leave D.moment D.left_since journal.old journal.new }
+        ensures never_falls { D.faults (disk_of journal.old) ≤ D.faults (disk_of journal.new) }
+        ensures cause { IfOk result (λ answered. answered.lost ≡ true → HasRisen (D.faults (disk_of journal.old)) (D.faults (disk_of journal.new))) }
+    {
+        answer_by_journal(alloc, &mut self.replica, journal, request)
     }
 
     /// Answers the next command. `pull` fetches of the depot's journal where the replica awaits its next piece, and `print` reads the archive. The one error

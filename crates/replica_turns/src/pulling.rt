@@ -8,15 +8,17 @@ ghost use Rattle.outside_api.specs.Count.{HasRisen};
 ghost use Rattle.outside_api.specs.Link.{Fits};
 ghost use Rattle.replica_turns.specs.Position.{IsRoom};
 ghost use Rattle.replica_turns.specs.Replying.{Follows, IsPullAnswer};
-ghost use Rattle.replica_turns.specs.Turning.{IsUnmoved};
+ghost use Rattle.serial_depot.specs.Fetching.{IsFetched};
+ghost use Rattle.serial_depot.specs.declared.depot.SerialDepot.{SerialDepot as AnyDepot};
 
 use crate::answers::{fault_reply, loses, tells};
 use crate::party::Answered;
 use crate::position::Room;
 use depot_rows::paths::Text;
+use disk_journal::Journal;
 use outside_api::{Disk, Fetched};
 use replica_pull::{PullFault, Replica};
-use serial_depot::SerialDepot;
+use serial_depot::fetch_texts;
 use std::alloc::{AllocError, Global};
 
 /// How many bytes of the journal are fetched at a time.
@@ -54,7 +56,7 @@ fn follow(
 fn pull_into<D: Disk>(
     alloc: Global,
     replica: &mut Replica,
-    depot: &mut SerialDepot<D>,
+    journal: &mut Journal<D>,
     number: u32,
     of_fault: Text,
     room: Room,
@@ -64,13 +66,14 @@ fn pull_into<D: Disk>(
     requires most { length buffer.old ≤ 65536 }
     requires room { IsRoom room }
     requires of_fault { of_fault ≡ printed (disk_row ∷ []) number }
-    ensures answered { IfOk result (λ answered. IsPullAnswer (λ been. been ≡ depot.old) D.seen D.may_leave replica.old replica.new number answered.text answered.lost) }
+    ensures answered { (depot : AnyDepot D) → depot.journal ≡ journal.old → IfOk result (λ answered. IsPullAnswer (λ been. been ≡ depot) D.seen D.may_leave replica.old replica.new number answered.text answered.lost) }
     ensures kept { OnErr result (replica.new ≡ replica.old) }
-    ensures depot { IsUnmoved D.seen D.may_leave D.moment D.left_since D.faults depot.old depot.new }
-    ensures cause { IfOk result (λ answered. answered.lost ≡ true → HasRisen (D.faults (disk_of depot.old.journal)) (D.faults (disk_of depot.new.journal))) }
+    ensures fetched { IsFetched D.seen D.may_leave D.moment D.left_since journal.old journal.new }
+    ensures never_falls { D.faults (disk_of journal.old) ≤ D.faults (disk_of journal.new) }
+    ensures cause { IfOk result (λ answered. answered.lost ≡ true → HasRisen (D.faults (disk_of journal.old)) (D.faults (disk_of journal.new))) }
 {
     let (generation, at) = replica.awaits();
-    match depot.fetch(generation, at, buffer) {
+    match fetch_texts(journal, generation, at, buffer) {
         Ok(fetched) => {
             follow(alloc, replica, fetched, buffer)?;
             let (generation, changes) = replica.position();
@@ -80,21 +83,22 @@ fn pull_into<D: Disk>(
     }
 }
 
-/// Answers the `pull` of that number: what the depot's journal has where the replica awaits its next piece is fetched and followed, and the reply tells how
+/// Answers the `pull` of that number: what the journal has where the replica awaits its next piece is fetched and followed, and the reply tells how
 /// far the replica is then. Where the journal's disk failed, or no memory was left, the replica is as it was.
 pub(crate) fn pull<D: Disk>(
     alloc: Global,
     replica: &mut Replica,
-    depot: &mut SerialDepot<D>,
+    journal: &mut Journal<D>,
     number: u32,
 ) -> Result<Answered, AllocError>
-    ensures answered { IfOk result (λ answered. IsPullAnswer (λ been. been ≡ depot.old) D.seen D.may_leave replica.old replica.new number answered.text answered.lost) }
+    ensures answered { (depot : AnyDepot D) → depot.journal ≡ journal.old → IfOk result (λ answered. IsPullAnswer (λ been. been ≡ depot) D.seen D.may_leave replica.old replica.new number answered.text answered.lost) }
     ensures kept { OnErr result (replica.new ≡ replica.old) }
-    ensures depot { IsUnmoved D.seen D.may_leave D.moment D.left_since D.faults depot.old depot.new }
-    ensures cause { IfOk result (λ answered. answered.lost ≡ true → HasRisen (D.faults (disk_of depot.old.journal)) (D.faults (disk_of depot.new.journal))) }
+    ensures fetched { IsFetched D.seen D.may_leave D.moment D.left_since journal.old journal.new }
+    ensures never_falls { D.faults (disk_of journal.old) ≤ D.faults (disk_of journal.new) }
+    ensures cause { IfOk result (λ answered. answered.lost ≡ true → HasRisen (D.faults (disk_of journal.old)) (D.faults (disk_of journal.new))) }
 {
     let of_fault = fault_reply(alloc, number)?;
     let room = Room::take(alloc)?;
     let mut buffer = piece(alloc)?;
-    pull_into(alloc, replica, depot, number, of_fault, room, &mut buffer)
+    pull_into(alloc, replica, journal, number, of_fault, room, &mut buffer)
 }

@@ -1,6 +1,6 @@
 //! Commands other than `pull`, among the parties of a run.
 
-ghost use Rattle.std.specs.Prelude.{◌≡◌, ◌⊎◌, List, [], ◌∷◌, map, true, false, IfOk, OnErr};
+ghost use Rattle.std.specs.Prelude.{◌≡◌, ◌⊎◌, ◌≤◌, List, [], ◌∷◌, map, true, false, IfOk, OnErr};
 ghost use Rattle.archive_file.specs.Archive.{disk_of as archive_disk_of};
 ghost use Rattle.serial_depot.specs.command_core.Outcomes.{IsFormedBy};
 ghost use Rattle.depot_rows.specs.depot_model.Deeds.{Deed};
@@ -13,28 +13,32 @@ ghost use Rattle.outside_api.specs.Disk.{Files};
 ghost use Rattle.recovery.specs.Standing.{HasContents};
 ghost use Rattle.reply_rows.specs.Made.{contents_of, waiting};
 ghost use Rattle.replica_answers.specs.Answering.{IsAnswerOf};
-ghost use Rattle.replica_replies.specs.Prints.{prints};
-ghost use Rattle.depot_rows.specs.table_changes.Changed.{AllRows};
-ghost use Rattle.replica_turns.specs.Replying.{IsAnsweredBy, IsReply, pulls};
+ghost use Rattle.depot_rows.specs.Standing.{Stand};
+ghost use Rattle.depot_rows.specs.table_changes.Changed.{AllRows, rows_of};
+ghost use Rattle.depot_runs.specs.Replica.{replica_reply};
+ghost use Rattle.replica_turns.specs.Replying.{IsAnsweredBy, IsReply, pulls, reads_archive};
 ghost use Rattle.replica_turns.specs.Turning.{IsUnmoved};
+ghost use Rattle.serial_depot.specs.Fetching.{IsFetched, IsRead};
+ghost use Rattle.serial_depot.specs.declared.depot.SerialDepot.{SerialDepot as AnyDepot};
 
 use crate::answers::{fault_reply, loses, tells};
 use crate::party::Answered;
 use crate::pulling::pull;
-use archive_file::ContentFault;
+use archive_file::{Archive, ContentFault};
 use command_core::filled;
 use depot_rows::model::{Command, Reply, Request};
 use depot_rows::paths::{Sequence, Text};
+use disk_journal::Journal;
 use outside_api::Disk;
 use replica_answers::{Answered as Waiting, answer};
 use replica_pull::Replica;
-use serial_depot::SerialDepot;
+use serial_depot::{SerialDepot, read_contents};
 use std::alloc::{AllocError, Global};
 use wire_text::print_reply;
 
-/// Whether a request is a `print`.
-fn is_print(request: &Request) -> bool
-    ensures { result ≡ prints request.now.command }
+/// Whether a request is a `print`, which reads the archive.
+pub fn is_print(request: &Request) -> bool
+    ensures { result ≡ reads_archive request.now }
 {
     matches!(&request.command, Ok(Command::Print { .. }))
 }
@@ -71,22 +75,23 @@ fn without_contents(alloc: Global, answer: Waiting, number: u32) -> Result<Answe
     Ok(tells(text))
 }
 
-/// The printed answer with the contents that its rows lack, from the depot's archive.
+/// The printed answer with the contents that its rows lack, from the archive.
 fn with_contents<D: Disk>(
     alloc: Global,
-    depot: &mut SerialDepot<D>,
+    archive: &mut Archive<D>,
     answer: Waiting,
     number: u32,
 ) -> Result<Answered, AllocError>
     ensures lost { IfOk result (λ answered. answered.lost ≡ true → answered.text ≡ printed (disk_row ∷ []) number) }
-    ensures told { (all : AllRows) (d : List Deed) (files : Files) (rows : List Row) → IsAnswerOf all d rows answer → D.seen (archive_disk_of depot.old.archive) files → HasContents (files 0) all d →
+    ensures told { (all : AllRows) (d : List Deed) (files : Files) (rows : List Row) → IsAnswerOf all d rows answer → D.seen (archive_disk_of archive.old) files → HasContents (files 0) all d →
         IfOk result (λ answered. answered.lost ≡ false → answered.text ≡ printed rows number) }
-    ensures depot { IsUnmoved D.seen D.may_leave D.moment D.left_since D.faults depot.old depot.new }
-    ensures cause { IfOk result (λ answered. answered.lost ≡ true → HasRisen (D.faults (archive_disk_of depot.old.archive)) (D.faults (archive_disk_of depot.new.archive))) }
+    ensures read { IsRead D.seen D.may_leave archive.old archive.new }
+    ensures never_falls { D.faults (archive_disk_of archive.old) ≤ D.faults (archive_disk_of archive.new) }
+    ensures cause { IfOk result (λ answered. answered.lost ≡ true → HasRisen (D.faults (archive_disk_of archive.old)) (D.faults (archive_disk_of archive.new))) }
 {
     let Waiting { reply, reads } = answer;
     let of_fault = fault_reply(alloc, number)?;
-    let contents = match depot.contents(alloc, reads.as_slice()) {
+    let contents = match read_contents(alloc, archive, reads.as_slice()) {
         Ok(contents) => contents,
         Err(ContentFault::DiskFault) => return Ok(loses(of_fault)),
         Err(ContentFault::Memory) => return Err(AllocError),
@@ -95,22 +100,53 @@ fn with_contents<D: Disk>(
     Ok(tells(text))
 }
 
-/// Answers a command other than `pull`.
-fn reply<D: Disk>(
+/// Answers a `print`.
+pub(crate) fn reply_print<D: Disk>(
     alloc: Global,
     replica: &Replica,
-    depot: &mut SerialDepot<D>,
+    archive: &mut Archive<D>,
     request: &Request,
 ) -> Result<Answered, AllocError>
-    ensures answered { IsFormedBy request.now → IfOk result (λ answered. IsReply (λ been. been ≡ depot.old) D.seen replica.now request.now answered.text answered.lost) }
-    ensures depot { IsUnmoved D.seen D.may_leave D.moment D.left_since D.faults depot.old depot.new }
-    ensures cause { IfOk result (λ answered. answered.lost ≡ true → HasRisen (D.faults (archive_disk_of depot.old.archive)) (D.faults (archive_disk_of depot.new.archive))) }
+    requires { reads_archive request.now ≡ true }
+    ensures answered { (depot : AnyDepot D) → depot.archive ≡ archive.old → IsFormedBy request.now →
+        IfOk result (λ answered. IsReply (λ been. been ≡ depot) D.seen replica.now request.now answered.text answered.lost) }
+    ensures read { IsRead D.seen D.may_leave archive.old archive.new }
+    ensures never_falls { D.faults (archive_disk_of archive.old) ≤ D.faults (archive_disk_of archive.new) }
+    ensures cause { IfOk result (λ answered. answered.lost ≡ true → HasRisen (D.faults (archive_disk_of archive.old)) (D.faults (archive_disk_of archive.new))) }
 {
     let answer = answer(alloc, replica, request)?;
-    if is_print(request) {
-        with_contents(alloc, depot, answer, request.number)
+    with_contents(alloc, archive, answer, request.number)
+}
+
+/// Answers a command other than `pull` and `print`. No call of a disk is made.
+fn reply_bare(alloc: Global, replica: &Replica, request: &Request) -> Result<Answered, AllocError>
+    requires { reads_archive request.now ≡ false }
+    ensures told { (d : List Deed) → Stand (rows_of replica.now.tables) d → IsFormedBy request.now → IfOk result (λ answered. answered.text ≡ printed (replica_reply d request.now) request.now.number) }
+    ensures kept { IfOk result (λ answered. answered.lost ≡ false) }
+{
+    let answer = answer(alloc, replica, request)?;
+    without_contents(alloc, answer, request.number)
+}
+
+/// Answers a command other than `print`, for which the journal suffices: `pull` fetches of it.
+pub(crate) fn answer_by_journal<D: Disk>(
+    alloc: Global,
+    replica: &mut Replica,
+    journal: &mut Journal<D>,
+    request: &Request,
+) -> Result<Answered, AllocError>
+    requires { reads_archive request.now ≡ false }
+    ensures answered { (depot : AnyDepot D) → depot.journal ≡ journal.old → IsFormedBy request.now →
+        IfOk result (λ answered. IsAnsweredBy (λ been. been ≡ depot) D.seen D.may_leave replica.old replica.new request.now answered.text answered.lost) }
+    ensures kept { OnErr result (replica.new ≡ replica.old) }
+    ensures fetched { IsFetched D.seen D.may_leave D.moment D.left_since journal.old journal.new }
+    ensures never_falls { D.faults (disk_of journal.old) ≤ D.faults (disk_of journal.new) }
+    ensures cause { IfOk result (λ answered. answered.lost ≡ true → HasRisen (D.faults (disk_of journal.old)) (D.faults (disk_of journal.new))) }
+{
+    if is_pull(request) {
+        pull(alloc, replica, journal, request.number)
     } else {
-        without_contents(alloc, answer, request.number)
+        reply_bare(alloc, replica, request)
     }
 }
 
@@ -126,9 +162,9 @@ pub(crate) fn answer_request<D: Disk>(
     ensures depot { IsUnmoved D.seen D.may_leave D.moment D.left_since D.faults depot.old depot.new }
     ensures cause { IfOk result (λ answered. answered.lost ≡ true → HasRisen (D.faults (disk_of depot.old.journal)) (D.faults (disk_of depot.new.journal)) ⊎ HasRisen (D.faults (archive_disk_of depot.old.archive)) (D.faults (archive_disk_of depot.new.archive))) }
 {
-    if is_pull(request) {
-        pull(alloc, replica, depot, request.number)
+    if is_print(request) {
+        reply_print(alloc, replica, &mut depot.archive, request)
     } else {
-        reply(alloc, replica, depot, request)
+        answer_by_journal(alloc, replica, &mut depot.journal, request)
     }
 }

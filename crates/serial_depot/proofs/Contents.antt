@@ -5,14 +5,16 @@ use Rattle.outside_api.specs.Disk.{Files}
 use Rattle.depot_rows.specs.db_records.declared.key.Key.TheVariants as keys
 use Rattle.depot_rows.specs.db_records.declared.record.Record.{Record}
 use Rattle.depot_rows.specs.db_records.declared.record.Record.TheVariants.{Rev as RevRow}
+use Rattle.depot_rows.specs.db_records.declared.rows.RevRecord.{RevRecord}
 use Rattle.depot_rows.specs.db_records.declared.table.TableId.TheVariants.{Rev}
 use Rattle.depot_rows.specs.depot_path.Path.{printed}
 use Rattle.depot_rows.specs.table_store.Rows.{row_at}
 use Rattle.depot_rows.specs.table_changes.Changed.{AllRows}
 use Rattle.depot_rows.specs.depot_model.Deeds.{Deed}
 use Rattle.depot_rows.specs.depot_model.Revisions.{Revision, revision}
+use Rattle.depot_rows.specs.depot_model.Steps.Submitting.{content_at}
 use Rattle.recovery.specs.Holding.{spots_end}
-use Rattle.recovery.specs.Standing.{HasContent}
+use Rattle.recovery.specs.Standing.{HasContent, HasContents}
 use Rattle.serial_depot.specs.Holding.{SameContents, HasItsContents}
 
 abbrev pub content_of : Option Revision → Option (List ℕ)

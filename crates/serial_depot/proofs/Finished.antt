@@ -1,8 +1,8 @@
--- A command whose contents were read, and one whose contents were stored and whose group or generation was written.
-use Rattle.std.proofs.Common.{◌≡◌, ◌≢◌, ◌⊎◌, ℕ, ◌≤◌, ◌+◌, Bool, true, false, List, [], ◌∷◌, ◌++◌, length, refl, sym, subst, ◌∙◌, arith}
+-- A command whose contents were read, and one whose contents were stored and whose group or generation was written, or at which a disk failed.
+use Rattle.std.proofs.Common.{◌≡◌, ◌≢◌, ◌⊎◌, ℕ, ◌≤◌, ◌+◌, Bool, true, false, List, [], ◌∷◌, ◌++◌, length, refl, sym, ap, subst, ◌∙◌, arith}
 use Rattle.archive_file.specs.Archive as archives
 use Rattle.archive_file.specs.declared.archive.Archive.{Archive}
-use Rattle.outside_api.specs.Disk.{Files, LeavesOnly, NoMore, Same, StillTells}
+use Rattle.outside_api.specs.Disk.{Files, LeavesOnly, NoMore, Same}
 use Rattle.command_core.specs.Outcomes.{IsOutcome}
 use Rattle.command_core.specs.declared.outcome.Outcome.{Outcome}
 use Rattle.depot_rows.specs.db_records.declared.change.Change.{Change}
@@ -24,14 +24,14 @@ use Rattle.session_loop.specs.Taking.{placed_by}
 use Rattle.stored_contents.specs.Placed.{StandAfter}
 use Rattle.serial_depot.specs.Committing.{AreChangesOf}
 use Rattle.recovery.specs.Holding.{HasAllRows}
-use Rattle.serial_depot.specs.Holding.{KeepContents}
+use Rattle.serial_depot.specs.Holding.{HasItsContents, KeepContents}
 use Rattle.serial_depot.specs.Writing.{IsWritingOf, StandsBy, with_doubtful}
-use Rattle.serial_depot.specs.Running.{CanTake, HasRun}
-use Rattle.serial_depot.specs.Storing.{AllReach, AllStored, AreAt, KeepsBelow, stores_end}
+use Rattle.serial_depot.specs.Running.{CanTake, HasRun, HasRunOver}
+use Rattle.serial_depot.specs.Storing.{AllReach, AreAt, HasStored, stores_end}
 use Rattle.serial_depot.specs.declared.depot.SerialDepot.{SerialDepot}
-use Rattle.serial_depot.proofs.Moved.{has_run_moved, has_run_unsettled}
-use Rattle.serial_depot.proofs.Steps.{has_run_done, has_run_failed, has_run_faulted}
-use Rattle.serial_depot.proofs.Stored.{contents_at, contents_follow, contents_kept, grows, keeps_more, keeps_reach}
+use Rattle.serial_depot.proofs.Moved.{has_run_moved, over_moved, over_settled, over_unsettled}
+use Rattle.serial_depot.proofs.Steps.{over_done, over_failed, over_faulted}
+use Rattle.serial_depot.proofs.Stored.{contents_at, contents_follow, contents_kept, grows, keeps_more, stored_all, stored_keeps, stored_reach}
 
 -- the journal stands, whether the writing failed or not
 pub standing : {D : Type 0} (may_leave : D → Files → Type 0) (journal : Journal D) (was : Committed) (doubt written : Doubtful) (failed : Bool) → StandsBy may_leave journal was doubt written failed
@@ -39,118 +39,102 @@ pub standing : {D : Type 0} (may_leave : D → Files → Type 0) (journal : Jour
 standing may_leave journal was doubt written false stands = (with_doubtful was written, (nothing, stands))
 standing may_leave journal was doubt written true stands = (was, (stands.0, stands.2))
 
-module _ {D : Type 0} (seen may_leave : D → Files → Type 0) (moment : D → ℕ) (left_since : D → ℕ → Files → Type 0) (depot : SerialDepot D) where
-  -- ---- the archive was read
+-- what was read are the contents that the reply waits for
+pub contents_are : (rows : AllRows) (d : List Deed) (request : Request) (from : ℕ) (outcome : Outcome) (files : Files) → HasItsContents rows d files → IsOutcome rows from d request outcome
+    → (texts : List (List ℕ)) → ((contents : List (List ℕ)) → AreAt (files 0) outcome.reads contents → texts ≡ contents) → texts ≡ contents_of (step d request).rows
+contents_are rows d request from outcome files has is texts read =
+    read (contents_of (step d request).rows) (contents_at rows d files has (contents_of (step d request).rows) outcome.reads is.reads)
 
-  module _ (archive : Archive D) (same_used : archives.used_of archive ≡ archives.used_of depot.archive)
-      (same : Same (seen (archives.disk_of depot.archive)) (seen (archives.disk_of archive))) (more : NoMore (may_leave (archives.disk_of depot.archive)) (may_leave (archives.disk_of archive))) where
-    abbrev pub read : SerialDepot D
-    read = record { tables = depot.tables; journal = depot.journal; archive = archive }
+module _ {D : Type 0} (may_leave : D → Files → Type 0) (moment : D → ℕ) (left_since : D → ℕ → Files → Type 0) (images : Files → Type 0) (used : ℕ) (tables : Tables) (journal : Journal D) (since : ℕ) (start : List Deed) (places : List Placed) (request : Request)
+    (h : HasRunOver may_leave moment left_since images used tables journal since start places) where
+  abbrev current : List Deed
+  current = taken step start places
 
-    pub read_can : CanTake may_leave depot → CanTake may_leave read
-    read_can can = record {
-      was = can.was;
-      doubt = can.doubt;
-      stands = can.stands;
-      end = can.end ∙ sym same_used;
-      room = λ image left. let le = can.room image (more image left) in omega (arith, le, same_used);
-    }
+  abbrev next : List Deed
+  next = after current (step current request).deeds
 
-    pub read_run : (since : ℕ) (start : List Deed) (places : List Placed) → HasRun seen may_leave moment left_since depot since start places → HasRun seen may_leave moment left_since read since start places
-    read_run since start places h =
-        has_run_moved seen may_leave moment left_since depot since start places h archive (omega (arith, same_used)) (h.tells.0, same.kept h.tells.0 h.tells.1)
-        (keeps_more (may_leave (archives.disk_of depot.archive)) (may_leave (archives.disk_of archive)) (archives.used_of depot.archive) more)
-
-    pub read_faulted : (since : ℕ) (start : List Deed) (places : List Placed) (request : Request) → HasRun seen may_leave moment left_since depot since start places
-        → HasRun seen may_leave moment left_since read since start (places ++ placed_by request true ∷ [])
-    read_faulted since start places request h = has_run_faulted seen may_leave moment left_since read since start places request (read_run since start places h)
-
-  -- the contents that the reply waits for are at the spots that are read
-  pub contents_there : ((disk : D) (files : Files) → seen disk files → may_leave disk files) → (since : ℕ) (start : List Deed) (places : List Placed) (request : Request) (from : ℕ) (outcome : Outcome)
-      → (h : HasRun seen may_leave moment left_since depot since start places) → IsOutcome (rows_of depot.tables) from (taken step start places) request outcome
-      → AreAt (h.tells.0 0) outcome.reads (contents_of (step (taken step start places) request).rows)
-  contents_there images since start places request from outcome h is =
-      contents_at (may_leave (archives.disk_of depot.archive)) (archives.used_of depot.archive) (rows_of depot.tables) (taken step start places) h.kept h.tells.0
-      (images (archives.disk_of depot.archive) h.tells.0 h.tells.1) (contents_of (step (taken step start places) request).rows) outcome.reads is.reads
+  -- ---- nothing was written
 
   -- what is in doubt couldn't be settled
-  pub unsettled_run : (since : ℕ) (start : List Deed) (places : List Placed) (request : Request) (h : HasRun seen may_leave moment left_since depot since start places) (journal : Journal D)
-      → Stands may_leave journal h.was h.doubt → LeavesOnly moment left_since depot.journal.disk journal.disk (HasWithOrWithout h.was h.doubt)
-      → HasRun seen may_leave moment left_since (record { tables = depot.tables; journal = journal; archive = depot.archive }) since start (places ++ placed_by request true ∷ [])
-  unsettled_run since start places request h journal stands leaves =
-      has_run_faulted seen may_leave moment left_since (record { tables = depot.tables; journal = journal; archive = depot.archive }) since start places request
-      (has_run_unsettled seen may_leave moment left_since depot since start places h journal stands leaves)
+  pub over_unwritten : (journal' : Journal D) → Stands may_leave journal' h.was h.doubt → LeavesOnly moment left_since journal.disk journal'.disk (HasWithOrWithout h.was h.doubt)
+      → HasRunOver may_leave moment left_since images used tables journal' since start (places ++ placed_by request true ∷ [])
+  over_unwritten journal' stands leaves =
+      over_faulted may_leave moment left_since images used tables journal' since start places request
+      (over_unsettled may_leave moment left_since images used tables journal since start places h journal' stands leaves)
 
-  -- ---- contents were stored, and a place written
+  -- it was settled, and a content couldn't be stored
+  pub over_unstored : (journal' : Journal D) → Stands may_leave journal' h.was nothing → LeavesOnly moment left_since journal.disk journal'.disk (HasWithOrWithout h.was h.doubt)
+      → HasRunOver may_leave moment left_since images used tables journal' since start (places ++ placed_by request true ∷ [])
+  over_unstored journal' stands leaves =
+      over_faulted may_leave moment left_since images used tables journal' since start places request
+      (over_settled may_leave moment left_since images used tables journal since start places h journal' stands leaves)
 
-  module _ (can : CanTake may_leave depot) (archive : Archive D) (keeps : KeepsBelow (may_leave (archives.disk_of depot.archive)) (may_leave (archives.disk_of archive)) depot.tables.archive_end)
-      (tells : StillTells (seen (archives.disk_of depot.archive)) (seen (archives.disk_of archive))) where
-    keeps_used : KeepsBelow (may_leave (archives.disk_of depot.archive)) (may_leave (archives.disk_of archive)) (archives.used_of depot.archive)
-    keeps_used = subst (KeepsBelow (may_leave (archives.disk_of depot.archive)) (may_leave (archives.disk_of archive))) can.end keeps
+  -- ---- contents were stored
 
-    pub stored_run : archives.used_of depot.archive ≤ archives.used_of archive → (journal : Journal D) (since : ℕ) (start : List Deed) (places : List Placed)
-        → HasRun seen may_leave moment left_since (record { tables = depot.tables; journal = journal; archive = depot.archive }) since start places
-        → HasRun seen may_leave moment left_since (record { tables = depot.tables; journal = journal; archive = archive }) since start places
-    stored_run le journal since start places h =
-        has_run_moved seen may_leave moment left_since (record { tables = depot.tables; journal = journal; archive = depot.archive }) since start places h archive le (tells h.tells.0 h.tells.1) keeps_used
+  module _ (stores : List (List ℕ)) where
+    -- the run beside them
+    pub over_stored : HasRunOver may_leave moment left_since (HasStored images used stores) (stores_end stores used) tables journal since start places
+    over_stored =
+        over_moved may_leave moment left_since images used tables journal since start places h (HasStored images used stores) (stores_end stores used) (grows stores used)
+        (stored_keeps images used stores)
 
-    -- a content couldn't be stored
-    pub unstored_run : archives.used_of archive ≡ archives.used_of depot.archive → (journal : Journal D) (since : ℕ) (start : List Deed) (places : List Placed) (request : Request)
-        → HasRun seen may_leave moment left_since (record { tables = depot.tables; journal = journal; archive = depot.archive }) since start places
-        → HasRun seen may_leave moment left_since (record { tables = depot.tables; journal = journal; archive = archive }) since start (places ++ placed_by request true ∷ [])
-    unstored_run same journal since start places request h =
-        has_run_faulted seen may_leave moment left_since (record { tables = depot.tables; journal = journal; archive = archive }) since start places request
-        (stored_run (omega (arith, same)) journal since start places h)
+    -- the contents after the command
+    pub with_contents : (changes : List Change) → StandAfter (rows_of tables) used current next stores changes → IsSound next → KeepContents (HasStored images used stores) (stores_end stores used) (changed_by (rows_of tables) changes) next
+    with_contents changes placed sound =
+        contents_follow (HasStored images used stores) used (stores_end stores used) used (rows_of tables) current next stores changes placed sound (grows stores used)
+        (contents_kept images (HasStored images used stores) used used (rows_of tables) current (omega arith) (stored_keeps images used stores) h.stand h.kept)
+        (stored_all images used stores) (omega arith) (stored_reach images used stores)
 
-    pub unstored_can : archives.used_of archive ≡ archives.used_of depot.archive → (journal : Journal D) → Stands may_leave journal can.was nothing
-        → CanTake may_leave (record { tables = depot.tables; journal = journal; archive = archive })
-    unstored_can same journal stands = record {
-      was = can.was;
-      doubt = nothing;
-      stands = stands;
-      end = can.end ∙ sym same;
-      room = λ image left.
-          let le = keeps_reach (may_leave (archives.disk_of depot.archive)) (may_leave (archives.disk_of archive)) (archives.used_of depot.archive) (archives.used_of depot.archive) (omega arith) keeps_used can.room image left in
-          omega (arith, same, le);
-    }
+  -- none had to be stored
+  pub same_contents_after : (changes : List Change) → StandAfter (rows_of tables) used current next [] changes → IsSound next → AllReach images used → KeepContents images used (changed_by (rows_of tables) changes) next
+  same_contents_after changes placed sound reach = contents_follow images used used used (rows_of tables) current next [] changes placed sound (omega arith) h.kept tt (omega arith) reach
 
-    -- all were stored, and count as used
-    module _ (since : ℕ) (start : List Deed) (places : List Placed) (request : Request) (h : HasRun seen may_leave moment left_since depot since start places) (stores : List (List ℕ)) (changes : List Change)
-        (used_is : archives.used_of archive ≡ stores_end stores depot.tables.archive_end) (stored : AllStored (may_leave (archives.disk_of archive)) stores depot.tables.archive_end)
-        (reach : AllReach (may_leave (archives.disk_of archive)) (archives.used_of archive))
-        (placed : StandAfter (rows_of depot.tables) depot.tables.archive_end (taken step start places) (after (taken step start places) (step (taken step start places) request).deeds) stores changes)
-        (sound : IsSound (after (taken step start places) (step (taken step start places) request).deeds)) where
-      pub used_more : archives.used_of depot.archive ≤ archives.used_of archive
-      used_more = let more = grows stores depot.tables.archive_end in let end = can.end in omega (arith, used_is, more, end)
+  -- ---- a place was written, or its writing failed
 
-      pub with_contents : KeepContents (may_leave (archives.disk_of archive)) (archives.used_of archive) (changed_by (rows_of depot.tables) changes)
-          (after (taken step start places) (step (taken step start places) request).deeds)
-      with_contents =
-          contents_follow (may_leave (archives.disk_of archive)) (archives.used_of depot.archive) (archives.used_of archive) depot.tables.archive_end (rows_of depot.tables) (taken step start places)
-          (after (taken step start places) (step (taken step start places) request).deeds) stores changes placed sound used_more
-          (contents_kept (may_leave (archives.disk_of depot.archive)) (may_leave (archives.disk_of archive)) (archives.used_of depot.archive) (archives.used_of depot.archive) (rows_of depot.tables)
-          (taken step start places) (omega arith) keeps_used h.stand h.kept) stored (omega (arith, used_is)) reach
-
-  -- a place was written, or its writing failed
-  pub committed : (since : ℕ) (start : List Deed) (places : List Placed) (request : Request) (m : HasRun seen may_leave moment left_since depot since start places) (now : AllRows) (opens : Bool) (written : Doubtful) (changes : List Change) → changes ≢ []
-      → IsWritingOf (rows_of depot.tables) now (next_number depot.journal) (generation_of_journal depot.journal) opens written changes → AreChangesOf (rows_of depot.tables) request opens changes
-      → KeepContents (may_leave (archives.disk_of depot.archive)) (archives.used_of depot.archive) (changed_by (rows_of depot.tables) changes) (after (taken step start places) (step (taken step start places) request).deeds)
-      → (tables : Tables) (journal : Journal D)
-      → LeavesOnly moment left_since depot.journal.disk journal.disk (λ c. HasWithOrWithout m.was m.doubt c ⊎ HasWithOrWithout m.was written c)
-      → (failed : Bool) → StandsBy may_leave journal m.was m.doubt written failed → (failed ≡ false → rows_of tables ≡ now) → (failed ≡ true → rows_of tables ≡ rows_of depot.tables)
-      → HasRun seen may_leave moment left_since (record { tables = tables; journal = journal; archive = depot.archive }) since start (places ++ placed_by request failed ∷ [])
-  committed since start places request m now opens written changes some is made contents tables journal leaves failed stands done kept =
-      let count = m.stands.count in
-      let number : next_number depot.journal ≡ length m.was.groups + 1 = omega (arith, count) in
-      let with_it = is.has m.was number m.stands.generation m.has in
+  pub over_committed : (now : AllRows) (opens : Bool) (written : Doubtful) (changes : List Change) → changes ≢ []
+      → IsWritingOf (rows_of tables) now (next_number journal) (generation_of_journal journal) opens written changes → AreChangesOf (rows_of tables) request opens changes
+      → KeepContents images used (changed_by (rows_of tables) changes) next → (tables' : Tables) (journal' : Journal D)
+      → LeavesOnly moment left_since journal.disk journal'.disk (λ c. HasWithOrWithout h.was h.doubt c ⊎ HasWithOrWithout h.was written c)
+      → (failed : Bool) → StandsBy may_leave journal' h.was h.doubt written failed → (failed ≡ false → rows_of tables' ≡ now) → (failed ≡ true → rows_of tables' ≡ rows_of tables)
+      → HasRunOver may_leave moment left_since images used tables' journal' since start (places ++ placed_by request failed ∷ [])
+  over_committed now opens written changes some is made contents tables' journal' leaves failed stands done kept =
+      let count = h.stands.count in
+      let number : next_number journal ≡ length h.was.groups + 1 = omega (arith, count) in
+      let with_it = is.has h.was number h.stands.generation h.has in
       ended with_it failed stands done kept
     where
-      ended : HasAllRows (with_doubtful m.was written) (changed_by (rows_of depot.tables) changes) → (failed : Bool) → StandsBy may_leave journal m.was m.doubt written failed → (failed ≡ false → rows_of tables ≡ now) → (failed ≡ true → rows_of tables ≡ rows_of depot.tables)
-          → HasRun seen may_leave moment left_since (record { tables = tables; journal = journal; archive = depot.archive }) since start (places ++ placed_by request failed ∷ [])
+      ended : HasAllRows (with_doubtful h.was written) (changed_by (rows_of tables) changes) → (failed : Bool) → StandsBy may_leave journal' h.was h.doubt written failed → (failed ≡ false → rows_of tables' ≡ now) → (failed ≡ true → rows_of tables' ≡ rows_of tables)
+          → HasRunOver may_leave moment left_since images used tables' journal' since start (places ++ placed_by request failed ∷ [])
       ended with_it false stands done kept =
-          has_run_done seen may_leave moment left_since depot since start places request m tables journal changes opens written some with_it (is.opened m.was) made contents leaves stands (done refl ∙ is.rows_are)
+          over_done may_leave moment left_since images used tables journal since start places request h tables' journal' changes opens written some with_it (is.opened h.was) made contents leaves stands (done refl ∙ is.rows_are)
       ended with_it true stands done kept =
-          has_run_failed seen may_leave moment left_since depot since start places request m tables journal changes opens written some with_it (is.opened m.was) made contents leaves stands.0 stands.1 stands.2 (kept refl)
+          over_failed may_leave moment left_since images used tables journal since start places request h tables' journal' changes opens written some with_it (is.opened h.was) made contents leaves stands.0 stands.1 stands.2 (kept refl)
+
+-- ---- the archive of a depot was read
+
+module _ {D : Type 0} (seen may_leave : D → Files → Type 0) (moment : D → ℕ) (left_since : D → ℕ → Files → Type 0) (depot : SerialDepot D) (archive : Archive D) (same_used : archives.used_of archive ≡ archives.used_of depot.archive)
+    (same : Same (seen (archives.disk_of depot.archive)) (seen (archives.disk_of archive))) (more : NoMore (may_leave (archives.disk_of depot.archive)) (may_leave (archives.disk_of archive))) where
+  abbrev pub read : SerialDepot D
+  read = record { tables = depot.tables; journal = depot.journal; archive = archive }
+
+  pub read_can : CanTake may_leave depot → CanTake may_leave read
+  read_can can = record {
+    was = can.was;
+    doubt = can.doubt;
+    stands = can.stands;
+    end = can.end ∙ sym same_used;
+    room = λ image left. let le = can.room image (more image left) in omega (arith, le, same_used);
+  }
+
+  pub read_run : (since : ℕ) (start : List Deed) (places : List Placed) → HasRun seen may_leave moment left_since depot since start places → HasRun seen may_leave moment left_since read since start places
+  read_run since start places h =
+      has_run_moved seen may_leave moment left_since depot since start places h archive (omega (arith, same_used)) (h.tells.0, same.kept h.tells.0 h.tells.1)
+      (keeps_more (may_leave (archives.disk_of depot.archive)) (may_leave (archives.disk_of archive)) (archives.used_of depot.archive) more)
+
+-- where nothing is read no row has a content
+pub none_waits : (rows : AllRows) (d : List Deed) (contents : List (List ℕ)) (reads : List Spot) → StandAt rows d contents reads → reads ≡ [] → contents ≡ []
+none_waits rows d [] reads at none = refl
+none_waits rows d (content ∷ contents) reads at none = absurd (subst (StandAt rows d (content ∷ contents)) none at)
 
 -- where no row has a content nothing is read
 pub none_read : (rows : AllRows) (d : List Deed) (reads : List Spot) (told : List Row) → StandAt rows d (contents_of told) reads → contents_of told ≡ [] → reads ≡ []

@@ -9,8 +9,9 @@ pub mod Stored
 pub mod Places
 pub mod Kept
 mod Steps
-mod Moved
-mod Outcomes
-mod Finished
+pub mod Moved
+pub mod Outcomes
+pub mod Finished
+pub mod Beside
 mod Writings
 mod Quiet

@@ -1,25 +1,28 @@
 -- A depot in files whose journal was settled, or whose archive was read or stored in.
-use Rattle.std.proofs.Common.{◌≡◌, ℕ, ◌≤◌, List, length, sym, subst, ⊎_elim, arith}
+use Rattle.std.proofs.Common.{◌≡◌, ◌⊎◌, ℕ, ◌≤◌, List, length, inl, refl, ⊎_elim, arith}
 use Rattle.archive_file.specs.Archive as archives
 use Rattle.archive_file.specs.declared.archive.Archive.{Archive}
-use Rattle.outside_api.specs.Disk.{Files, LeavesOnly}
+use Rattle.outside_api.specs.Disk.{Files, LeavesOnly, NoMore}
+use Rattle.outside_api.specs.Moments.{weaker}
 use Rattle.disk_journal.specs.Images.{Committed, with_generation, with_group}
-use Rattle.disk_journal.specs.Stands.{Doubtful, nothing, group, opening, HasWithOrWithout, Stands}
+use Rattle.disk_journal.specs.Stands.{Doubtful, nothing, group, opening, HasWithOrWithout, Stands, disk_of}
 use Rattle.disk_journal.specs.declared.journal.Journal.{Journal}
 use Rattle.depot_rows.specs.table_changes.Changed.{AllRows, rows_of}
 use Rattle.depot_rows.specs.table_store.declared.tables.Tables.{Tables}
 use Rattle.depot_runs.specs.Today.{step}
 use Rattle.depot_rows.specs.depot_model.Deeds.{Deed}
 use Rattle.depot_rows.specs.depot_model.Places.{Placed, taken}
+use Rattle.depot_rows.specs.depot_model.Step.{after}
 use Rattle.depot_rows.specs.Standing.{Stand}
 use Rattle.recovery.specs.Holding.{HasAllRows}
 use Rattle.serial_depot.specs.Holding.{KeepContents, StandsWith, IsKeptSometime}
-use Rattle.serial_depot.specs.Running.{IsOfFault, IsDoubtOf, HasRun}
+use Rattle.serial_depot.specs.Running.{IsOfFault, IsDoubtOf, HasRun, HasRunOver}
+use Rattle.serial_depot.specs.Fetching.{IsFetched, IsRead}
 use Rattle.serial_depot.specs.Storing.{KeepsBelow}
 use Rattle.serial_depot.specs.declared.depot.SerialDepot.{SerialDepot}
 use Rattle.serial_depot.proofs.Kept.{kept_leads, kept_now}
 use Rattle.serial_depot.proofs.Places.{kept_whole}
-use Rattle.serial_depot.proofs.Stored.{contents_kept}
+use Rattle.serial_depot.proofs.Stored.{contents_kept, keeps_more}
 
 -- ---- other images of the archive's disk, which keep what ends below what is used
 
@@ -59,89 +62,89 @@ module _ (old new : Files → Type 0) (used used' : ℕ) (le : used ≤ used') (
   sometime_moved : (start : List Deed) (places : List Placed) (image : Files) → IsKeptSometime old used start places image → IsKeptSometime new used' start places image
   sometime_moved start places image (k, within, kept) = (k, within, kept_leads (StandsWith old used image) (StandsWith new used' image) (stands_moved image) start places k kept)
 
-module _ {D : Type 0} (seen may_leave : D → Files → Type 0) (moment : D → ℕ) (left_since : D → ℕ → Files → Type 0) (depot : SerialDepot D) (since : ℕ) (start : List Deed) (places : List Placed) (h : HasRun seen may_leave moment left_since depot since start places) where
-  -- the archive was read or stored in
-  pub has_run_moved : (archive : Archive D) → archives.used_of depot.archive ≤ archives.used_of archive → ((files : Files) × seen (archives.disk_of archive) files)
-      → KeepsBelow (may_leave (archives.disk_of depot.archive)) (may_leave (archives.disk_of archive)) (archives.used_of depot.archive)
-      → HasRun seen may_leave moment left_since (record { tables = depot.tables; journal = depot.journal; archive = archive }) since start places
-  has_run_moved archive le tells keeps =
-      let old = may_leave (archives.disk_of depot.archive) in
-      let new = may_leave (archives.disk_of archive) in
-      let used = archives.used_of depot.archive in
-      let used' = archives.used_of archive in
-      record {
-        was = h.was;
-        doubt = h.doubt;
-        stands = h.stands;
-        has = h.has;
-        stand = h.stand;
-        generation = h.generation;
-        tells = tells;
-        kept = contents_kept old new used used' (rows_of depot.tables) (taken step start places) le keeps h.stand h.kept;
-        in_doubt = doubt_moved old new used used' le keeps (rows_of depot.tables) h.was start places h.doubt h.in_doubt;
-        later = h.later;
-        any_moment = λ image left. sometime_moved old new used used' le keeps start places image (h.any_moment image left);
-      }
+module _ {D : Type 0} (may_leave : D → Files → Type 0) (moment : D → ℕ) (left_since : D → ℕ → Files → Type 0) (images : Files → Type 0) (used : ℕ) (tables : Tables) (journal : Journal D) (since : ℕ) (start : List Deed) (places : List Placed)
+    (h : HasRunOver may_leave moment left_since images used tables journal since start places) where
+  -- the archive may leave other images
+  pub over_moved : (new : Files → Type 0) (used' : ℕ) → used ≤ used' → KeepsBelow images new used → HasRunOver may_leave moment left_since new used' tables journal since start places
+  over_moved new used' le keeps = record {
+    was = h.was;
+    doubt = h.doubt;
+    stands = h.stands;
+    has = h.has;
+    stand = h.stand;
+    generation = h.generation;
+    kept = contents_kept images new used used' (rows_of tables) (taken step start places) le keeps h.stand h.kept;
+    in_doubt = doubt_moved images new used used' le keeps (rows_of tables) h.was start places h.doubt h.in_doubt;
+    later = h.later;
+    any_moment = λ image left. sometime_moved images new used used' le keeps start places image (h.any_moment image left);
+  }
 
-  still : (journal : Journal D) (now : Doubtful) → Stands may_leave journal h.was now
-      → IsDoubtOf (may_leave (archives.disk_of depot.archive)) (archives.used_of depot.archive) (rows_of depot.tables) h.was start places now
-      → LeavesOnly moment left_since depot.journal.disk journal.disk (HasWithOrWithout h.was h.doubt)
-      → HasRun seen may_leave moment left_since (record { tables = depot.tables; journal = journal; archive = depot.archive }) since start places
-  still journal now stands doubt leaves =
-      let images = may_leave (archives.disk_of depot.archive) in
-      let used = archives.used_of depot.archive in
-      record {
-        was = h.was;
-        doubt = now;
-        stands = stands;
-        has = h.has;
-        stand = h.stand;
-        generation = h.generation;
-        tells = h.tells;
-        kept = h.kept;
-        in_doubt = doubt;
-        later = let was = h.later in let more = leaves.later in omega (arith, was, more);
-        any_moment = λ image left.
-            ⊎_elim
-            (λ was_left. h.any_moment image was_left)
-            (λ fresh. (
-              length places,
-              omega arith,
-              kept_whole (StandsWith images used image) start places
-                  (kept_now images used h.was (rows_of depot.tables) start places h.has h.stand h.generation h.kept h.doubt h.in_doubt image fresh),
-            ))
-            (leaves.before since image h.later left);
-      }
+  -- it leaves no others
+  pub over_fewer : (new : Files → Type 0) → NoMore images new → HasRunOver may_leave moment left_since new used tables journal since start places
+  over_fewer new more = over_moved new used (omega arith) (keeps_more images new used more)
+
+  still : (journal' : Journal D) (now : Doubtful) → Stands may_leave journal' h.was now → IsDoubtOf images used (rows_of tables) h.was start places now
+      → LeavesOnly moment left_since journal.disk journal'.disk (HasWithOrWithout h.was h.doubt) → HasRunOver may_leave moment left_since images used tables journal' since start places
+  still journal' now stands doubt leaves = record {
+    was = h.was;
+    doubt = now;
+    stands = stands;
+    has = h.has;
+    stand = h.stand;
+    generation = h.generation;
+    kept = h.kept;
+    in_doubt = doubt;
+    later = let was = h.later in let more = leaves.later in omega (arith, was, more);
+    any_moment = λ image left.
+        ⊎_elim
+        (λ was_left. h.any_moment image was_left)
+        (λ fresh. (
+          length places,
+          omega arith,
+          kept_whole (StandsWith images used image) start places
+              (kept_now images used h.was (rows_of tables) start places h.has h.stand h.generation h.kept h.doubt h.in_doubt image fresh),
+        ))
+        (leaves.before since image h.later left);
+  }
 
   -- what was in doubt was settled
-  pub has_run_settled : (journal : Journal D) → Stands may_leave journal h.was nothing → LeavesOnly moment left_since depot.journal.disk journal.disk (HasWithOrWithout h.was h.doubt)
-      → HasRun seen may_leave moment left_since (record { tables = depot.tables; journal = journal; archive = depot.archive }) since start places
-  has_run_settled journal stands leaves = still journal nothing stands tt leaves
+  pub over_settled : (journal' : Journal D) → Stands may_leave journal' h.was nothing → LeavesOnly moment left_since journal.disk journal'.disk (HasWithOrWithout h.was h.doubt)
+      → HasRunOver may_leave moment left_since images used tables journal' since start places
+  over_settled journal' stands leaves = still journal' nothing stands tt leaves
 
-  -- or a disk failed at that
-  pub has_run_unsettled : (journal : Journal D) → Stands may_leave journal h.was h.doubt → LeavesOnly moment left_since depot.journal.disk journal.disk (HasWithOrWithout h.was h.doubt)
-      → HasRun seen may_leave moment left_since (record { tables = depot.tables; journal = journal; archive = depot.archive }) since start places
-  has_run_unsettled journal stands leaves = still journal h.doubt stands h.in_doubt leaves
+  -- or a disk failed at that, or the journal was read
+  pub over_unsettled : (journal' : Journal D) → Stands may_leave journal' h.was h.doubt → LeavesOnly moment left_since journal.disk journal'.disk (HasWithOrWithout h.was h.doubt)
+      → HasRunOver may_leave moment left_since images used tables journal' since start places
+  over_unsettled journal' stands leaves = still journal' h.doubt stands h.in_doubt leaves
 
-  -- other tables with the same rows
-  pub has_run_same_rows : (tables : Tables) → rows_of tables ≡ rows_of depot.tables → HasRun seen may_leave moment left_since (record { tables = tables; journal = depot.journal; archive = depot.archive }) since start places
-  has_run_same_rows tables same =
-      let images = may_leave (archives.disk_of depot.archive) in
-      let used = archives.used_of depot.archive in
-      let Has : AllRows → Type 0 = HasAllRows h.was in
-      let On : AllRows → Type 0 = λ r. Stand r (taken step start places) in
-      let Keep : AllRows → Type 0 = λ r. KeepContents images used r (taken step start places) in
-      let Doubt : AllRows → Type 0 = λ r. IsDoubtOf images used r h.was start places h.doubt in
-      record {
-        was = h.was;
-        doubt = h.doubt;
-        stands = h.stands;
-        has = subst Has (sym same) h.has;
-        stand = subst On (sym same) h.stand;
-        generation = h.generation;
-        tells = h.tells;
-        kept = subst Keep (sym same) h.kept;
-        in_doubt = subst Doubt (sym same) h.in_doubt;
-        later = h.later;
-        any_moment = h.any_moment;
-      }
+-- bytes of the journal were read
+pub over_fetched : {D : Type 0} (seen may_leave : D → Files → Type 0) (moment : D → ℕ) (left_since : D → ℕ → Files → Type 0) (images : Files → Type 0) (used : ℕ) (tables : Tables) (journal : Journal D) (since : ℕ) (start : List Deed) (places : List Placed)
+    → HasRunOver may_leave moment left_since images used tables journal since start places → (journal' : Journal D) → IsFetched seen may_leave moment left_since journal journal'
+    → HasRunOver may_leave moment left_since images used tables journal' since start places
+over_fetched seen may_leave moment left_since images used tables journal since start places h journal' fetched =
+    over_unsettled may_leave moment left_since images used tables journal since start places h journal' (fetched.stands h.was h.doubt h.stands)
+    (weaker moment left_since (disk_of journal) (disk_of journal') (may_leave (disk_of journal)) (HasWithOrWithout h.was h.doubt) h.stands.holds fetched.any_moment)
+
+-- none were
+pub fetched_none : {D : Type 0} (seen may_leave : D → Files → Type 0) (moment : D → ℕ) (left_since : D → ℕ → Files → Type 0) → ((disk : D) (files : Files) → left_since disk (moment disk) files → may_leave disk files)
+    → (journal : Journal D) → IsFetched seen may_leave moment left_since journal journal
+fetched_none seen may_leave moment left_since only_now journal = record {
+  stands = λ was doubt stands. stands;
+  any_moment = record { later = omega arith; each = only_now (disk_of journal); before = λ t files le left. inl left };
+  groups = λ all has. has;
+}
+
+-- nor were contents of the archive
+pub read_none : {D : Type 0} (seen may_leave : D → Files → Type 0) (archive : Archive D) → IsRead seen may_leave archive archive
+read_none seen may_leave archive = record { same = record { kept = λ files here. here; no_more = λ files here. here }; crash = λ files left. left; used = refl }
+
+-- the archive of a depot was read or stored in
+pub has_run_moved : {D : Type 0} (seen may_leave : D → Files → Type 0) (moment : D → ℕ) (left_since : D → ℕ → Files → Type 0) (depot : SerialDepot D) (since : ℕ) (start : List Deed) (places : List Placed)
+    → HasRun seen may_leave moment left_since depot since start places → (archive : Archive D) → archives.used_of depot.archive ≤ archives.used_of archive → ((files : Files) × seen (archives.disk_of archive) files)
+    → KeepsBelow (may_leave (archives.disk_of depot.archive)) (may_leave (archives.disk_of archive)) (archives.used_of depot.archive)
+    → HasRun seen may_leave moment left_since (record { tables = depot.tables; journal = depot.journal; archive = archive }) since start places
+has_run_moved seen may_leave moment left_since depot since start places h archive le tells keeps = record {
+  tells = tells;
+  over = over_moved may_leave moment left_since (may_leave (archives.disk_of depot.archive)) (archives.used_of depot.archive) depot.tables depot.journal since start places h.over
+      (may_leave (archives.disk_of archive)) (archives.used_of archive) le keeps;
+}

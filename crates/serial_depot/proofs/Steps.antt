@@ -1,8 +1,7 @@
--- A depot in files after one place more.
-use Rattle.std.proofs.Common.{◌≡◌, ◌≢◌, ◌⊎◌, ℕ, Bool, true, false, List, [], ◌∷◌, ◌++◌, length, refl, sym, ap, subst, ◌∙◌, inl, inr, ⊎_elim, arith, append_assoc}
+-- Tables and a journal after one place more.
+use Rattle.std.proofs.Common.{◌≡◌, ◌≢◌, ◌⊎◌, ℕ, ◌≤◌, ◌+◌, Bool, true, false, List, [], ◌∷◌, ◌++◌, length, Some, refl, sym, ap, subst, ◌∙◌, inl, inr, ⊎_elim, arith, append_assoc}
 use Rattle.std.proofs.lemmas.List.{length_push}
 use Rattle.std.specs.Prelude.{codes}
-use Rattle.archive_file.specs.Archive as archives
 use Rattle.depot_rows.specs.db_records.declared.key.Key.TheVariants as keys
 use Rattle.outside_api.specs.Disk.{Files, LeavesOnly}
 use Rattle.depot_rows.specs.db_records.declared.change.Change.{Change}
@@ -14,7 +13,7 @@ use Rattle.depot_rows.specs.table_store.declared.tables.Tables.{Tables}
 use Rattle.depot_runs.specs.Today.{step}
 use Rattle.depot_rows.specs.depot_model.Deeds.{Deed}
 use Rattle.depot_runs.specs.Kept.{IsChange}
-use Rattle.depot_rows.specs.depot_model.Places.{Placed, taken}
+use Rattle.depot_rows.specs.depot_model.Places.{Placed, done_at, taken}
 use Rattle.depot_rows.specs.depot_model.Records.{SameRows}
 use Rattle.depot_rows.specs.depot_model.Rules.{value_of}
 use Rattle.depot_rows.specs.depot_model.Step.{after}
@@ -26,8 +25,7 @@ use Rattle.session_loop.specs.Taking.{placed_by}
 use Rattle.serial_depot.specs.Committing.{AreChangesOf}
 use Rattle.serial_depot.specs.Holding.{generation_in, SameContents, KeepContents, StandsWith, IsKeptSometime}
 use Rattle.serial_depot.specs.Writing.{IsLeft, next_if, with_doubtful}
-use Rattle.serial_depot.specs.Running.{IsOfFault, IsDoubtOf, HasRun}
-use Rattle.serial_depot.specs.declared.depot.SerialDepot.{SerialDepot}
+use Rattle.serial_depot.specs.Running.{IsOfFault, IsDoubtOf, HasRunOver}
 use Rattle.serial_depot.proofs.Contents.{contents_alike}
 use Rattle.serial_depot.proofs.Kept.{kept_in_doubt, kept_now}
 use Rattle.serial_depot.proofs.Places.{taken-push, taken-append, quiet_more, same_stand, no_difference, kept_more, kept_whole}
@@ -83,7 +81,8 @@ doubt_of_it images used rows was start places nothing f = tt
 doubt_of_it images used rows was start places (group text) f = f
 doubt_of_it images used rows was start places (opening checkpoint) f = f
 
-module _ {D : Type 0} (seen may_leave : D → Files → Type 0) (moment : D → ℕ) (left_since : D → ℕ → Files → Type 0) (depot : SerialDepot D) (since : ℕ) (start : List Deed) (places : List Placed) (request : Request) (h : HasRun seen may_leave moment left_since depot since start places) where
+module _ {D : Type 0} (may_leave : D → Files → Type 0) (moment : D → ℕ) (left_since : D → ℕ → Files → Type 0) (images : Files → Type 0) (used : ℕ) (tables : Tables) (journal : Journal D) (since : ℕ) (start : List Deed) (places : List Placed) (request : Request)
+    (h : HasRunOver may_leave moment left_since images used tables journal since start places) where
   abbrev current : List Deed
   current = taken step start places
 
@@ -91,13 +90,7 @@ module _ {D : Type 0} (seen may_leave : D → Files → Type 0) (moment : D → 
   deeds = (step current request).deeds
 
   abbrev rows : AllRows
-  rows = rows_of depot.tables
-
-  abbrev images : Files → Type 0
-  images = may_leave (archives.disk_of depot.archive)
-
-  abbrev used : ℕ
-  used = archives.used_of depot.archive
+  rows = rows_of tables
 
   abbrev done : List Placed
   done = places ++ placed_by request false ∷ []
@@ -116,8 +109,8 @@ module _ {D : Type 0} (seen may_leave : D → Files → Type 0) (moment : D → 
   contents_failed path n = ap (λ (d : List Deed). content_at d path n) (sym failed_is)
 
   -- a disk failed before the commit
-  pub has_run_faulted : HasRun seen may_leave moment left_since depot since start failed
-  has_run_faulted =
+  pub over_faulted : HasRunOver may_leave moment left_since images used tables journal since start failed
+  over_faulted =
       let On : List Deed → Type 0 = Stand rows in
       let With : List Deed → Type 0 = KeepContents images used rows in
       record {
@@ -127,7 +120,6 @@ module _ {D : Type 0} (seen may_leave : D → Files → Type 0) (moment : D → 
         has = h.has;
         stand = subst On (sym failed_is) h.stand;
         generation = ap generation_in failed_is ∙ h.generation;
-        tells = h.tells;
         kept = subst With (sym failed_is) h.kept;
         in_doubt = doubt_more images used rows h.was start places (placed_by request true) (λ change. absurd (true_is_not_false change.0)) contents_failed h.doubt h.in_doubt;
         later = h.later;
@@ -135,8 +127,8 @@ module _ {D : Type 0} (seen may_leave : D → Files → Type 0) (moment : D → 
       }
 
   -- the command changed no row
-  pub has_run_idle : (opens : Bool) → AreChangesOf rows request opens [] → HasRun seen may_leave moment left_since depot since start done
-  has_run_idle opens made =
+  pub over_idle : (opens : Bool) → AreChangesOf rows request opens [] → HasRunOver may_leave moment left_since images used tables journal since start done
+  over_idle opens made =
       let stand : Stand rows (after current deeds) = made.stand current h.stand in
       let same_rows : SameRows current (after current deeds) = same_stand rows current (after current deeds) h.stand stand in
       let same_contents : SameContents current (after current deeds) = contents_stay current deeds h.stand.sound stand.sound same_rows in
@@ -150,7 +142,6 @@ module _ {D : Type 0} (seen may_leave : D → Files → Type 0) (moment : D → 
         has = h.has;
         stand = subst On (sym done_is) stand;
         generation = ap generation_in done_is ∙ (sym (ap value_of (same_rows (keys.Counter (codes "journal")))) ∙ h.generation);
-        tells = h.tells;
         kept = subst With (sym done_is) (record {
           ends = h.kept.ends;
           deletes = h.kept.deletes;
@@ -163,10 +154,7 @@ module _ {D : Type 0} (seen may_leave : D → Files → Type 0) (moment : D → 
 
   module _ (tables' : Tables) (journal' : Journal D) (changes : List Change) (opens : Bool) (written : Doubtful) (some : changes ≢ []) (with_it : HasAllRows (with_doubtful h.was written) (changed_by rows changes))
       (opened : (with_doubtful h.was written).generation ≡ next_if opens h.was.generation) (made : AreChangesOf rows request opens changes)
-      (with_contents : KeepContents images used (changed_by rows changes) (after current deeds)) (leaves : LeavesOnly moment left_since depot.journal.disk journal'.disk (λ c. HasWithOrWithout h.was h.doubt c ⊎ HasWithOrWithout h.was written c)) where
-    abbrev depot' : SerialDepot D
-    depot' = record { tables = tables'; journal = journal'; archive = depot.archive }
-
+      (with_contents : KeepContents images used (changed_by rows changes) (after current deeds)) (leaves : LeavesOnly moment left_since journal.disk journal'.disk (λ c. HasWithOrWithout h.was h.doubt c ⊎ HasWithOrWithout h.was written c)) where
     -- each image since is kept, where each that has what was written is
     moments : (p : Placed) → ((image : Files) → HasCommitted (with_doubtful h.was written) image → IsKeptSometime images used start (places ++ p ∷ []) image) → (image : Files) → left_since journal'.disk since image
         → IsKeptSometime images used start (places ++ p ∷ []) image
@@ -183,8 +171,8 @@ module _ {D : Type 0} (seen may_leave : D → Files → Type 0) (moment : D → 
         (leaves.before since image h.later left)
 
     -- it is done
-    pub has_run_done : Stands may_leave journal' (with_doubtful h.was written) nothing → rows_of tables' ≡ changed_by rows changes → HasRun seen may_leave moment left_since depot' since start done
-    has_run_done stands rows_are =
+    pub over_done : Stands may_leave journal' (with_doubtful h.was written) nothing → rows_of tables' ≡ changed_by rows changes → HasRunOver may_leave moment left_since images used tables' journal' since start done
+    over_done stands rows_are =
         let On : List Deed → Type 0 = Stand (changed_by rows changes) in
         let now : Stand (changed_by rows changes) (taken step start done) = subst On (sym done_is) (made.stand current h.stand) in
         let generation : generation_in (taken step start done) ≡ (with_doubtful h.was written).generation =
@@ -201,7 +189,6 @@ module _ {D : Type 0} (seen may_leave : D → Files → Type 0) (moment : D → 
           has = subst Has (sym rows_are) with_it;
           stand = subst OnRows (sym rows_are) now;
           generation = generation;
-          tells = h.tells;
           kept = subst WithRows (sym rows_are) kept;
           in_doubt = tt;
           later = omega (arith, h.later, leaves.later);
@@ -239,8 +226,8 @@ module _ {D : Type 0} (seen may_leave : D → Files → Type 0) (moment : D → 
         subst P (sym this) (doubt_of_it images used rows h.was start failed written of_this_fault)
 
     -- it failed
-    pub has_run_failed : (now : Doubtful) → IsLeft h.doubt written now → Stands may_leave journal' h.was now → rows_of tables' ≡ rows → HasRun seen may_leave moment left_since depot' since start failed
-    has_run_failed now after_fault stands rows_are =
+    pub over_failed : (now : Doubtful) → IsLeft h.doubt written now → Stands may_leave journal' h.was now → rows_of tables' ≡ rows → HasRunOver may_leave moment left_since images used tables' journal' since start failed
+    over_failed now after_fault stands rows_are =
         let On : List Deed → Type 0 = Stand rows in
         let Has : AllRows → Type 0 = HasAllRows h.was in
         let OnRows : AllRows → Type 0 = λ r. Stand r (taken step start failed) in
@@ -255,7 +242,6 @@ module _ {D : Type 0} (seen may_leave : D → Files → Type 0) (moment : D → 
           has = subst Has (sym rows_are) h.has;
           stand = subst OnRows (sym rows_are) (subst On (sym failed_is) h.stand);
           generation = generation;
-          tells = h.tells;
           kept = subst WithRows (sym rows_are) (subst With (sym failed_is) h.kept);
           in_doubt = subst Doubt (sym rows_are) (doubt_after now after_fault);
           later = omega (arith, h.later, leaves.later);

@@ -1,6 +1,6 @@
 -- Contents that are stored, and those that stay.
-use Rattle.std.proofs.Common.{◌≡◌, ℕ, zero, suc, ◌≤◌, ◌<◌, ◌+◌, max, get_or, Bool, true, false, cond, eqb, List, [], ◌∷◌, ◌++◌, length, take, Some, Result, Ok, Err, inl, inr, refl, sym, ap, subst, ◌∙◌, arith}
-use Rattle.std.specs.Prelude.{IfOk, OnErr, OnOk, option_and_then}
+use Rattle.std.proofs.Common.{◌≡◌, ◌⊎◌, ℕ, zero, suc, ◌≤◌, ◌<◌, ◌+◌, max, get_or, Bool, true, false, cond, eqb, List, [], ◌∷◌, ◌++◌, length, take, drop, Option, Some, None, Result, Ok, Err, inl, inr, refl, sym, ap, subst, ◌∙◌, arith}
+use Rattle.std.specs.Prelude.{OnErr, option_and_then}
 use Rattle.std.specs.List.{AllByRecursion, filter}
 use Rattle.std.proofs.lemmas.List.{take_more}
 use Rattle.outside_api.specs.Disk.{Files, NoMore}
@@ -31,29 +31,15 @@ use Rattle.recovery.specs.Standing.{HasContent}
 use Rattle.reply_rows.specs.Made.{IsSpotOf, StandAt}
 use Rattle.step_stores.specs.Stored.{StandsAmong}
 use Rattle.stored_contents.specs.Placed.{HasNoneIfDeleted, HasPlace, HasSpot, IfPut, IsPlacedAt, StandAfter, spot_of}
-use Rattle.serial_depot.specs.Holding.{KeepContents}
+use Rattle.serial_depot.specs.Holding.{HasItsContents, KeepContents}
 use Rattle.serial_depot.proofs.Contents.{revision_there}
 use Rattle.serial_depot.proofs.Staying.{row_there}
-use Rattle.serial_depot.specs.Storing.{AllReach, AllStored, AreAt, KeepsBelow, stores_end}
+use Rattle.serial_depot.specs.Storing.{AllReach, AllStored, AreAt, AreStored, HasStored, KeepsBelow, stores_end}
 
 -- what holds anyway holds on an error
 pub on_err : {T E : Type 0} (result : Result T E) (P : Type 0) → P → OnErr result P
 on_err (Ok x) P p = tt
 on_err (Err e) P p = p
-
--- what follows from what an error promises
-pub err_then : {T E : Type 0} (result : Result T E) (P Q : Type 0) → (P → Q) → OnErr result P → OnErr result Q
-err_then (Ok x) P Q f p = tt
-err_then (Err e) P Q f p = f p
-
--- and from what an answer does
-pub ok_then : {T E : Type 0} (result : Result T E) (P Q : T → Type 0) → ((x : T) → P x → Q x) → IfOk result P → IfOk result Q
-ok_then (Ok x) P Q f p = f x p
-ok_then (Err e) P Q f p = tt
-
-pub on_ok : {T E : Type 0} (result : Result T E) (P : Type 0) → P → OnOk result P
-on_ok (Ok x) P p = p
-on_ok (Err e) P p = tt
 
 -- ---- images that keep contents
 
@@ -217,6 +203,82 @@ module _ (contents : List (List ℕ)) (i at : ℕ) (x : List ℕ) (lt : i < leng
       let Q : ℕ → Type 0 = λ n. AllHave new (record { at = n; length = length x }) x in
       subst P (sym taken_more) (stored_push new (take i contents) at x (stored_kept old new end (take i contents) at keeps (omega (arith, end_is)) all) (subst Q end_is here))
 
+-- ---- images with contents that were stored
+
+all_stored : (images : Files → Type 0) (stores : List (List ℕ)) (from : ℕ) → ((image : Files) → images image → AreStored (image 0) stores from) → AllStored images stores from
+all_stored images [] from all = tt
+all_stored images (store ∷ stores) from all = (λ image left. (all image left).0, all_stored images stores (from + length store) (λ image left. (all image left).1))
+
+are_stored : (images : Files → Type 0) (stores : List (List ℕ)) (from : ℕ) → AllStored images stores from → (image : Files) → images image → AreStored (image 0) stores from
+are_stored images [] from all image left = tt
+are_stored images (store ∷ stores) from all image left = (all.0 image left, are_stored images stores (from + length store) all.1 image left)
+
+module _ (images : Files → Type 0) (used : ℕ) (stores : List (List ℕ)) where
+  pub stored_keeps : KeepsBelow images (HasStored images used stores) used
+  stored_keeps spot bytes le all image has = has.below spot bytes le all
+
+  pub stored_all : AllStored (HasStored images used stores) stores used
+  stored_all = all_stored (HasStored images used stores) stores used (λ image has. has.stored)
+
+  pub stored_reach : AllReach (HasStored images used stores) (stores_end stores used)
+  stored_reach image has = has.reach
+
+  -- what a disk may leave is among them, where it stored the contents behind what it was among
+  pub stored_within : (old new : Files → Type 0) → NoMore images old → KeepsBelow old new used → AllStored new stores used → AllReach new (stores_end stores used) → NoMore (HasStored images used stores) new
+  stored_within old new among keeps all reach image left = record {
+    below = λ spot bytes le has. keeps spot bytes le (λ c was. has c (among c was)) image left;
+    stored = are_stored new stores used all image left;
+    reach = reach image left;
+  }
+
+ends_joined : (first second : List (List ℕ)) (from : ℕ) → stores_end (first ++ second) from ≡ stores_end second (stores_end first from)
+ends_joined [] second from = refl
+ends_joined (store ∷ first) second from = ends_joined first second (from + length store)
+
+are_apart : (file : List ℕ) (first second : List (List ℕ)) (from : ℕ) → AreStored file (first ++ second) from → AreStored file first from × AreStored file second (stores_end first from)
+are_apart file [] second from all = (tt, all)
+are_apart file (store ∷ first) second from all = let rest = are_apart file first second (from + length store) all.1 in ((all.0, rest.0), rest.1)
+
+are_together : (file : List ℕ) (first second : List (List ℕ)) (from : ℕ) → AreStored file first from → AreStored file second (stores_end first from) → AreStored file (first ++ second) from
+are_together file [] second from one other = other
+are_together file (store ∷ first) second from one other = (one.0, are_together file first second (from + length store) one.1 other)
+
+-- contents that were stored, and then others, are all of them stored at once
+module _ (images : Files → Type 0) (from : ℕ) (first second : List (List ℕ)) where
+  abbrev once : Files → Type 0
+  once = HasStored images from (first ++ second)
+
+  abbrev twice : Files → Type 0
+  twice = HasStored (HasStored images from first) (stores_end first from) second
+
+  pub ends_twice : stores_end (first ++ second) from ≡ stores_end second (stores_end first from)
+  ends_twice = ends_joined first second from
+
+  pub stored_twice : NoMore twice once
+  stored_twice image has =
+      let parts = are_apart (image 0) first second from has.stored in
+      let far = has.reach in
+      let end = ends_twice in
+      let more = grows second (stores_end first from) in
+      record {
+        below = λ spot bytes le all. all image (record { below = has.below; stored = parts.0; reach = omega (arith, far, end, more) });
+        stored = parts.1;
+        reach = omega (arith, far, end);
+      }
+
+  pub stored_once : NoMore once twice
+  stored_once image has =
+      let more = grows first from in
+      let far = has.reach in
+      let end = ends_twice in
+      let kept : AllStored twice first from =
+      stored_kept (HasStored images from first) twice (stores_end first from) first from (stored_keeps (HasStored images from first) (stores_end first from) second) (omega arith) (stored_all images from first) in
+      record {
+        below = λ spot bytes le all. has.below spot bytes (omega (arith, le, more)) (stored_keeps images from first spot bytes le all);
+        stored = are_together (image 0) first second from (are_stored twice first from kept image has) has.stored;
+        reach = omega (arith, far, end);
+      }
+
 -- ---- contents at their spots
 
 pub at_length : (file : List ℕ) (spots : List Spot) (contents : List (List ℕ)) → AreAt file spots contents → length contents ≡ length spots
@@ -306,18 +368,16 @@ contents_follow images used used' from rows d e stores changes placed sound le k
         subst (λ (x : Spot). Has (image 0) x bytes) (sym s.at) here
     at_spot image left spot bytes (inr among) = stored_at images image left stores from spot bytes stored among
 
--- the contents that a reply waits for are at their spots
-pub contents_at : (images : Files → Type 0) (used : ℕ) (rows : AllRows) (d : List Deed) → KeepContents images used rows d → (image : Files) → images image
-    → (contents : List (List ℕ)) (spots : List Spot) → StandAt rows d contents spots → AreAt (image 0) spots contents
-contents_at images used rows d kept image left [] [] at = tt
-contents_at images used rows d kept image left [] (spot ∷ spots) at = absurd at
-contents_at images used rows d kept image left (content ∷ contents) [] at = absurd at
-contents_at images used rows d kept image left (content ∷ contents) (spot ∷ spots) at =
-    (here at.0, contents_at images used rows d kept image left contents spots at.1)
+-- the contents that a reply waits for are at their spots in an image that has the contents of the depot
+pub contents_at : (rows : AllRows) (d : List Deed) (image : Files) → HasItsContents rows d image → (contents : List (List ℕ)) (spots : List Spot) → StandAt rows d contents spots → AreAt (image 0) spots contents
+contents_at rows d image has [] [] at = tt
+contents_at rows d image has [] (spot ∷ spots) at = absurd at
+contents_at rows d image has (content ∷ contents) [] at = absurd at
+contents_at rows d image has (content ∷ contents) (spot ∷ spots) at = (here at.0, contents_at rows d image has contents spots at.1)
   where
     here : IsSpotOf rows d content spot → Has (image 0) spot content
     here s =
         let r = revision_there (revision d s.path s.rev) content s.content_is in
-        let found = (kept.contents image left).contents s.path s.rev r.0 content r.1 r.2 in
+        let found = has.contents s.path s.rev r.0 content r.1 r.2 in
         let row : HasContent (image 0) s.row content = subst (λ (x : RevRecord). HasContent (image 0) x content) (one_row found.0 s.row (sym found.1 ∙ s.there)) found.2 in
         subst (λ (x : Spot). Has (image 0) x content) (sym s.at) row

@@ -1,9 +1,13 @@
 -- The journal of a depot, as who fetches of it sees it. This project's own choice.
 use Rattle.std.specs.Prelude.{◌≡◌, ℕ, List, length}
-use Rattle.outside_api.specs.Disk.{Files}
+use Rattle.archive_file.specs.Archive.{disk_of as archive_disk_of, used_of}
+use Rattle.archive_file.specs.declared.archive.Archive.{Archive}
+use Rattle.outside_api.specs.Disk.{Files, LeavesOnly, NoMore, Same}
 use Rattle.disk_journal.specs.Images.{Committed}
 use Rattle.disk_journal.specs.Older.{AreOlder, texts as texts_with}
 use Rattle.disk_journal.specs.Stands.{Doubtful, Stands, disk_of}
+use Rattle.disk_journal.specs.declared.journal.Journal.{Journal}
+use Rattle.serial_depot.specs.Growing.{Chronicle, HasGroups}
 use Rattle.serial_depot.specs.declared.depot.SerialDepot.{SerialDepot}
 
 -- The journal of a depot has these texts, those of its generations from 0 on, the newest last: what is committed of the newest, and what stands on the disk
@@ -18,3 +22,15 @@ pub record HasTexts {D : Type 0} (seen may_leave : D → Files → Type 0) (depo
   pub as_many : length before ≡ was.generation
   pub older : AreOlder before files
   pub are : texts ≡ texts_with before was
+
+-- Bytes of a journal were read, if any: it has what it had, and a crash meanwhile leaves nothing that one before mightn't.
+pub record IsFetched {D : Type 0} (seen may_leave : D → Files → Type 0) (moment : D → ℕ) (left_since : D → ℕ → Files → Type 0) (old new : Journal D) : Type 0 where
+  pub stands : (was : Committed) (doubt : Doubtful) → Stands may_leave old was doubt → Stands may_leave new was doubt
+  pub any_moment : LeavesOnly moment left_since (disk_of old) (disk_of new) (may_leave (disk_of old))
+  pub groups : (c : Chronicle) → HasGroups seen may_leave old c → HasGroups seen may_leave new c
+
+-- Contents of an archive were read, if any: its disk tells what it told, and a crash leaves nothing that one before mightn't.
+pub record IsRead {D : Type 0} (seen may_leave : D → Files → Type 0) (old new : Archive D) : Type 0 where
+  pub same : Same (seen (archive_disk_of old)) (seen (archive_disk_of new))
+  pub crash : NoMore (may_leave (archive_disk_of old)) (may_leave (archive_disk_of new))
+  pub used : used_of new ≡ used_of old

@@ -1,5 +1,5 @@
 -- Contents that are stored in the archive, one after another from a place on, and read there. This project's own choice.
-use Rattle.std.specs.Prelude.{◌≤◌, ◌+◌, ℕ, List, [], ◌∷◌, length}
+use Rattle.std.specs.Prelude.{◌≡◌, ◌≤◌, ◌+◌, ℕ, List, [], ◌∷◌, length}
 use Rattle.outside_api.specs.Disk.{Files}
 use Rattle.depot_rows.specs.db_records.declared.change.Spot.{Spot}
 use Rattle.archive_file.specs.Archive.{AllHave, Has, end_of}
@@ -21,6 +21,18 @@ AllStored images (store ∷ stores) from = AllHave images (record { at = from; l
 abbrev pub stores_end : List (List ℕ) → ℕ → ℕ
 stores_end [] from = from
 stores_end (store ∷ stores) from = stores_end stores (from + length store)
+
+-- a file has these contents one after another from a place on
+abbrev pub AreStored : List ℕ → List (List ℕ) → ℕ → Type 0
+AreStored file [] from = Unit {0}
+AreStored file (store ∷ stores) from = Has file (record { at = from; length = length store }) store × AreStored file stores (from + length store)
+
+-- An image of the archive's disk after contents were stored behind a place: it has each content that all images before had at or before the place, these
+-- contents from there on, and reaches as far as they do.
+pub record HasStored (images : Files → Type 0) (used : ℕ) (stores : List (List ℕ)) (image : Files) : Type 0 where
+  pub below : (spot : Spot) (bytes : List ℕ) → end_of spot ≤ used → AllHave images spot bytes → Has (image 0) spot bytes
+  pub stored : AreStored (image 0) stores used
+  pub reach : stores_end stores used ≤ length (image 0)
 
 -- a file has each of these contents at its spot
 abbrev pub AreAt : List ℕ → List Spot → List (List ℕ) → Type 0

@@ -22,10 +22,9 @@ use itoa::Buffer;
 use journal_groups::print_group;
 use outside_api::Disk;
 use std::alloc::{AllocError, Global};
-use std::mem::replace;
 
 /// The reply to the command of that number where its commit failed.
-pub fn fault_reply(alloc: Global, number: u32) -> Result<Text, AllocError>
+pub(crate) fn fault_reply(alloc: Global, number: u32) -> Result<Text, AllocError>
     ensures { IfOk result (λ text. text ≡ printed (disk_row ∷ []) number) }
 {
     let mut text = Text::from_bytes(alloc, b"... code 30\n... name Disk\n\n... end ")?;
@@ -65,9 +64,8 @@ pub(crate) fn commit<D: Disk>(
     ensures cause { result ≡ true → HasRisen (D.faults (disk_of journal.old)) (D.faults (disk_of journal.new)) }
 {
     if write(journal, writing) {
-        drop(changed);
         return true;
     }
-    drop(replace(tables, changed));
+    *tables = changed;
     false
 }

@@ -7,12 +7,16 @@ use depot_rows::tables::Tables;
 use disk_journal::Journal;
 use outside_api::Disk;
 
-/// A depot in files that one thread asks: its rows in memory, its journal and its archive.
+/// A depot in files that one thread asks: its rows in memory, its journal and its archive. What holds of
+/// these together contracts say.
 #[derive(Drop)]
 pub struct SerialDepot<D: Disk> {
-    pub(crate) tables: Tables,
-    pub(crate) journal: Journal<D>,
-    pub(crate) archive: Archive<D>,
+    /// The rows.
+    pub tables: Tables,
+    /// The journal.
+    pub journal: Journal<D>,
+    /// The archive.
+    pub archive: Archive<D>,
 }
 
 /// What a depot that is closed gives back.

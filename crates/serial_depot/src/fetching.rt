@@ -8,18 +8,56 @@ ghost use Rattle.outside_api.specs.Link.{Answers, Fits};
 ghost use Rattle.depot_rows.specs.depot_model.Deeds.{Deed};
 ghost use Rattle.depot_rows.specs.depot_model.Places.{Placed};
 ghost use Rattle.disk_journal.specs.Stands.{disk_of};
-ghost use Rattle.serial_depot.specs.Fetching.{HasTexts};
+ghost use Rattle.serial_depot.specs.Fetching.{HasTexts, IsFetched, IsRead};
 ghost use Rattle.serial_depot.specs.Growing.{Chronicle, HasGroups, KeepsStored};
 ghost use Rattle.serial_depot.specs.Running.{CanTake, HasRun};
 ghost use Rattle.serial_depot.specs.Storing.{AreAt};
+ghost use Rattle.serial_depot.specs.declared.depot.SerialDepot.{SerialDepot as AnyDepot};
 
 use crate::depot::SerialDepot;
 use crate::storing::{are_within, read_all};
-use archive_file::ContentFault;
+use archive_file::{Archive, ContentFault};
 use depot_rows::paths::{Sequence, Text};
 use depot_rows::records::Spot;
+use disk_journal::Journal;
 use outside_api::{Disk, DiskFault, Fetched};
 use std::alloc::Global;
+
+/// Committed bytes of a journal of a generation from a place on, at the front of the buffer, as far as the
+/// buffer and the text go. They are answered as by a link to the journal: where none stands there it is the
+/// end of the newest generation and of one not there yet, and the next of an older one.
+pub fn fetch_texts<D: Disk>(
+    journal: &mut Journal<D>,
+    generation: u32,
+    at: u64,
+    buffer: &mut [u8],
+) -> Result<Fetched, DiskFault>
+    requires room { 0 < length buffer.old }
+    ensures answers { (depot : AnyDepot D) (texts : List (List ℕ)) → depot.journal ≡ journal.old → HasTexts D.seen D.may_leave depot texts → IfOk result (λ fetched. Answers texts generation at fetched buffer.new) }
+    ensures fits { IfOk result (λ fetched. Fits fetched (length buffer.old)) }
+    ensures fetched { IsFetched D.seen D.may_leave D.moment D.left_since journal.old journal.new }
+    ensures cause { HasCause (D.faults (disk_of journal.old)) (D.faults (disk_of journal.new)) result }
+{
+    journal.fetch(generation, at, buffer)
+}
+
+/// The contents at spots of an archive, in their order. A spot that ends behind what is used of it is
+/// answered as want of memory. Without spots no call of the disk is made.
+pub fn read_contents<D: Disk>(
+    alloc: Global,
+    archive: &mut Archive<D>,
+    spots: &[Spot],
+) -> Result<Sequence<Text>, ContentFault>
+    ensures contents { (files : Files) (contents : List (List ℕ)) → D.seen (archive_disk_of archive.old) files → AreAt (files 0) spots.now contents → IfOk result (λ texts. texts ≡ contents) }
+    ensures read { IsRead D.seen D.may_leave archive.old archive.new }
+    ensures no_call { spots.now ≡ [] → archive.new ≡ archive.old }
+    ensures cause { HasMemoryOr (D.faults (archive_disk_of archive.old)) (D.faults (archive_disk_of archive.new)) result }
+{
+    if !are_within(spots, archive.used()) {
+        return Err(ContentFault::Memory);
+    }
+    read_all(alloc, archive, spots)
+}
 
 impl<D: Disk> SerialDepot<D> {
     /// Committed bytes of the journal of a generation from a place on, at the front of the buffer, as far as the buffer and the text go. They are answered
@@ -42,7 +80,7 @@ impl<D: Disk> SerialDepot<D> {
         ensures stored { KeepsStored D.may_leave self.old.archive self.new.archive }
         ensures cause { HasCause (D.faults (disk_of self.old.journal)) (D.faults (disk_of self.new.journal)) result }
     {
-        self.journal.fetch(generation, at, buffer)
+        fetch_texts(&mut self.journal, generation, at, buffer)
     }
 
     /// The contents at spots of the archive, in their order. A spot that ends behind what is used of the archive, which no row of the tables has, is
@@ -63,9 +101,6 @@ impl<D: Disk> SerialDepot<D> {
         ensures no_call { spots.now ≡ [] → self.new ≡ self.old }
         ensures cause { HasMemoryOr (D.faults (archive_disk_of self.old.archive)) (D.faults (archive_disk_of self.new.archive)) result }
     {
-        if !are_within(spots, self.archive.used()) {
-            return Err(ContentFault::Memory);
-        }
-        read_all(alloc, &mut self.archive, spots)
+        read_contents(alloc, &mut self.archive, spots)
     }
 }

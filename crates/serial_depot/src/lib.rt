@@ -7,11 +7,18 @@
 mod commit;
 mod counting;
 mod depot;
+mod ending;
 mod fetching;
+mod imaging;
+mod landing;
 mod placing;
 mod storing;
 mod taking;
+mod telling;
 mod writing;
 
-pub use commit::fault_reply;
 pub use depot::{Closed, SerialDepot};
+pub use fetching::{fetch_texts, read_contents};
+pub use imaging::Imaging;
+pub use landing::{Landed, place_contents, place_rows};
+pub use telling::{Told, tell, tell_reading};

@@ -1,17 +1,16 @@
 //! What a place writes to the disk of the journal: a group, or the checkpoint of the next generation.
 
-ghost use Rattle.std.specs.Prelude.{◌≡◌, ◌⊎◌, ◌<◌, ◌≤◌, ◌^◌, ℕ, List, [], ◌∷◌, ◌++◌, length, true, IfOk, OnOk, IsErr};
+ghost use Rattle.std.specs.Prelude.{◌≡◌, ◌⊎◌, ◌<◌, ◌≤◌, ℕ, List, [], ◌∷◌, ◌++◌, true, IfOk, OnOk, IsErr};
 ghost use Rattle.disk_journal.specs.Images.{Committed, with_generation};
 ghost use Rattle.disk_journal.specs.Keeping.{KeepsOlder};
 ghost use Rattle.disk_journal.specs.Stands.{Doubtful, nothing, opening, HasWithOrWithout, Stands, disk_of, generation_of_journal, next_number};
-ghost use Rattle.journal_groups.specs.Groups.{IsGroup, body_of};
+ghost use Rattle.journal_groups.specs.Groups.{IsGroup};
 ghost use Rattle.outside_api.specs.Count.{HasCause, HasRisen};
 ghost use Rattle.outside_api.specs.Disk.{LeavesOnly};
 ghost use Rattle.depot_rows.specs.table_changes.Changed.{AllFitIn, AllRows, changed_by, rows_of};
 ghost use Rattle.serial_depot.specs.Growing.{IsWritten, older_after};
 ghost use Rattle.serial_depot.specs.Writing.{CanWrite, IsLeft, IsWritingOf, StandsBy, left_by};
 
-use crate::commit::measure;
 use checkpoint_file::{print_generation, write_generation};
 use depot_rows::paths::Text;
 use depot_rows::records::Change;
@@ -93,12 +92,10 @@ pub(crate) fn prepare<D: Disk>(
     opens: bool,
 ) -> Result<Writing, AllocError>
     ensures can { IfOk result (CanWrite journal.now) }
-    ensures few { OnOk result (length (body_of changes.now) < 2 ^ 64) }
     ensures writes { (rows : AllRows) → AllFitIn rows changes.now → rows_of changed.now ≡ changed_by rows changes.now → IsGroup changes.now → IfOk result (λ writing.
         IsWritingOf rows (rows_of changed.now) (next_number journal.now) (generation_of_journal journal.now) opens (left_by writing) changes.now) }
     ensures written { IfOk result (λ writing. IsWritten (next_number journal.now) opens (left_by writing) changes.now) }
 {
-    measure(alloc, changes)?;
     if !opens {
         let prepared = journal.prepare(alloc, changes)?;
         return Ok(Writing::Group(prepared));

@@ -37,7 +37,7 @@ module _ {D K : Type 0} (seen may_leave : D → Files → Type 0) (moment : D �
       record {
         formed = formed;
         under_way = subst (λ (rs : List SessionRun). U rs order) (sym runs_are) (subst (U (fresh_runs totals)) (sym none) (under_way may_give sessions scripts start requests totals (map given sinks) asked as_many as_many_scripts apart));
-        shows = shows start (subst S (sym rows) ran.stand) (all_proper may_give sessions requests asked formed);
+        shows = shows start (subst S (sym rows) ran.over.stand) (all_proper may_give sessions requests asked formed);
         rows = ap rows_of core_tables ∙ rows;
         end = ap (λ (t : Tables). t.archive_end) core_tables ∙ end;
         ran = subst R (sym none) ran;

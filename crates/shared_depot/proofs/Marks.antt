@@ -1,5 +1,5 @@
 -- Marks of parties, and the counts of failed disks that they stand for.
-use Rattle.std.proofs.Common.{◌≡◌, ◌≤◌, ◌⊎◌, ◌∙◌, ℕ, true, false, not, List, [], ◌∷◌, ◌++◌, Result, Ok, Err, inl, inr, refl, sym, ap, arith}
+use Rattle.std.proofs.Common.{◌≡◌, ◌≤◌, ◌⊎◌, ◌∙◌, ◌||◌, ◌==◌, ℕ, Bool, true, false, not, cond, List, [], ◌∷◌, ◌++◌, Result, Ok, Err, inl, inr, refl, sym, ap, arith}
 use Rattle.std.specs.Prelude.{IfOk}
 use Rattle.std.proofs.lemmas.Bool.{true≢false}
 use Rattle.outside_api.specs.Count.{HasRisen}
@@ -7,7 +7,7 @@ use Rattle.party_marks.specs.Marks.{has_marks, is_empty, marks_of}
 use Rattle.party_marks.specs.declared.mark.Mark.{Mark}
 use Rattle.replica_turns.specs.Going.{is_lost}
 use Rattle.replica_turns.specs.declared.party.Answered.{Answered}
-use Rattle.shared_depot.specs.Common.{AreMarksCaused}
+use Rattle.shared_depot.specs.Common.{AreMarksCaused, IsMarkCaused}
 
 -- behind a mark of its own a party has marks
 pub marked_more : (party : ℕ) (known after : List Mark) (mark : Mark) → marks_of party after ≡ marks_of party known ++ mark ∷ [] → has_marks party after ≡ true
@@ -33,22 +33,85 @@ risen_from before mid now le risen = omega (arith, le, risen)
 risen_to : (before mid now : ℕ) → mid ≤ now → HasRisen before mid → HasRisen before now
 risen_to before mid now le risen = omega (arith, le, risen)
 
--- counts since a moment, at a later one, and at one later still
-module _ (first mid now contents_first contents_mid contents_now : ℕ) (le : mid ≤ now) (contents_le : contents_mid ≤ contents_now) where
-  -- marks keep their cause
-  pub marks_stay : (marks : List Mark) → AreMarksCaused first mid contents_first contents_mid marks → AreMarksCaused first now contents_first contents_now marks
-  marks_stay marks caused = λ some. elim (caused some) [
-    | inl risen ↦ inl (risen_to first mid now le risen)
-    | inr risen ↦ inr (risen_to contents_first contents_mid contents_now contents_le risen)
-  ]
+-- marks keep their cause
+pub mark_stays : (first mid now : ℕ) → mid ≤ now → (marks : List Mark) → IsMarkCaused first mid marks → IsMarkCaused first now marks
+mark_stays first mid now le marks caused = λ some. risen_to first mid now le (caused some)
 
-  -- so do those to which one was added where a count rose
-  pub marks_caused : first ≤ mid → contents_first ≤ contents_mid → (Lost : Type 0) → (Lost → HasRisen mid now ⊎ HasRisen contents_mid contents_now) → (marks after : List Mark)
-      → (is_empty after ≡ false → (is_empty marks ≡ false) ⊎ Lost) → AreMarksCaused first mid contents_first contents_mid marks → AreMarksCaused first now contents_first contents_now after
-  marks_caused low contents_low Lost cause marks after told caused = λ some. elim (told some) [
-    | inl was ↦ marks_stay marks caused was
-    | inr lost ↦ elim (cause lost) [
-      | inl risen ↦ inl (risen_from first mid now low risen)
-      | inr risen ↦ inr (risen_from contents_first contents_mid contents_now contents_low risen)
-    ]
-  ]
+-- so do those to which one was added where the count rose
+pub mark_caused : (first mid now : ℕ) → first ≤ mid → mid ≤ now → (Lost : Type 0) → (Lost → HasRisen mid now) → (marks after : List Mark) → (is_empty after ≡ false → (is_empty marks ≡ false) ⊎ Lost)
+    → IsMarkCaused first mid marks → IsMarkCaused first now after
+mark_caused first mid now low le Lost cause marks after told caused = λ some. elim (told some) [
+  | inl was ↦ mark_stays first mid now le marks caused was
+  | inr lost ↦ risen_from first mid now low (cause lost)
+]
+
+-- marks of both kinds, one list behind the other
+empty_apart : (first second : List Mark) → is_empty (first ++ second) ≡ false → (is_empty first ≡ false) ⊎ (is_empty second ≡ false)
+empty_apart [] second some = inr some
+empty_apart (mark ∷ first) second some = inl refl
+
+pub both_caused : (first now contents_first contents_now : ℕ) (marks contents : List Mark) → IsMarkCaused first now marks → IsMarkCaused contents_first contents_now contents
+    → AreMarksCaused first now contents_first contents_now (marks ++ contents)
+both_caused first now contents_first contents_now marks contents one other = λ some. elim (empty_apart marks contents some) [
+  | inl journal ↦ inl (one journal)
+  | inr archive ↦ inr (other archive)
+]
+
+-- a party has marks where it has some of one kind
+pub has_either : (party : ℕ) (first second : List Mark) → has_marks party (first ++ second) ≡ has_marks party first || has_marks party second
+has_either party [] second = refl
+has_either party (mark ∷ first) second = go (mark.party == party) (has_either party first second)
+  where
+    go : (b : Bool) → has_marks party (first ++ second) ≡ has_marks party first || has_marks party second
+        → not (is_empty (cond b (mark ∷ marks_of party (first ++ second)) (marks_of party (first ++ second)))) ≡ not (is_empty (cond b (mark ∷ marks_of party first) (marks_of party first))) || has_marks party second
+    go true rest = refl
+    go false rest = rest
+
+swap_or : (a b c : Bool) → (a || b) || c ≡ (a || c) || b
+swap_or true b c = refl
+swap_or false true true = refl
+swap_or false true false = refl
+swap_or false false c = go c
+  where
+    go : (c : Bool) → c ≡ c || false
+    go true = refl
+    go false = refl
+
+-- with those of the other kind behind them
+pub marked_before : (party : ℕ) (old new contents : List Mark) (lost : Bool) → has_marks party new ≡ (has_marks party old || lost) → has_marks party (new ++ contents) ≡ (has_marks party (old ++ contents) || lost)
+marked_before party old new contents lost is =
+    has_either party new contents
+    ∙ (ap (λ (b : Bool). b || has_marks party contents) is
+    ∙ (swap_or (has_marks party old) lost (has_marks party contents)
+    ∙ sym (ap (λ (b : Bool). b || lost) (has_either party old contents))))
+
+join_or : (a b c : Bool) → a || (b || c) ≡ (a || b) || c
+join_or true b c = refl
+join_or false b c = refl
+
+-- or before them
+pub marked_behind : (party : ℕ) (journal old new : List Mark) (lost : Bool) → has_marks party new ≡ (has_marks party old || lost) → has_marks party (journal ++ new) ≡ (has_marks party (journal ++ old) || lost)
+marked_behind party journal old new lost is =
+    has_either party journal new
+    ∙ (ap (λ (b : Bool). has_marks party journal || b) is
+    ∙ (join_or (has_marks party journal) (has_marks party old) lost
+    ∙ sym (ap (λ (b : Bool). b || lost) (has_either party journal old))))
+
+-- ---- all marks
+
+some_first : (first second : List Mark) → is_empty first ≡ false → is_empty (first ++ second) ≡ false
+some_first [] second some = absurd (true≢false some)
+some_first (mark ∷ first) second some = refl
+
+some_second : (first second : List Mark) → is_empty second ≡ false → is_empty (first ++ second) ≡ false
+some_second [] second some = some
+some_second (mark ∷ first) second some = refl
+
+-- where a party has marks of either kind, there are marks
+pub marked_either : (party : ℕ) (journal archive marks contents : List Mark) → marks_of party marks ≡ marks_of party journal → marks_of party contents ≡ marks_of party archive → has_marks party (journal ++ archive) ≡ true
+    → is_empty (marks ++ contents) ≡ false
+marked_either party journal archive marks contents own own_contents has = go (has_marks party journal) refl (sym (has_either party journal archive) ∙ has)
+  where
+    go : (b : Bool) → has_marks party journal ≡ b → b || has_marks party archive ≡ true → is_empty (marks ++ contents) ≡ false
+    go true is either = some_first marks contents (marked_all party journal marks own is)
+    go false is either = some_second marks contents (marked_all party archive contents own_contents either)

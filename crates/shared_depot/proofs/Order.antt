@@ -1,8 +1,9 @@
--- A depot in files that has run an order, before and after one more command.
-use Rattle.std.proofs.Common.{◌≡◌, ◌⊎◌, ◌≤◌, ℕ, Bool, true, false, List, [], ◌∷◌, ◌++◌, map, Option, Some, None, refl, sym, ap, subst, ◌∙◌, arith}
-use Rattle.std.specs.Prelude.{if◌then◌else◌, is_some}
+-- Tables and a journal that have run an order, and an archive in which its contents were stored, before and after one more command.
+use Rattle.std.proofs.Common.{◌≡◌, ◌≤◌, ℕ, Bool, true, false, List, [], ◌∷◌, ◌++◌, map, refl, sym, ap, subst, ◌∙◌, arith}
+use Rattle.std.specs.Prelude.{if◌then◌else◌}
 use mathlib.Core.List.{map-append}
-use Rattle.archive_file.specs.Archive.{disk_of as archive_disk_of}
+use Rattle.archive_file.specs.Archive.{disk_of as archive_disk_of, used_of}
+use Rattle.archive_file.specs.declared.archive.Archive.{Archive}
 use Rattle.depot_rows.specs.db_records.declared.change.Change.{Change}
 use Rattle.depot_rows.specs.db_records.declared.table.TableId.{TableId}
 use Rattle.depot_rows.specs.depot_model.Deeds.{Deed}
@@ -12,109 +13,164 @@ use Rattle.depot_rows.specs.depot_model.declared.order.Answer.{Answer}
 use Rattle.depot_rows.specs.depot_model.declared.request.Request.{Request}
 use Rattle.depot_runs.specs.Today.{step}
 use Rattle.disk_journal.specs.Stands.{disk_of}
+use Rattle.disk_journal.specs.declared.journal.Journal.{Journal}
 use Rattle.locked_tables.specs.Known.{PartyKnown}
 use Rattle.locked_tables.specs.Taken.{IsOwn, end_after, place_of, placed_of, rows_after}
 use Rattle.locked_tables.specs.declared.taken.Taken.{Taken}
-use Rattle.outside_api.specs.Count.{HasRisen}
-use Rattle.outside_api.specs.Disk.{Files}
-use Rattle.serial_depot.specs.command_core.declared.outcome.Outcome.{Outcome}
+use Rattle.outside_api.specs.Count.{HasRisen, counted}
+use Rattle.outside_api.specs.Disk.{Files, NoMore}
 use Rattle.serial_depot.specs.Committing.{AreRowsAfter, IsOutcomeOf}
-use Rattle.shared_depot.specs.Room.{StandsAfter}
-use Rattle.serial_depot.specs.Running.{CanTake, HasRun}
+use Rattle.serial_depot.specs.Fetching.{IsRead}
+use Rattle.serial_depot.specs.Placing.{HasRunBeside, StoresBehind}
+use Rattle.serial_depot.specs.Running.{CanCommit, CanTake, HasRun}
+use Rattle.serial_depot.specs.Storing.{HasStored, stores_end}
+use Rattle.serial_depot.specs.command_core.declared.outcome.Outcome.{Outcome}
 use Rattle.serial_depot.specs.declared.depot.SerialDepot.{SerialDepot}
-use Rattle.session_loop.proofs.Faults.{caused_more, caused_once, caused_same}
-use Rattle.session_loop.specs.Served.{AreCaused}
+use Rattle.serial_depot.proofs.Moved.{over_moved}
+use Rattle.serial_depot.proofs.Beside.{among_on, used_on}
+use Rattle.serial_depot.proofs.Stored.{keeps_more}
 use Rattle.session_loop.specs.Taking.{Answers, place_by, placed_by}
 use Rattle.depot_rows.specs.table_changes.Changed.{AllRows, changed_by, rows_of}
 use Rattle.depot_rows.specs.table_store.declared.tables.Tables.{Tables}
-use Rattle.shared_depot.specs.Common.{HasRunOrder}
+use Rattle.shared_depot.specs.Common.{HasAllStored, HasRunOrder, IsArchiveAfter}
+use Rattle.shared_depot.specs.Room.{StandsAfter}
 use Rattle.shared_depot.specs.Sharing.{IsTakenAt}
-
--- where an option isn't there it is none
-pub none_there : {A : Type 0} (o : Option A) → is_some o ≡ false → o ≡ None
-none_there None e = refl
-none_there (Some a) e = absurd cc
-
--- how far the archive is used, whether or not its lane is touched
-pub end_now : (touched : Bool) (now said before : ℕ) → now ≡ (if touched then said else before) → (touched ≡ false → said ≡ before) → now ≡ said
-end_now true now said before e same = e
-end_now false now said before e same = e ∙ sym (same refl)
+use Rattle.shared_depot.specs.Stored.{ArchiveKnown, images_after, is_unwritten, lost_count, lost_in, stored_end, stores_of, unwritten_count}
+use Rattle.shared_depot.proofs.Stored.{count_caused, count_one}
 
 module _ {D : Type 0} (seen may_leave : D → Files → Type 0) (moment : D → ℕ) (left_since : D → ℕ → Files → Type 0) (faults : D → ℕ)
-    (rows : AllRows) (end : ℕ) (begins : ℕ → List Deed → Type 0) (faults_then contents_then : ℕ) where
-  abbrev Ran : List Taken → SerialDepot D → Type 0
-  Ran order depot = HasRunOrder seen may_leave moment left_since faults rows end begins faults_then contents_then order depot
+    (rows : AllRows) (end : ℕ) (images : Files → Type 0) (begins : ℕ → List Deed → Type 0) (faults_then : ℕ) where
+  abbrev Ran : List Taken → Tables → Journal D → Type 0
+  Ran order tables journal = HasRunOrder seen may_leave moment left_since faults rows end images begins faults_then order tables journal
 
-  abbrev journal_faults : SerialDepot D → ℕ
-  journal_faults depot = faults (disk_of depot.journal)
+  module _ (order : List Taken) (tables : Tables) (journal : Journal D) (was : Ran order tables journal) where
+    -- the rows are those after the order
+    pub all_rows : rows_of tables ≡ rows_after rows order
+    all_rows = λ k table. was.rows_are table k
 
-  abbrev archive_faults : SerialDepot D → ℕ
-  archive_faults depot = faults (archive_disk_of depot.archive)
+    -- and the end of the archive is where the contents end
+    pub stored_there : tables.archive_end ≡ stored_end end order
+    stored_there = was.end_is ∙ was.ends
 
-  -- the rows are those after the order
-  pub all_rows : (order : List Taken) (depot : SerialDepot D) → Ran order depot → rows_of depot.tables ≡ rows_after rows order
-  all_rows order depot was = λ k table. was.rows_are table k
+    -- an outcome after the order is one over the rows
+    pub outcome_here : (now : List Taken) → order ≡ now → (request : Request) (outcome : Outcome) → StandsAfter rows end begins now request outcome
+        → (since : ℕ) (start : List Deed) → begins since start → IsOutcomeOf (rows_of tables) tables.archive_end request outcome
+    outcome_here now here request outcome stands since start at =
+        let P : AllRows → ℕ → Type 0 = λ all from. IsOutcomeOf all from request outcome in
+        let after : P (rows_after rows order) (end_after end order) = subst (λ (l : List Taken). P (rows_after rows l) (end_after end l)) (sym here) (stands since start at) in
+        subst (P (rows_of tables)) (sym was.end_is) (subst (λ (all : AllRows). P all (end_after end order)) (sym all_rows) after)
 
-  -- an outcome after the order is one over the rows of the depot
-  pub outcome_here : (order now : List Taken) (depot : SerialDepot D) → Ran order depot → order ≡ now → (request : Request) (outcome : Outcome) → StandsAfter rows end begins now request outcome
-      → (since : ℕ) (start : List Deed) → begins since start → IsOutcomeOf (rows_of depot.tables) depot.tables.archive_end request outcome
-  outcome_here order now depot was here request outcome stands since start at =
-      let P : AllRows → ℕ → Type 0 = λ all from. IsOutcomeOf all from request outcome in
-      let after : P (rows_after rows order) (end_after end order) = subst (λ (l : List Taken). P (rows_after rows l) (end_after end l)) (sym here) (stands since start at) in
-      subst (P (rows_of depot.tables)) (sym was.end_is) (subst (λ (all : AllRows). P all (end_after end order)) (sym (all_rows order depot was)) after)
+    -- tables after the order and then changes are these after the changes
+    pub changed_here : (now : List Taken) → order ≡ now → (after : AllRows) (changes : List Change)
+        → ((table : TableId) → after table ≡ changed_by (rows_after rows now) changes table) → after ≡ changed_by (rows_of tables) changes
+    changed_here now here after changes made =
+        (λ k table. made table k)
+        ∙ (ap (λ (l : List Taken). changed_by (rows_after rows l) changes) (sym here)
+        ∙ ap (λ (all : AllRows). changed_by all changes) (sym all_rows))
 
-  -- tables after the order and then changes are those of the depot after the changes
-  pub changed_here : (order now : List Taken) (depot : SerialDepot D) → Ran order depot → order ≡ now → (after : AllRows) (changes : List Change)
-      → ((table : TableId) → after table ≡ changed_by (rows_after rows now) changes table) → after ≡ changed_by (rows_of depot.tables) changes
-  changed_here order now depot was here after changes made =
-      (λ k table. made table k)
-      ∙ (ap (λ (l : List Taken). changed_by (rows_after rows l) changes) (sym here)
-      ∙ ap (λ (all : AllRows). changed_by all changes) (sym (all_rows order depot was)))
-
-  module _ (order : List Taken) (old new : SerialDepot D) (was : Ran order old) (can : CanTake may_leave new)
-      (le : journal_faults old ≤ journal_faults new) (contents_le : archive_faults old ≤ archive_faults new) where
-    -- a commit found no memory
-    pub not_run : new.tables ≡ old.tables
-        → ((since : ℕ) (start : List Deed) (places : List Placed) → HasRun seen may_leave moment left_since old since start places → HasRun seen may_leave moment left_since new since start places)
-        → Ran order new
-    not_run same nothing = record {
-      can = can;
-      rows_are = λ table. ap (λ (t : Tables). rows_of t table) same ∙ was.rows_are table;
-      end_is = ap (λ (t : Tables). t.archive_end) same ∙ was.end_is;
-      ran = λ since start at. nothing since start (map placed_of order) (was.ran since start at);
-      caused = caused_more faults_then (journal_faults old) (journal_faults new) contents_then (archive_faults old) (archive_faults new) [] (map place_of order) (map place_of order) was.caused
-          (caused_same (journal_faults old) (journal_faults new) (archive_faults old) (archive_faults new) (map place_of order) (map place_of order) refl le contents_le);
-      no_fewer = let before = was.no_fewer in omega (arith, before, le);
-      no_fewer_contents = let before = was.no_fewer_contents in omega (arith, before, contents_le);
-    }
-
-    -- a command has the place of an entry behind them
-    pub run_more : (entry : Taken) (changes : List Change) → AreRowsAfter (rows_of old.tables) changes entry.fault (rows_of new.tables)
+    -- a command has the place of an entry behind them, and these contents were stored
+    pub run_more : (tables' : Tables) (journal' : Journal D) → CanCommit may_leave journal' → faults (disk_of journal) ≤ faults (disk_of journal')
+        → (entry : Taken) (changes : List Change) (stored : List (List ℕ)) → AreRowsAfter (rows_of tables) changes entry.fault (rows_of tables')
         → entry.changes ≡ (if entry.fault then [] else changes)
         → ((table : TableId) → rows_after rows (order ++ entry ∷ []) table ≡ changed_by (rows_after rows order) entry.changes table)
-        → end_after end (order ++ entry ∷ []) ≡ new.tables.archive_end
-        → ((since : ℕ) (start : List Deed) → begins since start → HasRun seen may_leave moment left_since new since start (map placed_of order ++ placed_of entry ∷ []))
-        → (entry.fault ≡ true → HasRisen (journal_faults old) (journal_faults new) ⊎ HasRisen (archive_faults old) (archive_faults new))
-        → Ran (order ++ entry ∷ []) new
-    run_more entry changes rows_now own rows_placed end_placed ran risen = record {
+        → end_after end (order ++ entry ∷ []) ≡ tables'.archive_end → tables'.archive_end ≡ stores_end (stores_of order ++ stored) end
+        → stores_of (order ++ entry ∷ []) ≡ stores_of order ++ stored
+        → ((since : ℕ) (start : List Deed) → begins since start → HasRunBeside may_leave moment left_since images end (stores_of order ++ stored) tables' journal' since start (map placed_of order ++ placed_of entry ∷ []))
+        → (is_unwritten entry ≡ true → HasRisen (faults (disk_of journal)) (faults (disk_of journal')))
+        → Ran (order ++ entry ∷ []) tables' journal'
+    run_more tables' journal' can le entry changes stored rows_now own rows_placed end_placed ends stores_are ran risen = record {
       can = can;
       rows_are = λ table. left table entry.fault entry.changes own rows_now ∙ sym (rows_placed table);
       end_is = sym end_placed;
-      ran = λ since start at. subst (HasRun seen may_leave moment left_since new since start) (sym (map-append placed_of order (entry ∷ []))) (ran since start at);
-      caused = subst (AreCaused faults_then (journal_faults new) contents_then (archive_faults new) []) (sym (map-append place_of order (entry ∷ [])))
-          (caused_more faults_then (journal_faults old) (journal_faults new) contents_then (archive_faults old) (archive_faults new) [] (map place_of order) (map place_of order ++ place_of entry ∷ []) was.caused
-          (caused_once (journal_faults old) (journal_faults new) (archive_faults old) (archive_faults new) (map place_of order) (place_of entry) entry.fault refl le contents_le risen));
+      ends = end_placed ∙ (ends ∙ sym (ap (λ (l : List (List ℕ)). stores_end l end) stores_are));
+      ran = λ since start at.
+          subst (HasRunBeside may_leave moment left_since images end (stores_of (order ++ entry ∷ [])) tables' journal' since start) (sym (map-append placed_of order (entry ∷ [])))
+          (subst (λ (l : List (List ℕ)). HasRunBeside may_leave moment left_since images end l tables' journal' since start (map placed_of order ++ placed_of entry ∷ [])) (sym stores_are) (ran since start at));
+      caused = subst (λ (n : ℕ). counted n faults_then ≤ faults (disk_of journal')) (sym (count_one is_unwritten order entry))
+          (count_caused (unwritten_count order) faults_then (faults (disk_of journal)) (faults (disk_of journal')) (is_unwritten entry) was.caused le risen);
       no_fewer = let before = was.no_fewer in omega (arith, before, le);
-      no_fewer_contents = let before = was.no_fewer_contents in omega (arith, before, contents_le);
     }
       where
-        left : (table : TableId) (fault : Bool) (made : List Change) → made ≡ (if fault then [] else changes) → AreRowsAfter (rows_of old.tables) changes fault (rows_of new.tables)
-            → rows_of new.tables table ≡ changed_by (rows_after rows order) made table
+        left : (table : TableId) (fault : Bool) (made : List Change) → made ≡ (if fault then [] else changes) → AreRowsAfter (rows_of tables) changes fault (rows_of tables')
+            → rows_of tables' table ≡ changed_by (rows_after rows order) made table
         left table true made none same = ap (λ (all : AllRows). all table) same ∙ (was.rows_are table ∙ sym (ap (λ (l : List Change). changed_by (rows_after rows order) l table) none))
         left table false made all same =
             ap (λ (now : AllRows). now table) same
-            ∙ (ap (λ (before : AllRows). changed_by before changes table) (all_rows order old was)
+            ∙ (ap (λ (before : AllRows). changed_by before changes table) all_rows
             ∙ sym (ap (λ (l : List Change). changed_by (rows_after rows order) l table) all))
+
+    -- beside an archive in which the contents of the order were stored they are a depot that has run it
+    pub depot_ran : (archive : Archive D) → HasAllStored seen may_leave moment left_since end images begins order archive → (since : ℕ) (start : List Deed) → begins since start
+        → HasRun seen may_leave moment left_since (record { tables = tables; journal = journal; archive = archive }) since start (map placed_of order)
+    depot_ran archive all since start at = record {
+      tells = all.tells since start at;
+      over = over_moved may_leave moment left_since (images_after images end order) (stored_end end order) tables journal since start (map placed_of order) (was.ran since start at)
+          (may_leave (archive_disk_of archive)) (used_of archive) all.used (keeps_more (images_after images end order) (may_leave (archive_disk_of archive)) (stored_end end order) all.among);
+    }
+
+  -- a journal of which bytes were read, or none, is as good
+  pub run_fetched : (order : List Taken) (tables : Tables) (journal journal' : Journal D) → Ran order tables journal → CanCommit may_leave journal' → faults (disk_of journal) ≤ faults (disk_of journal')
+      → ((since : ℕ) (start : List Deed) (places : List Placed) → HasRunBeside may_leave moment left_since images end (stores_of order) tables journal since start places
+      → HasRunBeside may_leave moment left_since images end (stores_of order) tables journal' since start places)
+      → Ran order tables journal'
+  run_fetched order tables journal journal' was can le same = record {
+    can = can;
+    rows_are = was.rows_are;
+    end_is = was.end_is;
+    ends = was.ends;
+    ran = λ since start at. same since start (map placed_of order) (was.ran since start at);
+    caused = let before = was.caused in omega (arith, before, le);
+    no_fewer = let before = was.no_fewer in omega (arith, before, le);
+  }
+
+-- ---- an archive
+
+module _ {D : Type 0} (seen may_leave : D → Files → Type 0) (moment : D → ℕ) (left_since : D → ℕ → Files → Type 0) (faults : D → ℕ)
+    (end : ℕ) (images : Files → Type 0) (begins : ℕ → List Deed → Type 0) (faults_then : ℕ) where
+  abbrev Kept : ArchiveKnown → Archive D → Type 0
+  Kept known archive = IsArchiveAfter seen may_leave moment left_since faults end images begins faults_then known archive
+
+  -- more places are known, none of which touched its lane
+  pub archive_learnt : (known : ArchiveKnown) (order : List Taken) (archive : Archive D) → Kept known archive → stores_of order ≡ stores_of known.list → lost_count order ≡ lost_count known.list
+      → Kept (record { list = order; failed = known.failed }) archive
+  archive_learnt known order archive was stores lost = record {
+    used = was.used ∙ ap (λ (l : List (List ℕ)). stores_end l end) (sym stores);
+    among = subst (λ (l : List (List ℕ)). NoMore (HasStored images end l) (may_leave (archive_disk_of archive))) (sym stores) was.among;
+    room = was.room;
+    tells = was.tells;
+    caused = let before = was.caused in omega (arith, before, lost);
+    no_fewer = was.no_fewer;
+  }
+
+  -- it has the contents of the places that are known
+  pub has_all : (known : ArchiveKnown) (archive : Archive D) → Kept known archive → HasAllStored seen may_leave moment left_since end images begins known.list archive
+  has_all known archive was = record { used = let used = was.used in omega (arith, used); among = was.among; tells = was.tells }
+
+  -- contents were read of it, or none
+  pub archive_read : (known : ArchiveKnown) (archive archive' : Archive D) → Kept known archive → IsRead seen may_leave archive archive' → faults (archive_disk_of archive) ≤ faults (archive_disk_of archive')
+      → (failed : Bool) → counted (lost_in (record { list = known.list; failed = failed })) faults_then ≤ faults (archive_disk_of archive') → Kept (record { list = known.list; failed = failed }) archive'
+  archive_read known archive archive' was read le failed caused = record {
+    used = read.used ∙ was.used;
+    among = λ image left. was.among image (read.crash image left);
+    room = λ image left. let far = was.room image (read.crash image left) in let same = read.used in omega (arith, far, same);
+    tells = λ since start at. let told = was.tells since start at in (told.0, read.same.kept told.0 told.1);
+    caused = caused;
+    no_fewer = let before = was.no_fewer in omega (arith, before, le);
+  }
+
+  -- a place more, whose contents were stored
+  pub archive_more : (known : ArchiveKnown) (archive archive' : Archive D) → Kept known archive → (entry : Taken) (stored : List (List ℕ)) → stores_of (known.list ++ entry ∷ []) ≡ stores_of known.list ++ stored
+      → StoresBehind seen may_leave stored archive archive' → faults (archive_disk_of archive) ≤ faults (archive_disk_of archive') → (failed : Bool)
+      → counted (lost_in (record { list = known.list ++ entry ∷ []; failed = failed })) faults_then ≤ faults (archive_disk_of archive') → Kept (record { list = known.list ++ entry ∷ []; failed = failed }) archive'
+  archive_more known archive archive' was entry stored stores behind le failed caused = record {
+    used = used_on seen may_leave images end (stores_of known.list) stored archive archive' was.used behind ∙ ap (λ (l : List (List ℕ)). stores_end l end) (sym stores);
+    among = subst (λ (l : List (List ℕ)). NoMore (HasStored images end l) (may_leave (archive_disk_of archive'))) (sym stores)
+        (among_on seen may_leave images end (stores_of known.list) stored archive archive' was.used was.among behind);
+    room = behind.room;
+    tells = λ since start at. let told = was.tells since start at in behind.tells told.0 told.1;
+    caused = caused;
+    no_fewer = let before = was.no_fewer in omega (arith, before, le);
+  }
 
 -- ---- what the party is promised
 
@@ -148,19 +204,56 @@ module _ (begins : ℕ → List Deed → Type 0) (order after : List Taken) (old
     answers = λ since start at. answers_so start (map placed_of order) (promised since start at);
   }
 
--- ---- a depot that has run no place
+-- ---- parts that have run no place
 
-pub fresh_run : {D : Type 0} (seen may_leave : D → Files → Type 0) (moment : D → ℕ) (left_since : D → ℕ → Files → Type 0) (faults : D → ℕ) (rows : AllRows) (end : ℕ) (begins : ℕ → List Deed → Type 0) (faults_then contents_then : ℕ) (depot : SerialDepot D)
-    → CanTake may_leave depot → ((table : TableId) → rows_of depot.tables table ≡ rows table) → depot.tables.archive_end ≡ end
-    → ((since : ℕ) (start : List Deed) → begins since start → HasRun seen may_leave moment left_since depot since start [])
-    → faults_then ≡ faults (disk_of depot.journal) → contents_then ≡ faults (archive_disk_of depot.archive)
-    → HasRunOrder seen may_leave moment left_since faults rows end begins faults_then contents_then [] depot
-fresh_run seen may_leave moment left_since faults rows end begins faults_then contents_then depot can rows_are end_is ran same contents_same = record {
-  can = can;
-  rows_are = rows_are;
-  end_is = end_is;
-  ran = ran;
-  caused = caused_same faults_then (faults (disk_of depot.journal)) contents_then (faults (archive_disk_of depot.archive)) [] [] refl (omega (arith, same)) (omega (arith, contents_same));
-  no_fewer = omega (arith, same);
-  no_fewer_contents = omega (arith, contents_same);
-}
+module _ {D : Type 0} (seen may_leave : D → Files → Type 0) (moment : D → ℕ) (left_since : D → ℕ → Files → Type 0) (faults : D → ℕ) (rows : AllRows) (end : ℕ) (images : Files → Type 0) (begins : ℕ → List Deed → Type 0) (depot : SerialDepot D)
+    (can : CanTake may_leave depot) (rows_are : (table : TableId) → rows_of depot.tables table ≡ rows table) (end_is : depot.tables.archive_end ≡ end)
+    (fewer : NoMore (may_leave (archive_disk_of depot.archive)) images) (among : NoMore images (may_leave (archive_disk_of depot.archive)))
+    (ran : (since : ℕ) (start : List Deed) → begins since start → HasRun seen may_leave moment left_since depot since start []) where
+  there : used_of depot.archive ≡ end
+  there = sym can.end ∙ end_is
+
+  pub fresh_run : (faults_then : ℕ) → faults_then ≡ faults (disk_of depot.journal) → HasRunOrder seen may_leave moment left_since faults rows end images begins faults_then [] depot.tables depot.journal
+  fresh_run faults_then same = record {
+    can = (can.was, (can.doubt, can.stands));
+    rows_are = rows_are;
+    end_is = end_is;
+    ends = refl;
+    ran = λ since start at.
+        let used = used_of depot.archive in
+        over_moved may_leave moment left_since (may_leave (archive_disk_of depot.archive)) used depot.tables depot.journal since start [] (ran since start at).over (HasStored images end []) end (omega (arith, there))
+        (λ spot bytes le all image has. has.below spot bytes (omega (arith, le, there)) (λ c left. all c (fewer c left)));
+    caused = omega (arith, same);
+    no_fewer = omega (arith, same);
+  }
+
+  pub fresh_archive : (faults_then : ℕ) → faults_then ≡ faults (archive_disk_of depot.archive)
+      → IsArchiveAfter seen may_leave moment left_since faults end images begins faults_then (record { list = []; failed = false }) depot.archive
+  fresh_archive faults_then same = record {
+    used = there;
+    among = λ image left. record { below = λ spot bytes le all. all image (among image left); stored = tt; reach = let far = can.room image left in omega (arith, far, there) };
+    room = can.room;
+    tells = λ since start at. (ran since start at).tells;
+    caused = omega (arith, same);
+    no_fewer = omega (arith, same);
+  }
+
+-- ---- the parts put together
+
+module _ {D : Type 0} (seen may_leave : D → Files → Type 0) (moment : D → ℕ) (left_since : D → ℕ → Files → Type 0) (faults : D → ℕ) (rows : AllRows) (end : ℕ) (images : Files → Type 0) (begins : ℕ → List Deed → Type 0) (faults_then contents_then : ℕ)
+    (order : List Taken) (failed : Bool) (tables : Tables) (journal : Journal D) (archive : Archive D) (was : HasRunOrder seen may_leave moment left_since faults rows end images begins faults_then order tables journal)
+    (kept : IsArchiveAfter seen may_leave moment left_since faults end images begins contents_then (record { list = order; failed = failed }) archive) where
+  pub closed_can : CanTake may_leave (record { tables = tables; journal = journal; archive = archive })
+  closed_can = record {
+    was = was.can.0;
+    doubt = was.can.1.0;
+    stands = was.can.1.1;
+    end = stored_there seen may_leave moment left_since faults rows end images begins faults_then order tables journal was ∙ sym kept.used;
+    room = kept.room;
+  }
+
+  pub closed_stored : HasAllStored seen may_leave moment left_since end images begins order archive
+  closed_stored = has_all seen may_leave moment left_since faults end images begins contents_then (record { list = order; failed = failed }) archive kept
+
+  pub closed_run : (since : ℕ) (start : List Deed) → begins since start → HasRun seen may_leave moment left_since (record { tables = tables; journal = journal; archive = archive }) since start (map placed_of order)
+  closed_run = depot_ran seen may_leave moment left_since faults rows end images begins faults_then order tables journal was archive closed_stored

@@ -1,6 +1,8 @@
 -- An outcome that was found over gathered tables is the request's over the tables after the order.
-use Rattle.std.proofs.Common.{◌≡◌, ◌⊎◌, ℕ, Bool, List, [], map, Result, Ok, Err, inl, inr, subst}
-use Rattle.std.specs.Prelude.{IfOk}
+use Rattle.std.proofs.Common.{◌≡◌, ◌⊎◌, ◌∙◌, ℕ, Bool, List, [], map, Option, Some, None, Result, Ok, Err, inl, inr, refl, sym, ap, subst}
+use Rattle.std.specs.Prelude.{IfOk, IfSome}
+use Rattle.std.specs.Sync.Mutex.{mutex_guard_value}
+use Rattle.std.specs.declared.sync.MutexGuard.{MutexGuard}
 use Rattle.serial_depot.specs.command_core.Outcomes.{HasNeeded, IsFormed, IsFormedBy, IsOutcome}
 use Rattle.serial_depot.specs.command_core.declared.outcome.Outcome.{Outcome}
 use Rattle.command_needs.specs.Sets.{need_of}
@@ -23,7 +25,14 @@ use Rattle.depot_rows.specs.table_changes.Changed.{AllRows, rows_of}
 use Rattle.table_locks.specs.Gathered.{HasSet, HasSetBy}
 use Rattle.table_locks.specs.declared.gathered.Gathered.{Gathered}
 use Rattle.shared_depot.specs.Ready.{IsGatheredFor}
-use Rattle.shared_depot.specs.Room.{IsStillSo, StandsAfter}
+use Rattle.outside_api.specs.Disk.{Files}
+use Rattle.serial_depot.specs.Committing.{IsOutcomeOf}
+use Rattle.serial_depot.specs.Holding.{KeepContents}
+use Rattle.serial_depot.specs.Telling.{IsReplyOf}
+use Rattle.serial_depot.specs.declared.telling.Told.{Told}
+use Rattle.serial_depot.specs.Storing.{HasStored, stores_end}
+use Rattle.shared_depot.specs.Room.{IsDueAfter, IsStillSo, IsToldAfter, StandsAfter}
+use Rattle.shared_depot.specs.Stored.{ArchiveKnown, images_after, stored_end, stores_of}
 use Rattle.shared_depot.proofs.Sets.{changes_in_set}
 
 -- a command that is well-formed is formed
@@ -44,7 +53,7 @@ agree_of all rows request set = go request.command set
 module _ {N : Type 0} (rows : AllRows) (end : ℕ) (begins : ℕ → List Deed → Type 0) (order : List Taken) (g : Gathered N) (whole : Bool) (needs : List Need) (request : Request) (outcome : Outcome)
     (gathered : IsGatheredFor rows whole needs g) (set : map need_of needs ≡ needs_of request) (proper : (since : ℕ) (start : List Deed) → begins since start → IsProper request)
     (found : (d : List Deed) → IsSound d → IsFormedBy request → HasNeeded (rows_of g.tables) d request → IsOutcome (rows_of g.tables) g.tables.archive_end d request outcome)
-    (still : IsStillSo rows end order g outcome) where
+    (still : IsStillSo rows end order g outcome.changes outcome.stores) where
   abbrev all : AllRows
   all = rows_after rows order
 
@@ -63,3 +72,21 @@ module _ {N : Type 0} (rows : AllRows) (end : ℕ) (begins : ℕ → List Deed �
 
   pub stands_after : StandsAfter rows end begins order request outcome
   stands_after = λ since start at d stand. at_end d still.end_is (over_all d stand (formed_of request (proper since start at)))
+
+-- ---- the reply
+
+-- where an outcome is due after the order, its reply is that of the depot that has run it
+pub reply_here : (rows : AllRows) (end : ℕ) (images : Files → Type 0) (begins : ℕ → List Deed → Type 0) (order now : List Taken) → order ≡ now → (request : Request) (told : Told) → IsDueAfter rows end images begins now request told
+    → (since : ℕ) (start : List Deed) → begins since start → (d : List Deed) (all : AllRows) → all ≡ rows_after rows order → Stand all d → KeepContents (images_after images end order) (stored_end end order) all d → IsReplyOf d request told
+reply_here rows end images begins order now here request told due since start at d all rows_are stand kept =
+    due.reply since start at all (end_after end now) d stand
+    (subst (λ (r : AllRows). IsOutcomeOf r (end_after end now) request due.outcome) (ap (rows_after rows) (sym here) ∙ sym rows_are) (due.stands since start at))
+    (subst (λ (l : List Taken). KeepContents (images_after images end l) (stored_end end l) all d) here kept)
+
+-- what was printed over the places that were known behind the lock of the archive is told after the whole order, behind which its lane wasn't touched
+pub told_after : (end : ℕ) (images : Files → Type 0) (begins : ℕ → List Deed → Type 0) (archive : Option (MutexGuard ArchiveKnown)) (order : List Taken) (request : Request) (outcome : Outcome) (told : Told)
+    → IfSome archive (λ guard. stores_of order ≡ stores_of (mutex_guard_value guard).list)
+    → ((known : List Taken) → IfSome archive (λ guard. known ≡ (mutex_guard_value guard).list) → IsToldAfter end images begins known request outcome told) → IsToldAfter end images begins order request outcome told
+told_after end images begins None order request outcome told same found = found order tt
+told_after end images begins (Some guard) order request outcome told same found = λ since start at rows from d stand is kept.
+    found (mutex_guard_value guard).list refl since start at rows from d stand is (subst (λ (stores : List (List ℕ)). KeepContents (HasStored images end stores) (stores_end stores end) rows d) same kept)

@@ -26,6 +26,13 @@ module _ {E : Type 0} (run : Run) (olds news : List (LaneState E)) (seat : LaneS
   pub last_seat : (n : ℕ) → olds ≡ fresh_lanes run (suc n) → (news ≡ fresh_lanes run n) × (seat ≡ fresh_lane run n)
   last_seat n is = same_ends news (fresh_lanes run n) seat (fresh_lane run n) (sym popped ∙ is)
 
+-- the last pass for marks is that of the last party
+pub last_mark : (olds news : List PassKnown) (pass : PassKnown) (count : ℕ) → 1 ≤ count → olds ≡ news ++ pass ∷ [] → olds ≡ fresh_marks count → (news ≡ fresh_marks (count - 1)) × (pass ≡ record { party = count; list = [] })
+last_mark olds news pass count some popped is =
+    let next : count ≡ suc (count - 1) = omega arith in
+    let ends = same_ends news (fresh_marks (count - 1)) pass (record { party = suc (count - 1); list = [] }) (sym popped ∙ (is ∙ ap fresh_marks next)) in
+    (ends.0, ends.1 ∙ ap (λ (n : ℕ). let p : PassKnown = record { party = n; list = [] } in p) (sym next))
+
 -- the first eleven are those of the tables
 pub table_seats : (run : Run) → AllByRecursion (IsSeatOfTable run) (fresh_lanes run 11)
 table_seats run = (

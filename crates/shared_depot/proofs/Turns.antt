@@ -1,42 +1,69 @@
--- A replica's turn whose answer is told as want of memory.
-use Rattle.std.proofs.Common.{◌≡◌, ℕ, Bool, true, false, List, Result, Ok, Err, inl, inr, refl, sym, subst}
+-- A replica's answer that is told as want of memory, and the turn that it is.
+use Rattle.std.proofs.Common.{◌≡◌, ◌∙◌, ℕ, Bool, true, false, List, [], ◌∷◌, ◌++◌, Result, Ok, Err, Vec, Global, inl, inr, refl, sym, ap, subst}
+use Rattle.std.specs.Prelude.{IfOk, OnErr}
 use Rattle.std.proofs.lemmas.Bool.{true≢false}
+use Rattle.depot_rows.specs.depot_model.Deeds.{Deed}
 use Rattle.depot_rows.specs.depot_model.declared.request.Request.{Request}
+use Rattle.locked_tables.specs.Known.{PartyKnown}
 use Rattle.outside_api.specs.Disk.{Files}
-use Rattle.replica_turns.specs.Going.{IsTurned}
-use Rattle.replica_turns.specs.Replying.{IsAnswered, IsAnsweredAs, pulls}
+use Rattle.party_marks.specs.Known.{PassKnown}
+use Rattle.replica_turns.specs.Going.{is_lost, reply_text}
+use Rattle.replica_turns.specs.Replying.{IsAnswered, IsAnsweredAs, IsAnsweredBy, pulls}
 use Rattle.replica_turns.specs.declared.party.Answered.{Answered}
 use Rattle.replica_turns.specs.declared.party.ReplicaParty.{ReplicaParty}
+use Rattle.serial_depot.specs.command_core.Outcomes.{IsFormedBy}
 use Rattle.serial_depot.specs.declared.depot.SerialDepot.{SerialDepot}
-use Rattle.shared_depot.specs.Replicas.{IsToldOn}
+use Rattle.shared_depot.specs.Replicas.{IsReplicaAnswer, IsReplicaTurn, IsToldOn}
 
-module _ {D : Type 0} (seen may_leave : D → Files → Type 0) (depot : SerialDepot D) (old new : ReplicaParty) where
-  abbrev AnsweredSo : Request → List ℕ → Bool → Type 0
-  AnsweredSo request text lost = IsAnswered (λ (been : SerialDepot D). been ≡ depot) seen may_leave old.replica new.replica request text lost
+module _ {D : Type 0} (seen may_leave : D → Files → Type 0) (depot : SerialDepot D) (old new : ReplicaParty) (request : Request) where
+  abbrev Been : SerialDepot D → Type 0
+  Been been = been ≡ depot
+
+  abbrev AnsweredSo : List ℕ → Bool → Type 0
+  AnsweredSo text lost = IsAnswered Been seen may_leave old.replica new.replica request text lost
+
+  abbrev AnsweredBy : {E : Type 0} → Result Answered E → Type 0
+  AnsweredBy answer = AnsweredSo (reply_text answer request.number) (is_lost answer)
+
+  -- a command was answered
+  pub answered_so : {E : Type 0} (answer : Result Answered E) → IfOk answer (λ answered. IsAnsweredBy Been seen may_leave old.replica new.replica request answered.text answered.lost) → OnErr answer (new.replica ≡ old.replica) → AnsweredBy answer
+  answered_so (Ok answered) is kept = inl is
+  answered_so (Err error) is kept = inr (record { same = kept; reply = refl; kept = refl })
 
   -- a replica that was answered that a disk failed is as it was
-  same_lost : (request : Request) (text : List ℕ) → AnsweredSo request text true → new.replica ≡ old.replica
-  same_lost request text (inl is) = go (pulls request.command) is
+  same_lost : (text : List ℕ) → AnsweredSo text true → new.replica ≡ old.replica
+  same_lost text (inl is) = go (pulls request.command) is
     where
-      go : (pull : Bool) → IsAnsweredAs (λ (been : SerialDepot D). been ≡ depot) seen may_leave old.replica new.replica request text true pull → new.replica ≡ old.replica
+      go : (pull : Bool) → IsAnsweredAs Been seen may_leave old.replica new.replica request text true pull → new.replica ≡ old.replica
       go true is = is.0
       go false is = is.0
-  same_lost request text (inr is) = is.same
+  same_lost text (inr is) = is.same
 
   -- so it may be answered that no memory was left
-  without_memory : {E : Type 0} (answered : Answered) (error : E) → answered.lost ≡ true → IsTurned {E = E} seen may_leave depot old new (Ok answered) → IsTurned seen may_leave depot old new (Err error)
-  without_memory answered error lost t = record {
-    request = t.request;
-    left = t.left;
-    answered = λ formed. inr (record {
-      same = same_lost t.request answered.text (subst (AnsweredSo t.request answered.text) lost (t.answered formed));
-      reply = refl;
-      kept = refl;
-    });
-  }
-
-  pub told_on : {E : Type 0} (answer told : Result Answered E) → IsToldOn answer told → IsTurned seen may_leave depot old new answer → IsTurned seen may_leave depot old new told
-  told_on answer told (inl same) t = subst (IsTurned seen may_leave depot old new) (sym same) t
+  pub told_on : {E : Type 0} (answer told : Result Answered E) → IsToldOn answer told → AnsweredBy answer → AnsweredBy told
+  told_on {E} answer told (inl same) t = subst (λ (other : Result Answered E). AnsweredBy other) (sym same) t
   told_on (Ok answered) (Ok other) (inr (lost, err)) t = absurd (true≢false (sym err))
-  told_on (Ok answered) (Err error) (inr (lost, err)) t = without_memory answered error lost t
+  told_on (Ok answered) (Err error) (inr (lost, err)) t = inr (record { same = same_lost answered.text (subst (AnsweredSo answered.text) lost t); reply = refl; kept = refl })
   told_on (Err first) told (inr (lost, err)) t = absurd (true≢false (sym lost))
+
+-- the next command of a replica was taken off its list and answered
+module _ (before mid after : ReplicaParty) (request : Request) (taken : before.left.items ≡ mid.left.items ++ request ∷ []) (left : after.left ≡ mid.left) where
+  left_so : before.left.items ≡ after.left.items ++ request ∷ []
+  left_so = taken ∙ ap (λ (rest : Vec Request Global). rest.items ++ request ∷ []) (sym left)
+
+  module _ {D E : Type 0} (seen may_leave : D → Files → Type 0) (moment : D → ℕ) (left_since : D → ℕ → Files → Type 0) (end : ℕ) (images : Files → Type 0) (begins : ℕ → List Deed → Type 0) (old new : PartyKnown) (old_marks new_marks : PassKnown)
+      (same : mid.replica ≡ before.replica) where
+    pub turn_so : (result : Result Answered E) → IsReplicaAnswer seen may_leave moment left_since end images begins old new old_marks new_marks request mid after result
+        → IsReplicaTurn seen may_leave moment left_since end images begins old new old_marks new_marks before after result
+    turn_so result is = record {
+      turned = λ archive all.
+          let over = is.answered archive all in
+          let answered = λ (formed : IsFormedBy request). subst (λ first. IsAnswered (λ been. been ≡ over.0) seen may_leave first after.replica request (reply_text result request.number) (is_lost result)) same (over.1.1 formed) in
+          (over.0, (over.1.0, record { request = request; left = left_so; answered = answered }));
+      heard = is.heard;
+    }
+
+-- a replica that stays is as it was
+pub kept_so : {A T E : Type 0} (answer : Result T E) (replica : A) → OnErr answer (replica ≡ replica)
+kept_so (Ok answered) replica = tt
+kept_so (Err error) replica = refl

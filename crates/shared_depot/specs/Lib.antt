@@ -1,3 +1,4 @@
+pub mod Stored
 pub mod Common
 pub mod Sharing
 pub mod Replicas

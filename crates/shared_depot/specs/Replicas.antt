@@ -2,18 +2,24 @@
 use Rattle.std.specs.Prelude.{◌≡◌, ◌⊎◌, ◌||◌, ℕ, true, false, List, map, Result}
 use Rattle.std.specs.Result.{IsErr}
 use mathlib.Core.List.{IsPrefix}
+use Rattle.archive_file.specs.declared.archive.Archive.{Archive}
 use Rattle.depot_rows.specs.depot_model.Deeds.{Deed}
+use Rattle.depot_rows.specs.depot_model.declared.request.Request.{Request}
 use Rattle.locked_tables.specs.Known.{PartyKnown}
 use Rattle.locked_tables.specs.Taken.{of_party, placed_of}
+use Rattle.locked_tables.specs.declared.taken.Taken.{Taken}
 use Rattle.outside_api.specs.Disk.{Files}
 use Rattle.party_marks.specs.Known.{PassKnown}
 use Rattle.party_marks.specs.Marks.{has_marks, is_empty}
 use Rattle.party_marks.specs.declared.mark.Mark.{Mark}
-use Rattle.replica_turns.specs.Going.{IsTurned, is_lost}
+use Rattle.replica_turns.specs.Going.{IsTurned, is_lost, reply_text}
+use Rattle.replica_turns.specs.Replying.{IsAnswered}
 use Rattle.replica_turns.specs.declared.party.Answered.{Answered}
 use Rattle.replica_turns.specs.declared.party.ReplicaParty.{ReplicaParty}
 use Rattle.serial_depot.specs.Running.{HasRun}
+use Rattle.serial_depot.specs.command_core.Outcomes.{IsFormedBy}
 use Rattle.serial_depot.specs.declared.depot.SerialDepot.{SerialDepot}
+use Rattle.shared_depot.specs.Common.{HasAllStored}
 
 -- an answer is told on as it is; or, where it tells that a disk failed, maybe as want of memory
 abbrev pub IsToldOn : {E : Type 0} → Result Answered E → Result Answered E → Type 0
@@ -27,15 +33,29 @@ IsMarkedBy old new answer = has_marks new.party new.list ≡ (has_marks old.part
 abbrev pub AreMarkedBy : {E : Type 0} → List Mark → List Mark → Result Answered E → Type 0
 AreMarkedBy old new answer = is_empty new ≡ false → (is_empty old ≡ false) ⊎ (is_lost answer ≡ true)
 
--- A replica's next command was answered over a depot in files that had run all places that the party knows now, from each moment and depot from which it
--- began; those that the party didn't know before are others'. The party has marks now where it had, or where the answer tells that a disk failed.
-pub record IsReplicaTurn {D E : Type 0} (seen may_leave : D → Files → Type 0) (moment : D → ℕ) (left_since : D → ℕ → Files → Type 0) (begins : ℕ → List Deed → Type 0)
-    (old new : PartyKnown) (old_marks new_marks : PassKnown) (old_replica new_replica : ReplicaParty) (result : Result Answered E) : Type 0 where
-  pub depot : SerialDepot D
-  pub ran : (since : ℕ) (start : List Deed) → begins since start → HasRun seen may_leave moment left_since depot since start (map placed_of new.list)
-  pub turned : IsTurned seen may_leave depot old_replica new_replica result
-  pub party : new.party ≡ old.party
-  pub later : IsPrefix old.list new.list
-  pub own : of_party old.party new.list ≡ of_party old.party old.list
-  pub marks_party : new_marks.party ≡ old_marks.party
-  pub marked : IsMarkedBy old_marks new_marks result
+module _ {D : Type 0} (seen may_leave : D → Files → Type 0) (moment : D → ℕ) (left_since : D → ℕ → Files → Type 0) (end : ℕ) (images : Files → Type 0) (begins : ℕ → List Deed → Type 0) (known : List Taken) where
+  -- Over a depot in files that had run all places that the party knows now, from each moment and depot from which it began. Where it isn't said which archive
+  -- that depot has, since none was asked, it is any in which the contents of these places were stored.
+  abbrev pub OverDepot : (SerialDepot D → Type 0) → Type 0
+  OverDepot Answers =
+      (archive : Archive D) → HasAllStored seen may_leave moment left_since end images begins known archive
+      → (depot : SerialDepot D) × (((since : ℕ) (start : List Deed) → begins since start → HasRun seen may_leave moment left_since depot since start (map placed_of known)) × Answers depot)
+
+module _ {D E : Type 0} (seen may_leave : D → Files → Type 0) (moment : D → ℕ) (left_since : D → ℕ → Files → Type 0) (end : ℕ) (images : Files → Type 0) (begins : ℕ → List Deed → Type 0) (old new : PartyKnown) (old_marks new_marks : PassKnown) where
+  -- The party has learnt places, which are others'. It has marks now where it had, or where the answer tells that a disk failed.
+  pub record HasHeard (result : Result Answered E) : Type 0 where
+    pub party : new.party ≡ old.party
+    pub later : IsPrefix old.list new.list
+    pub own : of_party old.party new.list ≡ of_party old.party old.list
+    pub marks_party : new_marks.party ≡ old_marks.party
+    pub marked : IsMarkedBy old_marks new_marks result
+
+  -- A command of a replica was answered over such a depot.
+  pub record IsReplicaAnswer (request : Request) (old_replica new_replica : ReplicaParty) (result : Result Answered E) : Type 0 where
+    pub answered : OverDepot seen may_leave moment left_since end images begins new.list (λ depot. IsFormedBy request → IsAnswered (λ been. been ≡ depot) seen may_leave old_replica.replica new_replica.replica request (reply_text result request.number) (is_lost result))
+    pub heard : HasHeard result
+
+  -- A replica's next command was.
+  pub record IsReplicaTurn (old_replica new_replica : ReplicaParty) (result : Result Answered E) : Type 0 where
+    pub turned : OverDepot seen may_leave moment left_since end images begins new.list (λ depot. IsTurned seen may_leave depot old_replica new_replica result)
+    pub heard : HasHeard result

@@ -1,15 +1,22 @@
 //! The answer to a command of a replica.
-ghost use Rattle.std.specs.Prelude.{◌≡◌, ◌<◌, ◌+◌, ◌||◌, length, false};
+ghost use Rattle.std.specs.Prelude.{◌≡◌, ◌||◌, true, false};
 ghost use Rattle.party_marks.specs.Marks.{has_marks};
-ghost use Rattle.shared_depot.specs.Replicas.{AreMarkedBy, IsMarkedBy, IsReplicaTurn, IsToldOn};
+ghost use Rattle.replica_turns.specs.Replying.{reads_archive};
+ghost use Rattle.shared_depot.specs.Replicas.{AreMarkedBy, IsMarkedBy, IsReplicaAnswer, IsToldOn};
 
+use crate::both_marks::BothMarks;
 use crate::common::CommonDepot;
+use crate::of_archive::OfArchive;
 use crate::serving::Serving;
+use crate::stored_archive::StoredArchive;
+use depot_rows::model::Request;
 use locked_tables::{Naming, OrderWords, PartyPass};
 use outside_api::Disk;
 use party_marks::{MarkPass, MarkWords, Marking, Marks};
 use replica_turns::{Answered, ReplicaParty};
+use serial_depot::Imaging;
 use std::alloc::{AllocError, Global};
+use std::sync::{Mutex, Wait};
 
 /// Makes a mark of a party. Answers whether there was room for one.
 fn mark<N: Marking>(words: &MarkWords<N>, all: &mut Marks<N>, pass: &mut MarkPass<N>) -> bool
@@ -54,24 +61,53 @@ fn mark_lost<N: Marking>(
     }
 }
 
-impl<D: Disk, N: Naming + Marking + Serving> CommonDepot<D, N> {
-    /// Answers the next command of a replica over the depot in files, and makes a mark where the answer
-    /// tells that a disk failed. The party learns all places so far.
+impl<D: Disk, N: Naming + Marking + Imaging + Serving> CommonDepot<D, N> {
+    /// Answers a command of a replica that isn't a `print` beside the journal, and makes a mark where the
+    /// answer tells that its disk failed. The party learns all places so far.
     pub(crate) fn answer_replica(
         &mut self,
         words: &OrderWords<N>,
         mark_words: &MarkWords<N>,
         alloc: Global,
         pass: &mut PartyPass<N>,
-        marks: &mut MarkPass<N>,
+        marks: &mut BothMarks<N>,
         replica: &mut ReplicaParty,
+        request: &Request,
     ) -> Result<Answered, AllocError>
-        requires { 0 < length replica.old.left.items }
-        ensures turn { IsReplicaTurn D.seen D.may_leave D.moment D.left_since N.begins pass.old pass.new marks.old marks.new replica.old replica.new result }
-        ensures left { length replica.old.left.items ≡ length replica.new.left.items + 1 }
+        requires { reads_archive request.now ≡ false }
+        ensures answer { IsReplicaAnswer D.seen D.may_leave D.moment D.left_since N.end N.images N.begins pass.old pass.new marks.old marks.new request.now replica.old replica.new result }
+        ensures left { replica.new.left ≡ replica.old.left }
     {
-        let answer = replica.answer_next(alloc, &mut self.depot);
+        let answer = replica.answer_by_journal(alloc, &mut self.journal, request);
         self.order.tell(words, pass);
-        mark_lost(mark_words, &mut self.marks, marks, answer)
+        mark_lost(mark_words, &mut self.marks, &mut marks.journal, answer)
+    }
+}
+
+impl<D: Disk, N: Naming + Marking + Imaging + Serving> StoredArchive<D, N> {
+    /// Answers a `print` of a replica, with the contents that it reads, and makes a mark where the answer
+    /// tells that the archive's disk failed. Then the lock of the order is taken too, and the party learns
+    /// all places so far.
+    pub(crate) fn answer_print<R: Wait>(
+        &mut self,
+        rt: &R,
+        words: &OrderWords<N>,
+        mark_words: &MarkWords<OfArchive<N>>,
+        common: &Mutex<CommonDepot<D, N>>,
+        alloc: Global,
+        pass: &mut PartyPass<N>,
+        marks: &mut BothMarks<N>,
+        replica: &ReplicaParty,
+        request: &Request,
+    ) -> Result<Answered, AllocError>
+        requires { reads_archive request.now ≡ true }
+        ensures answer { IsReplicaAnswer D.seen D.may_leave D.moment D.left_since N.end N.images N.begins pass.old pass.new marks.old marks.new request.now replica.now replica.now result }
+    {
+        let answer = replica.answer_print(alloc, &mut self.archive, request);
+        let mut guard = common.lock(rt);
+        let held = &mut *guard;
+        held.order.learn_archive(words, &mut self.lane);
+        held.order.tell(words, pass);
+        mark_lost(mark_words, &mut self.marks, &mut marks.archive, answer)
     }
 }

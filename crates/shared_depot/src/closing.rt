@@ -9,39 +9,51 @@ ghost use Rattle.locked_tables.specs.Taken.{IsParty, of_party, place_of, placed_
 ghost use Rattle.party_marks.specs.Marks.{has_marks, is_empty};
 ghost use Rattle.serial_depot.specs.Running.{CanTake, HasRun};
 ghost use Rattle.session_loop.specs.Served.{AreCaused};
-ghost use Rattle.shared_depot.specs.Common.{AreMarksCaused};
+ghost use Rattle.shared_depot.specs.Common.{AreMarksCaused, HasAllStored};
 
+use crate::both_marks::BothMarks;
 use crate::common::CommonDepot;
+use crate::of_archive::OfArchive;
 use crate::serving::Serving;
 use crate::shared::SharedDepot;
+use crate::stored_archive::StoredArchive;
+use archive_file::Archive;
 use depot_rows::model::Place;
+use depot_rows::tables::Tables;
+use disk_journal::Journal;
 use locked_tables::{Naming, OrderWords, PartyPass, PlacedOrder};
 use outside_api::Disk;
-use party_marks::{MarkPass, MarkWords, Marking, Marks};
-use serial_depot::SerialDepot;
+use party_marks::{MarkWords, Marking, Marks};
+use serial_depot::{Imaging, SerialDepot};
 use std::marker::Model;
 
 /// A shared depot, out of its locks. Contracts see the one order of all places, and all marks.
 #[derive(Drop)]
-pub struct OpenedDepot<D: Disk, N: Naming + Marking + Serving> {
+pub struct OpenedDepot<D: Disk, N: Naming + Marking + Imaging + Serving> {
     words: OrderWords<N>,
     mark_words: MarkWords<N>,
+    content_words: MarkWords<OfArchive<N>>,
     order: PlacedOrder<N>,
-    depot: SerialDepot<D>,
+    tables: Tables,
+    journal: Journal<D>,
+    archive: Archive<D>,
     marks: Marks<N>,
+    content_marks: Marks<OfArchive<N>>,
 }
 
-impl<D: Disk, N: Naming + Marking + Serving> Model for OpenedDepot<D, N> {
+impl<D: Disk, N: Naming + Marking + Imaging + Serving> Model for OpenedDepot<D, N> {
+    ghost use Rattle.std.specs.Prelude.{◌++◌, false};
     ghost use Rattle.archive_file.specs.Archive.{disk_of as archive_disk_of};
     ghost use Rattle.disk_journal.specs.Stands.{disk_of};
-    ghost use Rattle.shared_depot.specs.Common.{AreMarksCaused, HasRunOrder, OpenedKnown};
+    ghost use Rattle.shared_depot.specs.Common.{HasRunOrder, IsArchiveAfter, IsMarkCaused, OpenedKnown};
 
     ghost Value = { OpenedKnown };
 
-    ghost view = { λ o. record { order = o.order.list; marks = o.marks.list } };
+    ghost view = { λ o. record { order = o.order.list; marks = o.marks.list ++ o.content_marks.list } };
 
-    ghost invariant = { λ o. HasRunOrder D.seen D.may_leave D.moment D.left_since D.faults N.rows N.end N.begins N.faults N.content_faults o.order.list o.depot ×
-        AreMarksCaused N.faults (D.faults (disk_of o.depot.journal)) N.content_faults (D.faults (archive_disk_of o.depot.archive)) o.marks.list };
+    ghost invariant = { λ o. HasRunOrder D.seen D.may_leave D.moment D.left_since D.faults N.rows N.end N.images N.begins N.faults o.order.list o.tables o.journal ×
+        IsArchiveAfter D.seen D.may_leave D.moment D.left_since D.faults N.end N.images N.begins N.content_faults (record { list = o.order.list; failed = false }) o.archive ×
+        IsMarkCaused N.faults (D.faults (disk_of o.journal)) o.marks.list × IsMarkCaused N.content_faults (D.faults (archive_disk_of o.archive)) o.content_marks.list };
 }
 
 /// What a shared depot that is closed gives back.
@@ -53,37 +65,50 @@ pub struct Closed<D: Disk> {
     pub order: Vec<Place>,
 }
 
-impl<D: Disk, N: Naming + Marking + Serving> SharedDepot<D, N> {
+impl<D: Disk, N: Naming + Marking + Imaging + Serving> SharedDepot<D, N> {
     /// Takes the depot out of its locks. What its order is, the passes of the parties tell.
     pub fn open(self) -> OpenedDepot<D, N> {
         let SharedDepot {
             words,
-            tables,
+            tables: locks,
             archive,
             common,
             mark_words,
+            content_words,
         } = self;
-        drop(tables);
-        drop(archive);
+        drop(locks);
+        let StoredArchive {
+            mut lane,
+            archive,
+            failed: _,
+            marks: content_marks,
+        } = archive.into_inner();
         let CommonDepot {
-            order,
-            depot,
+            mut order,
+            tables,
+            journal,
             marks,
         } = common.into_inner();
+        order.learn_archive(&words, &mut lane);
+        drop(lane);
         OpenedDepot {
             words,
             mark_words,
+            content_words,
             order,
-            depot,
+            tables,
+            journal,
+            archive,
             marks,
+            content_marks,
         }
     }
 }
 
-impl<D: Disk, N: Naming + Marking + Serving> OpenedDepot<D, N> {
+impl<D: Disk, N: Naming + Marking + Imaging + Serving> OpenedDepot<D, N> {
     /// A party learns the whole order, which begins with what it knew; each of its own places was
     /// known to it. Where it has marks, they are among all.
-    pub fn hear(&mut self, pass: &mut PartyPass<N>, marks: &mut MarkPass<N>)
+    pub fn hear(&mut self, pass: &mut PartyPass<N>, marks: &mut BothMarks<N>)
         ensures same { self.new ≡ self.old }
         ensures told { pass.new ≡ record pass.old { list = self.old.order } }
         ensures begins { IsPrefix pass.old.list self.old.order }
@@ -91,7 +116,9 @@ impl<D: Disk, N: Naming + Marking + Serving> OpenedDepot<D, N> {
         ensures marked { has_marks marks.old.party marks.old.list ≡ true → is_empty self.old.marks ≡ false }
     {
         self.order.tell(&self.words, pass);
-        self.marks.tell(&self.mark_words, marks);
+        self.marks.tell(&self.mark_words, &mut marks.journal);
+        self.content_marks
+            .tell(&self.content_words, &mut marks.archive);
     }
 
     /// Gives back the depot in files, which has run the order, and the order. It takes no memory.
@@ -101,6 +128,7 @@ impl<D: Disk, N: Naming + Marking + Serving> OpenedDepot<D, N> {
         ensures parties { AllByRecursion (λ taken. IsParty N.run taken.request.party) self.order }
         ensures can { CanTake D.may_leave result.depot }
         ensures ran { (since : ℕ) (start : List Deed) → N.begins since start → HasRun D.seen D.may_leave D.moment D.left_since result.depot since start (map placed_of self.order) }
+        ensures stored { HasAllStored D.seen D.may_leave D.moment D.left_since N.end N.images N.begins self.order result.depot.archive }
         // There are at most as many fault places as the counts of the two disks rose, and marks only where one rose.
         ensures faults { AreCaused N.faults (D.faults (disk_of result.depot.journal)) N.content_faults (D.faults (archive_disk_of result.depot.archive)) [] result.order.items }
         ensures marks { AreMarksCaused N.faults (D.faults (disk_of result.depot.journal)) N.content_faults (D.faults (archive_disk_of result.depot.archive)) self.marks }
@@ -110,13 +138,17 @@ impl<D: Disk, N: Naming + Marking + Serving> OpenedDepot<D, N> {
         let OpenedDepot {
             words: _,
             mark_words: _,
+            content_words: _,
             order,
-            depot,
+            tables,
+            journal,
+            archive,
             marks: _,
+            content_marks: _,
         } = self;
         order.parties_are_of_run();
         Closed {
-            depot,
+            depot: SerialDepot::new(tables, journal, archive),
             order: order.into_places(),
         }
     }

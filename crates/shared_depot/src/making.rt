@@ -1,32 +1,37 @@
 //! Making a shared depot.
-ghost use Rattle.std.specs.Prelude.{◌≡◌, ◌≤◌, ◌-◌, ◌+◌, ◌++◌, ℕ, List, [], IfOk, OnOk};
+ghost use Rattle.std.specs.Prelude.{◌≡◌, ◌≤◌, ◌-◌, ◌+◌, ◌++◌, ◌↔◌, ℕ, List, [], IfOk, OnOk};
 ghost use Rattle.std.specs.Result.{IfErr};
 ghost use Rattle.archive_file.specs.Archive.{disk_of as archive_disk_of};
 ghost use Rattle.depot_rows.specs.db_records.declared.table.TableId.{TableId};
 ghost use Rattle.depot_rows.specs.depot_model.Deeds.{Deed};
 ghost use Rattle.disk_journal.specs.Stands.{disk_of};
+ghost use Rattle.outside_api.specs.Disk.{Files};
 ghost use Rattle.order_words.specs.Seats.{fresh_lanes, fresh_order, lane_count};
 ghost use Rattle.serial_depot.specs.Running.{CanTake, HasRun};
 ghost use Rattle.depot_rows.specs.table_changes.Changed.{rows_of};
 ghost use Rattle.shared_depot.specs.Sharing.{fresh_marks, fresh_passes};
 
+use crate::both_marks::BothMarks;
 use crate::common::CommonDepot;
+use crate::of_archive::OfArchive;
 use crate::serving::Serving;
 use crate::shared::SharedDepot;
+use crate::stored_archive::StoredArchive;
+use depot_rows::tables::Tables;
 use locked_tables::{LockedArchive, Naming, OrderWords, PartyPass, PlacedOrder, TableLocks, Taken};
 use order_words::{LaneSeat, OrderSeat, Orders};
 use outside_api::Disk;
 use party_marks::{Mark, MarkPass, MarkWords, Marking, Marks};
-use serial_depot::SerialDepot;
+use serial_depot::{Imaging, SerialDepot};
 use std::alloc::{AllocError, Global};
 use std::sync::Mutex;
 
 /// A depot that threads share, and the passes of the parties, which are numbered from 1.
 #[derive(Drop)]
-pub struct Shared<D: Disk, N: Naming + Marking + Serving> {
+pub struct Shared<D: Disk, N: Naming + Marking + Imaging + Serving> {
     pub depot: SharedDepot<D, N>,
     pub passes: Vec<PartyPass<N>>,
-    pub marks: Vec<MarkPass<N>>,
+    pub marks: Vec<BothMarks<N>>,
 }
 
 /// Makes the passes of the first so many parties of their seats, which are the last.
@@ -90,7 +95,50 @@ fn mark_passes<N: Marking>(
     Ok(passes)
 }
 
-/// What lies behind the locks of the tables and of the archive, and the passes.
+/// The passes of parties for both kinds of marks, party by party.
+fn pair_passes<N: Marking + Serving>(
+    alloc: Global,
+    journal: Vec<MarkPass<N>>,
+    archive: Vec<MarkPass<OfArchive<N>>>,
+    count: u32,
+) -> Result<Vec<BothMarks<N>>, AllocError>
+    requires journal { journal.items ≡ fresh_marks count }
+    requires archive { archive.items ≡ fresh_marks count }
+    ensures { IfOk result (λ passes. passes.items ≡ fresh_marks count) }
+{
+    let mut archive = archive;
+    let mut journal = journal;
+    let mut passes = Vec::new(alloc);
+    pair_first(&mut journal, &mut archive, &mut passes, count)?;
+    Ok(passes)
+}
+
+/// Pairs the passes of the first so many parties, which are the last of the two lists.
+fn pair_first<N: Marking + Serving>(
+    journal: &mut Vec<MarkPass<N>>,
+    archive: &mut Vec<MarkPass<OfArchive<N>>>,
+    passes: &mut Vec<BothMarks<N>>,
+    count: u32,
+) -> Result<(), AllocError>
+    requires journal { journal.old.items ≡ fresh_marks count }
+    requires archive { archive.old.items ≡ fresh_marks count }
+    ensures { OnOk result (passes.new.items ≡ passes.old.items ++ fresh_marks count) }
+{
+    if count == 0 {
+        return Ok(());
+    }
+    let Some(first) = journal.pop() else {
+        return Err(AllocError);
+    };
+    let Some(second) = archive.pop() else {
+        return Err(AllocError);
+    };
+    pair_first(journal, archive, passes, count - 1)?;
+    passes.push(BothMarks::new(first, second))?;
+    Ok(())
+}
+
+/// What lies behind the locks of the tables, the seat of the archive's lane, and the passes.
 #[derive(Drop)]
 struct Parts<N: Naming> {
     tables: TableLocks<N>,
@@ -99,25 +147,26 @@ struct Parts<N: Naming> {
 }
 
 /// Makes them of the seats of the lanes. The one error is want of memory.
-fn make_parts<D: Disk, N: Naming>(
+fn make_parts<N: Naming>(
     alloc: Global,
     mut lanes: Vec<LaneSeat<Taken>>,
     count: u32,
-    depot: &SerialDepot<D>,
+    tables: &Tables,
 ) -> Result<Parts<N>, AllocError>
     requires few { (count ≤ 16) × (count + 12 ≤ lane_count N.run) }
     requires seats { lanes.items ≡ fresh_lanes N.run (count + 12) }
-    requires rows { (table : TableId) → rows_of depot.now.tables table ≡ N.rows table }
-    requires end { depot.now.tables.archive_end ≡ N.end }
-    ensures { IfOk result (λ parts. parts.passes.items ≡ fresh_passes count) }
+    requires rows { (table : TableId) → rows_of tables.now table ≡ N.rows table }
+    requires end { tables.now.archive_end ≡ N.end }
+    ensures passes { IfOk result (λ parts. parts.passes.items ≡ fresh_passes count) }
+    ensures archive { IfOk result (λ parts. parts.archive ≡ []) }
 {
     let mut passes = Vec::new(alloc);
     make_passes(&mut lanes, &mut passes, count)?;
     let Some(seat) = lanes.pop() else {
         return Err(AllocError);
     };
-    let archive = LockedArchive::new(seat, depot.tables().archive_end());
-    let tables = TableLocks::new(alloc, lanes, depot.tables())?;
+    let archive = LockedArchive::new(seat, tables.archive_end());
+    let tables = TableLocks::new(alloc, lanes, tables)?;
     Ok(Parts {
         tables,
         archive,
@@ -125,14 +174,32 @@ fn make_parts<D: Disk, N: Naming>(
     })
 }
 
-impl<D: Disk, N: Naming + Marking + Serving> SharedDepot<D, N> {
+/// The passes for both kinds of marks of so many parties. The one error is want of memory.
+fn both_passes<N: Marking + Serving>(
+    alloc: Global,
+    journal: Vec<LaneSeat<Mark>>,
+    archive: Vec<LaneSeat<Mark>>,
+    count: u32,
+) -> Result<Vec<BothMarks<N>>, AllocError>
+    requires few { (count ≤ 16) × (count ≤ lane_count N.marks) × (count ≤ lane_count N.content_marks) }
+    requires journal { journal.items ≡ fresh_lanes N.marks (1 + count) }
+    requires archive { archive.items ≡ fresh_lanes N.content_marks (1 + count) }
+    ensures { IfOk result (λ passes. passes.items ≡ fresh_marks count) }
+{
+    let journal = mark_passes(alloc, journal, count)?;
+    let archive = mark_passes(alloc, archive, count)?;
+    pair_passes(alloc, journal, archive, count)
+}
+
+impl<D: Disk, N: Naming + Marking + Imaging + Serving> SharedDepot<D, N> {
     /// Shares a depot in files among parties, up to 16, with the words that were made for them: those
-    /// of `Orders::new` with 12 lanes more than parties, and for the marks with one more. Where memory
-    /// is wanting, the depot is given back as it was.
+    /// of `Orders::new` with 12 lanes more than parties, and for the marks of each of the two disks with
+    /// one more. Where memory is wanting, the depot is given back as it was.
     pub fn new(
         alloc: Global,
         words: (Orders<Taken>, OrderSeat<Taken>, Vec<LaneSeat<Taken>>),
         mark_words: (Orders<Mark>, OrderSeat<Mark>, Vec<LaneSeat<Mark>>),
+        content_words: (Orders<Mark>, OrderSeat<Mark>, Vec<LaneSeat<Mark>>),
         parties: u32,
         depot: SerialDepot<D>,
     ) -> Result<Shared<D, N>, SerialDepot<D>>
@@ -144,8 +211,13 @@ impl<D: Disk, N: Naming + Marking + Serving> SharedDepot<D, N> {
         requires mark_lanes { lane_count N.marks ≡ 1 + parties }
         requires mark_order { mark_words.1 ≡ fresh_order N.marks (1 + parties) }
         requires mark_seats { mark_words.2.items ≡ fresh_lanes N.marks (1 + parties) }
+        requires content_marks { content_words.0 ≡ N.content_marks }
+        requires content_lanes { lane_count N.content_marks ≡ 1 + parties }
+        requires content_order { content_words.1 ≡ fresh_order N.content_marks (1 + parties) }
+        requires content_seats { content_words.2.items ≡ fresh_lanes N.content_marks (1 + parties) }
         requires rows { (table : TableId) → rows_of depot.tables table ≡ N.rows table }
         requires end { depot.tables.archive_end ≡ N.end }
+        requires images { (files : Files) → N.images files ↔ D.may_leave (archive_disk_of depot.archive) files }
         requires can { CanTake D.may_leave depot }
         requires begins { (since : ℕ) (start : List Deed) → N.begins since start → HasRun D.seen D.may_leave D.moment D.left_since depot since start [] }
         requires faults { N.faults ≡ D.faults (disk_of depot.journal) }
@@ -155,26 +227,35 @@ impl<D: Disk, N: Naming + Marking + Serving> SharedDepot<D, N> {
         ensures back { IfErr result (λ given. given ≡ depot) }
     {
         let (mark_orders, mark_order, mark_lanes) = mark_words;
-        let Ok(marks) = mark_passes(alloc, mark_lanes, parties) else {
+        let (content_orders, content_order, content_lanes) = content_words;
+        let Ok(marks) = both_passes(alloc, mark_lanes, content_lanes, parties) else {
             return Err(depot);
         };
         let (orders, order, lanes) = words;
-        match make_parts(alloc, lanes, parties, &depot) {
+        match make_parts(alloc, lanes, parties, &depot.tables) {
             Err(_) => Err(depot),
             Ok(parts) => {
                 let order = PlacedOrder::new(alloc, order);
                 let Parts {
-                    tables,
-                    archive,
+                    tables: locks,
+                    archive: lane,
                     passes,
                 } = parts;
+                let SerialDepot {
+                    tables,
+                    journal,
+                    archive,
+                } = depot;
+                let archive = StoredArchive::new(lane, archive, Marks::new(content_order));
+                let common = CommonDepot::new(order, tables, journal, Marks::new(mark_order));
                 Ok(Shared {
                     depot: SharedDepot {
                         words: OrderWords::new(orders),
-                        tables,
+                        tables: locks,
                         archive: Mutex::new(archive),
-                        common: Mutex::new(CommonDepot::new(order, depot, Marks::new(mark_order))),
+                        common: Mutex::new(common),
                         mark_words: MarkWords::new(mark_orders),
+                        content_words: MarkWords::new(content_orders),
                     },
                     passes,
                     marks,

@@ -5,6 +5,7 @@ use std::marker::Brand;
 pub trait Serving {
     ghost use Rattle.std.specs.Prelude.{ℕ, List};
     ghost use Rattle.depot_rows.specs.depot_model.Deeds.{Deed};
+    ghost use Rattle.order_words.specs.Seats.{Run};
 
     /// From which moments of the journal's disk, and from which depots, the depot in files had run
     /// no place then.
@@ -15,15 +16,21 @@ pub trait Serving {
 
     /// How often the archive's disk had.
     ghost content_faults: { ℕ };
+
+    /// The words of the marks of parties that were told that the archive's disk failed.
+    ghost content_marks: { Run };
 }
 
 impl Serving for Brand {
     ghost use Rattle.std.specs.Prelude.{ℕ, List};
     ghost use Rattle.depot_rows.specs.depot_model.Deeds.{Deed};
+    ghost use Rattle.order_words.specs.Seats.{no_run};
 
     ghost begins = { λ since start. Unit {0} };
 
     ghost faults = { 0 };
 
     ghost content_faults = { 0 };
+
+    ghost content_marks = { no_run };
 }

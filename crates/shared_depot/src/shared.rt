@@ -5,27 +5,32 @@ ghost use Rattle.session_loop.specs.Taking.{IsProper};
 ghost use Rattle.shared_depot.specs.Replicas.{IsReplicaTurn};
 ghost use Rattle.shared_depot.specs.Sharing.{IsTakenAt};
 
+use crate::both_marks::BothMarks;
 use crate::common::CommonDepot;
+use crate::of_archive::OfArchive;
 use crate::serving::Serving;
+use crate::stored_archive::StoredArchive;
 use depot_rows::model::{Answer, Request};
-use locked_tables::{LockedArchive, Naming, OrderWords, PartyPass, TableLocks};
+use locked_tables::{Naming, OrderWords, PartyPass, TableLocks};
 use outside_api::{Disk, Gate};
-use party_marks::{MarkPass, MarkWords, Marking};
-use replica_turns::{Answered, ReplicaParty};
+use party_marks::{MarkWords, Marking};
+use replica_turns::{Answered, ReplicaParty, is_print};
+use serial_depot::Imaging;
 use std::alloc::{AllocError, Global};
 use std::sync::{Mutex, Wait};
 
-/// A depot in files whose tables lie behind locks of their own.
+/// A depot in files whose tables, and whose archive, lie behind locks of their own.
 #[derive(Drop)]
-pub struct SharedDepot<D: Disk, N: Naming + Marking + Serving> {
+pub struct SharedDepot<D: Disk, N: Naming + Marking + Imaging + Serving> {
     pub(crate) words: OrderWords<N>,
     pub(crate) tables: TableLocks<N>,
-    pub(crate) archive: Mutex<LockedArchive<N>>,
+    pub(crate) archive: Mutex<StoredArchive<D, N>>,
     pub(crate) common: Mutex<CommonDepot<D, N>>,
     pub(crate) mark_words: MarkWords<N>,
+    pub(crate) content_words: MarkWords<OfArchive<N>>,
 }
 
-impl<D: Disk, N: Naming + Marking + Serving> SharedDepot<D, N> {
+impl<D: Disk, N: Naming + Marking + Imaging + Serving> SharedDepot<D, N> {
     /// Has the command of a party's request taken. It gets a place behind all that the party knew, and is
     /// answered as one thread would be that took the commands of all places before it; at a fault place
     /// the commit failed, or a content couldn't be read or stored, and the command did nothing. The one
@@ -60,22 +65,49 @@ impl<D: Disk, N: Naming + Marking + Serving> SharedDepot<D, N> {
 
     /// Answers the next command of a replica, which is one of the parties, over the depot in files as
     /// it is then. The party learns all places so far, of which it has none that it didn't know; it has
-    /// one mark more where the answer tells that a disk failed. `pull` fetches of the journal, and
-    /// `print` reads the archive. The one error is want of memory, or that there are 2^64 - 1 marks; the
-    /// command counts as answered then too, and the replica is as it was.
+    /// one mark more where the answer tells that a disk failed. `pull` fetches of the journal under the
+    /// lock of the order, and `print` reads the archive under the archive's. The one error is want of
+    /// memory, or that there are 2^64 - 1 marks; the command counts as answered then too, and the replica
+    /// is as it was.
     pub fn answer_replica<R: Wait>(
         &self,
         rt: &R,
         alloc: Global,
         pass: &mut PartyPass<N>,
-        marks: &mut MarkPass<N>,
+        marks: &mut BothMarks<N>,
         replica: &mut ReplicaParty,
     ) -> Result<Answered, AllocError>
         requires { 0 < length replica.old.left.items }
-        ensures turn { IsReplicaTurn D.seen D.may_leave D.moment D.left_since N.begins pass.old pass.new marks.old marks.new replica.old replica.new result }
+        ensures turn { IsReplicaTurn D.seen D.may_leave D.moment D.left_since N.end N.images N.begins pass.old pass.new marks.old marks.new replica.old replica.new result }
         ensures left { length replica.old.left.items ≡ length replica.new.left.items + 1 }
     {
-        let mut common = self.common.lock(rt);
-        common.answer_replica(&self.words, &self.mark_words, alloc, pass, marks, replica)
+        let request = replica.take_next().unwrap();
+        let answer = if is_print(&request) {
+            let mut archive = self.archive.lock(rt);
+            archive.answer_print(
+                rt,
+                &self.words,
+                &self.content_words,
+                &self.common,
+                alloc,
+                pass,
+                marks,
+                replica,
+                &request,
+            )
+        } else {
+            let mut common = self.common.lock(rt);
+            common.answer_replica(
+                &self.words,
+                &self.mark_words,
+                alloc,
+                pass,
+                marks,
+                replica,
+                &request,
+            )
+        };
+        drop(request);
+        answer
     }
 }

@@ -1,5 +1,5 @@
 //! How a command is given its place.
-ghost use Rattle.std.specs.Prelude.{◌≡◌, ◌<◌, ◌≤◌, ◌-◌, ◌^◌, ℕ, [], ◌∷◌};
+ghost use Rattle.std.specs.Prelude.{◌≡◌, ◌<◌, ◌≤◌, ◌-◌, ◌^◌, ℕ, [], ◌∷◌, true, false};
 ghost use Rattle.depot_model.specs.db_records.declared.table.TableId.{TableId};
 ghost use Rattle.locked_tables.specs.Held.{lanes_next};
 ghost use Rattle.locked_tables.specs.Known.{with_entry};
@@ -29,6 +29,7 @@ impl<'a, N: Naming> Prepared<'a, N> {
         ensures placed { order.new ≡ with_entry order.old (record taken { lanes = result }) }
         ensures rows { (table : TableId) → rows_after N.rows order.new.list table ≡ changed_by (rows_after N.rows order.old.list) taken.changes table }
         ensures lanes { (lane : ℕ) → has_lane result lane ≡ is_among lane (party_lane pass.old.party ∷ lanes_next self.entry.held.items) }
+        ensures spares { has_lane result archive_lane ≡ false }
         ensures pass { pass.new ≡ record pass.old { list = order.new.list } }
         ensures own { IsOwn pass.old.party pass.old.list order.old.list order.new.list }
         ensures end { end_after N.end order.new.list ≡ end_after N.end order.old.list }
@@ -54,6 +55,7 @@ impl<'a, N: Naming> Prepared<'a, N> {
         ensures placed { order.new ≡ with_entry order.old (record taken { lanes = result }) }
         ensures rows { (table : TableId) → rows_after N.rows order.new.list table ≡ changed_by (rows_after N.rows order.old.list) taken.changes table }
         ensures lanes { (lane : ℕ) → has_lane result lane ≡ is_among lane (archive_lane ∷ party_lane pass.old.party ∷ lanes_next self.entry.held.items) }
+        ensures touches { has_lane result archive_lane ≡ true }
         ensures archive { archive.new ≡ order.new.list }
         ensures pass { pass.new ≡ record pass.old { list = order.new.list } }
         ensures own { IsOwn pass.old.party pass.old.list order.old.list order.new.list }
@@ -79,6 +81,7 @@ pub fn place_unchanged<N: Naming>(
     ensures placed { order.new ≡ with_entry order.old (record taken { lanes = result }) }
     ensures rows { (table : TableId) → rows_after N.rows order.new.list table ≡ rows_after N.rows order.old.list table }
     ensures lanes { (lane : ℕ) → has_lane result lane ≡ is_among lane (party_lane pass.old.party ∷ []) }
+    ensures spares { has_lane result archive_lane ≡ false }
     ensures pass { pass.new ≡ record pass.old { list = order.new.list } }
     ensures own { IsOwn pass.old.party pass.old.list order.old.list order.new.list }
     ensures end { end_after N.end order.new.list ≡ end_after N.end order.old.list }
@@ -104,6 +107,7 @@ pub fn place_kept<N: Naming>(
     ensures placed { order.new ≡ with_entry order.old (record taken { lanes = result }) }
     ensures rows { (table : TableId) → rows_after N.rows order.new.list table ≡ rows_after N.rows order.old.list table }
     ensures lanes { (lane : ℕ) → has_lane result lane ≡ is_among lane (archive_lane ∷ party_lane pass.old.party ∷ []) }
+    ensures touches { has_lane result archive_lane ≡ true }
     ensures archive { archive.new ≡ order.new.list }
     ensures pass { pass.new ≡ record pass.old { list = order.new.list } }
     ensures own { IsOwn pass.old.party pass.old.list order.old.list order.new.list }

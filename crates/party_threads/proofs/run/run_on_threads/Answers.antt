@@ -55,6 +55,21 @@ run_named-requires-clause-mark_seats g c = λ κs bounds.
     let count = as_many (g.C.Clock.may_give c.args.clock.now) c.args.sessions.items c.in-Ok.field-0.requests.items c.in-Ok.ensures.requests in
     c.in-Ok.ensures.mark_seats ∙ ap (λ (n : ℕ). fresh_lanes c.in-Ok.field-0.mark_words.0 (1 + n)) (sym count)
 
+pub run_named-requires-clause-content_lanes : goal.run_named-requires-clause-content_lanes
+run_named-requires-clause-content_lanes g c = λ κs bounds.
+    let count = as_many (g.C.Clock.may_give c.args.clock.now) c.args.sessions.items c.in-Ok.field-0.requests.items c.in-Ok.ensures.requests in
+    c.in-Ok.ensures.content_lanes ∙ ap (λ (n : ℕ). 1 + n) (sym count)
+
+pub run_named-requires-clause-content_order : goal.run_named-requires-clause-content_order
+run_named-requires-clause-content_order g c = λ κs bounds.
+    let count = as_many (g.C.Clock.may_give c.args.clock.now) c.args.sessions.items c.in-Ok.field-0.requests.items c.in-Ok.ensures.requests in
+    c.in-Ok.ensures.content_order ∙ ap (λ (n : ℕ). fresh_order c.in-Ok.field-0.content_words.0 (1 + n)) (sym count)
+
+pub run_named-requires-clause-content_seats : goal.run_named-requires-clause-content_seats
+run_named-requires-clause-content_seats g c = λ κs bounds.
+    let count = as_many (g.C.Clock.may_give c.args.clock.now) c.args.sessions.items c.in-Ok.field-0.requests.items c.in-Ok.ensures.requests in
+    c.in-Ok.ensures.content_seats ∙ ap (λ (n : ℕ). fresh_lanes c.in-Ok.field-0.content_words.0 (1 + n)) (sym count)
+
 pub run_named-requires-clause-as_many : goal.run_named-requires-clause-as_many
 run_named-requires-clause-as_many g c = λ κs bounds.
     let count = as_many (g.C.Clock.may_give c.args.clock.now) c.args.sessions.items c.in-Ok.field-0.requests.items c.in-Ok.ensures.requests in
@@ -85,7 +100,7 @@ returns-in-Ok-clause-served g c = λ since start formed h.
     let asked = c.in-Ok.ensures.requests in
     let Ran : Type 0 = ThreadsRun g.row.D.Denot g.row.K.Denot in
     IfOk-weaker c.run_named.result _ (λ (ran : Ran). AreServed may_give sessions scripts start ran.runs.items (map g.K.Sink.given c.args.sinks.items) (map g.K.Sink.given ran.sinks.items) ran.order.items)
-    (λ ran s. all_served D.seen D.may_leave D.moment D.left_since D.faults g.K.Sink.given g.K.Sink.faults may_give sessions scripts (map items_of requests) asked c.requires.as_many_replicas c.requires.apart
+    (λ ran s. all_served D.seen D.may_leave D.moment D.left_since c.args.depot.tables.archive_end (D.may_leave (archive_disk_of c.args.depot.archive)) D.faults g.K.Sink.given g.K.Sink.faults may_give sessions scripts (map items_of requests) asked c.requires.as_many_replicas c.requires.apart
     c.in-Ok.field-0.replicas.items c.in-Ok.ensures.replicas _ _ _ c.args.sinks.items c.requires.as_many ran s since start (all_proper may_give sessions requests asked formed, h))
     c.run_named.ensures.run
 
@@ -99,7 +114,7 @@ returns-in-Ok-clause-replicas g c = λ since start formed well_formed h.
     let asked = c.in-Ok.ensures.requests in
     let Ran : Type 0 = ThreadsRun g.row.D.Denot g.row.K.Denot in
     IfOk-weaker c.run_named.result _ (λ (ran : Ran). AreReplicasServed D.seen D.may_leave D.moment D.left_since may_give sessions scripts since start ran.order.items ran.runs.items ran.lost (map g.K.Sink.given c.args.sinks.items) (map g.K.Sink.given ran.sinks.items))
-    (λ ran s. all_replicas_served D.seen D.may_leave D.moment D.left_since D.faults g.K.Sink.given g.K.Sink.faults may_give sessions scripts (map items_of requests) asked c.requires.as_many_replicas c.requires.apart
+    (λ ran s. all_replicas_served D.seen D.may_leave D.moment D.left_since c.args.depot.tables.archive_end (D.may_leave (archive_disk_of c.args.depot.archive)) D.faults g.K.Sink.given g.K.Sink.faults may_give sessions scripts (map items_of requests) asked c.requires.as_many_replicas c.requires.apart
     c.in-Ok.field-0.replicas.items c.in-Ok.ensures.replicas _ _ _ c.args.sinks.items c.requires.as_many ran s well_formed since start (all_proper may_give sessions requests asked formed, h))
     c.run_named.ensures.run
 
@@ -113,7 +128,7 @@ returns-in-Ok-clause-ran g c = λ since start formed h.
     let asked = c.in-Ok.ensures.requests in
     let Ran : Type 0 = ThreadsRun g.row.D.Denot g.row.K.Denot in
     IfOk-weaker c.run_named.result _ (λ (ran : Ran). HasRun D.seen D.may_leave D.moment D.left_since ran.depot since start (map (placed sessions) ran.order.items))
-    (λ ran s. depot_ran D.seen D.may_leave D.moment D.left_since D.faults g.K.Sink.given g.K.Sink.faults may_give sessions scripts (map items_of requests) asked c.requires.as_many_replicas c.requires.apart
+    (λ ran s. depot_ran D.seen D.may_leave D.moment D.left_since c.args.depot.tables.archive_end (D.may_leave (archive_disk_of c.args.depot.archive)) D.faults g.K.Sink.given g.K.Sink.faults may_give sessions scripts (map items_of requests) asked c.requires.as_many_replicas c.requires.apart
     c.in-Ok.field-0.replicas.items c.in-Ok.ensures.replicas _ _ _ c.args.sinks.items c.requires.as_many ran s since start (all_proper may_give sessions requests asked formed, h))
     c.run_named.ensures.run
 
@@ -127,7 +142,7 @@ returns-in-Ok-clause-ends g c =
     let asked = c.in-Ok.ensures.requests in
     let Ran : Type 0 = ThreadsRun g.row.D.Denot g.row.K.Denot in
     IfOk-weaker c.run_named.result _ (λ (ran : Ran). AreEnds g.K.Sink.faults sessions scripts ran.runs.items c.args.sinks.items ran.sinks.items)
-    (λ ran s. all_ends D.seen D.may_leave D.moment D.left_since D.faults g.K.Sink.given g.K.Sink.faults may_give sessions scripts (map items_of requests) asked c.requires.as_many_replicas c.requires.apart
+    (λ ran s. all_ends D.seen D.may_leave D.moment D.left_since c.args.depot.tables.archive_end (D.may_leave (archive_disk_of c.args.depot.archive)) D.faults g.K.Sink.given g.K.Sink.faults may_give sessions scripts (map items_of requests) asked c.requires.as_many_replicas c.requires.apart
     c.in-Ok.field-0.replicas.items c.in-Ok.ensures.replicas _ _ _ c.args.sinks.items c.requires.as_many ran s)
     c.run_named.ensures.run
 

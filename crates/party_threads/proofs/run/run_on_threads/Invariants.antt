@@ -23,4 +23,9 @@ ghosts-run_named-N-Serving g a = record {
       AllByRecursion (λ (own : Vec Request Global). AllByRecursion IsProper own.items) a.requests.items × HasRun g.D.Disk.seen g.D.Disk.may_leave g.D.Disk.moment g.D.Disk.left_since a.depot since start [];
   faults = g.D.Disk.faults (disk_of a.depot.journal);
   content_faults = g.D.Disk.faults (archive_disk_of a.depot.archive);
+  content_marks = a.content_words.0;
 }
+
+-- what the archive's disk may leave
+abbrev pub ghosts-run_named-N-Imaging : goal.ghosts-run_named-N-Imaging
+ghosts-run_named-N-Imaging g a = record { images = g.D.Disk.may_leave (archive_disk_of a.depot.archive) }

@@ -1,5 +1,5 @@
-use Rattle.std.proofs.Common.{◌≡◌, ◌++◌, ℕ, List, length, map, take, drop, Vec, Global, sym, ap, subst, ◌∙◌}
-use Rattle.std.specs.Prelude.{All}
+use Rattle.std.proofs.Common.{◌≡◌, ◌≤◌, ◌++◌, ℕ, List, length, map, take, drop, Vec, Global, sym, ap, subst, ◌∙◌, arith}
+use Rattle.std.specs.Prelude.{All, vec_capacity}
 use Rattle.std.specs.List.{AllByRecursion}
 use Rattle.std.proofs.Math.Seq.{take-append_seam}
 use Rattle.std.proofs.lemmas.List.{length-map}
@@ -13,6 +13,16 @@ use Rattle.party_threads.proofs.Collecting.{among_of, any_map, as_many, length_f
 use Rattle.party_threads.specs.Parties.{AreCollected, AreFreshParties, HaveRun, IsAmong, IsReady, is_marked}
 use Rattle.party_threads.specs.declared.party.ThreadParty.{ThreadParty}
 use Rattle.party_threads.proofs.threads.run_and_close.Goals as goal
+
+-- what a borrowed list of parties leaves is the parties that ran
+ran_back : {P : Type 0} (olds news : List P) (len : ℕ) → length news ≡ length olds → len ≡ length olds → take len (news ++ drop (length news) olds) ≡ news
+ran_back olds news len as_long whole =
+    ap (λ (n : ℕ). take n (news ++ drop (length news) olds)) (whole ∙ sym as_long) ∙ take-append_seam news (drop (length news) olds)
+
+ran_within : {P : Type 0} (olds news : List P) (len many room : ℕ) → length news ≡ length olds → len ≡ length olds → length olds ≡ many → many ≤ room → length (take len (news ++ drop (length news) olds)) ≤ room
+ran_within {P} olds news len many room as_long whole count fits =
+    let same = ap (length {A = P}) (ran_back olds news len as_long whole) in
+    omega (arith, same, as_long, count, fits)
 
 pub put_parties-requires-clause-as_many : goal.put_parties-requires-clause-as_many
 put_parties-requires-clause-as_many g c = ap (length {A = PartyKnown}) c.requires.passes ∙ length_fresh (length c.args.requests.items)
@@ -32,7 +42,25 @@ run_parties-requires-after_bounds g c = λ κs bounds.
     let fresh : Fresh (fresh_passes (length requests)) (fresh_marks (length requests)) =
     subst (λ (marks : List PassKnown). Fresh (fresh_passes (length requests)) marks) c.requires.marks (subst (λ (passes : List PartyKnown). Fresh passes c.args.shared.marks.items) c.requires.passes c.put_parties.ensures) in
     subst (λ (ps : List Party). All (IsReady g.N.Serving.begins) ps) (sym c.deref_mut.ensures.value)
-    (ready D.seen D.may_leave D.moment D.left_since (g.C.Clock.may_give c.args.clock.now) g.K.Sink.given g.K.Sink.faults g.N.Serving.begins requests replicas sinks olds fresh c.requires.asked c.requires.few)
+    (ready D.seen D.may_leave D.moment D.left_since g.N.Naming.end g.N.Imaging.images (g.C.Clock.may_give c.args.clock.now) g.K.Sink.given g.K.Sink.faults g.N.Serving.begins requests replicas sinks olds fresh c.requires.asked c.requires.few)
+
+pub collect-lost-requires-clause-room : goal.collect-lost-requires-clause-room
+collect-lost-requires-clause-room g c =
+    let Party : Type 0 = ThreadParty g.row.K.Denot g.row.N.Denot in
+    let olds : List Party = c.put_parties.new.parties.items in
+    let news : List Party = c.run_parties.new.parties in
+    let count : length olds ≡ length c.args.requests.items = sym (length-map olds (λ (p : Party). p.requests)) ∙ ap (length {A = Vec Request Global}) c.put_parties.ensures.asks in
+    ran_within olds news c.put_parties.new.parties.len (length c.args.requests.items) (vec_capacity c.args.room.runs) (c.run_parties.ensures.count ∙ ap (length {A = Party}) c.deref_mut.ensures.value) c.put_parties.new.parties.ok.0 count
+    c.requires.room.wide_runs
+
+pub collect-lost-requires-clause-room_for_sinks : goal.collect-lost-requires-clause-room_for_sinks
+collect-lost-requires-clause-room_for_sinks g c =
+    let Party : Type 0 = ThreadParty g.row.K.Denot g.row.N.Denot in
+    let olds : List Party = c.put_parties.new.parties.items in
+    let news : List Party = c.run_parties.new.parties in
+    let count : length olds ≡ length c.args.requests.items = sym (length-map olds (λ (p : Party). p.requests)) ∙ ap (length {A = Vec Request Global}) c.put_parties.ensures.asks in
+    ran_within olds news c.put_parties.new.parties.len (length c.args.requests.items) (vec_capacity c.args.room.sinks) (c.run_parties.ensures.count ∙ ap (length {A = Party}) c.deref_mut.ensures.value) c.put_parties.new.parties.ok.0 count
+    c.requires.room.wide_sinks
 
 pub returns : goal.returns
 returns g c =
@@ -41,6 +69,8 @@ returns g c =
     let may_give = g.C.Clock.may_give c.args.clock.now in
     let given = g.K.Sink.given in
     let faults = g.K.Sink.faults in
+    let end = g.N.Naming.end in
+    let images = g.N.Imaging.images in
     let begins = g.N.Serving.begins in
     let requests = c.args.requests.items in
     let replicas = c.args.replicas.items in
@@ -54,17 +84,16 @@ returns g c =
     let Fresh : List PartyKnown → List PassKnown → Type 0 = λ passes marks. AreFreshParties requests replicas passes marks sinks olds in
     let fresh : Fresh (fresh_passes (length requests)) (fresh_marks (length requests)) =
     subst (λ (marks : List PassKnown). Fresh (fresh_passes (length requests)) marks) c.requires.marks (subst (λ (passes : List PartyKnown). Fresh passes c.args.shared.marks.items) c.requires.passes c.put_parties.ensures) in
-    let Ran : List Party → Type 0 = λ ps. HaveRun D.seen D.may_leave D.moment D.left_since may_give given faults begins ps news in
+    let Ran : List Party → Type 0 = λ ps. HaveRun D.seen D.may_leave D.moment D.left_since end images may_give given faults begins ps news in
     let run : Ran olds = subst Ran c.deref_mut.ensures.value c.run_parties.ensures.run in
     let as_long : length news ≡ length olds = c.run_parties.ensures.count ∙ ap (length {A = Party}) c.deref_mut.ensures.value in
-    let back : take c.put_parties.new.parties.len (news ++ drop (length news) olds) ≡ news =
-    ap (λ (n : ℕ). take n (news ++ drop (length news) olds)) (c.put_parties.new.parties.ok.0 ∙ sym as_long) ∙ take-append_seam news (drop (length news) olds) in
+    let back = ran_back olds news c.put_parties.new.parties.len as_long c.put_parties.new.parties.ok.0 in
     let Collected : OpenedKnown → List Party → Type 0 = λ o ps. AreCollected o ps runs left lost in
     let collected : Collected known news = subst (λ (o : OpenedKnown). Collected o news) (sym c.collect-lost.ensures.same) (subst (Collected c.open-opened.result) back c.collect-lost.ensures.collected) in
     let items : Vec Request Global → List Request = λ own. own.items in
     let asked : length (map items requests) ≡ length requests = length-map requests items in
     let many : length news ≡ length (map items requests) =
-    as_long ∙ (as_many D.seen D.may_leave D.moment D.left_since may_give given faults begins requests replicas sinks olds fresh ∙ sym asked) in
+    as_long ∙ (as_many D.seen D.may_leave D.moment D.left_since end images may_give given faults begins requests replicas sinks olds fresh ∙ sym asked) in
     let Among : ℕ → Type 0 = λ n. AllByRecursion (IsAmong n) known.order in
     record {
       order = known.order;
@@ -74,9 +103,10 @@ returns g c =
       flags = map (λ (p : Party). is_marked p) news;
       flags_count = length-map news (λ (p : Party). is_marked p) ∙ many;
       told = collected.told ∙ any_map (λ (p : Party). is_marked p) news;
-      served = served_all D.seen D.may_leave D.moment D.left_since may_give given faults begins requests replicas sinks olds fresh news run known runs left lost collected;
+      served = served_all D.seen D.may_leave D.moment D.left_since end images may_give given faults begins requests replicas sinks olds fresh news run known runs left lost collected;
       among = subst Among (sym asked) (among_of g.N.Naming.run (length requests) c.requires.lanes known.order c.close-depot.ensures.parties);
       can = c.close-depot.ensures.can;
+      stored = c.close-depot.ensures.stored;
       ran_by = c.close-depot.ensures.ran;
       caused = c.close-depot.ensures.faults;
       lost = λ is. c.close-depot.ensures.marks (collected.marked is);

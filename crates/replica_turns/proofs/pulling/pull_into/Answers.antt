@@ -7,15 +7,15 @@ use Rattle.replica_turns.specs.declared.party.Answered.{Answered}
 use Rattle.replica_turns.proofs.pulling.pull_into.Goals as goal
 
 pub returns-in_ok-follow-in-Ok-clause-answered : goal.returns-in_ok-follow-in-Ok-clause-answered
-returns-in_ok-follow-in-Ok-clause-answered g c =
-    subst (λ (answered : Answered). IsPullAnswer (λ been. been ≡ c.args.depot.now) g.D.Disk.seen g.D.Disk.may_leave c.args.replica.now c.follow.new.replica c.args.number answered.text answered.lost)
+returns-in_ok-follow-in-Ok-clause-answered g c = λ depot same.
+    subst (λ (answered : Answered). IsPullAnswer (λ been. been ≡ depot) g.D.Disk.seen g.D.Disk.may_leave c.args.replica.now c.follow.new.replica c.args.number answered.text answered.lost)
     (sym c.tells.ensures) (record {
-      depot = c.args.depot.now;
+      depot = depot;
       been = refl;
       fetched = c.in-Ok.fetched;
-      piece = c.fetch.new.buffer;
+      piece = c.fetch_texts.new.buffer;
       answers = λ texts has.
-          subst (λ (at : ℕ × ℕ). Answers texts at.0 at.1 c.in-Ok.fetched c.fetch.new.buffer) c.awaits-generation.ensures (c.in-Ok.ensures.answers texts has);
+          subst (λ (at : ℕ × ℕ). Answers texts at.0 at.1 c.in-Ok.fetched c.fetch_texts.new.buffer) c.awaits-generation.ensures (c.in-Ok.ensures.answers depot texts same has);
       follows = c.in_ok-follow-in-Ok.ensures.follows;
       reply = c.position.ensures ∙ ap (λ (at : ℕ × ℕ). printed (position_row at.0 at.1 ∷ []) c.args.number) c.position-generation.ensures;
     })

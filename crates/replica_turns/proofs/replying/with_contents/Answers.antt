@@ -4,7 +4,7 @@ use Rattle.reply_rows.specs.Made.{contents_of}
 use Rattle.serial_depot.specs.Storing.{AreAt}
 use Rattle.replica_turns.specs.declared.party.Answered.{Answered}
 use Rattle.replica_turns.proofs.Contents.{contents_at}
-use Rattle.replica_turns.proofs.Unmoved.{unmoved}
+use Rattle.serial_depot.proofs.Moved.{read_none}
 use Rattle.replica_turns.proofs.replying.with_contents.Goals as goal
 
 pub returns-clause-told : goal.returns-clause-told
@@ -13,5 +13,5 @@ returns-clause-told g c = λ all d files rows is sees has kept.
     let here : AreAt (files 0) c.as_slice.result.now (contents_of rows) = subst (λ (spots : List Spot). AreAt (files 0) spots (contents_of rows)) (sym c.as_slice.ensures) at in
     ap (λ (answered : Answered). answered.text) c.tells.ensures ∙ c.in_ok-text.ensures rows is.reply (c.in-Ok.ensures.contents files (contents_of rows) sees here)
 
-pub returns-in_err-of_fault-clause-depot : goal.returns-in_err-of_fault-clause-depot
-returns-in_err-of_fault-clause-depot g c = unmoved g.D.Disk.seen g.D.Disk.may_leave g.D.Disk.moment g.D.Disk.left_since g.D.Disk.faults c.args.depot.now
+pub returns-in_err-of_fault-clause-read : goal.returns-in_err-of_fault-clause-read
+returns-in_err-of_fault-clause-read g c = read_none g.D.Disk.seen g.D.Disk.may_leave c.args.archive.now

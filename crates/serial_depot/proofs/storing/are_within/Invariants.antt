@@ -1,4 +1,4 @@
-use Rattle.std.proofs.Common.{ℕ, ◌<◌, ◌≤◌, get_or}
+use Rattle.std.proofs.Common.{◌≡◌, ℕ, ◌<◌, ◌≤◌, get_or}
 use Rattle.archive_file.specs.Archive.{end_of}
 use Rattle.depot_rows.specs.db_records.declared.change.Spot.{Spot}
 use Rattle.serial_depot.proofs.storing.are_within.Given as goal

@@ -1,7 +1,9 @@
-use Rattle.std.proofs.Common.{◌≡◌, [], ◌∷◌, Result, Err, ◌++◌, length, refl, sym, ap, ◌∙◌, arith, rules}
+use Rattle.std.proofs.Common.{◌≡◌, ◌≤◌, ℕ, List, [], ◌∷◌, Result, Err, ◌++◌, length, take, refl, sym, ap, subst, ◌∙◌, arith, rules}
 use Rattle.std.proofs.lemmas.List.{take_all}
+use Rattle.archive_file.specs.Archive.{disk_of, end_of, used_of}
 use Rattle.archive_file.specs.declared.archive.ContentFault.{ContentFault}
 use Rattle.archive_file.specs.declared.archive.ContentFault.TheVariants.{DiskFault}
+use Rattle.depot_rows.specs.db_records.declared.change.Spot.{Spot}
 use Rattle.serial_depot.proofs.Stored.{at_index, at_length}
 use Rattle.serial_depot.proofs.storing.read_all.Goals as goal
 

@@ -1,4 +1,4 @@
-use Rattle.std.proofs.Common.{◌≡◌, ◌≤◌, ◌<◌, ◌^◌, take}
+use Rattle.std.proofs.Common.{◌≡◌, ◌≤◌, ◌<◌, ◌^◌, ℕ, List, take}
 use Rattle.archive_file.specs.Archive.{disk_of, used_of}
 use Rattle.outside_api.specs.Disk.{StillTells}
 use Rattle.serial_depot.specs.Storing.{AllReach, AllStored, KeepsBelow, stores_end}

@@ -1,4 +1,4 @@
-use Rattle.std.proofs.Common.{◌≡◌, ◌⊎◌, ℕ, ◌<◌, Err, inl, inr, refl, arith}
+use Rattle.std.proofs.Common.{◌≡◌, ◌⊎◌, ℕ, ◌+◌, ◌<◌, Err, Result, inl, inr, refl, sym, subst, ◌∙◌, arith}
 use Rattle.checkpoint_file.specs.declared.fault.CheckpointFault.{CheckpointFault}
 use Rattle.checkpoint_file.specs.declared.fault.CheckpointFault.TheVariants.{NoGeneration, DiskFault}
 use Rattle.disk_journal.specs.Images.{HasEither, with_generation}

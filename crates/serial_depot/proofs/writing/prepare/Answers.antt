@@ -1,4 +1,4 @@
-use Rattle.std.proofs.Common.{◌+◌, ℕ, Bool, refl, sym, ap, subst}
+use Rattle.std.proofs.Common.{◌≡◌, ◌+◌, ℕ, Bool, refl, sym, ap, subst}
 use Rattle.checkpoint_file.specs.Checkpoint.{IsCheckpointOf}
 use Rattle.disk_journal.specs.Stands.{generation_of_journal, group, next_number}
 use Rattle.depot_rows.specs.table_changes.Changed.{rows_of}

@@ -1,9 +1,9 @@
-use Rattle.std.proofs.Common.{◌⊎◌, refl, sym, subst, true, false}
-use Rattle.outside_api.specs.Disk.{LeavesOnly}
+use Rattle.std.proofs.Common.{◌≡◌, ◌⊎◌, ℕ, refl, sym, subst, true, false}
+use Rattle.outside_api.specs.Disk.{Files, LeavesOnly}
 use Rattle.disk_journal.specs.Keeping.{KeepsOlder}
-use Rattle.disk_journal.specs.Stands.{HasWithOrWithout, disk_of}
+use Rattle.disk_journal.specs.Stands.{HasWithOrWithout, Stands, disk_of, nothing}
 use Rattle.serial_depot.specs.Growing.{older_after}
-use Rattle.serial_depot.specs.Writing.{StandsBy, left_by}
+use Rattle.serial_depot.specs.Writing.{StandsBy, left_by, with_doubtful}
 use Rattle.serial_depot.specs.declared.writing.Writing.{Writing}
 use Rattle.serial_depot.proofs.writing.write.Goals as goal
 

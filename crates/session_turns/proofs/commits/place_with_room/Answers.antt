@@ -55,7 +55,7 @@ returns-clause-master g c = λ past since start places all h proper is changed m
     let new = c.place_outcome.new.self in
     let current = taken step start places in (
       grown (opens_generation request) answer.place.fault c.args.outcome.changes all,
-      place_master g.D.Disk.seen g.D.Disk.may_leave g.D.Disk.moment g.D.Disk.left_since past start places c.args.depot.now new all master since h c.place_outcome.ensures.stored request c.args.outcome (is current h.stand)
-          answer.place.fault (c.in_ok-answer.ensures.ran since start places h proper is changed) (c.in_ok-answer.ensures.rows changed) (c.in_ok-answer.ensures.grows current all h.stand proper is master.groups),
+      place_master g.D.Disk.seen g.D.Disk.may_leave g.D.Disk.moment g.D.Disk.left_since past start places c.args.depot.now new all master since h c.place_outcome.ensures.stored request c.args.outcome (is current h.over.stand)
+          answer.place.fault (c.in_ok-answer.ensures.ran since start places h proper is changed) (c.in_ok-answer.ensures.rows changed) (c.in_ok-answer.ensures.grows current all h.over.stand proper is master.groups),
       texts_grow (opens_generation request) answer.place.fault c.args.outcome.changes all,
     )

@@ -9,7 +9,7 @@ use Rattle.locked_tables.specs.Known.{OrderKnown}
 use Rattle.locked_tables.specs.Taken.{end_after, party_lane, place_of, IsOwn, TouchesItsParty, TouchesItsTables}
 use Rattle.locked_tables.specs.declared.taken.Taken.{Taken}
 use Rattle.locked_tables.proofs.Announced.{touches_its}
-use Rattle.locked_tables.proofs.Archive.{end_same}
+use Rattle.locked_tables.proofs.Archive.{end_same, spared}
 use Rattle.locked_tables.proofs.Lanes.{no_lane, or_no_first}
 use Rattle.locked_tables.proofs.Parties.{is_own, touches_party}
 use Rattle.locked_tables.proofs.placed_order.PlacedOrder.place.Goals as goal
@@ -55,3 +55,8 @@ returns-clause-end g c =
     let are = (λ (i : ℕ). c.place_touching-lanes.ensures.lanes i ∙ or_no_first (has_lane 0 i) _ (no_lane i)) in
     let inner : end_after end after ≡ end_after end order = end_same end order after entry last c.args.pass.now.party c.args.held.now c.place_touching-lanes.ensures.party.low are in
     subst (λ (o : OrderKnown). end_after end after ≡ end_after end o.list) c.self.view_is inner
+
+pub returns-clause-spares : goal.returns-clause-spares
+returns-clause-spares g c =
+    let are = (λ (i : ℕ). c.place_touching-lanes.ensures.lanes i ∙ or_no_first (has_lane 0 i) _ (no_lane i)) in
+    spared c.place_touching-lanes.result c.args.pass.now.party c.args.held.now c.place_touching-lanes.ensures.party.low are

@@ -8,7 +8,7 @@ use Rattle.locked_tables.specs.Known.{OrderKnown}
 use Rattle.locked_tables.specs.Taken.{archive_lane, party_lane, place_of, IsOwn, TouchesItsParty, TouchesItsTables}
 use Rattle.locked_tables.specs.declared.taken.Taken.{Taken}
 use Rattle.locked_tables.proofs.Announced.{touches_its_too}
-use Rattle.locked_tables.proofs.Archive.{end_said}
+use Rattle.locked_tables.proofs.Archive.{end_said, touched}
 use Rattle.locked_tables.proofs.Parties.{is_own, touches_party_too}
 use Rattle.locked_tables.proofs.placed_order.PlacedOrder.place_stored.Goals as goal
 
@@ -51,3 +51,6 @@ returns-clause-end g c =
     let end = g.N.Naming.end in
     let last : after ≡ order ++ entry ∷ [] = ap (λ (o : OrderState Taken). o.list) c.place_stored_at-lanes.ensures.order in
     end_said end order after entry last c.args.pass.now.party c.args.held.now c.place_stored_at-lanes.ensures.lanes
+
+pub returns-clause-touches : goal.returns-clause-touches
+returns-clause-touches g c = touched c.place_stored_at-lanes.result (party_lane c.args.pass.now.party ∷ lanes_next c.args.held.now) c.place_stored_at-lanes.ensures.lanes

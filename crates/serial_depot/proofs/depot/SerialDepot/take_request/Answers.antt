@@ -1,6 +1,10 @@
+use Rattle.std.proofs.Common.{◌≡◌, List, refl}
 use Rattle.depot_rows.specs.table_changes.Changed.{rows_of}
 use Rattle.depot_runs.specs.Today.{step}
 use Rattle.depot_rows.specs.depot_model.Step.{after}
+use Rattle.depot_rows.specs.depot_model.declared.request.Request.{Request}
+use Rattle.session_loop.specs.Taking.{IsProper}
+use Rattle.serial_depot.specs.Committing.{IsOutcomeOf}
 use Rattle.serial_depot.proofs.Differences.{no_changes}
 use Rattle.serial_depot.proofs.Finished.{none_read}
 use Rattle.serial_depot.proofs.Laws.{formed_of}
@@ -11,14 +15,14 @@ pub returns-clause-ran : goal.returns-clause-ran
 returns-clause-ran g c = λ since start places h proper.
     let rows = rows_of c.args.self.now.tables in
     let request = c.args.request.now in
-    c.take_outcome.ensures.ran since start places h proper
+    c.in_ok-answer.ensures.ran since start places h proper
     (λ d stand. c.in_ok-outcome.ensures.outcome d stand.sound (formed_of request proper) (has_needed rows d request stand)) tt
 
 pub returns-clause-answers : goal.returns-clause-answers
 returns-clause-answers g c = λ since start places h proper.
     let rows = rows_of c.args.self.now.tables in
     let request = c.args.request.now in
-    c.take_outcome.ensures.answers since start places h
+    c.in_ok-answer.ensures.answers since start places h
     (λ d stand. c.in_ok-outcome.ensures.outcome d stand.sound (formed_of request proper) (has_needed rows d request stand))
 
 pub returns-clause-no_write : goal.returns-clause-no_write
@@ -30,6 +34,23 @@ returns-clause-no_write g c = λ d stand proper same.
 
 pub returns-clause-no_call : goal.returns-clause-no_call
 returns-clause-no_call g c = λ d stand proper same none.
+    let rows = rows_of c.args.self.now.tables in
+    let request = c.args.request.now in
+    let is = c.in_ok-outcome.ensures.outcome d stand.sound (formed_of request proper) (has_needed rows d request stand) in
+    c.take_outcome.ensures.no_call (no_changes rows d (after d (step d request).deeds) c.in_ok-outcome.outcome.changes stand same is.changes)
+    (none_read rows d c.in_ok-outcome.outcome.reads (step d request).rows is.reads none)
+
+-- ---- no memory was left behind the evaluation
+
+pub returns-in_err-answer-clause-no_write : goal.returns-in_err-answer-clause-no_write
+returns-in_err-answer-clause-no_write g c = λ d stand proper same.
+    let rows = rows_of c.args.self.now.tables in
+    let request = c.args.request.now in
+    let is = c.in_ok-outcome.ensures.outcome d stand.sound (formed_of request proper) (has_needed rows d request stand) in
+    c.take_outcome.ensures.no_write (no_changes rows d (after d (step d request).deeds) c.in_ok-outcome.outcome.changes stand same is.changes)
+
+pub returns-in_err-answer-clause-no_call : goal.returns-in_err-answer-clause-no_call
+returns-in_err-answer-clause-no_call g c = λ d stand proper same none.
     let rows = rows_of c.args.self.now.tables in
     let request = c.args.request.now in
     let is = c.in_ok-outcome.ensures.outcome d stand.sound (formed_of request proper) (has_needed rows d request stand) in

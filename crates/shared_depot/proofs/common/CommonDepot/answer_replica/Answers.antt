@@ -1,47 +1,91 @@
-use Rattle.std.proofs.Common.{◌≡◌, List, map, sym, ap, subst}
+use Rattle.std.proofs.Common.{◌≡◌, ◌++◌, ◌||◌, ℕ, Bool, List, map, refl, sym, ap, subst, ◌∙◌}
 use mathlib.Core.List.{IsPrefix}
-use Rattle.archive_file.specs.Archive.{disk_of as archive_disk_of}
 use Rattle.disk_journal.specs.Stands.{disk_of}
 use Rattle.locked_tables.specs.Known.{OrderKnown, PartyKnown}
 use Rattle.locked_tables.specs.Taken.{of_party, placed_of}
 use Rattle.locked_tables.specs.declared.taken.Taken.{Taken}
+use Rattle.party_marks.specs.Known.{PassKnown}
+use Rattle.party_marks.specs.Marks.{has_marks}
+use Rattle.replica_turns.specs.Going.{is_lost}
 use Rattle.serial_depot.specs.Running.{HasRun}
-use Rattle.shared_depot.specs.Common.{HasRunOrder}
-use Rattle.shared_depot.proofs.Marks.{lost_caused, marks_caused}
-use Rattle.shared_depot.proofs.Order.{not_run}
-use Rattle.shared_depot.proofs.Turns.{told_on}
+use Rattle.serial_depot.specs.Storing.{HasStored, stores_end}
+use Rattle.serial_depot.specs.declared.depot.SerialDepot.{SerialDepot}
+use Rattle.serial_depot.proofs.Moved.{over_fetched}
+use Rattle.shared_depot.specs.Common.{HasAllStored, HasRunOrder}
+use Rattle.shared_depot.specs.Stored.{stores_of}
+use Rattle.shared_depot.proofs.Marks.{lost_caused, mark_caused, marked_before}
+use Rattle.shared_depot.proofs.Order.{depot_ran, run_fetched}
+use Rattle.shared_depot.proofs.Turns.{answered_so, told_on}
 use Rattle.shared_depot.proofs.common.CommonDepot.answer_replica.Goals as goal
 
 pub invariant_of-self : goal.invariant_of-self
 invariant_of-self g c =
     let D = g.D.Disk in
-    let next = c.answer_next-answer.ensures in
+    let rows = g.N.Naming.rows in
+    let end = g.N.Naming.end in
+    let images = g.N.Imaging.images in
+    let begins = g.N.Serving.begins in
+    let next = c.answer_by_journal-answer.ensures in
     let order = c.self.inside.order.list in
-    let old = c.self.inside.depot in
-    let new = c.answer_next-answer.new.depot in
+    let tables = c.self.inside.tables in
+    let old = c.self.inside.journal in
+    let new = c.answer_by_journal-answer.new.journal in
     let was = c.self.invariant.0 in
     let same : c.tell.new.self.list ≡ order = ap (λ (o : OrderKnown). o.list) c.tell.ensures.same in (
-      subst (λ (l : List Taken). HasRunOrder D.seen D.may_leave D.moment D.left_since D.faults g.N.Naming.rows g.N.Naming.end g.N.Serving.begins g.N.Serving.faults g.N.Serving.content_faults l new) (sym same)
-          (not_run D.seen D.may_leave D.moment D.left_since D.faults g.N.Naming.rows g.N.Naming.end g.N.Serving.begins g.N.Serving.faults g.N.Serving.content_faults order old new was
-          next.can next.never_falls next.never_falls_contents next.tables (λ since start places h. next.ran since start places h)),
-      marks_caused g.N.Serving.faults (D.faults (disk_of old.journal)) (D.faults (disk_of new.journal)) g.N.Serving.content_faults (D.faults (archive_disk_of old.archive)) (D.faults (archive_disk_of new.archive))
-          next.never_falls next.never_falls_contents was.no_fewer was.no_fewer_contents _ (lost_caused c.answer_next-answer.result _ next.cause) c.self.inside.marks.list c.mark_lost.new.all.list c.mark_lost.ensures.caused c.self.invariant.1,
+      subst (λ (l : List Taken). HasRunOrder D.seen D.may_leave D.moment D.left_since D.faults rows end images begins g.N.Serving.faults l tables new) (sym same)
+          (run_fetched D.seen D.may_leave D.moment D.left_since D.faults rows end images begins g.N.Serving.faults order tables old new was
+          (was.can.0, (was.can.1.0, next.fetched.stands was.can.0 was.can.1.0 was.can.1.1)) next.never_falls
+          (λ since start places h. over_fetched D.seen D.may_leave D.moment D.left_since (HasStored images end (stores_of order)) (stores_end (stores_of order) end) tables old since start places h new next.fetched)),
+      mark_caused g.N.Serving.faults (D.faults (disk_of old)) (D.faults (disk_of new)) was.no_fewer next.never_falls _ (lost_caused c.answer_by_journal-answer.result _ next.cause) c.self.inside.marks.list c.mark_lost.new.all.list
+          c.mark_lost.ensures.caused c.self.invariant.1,
     )
 
-pub returns-clause-turn : goal.returns-clause-turn
-returns-clause-turn g c =
+pub invariant_of-marks : goal.invariant_of-marks
+invariant_of-marks g c = c.marks.invariant ∙ sym c.mark_lost.ensures.party
+
+pub returns-clause-answer : goal.returns-clause-answer
+returns-clause-answer g c =
     let D = g.D.Disk in
+    let rows = g.N.Naming.rows in
+    let end = g.N.Naming.end in
+    let images = g.N.Imaging.images in
+    let begins = g.N.Serving.begins in
     let order = c.self.inside.order.list in
-    let old = c.self.inside.depot in
+    let tables = c.self.inside.tables in
+    let journal = c.self.inside.journal in
+    let was = c.self.invariant.0 in
+    let request = c.args.request.now in
+    let replica = c.args.replica.now in
+    let replica' = c.answer_by_journal-answer.new.self in
+    let answer = c.answer_by_journal-answer.result in
     let party = c.args.pass.now.party in
     let known : c.tell.new.pass.list ≡ order = ap (λ (k : PartyKnown). k.list) c.tell.ensures.told in
+    let marks = c.marks.inside in
+    let given = c.mark_lost.new.pass.list in
+    let lost : Bool = is_lost c.mark_lost.result in
+    let marked : has_marks marks.journal.party given ≡ (has_marks marks.journal.party marks.journal.list || lost) = ap (λ (p : ℕ). has_marks p given) (sym c.mark_lost.ensures.party) ∙ c.mark_lost.ensures.marked in
     record {
-      depot = old;
-      ran = λ since start at. subst (λ (l : List Taken). HasRun D.seen D.may_leave D.moment D.left_since old since start (map placed_of l)) (sym known) (c.self.invariant.0.ran since start at);
-      turned = told_on D.seen D.may_leave old c.args.replica.now c.answer_next-answer.new.self c.answer_next-answer.result c.mark_lost.result c.mark_lost.ensures.told (c.answer_next-answer.ensures.turned c.requires);
-      party = ap (λ (k : PartyKnown). k.party) c.tell.ensures.told;
-      later = subst (IsPrefix c.args.pass.now.list) (sym known) c.tell.ensures.begins;
-      own = subst (λ (l : List Taken). of_party party l ≡ of_party party c.args.pass.now.list) (sym known) c.tell.ensures.own;
-      marks_party = c.mark_lost.ensures.party;
-      marked = c.mark_lost.ensures.marked;
+      answered = λ archive all.
+          let depot : SerialDepot g.row.D.Denot = record { tables = tables; journal = journal; archive = archive } in
+          let here = subst (λ (l : List Taken). HasAllStored D.seen D.may_leave D.moment D.left_since end images begins l archive) known all in (
+            depot,
+            (
+              λ since start at.
+                  subst (λ (l : List Taken). HasRun D.seen D.may_leave D.moment D.left_since depot since start (map placed_of l)) (sym known)
+                  (depot_ran D.seen D.may_leave D.moment D.left_since D.faults rows end images begins g.N.Serving.faults order tables journal was archive here since start at),
+              λ formed.
+                  told_on D.seen D.may_leave depot replica replica' request answer c.mark_lost.result c.mark_lost.ensures.told
+                  (answered_so D.seen D.may_leave depot replica replica' request answer (c.answer_by_journal-answer.ensures.answered depot refl formed) c.answer_by_journal-answer.ensures.kept),
+            ),
+          );
+      heard = record {
+        party = ap (λ (k : PartyKnown). k.party) c.tell.ensures.told;
+        later = subst (IsPrefix c.args.pass.now.list) (sym known) c.tell.ensures.begins;
+        own = subst (λ (l : List Taken). of_party party l ≡ of_party party c.args.pass.now.list) (sym known) c.tell.ensures.own;
+        marks_party = c.mark_lost.ensures.party ∙ ap (λ (k : PassKnown). k.party) c.marks.view_is;
+        marked =
+            ap (λ (p : ℕ). has_marks p (given ++ marks.archive.list)) c.mark_lost.ensures.party
+            ∙ (marked_before marks.journal.party marks.journal.list given marks.archive.list lost marked
+            ∙ ap (λ (k : PassKnown). has_marks k.party k.list || lost) c.marks.view_is);
+      };
     }

@@ -12,9 +12,9 @@ returns g c =
     let rows = g.N.Naming.rows in
     let list = c.args.self.now.list in
     let changes = c.args.changes.now in
-    let same : rows_of c.tables.result.now ≡ rows_after rows list =
-    ap (λ (t : Tables). rows_of t) c.tables.ensures ∙ ((λ k table. c.self.invariant.0.rows_are table k) ∙ ap (λ (o : OrderKnown). rows_after rows o.list) c.self.view_is) in
+    let tables = c.self.inside.tables in
+    let same : rows_of tables ≡ rows_after rows list = (λ k table. c.self.invariant.0.rows_are table k) ∙ ap (λ (o : OrderKnown). rows_after rows o.list) c.self.view_is in
     record {
-      rows = IfOk-weaker c.change_tables.result (λ (made : Tables). rows_of made ≡ changed_by (rows_of c.tables.result.now) changes) (λ (after : Tables). (table : TableId) → rows_of after table ≡ changed_by (rows_after rows list) changes table)
+      rows = IfOk-weaker c.change_tables.result (λ (made : Tables). rows_of made ≡ changed_by (rows_of tables) changes) (λ (after : Tables). (table : TableId) → rows_of after table ≡ changed_by (rows_after rows list) changes table)
           (λ made is table. ap (λ (all : AllRows). all table) (is ∙ ap (λ (all : AllRows). changed_by all changes) same)) c.change_tables.ensures.rows;
     }

@@ -1,8 +1,14 @@
-use Rattle.shared_depot.proofs.Order.{fresh_run}
+use Rattle.shared_depot.proofs.Order.{fresh_archive, fresh_run}
 use Rattle.shared_depot.proofs.shared.SharedDepot.new.Goals as goal
 
-pub new-requires-in-Ok-make_parts-3-clause-run : goal.new-requires-in-Ok-make_parts-3-clause-run
-new-requires-in-Ok-make_parts-3-clause-run g c =
+pub new-archive-requires-clause-archive : goal.new-archive-requires-clause-archive
+new-archive-requires-clause-archive g c =
     let D = g.D.Disk in
-    fresh_run D.seen D.may_leave D.moment D.left_since D.faults g.N.Naming.rows g.N.Naming.end g.N.Serving.begins g.N.Serving.faults g.N.Serving.content_faults c.args.depot
-    c.requires.can c.requires.rows c.requires.end c.requires.begins c.requires.faults c.requires.content_faults
+    fresh_archive D.seen D.may_leave D.moment D.left_since D.faults g.N.Naming.rows g.N.Naming.end g.N.Imaging.images g.N.Serving.begins c.args.depot
+    c.requires.can c.requires.rows c.requires.end (λ files. (c.requires.images files).0) (λ files. (c.requires.images files).1) c.requires.begins g.N.Serving.content_faults c.requires.content_faults
+
+pub new-common-requires-clause-run : goal.new-common-requires-clause-run
+new-common-requires-clause-run g c =
+    let D = g.D.Disk in
+    fresh_run D.seen D.may_leave D.moment D.left_since D.faults g.N.Naming.rows g.N.Naming.end g.N.Imaging.images g.N.Serving.begins c.args.depot
+    c.requires.can c.requires.rows c.requires.end (λ files. (c.requires.images files).0) (λ files. (c.requires.images files).1) c.requires.begins g.N.Serving.faults c.requires.faults

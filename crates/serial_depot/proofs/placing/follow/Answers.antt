@@ -1,0 +1,10 @@
+use Rattle.std.proofs.Common.{arith}
+use Rattle.depot_rows.specs.table_changes.Changed.{rows_of}
+use Rattle.serial_depot.proofs.placing.follow.Goals as goal
+
+pub returns-clause-writes : goal.returns-clause-writes
+returns-clause-writes g c = λ fits records given.
+    c.in_ok-writing.ensures.writes (rows_of c.args.tables.now) fits (c.in_ok-changed.ensures given) (records, let few = c.in_ok-measure.ensures in omega (arith, few))
+
+pub returns-clause-group : goal.returns-clause-group
+returns-clause-group g c = λ records. (records, let few = c.in_ok-measure.ensures in omega (arith, few))

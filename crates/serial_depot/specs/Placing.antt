@@ -1,0 +1,23 @@
+-- Giving a command its place over the parts of a depot in files. This project's own choice.
+use Rattle.std.specs.Prelude.{◌≡◌, ◌++◌, ℕ, List}
+use Rattle.outside_api.specs.Disk.{Files, StillTells}
+use Rattle.archive_file.specs.Archive.{disk_of, used_of}
+use Rattle.archive_file.specs.declared.archive.Archive.{Archive}
+use Rattle.depot_rows.specs.depot_model.Deeds.{Deed}
+use Rattle.depot_rows.specs.depot_model.Places.{Placed}
+use Rattle.depot_rows.specs.table_store.declared.tables.Tables.{Tables}
+use Rattle.disk_journal.specs.declared.journal.Journal.{Journal}
+use Rattle.serial_depot.specs.Running.{HasRunOver}
+use Rattle.serial_depot.specs.Storing.{AllReach, AllStored, HasStored, KeepsBelow, stores_end}
+
+-- The run beside an archive whose disk might leave these images when it was used up to a place, and in which these contents were stored since.
+abbrev pub HasRunBeside : {D : Type 0} → (D → Files → Type 0) → (D → ℕ) → (D → ℕ → Files → Type 0) → (Files → Type 0) → ℕ → List (List ℕ) → Tables → Journal D → ℕ → List Deed → List Placed → Type 0
+HasRunBeside may_leave moment left_since images from stores = HasRunOver may_leave moment left_since (HasStored images from stores) (stores_end stores from)
+
+-- Contents were stored behind what was used of an archive, and count as used; what was there is kept.
+pub record StoresBehind {D : Type 0} (seen may_leave : D → Files → Type 0) (stored : List (List ℕ)) (old new : Archive D) : Type 0 where
+  pub used : used_of new ≡ stores_end stored (used_of old)
+  pub kept : KeepsBelow (may_leave (disk_of old)) (may_leave (disk_of new)) (used_of old)
+  pub all : AllStored (may_leave (disk_of new)) stored (used_of old)
+  pub room : AllReach (may_leave (disk_of new)) (used_of new)
+  pub tells : StillTells (seen (disk_of old)) (seen (disk_of new))

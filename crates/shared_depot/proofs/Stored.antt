@@ -1,0 +1,157 @@
+-- What an order's places say of the archive, with one place more, and where no further one touches its lane.
+use Rattle.std.proofs.Common.{◌≡◌, ◌≤◌, ◌+◌, ◌&&◌, ◌||◌, ℕ, Bool, true, false, not, cond, List, [], ◌∷◌, ◌++◌, map, refl, sym, ap, ◌∙◌, append_assoc, append-nil, arith}
+use Rattle.std.specs.Prelude.{count_by, if◌then◌else◌}
+use Rattle.std.specs.List.{AllByRecursion}
+use Rattle.std.proofs.lemmas.List.Sums.{sum_by-append, sum_by_push}
+use Rattle.depot_rows.specs.depot_model.declared.order.Place.{Place}
+use Rattle.locked_tables.specs.Known.{GoesOnWithout}
+use Rattle.locked_tables.specs.Taken.{archive_lane, place_of}
+use Rattle.locked_tables.specs.declared.taken.Taken.{Taken}
+use Rattle.order_words.specs.Lanes.{has_lane}
+use Rattle.outside_api.specs.Count.{HasRisen, counted}
+use Rattle.session_loop.specs.Served.{AreCaused, fault_count}
+use Rattle.shared_depot.specs.Stored.{is_lost, is_unwritten, lost_count, stores_of, unwritten_count}
+
+abbrev Spares : Taken → Type 0
+Spares taken = has_lane taken.lanes archive_lane ≡ false
+
+-- ---- contents
+
+pub stores_append : (xs ys : List Taken) → stores_of (xs ++ ys) ≡ stores_of xs ++ stores_of ys
+stores_append [] ys = refl
+stores_append (x ∷ xs) ys =
+    let own = if has_lane x.lanes archive_lane then x.stores else [] in
+    ap (λ (l : List (List ℕ)). own ++ l) (stores_append xs ys) ∙ sym (append_assoc own (stores_of xs) (stores_of ys))
+
+stores_none : (order : List Taken) → AllByRecursion Spares order → stores_of order ≡ []
+stores_none [] all = refl
+stores_none (taken ∷ order) all = ap (λ (b : Bool). (if b then taken.stores else []) ++ stores_of order) all.0 ∙ stores_none order all.1
+
+pub stores_kept : (known order : List Taken) → GoesOnWithout archive_lane known order → stores_of order ≡ stores_of known
+stores_kept known order on =
+    ap stores_of on.parts
+    ∙ (stores_append known on.behind
+    ∙ (ap (λ (l : List (List ℕ)). stores_of known ++ l) (stores_none on.behind on.untouched)
+    ∙ append-nil (stores_of known)))
+
+-- one place more
+pub stores_touched : (order : List Taken) (entry : Taken) → has_lane entry.lanes archive_lane ≡ true → stores_of (order ++ entry ∷ []) ≡ stores_of order ++ entry.stores
+stores_touched order entry is =
+    stores_append order (entry ∷ [])
+    ∙ (ap (λ (b : Bool). stores_of order ++ ((if b then entry.stores else []) ++ [])) is
+    ∙ ap (λ (l : List (List ℕ)). stores_of order ++ l) (append-nil entry.stores))
+
+pub stores_spared : (order : List Taken) (entry : Taken) → has_lane entry.lanes archive_lane ≡ false → stores_of (order ++ entry ∷ []) ≡ stores_of order
+stores_spared order entry is =
+    stores_append order (entry ∷ [])
+    ∙ (ap (λ (b : Bool). stores_of order ++ ((if b then entry.stores else []) ++ [])) is
+    ∙ append-nil (stores_of order))
+
+-- ---- faults
+
+count_append : {X : Type 0} (test : X → Bool) (xs ys : List X) → count_by test (xs ++ ys) ≡ count_by test xs + count_by test ys
+count_append {X} test xs ys = sum_by-append (λ (x : X). cond (test x) 1 0) xs ys
+
+pub count_one : (test : Taken → Bool) (order : List Taken) (entry : Taken) → count_by test (order ++ entry ∷ []) ≡ count_by test order + cond (test entry) 1 0
+count_one test order entry = sum_by_push (λ (taken : Taken). cond (test taken) 1 0) order entry
+
+count_first : {X : Type 0} (test : X → Bool) (x : X) (xs : List X) → count_by test (x ∷ xs) ≡ cond (test x) 1 0 + count_by test xs
+count_first test x xs = let all = count_append test (x ∷ []) xs in omega (arith, all)
+
+never : (b : Bool) → b && false ≡ false
+never true = refl
+never false = refl
+
+pub spared_not_lost : (entry : Taken) → has_lane entry.lanes archive_lane ≡ false → is_lost entry ≡ false
+spared_not_lost entry is = ap (λ (b : Bool). entry.fault && (b && entry.lost)) is ∙ never entry.fault
+
+-- where the journal's disk failed the place is that of a fault
+pub unwritten_fails : (entry : Taken) → is_unwritten entry ≡ true → entry.fault ≡ true
+unwritten_fails entry is = go entry.fault (not (has_lane entry.lanes archive_lane && entry.lost)) is
+  where
+    go : (fault other : Bool) → fault && other ≡ true → fault ≡ true
+    go true other both = refl
+    go false other both = both
+
+-- and where the archive's lane is touched, it wasn't the archive's
+pub unwritten_kept : (entry : Taken) → has_lane entry.lanes archive_lane ≡ true → is_unwritten entry ≡ true → entry.lost ≡ false
+unwritten_kept entry touches is = go entry.fault (has_lane entry.lanes archive_lane) entry.lost touches is
+  where
+    go : (fault touched lost : Bool) → touched ≡ true → fault && not (touched && lost) ≡ true → lost ≡ false
+    go true true true here both = sym both
+    go true true false here both = refl
+    go true false lost here both = absurd cc
+    go false touched lost here both = absurd cc
+
+-- where it was, the entry says so
+pub lost_of : (entry : Taken) → is_lost entry ≡ true → entry.lost ≡ true
+lost_of entry is = go entry.fault (has_lane entry.lanes archive_lane) entry.lost is
+  where
+    go : (fault touched lost : Bool) → fault && (touched && lost) ≡ true → lost ≡ true
+    go true true lost all = all
+    go true false lost all = absurd cc
+    go false touched lost all = absurd cc
+
+none_lost : (order : List Taken) → AllByRecursion Spares order → lost_count order ≡ 0
+none_lost [] all = refl
+none_lost (taken ∷ order) all =
+    let rest = none_lost order all.1 in
+    let first = count_first is_lost taken order in
+    let here = ap (λ (b : Bool). let n : ℕ = cond b 1 0 in n) (spared_not_lost taken all.0) in
+    omega (arith, rest, first, here)
+
+pub lost_kept : (known order : List Taken) → GoesOnWithout archive_lane known order → lost_count order ≡ lost_count known
+lost_kept known order on =
+    let all = ap lost_count on.parts ∙ count_append is_lost known on.behind in
+    let none = none_lost on.behind on.untouched in
+    omega (arith, all, none)
+
+either_disk : (fault lost : Bool) → cond fault 1 0 ≡ cond (fault && not lost) 1 0 + cond (fault && lost) 1 0
+either_disk true true = refl
+either_disk true false = refl
+either_disk false lost = refl
+
+-- each fault is of one of the two disks
+pub all_faults : (order : List Taken) → fault_count (map place_of order) ≡ unwritten_count order + lost_count order
+all_faults [] = refl
+all_faults (taken ∷ order) =
+    let rest = all_faults order in
+    let all = count_first (λ (place : Place). place.fault) (place_of taken) (map place_of order) in
+    let unwritten = count_first is_unwritten taken order in
+    let lost = count_first is_lost taken order in
+    let here = either_disk taken.fault (has_lane taken.lanes archive_lane && taken.lost) in
+    omega (arith, rest, all, unwritten, lost, here)
+
+pub caused_by : (order : List Taken) (before now contents_before contents_now : ℕ) → counted (unwritten_count order) before ≤ now → counted (lost_count order) contents_before ≤ contents_now
+    → AreCaused before now contents_before contents_now [] (map place_of order)
+caused_by order before now contents_before contents_now commits contents = let all = all_faults order in (unwritten_count order, lost_count order, omega (arith, all), commits, contents)
+
+-- one place more, at which a count rose if its disk failed
+pub count_caused : (count before mid now : ℕ) (failed : Bool) → counted count before ≤ mid → mid ≤ now → (failed ≡ true → HasRisen mid now) → counted (count + cond failed 1 0) before ≤ now
+count_caused count before mid now true was le risen = let more = risen refl in omega (arith, was, more)
+count_caused count before mid now false was le risen = omega (arith, was, le)
+
+-- the archive's disk failed for a command: the place is for that one, or its count rose anew
+pub lost_caused_so : (count before mid now : ℕ) (failed unread lost : Bool) → counted (count + cond failed 1 0) before ≤ mid → mid ≤ now → (unread ≡ true → failed ≡ true) → (lost ≡ true → unread ≡ false → HasRisen mid now)
+    → counted (count + cond lost 1 0 + cond (failed && not unread) 1 0) before ≤ now
+lost_caused_so count before mid now true true true was le known risen = omega (arith, was, le)
+lost_caused_so count before mid now true true false was le known risen = omega (arith, was, le)
+lost_caused_so count before mid now false true lost was le known risen = absurd (let no = known refl in cc)
+lost_caused_so count before mid now true false true was le known risen = let more = risen refl refl in omega (arith, was, more)
+lost_caused_so count before mid now true false false was le known risen = omega (arith, was, le)
+lost_caused_so count before mid now false false true was le known risen = let more = risen refl refl in omega (arith, was, more)
+lost_caused_so count before mid now false false false was le known risen = omega (arith, was, le)
+
+-- its disk failed for a command without a place: its count rose, or it had failed for one before
+pub failed_caused : (count before mid now : ℕ) (failed unread : Bool) → counted (count + cond failed 1 0) before ≤ mid → mid ≤ now → (unread ≡ true → HasRisen mid now) → counted (count + cond (failed || unread) 1 0) before ≤ now
+failed_caused count before mid now true unread was le risen = omega (arith, was, le)
+failed_caused count before mid now false true was le risen = let more = risen refl in omega (arith, was, more)
+failed_caused count before mid now false false was le risen = omega (arith, was, le)
+
+pub caused_on : (count before mid now : ℕ) → counted count before ≤ mid → mid ≤ now → counted count before ≤ now
+caused_on count before mid now was le = omega (arith, was, le)
+
+-- where the one without a place is left out
+pub placed_caused : (count before now : ℕ) (failed : Bool) → counted (count + cond failed 1 0) before ≤ now → counted (count + 0) before ≤ now
+placed_caused count before now true was = omega (arith, was)
+placed_caused count before now false was = was

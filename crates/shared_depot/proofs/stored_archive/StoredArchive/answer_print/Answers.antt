@@ -1,0 +1,106 @@
+use Rattle.std.proofs.Common.{◌≡◌, ◌||◌, ℕ, Bool, List, map, refl, sym, ap, subst, ◌∙◌}
+use mathlib.Core.List.{IsPrefix}
+use Rattle.archive_file.specs.Archive.{disk_of}
+use Rattle.locked_tables.specs.Known.{OrderKnown, PartyKnown}
+use Rattle.locked_tables.specs.Taken.{of_party, placed_of}
+use Rattle.locked_tables.specs.declared.taken.Taken.{Taken}
+use Rattle.party_marks.specs.Known.{PassKnown}
+use Rattle.party_marks.specs.Marks.{has_marks}
+use Rattle.replica_turns.specs.Going.{is_lost}
+use Rattle.serial_depot.specs.Running.{HasRun}
+use Rattle.serial_depot.specs.declared.depot.SerialDepot.{SerialDepot}
+use Rattle.shared_depot.specs.Common.{HasRunOrder, IsArchiveAfter}
+use Rattle.shared_depot.specs.Stored.{ArchiveKnown, lost_in}
+use Rattle.shared_depot.proofs.Marks.{lost_caused, mark_caused, marked_behind}
+use Rattle.shared_depot.proofs.Order.{archive_learnt, archive_read, depot_ran, has_all}
+use Rattle.shared_depot.proofs.Stored.{caused_on, lost_kept, stores_kept}
+use Rattle.shared_depot.proofs.Turns.{answered_so, kept_so, told_on}
+use Rattle.shared_depot.proofs.stored_archive.StoredArchive.answer_print.Goals as goal
+
+pub invariant_of-held : goal.invariant_of-held
+invariant_of-held g c =
+    let D = g.D.Disk in
+    let same : c.tell.new.self.list ≡ c.held.inside.order.list = ap (λ (o : OrderKnown). o.list) c.tell.ensures.same ∙ ap (λ (o : OrderKnown). o.list) c.learn_archive.ensures.same in (
+      subst (λ (l : List Taken). HasRunOrder D.seen D.may_leave D.moment D.left_since D.faults g.N.Naming.rows g.N.Naming.end g.N.Imaging.images g.N.Serving.begins g.N.Serving.faults l c.held.inside.tables c.held.inside.journal) (sym same) c.held.invariant.0,
+      c.held.invariant.1,
+    )
+
+pub invariant_of-self : goal.invariant_of-self
+invariant_of-self g c =
+    let D = g.D.Disk in
+    let end = g.N.Naming.end in
+    let images = g.N.Imaging.images in
+    let begins = g.N.Serving.begins in
+    let contents_then = g.N.Serving.content_faults in
+    let next = c.answer_print-answer.ensures in
+    let order = c.held.inside.order.list in
+    let old = c.self.inside.archive in
+    let new = c.answer_print-answer.new.archive in
+    let was = c.self.invariant.0 in
+    let known : ArchiveKnown = record { list = c.self.inside.lane; failed = c.self.inside.failed } in
+    let behind = c.learn_archive.ensures.behind in
+    let read = archive_read D.seen D.may_leave D.moment D.left_since D.faults end images begins contents_then known old new was next.read next.never_falls known.failed
+    (caused_on (lost_in known) contents_then (D.faults (disk_of old)) (D.faults (disk_of new)) was.caused next.never_falls) in (
+      subst (λ (l : List Taken). IsArchiveAfter D.seen D.may_leave D.moment D.left_since D.faults end images begins contents_then (record { list = l; failed = known.failed }) new) (sym c.learn_archive.ensures.learnt)
+          (archive_learnt D.seen D.may_leave D.moment D.left_since D.faults end images begins contents_then known order new read (stores_kept known.list order behind) (lost_kept known.list order behind)),
+      mark_caused contents_then (D.faults (disk_of old)) (D.faults (disk_of new)) was.no_fewer next.never_falls _ (lost_caused c.answer_print-answer.result _ next.cause) c.self.inside.marks.list c.mark_lost.new.all.list
+          c.mark_lost.ensures.caused c.self.invariant.1,
+    )
+
+pub invariant_of-marks : goal.invariant_of-marks
+invariant_of-marks g c = c.mark_lost.ensures.party ∙ c.marks.invariant
+
+pub returns : goal.returns
+returns g c =
+    let D = g.D.Disk in
+    let rows = g.N.Naming.rows in
+    let end = g.N.Naming.end in
+    let images = g.N.Imaging.images in
+    let begins = g.N.Serving.begins in
+    let order = c.held.inside.order.list in
+    let tables = c.held.inside.tables in
+    let journal = c.held.inside.journal in
+    let archive = c.self.inside.archive in
+    let was = c.held.invariant.0 in
+    let request = c.args.request.now in
+    let replica = c.args.replica.now in
+    let answer = c.answer_print-answer.result in
+    let party = c.args.pass.now.party in
+    let told = c.tell.ensures.told in
+    let same : c.learn_archive.new.self.list ≡ order = ap (λ (o : OrderKnown). o.list) c.learn_archive.ensures.same in
+    let known : c.tell.new.pass.list ≡ order = ap (λ (k : PartyKnown). k.list) told ∙ same in
+    let marks = c.marks.inside in
+    let given = c.mark_lost.new.pass.list in
+    let lost : Bool = is_lost c.mark_lost.result in
+    let of_party_is : c.mark_lost.new.pass.party ≡ marks.journal.party = c.mark_lost.ensures.party ∙ c.marks.invariant in
+    let marked : has_marks marks.journal.party given ≡ (has_marks marks.journal.party marks.archive.list || lost) =
+    ap (λ (p : ℕ). has_marks p given) (sym of_party_is) ∙ (c.mark_lost.ensures.marked ∙ ap (λ (p : ℕ). has_marks p marks.archive.list || lost) c.marks.invariant) in
+    let seen : ArchiveKnown = record { list = c.self.inside.lane; failed = c.self.inside.failed } in
+    let behind = c.learn_archive.ensures.behind in
+    let at_order = archive_learnt D.seen D.may_leave D.moment D.left_since D.faults end images begins g.N.Serving.content_faults seen order archive c.self.invariant.0 (stores_kept seen.list order behind) (lost_kept seen.list order behind) in
+    let all = has_all D.seen D.may_leave D.moment D.left_since D.faults end images begins g.N.Serving.content_faults (record { list = order; failed = seen.failed }) archive at_order in
+    let depot : SerialDepot g.row.D.Denot = record { tables = tables; journal = journal; archive = archive } in
+    record {
+      answer = record {
+        answered = λ other stored. (
+          depot,
+          (
+            λ since start at.
+                subst (λ (l : List Taken). HasRun D.seen D.may_leave D.moment D.left_since depot since start (map placed_of l)) (sym known)
+                (depot_ran D.seen D.may_leave D.moment D.left_since D.faults rows end images begins g.N.Serving.faults order tables journal was archive all since start at),
+            λ formed.
+                told_on D.seen D.may_leave depot replica replica request answer c.mark_lost.result c.mark_lost.ensures.told
+                (answered_so D.seen D.may_leave depot replica replica request answer (c.answer_print-answer.ensures.answered depot refl formed) (kept_so answer replica.replica)),
+          ),
+        );
+        heard = record {
+          party = ap (λ (k : PartyKnown). k.party) told;
+          later = subst (IsPrefix c.args.pass.now.list) (sym (ap (λ (k : PartyKnown). k.list) told)) c.tell.ensures.begins;
+          own = subst (λ (l : List Taken). of_party party l ≡ of_party party c.args.pass.now.list) (sym (ap (λ (k : PartyKnown). k.list) told)) c.tell.ensures.own;
+          marks_party = ap (λ (k : PassKnown). k.party) c.marks.view_is;
+          marked =
+              marked_behind marks.journal.party marks.journal.list marks.archive.list given lost marked
+              ∙ ap (λ (k : PassKnown). has_marks k.party k.list || lost) c.marks.view_is;
+        };
+      };
+    }
