@@ -13,7 +13,7 @@ use Rattle.depot_model.specs.declared.command.FileArgument.{FileArgument}
 use Rattle.depot_model.specs.declared.command.PatternArgument.{PatternArgument}
 use Rattle.depot_model.specs.declared.command.Command.{Command}
 use Rattle.depot_model.specs.declared.command.Command.TheVariants.{ClientSave}
-use Rattle.depot_model.specs.Commands.{step_of}
+use Rattle.depot_model.specs.Commands.{step}
 use Rattle.depot_model.specs.Deeds.{Deed}
 use Rattle.depot_model.specs.Places.{Placed, told_at, taken}
 use Rattle.depot_model.specs.Step.{Step}
@@ -51,17 +51,13 @@ with_input caller command input = placed (asked caller command (Some input) [])
 abbrev pub saves_client : Caller → List ℕ → Placed
 saves_client caller form = with_input caller ClientSave form
 
--- where every command is built
-abbrev pub whole : List Deed → Request → Step
-whole d request = step_of (λ command. true) d request
-
 -- the depot after places, from the empty one on
 abbrev pub after_all : List Placed → List Deed
-after_all places = taken whole [] places
+after_all places = taken step [] places
 
 -- the rows of the last command
 abbrev pub reply : List Placed → Placed → List Row
-reply before last = told_at whole (after_all before) last
+reply before last = told_at step (after_all before) last
 
 abbrev pub fields : List (List ℕ) → List Field
 fields [] = []

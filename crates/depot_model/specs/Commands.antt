@@ -1,5 +1,5 @@
 -- What each command does: its own step, one line a form, after the refusals that are common to all.
-use Rattle.std.specs.Prelude.{Bool, if◌then◌else◌, List, [], ◌++◌, codes, Ok, Err, unwrap_or}
+use Rattle.std.specs.Prelude.{List, [], ◌++◌, codes, Ok, Err, unwrap_or}
 use Rattle.depot_model.specs.declared.request.Request.{Request}
 use Rattle.depot_model.specs.declared.command.Command.{Command}
 use Rattle.depot_model.specs.declared.command.Command.TheVariants.{CounterShow, CounterSet, CounterDelete, Counters, ClientShow, ClientSave, LabelShow, LabelSave, GroupShow, GroupSave, ProtectShow, ProtectSave, Where, Add, Edit, Delete, Revert, Reopen, Lock, Unlock, Opened, ChangeSave, ChangeShow, ChangeDelete, Changes, SubmitChange, SubmitDefault, Sync, Have, Tag, LabelSync, Labels, Integrate, Resolve, Integrated, Files, FileLog, Print, Describe, Dirs, FileStat, Checkpoint, Pull, Move, Shelve, ShelveDelete, Unshelve, DescribeShelved, JobShow, JobSave, Jobs, Fix, FixDelete, Fixes}
@@ -22,7 +22,7 @@ use Rattle.depot_model.specs.Steps.Reverting.{revert, reopen, lock, unlock, open
 use Rattle.depot_model.specs.Steps.Changing.{change_save, change_show, change_delete}
 use Rattle.depot_model.specs.Steps.Changes.{changes}
 use Rattle.depot_model.specs.Steps.Checkpoint.{checkpoint}
-use Rattle.depot_model.specs.declared.refusal.Refusal.TheVariants.{BadUsage, Unbuilt}
+use Rattle.depot_model.specs.declared.refusal.Refusal.TheVariants.{BadUsage}
 use Rattle.depot_model.specs.Steps.Tagging.{tag, labelsync}
 use Rattle.depot_model.specs.Steps.Integrating.{integrate}
 use Rattle.depot_model.specs.Steps.Resolving.{resolve}
@@ -92,10 +92,6 @@ own_step d request Pull = refuses (BadUsage (codes "pull"))
 abbrev pub whole_step : List Deed → Request → Command → Step
 whole_step d request command = unless (common_refusals d request.caller (about command) ++ last_refusals d command) (own_step d request command)
 
--- what it does where the commands are built that pass a test; the others are refused first of all
-abbrev pub built_step : (Command → Bool) → List Deed → Request → Command → Step
-built_step built d request command = if built command then whole_step d request command else refuses (Unbuilt (about command).word)
-
 -- what the command of a request does to a depot, and what it is answered; words that are no command are refused
-abbrev pub step_of : (Command → Bool) → List Deed → Request → Step
-step_of built d request = elim request.command [ Err fault ↦ refuses (word_refusal fault) | Ok command ↦ built_step built d request command ]
+abbrev pub step : List Deed → Request → Step
+step d request = elim request.command [ Err fault ↦ refuses (word_refusal fault) | Ok command ↦ whole_step d request command ]

@@ -5,7 +5,7 @@ use Rattle.depot_model.specs.declared.reply.Row.{Row}
 use Rattle.depot_model.specs.declared.refusal.Limit.{Limit}
 use Rattle.depot_model.specs.declared.refusal.Limit.TheVariants.{View, Protections, Users, Text, Files, Change, Generation, Shelf, Jobs, Fixes}
 use Rattle.depot_model.specs.declared.refusal.Refusal.{Refusal}
-use Rattle.depot_model.specs.declared.refusal.Refusal.TheVariants.{UnknownCommand, BadUsage, BadPath, BadRevision, Denied, NoClient, NotInView, NoSuchFile, NoSuchChange, NotYours, AlreadyOpen, NotOpen, ExclusiveOpen, Locked, Stale, MustResolve, NoContent, EmptyChange, BadForm, NoSuchLabel, LabelLocked, NotDeletable, ReadOnly, OverLimit, Unbuilt, AllIntegrated, Exists, NotMovable, InMove, Shelved, AlreadyShelved, NotShelvable, NoShelf, NoSuchJob, Fixed, BadArchive}
+use Rattle.depot_model.specs.declared.refusal.Refusal.TheVariants.{UnknownCommand, BadUsage, BadPath, BadRevision, Denied, NoClient, NotInView, NoSuchFile, NoSuchChange, NotYours, AlreadyOpen, NotOpen, ExclusiveOpen, Locked, Stale, MustResolve, NoContent, EmptyChange, BadForm, NoSuchLabel, LabelLocked, NotDeletable, ReadOnly, OverLimit, AllIntegrated, Exists, NotMovable, InMove, Shelved, AlreadyShelved, NotShelvable, NoShelf, NoSuchJob, Fixed, BadArchive}
 use Rattle.depot_model.specs.Rows.{text_field, number_field, path_field, coded_row, change_word}
 
 abbrev pub need_word : ℕ → List ℕ
@@ -67,7 +67,6 @@ refusal_row (NotDeletable n) = coded_row 22 (codes "NotDeletable") (number_field
 refusal_row (ReadOnly word) = coded_row 23 (codes "ReadOnly") (text_field (codes "command") word ∷ [])
 refusal_row (OverLimit what) =
     coded_row 24 (codes "Limit") (text_field (codes "what") (limit_word what) ∷ number_field (codes "number") (limit what) ∷ [])
-refusal_row (Unbuilt word) = coded_row 25 (codes "Unbuilt") (text_field (codes "command") word ∷ [])
 refusal_row (AllIntegrated path) = coded_row 26 (codes "AllIntegrated") (path_field (codes "path") path ∷ [])
 refusal_row (Exists path) = coded_row 27 (codes "Exists") (path_field (codes "path") path ∷ [])
 refusal_row (NotMovable path) = coded_row 28 (codes "NotMovable") (path_field (codes "path") path ∷ [])

@@ -8,7 +8,7 @@ use Rattle.db_records.specs.depot_path.Path.{is_path}
 use Rattle.db_records.specs.depot_path.declared.revision.Wanted.TheVariants.{Head}
 use Rattle.view_map.specs.Specifiers.{same_specifiers}
 use Rattle.depot_model.specs.declared.command.Command.{Command}
-use Rattle.depot_model.specs.declared.command.Command.TheVariants.{CounterSet, CounterDelete, Add, Edit, Delete, Reopen, Move, Integrate, Resolve, Integrated, Where}
+use Rattle.depot_model.specs.declared.command.Command.TheVariants.{CounterSet, CounterDelete, Add, Edit, Delete, Reopen, Move, Integrate, Resolve, Integrated, Where, Shelve, Unshelve}
 use Rattle.depot_model.specs.declared.command.FileArgument.{FileArgument}
 use Rattle.depot_model.specs.declared.command.PatternArgument.{PatternArgument}
 use Rattle.depot_model.specs.Types.{is_printed_type}
@@ -47,4 +47,6 @@ asks_rightly (Delete change files) = list_all asks_head files
 asks_rightly (Move change from to) = asks_head from
 asks_rightly (Resolve taking files) = list_all asks_head files
 asks_rightly (Integrated files) = list_all asks_head files
+asks_rightly (Shelve change replaces files) = list_all asks_head files
+asks_rightly (Unshelve shelved change files) = list_all asks_head files
 asks_rightly _ = true

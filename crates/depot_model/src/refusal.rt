@@ -77,8 +77,6 @@ pub enum Refusal {
     ReadOnly(Text),
     /// 24: more than the limit.
     OverLimit(Limit),
-    /// 25: a command that isn't built yet.
-    Unbuilt(Text),
     /// 26: a file into which all was integrated.
     AllIntegrated(DepotPath),
     /// 27: a file that is there.
@@ -130,7 +128,6 @@ impl Drop for Refusal {
             Refusal::NotDeletable(_) => {}
             Refusal::ReadOnly(_) => {}
             Refusal::OverLimit(_) => {}
-            Refusal::Unbuilt(_) => {}
             Refusal::AllIntegrated(_) => {}
             Refusal::Exists(_) => {}
             Refusal::NotMovable(_) => {}

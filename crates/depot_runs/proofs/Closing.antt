@@ -4,10 +4,11 @@ use Rattle.depot_model.specs.spec_form.Shapes.{fields_of}
 use Rattle.std.proofs.Common.{◌≡◌, List, [], ◌∷◌, ◌++◌, Some, None, refl}
 use Rattle.std.specs.Prelude.{codes, decimal}
 use Rattle.depot_model.specs.declared.command.Command.TheVariants.{Add, ChangeSave, ChangeDelete, SubmitChange, JobSave, JobShow, Fix, FixDelete, Fixes}
+use Rattle.depot_model.specs.Commands.{step}
 use Rattle.depot_model.specs.Places.{Placed}
 use Rattle.depot_model.specs.spec_form.declared.shape.Shape.TheVariants.{Job as JobShape}
 use Rattle.depot_model.specs.spec_form.Form.{FormValue}
-use Rattle.depot_model.proofs.Scene.{whole, ann, file, block, does, with_blocks, with_input, reply, row, client_of_ann}
+use Rattle.depot_model.proofs.Scene.{ann, file, block, does, with_blocks, with_input, reply, row, client_of_ann}
 use Rattle.depot_runs.specs.Folds.{job_state, fix_state}
 use Rattle.depot_model.specs.Fixes.{fix_form}
 
@@ -70,10 +71,10 @@ removes = refl
 abbrev closed_job : FormValue
 closed_job = record { shape = JobShape; fields = record { name = codes "Job"; lines = codes "job000001" ∷ [] } ∷ record { name = codes "Status"; lines = codes "closed" ∷ [] } ∷ record { name = codes "User"; lines = codes "ann" ∷ [] } ∷ record { name = codes "Description"; lines = codes "x" ∷ [] } ∷ [] }
 
-job_folds : job_state whole [] (fixed ++ sends ∷ []) (codes "job000001") ≡ Some closed_job
+job_folds : job_state step [] (fixed ++ sends ∷ []) (codes "job000001") ≡ Some closed_job
 unfolding fields_of digits
 job_folds = refl
 
-fix_folds : fix_state whole [] (fixed ++ sends ∷ []) (codes "job000001") 3 ≡ Some (fix_form (codes "job000001") 3 (codes "ann") (codes "on"))
+fix_folds : fix_state step [] (fixed ++ sends ∷ []) (codes "job000001") 3 ≡ Some (fix_form (codes "job000001") 3 (codes "ann") (codes "on"))
 unfolding fields_of digits
 fix_folds = refl

@@ -13,7 +13,7 @@ use Rattle.depot_model.specs.Deeds.{Deed}
 use Rattle.depot_model.specs.Filter.{filter_of}
 use Rattle.depot_model.specs.Cut.{cut}
 use Rattle.depot_model.specs.Tables.{Need, needs_of}
-use Rattle.depot_runs.specs.Replica.{replica_reply_of}
+use Rattle.depot_runs.specs.Replica.{replica_reply}
 use Rattle.depot_model.specs.Shelves.{is_shelved}
 use Rattle.depot_model.specs.Places.{Placed}
 use Rattle.depot_model.proofs.Scene.{after_all, ann, file, block, does, asked, with_blocks, with_input, row, client_of_ann}
@@ -30,7 +30,7 @@ master = client_of_ann ∷ does ann (Add None None (file (codes "//depot/src/a")
     ∷ with_input ann ProtectSave (codes "Protections:\n\tsuper user ann * //...\n\tread user bob * //depot/...\n\tlist user bob * -//depot/src/secret/...\n") ∷ []
 
 abbrev answer : List Deed → Command → List Row
-answer d command = replica_reply_of (λ c. true) (cut rules d) (asked rep command None [])
+answer d command = replica_reply (cut rules d) (asked rep command None [])
 
 no_file_yet : answer [] (Files false (file (codes "//...") ∷ [])) ≡ row (codes "code" ∷ decimal 8 ∷ codes "name" ∷ codes "NoSuchFile" ∷ codes "argument" ∷ codes "//..." ∷ []) ∷ []
 unfolding fields_of

@@ -5,19 +5,18 @@ use Rattle.std.specs.Result.{result_ok}
 use Rattle.std.specs.Option.{option_or, option_map_or}
 use Rattle.depot_model.specs.spec_form.Form.{FormValue}
 use Rattle.depot_model.specs.declared.command.Command.{Command}
-use Rattle.depot_model.specs.declared.command.Command.TheVariants.{JobSave, SubmitChange, Fix, FixDelete, Shelve, Files, FileLog, Print, Describe, Changes}
+use Rattle.depot_model.specs.declared.command.Command.TheVariants.{JobSave, SubmitChange, SubmitDefault, Fix, FixDelete, Shelve, Files, FileLog, Print, Describe, Changes}
 use Rattle.depot_model.specs.Deeds.{Deed, SpecKind, ShelfForm, JobForm, FixForm, Land, Spec}
 use Rattle.depot_model.specs.Latest.{latest, spec, spec_said}
-use Rattle.depot_model.specs.Shelves.{shelf_name, is_shelved}
+use Rattle.depot_model.specs.Shelves.{shelf_name, is_shelved, kept}
 use Rattle.depot_model.specs.Fixes.{job, has_fix, fix_name, closed}
 use Rattle.depot_model.specs.Step.{Step, after}
-use Rattle.depot_runs.specs.Today.{step}
+use Rattle.depot_model.specs.Commands.{step}
 use Rattle.depot_model.specs.Places.{Placed, done_at, taken}
 use Rattle.std.specs.List.{list_all}
 use Rattle.depot_model.specs.depot_path.Bytes.{same}
 use Rattle.depot_model.specs.declared.request.Request.{Request}
 use Rattle.depot_model.specs.declared.command.FileArgument.{FileArgument}
-use Rattle.depot_model.specs.WellFormed.{is_command}
 use Rattle.depot_model.specs.Rules.{IsSound}
 use Rattle.depot_model.specs.Numbers.{landing}
 
@@ -45,7 +44,7 @@ shelf_next _ n path deeds before = before
 
 -- ---- what one place makes of a job: `job -i` gives its form, a submit or a fix closes it, every other place keeps it
 
--- a submit landed a change with a fix of the job on
+-- a submit landed a change with a fix of the job on; the default change has the number 0
 abbrev pub closes_by_submit : List Deed → List ℕ → ℕ → List Deed → Bool
 closes_by_submit d name n deeds = is_some (landed_by deeds) && has_fix d n name
 
@@ -60,6 +59,7 @@ closed_where false before = before
 abbrev pub job_next : Option Command → List Deed → List ℕ → List Deed → Option FormValue → Option FormValue
 job_next (Some JobSave) d name deeds before = option_or (saved_at JobForm name deeds) before
 job_next (Some (SubmitChange n)) d name deeds before = closed_where (closes_by_submit d name n deeds) before
+job_next (Some (SubmitDefault text)) d name deeds before = closed_where (closes_by_submit d name 0 deeds) before
 job_next (Some (Fix n names)) d name deeds before = closed_where (closes_by_fix d name n deeds) before
 job_next _ d name deeds before = before
 
@@ -69,6 +69,7 @@ abbrev pub fix_next : Option Command → List ℕ → ℕ → List Deed → Opti
 fix_next (Some (Fix m names)) name n deeds before = option_or (saved_at FixForm (fix_name name n) deeds) before
 fix_next (Some (FixDelete m names)) name n deeds before = option_or (saved_at FixForm (fix_name name n) deeds) before
 fix_next (Some (SubmitChange m)) name n deeds before = option_or (saved_at FixForm (fix_name name n) deeds) before
+fix_next (Some (SubmitDefault text)) name n deeds before = option_or (saved_at FixForm (fix_name name n) deeds) before
 fix_next _ name n deeds before = before
 
 -- ---- the same over the places of an order, from what was there at the start
@@ -98,21 +99,22 @@ module _ (step : List Deed → Request → Step) where
   abbrev pub fix_state : List Deed → List Placed → List ℕ → ℕ → Option FormValue
   fix_state d places name n = fix_from d places name n (spec d FixForm (fix_name name n))
 
--- places whose words were read as a command
-abbrev pub is_well_formed : Placed → Bool
-is_well_formed p = option_map_or is_command (command_of p) true
+-- ---- what is to be proved of them, whatever the order of places
 
--- ---- what is to be proved of them, from every sound depot
-
+-- of jobs, from every sound depot
 abbrev pub JobsAreFolded : Type 0
-JobsAreFolded =
-    (d : List Deed) → IsSound d → (places : List Placed) → IsTrue (list_all is_well_formed places) → (name : List ℕ) →
-    job (taken step d places) name ≡ job_state step d places name
+JobsAreFolded = (d : List Deed) → IsSound d → (places : List Placed) (name : List ℕ) → job (taken step d places) name ≡ job_state step d places name
 
 abbrev pub FixesAreFolded : Type 0
 FixesAreFolded =
-    (d : List Deed) → IsSound d → (places : List Placed) → IsTrue (list_all is_well_formed places) → (name : List ℕ) (n : ℕ) →
+    (d : List Deed) (places : List Placed) (name : List ℕ) (n : ℕ) →
     spec (taken step d places) FixForm (fix_name name n) ≡ fix_state step d places name n
+
+-- a file that is kept has the form of the last `shelve` place that saved it, or, where no place did, that of the depot at the start
+abbrev pub KeptAsLastShelved : Type 0
+KeptAsLastShelved =
+    (d : List Deed) (places : List Placed) (n : ℕ) (path : List ℕ) (form : FormValue) →
+    kept (taken step d places) n path ≡ Some form → shelf_state step d places n path ≡ Some form
 
 -- the history is told alike without the shelves
 abbrev pub is_shelf : Deed → Bool

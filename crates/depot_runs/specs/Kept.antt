@@ -1,7 +1,7 @@
 -- Which depots files may hold after the places of an order, of which one may have failed.
 use Rattle.std.specs.Prelude.{◌≡◌, ◌⊎◌, ℕ, true, false, List, [], ◌∷◌, ◌++◌, take}
 use Rattle.depot_model.specs.Deeds.{Deed}
-use Rattle.depot_runs.specs.Today.{step}
+use Rattle.depot_model.specs.Commands.{step}
 use Rattle.depot_model.specs.Places.{Placed, deeds_of, done_at, taken}
 use Rattle.depot_model.specs.Records.{RowsDiffer}
 use Rattle.depot_model.specs.Step.{after}

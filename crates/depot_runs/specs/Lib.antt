@@ -1,5 +1,3 @@
-pub mod Built
-pub mod Today
 pub mod Run
 pub mod Kept
 pub mod Replica

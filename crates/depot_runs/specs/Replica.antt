@@ -1,6 +1,6 @@
 -- What a replica answers: it changes nothing, shows no shelved files, and counts what it took (Server Administrator Guide, on read-only replicas).
 -- The row of `pull` is this project's own choice.
-use Rattle.std.specs.Prelude.{◌≡◌, ◌⊎◌, ℕ, suc, List, [], ◌∷◌, length, codes, if◌then◌else◌, Bool, true, false, ◌&&◌, ◌||◌, Ok, Err, nat_lt}
+use Rattle.std.specs.Prelude.{◌≡◌, ◌⊎◌, ℕ, suc, List, [], ◌∷◌, length, codes, if◌then◌else◌, Bool, true, false, ◌||◌, Ok, Err, nat_lt}
 use Rattle.depot_model.specs.declared.request.Request.{Request}
 use Rattle.depot_model.specs.declared.reply.Row.{Row}
 use Rattle.depot_model.specs.declared.command.Command.{Command}
@@ -8,14 +8,12 @@ use Rattle.depot_model.specs.declared.command.Command.TheVariants.{DescribeShelv
 use Rattle.depot_model.specs.declared.refusal.Refusal.TheVariants.{ReadOnly}
 use Rattle.depot_model.specs.Deeds.{Deed}
 use Rattle.depot_model.specs.About.{about}
-use Rattle.depot_runs.specs.Built.{is_built}
 use Rattle.depot_model.specs.Tables.{own_tables}
 use Rattle.depot_model.specs.Common.{word_refusal}
 use Rattle.depot_model.specs.Refusals.{refusal_row}
 use Rattle.depot_model.specs.Rows.{row, number_field}
 use Rattle.depot_model.specs.Step.{after}
-use Rattle.depot_model.specs.Commands.{built_step}
-use Rattle.depot_runs.specs.Today.{step}
+use Rattle.depot_model.specs.Commands.{whole_step, step}
 use Rattle.depot_model.specs.Places.{Placed, done_at}
 use Rattle.depot_runs.specs.Kept.{IsChange}
 
@@ -27,17 +25,12 @@ shows_shelf _ = false
 abbrev pub is_refused : Command → Bool
 is_refused command = nat_lt 0 (length (own_tables command).written) || shows_shelf command
 
-abbrev pub answered : (Command → Bool) → List Deed → Request → Command → List Row
-answered built d request command =
-    if built command && is_refused command then refusal_row (ReadOnly (about command).word) ∷ [] else (built_step built d request command).rows
+abbrev pub answered : List Deed → Request → Command → List Row
+answered d request command = if is_refused command then refusal_row (ReadOnly (about command).word) ∷ [] else (whole_step d request command).rows
 
--- what a replica answers whose depot is this one, where the commands are built that pass a test
-abbrev pub replica_reply_of : (Command → Bool) → List Deed → Request → List Row
-replica_reply_of built d request =
-    elim request.command [ Err fault ↦ refusal_row (word_refusal fault) ∷ [] | Ok command ↦ answered built d request command ]
-
+-- what a replica answers whose depot is this one
 abbrev pub replica_reply : List Deed → Request → List Row
-replica_reply d request = replica_reply_of is_built d request
+replica_reply d request = elim request.command [ Err fault ↦ refusal_row (word_refusal fault) ∷ [] | Ok command ↦ answered d request command ]
 
 -- the reply to `pull`: how far the replica is
 abbrev pub position_row : ℕ → ℕ → Row

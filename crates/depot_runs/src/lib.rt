@@ -1,4 +1,4 @@
-//! What the server answers today: the commands that are built, the step of a request, runs of sessions, what files keep of a run, and replicas.
+//! Runs of sessions over a depot: what they are answered, what files keep of a run, and replicas.
 //!
 //! The definitions stand in `specs/`; what each command does is `depot_model`'s.
 #![tactic(auto)]

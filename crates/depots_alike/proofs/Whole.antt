@@ -7,12 +7,12 @@ use Rattle.depot_rows.specs.depot_path.declared.revision.Wanted.TheVariants.{One
 use Rattle.depot_rows.specs.depot_model.declared.command.Command.{Command}
 use Rattle.depot_rows.specs.depot_model.declared.command.Command.TheVariants.{ProtectShow, SubmitDefault, SubmitChange, ChangeDelete, Shelve, ShelveDelete, Unshelve, DescribeShelved, GroupShow, Opened, ChangeShow, ChangeSave, Describe, JobSave, Fix, FixDelete, Dirs, CounterShow, CounterSet, CounterDelete, Counters, ClientShow, ClientSave, LabelShow, LabelSave, GroupSave, ProtectSave, Where, Add, Edit, Delete, Revert, Reopen, Lock, Unlock, Sync, Have, Tag, LabelSync, Labels, Files, Print, FileStat, Checkpoint, Pull, JobShow, Jobs, Fixes, Integrated, FileLog, Changes, Move, Resolve, Integrate}
 use Rattle.depot_rows.specs.depot_model.declared.command.FileArgument.{FileArgument}
-use Rattle.depot_rows.specs.depot_model.declared.refusal.Refusal.TheVariants.{Denied, NoClient, Unbuilt, Shelved, Fixed}
+use Rattle.depot_rows.specs.depot_model.declared.refusal.Refusal.TheVariants.{Denied, NoClient, Shelved, Fixed}
 use Rattle.depot_rows.specs.depot_model.declared.request.Caller.{Caller}
 use Rattle.depot_rows.specs.depot_model.declared.request.Request.{Request}
 use Rattle.depot_rows.specs.depot_model.declared.request.WordFault.{WordFault}
 use Rattle.depot_rows.specs.depot_model.About.{About, about}
-use Rattle.depot_rows.specs.depot_model.Commands.{own_step, whole_step, built_step, step_of}
+use Rattle.depot_rows.specs.depot_model.Commands.{own_step, whole_step, step}
 use Rattle.depot_rows.specs.depot_model.Common.{common_refusals, unknown_name, first_unknown, asks_client, last_refusals, word_refusal}
 use Rattle.depot_rows.specs.depot_model.Deeds.{Deed}
 use Rattle.depot_rows.specs.depot_model.Records.{SameRows}
@@ -120,19 +120,19 @@ module _ (d e : List Deed) (twins : Twins d e) (request : Request) where
   pub whole_same : (command : Command) → whole_step d request command ≡ whole_step e request command
   whole_same command = λ i. unless (common_same (about command) i ++ last_same command i) (own_same command i)
 
-  abbrev step_for : (Command → Bool) → List Deed → Result Command WordFault → Step
-  step_for built x asked = elim asked [ Err fault ↦ refuses (word_refusal fault) | Ok command ↦ built_step built x request command ]
+  abbrev step_for : List Deed → Result Command WordFault → Step
+  step_for x asked = elim asked [ Err fault ↦ refuses (word_refusal fault) | Ok command ↦ whole_step x request command ]
 
-  pub step_same : (built : Command → Bool) → step_of built d request ≡ step_of built e request
-  step_same built = go request.command
+  pub step_same : step d request ≡ step e request
+  step_same = go request.command
     where
-      go : (asked : Result Command WordFault) → step_for built d asked ≡ step_for built e asked
+      go : (asked : Result Command WordFault) → step_for d asked ≡ step_for e asked
       go (Err fault) = refl
-      go (Ok command) = λ i. if built command then whole_same command i else refuses (Unbuilt (about command).word)
+      go (Ok command) = whole_same command
 
-  pub rows_stay : (built : Command → Bool) (dones : List Done) → Follow d dones (step_of built d request).deeds
-      → SameRows (after d (step_of built d request).deeds) (after e (step_of built e request).deeds)
-  rows_stay built dones follow =
-      let P : Step → Type 0 = λ s. SameRows (after d (step_of built d request).deeds) (after e s.deeds) in
-      subst P (step_same built)
-      (rows_same d e dones (step_of built d request).deeds twins.rows (twins.left).landed_or_pending (twins.right).landed_or_pending follow)
+  pub rows_stay : (dones : List Done) → Follow d dones (step d request).deeds
+      → SameRows (after d (step d request).deeds) (after e (step e request).deeds)
+  rows_stay dones follow =
+      let P : Step → Type 0 = λ s. SameRows (after d (step d request).deeds) (after e s.deeds) in
+      subst P step_same
+      (rows_same d e dones (step d request).deeds twins.rows (twins.left).landed_or_pending (twins.right).landed_or_pending follow)

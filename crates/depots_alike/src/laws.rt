@@ -1,9 +1,9 @@
 //! The law of two depots with the same rows and contents.
 
-ghost use Rattle.std.specs.Prelude.{◌≡◌, Bool, List};
+ghost use Rattle.std.specs.Prelude.{◌≡◌, List};
 ghost use Rattle.depot_rows.specs.depot_model.declared.command.Command.{Command};
 ghost use Rattle.depot_rows.specs.depot_model.declared.request.Request.{Request};
-ghost use Rattle.depot_rows.specs.depot_model.Commands.{step_of};
+ghost use Rattle.depot_rows.specs.depot_model.Commands.{step};
 ghost use Rattle.depot_rows.specs.depot_model.Deeds.{Deed};
 ghost use Rattle.depot_rows.specs.depot_model.Records.{SameRows};
 ghost use Rattle.depot_rows.specs.depot_model.Rules.{IsSound};
@@ -12,16 +12,16 @@ ghost use Rattle.depot_rows.specs.declared.deed.Deed.{Deed as Done};
 ghost use Rattle.depot_rows.specs.Effects.{Follow};
 ghost use Rattle.depots_alike.specs.Contents.{SameContents};
 
-/// Over two sound depots with the same rows and contents the step of every request is the same, whichever commands are built: the same deeds, and the
+/// Over two sound depots with the same rows and contents the step of every request is the same: the same deeds, and the
 /// same rows of the reply. Where these deeds may follow the one depot, both have the same rows after them; and after the same deeds both have the
 /// same contents.
 pub fn depots_with_the_same_rows_and_contents_answer_alike()
-    ensures step { (built : Command → Bool) (d e : List Deed) (request : Request) →
-        IsSound d → IsSound e → SameRows d e → SameContents d e → step_of built d request ≡ step_of built e request }
-    ensures rows { (built : Command → Bool) (d e : List Deed) (request : Request) (dones : List Done) →
+    ensures step { (d e : List Deed) (request : Request) →
+        IsSound d → IsSound e → SameRows d e → SameContents d e → step d request ≡ step e request }
+    ensures rows { (d e : List Deed) (request : Request) (dones : List Done) →
         IsSound d → IsSound e → SameRows d e → SameContents d e →
-        Follow d dones (step_of built d request).deeds →
-        SameRows (after d (step_of built d request).deeds) (after e (step_of built e request).deeds) }
+        Follow d dones (step d request).deeds →
+        SameRows (after d (step d request).deeds) (after e (step e request).deeds) }
     ensures contents { (d e : List Deed) (deeds : List Deed) → IsSound d → IsSound e → SameRows d e → SameContents d e →
         SameContents (after d deeds) (after e deeds) }
 {}

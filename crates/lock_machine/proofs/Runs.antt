@@ -6,7 +6,7 @@ use Rattle.std.proofs.lemmas.List.{map-append}
 use Rattle.depot_model.specs.db_records.Key.{key_table}
 use Rattle.depot_model.specs.db_records.Table.{table_number}
 use Rattle.depot_model.specs.db_records.declared.key.Key.{Key}
-use Rattle.depot_runs.specs.Today.{step}
+use Rattle.depot_model.specs.Commands.{step}
 use Rattle.depot_model.specs.Deeds.{Deed}
 use Rattle.depot_model.specs.Places.{Placed, done_at, taken}
 use Rattle.depot_model.specs.Records.{record_of}
@@ -24,7 +24,6 @@ use Rattle.lock_machine.proofs.Places.{some_is, neither, true_or_false}
 use Rattle.lock_machine.proofs.Orderly.{acts_orderly, changes_lock}
 use Rattle.lock_machine.proofs.Written.{writes_alone}
 use Rattle.sound_requests.proofs.All.{asked_sound}
-use Rattle.depot_runs.specs.Built.{is_built}
 use Rattle.lock_machine.specs.Proper.{IsServed}
 
 -- ---- the depot behind an order
@@ -75,7 +74,7 @@ saw_all start order w told hand is = record {
 
 -- a request leaves a sound depot sound
 stays_sound : (d : List Deed) (request : Request) → IsSound d → IsServed request → IsSound (after d (step d request).deeds)
-stays_sound d request sound served = asked_sound is_built d request sound served.proper.asked served.typed
+stays_sound d request sound served = asked_sound d request sound served.proper.asked served.typed
 
 changes_written : (d : List Deed) (request : Request) (how : Finish) → IsSound d → IsServed request → Tells d request how → ChangesWritten needs_of request how
 changes_written d request (Done changed) sound served tells = λ lock has.

@@ -7,7 +7,7 @@ use Rattle.depot_model.specs.db_records.Table.{table_number}
 use Rattle.depot_model.specs.db_records.declared.key.Key.{Key}
 use Rattle.depot_model.specs.db_records.declared.table.TableId.{TableId}
 use Rattle.depot_model.specs.db_records.declared.table.TableId.TheVariants as tables
-use Rattle.depot_model.specs.Commands.{built_step}
+use Rattle.depot_model.specs.Commands.{whole_step, step}
 use Rattle.depot_model.specs.Common.{word_refusal}
 use Rattle.depot_model.specs.Deeds.{Deed}
 use Rattle.depot_model.specs.Records.{record_of}
@@ -16,8 +16,6 @@ use Rattle.depot_model.specs.Tables.{Need, needs_of, need_for, touches, writes, 
 use Rattle.depot_model.specs.declared.command.Command.{Command}
 use Rattle.depot_model.specs.declared.request.Request.{Request}
 use Rattle.depot_model.specs.declared.request.WordFault.{WordFault}
-use Rattle.depot_runs.specs.Built.{is_built}
-use Rattle.depot_runs.specs.Today.{step}
 use Rattle.step_tables.proofs.Rows.{rows_stay}
 use Rattle.step_tables.proofs.Whole.{step_stays}
 use Rattle.lock_machine.specs.Orderly.{is_written}
@@ -69,7 +67,7 @@ abbrev set_for : Result Command WordFault → List Need
 set_for asked = elim asked [ Err fault ↦ [] | Ok command ↦ map (need_for command) (filter (touches command) (range_with_len 0 12)) ]
 
 abbrev step_for : List Deed → Request → Result Command WordFault → Step
-step_for d request asked = elim asked [ Err fault ↦ refuses (word_refusal fault) | Ok command ↦ built_step is_built d request command ]
+step_for d request asked = elim asked [ Err fault ↦ refuses (word_refusal fault) | Ok command ↦ whole_step d request command ]
 
 -- a request leaves the rows of each table that its set doesn't write
 pub writes_alone : (d : List Deed) (request : Request) (key : Key) → is_written (needs_of request) (table_number (key_table key)) ≡ false → record_of (after d (step d request).deeds) key ≡ record_of d key
@@ -81,5 +79,5 @@ writes_alone d request key alone = go request.command refl
         let none : is_written (set_for (Ok command)) (table_number (key_table key)) ≡ false = ap (λ (asked : Result Command WordFault). is_written (set_for asked) (table_number (key_table key))) (sym is) ∙ alone in
         elim (true_or_false (writes command (table_number (key_table key)))) [
           | inl written ↦ absurd (let both : true ≡ false = sym (in_set command (table_number (key_table key)) (range_with_len 0 12) (numbered (key_table key)) written) ∙ none in cc)
-          | inr clear ↦ rows_stay (own_tables command).written key clear d (step d request).deeds (step_stays is_built d request command is).each
+          | inr clear ↦ rows_stay (own_tables command).written key clear d (step d request).deeds (step_stays d request command is).each
         ]

@@ -10,7 +10,7 @@ use Rattle.depot_model.specs.declared.command.Command.{Command}
 use Rattle.depot_model.specs.declared.command.Command.TheVariants as commands
 use Rattle.depot_model.specs.declared.command.FileArgument.{FileArgument}
 use Rattle.depot_model.specs.declared.refusal.Refusal.{Refusal}
-use Rattle.depot_model.specs.declared.refusal.Refusal.TheVariants.{BadUsage, NoSuchChange, NoSuchFile, NoSuchJob, NotInView, NotOpen, ReadOnly, Unbuilt}
+use Rattle.depot_model.specs.declared.refusal.Refusal.TheVariants.{BadUsage, NoSuchChange, NoSuchFile, NoSuchJob, NotInView, NotOpen, ReadOnly}
 use Rattle.depot_model.specs.declared.reply.Row.{Row}
 use Rattle.depot_model.specs.declared.request.Caller.{Caller}
 use Rattle.depot_model.specs.declared.request.Request.{Request}
@@ -41,7 +41,6 @@ use Rattle.depot_model.specs.Steps.Clients.{client_row}
 use Rattle.depot_model.specs.Steps.Listing.{Numbered, chosen_revision, file_row, listed as listed_files, tells_file, tells_revision}
 use Rattle.depot_model.specs.Steps.Placing.{have_row, place_row, tell_place, told}
 use Rattle.depot_model.specs.Steps.Reverting.{not_open, opened_files, opened_row, openers_shown, show_opened}
-use Rattle.depot_runs.specs.Built.{is_built}
 use Rattle.depot_runs.specs.Replica.{answered, replica_reply}
 use Rattle.reply_rows.proofs.Bare.{AreBare, refusal_bare}
 use Rattle.replica_replies.specs.Prints.{is_print, prints}
@@ -184,9 +183,6 @@ module _ (d : List Deed) (request : Request) where
   refused : (command : Command) → AreBare (refusal_row (ReadOnly (about command).word) ∷ [])
   refused command = refuses_bare (ReadOnly (about command).word)
 
-  unbuilt : (command : Command) → AreBare (refusal_row (Unbuilt (about command).word) ∷ [])
-  unbuilt command = refuses_bare (Unbuilt (about command).word)
-
   whole : (command : Command) → AreBare (own_step d request command).rows → AreBare (whole_step d request command).rows
   whole command bare = unless_bare (common_refusals d caller (about command) ++ last_refusals d command) (own_step d request command) bare
 
@@ -199,7 +195,7 @@ module _ (d : List Deed) (request : Request) where
   abbrev log_row : List ℕ → Numbered → Row
   log_row path r = row (path_field (codes "depotFile") path ∷ flat_map (log_fields d caller path) (enumerate_from 0 (up_to d path r.number)))
 
-  command_bare : (command : Command) → is_print command ≡ false → AreBare (answered is_built d request command)
+  command_bare : (command : Command) → is_print command ≡ false → AreBare (answered d request command)
   command_bare (commands.CounterShow name) other = whole (commands.CounterShow name) (refl, tt)
   command_bare commands.Counters other = whole commands.Counters (counters_bare d (inserted (codes "change") (keys_of count_name d)))
   command_bare (commands.ClientShow name) other = whole (commands.ClientShow name) (client_bare (unwrap_or name caller.client) (spec d ClientForm (unwrap_or name caller.client)), tt)
@@ -255,16 +251,16 @@ module _ (d : List Deed) (request : Request) where
   command_bare (commands.Fix change names) other = refused (commands.Fix change names)
   command_bare (commands.FixDelete change names) other = refused (commands.FixDelete change names)
   command_bare commands.Checkpoint other = refused commands.Checkpoint
-  command_bare (commands.Shelve change replaces named) other = unbuilt (commands.Shelve change replaces named)
-  command_bare (commands.ShelveDelete change named) other = unbuilt (commands.ShelveDelete change named)
-  command_bare (commands.Unshelve shelved change named) other = unbuilt (commands.Unshelve shelved change named)
-  command_bare (commands.DescribeShelved change) other = unbuilt (commands.DescribeShelved change)
+  command_bare (commands.Shelve change replaces named) other = refused (commands.Shelve change replaces named)
+  command_bare (commands.ShelveDelete change named) other = refused (commands.ShelveDelete change named)
+  command_bare (commands.Unshelve shelved change named) other = refused (commands.Unshelve shelved change named)
+  command_bare (commands.DescribeShelved change) other = refused (commands.DescribeShelved change)
   command_bare (commands.Print named) other = absurd (true≢false other)
 
   pub reply_bare : prints request.command ≡ false → AreBare (replica_reply d request)
   reply_bare other = go request.command other
     where
       go : (asked : Result Command WordFault) → prints asked ≡ false
-          → AreBare (elim asked as (λ _. List Row) [ Err fault ↦ refusal_row (word_refusal fault) ∷ [] | Ok command ↦ answered is_built d request command ])
+          → AreBare (elim asked as (λ _. List Row) [ Err fault ↦ refusal_row (word_refusal fault) ∷ [] | Ok command ↦ answered d request command ])
       go (Err fault) other = refuses_bare (word_refusal fault)
       go (Ok command) other = command_bare command other

@@ -1,10 +1,9 @@
 -- The step of every request leaves a sound depot sound.
-use Rattle.std.proofs.Common.{◌≡◌, Bool, true, false, List, Result, Ok, Err, refl, sym, subst}
-use Rattle.std.specs.Prelude.{◌&&◌, IfOk, if◌then◌else◌}
+use Rattle.std.proofs.Common.{◌≡◌, true, List, Result, Ok, Err, refl, sym, subst}
+use Rattle.std.specs.Prelude.{◌&&◌, IfOk}
 use Rattle.std.specs.List.{list_all}
 use Rattle.depot_rows.specs.depot_path.Name.{is_name}
-use Rattle.depot_rows.specs.depot_model.About.{about}
-use Rattle.depot_rows.specs.depot_model.Commands.{whole_step, built_step, step_of}
+use Rattle.depot_rows.specs.depot_model.Commands.{whole_step, step}
 use Rattle.depot_rows.specs.depot_model.Common.{word_refusal}
 use Rattle.depot_rows.specs.depot_model.Deeds.{Deed}
 use Rattle.depot_rows.specs.depot_model.Rules.{IsSound}
@@ -12,7 +11,6 @@ use Rattle.depot_rows.specs.depot_model.Step.{Step, refuses, after}
 use Rattle.depot_rows.specs.depot_model.WellFormed.{is_command}
 use Rattle.depot_rows.specs.depot_model.declared.command.Command.{Command}
 use Rattle.depot_rows.specs.depot_model.declared.command.Command.TheVariants.{SubmitChange, SubmitDefault}
-use Rattle.depot_rows.specs.depot_model.declared.refusal.Refusal.TheVariants.{Unbuilt}
 use Rattle.depot_rows.specs.depot_model.declared.request.Request.{Request}
 use Rattle.depot_rows.specs.depot_model.declared.request.WordFault.{WordFault}
 use Rattle.depot_rows.proofs.Keys.{left-true, right-true}
@@ -22,42 +20,36 @@ use Rattle.sound_form_steps.specs.Contents.{fits_content, is_short, is_of_bytes}
 use Rattle.sound_requests.specs.Asked.{IsAsked, are_named, is_covered, is_named, is_typed, names_what}
 use Rattle.sound_requests.proofs.Whole.{step_sound}
 
-module _ (built : Command → Bool) (d : List Deed) (request : Request) (sound : IsSound d) (contents : list_all fits_content request.contents ≡ true) where
+module _ (d : List Deed) (request : Request) (sound : IsSound d) (contents : list_all fits_content request.contents ≡ true) where
   user_named : (command : Command) → is_named request command ≡ true → is_name (request.caller).user ≡ true
   user_named command named =
       left-true (is_name (request.caller).user) (is_name (request.caller).client)
       (left-true (is_name (request.caller).user && is_name (request.caller).client) (names_what command) named)
 
-  -- whether it is built or not
-  either_way : (command : Command) (b : Bool) → IsSound (after d (whole_step d request command).deeds)
-      → IsSound (after d (if b then whole_step d request command else refuses (Unbuilt (about command).word)).deeds)
-  either_way command true h = h
-  either_way command false h = sound
-
   other : (command : Command) → request.command ≡ Ok command → is_command command ≡ true → is_named request command ≡ true → is_covered command ≡ true
-      → IsSound (after d (step_of built d request).deeds)
-  other command e formed named covered = step_sound built d request command e sound formed named contents covered
+      → IsSound (after d (step d request).deeds)
+  other command e formed named covered = step_sound d request command e sound formed named contents covered
 
-  submitted : (command : Command) → request.command ≡ Ok command → IsSound (after d (whole_step d request command).deeds) → IsSound (after d (step_of built d request).deeds)
+  submitted : (command : Command) → request.command ≡ Ok command → IsSound (after d (whole_step d request command).deeds) → IsSound (after d (step d request).deeds)
   submitted command e h =
-      subst (λ (r : Result Command WordFault). IsSound (after d (elim r as (λ _. Step) [ Err fault ↦ refuses (word_refusal fault) | Ok c ↦ built_step built d request c ]).deeds))
-      (sym e) (either_way command (built command) h)
+      subst (λ (r : Result Command WordFault). IsSound (after d (elim r as (λ _. Step) [ Err fault ↦ refuses (word_refusal fault) | Ok c ↦ whole_step d request c ]).deeds))
+      (sym e) h
 
-  by_command : (command : Command) → request.command ≡ Ok command → is_command command ≡ true → is_named request command ≡ true → IsSound (after d (step_of built d request).deeds)
+  by_command : (command : Command) → request.command ≡ Ok command → is_command command ≡ true → is_named request command ≡ true → IsSound (after d (step d request).deeds)
   by_command (SubmitDefault text) e formed named =
       submitted (SubmitDefault text) e (submit_default_sound d request text sound (user_named (SubmitDefault text) named))
   by_command (SubmitChange n) e formed named =
       submitted (SubmitChange n) e (submit_change_sound d request n sound (user_named (SubmitChange n) named))
   by_command command e formed named = other command e formed named refl
 
-pub request_sound : (built : Command → Bool) (d : List Deed) (request : Request) (command : Command) → request.command ≡ Ok command → IsSound d
-    → is_command command ≡ true → is_named request command ≡ true → list_all fits_content request.contents ≡ true → IsSound (after d (step_of built d request).deeds)
-request_sound built d request command e sound formed named contents = by_command built d request sound contents command e formed named
+pub request_sound : (d : List Deed) (request : Request) (command : Command) → request.command ≡ Ok command → IsSound d
+    → is_command command ≡ true → is_named request command ≡ true → list_all fits_content request.contents ≡ true → IsSound (after d (step d request).deeds)
+request_sound d request command e sound formed named contents = by_command d request sound contents command e formed named
 
 -- of every request that a session makes
-pub asked_sound : (built : Command → Bool) (d : List Deed) (request : Request) → IsSound d → IsAsked request → is_typed request ≡ true
-    → IsSound (after d (step_of built d request).deeds)
-asked_sound built d request sound asked typed = go request.command refl
+pub asked_sound : (d : List Deed) (request : Request) → IsSound d → IsAsked request → is_typed request ≡ true
+    → IsSound (after d (step d request).deeds)
+asked_sound d request sound asked typed = go request.command refl
   where
     contents : list_all fits_content request.contents ≡ true
     contents = both_all is_short is_of_bytes request.contents asked.short (right-true (are_named request) (list_all is_of_bytes request.contents) typed)
@@ -65,14 +57,14 @@ asked_sound built d request sound asked typed = go request.command refl
     named : are_named request ≡ true
     named = left-true (are_named request) (list_all is_of_bytes request.contents) typed
 
-    go : (r : Result Command WordFault) → request.command ≡ r → IsSound (after d (step_of built d request).deeds)
+    go : (r : Result Command WordFault) → request.command ≡ r → IsSound (after d (step d request).deeds)
     go (Ok command) e =
-        request_sound built d request command e sound
+        request_sound d request command e sound
         (subst (λ (r : Result Command WordFault). IfOk r (λ command. is_command command ≡ true)) e asked.formed)
         (subst (λ (r : Result Command WordFault). (elim r [
           | Err fault ↦ is_name (request.caller).user && is_name (request.caller).client
           | Ok command ↦ is_named request command
         ]) ≡ true) e named) contents
     go (Err fault) e =
-        subst (λ (r : Result Command WordFault). IsSound (after d (elim r as (λ _. Step) [ Err fault ↦ refuses (word_refusal fault) | Ok c ↦ built_step built d request c ]).deeds))
+        subst (λ (r : Result Command WordFault). IsSound (after d (elim r as (λ _. Step) [ Err fault ↦ refuses (word_refusal fault) | Ok c ↦ whole_step d request c ]).deeds))
         (sym e) sound

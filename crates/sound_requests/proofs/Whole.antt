@@ -1,11 +1,11 @@
 -- The step of a request leaves a sound depot sound.
 use Rattle.std.proofs.Common.{◌≡◌, Bool, true, false, List, [], ◌++◌, Some, None, Result, Ok, Err, refl, sym, subst}
-use Rattle.std.specs.Prelude.{◌&&◌, not, unwrap_or, if◌then◌else◌}
+use Rattle.std.specs.Prelude.{◌&&◌, not, unwrap_or}
 use Rattle.std.specs.List.{list_all}
 use Rattle.depot_rows.specs.depot_path.Name.{is_name}
 use Rattle.depot_rows.specs.depot_model.About.{about}
 use Rattle.depot_rows.specs.depot_model.Asking.{is_client}
-use Rattle.depot_rows.specs.depot_model.Commands.{own_step, whole_step, built_step, step_of}
+use Rattle.depot_rows.specs.depot_model.Commands.{own_step, whole_step, step}
 use Rattle.depot_rows.specs.depot_model.Common.{common_refusals, last_refusals, asks_client, word_refusal}
 use Rattle.depot_rows.specs.depot_model.Deeds.{Deed}
 use Rattle.depot_rows.specs.depot_model.Fixes.{is_fixing}
@@ -15,7 +15,7 @@ use Rattle.depot_rows.specs.depot_model.Step.{Step, refuses, after, refuse_if}
 use Rattle.depot_rows.specs.depot_model.WellFormed.{is_command, is_type_or_none, spells_path}
 use Rattle.depot_rows.specs.depot_model.declared.command.Command.{Command}
 use Rattle.depot_rows.specs.depot_model.declared.command.Command.TheVariants.{CounterShow, CounterSet, CounterDelete, Counters, ClientShow, ClientSave, LabelShow, LabelSave, GroupShow, GroupSave, ProtectShow, ProtectSave, Where, Add, Edit, Delete, Revert, Reopen, Lock, Unlock, Opened, ChangeSave, ChangeShow, ChangeDelete, Changes, SubmitChange, SubmitDefault, Sync, Have, Tag, LabelSync, Labels, Integrate, Resolve, Integrated, Files, FileLog, Print, Describe, Dirs, FileStat, Checkpoint, Pull, Move, Shelve, ShelveDelete, Unshelve, DescribeShelved, JobShow, JobSave, Jobs, Fix, FixDelete, Fixes}
-use Rattle.depot_rows.specs.depot_model.declared.refusal.Refusal.TheVariants.{NoClient, Unbuilt, Shelved, Fixed}
+use Rattle.depot_rows.specs.depot_model.declared.refusal.Refusal.TheVariants.{NoClient, Shelved, Fixed}
 use Rattle.depot_rows.specs.depot_model.declared.request.Request.{Request}
 use Rattle.depot_rows.specs.depot_model.declared.request.WordFault.{WordFault}
 use Rattle.depot_rows.proofs.depot_model.Counting.{counted_is_sound}
@@ -124,19 +124,11 @@ module _ (d : List Deed) (request : Request) (sound : IsSound d) (user : is_name
       unless_sound d sound (common_refusals d request.caller (about command) ++ last_refusals d command) (own_step d request command) (λ none.
       own_sound command formed named covered (record { saved = λ asks. saved_by (asks_client request.caller (about command)) asks none.1.0; last = none.1.1.1 }))
 
-  built_sound : (built : Command → Bool) (command : Command) → is_command command ≡ true → names_what command ≡ true → is_covered command ≡ true
-      → IsSound (after d (built_step built d request command).deeds)
-  built_sound built command formed named covered = go (built command)
-    where
-      go : (b : Bool) → IsSound (after d (if b then whole_step d request command else refuses (Unbuilt (about command).word)).deeds)
-      go true = whole_sound command formed named covered
-      go false = sound
-
-pub step_sound : (built : Command → Bool) (d : List Deed) (request : Request) (command : Command) → request.command ≡ Ok command → IsSound d
+pub step_sound : (d : List Deed) (request : Request) (command : Command) → request.command ≡ Ok command → IsSound d
     → is_command command ≡ true → is_named request command ≡ true → list_all fits_content request.contents ≡ true → is_covered command ≡ true
-    → IsSound (after d (step_of built d request).deeds)
-step_sound built d request command e sound formed named contents covered =
-    subst (λ (r : Result Command WordFault). IsSound (after d (elim r as (λ _. Step) [ Err fault ↦ refuses (word_refusal fault) | Ok c ↦ built_step built d request c ]).deeds))
-    (sym e) (built_sound d request sound
+    → IsSound (after d (step d request).deeds)
+step_sound d request command e sound formed named contents covered =
+    subst (λ (r : Result Command WordFault). IsSound (after d (elim r as (λ _. Step) [ Err fault ↦ refuses (word_refusal fault) | Ok c ↦ whole_step d request c ]).deeds))
+    (sym e) (whole_sound d request sound
     (left-true (is_name (request.caller).user) (is_name (request.caller).client) (left-true _ (names_what command) named))
-    (right-true (is_name (request.caller).user) (is_name (request.caller).client) (left-true _ (names_what command) named)) contents built command formed (right-true _ (names_what command) named) covered)
+    (right-true (is_name (request.caller).user) (is_name (request.caller).client) (left-true _ (names_what command) named)) contents command formed (right-true _ (names_what command) named) covered)

@@ -1,10 +1,10 @@
 -- What the steps of requests leave as it was: the generation, which only a checkpoint counts up (Command-Line Reference, "p4 admin").
-use Rattle.std.specs.Prelude.{◌≡◌, ◌≢◌, ℕ, Bool, IsTrue, List, IfOk, codes}
+use Rattle.std.specs.Prelude.{◌≡◌, ◌≢◌, ℕ, IsTrue, List, IfOk, codes}
 use Rattle.depot_model.specs.db_records.declared.key.Key.TheVariants as keys
 use Rattle.depot_model.specs.declared.command.Command.{Command}
 use Rattle.depot_model.specs.declared.command.Command.TheVariants.{Checkpoint}
 use Rattle.depot_model.specs.declared.request.Request.{Request}
-use Rattle.depot_model.specs.Commands.{step_of}
+use Rattle.depot_model.specs.Commands.{step}
 use Rattle.depot_model.specs.Deeds.{Deed}
 use Rattle.depot_model.specs.Records.{record_of}
 use Rattle.depot_model.specs.Rules.{value_of}
@@ -19,7 +19,7 @@ generation_in d = value_of (record_of d (keys.Counter (codes "journal")))
 abbrev pub CountsNoGeneration : Command → Type 0
 CountsNoGeneration command = IsTrue (is_command command) × (command ≢ Checkpoint)
 
--- the step of a request whose command, if it has one, is no checkpoint leaves the generation as it was, whichever commands are built
+-- the step of a request whose command, if it has one, is no checkpoint leaves the generation as it was
 abbrev pub StepsKeepTheGeneration : Type 0
-StepsKeepTheGeneration = (built : Command → Bool) (d : List Deed) (request : Request) → IfOk request.command CountsNoGeneration
-    → generation_in (after d (step_of built d request).deeds) ≡ generation_in d
+StepsKeepTheGeneration = (d : List Deed) (request : Request) → IfOk request.command CountsNoGeneration
+    → generation_in (after d (step d request).deeds) ≡ generation_in d

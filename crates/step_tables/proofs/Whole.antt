@@ -1,8 +1,8 @@
 -- The step of a request stays in the tables that its command writes.
-use Rattle.std.proofs.Common.{◌≡◌, Bool, List, [], ◌++◌, Result, Ok, Err, refl, sym, subst}
+use Rattle.std.proofs.Common.{◌≡◌, List, [], ◌++◌, Result, Ok, Err, refl, sym, subst}
 use Rattle.std.specs.Prelude.{unwrap_or, None}
 use Rattle.depot_model.specs.About.{about}
-use Rattle.depot_model.specs.Commands.{own_step, whole_step, built_step, step_of}
+use Rattle.depot_model.specs.Commands.{own_step, whole_step, step}
 use Rattle.depot_model.specs.Common.{common_refusals, last_refusals, word_refusal}
 use Rattle.depot_model.specs.Deeds.{Deed}
 use Rattle.depot_model.specs.Deeds as actions
@@ -10,10 +10,9 @@ use Rattle.depot_model.specs.Step.{Step, refuses}
 use Rattle.depot_model.specs.Tables.{own_tables}
 use Rattle.depot_model.specs.declared.command.Command.{Command}
 use Rattle.depot_model.specs.declared.command.Command.TheVariants.{CounterShow, CounterSet, CounterDelete, Counters, ClientShow, ClientSave, LabelShow, LabelSave, GroupShow, GroupSave, ProtectShow, ProtectSave, Where, Add, Edit, Delete, Revert, Reopen, Lock, Unlock, Opened, ChangeSave, ChangeShow, ChangeDelete, Changes, SubmitChange, SubmitDefault, Sync, Have, Tag, LabelSync, Labels, Integrate, Resolve, Integrated, Files, FileLog, Print, Describe, Dirs, FileStat, Checkpoint, Pull, Move, Shelve, ShelveDelete, Unshelve, DescribeShelved, JobShow, JobSave, Jobs, Fix, FixDelete, Fixes}
-use Rattle.depot_model.specs.declared.refusal.Refusal.TheVariants.{Unbuilt}
 use Rattle.depot_model.specs.declared.request.Request.{Request}
 use Rattle.depot_model.specs.declared.request.WordFault.{WordFault}
-use Rattle.step_tables.proofs.Combining.{Stays, only_tells, done, stays_unless, stays_if}
+use Rattle.step_tables.proofs.Combining.{Stays, only_tells, done, stays_unless}
 use Rattle.step_tables.proofs.Opening.{add_stays, open_had_stays, reopen_stays, unshelve_stays, lock_stays, unlock_stays, revert_stays, sync_stays, resolve_stays, move_stays, integrate_stays}
 use Rattle.step_tables.proofs.Reading.{where_stays, have_stays, opened_stays, integrated_stays, filelog_stays, print_stays, fstat_stays, files_stays, describe_stays, change_show_stays, job_show_stays, describe_shelved_stays}
 use Rattle.step_tables.proofs.Saving.{client_save_stays, group_save_stays, protect_save_stays, label_save_stays, job_save_stays, checkpoint_stays, fix_stays, fix_delete_stays, shelve_stays, shelve_delete_stays, tag_stays, labelsync_stays}
@@ -76,15 +75,15 @@ module _ (d : List Deed) (request : Request) where
   own_stays Checkpoint = checkpoint_stays d
   own_stays Pull = only_tells _
 
-  built_stays : (built : Command → Bool) (command : Command) → Stays (own_tables command).written (built_step built d request command)
-  built_stays built command = stays_if (built command) (whole_step d request command) (refuses (Unbuilt (about command).word))
-      (stays_unless (common_refusals d request.caller (about command) ++ last_refusals d command) (own_step d request command) (own_stays command)) (only_tells _)
+  whole_stays : (command : Command) → Stays (own_tables command).written (whole_step d request command)
+  whole_stays command =
+      stays_unless (common_refusals d request.caller (about command) ++ last_refusals d command) (own_step d request command) (own_stays command)
 
-abbrev step_for : (Command → Bool) → List Deed → Request → Result Command WordFault → Step
-step_for built d request asked = elim asked [ Err fault ↦ refuses (word_refusal fault) | Ok command ↦ built_step built d request command ]
+abbrev step_for : List Deed → Request → Result Command WordFault → Step
+step_for d request asked = elim asked [ Err fault ↦ refuses (word_refusal fault) | Ok command ↦ whole_step d request command ]
 
-pub step_stays : (built : Command → Bool) (d : List Deed) (request : Request) (command : Command) → request.command ≡ Ok command
-    → Stays (own_tables command).written (step_of built d request)
-step_stays built d request command is =
-    let P : Result Command WordFault → Type 0 = λ asked. Stays (own_tables command).written (step_for built d request asked) in
-    subst P (sym is) (built_stays d request built command)
+pub step_stays : (d : List Deed) (request : Request) (command : Command) → request.command ≡ Ok command
+    → Stays (own_tables command).written (step d request)
+step_stays d request command is =
+    let P : Result Command WordFault → Type 0 = λ asked. Stays (own_tables command).written (step_for d request asked) in
+    subst P (sym is) (whole_stays d request command)

@@ -4,8 +4,8 @@ use Rattle.depots_alike.proofs.laws.depots_with_the_same_rows_and_contents_answe
 
 pub returns : goal.returns
 returns c = record {
-  step = λ built d e request left right rows contents. step_same d e (record { left = left; right = right; rows = rows; contents = contents }) request built;
-  rows = λ built d e request dones left right rows contents follow.
-      rows_stay d e (record { left = left; right = right; rows = rows; contents = contents }) request built dones follow;
+  step = λ d e request left right rows contents. step_same d e (record { left = left; right = right; rows = rows; contents = contents }) request;
+  rows = λ d e request dones left right rows contents follow.
+      rows_stay d e (record { left = left; right = right; rows = rows; contents = contents }) request dones follow;
   contents = λ d e deeds left right rows contents. contents_stay d e deeds (record { left = left; right = right; rows = rows; contents = contents });
 }

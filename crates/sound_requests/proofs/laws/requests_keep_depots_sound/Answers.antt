@@ -2,4 +2,4 @@ use Rattle.sound_requests.proofs.All.{asked_sound}
 use Rattle.sound_requests.proofs.laws.requests_keep_depots_sound.Goals as goal
 
 pub returns : goal.returns
-returns c = λ built d request sound asked typed. asked_sound built d request sound asked typed
+returns c = λ d request sound asked typed. asked_sound d request sound asked typed
