@@ -1,4 +1,4 @@
--- The step of a chosen revision's row and of its spot is what the model prints.
+-- The step of a chosen revision's row and of the place of its content is what the model prints.
 use Rattle.std.proofs.Common.{arith, ◌≡◌, ℕ, List, [], ◌∷◌, Option, Some, None, refl, sym, ap, subst, ◌∙◌}
 use Rattle.std.specs.Prelude.{codes, length, option_and_then, option_map}
 use Rattle.hex.specs.Hex.{encode_upper, encode_with}
@@ -19,11 +19,11 @@ use Rattle.depot_rows.specs.depot_model.Steps.History.{print_row}
 use Rattle.depot_rows.specs.depot_model.Steps.Listing.{Numbered, numbered}
 use Rattle.depot_rows.specs.depot_model.Steps.Submitting.{content_at}
 use Rattle.depot_rows.specs.Standing.{row_in}
-use Rattle.reply_rows.specs.Made.{IsMade, StandAt, contents_of, waiting}
+use Rattle.reply_rows.specs.Made.{IsMade, ComeFrom, contents_of, waiting}
 use Rattle.reply_rows.proofs.Bare.{tells_made}
 use Rattle.revision_reads.proofs.Seen.{one_seen, seen_field}
 use Rattle.revision_reads.specs.History.{numbered_record, seen}
-use Rattle.history_query.specs.Printing.{awaited, length_fields, print_row_of, prints, spots}
+use Rattle.history_query.specs.Printing.{awaited, length_fields, print_row_of, prints, places}
 
 abbrev pub digest_of : Option (List ℕ) → List ℕ
 digest_of content = elim content [ None ↦ [] | Some c ↦ digest c ]
@@ -74,12 +74,12 @@ option_content o = option_and_then (λ (r : Revision). r.entry.content) o
 
 module _ (all : AllRows) (d e : List Deed) (path : List ℕ) where
   -- the content of a revision stands at the spot of its row
-  spots_stand : (r : RevRecord) (content : Option (List ℕ)) → row_in all (keys.Rev (printed path) r.rev) ≡ Some (Rev r) → content_at d path r.rev ≡ content
-      → r.digest ≡ digest_of content → StandAt all d (contents_of ((record { fields = []; content = content }) ∷ [])) (spots r.digest r)
-  spots_stand r None there is sum = subst (λ (t : List ℕ). StandAt all d [] (spots t r)) (sym sum) tt
-  spots_stand r (Some c) there is sum =
-      subst (λ (t : List ℕ). StandAt all d (c ∷ []) (spots t r)) (sym sum)
-      (written (λ t. StandAt all d (c ∷ []) (spots t r)) c
+  places_stand : (r : RevRecord) (content : Option (List ℕ)) → row_in all (keys.Rev (printed path) r.rev) ≡ Some (Rev r) → content_at d path r.rev ≡ content
+      → r.digest ≡ digest_of content → ComeFrom all d (contents_of ((record { fields = []; content = content }) ∷ [])) (places r.digest r)
+  places_stand r None there is sum = subst (λ (t : List ℕ). ComeFrom all d [] (places t r)) (sym sum) tt
+  places_stand r (Some c) there is sum =
+      subst (λ (t : List ℕ). ComeFrom all d (c ∷ []) (places t r)) (sym sum)
+      (written (λ t. ComeFrom all d (c ∷ []) (places t r)) c
       (λ b bytes. (record { path = path; rev = r.rev; row = r; there = there; at = refl; content_is = is }, tt)))
 
   revision_made : (r : RevRecord) (n : ℕ) (made : Revision) → revision d path n ≡ Some made → seen r ≡ numbered_record (record { number = n; made = made })
@@ -91,7 +91,7 @@ module _ (all : AllRows) (d e : List Deed) (path : List ℕ) where
         deeds = tt;
         rows = ap (λ x. x ∷ []) (seen_row path r (record { number = n; made = made }) is);
         stores = refl;
-        reads = spots_stand r made.entry.content there (ap (content_at d path) number ∙ content_of found) sum;
+        reads = places_stand r made.entry.content there (ap (content_at d path) number ∙ content_of found) sum;
       }
     where
       content_of : revision d path n ≡ Some made → content_at d path n ≡ made.entry.content

@@ -11,6 +11,8 @@ use Rattle.depot_rows.specs.depot_model.Deeds.{Deed}
 use Rattle.depot_rows.specs.depot_model.Rows.{path_field, number_field, text_field}
 use Rattle.named_files.specs.Asked.{IsAsker}
 use Rattle.named_files.specs.declared.asker.Asker.{Asker}
+use Rattle.reply_rows.specs.declared.content.RowContent.{RowContent}
+use Rattle.reply_rows.specs.declared.content.RowContent.TheVariants.{At}
 use Rattle.reply_rows.specs.declared.step.Step.{Step}
 use Rattle.history_query.specs.Choosing.{ChoiceReads}
 
@@ -34,14 +36,14 @@ print_row_of path r = record {
 abbrev pub spot_of : RevRecord → Spot
 spot_of r = record { at = r.at; length = r.length }
 
-abbrev pub spots : List ℕ → RevRecord → List Spot
-spots [] r = []
-spots (_ ∷ _) r = spot_of r ∷ []
+abbrev pub places : List ℕ → RevRecord → List RowContent
+places [] r = []
+places (_ ∷ _) r = At (spot_of r) ∷ []
 
 -- what is printed of a chosen revision, if there is one
 abbrev pub prints : List ℕ → Option RevRecord → Step
 prints path None = record { deeds = []; rows = []; stores = []; reads = [] }
-prints path (Some r) = record { deeds = []; rows = print_row_of path r ∷ []; stores = []; reads = spots r.digest r }
+prints path (Some r) = record { deeds = []; rows = print_row_of path r ∷ []; stores = []; reads = places r.digest r }
 
 -- the asker is that of the depot, and a choice reads its rows
 pub record PrintReads (caller : Caller) (asker : Asker) (rows : AllRows) (d : List Deed) : Type 0 where

@@ -14,7 +14,7 @@ ghost use Rattle.depot_rows.specs.Standing.{HasRows};
 ghost use Rattle.named_files.specs.Asked.{IsAsker};
 ghost use Rattle.reply_rows.specs.Made.{IsMade, told as told_rows};
 ghost use Rattle.history_query.specs.Choosing.{ChoiceReads};
-ghost use Rattle.history_query.specs.Printing.{awaited, length_fields, print_row_of, prints, spots as spots_in};
+ghost use Rattle.history_query.specs.Printing.{awaited, length_fields, print_row_of, prints, places as places_in};
 
 use crate::choosing::over_chosen;
 use depot_rows::model::{Caller, FileArgument, Row};
@@ -24,7 +24,7 @@ use depot_rows::records::{RevRecord, Spot};
 use depot_rows::tables::Tables;
 use file_steps::FileAct;
 use named_files::Asker;
-use reply_rows::{RowBuilder, Step, denied_row};
+use reply_rows::{RowBuilder, RowContent, Step, denied_row};
 use revision_reads::stored_choice;
 use std::alloc::{AllocError, Global};
 
@@ -74,16 +74,16 @@ fn print_row(alloc: Global, path: &DepotPath, row: &RevRecord) -> Result<Row, Al
 }
 
 /// Adds where the content of a revision stands, if it has one.
-fn add_spot(spots: &mut Sequence<Spot>, row: &RevRecord) -> Result<(), AllocError>
-    ensures { OnOk result (spots.new ≡ spots.old ++ spots_in row.now.digest row.now) }
+fn add_place(places: &mut Sequence<RowContent>, row: &RevRecord) -> Result<(), AllocError>
+    ensures { OnOk result (places.new ≡ places.old ++ places_in row.now.digest row.now) }
 {
     match row.digest.as_bytes() {
         [] => Ok(()),
         [_, ..] => {
-            spots.push(Spot {
+            places.push(RowContent::At(Spot {
                 at: row.at,
                 length: row.length,
-            })?;
+            }))?;
             Ok(())
         }
     }
@@ -102,7 +102,7 @@ fn print_revision(
         Some(row) => {
             let made = print_row(alloc, path, row)?;
             let mut step = Step::tells(alloc, made)?;
-            add_spot(&mut step.reads, row)?;
+            add_place(&mut step.reads, row)?;
             Ok(step)
         }
     }

@@ -2,17 +2,17 @@
 use Rattle.std.proofs.Common.{◌≡◌, ℕ, List, [], ◌∷◌, ◌++◌, None, refl, ap, sym, ◌∙◌, subst}
 use Rattle.std.specs.Prelude.{map, option_map}
 use Rattle.std.specs.Option.{option_to_list}
-use Rattle.depot_rows.specs.db_records.declared.change.Spot.{Spot}
 use Rattle.depot_rows.specs.table_changes.Changed.{AllRows}
 use Rattle.depot_rows.specs.depot_model.declared.reply.Row.{Row}
 use Rattle.depot_rows.specs.depot_model.declared.refusal.Refusal.{Refusal}
-use Rattle.depot_rows.specs.depot_model.declared.refusal.Refusal.TheVariants.{UnknownCommand, BadUsage, BadPath, BadRevision, Denied, NoClient, NotInView, NoSuchFile, NoSuchChange, NotYours, AlreadyOpen, NotOpen, ExclusiveOpen, Locked, Stale, MustResolve, NoContent, EmptyChange, BadForm, NoSuchLabel, LabelLocked, NotDeletable, ReadOnly, OverLimit, Unbuilt, AllIntegrated, Exists, NotMovable, InMove, Shelved, AlreadyShelved, NotShelvable, NoShelf, NoSuchJob, Fixed, BadArchive}
+use Rattle.depot_rows.specs.depot_model.declared.refusal.Refusal.TheVariants.{UnknownCommand, BadUsage, BadPath, BadRevision, Denied, NoClient, NotInView, NoSuchFile, NoSuchChange, NotYours, AlreadyOpen, NotOpen, ExclusiveOpen, Locked, Stale, MustResolve, NoContent, EmptyChange, BadForm, NoSuchLabel, LabelLocked, NotDeletable, ReadOnly, OverLimit, AllIntegrated, Exists, NotMovable, InMove, Shelved, AlreadyShelved, NotShelvable, NoShelf, NoSuchJob, Fixed, BadArchive}
 use Rattle.depot_rows.specs.depot_model.Deeds.{Deed}
 use Rattle.depot_rows.specs.depot_model.Refusals.{refusal_row}
 use Rattle.depot_rows.specs.depot_model.Step.{Step as ModelStep, refuses, tells}
 use Rattle.depot_rows.specs.Effects.{Follow}
+use Rattle.reply_rows.specs.declared.content.RowContent.{RowContent}
 use Rattle.reply_rows.specs.declared.step.Step.{Step}
-use Rattle.reply_rows.specs.Made.{IsMade, StandAt, contents_of, told, waiting}
+use Rattle.reply_rows.specs.Made.{IsMade, ComeFrom, contents_of, told, waiting}
 
 -- each row is without a content
 abbrev pub AreBare : List Row → Type 0
@@ -55,7 +55,6 @@ refusal_bare (LabelLocked name) = refl
 refusal_bare (NotDeletable n) = refl
 refusal_bare (ReadOnly word) = refl
 refusal_bare (OverLimit what) = refl
-refusal_bare (Unbuilt word) = refl
 refusal_bare (AllIntegrated path) = refl
 refusal_bare (Exists path) = refl
 refusal_bare (NotMovable path) = refl
@@ -77,8 +76,8 @@ module _ (all : AllRows) (d e : List Deed) where
     rows = rows ∙ sym (rows_wait model.rows bare);
     stores = stores;
     reads =
-        let P : List (List ℕ) → Type 0 = λ contents. StandAt all d contents step.reads in
-        let Q : List Spot → Type 0 = λ spots. StandAt all d [] spots in
+        let P : List (List ℕ) → Type 0 = λ contents. ComeFrom all d contents step.reads in
+        let Q : List RowContent → Type 0 = λ places. ComeFrom all d [] places in
         subst P (sym (none_told model.rows bare)) (subst Q (sym reads) tt);
   }
 

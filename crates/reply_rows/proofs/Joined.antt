@@ -2,7 +2,6 @@
 use Rattle.std.proofs.Common.{◌≡◌, ℕ, List, [], ◌∷◌, ◌++◌, Option, Some, None, refl, sym, ap, subst, ◌∙◌, append_assoc, append-nil}
 use Rattle.std.specs.Prelude.{map, option_map}
 use Rattle.std.specs.Option.{option_to_list}
-use Rattle.depot_rows.specs.db_records.declared.change.Spot.{Spot}
 use Rattle.depot_rows.specs.table_changes.Changed.{AllRows}
 use Rattle.depot_rows.specs.depot_model.declared.reply.Row.{Row}
 use Rattle.depot_rows.specs.depot_model.declared.refusal.Refusal.{Refusal}
@@ -11,8 +10,9 @@ use Rattle.depot_rows.specs.depot_model.Refusals.{refusal_row}
 use Rattle.depot_rows.specs.depot_model.Step.{Step as ModelStep, after, both, does, nothing, refuses, tells, unless}
 use Rattle.depot_rows.specs.Effects.{Follow}
 use Rattle.depot_rows.specs.declared.deed.Deed.{Deed as Done}
+use Rattle.reply_rows.specs.declared.content.RowContent.{RowContent}
 use Rattle.reply_rows.specs.declared.step.Step.{Step}
-use Rattle.reply_rows.specs.Made.{IsMade, StandAt, contents_of, does as done, told, waiting}
+use Rattle.reply_rows.specs.Made.{IsMade, ComeFrom, contents_of, does as done, told, waiting}
 use Rattle.reply_rows.proofs.Bare.{made_of, refuses_made}
 
 -- ---- deeds and rows one after another
@@ -38,12 +38,12 @@ contents_on (row ∷ rows) more =
     ap (λ (x : List (List ℕ)). option_to_list row.content ++ x) (contents_on rows more)
     ∙ sym (append_assoc (option_to_list row.content) (contents_of rows) (contents_of more))
 
-pub stand_on : (all : AllRows) (d : List Deed) (contents others : List (List ℕ)) (spots more : List Spot) → StandAt all d contents spots → StandAt all d others more
-    → StandAt all d (contents ++ others) (spots ++ more)
-stand_on all d [] others [] more p q = q
-stand_on all d [] others (spot ∷ spots) more p q = absurd p
-stand_on all d (content ∷ contents) others [] more p q = absurd p
-stand_on all d (content ∷ contents) others (spot ∷ spots) more p q = (p.0, stand_on all d contents others spots more p.1 q)
+pub come_on : (all : AllRows) (d : List Deed) (contents others : List (List ℕ)) (places more : List RowContent) → ComeFrom all d contents places → ComeFrom all d others more
+    → ComeFrom all d (contents ++ others) (places ++ more)
+come_on all d [] others [] more p q = q
+come_on all d [] others (place ∷ places) more p q = absurd p
+come_on all d (content ∷ contents) others [] more p q = absurd p
+come_on all d (content ∷ contents) others (place ∷ places) more p q = (p.0, come_on all d contents others places more p.1 q)
 
 -- ---- steps one after another
 
@@ -65,8 +65,8 @@ made_on all d e m more step other was is = record {
   rows = (λ i. was.rows i ++ is.rows i) ∙ sym (waiting_on m.rows more.rows);
   stores = (λ i. was.stores i ++ is.stores i);
   reads =
-      subst (λ (x : List (List ℕ)). StandAt all d x (step.reads ++ other.reads)) (sym (contents_on m.rows more.rows))
-      (stand_on all d (contents_of m.rows) (contents_of more.rows) step.reads other.reads was.reads is.reads);
+      subst (λ (x : List (List ℕ)). ComeFrom all d x (step.reads ++ other.reads)) (sym (contents_on m.rows more.rows))
+      (come_on all d (contents_of m.rows) (contents_of more.rows) step.reads other.reads was.reads is.reads);
 }
 
 -- ---- rows alone

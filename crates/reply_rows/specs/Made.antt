@@ -14,6 +14,8 @@ use Rattle.depot_rows.specs.depot_model.Steps.Submitting.{content_at}
 use Rattle.depot_rows.specs.Effects.{Follow}
 use Rattle.depot_rows.specs.Standing.{row_in}
 use Rattle.depot_rows.specs.declared.deed.Deed.{Deed as Done}
+use Rattle.reply_rows.specs.declared.content.RowContent.{RowContent}
+use Rattle.reply_rows.specs.declared.content.RowContent.TheVariants.{At, Given}
 use Rattle.reply_rows.specs.declared.step.Step.{Step}
 
 -- rows alone
@@ -42,16 +44,21 @@ pub record IsSpotOf (all : AllRows) (d : List Deed) (content : List ℕ) (spot :
   pub at : spot ≡ record { at = row.at; length = row.length }
   pub content_is : content_at d path rev ≡ Some content
 
--- each content at its spot
-abbrev pub StandAt : AllRows → List Deed → List (List ℕ) → List Spot → Type 0
-StandAt all d [] [] = Unit {0}
-StandAt all d (content ∷ contents) (spot ∷ spots) = IsSpotOf all d content spot × StandAt all d contents spots
-StandAt all d _ _ = ⊥
+-- a content comes from where it stands, or is given
+abbrev pub ComesFrom : AllRows → List Deed → List ℕ → RowContent → Type 0
+ComesFrom all d content (At spot) = IsSpotOf all d content spot
+ComesFrom all d content (Given text) = text ≡ content
 
--- Its deeds are the model's and may follow a depot; its rows are the model's, waiting for their contents, which stand at the spots by the rows of the
--- depot before the command; and it stores nothing.
+-- so does each of several
+abbrev pub ComeFrom : AllRows → List Deed → List (List ℕ) → List RowContent → Type 0
+ComeFrom all d [] [] = Unit {0}
+ComeFrom all d (content ∷ contents) (place ∷ places) = ComesFrom all d content place × ComeFrom all d contents places
+ComeFrom all d _ _ = ⊥
+
+-- Its deeds are the model's and may follow a depot; its rows are the model's, waiting for their contents, which are given or stand at spots by the
+-- rows of the depot before the command; and it stores nothing.
 pub record IsMade (all : AllRows) (d e : List Deed) (model : ModelStep) (step : Step) : Type 0 where
   pub deeds : Follow e step.deeds model.deeds
   pub rows : step.rows ≡ map waiting model.rows
   pub stores : step.stores ≡ []
-  pub reads : StandAt all d (contents_of model.rows) step.reads
+  pub reads : ComeFrom all d (contents_of model.rows) step.reads

@@ -1,10 +1,11 @@
 //! What commands answer, and what they do: the rows of replies, and the step of a command.
 //!
-//! A command makes a [`Step`]: the deeds that it would do, the rows of its reply, the contents that it stores, and the spots of the contents that
-//! its rows lack. Each refusal has the function of its row.
+//! A command makes a [`Step`]: the deeds that it would do, the rows of its reply, the contents that it stores, and where the contents come from
+//! that its rows lack. Each refusal has the function of its row.
 #![tactic(auto)]
 
 mod builder;
+mod content;
 mod does;
 mod fields;
 mod forms;
@@ -12,6 +13,7 @@ mod refusals;
 mod step;
 
 pub use builder::RowBuilder;
+pub use content::RowContent;
 pub use fields::{change_field, number_field, path_field, row_of, text_field};
 pub use forms::{form_fields, push_numbered, push_values};
 pub use refusals::{
@@ -21,6 +23,6 @@ pub use refusals::{
     no_client_row, no_content_row, no_shelf_row, no_such_change_row, no_such_file_row,
     no_such_job_row, no_such_label_row, not_deletable_row, not_in_view_row, not_movable_row,
     not_open_row, not_shelvable_row, not_yours_row, read_only_row, shelved_row, stale_row,
-    unbuilt_row, unknown_command_row, usage_row,
+    unknown_command_row, usage_row,
 };
 pub use step::Step;

@@ -300,14 +300,6 @@ pub fn limit_row(alloc: Global, what: Limit) -> Result<Row, AllocError>
     longer_row(alloc, 24, b"Limit", third, fourth)
 }
 
-/// 25: a command that isn't built.
-pub fn unbuilt_row(alloc: Global, command: &[u8]) -> Result<Row, AllocError>
-    ensures { IfOk result (λ row. row ≡ refusal_row (refusals.Unbuilt command.now)) }
-{
-    let third = text_field(alloc, b"command", command)?;
-    coded_row(alloc, 25, b"Unbuilt", third)
-}
-
 /// 26: a file for which nothing is left to integrate.
 pub fn all_integrated_row(alloc: Global, path: &DepotPath) -> Result<Row, AllocError>
     ensures { IfOk result (λ row. row ≡ refusal_row (refusals.AllIntegrated path.now)) }

@@ -3,10 +3,10 @@
 ghost use Rattle.std.specs.Prelude.{◌≡◌, [], ◌∷◌, ◌++◌, IfOk, OnOk};
 ghost use Rattle.reply_rows.specs.Made.{told};
 
+use crate::content::RowContent;
 use deed_list::{Deeds, append};
 use depot_rows::model::Row;
 use depot_rows::paths::{Sequence, Text};
-use depot_rows::records::Spot;
 use std::alloc::{AllocError, Global};
 
 /// What a command does.
@@ -18,8 +18,8 @@ pub struct Step {
     pub rows: Sequence<Row>,
     /// The contents that it stores, which are put into the archive one after another from the archive's end.
     pub stores: Sequence<Text>,
-    /// Where the contents stand that its rows lack, in the order of the rows.
-    pub reads: Sequence<Spot>,
+    /// Where the contents come from that its rows lack, in the order of the rows.
+    pub reads: Sequence<RowContent>,
 }
 
 impl Step {

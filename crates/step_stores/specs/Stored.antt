@@ -11,7 +11,7 @@ use Rattle.depot_rows.specs.declared.deed.Deed.TheVariants as deeds
 use Rattle.depot_rows.specs.declared.deed.Entry.{Entry}
 use Rattle.depot_rows.specs.declared.deed.Stored.{Stored}
 use Rattle.reply_rows.specs.declared.step.Step.{Step}
-use Rattle.reply_rows.specs.Made.{IsSpotOf, StandAt, contents_of, waiting}
+use Rattle.reply_rows.specs.Made.{ComeFrom, IsSpotOf, contents_of, waiting}
 
 -- the content is one of those that are stored, and the spot is where it comes to stand
 abbrev pub StandsAmong : List (List ℕ) → ℕ → Spot → List ℕ → Type 0
@@ -46,10 +46,10 @@ AreStored all from d stores (deeds.Land l ∷ dones) (model.Land m ∷ told) =
     ArePlaced all d stores from l.entries m.entries × (LandNothing dones × NothingLands told)
 AreStored all from d stores dones told = (stores ≡ []) × (LandNothing dones × NothingLands told)
 
--- Its deeds are the model's and may follow the depot; its rows are the model's, waiting for their contents, which stand at the spots by the rows of
--- the depot; and what it stores, from a place of the archive on, are contents of the change that it submits.
+-- Its deeds are the model's and may follow the depot; its rows are the model's, waiting for their contents, which are given or stand at spots by the
+-- rows of the depot; and what it stores, from a place of the archive on, are contents of the change that it submits.
 pub record IsStoring (all : AllRows) (from : ℕ) (d : List model.Deed) (told : ModelStep) (step : Step) : Type 0 where
   pub deeds : Follow d step.deeds told.deeds
   pub rows : step.rows ≡ map waiting told.rows
   pub stores : AreStored all from d step.stores step.deeds told.deeds
-  pub reads : StandAt all d (contents_of told.rows) step.reads
+  pub reads : ComeFrom all d (contents_of told.rows) step.reads

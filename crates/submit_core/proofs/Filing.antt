@@ -11,10 +11,10 @@ use Rattle.depot_rows.specs.Deed.{AreEntries, IsEntry, IsStored}
 use Rattle.depot_rows.specs.declared.deed.Entry.{Entry}
 use Rattle.depot_rows.specs.declared.deed.Stored.{Stored}
 use Rattle.step_stores.specs.Stored.{ArePlaced, IsPlaced, StandsAmong}
-use Rattle.submit_core.specs.Content.{IsFound}
+use Rattle.file_contents.specs.Content.{IsFound}
 use Rattle.submit_core.specs.Entries.{AreFiles, content_in, stores_of, total}
-use Rattle.submit_core.specs.declared.content.Found.{Found}
-use Rattle.submit_core.specs.declared.content.Found.TheVariants.{Old, Block, Absent}
+use Rattle.file_contents.specs.declared.content.Found.{Found}
+use Rattle.file_contents.specs.declared.content.Found.TheVariants.{Old, Block, Absent}
 use Rattle.submit_core.specs.declared.entries.Files.{Files}
 use Rattle.submit_core.proofs.Steps.{map_on}
 

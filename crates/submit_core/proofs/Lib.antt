@@ -1,7 +1,4 @@
 pub mod CreditRows
-pub mod ContentRows
-pub mod Finding
-pub mod Blocking
 pub mod Keeping
 pub mod Refusing
 pub mod Filing

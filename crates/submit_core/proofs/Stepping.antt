@@ -4,7 +4,6 @@ use Rattle.std.specs.Prelude.{flat_map, codes, if◌then◌else◌, option_map, 
 use Rattle.std.specs.Option.{option_map_or}
 use Rattle.depot_rows.specs.depot_model.Numbers.{pending}
 use Rattle.depot_rows.specs.depot_model.Steps.Opening.{change_refusal}
-use Rattle.depot_rows.specs.db_records.declared.change.Spot.{Spot}
 use Rattle.depot_rows.specs.table_changes.Changed.{AllRows}
 use Rattle.depot_rows.specs.depot_model.declared.reply.Row.{Row}
 use Rattle.depot_rows.specs.depot_model.declared.request.Request.{Request}
@@ -23,7 +22,8 @@ use Rattle.depot_rows.specs.Effects.{Follow}
 use Rattle.depot_rows.specs.declared.deed.Deed.{Deed as Done}
 use Rattle.depot_rows.specs.declared.deed.Deed.TheVariants as dones
 use Rattle.depot_rows.specs.declared.deed.Landing.{Landing}
-use Rattle.reply_rows.specs.Made.{StandAt, told}
+use Rattle.reply_rows.specs.declared.content.RowContent.{RowContent}
+use Rattle.reply_rows.specs.Made.{ComeFrom, told}
 use Rattle.reply_rows.specs.declared.step.Step.{Step}
 use Rattle.reply_rows.proofs.Bare.{AreBare, none_told, rows_wait}
 use Rattle.reply_rows.proofs.Joined.{made_refusal}
@@ -115,8 +115,8 @@ module _ (all : AllRows) (from : ℕ) (d : List Deed) (sound : IsSound d) (reque
     stores = subst (λ (x : List Done). AreStored all from d step.stores x (landed d request n text openings).deeds) (sym deeds)
         (placed, (none_land (model.Land land ∷ d) done later follows.2 later_none, later_none));
     reads =
-        let P : List (List ℕ) → Type 0 = λ contents. StandAt all d contents step.reads in
-        let Q : List Spot → Type 0 = λ spots. StandAt all d [] spots in
+        let P : List (List ℕ) → Type 0 = λ contents. ComeFrom all d contents step.reads in
+        let Q : List RowContent → Type 0 = λ places. ComeFrom all d [] places in
         subst P (sym (none_told (landed d request n text openings).rows bare)) (subst Q (sym reads) tt);
   }
     where

@@ -8,8 +8,8 @@ use Rattle.depot_rows.specs.depot_model.Steps.Submitting.{entry_of}
 use Rattle.depot_rows.specs.Deed.{AreEntries}
 use Rattle.depot_rows.specs.declared.deed.Stored.{Stored}
 use Rattle.step_stores.specs.Stored.{ArePlaced}
-use Rattle.submit_core.specs.declared.content.Found.{Found}
-use Rattle.submit_core.specs.declared.content.Found.TheVariants.{Old, Block, Absent}
+use Rattle.file_contents.specs.declared.content.Found.{Found}
+use Rattle.file_contents.specs.declared.content.Found.TheVariants.{Old, Block, Absent}
 use Rattle.submit_core.specs.declared.entries.Files.{Files}
 
 -- the bytes of contents

@@ -1,7 +1,4 @@
 pub mod Owed
-pub mod Contents
-pub mod Blocks
-pub mod Content
 pub mod Premises
 pub mod Refusals
 pub mod Entries

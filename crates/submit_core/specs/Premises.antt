@@ -11,8 +11,8 @@ use Rattle.depot_rows.specs.Standing.{HasRows}
 use Rattle.depot_rows.specs.declared.deed.Opening.{Opening}
 use Rattle.named_files.specs.Asked.{IsAsker}
 use Rattle.named_files.specs.declared.asker.Asker.{Asker}
-use Rattle.submit_core.specs.Blocks.{AreBlocks}
-use Rattle.submit_core.specs.declared.blocks.Blocks.{Blocks}
+use Rattle.file_contents.specs.Blocks.{AreBlocks}
+use Rattle.file_contents.specs.declared.blocks.Blocks.{Blocks}
 
 -- the asker and the blocks are those of the request, and the rows are the depot's
 pub record Reads (all : AllRows) (d : List Deed) (request : Request) (asker : Asker) (blocks : Blocks) : Type 0 where

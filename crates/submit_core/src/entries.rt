@@ -13,8 +13,6 @@ ghost use Rattle.submit_core.specs.Entries.{AreFiles, block_stored, content_in, 
 ghost use Rattle.submit_core.specs.Premises.{AreOpened, IsOpened, Reads};
 ghost use Rattle.depot_rows.specs.table_changes.Changed.{rows_of};
 
-use crate::blocks::Blocks;
-use crate::content::{Found, content_of};
 use crate::credits::credits_of;
 use crate::refusals::is_moved_with;
 use archive_file::digest;
@@ -22,6 +20,7 @@ use depot_rows::paths::{DepotPath, Sequence, Text};
 use depot_rows::records::Spot;
 use depot_rows::tables::Tables;
 use depot_rows::{Action, Credit, Entry, How, Opening, Source, Stored};
+use file_contents::{Blocks, Found, content_of};
 use named_files::Asker;
 use revision_reads::head_of;
 use std::alloc::{AllocError, Global};

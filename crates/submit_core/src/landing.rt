@@ -13,13 +13,13 @@ ghost use Rattle.sound_landing.specs.Following.{AreTold};
 ghost use Rattle.submit_core.specs.Landing.{dropped_by, ends_of, had_then, row_of_entry};
 ghost use Rattle.depot_rows.specs.table_changes.Changed.{rows_of};
 
-use crate::content::is_live_action;
 use crate::fixes::close_jobs;
 use deed_list::Deeds;
 use depot_rows::model::{Request, Row};
 use depot_rows::paths::{DepotPath, Name, Sequence, Text};
 use depot_rows::tables::Tables;
 use depot_rows::{Action, Entry, Landing};
+use file_contents::is_live_action;
 use opening_reads::held;
 use reply_rows::RowBuilder;
 use std::alloc::{AllocError, Global};

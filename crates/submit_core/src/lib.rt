@@ -4,9 +4,6 @@
 //! walk over the opened files of all clients, and the jobs that the change fixes by one over all fixes.
 #![tactic(auto)]
 
-mod blocks;
-mod content;
-mod contents;
 mod credits;
 mod entries;
 mod fixes;
@@ -16,6 +13,5 @@ mod openings;
 mod refusals;
 mod submitting;
 
-pub use contents::rows_tell_contents;
 pub use credits::credits_of;
 pub use submitting::{submit_change, submit_default};

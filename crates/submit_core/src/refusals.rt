@@ -22,13 +22,12 @@ ghost use Rattle.submit_core.specs.Premises.{AreOpened, IsOpened, Reads};
 ghost use Rattle.submit_core.specs.Refusals.{in_same_change, later_refusals, locked_by, sooner_refusals};
 ghost use Rattle.depot_rows.specs.table_changes.Changed.{rows_of};
 
-use crate::blocks::Blocks;
-use crate::content::{content_of, is_live_action};
 use depot_rows::Opening;
 use depot_rows::model::Row;
 use depot_rows::paths::{DepotPath, Name};
 use depot_rows::protections::Level;
 use depot_rows::tables::Tables;
+use file_contents::{Blocks, lacks_content};
 use named_files::Asker;
 use opening_reads::{opening_by, owes_resolve};
 use reply_rows::{
@@ -174,23 +173,6 @@ fn move_refusal(
         }
         None => Ok(None),
     }
-}
-
-/// Whether a file lacks its content.
-fn lacks_content(
-    alloc: Global,
-    tables: &Tables,
-    asker: &Asker,
-    blocks: &Blocks,
-    opening: &Opening,
-) -> Result<bool, AllocError>
-    ensures { IfOk result (λ lacks. (d : List Deed) (request : AnyRequest) → Reads (rows_of tables.now) d request asker.now blocks.now → opening.now.client ≡ request.caller.client →
-        lacks ≡ model.lacks_content d request (opening_said opening.now)) }
-{
-    let found = content_of(alloc, tables, asker, blocks, opening)?;
-    let lacks = is_live_action(opening.action) && found.is_absent();
-    drop(found);
-    Ok(lacks)
 }
 
 /// The row where a file lacks its content.

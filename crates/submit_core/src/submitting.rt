@@ -24,7 +24,6 @@ ghost use Rattle.submit_core.specs.Premises.{AreOpened, Reads};
 ghost use Rattle.submit_core.specs.Submitting.{HasSubmitted, IsAsked, front_refusals, last_refusals, submit_refusals};
 ghost use Rattle.depot_rows.specs.table_changes.Changed.{rows_of};
 
-use crate::blocks::Blocks;
 use crate::entries::{Files, files_of};
 use crate::landing::{all_deeds, landed_rows, landing_of, later_deeds};
 use crate::numbers::landing_number;
@@ -36,6 +35,7 @@ use depot_rows::model::{Limit, Request, Row};
 use depot_rows::paths::{Sequence, Text};
 use depot_rows::records::ChangeRecord;
 use depot_rows::tables::Tables;
+use file_contents::Blocks;
 use named_files::Asker;
 use reply_rows::{Step, empty_change_row, limit_row};
 use revision_reads::change_of;

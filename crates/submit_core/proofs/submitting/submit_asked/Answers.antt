@@ -2,7 +2,7 @@ use Rattle.std.proofs.Common.{List, sym, ap, subst, ◌∙◌, map}
 use Rattle.depot_rows.specs.depot_model.declared.request.Content.{Content}
 use Rattle.depot_rows.specs.Deed.{opening_of}
 use Rattle.depot_rows.specs.declared.deed.Opening.{Opening}
-use Rattle.submit_core.specs.Blocks.{AreBlocks}
+use Rattle.file_contents.specs.Blocks.{AreBlocks}
 use Rattle.submit_core.specs.Premises.{AreOpened}
 use Rattle.submit_core.proofs.Ending.{are_opened}
 use Rattle.submit_core.proofs.submitting.submit_asked.Goals as goal

@@ -7,8 +7,8 @@ use Rattle.depot_rows.specs.table_changes.Changed.{AllRows}
 use Rattle.depot_rows.specs.depot_model.Deeds.{Deed}
 use Rattle.depot_rows.specs.depot_model.Records.{digest}
 use Rattle.reply_rows.specs.Made.{IsSpotOf}
-use Rattle.submit_core.specs.declared.content.Found.{Found}
-use Rattle.submit_core.specs.declared.content.Found.TheVariants.{Old, Block, Absent}
+use Rattle.file_contents.specs.declared.content.Found.{Found}
+use Rattle.file_contents.specs.declared.content.Found.TheVariants.{Old, Block, Absent}
 
 -- a revision's content with its digest, a block, or none
 abbrev pub IsFound : AllRows → List Deed → Found → Option (List ℕ) → Type 0

@@ -4,9 +4,9 @@ use Rattle.std.specs.Option.{option_copied, option_or}
 use Rattle.depot_rows.specs.table_changes.Changed.{rows_of}
 use Rattle.depot_rows.specs.depot_model.Steps.Submitting.{block_of, source_content}
 use Rattle.depot_rows.specs.Deed.{opening_of}
-use Rattle.submit_core.specs.declared.content.Found.TheVariants.{Block}
-use Rattle.submit_core.proofs.Finding.{is_first, is_other}
-use Rattle.submit_core.proofs.content.moved_content.Goals as goal
+use Rattle.file_contents.specs.declared.content.Found.TheVariants.{Block}
+use Rattle.file_contents.proofs.Finding.{is_first, is_other}
+use Rattle.file_contents.proofs.content.moved_content.Goals as goal
 
 pub returns-in-Some : goal.returns-in-Some
 returns-in-Some c = λ d request sound has asked are client.

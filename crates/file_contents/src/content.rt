@@ -1,4 +1,4 @@
-//! The content of a file that is submitted.
+//! The content of an opened file.
 
 ghost use Rattle.std.specs.Prelude.{◌≡◌, List, ℕ, IfOk, option_and_then};
 ghost use Rattle.std.specs.Option.{option_copied, option_or};
@@ -13,8 +13,8 @@ ghost use Rattle.depot_rows.specs.depot_model.Steps.Submitting as model;
 ghost use Rattle.depot_rows.specs.Deed.{action_of, opening_of};
 ghost use Rattle.depot_rows.specs.Standing.{HasRows};
 ghost use Rattle.named_files.specs.Asked.{IsAsker};
-ghost use Rattle.submit_core.specs.Blocks.{AreBlocks};
-ghost use Rattle.submit_core.specs.Content.{IsFound, found_in_row, is_absent as absent_test};
+ghost use Rattle.file_contents.specs.Blocks.{AreBlocks};
+ghost use Rattle.file_contents.specs.Content.{IsFound, found_in_row, is_absent as absent_test};
 ghost use Rattle.depot_rows.specs.table_changes.Changed.{rows_of};
 
 use crate::blocks::Blocks;
@@ -27,7 +27,7 @@ use std::alloc::{AllocError, Global};
 
 /// Where the content of a file comes from.
 #[derive(Drop)]
-pub(crate) enum Found<'a> {
+pub enum Found<'a> {
     /// From a revision, whose content stands in the archive.
     Old(Stored),
     /// From the session.
@@ -38,7 +38,7 @@ pub(crate) enum Found<'a> {
 
 impl<'a> Found<'a> {
     /// Whether there is none.
-    pub(crate) fn is_absent(&self) -> bool
+    pub fn is_absent(&self) -> bool
         ensures { result ≡ absent_test self.now }
     {
         match self {
@@ -109,7 +109,7 @@ fn content_at<'a>(
 }
 
 /// The content of the source of an opened file.
-fn source_content<'a>(
+pub(crate) fn source_content<'a>(
     alloc: Global,
     tables: &Tables,
     opening: &Opening,
@@ -127,7 +127,7 @@ fn source_content<'a>(
 }
 
 /// The block of the session for a file.
-fn block_of<'a>(
+pub(crate) fn block_of<'a>(
     alloc: Global,
     asker: &Asker,
     blocks: &Blocks<'a>,
@@ -231,7 +231,7 @@ fn own_content<'a>(
 }
 
 /// Whether a revision by this action has a content.
-pub(crate) fn is_live_action(action: Action) -> bool
+pub fn is_live_action(action: Action) -> bool
     ensures { result ≡ live_action (action_of action) }
 {
     match action {
@@ -262,7 +262,7 @@ fn is_moved_in(opening: &Opening) -> bool
 }
 
 /// The content that an opened file is submitted with, from the table of revisions alone. The one error is want of memory.
-pub(crate) fn content_of<'a>(
+pub fn content_of<'a>(
     alloc: Global,
     tables: &Tables,
     asker: &Asker,
@@ -282,4 +282,22 @@ pub(crate) fn content_of<'a>(
     }
     let found = own_content(alloc, tables, asker, blocks, opening)?;
     Ok(found)
+}
+
+/// Whether an opened file lacks its content (Command-Line Reference, "p4 submit"), from the table of revisions alone. The one error is want of memory.
+pub fn lacks_content(
+    alloc: Global,
+    tables: &Tables,
+    asker: &Asker,
+    blocks: &Blocks,
+    opening: &Opening,
+) -> Result<bool, AllocError>
+    ensures { IfOk result (λ lacks. (d : List Deed) (request : AnyRequest) → IsSound d → HasRows (rows_of tables.now) d table_ids.Rev → IsAsker d request.caller asker.now →
+        AreBlocks request.contents blocks.now → opening.now.client ≡ request.caller.client →
+        lacks ≡ model.lacks_content d request (opening_of opening.now)) }
+{
+    let found = content_of(alloc, tables, asker, blocks, opening)?;
+    let lacks = is_live_action(opening.action) && found.is_absent();
+    drop(found);
+    Ok(lacks)
 }

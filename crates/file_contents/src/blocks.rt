@@ -5,7 +5,7 @@ ghost use Rattle.std.specs.Option.{option_copied, option_or};
 ghost use Rattle.depot_rows.specs.depot_path.Bytes.{same};
 ghost use Rattle.depot_rows.specs.depot_model.Steps.Submitting.{block_at};
 ghost use Rattle.indexmap.specs.IndexMap.{get};
-ghost use Rattle.submit_core.specs.Blocks.{AreBlocks};
+ghost use Rattle.file_contents.specs.Blocks.{AreBlocks};
 
 use depot_rows::model::Content;
 use depot_rows::paths::{ClientPath, Text};
@@ -14,7 +14,7 @@ use std::alloc::{AllocError, Global};
 
 /// The contents that a session gives, by the paths of their files in the client workspace.
 #[derive(Drop)]
-pub(crate) struct Blocks<'a> {
+pub struct Blocks<'a> {
     by_path: IndexMap<ClientPath, &'a Text>,
 }
 
@@ -43,7 +43,7 @@ fn add_block<'a>(
 
 impl<'a> Blocks<'a> {
     /// The first content of each path. The one error is want of memory.
-    pub(crate) fn of(alloc: Global, contents: &'a [Content]) -> Result<Blocks<'a>, AllocError>
+    pub fn of(alloc: Global, contents: &'a [Content]) -> Result<Blocks<'a>, AllocError>
         ensures { IfOk result (λ blocks. AreBlocks contents.now blocks) }
     {
         let mut by_path = IndexMap::new(alloc);

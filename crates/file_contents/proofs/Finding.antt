@@ -17,11 +17,11 @@ use Rattle.depot_rows.specs.depot_model.Rules.{IsSound}
 use Rattle.depot_rows.specs.depot_model.Steps.Submitting.{content_at}
 use Rattle.depot_rows.specs.Standing.{HasRows}
 use Rattle.reply_rows.specs.Made.{IsSpotOf}
-use Rattle.submit_core.specs.Content.{IsFound, found_in_row, is_absent}
-use Rattle.submit_core.specs.Contents.{TellsContent}
-use Rattle.submit_core.specs.declared.content.Found.{Found}
-use Rattle.submit_core.specs.declared.content.Found.TheVariants.{Old, Block, Absent}
-use Rattle.submit_core.proofs.ContentRows.{said, told, untold}
+use Rattle.file_contents.specs.Content.{IsFound, found_in_row, is_absent}
+use Rattle.file_contents.specs.Contents.{TellsContent}
+use Rattle.file_contents.specs.declared.content.Found.{Found}
+use Rattle.file_contents.specs.declared.content.Found.TheVariants.{Old, Block, Absent}
+use Rattle.file_contents.proofs.ContentRows.{said, told, untold}
 
 abbrev is_rev : Record → Bool
 is_rev (records.Rev r) = true

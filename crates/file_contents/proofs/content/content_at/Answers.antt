@@ -6,10 +6,10 @@ use Rattle.depot_rows.specs.db_records.declared.table.TableId.TheVariants as tab
 use Rattle.depot_rows.specs.table_store.Rows.{TableRows, row_at}
 use Rattle.depot_rows.specs.table_changes.Changed.{rows_of}
 use Rattle.depot_rows.specs.depot_model.Steps.Submitting.{content_at}
-use Rattle.submit_core.specs.Content.{IsFound, found_in_row}
-use Rattle.submit_core.specs.declared.content.Found.{Found}
-use Rattle.submit_core.proofs.Finding.{found}
-use Rattle.submit_core.proofs.content.content_at.Goals as goal
+use Rattle.file_contents.specs.Content.{IsFound, found_in_row}
+use Rattle.file_contents.specs.declared.content.Found.{Found}
+use Rattle.file_contents.proofs.Finding.{found}
+use Rattle.file_contents.proofs.content.content_at.Goals as goal
 
 pub returns : goal.returns
 returns c = λ d sound has.

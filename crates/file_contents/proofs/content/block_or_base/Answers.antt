@@ -2,9 +2,9 @@ use Rattle.std.proofs.Common.{◌≡◌, ℕ, List, None, refl, sym, ap, ◌∙�
 use Rattle.std.specs.Option.{option_copied}
 use Rattle.depot_rows.specs.table_changes.Changed.{rows_of}
 use Rattle.depot_rows.specs.depot_model.Steps.Submitting.{block_of, content_at}
-use Rattle.submit_core.specs.declared.content.Found.TheVariants.{Block}
-use Rattle.submit_core.proofs.Finding.{is_first, is_other}
-use Rattle.submit_core.proofs.content.block_or_base.Goals as goal
+use Rattle.file_contents.specs.declared.content.Found.TheVariants.{Block}
+use Rattle.file_contents.proofs.Finding.{is_first, is_other}
+use Rattle.file_contents.proofs.content.block_or_base.Goals as goal
 
 pub returns-in-Some : goal.returns-in-Some
 returns-in-Some c = λ d request sound has asked are client.

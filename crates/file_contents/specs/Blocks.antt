@@ -5,7 +5,7 @@ use Rattle.depot_rows.specs.depot_path.Bytes.{same}
 use Rattle.indexmap.specs.IndexMap.{get}
 use Rattle.depot_rows.specs.depot_model.declared.request.Content.{Content}
 use Rattle.depot_rows.specs.depot_model.Steps.Submitting.{block_at}
-use Rattle.submit_core.specs.declared.blocks.Blocks.{Blocks}
+use Rattle.file_contents.specs.declared.blocks.Blocks.{Blocks}
 
 -- the map finds the first content of each path
 abbrev pub AreBlocks : List Content → Blocks → Type 0

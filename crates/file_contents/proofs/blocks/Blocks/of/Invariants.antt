@@ -3,7 +3,7 @@ use Rattle.std.specs.Option.{option_copied, option_or}
 use Rattle.depot_rows.specs.depot_path.Bytes.{same}
 use Rattle.depot_rows.specs.depot_model.Steps.Submitting.{block_at}
 use Rattle.indexmap.specs.IndexMap.{get}
-use Rattle.submit_core.proofs.blocks.Blocks.of.Given as goal
+use Rattle.file_contents.proofs.blocks.Blocks.of.Given as goal
 
 abbrev pub invariant-loop-content : goal.invariant-loop-content
 invariant-loop-content l =

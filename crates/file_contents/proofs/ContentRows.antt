@@ -24,7 +24,7 @@ use Rattle.depot_rows.proofs.Entries.{In, of_path}
 use Rattle.depot_rows.proofs.Keys.{left-true, right-true}
 use Rattle.sound_landing.proofs.Listed.{in_append, in_filter, in_map, get_in}
 use Rattle.sound_landing.proofs.NewRevisions.{at_read}
-use Rattle.submit_core.specs.Contents.{TellsContent}
+use Rattle.file_contents.specs.Contents.{TellsContent}
 
 some-is : {A : Type 0} {x y : A} → Some x ≡ Some y → x ≡ y
 some-is e = cc

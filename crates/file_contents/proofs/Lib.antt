@@ -1,0 +1,4 @@
+pub mod ContentRows
+pub mod Finding
+pub mod Blocking
+pub mod Giving
