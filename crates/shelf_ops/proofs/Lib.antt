@@ -5,5 +5,7 @@ pub mod Limited
 pub mod Listed
 pub mod Saving
 pub mod Shelf
+pub mod Shelved
 pub mod Sifted
+pub mod Unshelved
 pub mod Walking

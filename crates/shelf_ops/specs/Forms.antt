@@ -1,11 +1,22 @@
--- The texts of the forms of shelved files (Command-Line Reference, on specs and their forms).
-use Rattle.std.specs.Prelude.{ℕ, List, ◌++◌, codes, decimal}
-use Rattle.depot_rows.specs.depot_path.Path.{printed}
+-- The texts of the forms of shelved files, whose fields are single ones (Command-Line Reference, on specs and their forms).
+use Rattle.std.specs.Prelude.{ℕ, List, [], ◌∷◌, codes, decimal, Some}
+use Rattle.std.specs.List.{flat_map}
+use Rattle.depot_rows.specs.spec_form.declared.form.Field.{Field}
+use Rattle.depot_rows.specs.spec_form.declared.shape.FieldKind.TheVariants.{Single}
+use Rattle.depot_rows.specs.spec_form.Printing.{printed_as}
+use Rattle.depot_rows.specs.depot_model.declared.request.Caller.{Caller}
+use Rattle.depot_rows.specs.depot_model.Deeds.{Opening}
+use Rattle.depot_rows.specs.depot_model.Rows.{action_word}
+use Rattle.depot_rows.specs.depot_model.Values.{valued}
 
--- a single field with a value
-abbrev pub field_text : List ℕ → List ℕ → List ℕ
-field_text name value = name ++ codes ":\t" ++ value ++ codes "\n\n"
+-- single fields one after another
+abbrev pub fields_text : List Field → List ℕ
+fields_text fields = flat_map (printed_as (Some Single)) fields
 
--- a file that is gone
-abbrev pub gone_text : ℕ → List ℕ → List ℕ
-gone_text n path = (field_text (codes "Path") (printed path) ++ field_text (codes "Change") (decimal n)) ++ field_text (codes "State") (codes "gone")
+-- who keeps a file, and that it is kept
+abbrev pub owner_fields : Caller → List Field
+owner_fields caller = valued (codes "Client") caller.client ∷ valued (codes "User") caller.user ∷ valued (codes "State") (codes "kept") ∷ []
+
+-- what a file is opened for, as what, and from where
+abbrev pub opened_fields : Opening → List Field
+opened_fields o = valued (codes "Action") (action_word o.action) ∷ valued (codes "Type") o.file_type ∷ valued (codes "Base") (decimal o.base) ∷ []

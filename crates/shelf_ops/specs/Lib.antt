@@ -4,4 +4,6 @@ pub mod Kept
 pub mod Removed
 pub mod Sets
 pub mod ShelfRows
+pub mod Shelved
 pub mod Sizes
+pub mod Unshelved

@@ -7,10 +7,17 @@
 mod describing;
 mod forms;
 mod keeping;
+mod kept_heads;
+mod kept_openings;
 mod kept_set;
 mod limits;
+mod opened_heads;
 mod removing;
 mod shelf_rows;
+mod shelving;
+mod unshelving;
 
 pub use describing::describe_shelved;
 pub use removing::shelve_delete;
+pub use shelving::shelve;
+pub use unshelving::unshelve;

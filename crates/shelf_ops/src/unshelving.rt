@@ -1,0 +1,367 @@
+//! `unshelve` (Command-Line Reference, "p4 unshelve").
+
+ghost use Rattle.std.specs.Prelude.{◌≡◌, ◌++◌, ◌∷◌, [], true, List, IfOk, OnOk, Some, option_map};
+ghost use Rattle.std.specs.List.{list_all};
+ghost use Rattle.std.specs.Option.{option_copied};
+ghost use Rattle.depot_rows.specs.db_records.declared.table.TableId.TheVariants as table_ids;
+ghost use Rattle.depot_rows.specs.table_changes.Changed.{AllRows, rows_of};
+ghost use Rattle.depot_rows.specs.depot_model.Deeds.{Deed as ModelDeed};
+ghost use Rattle.depot_rows.specs.depot_model.Refusals.{refusal_row};
+ghost use Rattle.depot_rows.specs.depot_model.Rules.{IsSound};
+ghost use Rattle.depot_rows.specs.depot_model.Shelves.{kept, kept_block as block_of_form, kept_opening as opening_of_form};
+ghost use Rattle.depot_rows.specs.depot_model.Step.{unless};
+ghost use Rattle.depot_rows.specs.depot_model.Steps.Shelving as model;
+ghost use Rattle.depot_rows.specs.depot_model.WellFormed.{asks_head};
+ghost use Rattle.depot_rows.specs.Deed.{opening_of as opening_of_deed, source_of as source_of_deed};
+ghost use Rattle.depot_rows.specs.Standing.{HasRows};
+ghost use Rattle.reply_rows.specs.Made.{IsMade, waiting};
+ghost use Rattle.shelf_ops.specs.Unshelved.{UnshelvingReads, given_block, kept_refusal, opened_refusal as refusal_of_opened, opens_kept, opens_waiting, shown_refusal as refusal_of_shown, unshelved_at, unshelving as unshelving_in};
+
+use crate::keeping::{kept_form, listable_files};
+use crate::kept_heads::KeptHeads;
+use crate::kept_openings::{kept_block, kept_opening};
+use command_parts::named_change_refusal;
+use depot_rows::forms::Form;
+use depot_rows::model::{Caller, Field, FileArgument, Row};
+use depot_rows::paths::{ClientPath, DepotPath, Sequence, Text, Wanted};
+use depot_rows::protections::Level;
+use depot_rows::tables::Tables;
+use depot_rows::{Opening, Source};
+use file_openings::opening_of;
+use file_steps::{FileAct, over_all, within_files};
+use named_files::Asker;
+use opened_files::{exclusive_refusal, opening_row, right_refusal, unseen_row};
+use reply_rows::{RowContent, Step, already_open_row, no_shelf_row, number_field, path_field};
+use revision_reads::shown_of;
+use std::alloc::{AllocError, Global};
+
+/// What `unshelve` does with a file.
+#[derive(Drop)]
+struct Unshelving<'a> {
+    caller: &'a Caller,
+    asker: &'a Asker,
+    shelved: u32,
+    /// The change in which files are opened, 0 for the default one.
+    change: u32,
+}
+
+/// Adds the fields of the revision whose content a submit takes, where there is one.
+fn push_source(
+    alloc: Global,
+    fields: &mut Sequence<Field>,
+    source: &Option<Source>,
+) -> Result<(), AllocError>
+    ensures { OnOk result (fields.new ≡ fields.old ++ model.from_fields (option_map source_of_deed source.now)) }
+{
+    match source {
+        Some(source) => {
+            fields.push(path_field(alloc, b"fromFile", &source.path)?)?;
+            fields.push(number_field(alloc, b"fromRev", u64::from(source.rev))?)?;
+            Ok(())
+        }
+        None => Ok(()),
+    }
+}
+
+/// The text in the place of a content for which a row waits, where there is one.
+fn awaited(alloc: Global, block: &Option<Text>) -> Option<Text>
+    ensures { result ≡ option_map (λ _. []) block.now }
+{
+    match block {
+        Some(_) => Some(Text::new(alloc)),
+        None => None,
+    }
+}
+
+/// The row of a file that is opened, which waits for its content where there is a block.
+fn unshelved_row(
+    alloc: Global,
+    opening: &Opening,
+    place: Option<&ClientPath>,
+    block: &Option<Text>,
+) -> Result<Row, AllocError>
+    ensures { IfOk result (λ row. row ≡ waiting (unshelved_at (opening_of_deed opening.now) (option_copied place.entry) block.now)) }
+{
+    let mut row = opening_row(alloc, opening, place)?;
+    push_source(alloc, &mut row.fields, &opening.source)?;
+    row.content = awaited(alloc, block);
+    Ok(row)
+}
+
+/// Adds that the content of a row is a block, where there is one.
+fn push_given(reads: &mut Sequence<RowContent>, block: Option<Text>) -> Result<(), AllocError>
+    ensures { OnOk result (reads.new ≡ reads.old ++ given_block block) }
+{
+    match block {
+        Some(block) => {
+            reads.push(RowContent::Given(block))?;
+            Ok(())
+        }
+        None => Ok(()),
+    }
+}
+
+/// The step that opens a file, whose row waits for a block where there is one.
+fn opens(alloc: Global, opening: Opening, row: Row, block: Option<Text>) -> Result<Step, AllocError>
+    ensures { IfOk result (λ step. step ≡ opens_waiting opening row block) }
+{
+    let mut step = Step::opens(alloc, opening, row)?;
+    push_given(&mut step.reads, block)?;
+    Ok(step)
+}
+
+/// The step that opens a file which the client shows at a place, with the block of its content where there is one.
+fn open_kept(
+    alloc: Global,
+    opening: Opening,
+    place: Option<&ClientPath>,
+    block: Option<Text>,
+) -> Result<Step, AllocError>
+    ensures { IfOk result (λ step. (all : AllRows) (d e : List ModelDeed) →
+        IsMade all d e (opens_kept (opening_of_deed opening) (option_copied place.entry) block) step) }
+{
+    // the bytes of a path are one
+    let _bytes = opening.path.as_bytes();
+    let row = unshelved_row(alloc, &opening, place, &block)?;
+    let step = opens(alloc, opening, row, block)?;
+    Ok(step)
+}
+
+/// The row that refuses a file that the client has opened, or that another one has opened alone.
+fn opened_refusal(
+    alloc: Global,
+    tables: &Tables,
+    caller: &Caller,
+    opening: &Opening,
+) -> Result<Option<Row>, AllocError>
+    ensures { IfOk result (λ row. (d : List ModelDeed) → IsSound d → HasRows (rows_of tables.now) d table_ids.Working →
+        row ≡ option_map refusal_row (refusal_of_opened d caller.now (opening_of_deed opening.now))) }
+{
+    let found = opening_of(alloc, tables, &caller.client, &opening.path)?;
+    match found {
+        Some(_) => {
+            let row = already_open_row(alloc, &opening.path)?;
+            Ok(Some(row))
+        }
+        None => {
+            let row = exclusive_refusal(
+                alloc,
+                tables,
+                &opening.path,
+                &caller.client,
+                &opening.file_type,
+            )?;
+            Ok(row)
+        }
+    }
+}
+
+/// The same of a file that the client shows at a place, or that it doesn't show.
+fn shown_refusal(
+    alloc: Global,
+    tables: &Tables,
+    caller: &Caller,
+    opening: &Opening,
+    place: Option<&ClientPath>,
+) -> Result<Option<Row>, AllocError>
+    ensures { IfOk result (λ row. (d : List ModelDeed) → IsSound d → HasRows (rows_of tables.now) d table_ids.Working →
+        row ≡ option_map refusal_row (refusal_of_shown d caller.now (opening_of_deed opening.now) (option_copied place.entry))) }
+{
+    match place {
+        Some(_) => {
+            let row = opened_refusal(alloc, tables, caller, opening)?;
+            Ok(row)
+        }
+        None => {
+            let row = unseen_row(alloc, &opening.path)?;
+            Ok(Some(row))
+        }
+    }
+}
+
+impl<'a> Unshelving<'a> {
+    /// The row that refuses a file, which the client shows at a place if there is one.
+    fn refusal(
+        &self,
+        alloc: Global,
+        tables: &Tables,
+        opening: &Opening,
+        place: Option<&ClientPath>,
+    ) -> Result<Option<Row>, AllocError>
+        ensures { IfOk result (λ row. (d : List ModelDeed) → UnshelvingReads self.now.caller.now self.now.asker.now (rows_of tables.now) d →
+            row ≡ option_map refusal_row (kept_refusal d self.now.caller.now (opening_of_deed opening.now) (option_copied place.entry))) }
+    {
+        let denied = right_refusal(alloc, self.asker, &opening.path, Level(3))?;
+        match denied {
+            Some(row) => Ok(Some(row)),
+            None => {
+                let row = shown_refusal(alloc, tables, self.caller, opening, place)?;
+                Ok(row)
+            }
+        }
+    }
+
+    /// What is done with a file that is to be opened so, with the block of its content where there is one.
+    fn unshelve_opening(
+        &self,
+        alloc: Global,
+        tables: &Tables,
+        opening: Opening,
+        block: Option<Text>,
+    ) -> Result<Step, AllocError>
+        ensures { IfOk result (λ step. (d e : List ModelDeed) → UnshelvingReads self.now.caller.now self.now.asker.now (rows_of tables.now) d →
+            IsMade (rows_of tables.now) d e (model.unshelve_opening d self.now.caller.now (opening_of_deed opening) block) step) }
+    {
+        let place = shown_of(alloc, tables, self.caller, &opening.path, &Wanted::Head)?;
+        let refusal = self.refusal(alloc, tables, &opening, place.as_ref())?;
+        match refusal {
+            Some(row) => {
+                let step = Step::tells(alloc, row)?;
+                Ok(step)
+            }
+            None => {
+                let step = open_kept(alloc, opening, place.as_ref(), block)?;
+                Ok(step)
+            }
+        }
+    }
+
+    /// What is done with a file that is kept, by its form.
+    fn unshelve_form(
+        &self,
+        alloc: Global,
+        tables: &Tables,
+        path: &DepotPath,
+        form: &Form,
+    ) -> Result<Step, AllocError>
+        ensures { IfOk result (λ step. (d e : List ModelDeed) → UnshelvingReads self.now.caller.now self.now.asker.now (rows_of tables.now) d →
+            kept d self.now.shelved path.now ≡ Some form.now →
+            IsMade (rows_of tables.now) d e
+            (model.unshelve_opening d self.now.caller.now (opening_of_form self.now.caller.now self.now.change path.now form.now) (block_of_form form.now)) step) }
+    {
+        let block = kept_block(alloc, form)?;
+        let opening = kept_opening(alloc, self.caller, self.change, path, form)?;
+        let step = self.unshelve_opening(alloc, tables, opening, block)?;
+        Ok(step)
+    }
+}
+
+impl<'a> FileAct for Unshelving<'a> {
+    ghost use Rattle.depot_rows.specs.depot_model.Steps.Shelving.{unshelve_file};
+    ghost use Rattle.shelf_ops.specs.Unshelved.{UnshelvingReads};
+
+    ghost reads = { λ act rows d. UnshelvingReads act.caller.now act.asker.now rows d };
+
+    ghost acts = { λ act d argument path. unshelve_file d act.caller.now act.shelved act.change path };
+
+    ghost is_later = { λ act d e. Unit {0} };
+
+    fn act(
+        &self,
+        alloc: Global,
+        tables: &Tables,
+        _argument: &FileArgument,
+        path: &DepotPath,
+    ) -> Result<Step, AllocError> {
+        let found = kept_form(alloc, tables, self.shelved, path)?;
+        match found {
+            Some(form) => {
+                let step = self.unshelve_form(alloc, tables, path, &form)?;
+                Ok(step)
+            }
+            None => Ok(Step::new(alloc)),
+        }
+    }
+
+    ghost first = { λ act d. tt };
+
+    ghost next = { λ act d e argument path later. tt };
+}
+
+/// What `unshelve` does with files, which it opens in a change, 0 for the default one.
+fn unshelve_files(
+    alloc: Global,
+    tables: &Tables,
+    caller: &Caller,
+    asker: &Asker,
+    shelved: u32,
+    change: u32,
+    arguments: &[FileArgument],
+) -> Result<Step, AllocError>
+    ensures { IfOk result (λ step. (d : List ModelDeed) → list_all asks_head arguments.now ≡ true → UnshelvingReads caller.now asker.now (rows_of tables.now) d →
+        IsMade (rows_of tables.now) d d (unshelving_in d caller.now shelved change arguments.now) step) }
+{
+    let files = KeptHeads {
+        caller,
+        asker,
+        change: shelved,
+    };
+    let act = Unshelving {
+        caller,
+        asker,
+        shelved,
+        change,
+    };
+    let done = over_all(alloc, tables, &files, &act, arguments)?;
+    let step = within_files(alloc, done)?;
+    Ok(step)
+}
+
+/// `unshelve` of an asker, where the change in which files are opened isn't refused.
+fn unshelve_asked(
+    alloc: Global,
+    tables: &Tables,
+    caller: &Caller,
+    asker: &Asker,
+    shelved: u32,
+    change: u32,
+    arguments: &[FileArgument],
+) -> Result<Step, AllocError>
+    ensures { IfOk result (λ step. (d : List ModelDeed) → list_all asks_head arguments.now ≡ true → UnshelvingReads caller.now asker.now (rows_of tables.now) d →
+        IsMade (rows_of tables.now) d d (unless (model.shelf_refusal d caller.now shelved ∷ []) (unshelving_in d caller.now shelved change arguments.now)) step) }
+{
+    let listable = listable_files(alloc, tables, asker, shelved)?;
+    let none = listable.is_empty();
+    drop(listable);
+    if none {
+        let row = no_shelf_row(alloc, shelved)?;
+        let refused = Step::tells(alloc, row)?;
+        return Ok(refused);
+    }
+    let step = unshelve_files(alloc, tables, caller, asker, shelved, change, arguments)?;
+    Ok(step)
+}
+
+/// `unshelve -s SHELVED [-c CHANGE] [FILE...]`: opens files as they were kept in a change, and prints their contents where blocks gave them. It is
+/// refused where the change in which it opens them isn't a pending one of the caller's user and client, or where the caller may list no file that is
+/// kept. It reads the tables of groups, protections, forms, opened files, changes and revisions alone, and of the forms of shelved files those of the
+/// change alone. The one error is want of memory.
+pub fn unshelve(
+    alloc: Global,
+    tables: &Tables,
+    caller: &Caller,
+    shelved: u32,
+    change: Option<u32>,
+    arguments: &[FileArgument],
+) -> Result<Step, AllocError>
+    ensures { IfOk result (λ step. (d : List ModelDeed) → list_all asks_head arguments.now ≡ true → IsSound d → HasRows (rows_of tables.now) d table_ids.Group →
+        HasRows (rows_of tables.now) d table_ids.Protect → HasRows (rows_of tables.now) d table_ids.Domain → HasRows (rows_of tables.now) d table_ids.Working →
+        HasRows (rows_of tables.now) d table_ids.Change → HasRows (rows_of tables.now) d table_ids.Rev →
+        IsMade (rows_of tables.now) d d (model.unshelve d caller.now shelved change arguments.now) step) }
+{
+    let refusal = named_change_refusal(alloc, tables, caller, change)?;
+    match refusal {
+        Some(row) => {
+            let step = Step::tells(alloc, row)?;
+            Ok(step)
+        }
+        None => {
+            let asker = Asker::of(alloc, tables, caller)?;
+            let number = change.unwrap_or(0);
+            let done = unshelve_asked(alloc, tables, caller, &asker, shelved, number, arguments);
+            drop(asker);
+            let step = done?;
+            Ok(step)
+        }
+    }
+}
