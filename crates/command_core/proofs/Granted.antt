@@ -1,16 +1,9 @@
 -- The step of a command is that of its first refusal, or else its own.
-use Rattle.std.proofs.Common.{◌≡◌, ℕ, Bool, true, false, List, [], ◌∷◌, ◌++◌, Option, Some, None, refl, sym, ap, ◌∙◌, subst}
-use Rattle.std.specs.Prelude.{if◌then◌else◌, option_map}
+use Rattle.std.proofs.Common.{◌≡◌, ℕ, List, [], ◌∷◌, Option, Some, None, sym, ◌∙◌, subst}
+use Rattle.std.specs.Prelude.{option_map}
 use Rattle.depot_rows.specs.table_changes.Changed.{AllRows}
-use Rattle.depot_rows.specs.depot_model.declared.command.Command.{Command}
 use Rattle.depot_rows.specs.depot_model.declared.refusal.Refusal.{Refusal}
-use Rattle.depot_rows.specs.depot_model.declared.refusal.Refusal.TheVariants.{Unbuilt}
 use Rattle.depot_rows.specs.depot_model.declared.reply.Row.{Row}
-use Rattle.depot_rows.specs.depot_model.declared.request.Request.{Request}
-use Rattle.depot_rows.specs.depot_model.About.{about}
-use Rattle.depot_runs.specs.Built.{is_built}
-use Rattle.depot_rows.specs.depot_model.Commands.{built_step, own_step}
-use Rattle.depot_rows.specs.depot_model.Common.{common_refusals, last_refusals}
 use Rattle.depot_rows.specs.depot_model.Deeds.{Deed}
 use Rattle.depot_rows.specs.depot_model.Refusals.{refusal_row}
 use Rattle.depot_rows.specs.depot_model.Step.{Step as ModelStep, unless, refuses}
@@ -35,14 +28,3 @@ pub granting : (all : AllRows) (from : ℕ) (d : List Deed) (tests : List (Optio
 granting all from d [] own step none is = is
 granting all from d (None ∷ tests) own step none is = granting all from d tests own step none is
 granting all from d (Some why ∷ tests) own step none is = absurd cc
-
--- a command that is built, and one that isn't
-module _ (d : List Deed) (request : Request) where
-  pub built_is : (command : Command) → is_built command ≡ true
-      → built_step is_built d request command ≡ unless (common_refusals d request.caller (about command) ++ last_refusals d command) (own_step d request command)
-  built_is command e = λ i. if e i then unless (common_refusals d request.caller (about command) ++ last_refusals d command) (own_step d request command)
-      else refuses (Unbuilt (about command).word)
-
-  pub unbuilt_is : (command : Command) → is_built command ≡ false → built_step is_built d request command ≡ refuses (Unbuilt (about command).word)
-  unbuilt_is command e = λ i. if e i then unless (common_refusals d request.caller (about command) ++ last_refusals d command) (own_step d request command)
-      else refuses (Unbuilt (about command).word)

@@ -1,3 +1,4 @@
+mod Families
 pub mod Storing
 pub mod Granted
 pub mod Locking

@@ -1,20 +1,17 @@
 -- Where a deed of a step locks a file, the command writes the table of opened files.
-use Rattle.std.proofs.Common.{◌≡◌, ℕ, Bool, true, false, List, [], ◌∷◌, Some, Result, Ok, Err, refl, sym, ap, ◌∙◌, subst}
+use Rattle.std.proofs.Common.{◌≡◌, ℕ, Bool, true, false, List, [], ◌∷◌, Some, Result, Ok, Err, refl, sym, ap, ◌∙◌}
 use Rattle.std.specs.Prelude.{◌||◌, ◌&&◌, IsTrue}
 use Rattle.std.specs.List.{list_any, list_all}
-use Rattle.depot_rows.specs.db_records.Table.{table_number}
 use Rattle.depot_rows.specs.db_records.declared.table.TableId.TheVariants.{Working}
 use Rattle.depot_rows.specs.table_changes.Changed.{AllRows}
 use Rattle.depot_rows.specs.depot_model.declared.command.Command.{Command}
 use Rattle.depot_rows.specs.depot_model.declared.request.Request.{Request}
 use Rattle.depot_rows.specs.depot_model.declared.request.WordFault.{WordFault}
-use Rattle.depot_runs.specs.Built.{is_built}
-use Rattle.depot_rows.specs.depot_model.Commands.{built_step}
-use Rattle.depot_runs.specs.Today.{step}
+use Rattle.depot_rows.specs.depot_model.Commands.{step, whole_step}
 use Rattle.depot_rows.specs.depot_model.Common.{word_refusal}
 use Rattle.depot_rows.specs.depot_model.Deeds as model
 use Rattle.depot_rows.specs.depot_model.Step.{Step as ModelStep, refuses}
-use Rattle.depot_rows.specs.depot_model.Tables.{is_in, own_tables, touches, writes}
+use Rattle.depot_rows.specs.depot_model.Tables.{is_in, own_tables, writes}
 use Rattle.depot_rows.specs.declared.deed.Deed.{Deed}
 use Rattle.depot_rows.specs.declared.deed.Deed.TheVariants.{Spec, Guard, Group, Count, Pend, Drop, Open, Shut, Hold, Free, Got, Tag, Owe, Paid, Land}
 use Rattle.depot_rows.specs.Deed.{IsDeed}
@@ -92,14 +89,14 @@ or_true false b e = e
 
 module _ (all : AllRows) (d : List model.Deed) (request : Request) where
   abbrev step_for : Result Command WordFault → ModelStep
-  step_for asked = elim asked [ Err fault ↦ refuses (word_refusal fault) | Ok command ↦ built_step is_built d request command ]
+  step_for asked = elim asked [ Err fault ↦ refuses (word_refusal fault) | Ok command ↦ whole_step d request command ]
 
   by_command : (command : Command) (dones : List Deed) → request.command ≡ Ok command → HasNeededBy all d (Ok command) → Follow d dones (step d request).deeds
       → IsTrue (list_any is_hold dones) → (written : Bool) → writes command 8 ≡ written → HasRows all d Working
   by_command command dones asked has follow held true e = has Working (or_true (is_in (1 ∷ 2 ∷ 3 ∷ (own_tables command).read) 8) (writes command 8) e)
   by_command command dones asked has follow held false e =
       absurd (let one : true ≡ false = sym held ∙ lock_alike d dones (step d request).deeds follow
-      ∙ none_locks (own_tables command).written e (step d request).deeds (step_stays is_built d request command asked).each in cc)
+      ∙ none_locks (own_tables command).written e (step d request).deeds (step_stays d request command asked).each in cc)
 
   by_words : (asked : Result Command WordFault) (dones : List Deed) → request.command ≡ asked → HasNeededBy all d asked → Follow d dones (step d request).deeds
       → IsTrue (list_any is_hold dones) → HasRows all d Working

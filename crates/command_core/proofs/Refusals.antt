@@ -1,5 +1,5 @@
 -- The first of the common refusals that holds.
-use Rattle.std.proofs.Common.{◌≡◌, ℕ, Bool, true, false, List, [], ◌∷◌, ◌++◌, Option, Some, None, length, take, drop, get_or, ◌≤◌, ◌<◌, ◌-◌, refl, sym, ap, ◌∙◌, arith}
+use Rattle.std.proofs.Common.{◌≡◌, ℕ, Bool, true, false, List, [], ◌∷◌, ◌++◌, Option, Some, None, length, take, drop, get_or, ◌≤◌, ◌<◌, ◌-◌, refl, ap, ◌∙◌, arith}
 use Rattle.std.specs.Prelude.{flat_map, not, option_map}
 use Rattle.std.proofs.lemmas.List.{take_all}
 use Rattle.depot_rows.specs.depot_model.declared.command.FileArgument.{FileArgument}

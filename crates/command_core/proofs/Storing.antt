@@ -1,5 +1,5 @@
 -- What a step stores: a command that is no submit lands nothing, so that it stores nothing.
-use Rattle.std.proofs.Common.{◌≡◌, ℕ, Bool, true, false, List, [], ◌∷◌, refl}
+use Rattle.std.proofs.Common.{◌≡◌, ℕ, true, false, List, [], ◌∷◌, refl}
 use Rattle.std.specs.Prelude.{◌&&◌}
 use Rattle.std.specs.List.{list_all}
 use Rattle.depot_rows.specs.table_changes.Changed.{AllRows}
@@ -12,7 +12,6 @@ use Rattle.depot_rows.specs.depot_model.declared.command.Command.{Command}
 use Rattle.depot_rows.specs.depot_model.declared.command.Command.TheVariants.{SubmitChange, SubmitDefault}
 use Rattle.depot_rows.specs.depot_model.declared.refusal.Refusal.{Refusal}
 use Rattle.depot_rows.specs.depot_model.declared.request.Request.{Request}
-use Rattle.depot_runs.specs.Built.{is_submit}
 use Rattle.depot_rows.specs.declared.deed.Deed.{Deed}
 use Rattle.depot_rows.specs.declared.deed.Deed.TheVariants as deeds
 use Rattle.depot_rows.proofs.Keys.{left-true, right-true}
@@ -22,6 +21,7 @@ use Rattle.step_stores.specs.Stored.{AreStored, IsStoring, NothingLands}
 use Rattle.step_stores.proofs.Storing.{made_stores}
 use Rattle.step_tables.specs.DeedTables.{stays_in}
 use Rattle.step_tables.proofs.Whole.{own_stays}
+use Rattle.command_core.specs.Families.{is_submit}
 
 -- a refusal stores nothing
 pub refuses_storing : (all : AllRows) (from : ℕ) (d : List model.Deed) (why : Refusal) → IsStoring all from d (refuses why) (told (refusal_row why ∷ []))

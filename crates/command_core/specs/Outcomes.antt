@@ -8,7 +8,7 @@ use Rattle.depot_rows.specs.table_changes.Changed.{AllRows}
 use Rattle.depot_rows.specs.depot_model.declared.command.Command.{Command}
 use Rattle.depot_rows.specs.depot_model.declared.request.Request.{Request}
 use Rattle.depot_rows.specs.depot_model.declared.request.WordFault.{WordFault}
-use Rattle.depot_runs.specs.Today.{step}
+use Rattle.depot_rows.specs.depot_model.Commands.{step}
 use Rattle.depot_rows.specs.depot_model.Deeds.{Deed}
 use Rattle.depot_rows.specs.depot_model.Step.{Step as ModelStep, after}
 use Rattle.depot_rows.specs.depot_model.Tables.{touches}
@@ -17,7 +17,7 @@ use Rattle.depot_rows.specs.Standing.{HasRows}
 use Rattle.row_changes.specs.Differences.{AreDifferences}
 use Rattle.row_changes.specs.Locking.{is_hold}
 use Rattle.reply_rows.specs.declared.step.Step.{Step}
-use Rattle.reply_rows.specs.Made.{StandAt, contents_of, waiting}
+use Rattle.reply_rows.specs.Made.{ComeFrom, contents_of, waiting}
 use Rattle.step_stores.specs.Stored.{IsStoring, NothingLands}
 use Rattle.stored_contents.specs.Placed.{StandAfter}
 use Rattle.command_core.specs.declared.outcome.Outcome.{Outcome}
@@ -48,11 +48,11 @@ pub record IsStep (all : AllRows) (from : ℕ) (d : List Deed) (model : ModelSte
   pub is_made : IsStoring all from d model step
   pub opened : IsTrue (list_any is_hold step.deeds) → HasRows all d Working
 
--- The reply is the step's but for the contents of its rows, which stand at the spots that are read; the changes are exactly what its deeds make
--- differ; and what is stored, from a place of the archive on, are the contents of new revisions that no older one has at its spot.
+-- The reply is the step's but for the contents of its rows, which are given or stand at the spots that are read; the changes are exactly what its
+-- deeds make differ; and what is stored, from a place of the archive on, are the contents of new revisions that no older one has at its spot.
 pub record IsOutcome (rows : AllRows) (from : ℕ) (d : List Deed) (request : Request) (outcome : Outcome) : Type 0 where
   pub reply : outcome.reply.rows ≡ map waiting (step d request).rows
   pub changes : AreDifferences rows d (after d (step d request).deeds) outcome.changes
   pub contents : HasRows rows d Rev → StandAfter rows from d (after d (step d request).deeds) outcome.stores outcome.changes
   pub nothing_stored : NothingLands (step d request).deeds → outcome.stores ≡ []
-  pub reads : StandAt rows d (contents_of (step d request).rows) outcome.reads
+  pub reads : ComeFrom rows d (contents_of (step d request).rows) outcome.reads

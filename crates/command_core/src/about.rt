@@ -1,14 +1,14 @@
-//! What is known of each form of command: whether it is built, the right that it needs, whether it needs a client, and its arguments.
+//! What is known of each form of command: its family, the right that it needs, whether it needs a client, and its arguments.
 
 ghost use Rattle.std.specs.Prelude.{◌≡◌};
 ghost use Rattle.depot_rows.specs.depot_model.About.{about};
-ghost use Rattle.depot_runs.specs.Built.{is_built as built, is_change as is_change_in, is_history as is_history_in, is_job as is_job_in, is_opening as is_opening_in, is_server as is_server_in, is_spec as is_spec_in, is_submit as is_submit_in, is_syncing as is_syncing_in};
+ghost use Rattle.command_core.specs.Families.{is_change as is_change_in, is_history as is_history_in, is_job as is_job_in, is_opening as is_opening_in, is_server as is_server_in, is_spec as is_spec_in, is_submit as is_submit_in, is_syncing as is_syncing_in};
 
 use depot_rows::model::{Command, FileArgument, PatternArgument};
 use depot_rows::protections::Level;
 use std::slice;
 
-/// Whether a command of counters or forms is built.
+/// Whether a command is one of counters or forms.
 pub(crate) fn is_spec(command: &Command) -> bool
     ensures { result ≡ is_spec_in command.now }
 {
@@ -30,7 +30,7 @@ pub(crate) fn is_spec(command: &Command) -> bool
     )
 }
 
-/// Whether a command of opened files is built.
+/// Whether a command is one of opened files.
 pub(crate) fn is_opening(command: &Command) -> bool
     ensures { result ≡ is_opening_in command.now }
 {
@@ -48,7 +48,7 @@ pub(crate) fn is_opening(command: &Command) -> bool
     )
 }
 
-/// Whether a command of changes is built.
+/// Whether a command is one of changes.
 pub(crate) fn is_change(command: &Command) -> bool
     ensures { result ≡ is_change_in command.now }
 {
@@ -62,7 +62,7 @@ pub(crate) fn is_change(command: &Command) -> bool
     )
 }
 
-/// Whether a command of have lists, labels and integration is built.
+/// Whether a command is one of have lists, labels or integration.
 pub(crate) fn is_syncing(command: &Command) -> bool
     ensures { result ≡ is_syncing_in command.now }
 {
@@ -78,7 +78,7 @@ pub(crate) fn is_syncing(command: &Command) -> bool
     )
 }
 
-/// Whether a command that shows submitted files is built.
+/// Whether a command shows submitted files.
 pub(crate) fn is_history(command: &Command) -> bool
     ensures { result ≡ is_history_in command.now }
 {
@@ -93,14 +93,14 @@ pub(crate) fn is_history(command: &Command) -> bool
     )
 }
 
-/// Whether a command of the server itself is built.
+/// Whether a command is one of the server itself.
 pub(crate) fn is_server(command: &Command) -> bool
     ensures { result ≡ is_server_in command.now }
 {
     matches!(command, Command::Checkpoint | Command::Pull)
 }
 
-/// Whether a command of jobs and fixes is built.
+/// Whether a command is one of jobs or fixes.
 pub(crate) fn is_job(command: &Command) -> bool
     ensures { result ≡ is_job_in command.now }
 {
@@ -123,18 +123,6 @@ pub(crate) fn is_submit(command: &Command) -> bool
         command,
         Command::SubmitChange { .. } | Command::SubmitDefault { .. }
     )
-}
-
-/// Whether a command is built.
-pub(crate) fn is_built(command: &Command) -> bool
-    ensures { result ≡ built command.now }
-{
-    is_spec(command)
-        || (is_opening(command)
-            || (is_change(command)
-                || (is_syncing(command)
-                    || (is_history(command)
-                        || (is_server(command) || (is_job(command) || is_submit(command)))))))
 }
 
 /// The right that a command needs somewhere.

@@ -5,12 +5,11 @@ ghost use Rattle.depot_rows.specs.table_changes.Changed.{rows_of};
 ghost use Rattle.depot_rows.specs.depot_model.Commands.{own_step};
 ghost use Rattle.depot_rows.specs.depot_model.Deeds.{Deed};
 ghost use Rattle.depot_rows.specs.depot_model.Rules.{IsSound};
-ghost use Rattle.depot_runs.specs.Built.{is_change};
 ghost use Rattle.reply_rows.specs.Made.{IsMade};
+ghost use Rattle.command_core.specs.Families.{is_change};
 ghost use Rattle.command_core.specs.Outcomes.{HasTouched, IsFormed};
 
 use crate::input::input_of;
-use crate::unbuilt::unbuilt;
 use change_lists::{change_delete, change_save, change_show, changes, describe};
 use depot_rows::model::{Command, Request};
 use depot_rows::tables::Tables;
@@ -63,6 +62,7 @@ pub(crate) fn change_step(
             let described = describe(alloc, tables, &request.caller, *change)?;
             Ok(described)
         }
-        _ => unbuilt(alloc, command),
+        // A command of another family never comes here.
+        _ => Ok(Step::new(alloc)),
     }
 }

@@ -1,28 +1,24 @@
 //! What a request does.
 
-ghost use Rattle.std.specs.Prelude.{◌≡◌, List, [], ◌∷◌, None, IfOk, IfSome, IsFalse, codes, true, false, unwrap_or};
+ghost use Rattle.std.specs.Prelude.{◌≡◌, List, None, IfOk, IsFalse};
 ghost use Rattle.depot_rows.specs.db_records.declared.table.TableId.TheVariants as table_ids;
 ghost use Rattle.depot_rows.specs.table_changes.Changed.{AllFitIn, rows_of};
-ghost use Rattle.depot_rows.specs.depot_model.About.{about};
-ghost use Rattle.depot_runs.specs.Built.{is_built as built, is_submit as submits};
-ghost use Rattle.depot_rows.specs.depot_model.Commands.{built_step, own_step as own_step_of};
-ghost use Rattle.depot_runs.specs.Today.{step};
+ghost use Rattle.depot_rows.specs.depot_model.Commands.{own_step as own_step_of, step, whole_step};
 ghost use Rattle.depot_rows.specs.depot_model.Common.{last_refusals};
 ghost use Rattle.depot_rows.specs.depot_model.Deeds.{Deed};
-ghost use Rattle.depot_rows.specs.depot_model.Refusals.{refusal_row};
 ghost use Rattle.depot_rows.specs.depot_model.Rules.{IsSound, NotBoth};
 ghost use Rattle.depot_rows.specs.depot_model.Step.{Step as ModelStep, after};
 ghost use Rattle.depot_rows.specs.Standing.{HasRows};
-ghost use Rattle.depot_rows.specs.depot_model.declared.refusal.Refusal.TheVariants as refusals;
 ghost use Rattle.row_changes.specs.Differences.{AreDifferences};
-ghost use Rattle.reply_rows.specs.Made.{IsMade, told};
+ghost use Rattle.reply_rows.specs.Made.{IsMade};
 ghost use Rattle.step_stores.specs.Stored.{IsStoring};
 ghost use Rattle.stored_contents.specs.Placed.{StandAfter};
+ghost use Rattle.command_core.specs.Families.{is_submit as submits};
 ghost use Rattle.command_core.specs.Refusing.{first_of};
 ghost use Rattle.command_core.specs.Outcomes.{HasNeeded, HasTouched, IsFormed, IsFormedBy, IsOutcome, IsStep};
 
 use crate::about::{
-    is_built, is_change, is_history, is_job, is_opening, is_server, is_spec, is_submit, is_syncing,
+    is_change, is_history, is_job, is_opening, is_server, is_spec, is_submit, is_syncing,
 };
 use crate::change_commands::change_step;
 use crate::history_commands::history_step;
@@ -31,10 +27,10 @@ use crate::opening_commands::opening_step;
 use crate::outcome::Outcome;
 use crate::refusing::{first_refusal, word_row};
 use crate::server_commands::server_step;
+use crate::shelf_commands::shelf_step;
 use crate::spec_commands::spec_step;
 use crate::submit_commands::submit_step;
 use crate::syncing_commands::syncing_step;
-use crate::unbuilt::unbuilt;
 use depot_rows::model::{Command, Reply, Request};
 use depot_rows::paths::Sequence;
 use depot_rows::tables::Tables;
@@ -42,14 +38,14 @@ use reply_rows::Step;
 use row_changes::row_changes;
 use std::alloc::{AllocError, Global};
 
-/// What a command that is built, and no submit, does where no refusal holds that is common to all.
+/// What a command that is no submit does where no refusal holds that is common to all.
 fn own_step(
     alloc: Global,
     tables: &Tables,
     request: &Request,
     command: &Command,
 ) -> Result<Step, AllocError>
-    ensures { IfOk result (λ step. (d : List Deed) → IsSound d → built command.now ≡ true → IsFalse (submits command.now) → IsFormed command.now → HasTouched (rows_of tables.now) d command.now →
+    ensures { IfOk result (λ step. (d : List Deed) → IsSound d → IsFalse (submits command.now) → IsFormed command.now → HasTouched (rows_of tables.now) d command.now →
         IsMade (rows_of tables.now) d d (own_step_of d request.now command.now) step) }
 {
     if is_spec(command) {
@@ -73,7 +69,8 @@ fn own_step(
     if is_job(command) {
         return job_step(alloc, tables, request, command);
     }
-    unbuilt(alloc, command)
+    let step = shelf_step(alloc, tables, request, command)?;
+    Ok(step)
 }
 
 /// The same with what is stored: a submit puts the contents of its files behind those of the archive, and
@@ -84,7 +81,7 @@ fn storing_step(
     request: &Request,
     command: &Command,
 ) -> Result<Step, AllocError>
-    ensures { IfOk result (λ step. (d : List Deed) → IsSound d → built command.now ≡ true → first_of (last_refusals d command.now) ≡ None →
+    ensures { IfOk result (λ step. (d : List Deed) → IsSound d → first_of (last_refusals d command.now) ≡ None →
         IsFormed command.now → HasTouched (rows_of tables.now) d command.now → IsStoring (rows_of tables.now) tables.now.archive_end d (own_step_of d request.now command.now) step) }
 {
     if is_submit(command) {
@@ -103,12 +100,8 @@ fn command_step(
     command: &Command,
 ) -> Result<Step, AllocError>
     ensures { IfOk result (λ step. (d : List Deed) → IsSound d → IsFormed command.now → HasTouched (rows_of tables.now) d command.now →
-        IsStoring (rows_of tables.now) tables.now.archive_end d (built_step built d request.now command.now) step) }
+        IsStoring (rows_of tables.now) tables.now.archive_end d (whole_step d request.now command.now) step) }
 {
-    if !is_built(command) {
-        let refused = unbuilt(alloc, command)?;
-        return Ok(refused);
-    }
     let refusal = first_refusal(alloc, tables, &request.caller, command)?;
     match refusal {
         Some(row) => {

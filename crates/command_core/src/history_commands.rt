@@ -5,11 +5,10 @@ ghost use Rattle.depot_rows.specs.table_changes.Changed.{rows_of};
 ghost use Rattle.depot_rows.specs.depot_model.Commands.{own_step};
 ghost use Rattle.depot_rows.specs.depot_model.Deeds.{Deed};
 ghost use Rattle.depot_rows.specs.depot_model.Rules.{IsSound};
-ghost use Rattle.depot_runs.specs.Built.{is_history};
 ghost use Rattle.reply_rows.specs.Made.{IsMade};
+ghost use Rattle.command_core.specs.Families.{is_history};
 ghost use Rattle.command_core.specs.Outcomes.{HasTouched, IsFormed};
 
-use crate::unbuilt::unbuilt;
 use depot_rows::model::{Command, Request};
 use depot_rows::tables::Tables;
 use history_query::{dirs, file_stat, filelog, integrated, print};
@@ -57,6 +56,7 @@ pub(crate) fn history_step(
             let listed = integrated(alloc, tables, &request.caller, files.as_slice())?;
             Ok(listed)
         }
-        _ => unbuilt(alloc, command),
+        // A command of another family never comes here.
+        _ => Ok(Step::new(alloc)),
     }
 }

@@ -5,12 +5,11 @@ ghost use Rattle.depot_rows.specs.table_changes.Changed.{rows_of};
 ghost use Rattle.depot_rows.specs.depot_model.Commands.{own_step};
 ghost use Rattle.depot_rows.specs.depot_model.Deeds.{Deed};
 ghost use Rattle.depot_rows.specs.depot_model.Rules.{IsSound};
-ghost use Rattle.depot_runs.specs.Built.{is_job};
 ghost use Rattle.reply_rows.specs.Made.{IsMade};
+ghost use Rattle.command_core.specs.Families.{is_job};
 ghost use Rattle.command_core.specs.Outcomes.{HasTouched, IsFormed};
 
 use crate::input::input_of;
-use crate::unbuilt::unbuilt;
 use depot_rows::model::{Command, Request};
 use depot_rows::tables::Tables;
 use job_ops::{fix, fix_delete, fix_list, job_list, job_save, job_show};
@@ -52,6 +51,7 @@ pub(crate) fn job_step(
             let listed = fix_list(alloc, tables, *change, job)?;
             Ok(listed)
         }
-        _ => unbuilt(alloc, command),
+        // A command of another family never comes here.
+        _ => Ok(Step::new(alloc)),
     }
 }

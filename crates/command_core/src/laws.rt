@@ -2,7 +2,7 @@
 
 ghost use Rattle.std.specs.Prelude.{◌≡◌, List, IsTrue};
 ghost use Rattle.depot_rows.specs.depot_model.declared.request.Request.{Request};
-ghost use Rattle.depot_runs.specs.Today.{step};
+ghost use Rattle.depot_rows.specs.depot_model.Commands.{step};
 ghost use Rattle.depot_rows.specs.depot_model.Deeds.{Deed};
 ghost use Rattle.depot_rows.specs.depot_model.Records.{SameRows};
 ghost use Rattle.depot_rows.specs.depot_model.Rules.{IsSound};

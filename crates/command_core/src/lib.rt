@@ -14,10 +14,10 @@ mod outcome;
 mod refusing;
 mod rights;
 mod server_commands;
+mod shelf_commands;
 mod spec_commands;
 mod submit_commands;
 mod syncing_commands;
-mod unbuilt;
 
 pub use evaluation::evaluate;
 pub use filling::filled;

@@ -5,11 +5,10 @@ ghost use Rattle.depot_rows.specs.table_changes.Changed.{rows_of};
 ghost use Rattle.depot_rows.specs.depot_model.Commands.{own_step};
 ghost use Rattle.depot_rows.specs.depot_model.Deeds.{Deed};
 ghost use Rattle.depot_rows.specs.depot_model.Rules.{IsSound};
-ghost use Rattle.depot_runs.specs.Built.{is_opening};
 ghost use Rattle.reply_rows.specs.Made.{IsMade};
+ghost use Rattle.command_core.specs.Families.{is_opening};
 ghost use Rattle.command_core.specs.Outcomes.{HasTouched, IsFormed};
 
-use crate::unbuilt::unbuilt;
 use depot_rows::model::{Command, Request};
 use depot_rows::tables::Tables;
 use opened_files::{add, delete, edit, lock, move_files, opened, reopen, revert, unlock};
@@ -96,6 +95,7 @@ pub(crate) fn opening_step(
             let moved = move_files(alloc, tables, &request.caller, *change, from, to)?;
             Ok(moved)
         }
-        _ => unbuilt(alloc, command),
+        // A command of another family never comes here.
+        _ => Ok(Step::new(alloc)),
     }
 }

@@ -2,7 +2,8 @@
 
 use depot_rows::model::Reply;
 use depot_rows::paths::{Sequence, Text};
-use depot_rows::records::{Change, Spot};
+use depot_rows::records::Change;
+use reply_rows::RowContent;
 
 /// What a request is answered, and what it changes.
 #[derive(Drop)]
@@ -13,6 +14,6 @@ pub struct Outcome {
     pub changes: Sequence<Change>,
     /// The contents that it stores, which are put into the archive one after another from the archive's end.
     pub stores: Sequence<Text>,
-    /// Where the contents stand that the rows lack, in the order of the rows.
-    pub reads: Sequence<Spot>,
+    /// Where the contents come from that the rows lack, in the order of the rows.
+    pub reads: Sequence<RowContent>,
 }

@@ -6,12 +6,11 @@ ghost use Rattle.depot_rows.specs.depot_model.Commands.{own_step};
 ghost use Rattle.depot_rows.specs.depot_model.Common.{last_refusals};
 ghost use Rattle.depot_rows.specs.depot_model.Deeds.{Deed};
 ghost use Rattle.depot_rows.specs.depot_model.Rules.{IsSound};
-ghost use Rattle.depot_runs.specs.Built.{is_submit};
 ghost use Rattle.step_stores.specs.Stored.{IsStoring};
+ghost use Rattle.command_core.specs.Families.{is_submit};
 ghost use Rattle.command_core.specs.Outcomes.{HasTouched};
 ghost use Rattle.command_core.specs.Refusing.{first_of};
 
-use crate::unbuilt::unbuilt;
 use depot_rows::model::{Command, Request};
 use depot_rows::tables::Tables;
 use reply_rows::Step;
@@ -37,6 +36,7 @@ pub(crate) fn submit_step(
             let submitted = submit_change(alloc, tables, request, *change)?;
             Ok(submitted)
         }
-        _ => unbuilt(alloc, command),
+        // A command of another family never comes here.
+        _ => Ok(Step::new(alloc)),
     }
 }

@@ -10,7 +10,7 @@ use Rattle.depot_rows.specs.table_changes.Changed.{AllRows, changed_by, rows_of}
 use Rattle.depot_rows.specs.table_store.Rows.{TableRows}
 use Rattle.depot_rows.specs.table_store.Tables.{version_of}
 use Rattle.depot_rows.specs.table_store.declared.tables.Tables.{Tables}
-use Rattle.depot_runs.specs.Today.{step}
+use Rattle.depot_rows.specs.depot_model.Commands.{step}
 use Rattle.depot_rows.specs.depot_model.Deeds.{Deed}
 use Rattle.depot_rows.specs.depot_model.Step.{after}
 use Rattle.depot_rows.specs.depot_model.Tables.{needs_of}

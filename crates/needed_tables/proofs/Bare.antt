@@ -9,25 +9,27 @@ use Rattle.depot_rows.specs.spec_form.declared.shape.Shape.TheVariants as shapes
 use Rattle.depot_rows.specs.view_map.Reading.{view_of}
 use Rattle.depot_rows.specs.depot_path.Name.{is_name}
 use Rattle.depot_rows.specs.depot_model.About.{about}
-use Rattle.depot_rows.specs.depot_model.Arguments.{changed_paths, each_or, is_in as is_taken, not_in, over, paths_of, within_files}
+use Rattle.depot_rows.specs.depot_model.Arguments.{changed_paths, each_or, everything, is_in as is_taken, named as named_files, no_file, not_in, over, over_all, paths_of, within_files}
 use Rattle.depot_rows.specs.depot_model.Asking.{to_open, to_write}
-use Rattle.depot_rows.specs.depot_model.Commands.{built_step, own_step, whole_step}
+use Rattle.depot_rows.specs.depot_model.Commands.{own_step, whole_step, step}
 use Rattle.depot_rows.specs.depot_model.Common.{common_refusals, last_refusals, word_refusal}
-use Rattle.depot_rows.specs.depot_model.Deeds.{Deed, FixForm}
+use Rattle.depot_rows.specs.depot_model.Deeds.{Deed, FixForm, Pending}
 use Rattle.depot_rows.specs.depot_model.Fixes.{fix_name, has_fix}
 use Rattle.depot_rows.specs.depot_model.Latest.{spec}
 use Rattle.depot_rows.specs.depot_model.Numbers.{landing, pending}
 use Rattle.depot_rows.specs.depot_model.Opened.{holder, opened}
 use Rattle.depot_rows.specs.depot_model.Refusals.{refusal_row}
-use Rattle.depot_rows.specs.depot_model.Step.{Step, all_of, both, does, nothing, refuse_if, refuses, unless}
+use Rattle.depot_rows.specs.depot_model.Shelves.{kept_paths}
+use Rattle.depot_rows.specs.depot_model.Step.{Step, all_of, both, does, nothing, refuse_if, refuses, tells, unless}
 use Rattle.depot_rows.specs.depot_model.Steps.Changing.{change_delete, change_form, change_save, has_number}
 use Rattle.depot_rows.specs.depot_model.Steps.Clients as clients
 use Rattle.depot_rows.specs.depot_model.Steps.Groups as groups
 use Rattle.depot_rows.specs.depot_model.Steps.Jobs.{distinct, fix, fix_delete, fix_job, is_change, is_status, job_save, save_form, unfix, unfix_job}
 use Rattle.depot_rows.specs.depot_model.Steps.Labels as labels
-use Rattle.depot_rows.specs.depot_model.Steps.Opening.{reopened_change_refusal, right_refusal}
+use Rattle.depot_rows.specs.depot_model.Steps.Opening.{change_refusal, reopened_change_refusal, right_refusal}
 use Rattle.depot_rows.specs.depot_model.Steps.Protections as protections
 use Rattle.depot_rows.specs.depot_model.Steps.Reverting.{both_ends, is_held_by, lock, lock_file, moved, not_open, reopen, reopen_file, reopen_opening, revert, revert_file, revert_files, revert_named, revert_over, selected, shut, unlock, unlock_file}
+use Rattle.depot_rows.specs.depot_model.Steps.Shelving.{describe_kept, describe_shelved, shelf_refusal, shelve_delete, unkeep, within_forms}
 use Rattle.depot_rows.specs.depot_model.Tables.{touches}
 use Rattle.depot_rows.specs.depot_model.Values.{value_of}
 use Rattle.depot_rows.specs.depot_model.declared.command.Command.{Command}
@@ -35,14 +37,12 @@ use Rattle.depot_rows.specs.depot_model.declared.command.Command.TheVariants as 
 use Rattle.depot_rows.specs.depot_model.declared.command.FileArgument.{FileArgument}
 use Rattle.depot_rows.specs.depot_model.declared.refusal.Limit.TheVariants.{Files, Protections}
 use Rattle.depot_rows.specs.depot_model.declared.refusal.Refusal.{Refusal}
-use Rattle.depot_rows.specs.depot_model.declared.refusal.Refusal.TheVariants.{BadForm, NoSuchChange, NotOpen, OverLimit, Unbuilt}
+use Rattle.depot_rows.specs.depot_model.declared.refusal.Refusal.TheVariants.{BadForm, NoShelf, NoSuchChange, NoSuchFile, NotOpen, OverLimit}
 use Rattle.depot_rows.specs.depot_model.declared.reply.Row.{Row}
 use Rattle.depot_rows.specs.depot_model.declared.request.Caller.{Caller}
 use Rattle.depot_rows.specs.depot_model.declared.request.Request.{Request}
 use Rattle.depot_rows.specs.depot_model.declared.request.WordFault.{WordFault}
-use Rattle.depot_runs.specs.Built.{is_built}
 use Rattle.depot_runs.specs.Replica.{answered, replica_reply}
-use Rattle.depot_runs.specs.Today.{step}
 use Rattle.replica_replies.proofs.Bare.{reply_bare}
 use Rattle.replica_replies.specs.Prints.{is_print, prints}
 use Rattle.reply_rows.proofs.Bare.{AreBare, none_told, refusal_bare}
@@ -98,17 +98,27 @@ bare_all : {A : Type 0} (act : A → Step) → ((x : A) → IsBare (act x)) → 
 bare_all act h [] = nothing_bare
 bare_all act h (x ∷ xs) = bare_both (act x) (all_of act xs) (h x) (bare_all act h xs)
 
--- the files that arguments name, of which one that names none is answered that it isn't opened
+-- the files that arguments name, of which one that names none is answered otherwise
 module _ (files : FileArgument → List (List ℕ)) (act : List ℕ → Step) (acts : (path : List ℕ) → IsBare (act path)) where
-  one_or : (a : FileArgument) (named left : List (List ℕ)) → IsBare (each_or (not_open a) act named left)
-  one_or a [] left = refused (NotOpen a.text)
-  one_or a (path ∷ paths) left = bare_all act acts left
+  module _ (missing : FileArgument → Step) (misses : (a : FileArgument) → IsBare (missing a)) where
+    one_or : (a : FileArgument) (named left : List (List ℕ)) → IsBare (each_or (missing a) act named left)
+    one_or a [] left = misses a
+    one_or a (path ∷ paths) left = bare_all act acts left
 
+    bare_in_turn : (taken : List (List ℕ)) (arguments : List FileArgument) → IsBare (over files missing (λ _. act) taken arguments)
+    bare_in_turn taken [] = nothing_bare
+    bare_in_turn taken (a ∷ arguments) =
+        bare_both (each_or (missing a) act (files a) (not_in taken (files a))) (over files missing (λ _. act) (taken ++ files a) arguments)
+        (one_or a (files a) (not_in taken (files a))) (bare_in_turn (taken ++ files a) arguments)
+
+  -- it isn't opened
   bare_over : (taken : List (List ℕ)) (arguments : List FileArgument) → IsBare (over files not_open (λ _. act) taken arguments)
-  bare_over taken [] = nothing_bare
-  bare_over taken (a ∷ arguments) =
-      bare_both (each_or (not_open a) act (files a) (not_in taken (files a))) (over files not_open (λ _. act) (taken ++ files a) arguments)
-      (one_or a (files a) (not_in taken (files a))) (bare_over (taken ++ files a) arguments)
+  bare_over taken arguments = bare_in_turn not_open (λ a. refused (NotOpen a.text)) taken arguments
+
+  -- it names no file; arguments may be absent
+  bare_over_all : (arguments : List FileArgument) → IsBare (over_all files no_file (λ _. act) arguments)
+  bare_over_all [] = bare_in_turn (λ _. nothing) (λ a. nothing_bare) [] (everything ∷ [])
+  bare_over_all (a ∷ arguments) = bare_in_turn no_file (λ a. refused (NoSuchFile a.text)) [] (a ∷ arguments)
 
 -- ---- forms, groups, protections
 
@@ -216,34 +226,53 @@ module _ (d : List Deed) where
     revert_bare : (change : Option ℕ) (arguments : List FileArgument) → IsBare (revert d caller change arguments)
     revert_bare change arguments = bare_within (revert_over d caller change [] arguments) (revert_over_bare change [] arguments)
 
+    -- ---- shelves
+
+    unkeep_bare : (n : ℕ) (path : List ℕ) → IsBare (unkeep d caller n path)
+    unkeep_bare n path = bare_refused (right_refusal to_open d caller path) _ _ (done _ _ refl)
+
+    bare_within_forms : (told : Step) → IsBare told → IsBare (within_forms told)
+    bare_within_forms told h = bare_unless (_ ∷ _ ∷ []) told h
+
+    shelve_delete_bare : (n : ℕ) (arguments : List FileArgument) → IsBare (shelve_delete d caller n arguments)
+    shelve_delete_bare n arguments = bare_unless (change_refusal d caller n ∷ shelf_refusal d caller n ∷ []) _
+        (bare_within_forms _ (bare_over_all (named_files true d caller (kept_paths d n)) (unkeep d caller n) (unkeep_bare n) arguments))
+
+    describe_shelved_bare : (n : ℕ) → IsBare (describe_shelved d caller n)
+    describe_shelved_bare n = bare_unless (shelf_refusal d caller n ∷ []) _ (shown (pending d n))
+      where
+        shown : (change : Option Pending) → IsBare (elim change as (λ _. Step) [ None ↦ refuses (NoShelf n) | Some p ↦ tells (describe_kept d caller p ∷ []) ])
+        shown None = refused (NoShelf n)
+        shown (Some p) = record { rows = (refl, tt) }
+
 -- ---- all commands
 
 module _ (d : List Deed) (request : Request) where
-  built : (command : Command) → IsBare (own_step d request command) → IsBare (built_step is_built d request command)
-  built command h = bare_if (is_built command) (whole_step d request command) (refuses (Unbuilt (about command).word))
-      (bare_unless (common_refusals d request.caller (about command) ++ last_refusals d command) (own_step d request command) h)
-      (refused (Unbuilt (about command).word))
+  whole : (command : Command) → IsBare (own_step d request command) → IsBare (whole_step d request command)
+  whole command h = bare_unless (common_refusals d request.caller (about command) ++ last_refusals d command) (own_step d request command) h
 
   abbrev input : List ℕ
   input = unwrap_or request.input []
 
   -- a command that writes, or one that a replica answers too
-  command_bare : (command : Command) → touches command 10 ≡ false → AreBare (answered is_built d request command) → IsBare (built_step is_built d request command)
-  command_bare (commands.CounterSet name value) away told = built (commands.CounterSet name value) (done _ _ refl)
-  command_bare (commands.CounterDelete name) away told = built (commands.CounterDelete name) (done _ _ refl)
-  command_bare commands.ClientSave away told = built commands.ClientSave (client_save_bare input)
-  command_bare commands.LabelSave away told = built commands.LabelSave (label_save_bare d input)
-  command_bare commands.GroupSave away told = built commands.GroupSave (group_save_bare input)
-  command_bare commands.ProtectSave away told = built commands.ProtectSave (protect_save_bare input)
-  command_bare (commands.Revert change files) away told = built (commands.Revert change files) (revert_bare d request.caller change files)
-  command_bare (commands.Reopen change type files) away told = built (commands.Reopen change type files) (reopen_bare d request.caller change type files)
-  command_bare (commands.Lock change files) away told = built (commands.Lock change files) (lock_bare d request.caller change files)
-  command_bare (commands.Unlock change files) away told = built (commands.Unlock change files) (unlock_bare d request.caller change files)
-  command_bare commands.ChangeSave away told = built commands.ChangeSave (change_save_bare d request input)
-  command_bare (commands.ChangeDelete n) away told = built (commands.ChangeDelete n) (change_delete_bare d request.caller n)
-  command_bare commands.JobSave away told = built commands.JobSave (job_save_bare d input)
-  command_bare (commands.Fix n names) away told = built (commands.Fix n names) (fix_bare d request.caller n names)
-  command_bare (commands.FixDelete n names) away told = built (commands.FixDelete n names) (fix_delete_bare d n names)
+  command_bare : (command : Command) → touches command 10 ≡ false → AreBare (answered d request command) → IsBare (whole_step d request command)
+  command_bare (commands.CounterSet name value) away told = whole (commands.CounterSet name value) (done _ _ refl)
+  command_bare (commands.CounterDelete name) away told = whole (commands.CounterDelete name) (done _ _ refl)
+  command_bare commands.ClientSave away told = whole commands.ClientSave (client_save_bare input)
+  command_bare commands.LabelSave away told = whole commands.LabelSave (label_save_bare d input)
+  command_bare commands.GroupSave away told = whole commands.GroupSave (group_save_bare input)
+  command_bare commands.ProtectSave away told = whole commands.ProtectSave (protect_save_bare input)
+  command_bare (commands.Revert change files) away told = whole (commands.Revert change files) (revert_bare d request.caller change files)
+  command_bare (commands.Reopen change type files) away told = whole (commands.Reopen change type files) (reopen_bare d request.caller change type files)
+  command_bare (commands.Lock change files) away told = whole (commands.Lock change files) (lock_bare d request.caller change files)
+  command_bare (commands.Unlock change files) away told = whole (commands.Unlock change files) (unlock_bare d request.caller change files)
+  command_bare commands.ChangeSave away told = whole commands.ChangeSave (change_save_bare d request input)
+  command_bare (commands.ChangeDelete n) away told = whole (commands.ChangeDelete n) (change_delete_bare d request.caller n)
+  command_bare commands.JobSave away told = whole commands.JobSave (job_save_bare d input)
+  command_bare (commands.Fix n names) away told = whole (commands.Fix n names) (fix_bare d request.caller n names)
+  command_bare (commands.FixDelete n names) away told = whole (commands.FixDelete n names) (fix_delete_bare d n names)
+  command_bare (commands.ShelveDelete n files) away told = whole (commands.ShelveDelete n files) (shelve_delete_bare d request.caller n files)
+  command_bare (commands.DescribeShelved n) away told = whole (commands.DescribeShelved n) (describe_shelved_bare d request.caller n)
   command_bare (commands.Add change type paths) away told = absurd cc
   command_bare (commands.Edit change type files) away told = absurd cc
   command_bare (commands.Delete change files) away told = absurd cc
@@ -255,6 +284,8 @@ module _ (d : List Deed) (request : Request) where
   command_bare (commands.LabelSync label labelling files) away told = absurd cc
   command_bare (commands.Integrate change from to) away told = absurd cc
   command_bare (commands.Resolve taking files) away told = absurd cc
+  command_bare (commands.Shelve n replaces files) away told = absurd cc
+  command_bare (commands.Unshelve n change files) away told = absurd cc
   command_bare commands.Checkpoint away told = absurd cc
   command_bare _ away told = record { rows = told }
 
@@ -264,13 +295,13 @@ module _ (d : List Deed) (request : Request) where
 
   -- the rows of a replica's reply, and the step, of what was asked
   abbrev reply_by : Result Command WordFault → List Row
-  reply_by asked = elim asked [ Err fault ↦ refusal_row (word_refusal fault) ∷ [] | Ok command ↦ answered is_built d request command ]
+  reply_by asked = elim asked [ Err fault ↦ refusal_row (word_refusal fault) ∷ [] | Ok command ↦ answered d request command ]
 
   abbrev rows_by : Result Command WordFault → List Row
-  rows_by asked = (elim asked as (λ _. Step) [ Err fault ↦ refuses (word_refusal fault) | Ok command ↦ built_step is_built d request command ]).rows
+  rows_by asked = (elim asked as (λ _. Step) [ Err fault ↦ refuses (word_refusal fault) | Ok command ↦ whole_step d request command ]).rows
 
   pub nothing_read : (command : Command) → request.command ≡ Ok command → touches command 10 ≡ false → contents_of (step d request).rows ≡ []
   nothing_read command is away =
       let told : AreBare (replica_reply d request) = reply_bare d request (ap prints is ∙ prints_not command away) in
       let bare = command_bare command away (subst AreBare (ap reply_by is) told) in
-      ap (λ (asked : Result Command WordFault). contents_of (rows_by asked)) is ∙ none_told (built_step is_built d request command).rows bare.rows
+      ap (λ (asked : Result Command WordFault). contents_of (rows_by asked)) is ∙ none_told (whole_step d request command).rows bare.rows

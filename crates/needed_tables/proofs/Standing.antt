@@ -24,7 +24,9 @@ use Rattle.depot_rows.specs.depot_model.Rules.{IsSound}
 use Rattle.depot_rows.specs.depot_model.Step.{nothing}
 use Rattle.depot_rows.specs.depot_model.Steps.Submitting.{content_at}
 use Rattle.depot_rows.specs.Standing.{HasRows, row_in}
-use Rattle.reply_rows.specs.Made.{IsSpotOf, StandAt, told}
+use Rattle.reply_rows.specs.Made.{ComeFrom, ComesFrom, IsSpotOf, told}
+use Rattle.reply_rows.specs.declared.content.RowContent.{RowContent}
+use Rattle.reply_rows.specs.declared.content.RowContent.TheVariants.{At, Given}
 use Rattle.row_changes.specs.Differences.{AreDifferences, change_at, changed_key}
 use Rattle.row_changes.proofs.Kept.{row_after, stored-after}
 use Rattle.step_stores.specs.Stored.{StandsAmong}
@@ -82,11 +84,16 @@ module _ (rows all : AllRows) (d : List Deed) (same : (text : List ℕ) (n : ℕ
     content_is = at.content_is;
   }
 
-  pub reads_alike : (contents : List (List ℕ)) (spots : List Spot) → StandAt rows d contents spots → StandAt all d contents spots
-  reads_alike [] [] stand = tt
-  reads_alike [] (spot ∷ spots) stand = absurd stand
-  reads_alike (bytes ∷ contents) [] stand = absurd stand
-  reads_alike (bytes ∷ contents) (spot ∷ spots) stand = (spot_alike bytes spot stand.0, reads_alike contents spots stand.1)
+  -- a content that is given is the same by all rows
+  comes_alike : (bytes : List ℕ) (place : RowContent) → ComesFrom rows d bytes place → ComesFrom all d bytes place
+  comes_alike bytes (At spot) comes = spot_alike bytes spot comes
+  comes_alike bytes (Given text) comes = comes
+
+  pub reads_alike : (contents : List (List ℕ)) (places : List RowContent) → ComeFrom rows d contents places → ComeFrom all d contents places
+  reads_alike [] [] come = tt
+  reads_alike [] (place ∷ places) come = absurd come
+  reads_alike (bytes ∷ contents) [] come = absurd come
+  reads_alike (bytes ∷ contents) (place ∷ places) come = (comes_alike bytes place come.0, reads_alike contents places come.1)
 
   pub stand_alike : (from : ℕ) (e : List Deed) (stores : List (List ℕ)) (changes : List Change) → IsStrictlySortedBy key_cmp (map changed_key changes)
       → StandAfter rows from d e stores changes → StandAfter all from d e stores changes
@@ -102,14 +109,14 @@ module _ (rows all : AllRows) (d : List Deed) (same : (text : List ℕ) (n : ℕ
           ∙ (ap (row_after (change_at changes (keys.Rev text n))) (sym (same text n)) ∙ sym (stored-after rows changes rising (keys.Rev text n)))
 
 -- nothing is read
-pub no_reads : (rows all : AllRows) (d : List Deed) (contents : List (List ℕ)) (spots : List Spot) → contents ≡ [] → StandAt rows d contents spots
-    → StandAt all d contents spots
-no_reads rows all d contents spots none stand =
-    subst (λ (c : List (List ℕ)). StandAt all d c spots) (sym none) (go spots (subst (λ (c : List (List ℕ)). StandAt rows d c spots) none stand))
+pub no_reads : (rows all : AllRows) (d : List Deed) (contents : List (List ℕ)) (places : List RowContent) → contents ≡ [] → ComeFrom rows d contents places
+    → ComeFrom all d contents places
+no_reads rows all d contents places none come =
+    subst (λ (c : List (List ℕ)). ComeFrom all d c places) (sym none) (go places (subst (λ (c : List (List ℕ)). ComeFrom rows d c places) none come))
   where
-    go : (s : List Spot) → StandAt rows d [] s → StandAt all d [] s
-    go [] stand = tt
-    go (spot ∷ s) stand = absurd stand
+    go : (p : List RowContent) → ComeFrom rows d [] p → ComeFrom all d [] p
+    go [] come = tt
+    go (place ∷ p) come = absurd come
 
 -- ---- changes of other tables than that of revisions
 

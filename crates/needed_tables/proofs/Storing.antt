@@ -1,9 +1,8 @@
 -- A request that doesn't write the table of revisions submits nothing.
-use Rattle.std.proofs.Common.{◌≡◌, ℕ, Bool, true, false, List, [], ◌∷◌, ◌++◌, Option, Some, None, Result, Ok, Err, refl}
-use Rattle.std.specs.Prelude.{if◌then◌else◌}
+use Rattle.std.proofs.Common.{◌≡◌, ℕ, false, List, [], ◌∷◌, ◌++◌, Option, Some, None, Result, Ok, Err, refl}
 use Rattle.depot_rows.specs.table_changes.Changed.{AllRows}
 use Rattle.depot_rows.specs.depot_model.About.{about}
-use Rattle.depot_rows.specs.depot_model.Commands.{built_step, own_step, whole_step}
+use Rattle.depot_rows.specs.depot_model.Commands.{own_step, whole_step, step}
 use Rattle.depot_rows.specs.depot_model.Common.{common_refusals, last_refusals, word_refusal}
 use Rattle.depot_rows.specs.depot_model.Deeds.{Deed}
 use Rattle.depot_rows.specs.depot_model.Step.{Step, refuses, unless}
@@ -11,12 +10,10 @@ use Rattle.depot_rows.specs.depot_model.Tables.{writes}
 use Rattle.depot_rows.specs.depot_model.declared.command.Command.{Command}
 use Rattle.depot_rows.specs.depot_model.declared.command.Command.TheVariants.{SubmitChange, SubmitDefault}
 use Rattle.depot_rows.specs.depot_model.declared.refusal.Refusal.{Refusal}
-use Rattle.depot_rows.specs.depot_model.declared.refusal.Refusal.TheVariants.{Unbuilt}
 use Rattle.depot_rows.specs.depot_model.declared.request.Request.{Request}
 use Rattle.depot_rows.specs.depot_model.declared.request.WordFault.{WordFault}
-use Rattle.depot_runs.specs.Built.{is_built, is_submit}
-use Rattle.depot_runs.specs.Today.{step}
 use Rattle.step_stores.specs.Stored.{NothingLands}
+use Rattle.command_core.specs.Families.{is_submit}
 use Rattle.command_core.specs.Outcomes.{IsOutcome}
 use Rattle.command_core.specs.declared.outcome.Outcome.{Outcome}
 use Rattle.command_core.proofs.Storing.{own_lands_nothing}
@@ -34,20 +31,16 @@ unless_lands (None ∷ tests) told h = unless_lands tests told h
 unless_lands (Some why ∷ tests) told h = tt
 
 module _ (d : List Deed) (request : Request) where
-  built_lands : (command : Command) → writes command 10 ≡ false → NothingLands (built_step is_built d request command).deeds
-  built_lands command away = go (is_built command)
-    where
-      go : (b : Bool) → NothingLands (if b then whole_step d request command else refuses (Unbuilt (about command).word)).deeds
-      go true = unless_lands (common_refusals d request.caller (about command) ++ last_refusals d command) (own_step d request command)
-          (own_lands_nothing d request command (submits_not command away))
-      go false = tt
+  whole_lands : (command : Command) → writes command 10 ≡ false → NothingLands (whole_step d request command).deeds
+  whole_lands command away = unless_lands (common_refusals d request.caller (about command) ++ last_refusals d command) (own_step d request command)
+      (own_lands_nothing d request command (submits_not command away))
 
   lands_nothing : writes_revisions request ≡ false → NothingLands (step d request).deeds
   lands_nothing away = go request.command (none_written request.command away)
     where
       go : (asked : Result Command WordFault) → WriteNoRevisions asked
-          → NothingLands (elim asked as (λ _. Step) [ Err fault ↦ refuses (word_refusal fault) | Ok command ↦ built_step is_built d request command ]).deeds
-      go (Ok command) away = built_lands command away
+          → NothingLands (elim asked as (λ _. Step) [ Err fault ↦ refuses (word_refusal fault) | Ok command ↦ whole_step d request command ]).deeds
+      go (Ok command) away = whole_lands command away
       go (Err fault) away = tt
 
   -- so nothing is stored

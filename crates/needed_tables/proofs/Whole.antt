@@ -11,7 +11,7 @@ use Rattle.depot_rows.specs.db_records.declared.key.Key.TheVariants as keys
 use Rattle.depot_rows.specs.db_records.declared.table.TableId.{TableId}
 use Rattle.depot_rows.specs.db_records.declared.table.TableId.TheVariants.{Rev}
 use Rattle.depot_rows.specs.table_changes.Changed.{AllRows}
-use Rattle.depot_rows.specs.depot_model.Commands.{built_step}
+use Rattle.depot_rows.specs.depot_model.Commands.{whole_step, step}
 use Rattle.depot_rows.specs.depot_model.Common.{word_refusal}
 use Rattle.depot_rows.specs.depot_model.Deeds.{Deed}
 use Rattle.depot_rows.specs.depot_model.Records.{record_of}
@@ -22,9 +22,7 @@ use Rattle.depot_rows.specs.depot_model.declared.command.Command.{Command}
 use Rattle.depot_rows.specs.depot_model.declared.request.Request.{Request}
 use Rattle.depot_rows.specs.depot_model.declared.request.WordFault.{WordFault}
 use Rattle.depot_rows.specs.Standing.{HasRows, Stand}
-use Rattle.depot_runs.specs.Built.{is_built}
-use Rattle.depot_runs.specs.Today.{step}
-use Rattle.reply_rows.specs.Made.{StandAt, contents_of}
+use Rattle.reply_rows.specs.Made.{ComeFrom, contents_of}
 use Rattle.reply_rows.proofs.Bare.{none_told, refusal_bare}
 use Rattle.step_tables.proofs.Rows.{contents_stay, rows_stay}
 use Rattle.step_tables.proofs.Whole.{step_stays}
@@ -54,10 +52,10 @@ module _ (rows all : AllRows) (from : ℕ) (d : List Deed) (request : Request) (
           (is.contents (same_rows rows all needed agree d Rev there has))
       go false away = stand_apart needed away all from d next outcome.stores outcome.changes own is.changes.rising (contents away) stand.sound has
 
-  reads : StandAt all d (contents_of (step d request).rows) outcome.reads
+  reads : ComeFrom all d (contents_of (step d request).rows) outcome.reads
   reads = go (needed Rev) refl
     where
-      go : (b : Bool) → needed Rev ≡ b → StandAt all d (contents_of (step d request).rows) outcome.reads
+      go : (b : Bool) → needed Rev ≡ b → ComeFrom all d (contents_of (step d request).rows) outcome.reads
       go true there = reads_alike rows all d (λ text n. same_row rows all needed agree (keys.Rev text n) there) (contents_of (step d request).rows) outcome.reads is.reads
       go false away = no_reads rows all d (contents_of (step d request).rows) outcome.reads (quiet away) is.reads
 
@@ -72,7 +70,7 @@ module _ (rows all : AllRows) (from : ℕ) (d : List Deed) (request : Request) (
 
 module _ (d : List Deed) (request : Request) where
   abbrev step_by : Result Command WordFault → Step
-  step_by asked = elim asked [ Err fault ↦ refuses (word_refusal fault) | Ok command ↦ built_step is_built d request command ]
+  step_by asked = elim asked [ Err fault ↦ refuses (word_refusal fault) | Ok command ↦ whole_step d request command ]
 
   -- words that are no command change nothing
   deeds_none : (fault : WordFault) → request.command ≡ Err fault → (step d request).deeds ≡ []
@@ -93,7 +91,7 @@ outcome_alike rows all from d request outcome stand agree own is = go request.co
     go : (asked : Result Command WordFault) → request.command ≡ asked → AgreeOnNeededBy rows all asked → AreNeededBy asked outcome.changes
         → IsOutcome all from d request outcome
     go (Ok command) asks agree own =
-        let each = (step_stays is_built d request command asks).each in
+        let each = (step_stays d request command asks).each in
         alike rows all from d request outcome stand (λ table. touches command (table_number table)) agree own
         (λ key away. rows_stay (own_tables command).written key (none_written command (table_number (key_table key)) away) d (step d request).deeds each)
         (λ away. contents_stay (own_tables command).written (none_written command 10 away) d (step d request).deeds each)

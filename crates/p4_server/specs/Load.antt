@@ -10,7 +10,7 @@ use Rattle.depot_rows.specs.depot_model.Order.{IsOrder}
 use Rattle.depot_rows.specs.depot_model.Places.{Placed, taken}
 use Rattle.depot_rows.specs.depot_model.declared.order.Place.{Place}
 use Rattle.depot_runs.specs.Run.{placed}
-use Rattle.depot_runs.specs.Today.{step}
+use Rattle.depot_rows.specs.depot_model.Commands.{step}
 use Rattle.load_script.specs.Lines.{lines_of}
 use Rattle.load_script.specs.Script.{script_of}
 use Rattle.load_script.specs.declared.lines.LoadFigures.{LoadFigures}

@@ -9,17 +9,16 @@ ghost use Rattle.depot_rows.specs.depot_model.Refusals.{refusal_row};
 ghost use Rattle.depot_rows.specs.depot_model.declared.refusal.Refusal.TheVariants as refusals;
 ghost use Rattle.depot_rows.specs.Standing.{Stand};
 ghost use Rattle.depot_runs.specs.Replica.{replica_reply};
-ghost use Rattle.depot_runs.specs.Today.{step};
+ghost use Rattle.depot_rows.specs.depot_model.Commands.{step};
 ghost use Rattle.replica_answers.specs.Answering.{IsAnswerOf, replies};
 
 use crate::refusing::is_turned_away;
 use command_core::{Outcome, evaluate};
 use depot_rows::model::{Command, Reply, Request, Row};
 use depot_rows::paths::Sequence;
-use depot_rows::records::Spot;
 use depot_rows::tables::Tables;
 use replica_pull::Replica;
-use reply_rows::read_only_row;
+use reply_rows::{RowContent, read_only_row};
 use std::alloc::{AllocError, Global};
 
 /// What a replica answers to a command.
@@ -27,8 +26,8 @@ use std::alloc::{AllocError, Global};
 pub struct Answered {
     /// The reply. A row that lacks its content has an empty one.
     pub reply: Reply,
-    /// Where the contents stand in the master's archive that the rows lack, in the order of the rows.
-    pub reads: Sequence<Spot>,
+    /// Where the contents come from that the rows lack, in the order of the rows; a spot is one of the master's archive.
+    pub reads: Sequence<RowContent>,
 }
 
 /// A reply of one row, without contents.

@@ -1,14 +1,13 @@
 //! The commands that a replica turns away.
 
-ghost use Rattle.std.specs.Prelude.{◌≡◌, ◌&&◌};
-ghost use Rattle.depot_runs.specs.Built.{is_built};
+ghost use Rattle.std.specs.Prelude.{◌≡◌};
 ghost use Rattle.depot_runs.specs.Replica.{is_refused};
 
 use depot_rows::model::Command;
 
-/// Whether a command is built that writes a table or shows a shelf.
+/// Whether a command writes a table or shows a shelf.
 pub(crate) fn is_turned_away(command: &Command) -> bool
-    ensures { result ≡ is_built command.now && is_refused command.now }
+    ensures { result ≡ is_refused command.now }
 {
     match command {
         Command::CounterSet { .. }
@@ -34,6 +33,10 @@ pub(crate) fn is_turned_away(command: &Command) -> bool
         | Command::LabelSync { .. }
         | Command::Integrate { .. }
         | Command::Resolve { .. }
+        | Command::Shelve { .. }
+        | Command::ShelveDelete { .. }
+        | Command::Unshelve { .. }
+        | Command::DescribeShelved { .. }
         | Command::JobSave
         | Command::Fix { .. }
         | Command::FixDelete { .. }
@@ -57,10 +60,6 @@ pub(crate) fn is_turned_away(command: &Command) -> bool
         | Command::Describe { .. }
         | Command::Dirs { .. }
         | Command::FileStat { .. }
-        | Command::Shelve { .. }
-        | Command::ShelveDelete { .. }
-        | Command::Unshelve { .. }
-        | Command::DescribeShelved { .. }
         | Command::JobShow { .. }
         | Command::Jobs
         | Command::Fixes { .. }

@@ -1,5 +1,4 @@
 pub mod Along
-pub mod Contents
 pub mod CutContents
 pub mod Following
 pub mod Masters

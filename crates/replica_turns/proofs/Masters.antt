@@ -17,7 +17,7 @@ use Rattle.depot_rows.specs.depot_model.declared.request.Request.{Request}
 use Rattle.depot_rows.specs.Standing.{Stand}
 use Rattle.depot_runs.specs.Kept.{IsChange}
 use Rattle.depot_runs.specs.Replica.{IsAfterChanges}
-use Rattle.depot_runs.specs.Today.{step}
+use Rattle.depot_rows.specs.depot_model.Commands.{step}
 use Rattle.journal_groups.specs.Groups.{groups_text}
 use Rattle.recovery.specs.Holding.{group_texts, joined}
 use Rattle.replica_pull.specs.Prefix.{HasGrown, begun, changes_from, first_rows}

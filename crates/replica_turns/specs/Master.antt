@@ -12,7 +12,7 @@ use Rattle.depot_rows.specs.depot_model.Step.{after}
 use Rattle.depot_rows.specs.Standing.{Stand}
 use Rattle.depot_runs.specs.Kept.{IsChange}
 use Rattle.depot_runs.specs.Replica.{IsAfterChanges}
-use Rattle.depot_runs.specs.Today.{step}
+use Rattle.depot_rows.specs.depot_model.Commands.{step}
 use Rattle.journal_groups.specs.Groups.{IsGroup, groups_text}
 use Rattle.recovery.specs.Holding.{joined}
 use Rattle.replica_pull.specs.Prefix.{HasGrown, changes_from, first_rows}

@@ -8,7 +8,7 @@ ghost use Rattle.depot_rows.specs.db_records.declared.change.Change.{Change};
 ghost use Rattle.depot_rows.specs.depot_model.Deeds.{Deed};
 ghost use Rattle.depot_rows.specs.depot_model.Places.{Placed, taken};
 ghost use Rattle.depot_rows.specs.depot_model.declared.request.Request.{Request};
-ghost use Rattle.depot_runs.specs.Today.{step};
+ghost use Rattle.depot_rows.specs.depot_model.Commands.{step};
 ghost use Rattle.outside_api.specs.Disk.{Files};
 ghost use Rattle.serial_depot.specs.Committing.{AreRowsAfter};
 ghost use Rattle.serial_depot.specs.Growing.{Chronicle, HasGroups, KeepsStored, grown};

@@ -29,8 +29,7 @@ use Rattle.depot_rows.specs.depot_model.declared.request.WordFault.{WordFault}
 use Rattle.depot_rows.proofs.Counters.{count-met}
 use Rattle.depot_rows.proofs.Keys.{at-is}
 use Rattle.depot_rows.specs.Standing.{Stand, row_in}
-use Rattle.depot_runs.specs.Built.{is_built}
-use Rattle.depot_runs.specs.Today.{step}
+use Rattle.depot_rows.specs.depot_model.Commands.{step}
 use Rattle.row_changes.specs.Differences.{AreDifferences, LeadsTo, change_at, changed_key}
 use Rattle.row_texts.proofs.Changes.{own_change}
 use Rattle.serial_depot.proofs.Differences.{all_differ, no_changes}
@@ -58,7 +57,7 @@ request_deeds request d is = by_asked request.command refl is
   where
     by_asked : (asked : Result Command WordFault) → request.command ≡ asked → opens asked ≡ true → NoneOrNext d (step d request).deeds
     by_asked (Err fault) e opening = absurd (let never : false ≡ true = opening in cc)
-    by_asked (Ok command) e opening = step_from (NoneOrNext d) (inl refl) is_built d request Checkpoint (e ∙ ap Ok (only_checkpoint command opening)) (checkpoint_deeds d)
+    by_asked (Ok command) e opening = step_from (NoneOrNext d) (inl refl) d request Checkpoint (e ∙ ap Ok (only_checkpoint command opening)) (checkpoint_deeds d)
 
 -- ---- its change
 

@@ -11,15 +11,15 @@ use Rattle.disk_journal.specs.Stands.{Doubtful, HasWithOrWithout, Stands, genera
 use Rattle.disk_journal.specs.declared.journal.Journal.{Journal}
 use Rattle.depot_rows.specs.table_changes.Changed.{AllRows, changed_by, rows_of}
 use Rattle.depot_rows.specs.table_store.declared.tables.Tables.{Tables}
-use Rattle.depot_runs.specs.Today.{step}
+use Rattle.depot_rows.specs.depot_model.Commands.{step}
 use Rattle.depot_rows.specs.depot_model.Deeds.{Deed}
 use Rattle.depot_rows.specs.depot_model.Places.{Placed, taken}
 use Rattle.depot_rows.specs.depot_model.Rules.{IsSound}
 use Rattle.depot_rows.specs.depot_model.Step.{after}
 use Rattle.depot_rows.specs.depot_model.declared.request.Request.{Request}
-use Rattle.depot_rows.specs.db_records.declared.change.Spot.{Spot}
 use Rattle.depot_rows.specs.depot_model.declared.reply.Row.{Row}
-use Rattle.reply_rows.specs.Made.{StandAt, contents_of}
+use Rattle.reply_rows.specs.Made.{ComeFrom, contents_of}
+use Rattle.reply_rows.specs.declared.content.RowContent.{RowContent}
 use Rattle.session_loop.specs.Taking.{placed_by}
 use Rattle.stored_contents.specs.Placed.{StandAfter}
 use Rattle.serial_depot.specs.Committing.{AreChangesOf}
@@ -31,7 +31,8 @@ use Rattle.serial_depot.specs.Storing.{AllReach, AreAt, HasStored, stores_end}
 use Rattle.serial_depot.specs.declared.depot.SerialDepot.{SerialDepot}
 use Rattle.serial_depot.proofs.Moved.{has_run_moved, over_moved, over_settled, over_unsettled}
 use Rattle.serial_depot.proofs.Steps.{over_done, over_failed, over_faulted}
-use Rattle.serial_depot.proofs.Stored.{contents_at, contents_follow, contents_kept, grows, keeps_more, stored_all, stored_keeps, stored_reach}
+use Rattle.serial_depot.proofs.Contents.{contents_at}
+use Rattle.serial_depot.proofs.Stored.{contents_follow, contents_kept, grows, keeps_more, stored_all, stored_keeps, stored_reach}
 
 -- the journal stands, whether the writing failed or not
 pub standing : {D : Type 0} (may_leave : D → Files → Type 0) (journal : Journal D) (was : Committed) (doubt written : Doubtful) (failed : Bool) → StandsBy may_leave journal was doubt written failed
@@ -43,7 +44,7 @@ standing may_leave journal was doubt written true stands = (was, (stands.0, stan
 pub contents_are : (rows : AllRows) (d : List Deed) (request : Request) (from : ℕ) (outcome : Outcome) (files : Files) → HasItsContents rows d files → IsOutcome rows from d request outcome
     → (texts : List (List ℕ)) → ((contents : List (List ℕ)) → AreAt (files 0) outcome.reads contents → texts ≡ contents) → texts ≡ contents_of (step d request).rows
 contents_are rows d request from outcome files has is texts read =
-    read (contents_of (step d request).rows) (contents_at rows d files has (contents_of (step d request).rows) outcome.reads is.reads)
+    read (contents_of (step d request).rows) (contents_at (files 0) rows d has.contents (contents_of (step d request).rows) outcome.reads is.reads)
 
 module _ {D : Type 0} (may_leave : D → Files → Type 0) (moment : D → ℕ) (left_since : D → ℕ → Files → Type 0) (images : Files → Type 0) (used : ℕ) (tables : Tables) (journal : Journal D) (since : ℕ) (start : List Deed) (places : List Placed) (request : Request)
     (h : HasRunOver may_leave moment left_since images used tables journal since start places) where
@@ -131,15 +132,15 @@ module _ {D : Type 0} (seen may_leave : D → Files → Type 0) (moment : D → 
       has_run_moved seen may_leave moment left_since depot since start places h archive (omega (arith, same_used)) (h.tells.0, same.kept h.tells.0 h.tells.1)
       (keeps_more (may_leave (archives.disk_of depot.archive)) (may_leave (archives.disk_of archive)) (archives.used_of depot.archive) more)
 
--- where nothing is read no row has a content
-pub none_waits : (rows : AllRows) (d : List Deed) (contents : List (List ℕ)) (reads : List Spot) → StandAt rows d contents reads → reads ≡ [] → contents ≡ []
-none_waits rows d [] reads at none = refl
-none_waits rows d (content ∷ contents) reads at none = absurd (subst (StandAt rows d (content ∷ contents)) none at)
+-- where no content is waited for no row has one
+pub none_waits : (rows : AllRows) (d : List Deed) (contents : List (List ℕ)) (reads : List RowContent) → ComeFrom rows d contents reads → reads ≡ [] → contents ≡ []
+none_waits rows d [] reads from none = refl
+none_waits rows d (content ∷ contents) reads from none = absurd (subst (ComeFrom rows d (content ∷ contents)) none from)
 
--- where no row has a content nothing is read
-pub none_read : (rows : AllRows) (d : List Deed) (reads : List Spot) (told : List Row) → StandAt rows d (contents_of told) reads → contents_of told ≡ [] → reads ≡ []
-none_read rows d reads told at none = go reads (subst (λ (contents : List (List ℕ)). StandAt rows d contents reads) none at)
+-- where no row has a content none is waited for
+pub none_read : (rows : AllRows) (d : List Deed) (reads : List RowContent) (told : List Row) → ComeFrom rows d (contents_of told) reads → contents_of told ≡ [] → reads ≡ []
+none_read rows d reads told from none = go reads (subst (λ (contents : List (List ℕ)). ComeFrom rows d contents reads) none from)
   where
-    go : (reads : List Spot) → StandAt rows d [] reads → reads ≡ []
-    go [] at = refl
-    go (spot ∷ reads) at = absurd at
+    go : (reads : List RowContent) → ComeFrom rows d [] reads → reads ≡ []
+    go [] from = refl
+    go (place ∷ reads) from = absurd from

@@ -4,7 +4,7 @@ use Rattle.outside_api.specs.Disk.{Files}
 use Rattle.disk_journal.specs.Images.{Committed, HasCommitted, with_generation, with_group}
 use Rattle.disk_journal.specs.Stands.{Doubtful, nothing, group, opening, HasWithOrWithout}
 use Rattle.depot_rows.specs.table_changes.Changed.{AllRows}
-use Rattle.depot_runs.specs.Today.{step}
+use Rattle.depot_rows.specs.depot_model.Commands.{step}
 use Rattle.depot_rows.specs.depot_model.Deeds.{Deed}
 use Rattle.depot_runs.specs.Kept.{IsKept, KeptInDoubt}
 use Rattle.depot_rows.specs.depot_model.Places.{Placed, deeds_of, taken}

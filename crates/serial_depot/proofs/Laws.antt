@@ -6,8 +6,7 @@ use Rattle.journal_groups.specs.Groups.{AreRecords}
 use Rattle.command_core.specs.Outcomes.{IsFormed, IsFormedBy}
 use Rattle.command_words.specs.WellFormed.{IsWellFormed}
 use Rattle.depot_rows.specs.table_changes.Changed.{AllRows}
-use Rattle.depot_runs.specs.Built.{is_built}
-use Rattle.depot_runs.specs.Today.{step}
+use Rattle.depot_rows.specs.depot_model.Commands.{step}
 use Rattle.depot_rows.specs.db_records.declared.record.Record.TheVariants.{Counter as CounterRow}
 use Rattle.depot_rows.specs.depot_model.Deeds.{Count, Deed}
 use Rattle.depot_rows.specs.depot_model.Latest.{count_of}
@@ -57,13 +56,13 @@ formed_of request proper = go request.command proper.0
     go (Err fault) h = tt
 
 pub sound_after : (request : Request) → IsProper request → is_typed request ≡ true → (d : List Deed) → IsSound d → IsSound (after d (step d request).deeds)
-sound_after request proper typed d sound = asked_sound is_built d request sound (asked_of request proper) typed
+sound_after request proper typed d sound = asked_sound d request sound (asked_of request proper) typed
 
 -- ---- depots with the same rows and contents do the same and are answered alike, and have the same contents after the same deeds
 
 pub steps_alike : (d e : List Deed) (request : Request) → IsSound d → IsSound e → SameRows d e → SameContents d e → step d request ≡ step e request
 steps_alike d e request left right same_rows same_contents =
-    step_same d e (record { left = left; right = right; rows = same_rows; contents = same_contents }) request is_built
+    step_same d e (record { left = left; right = right; rows = same_rows; contents = same_contents }) request
 
 pub contents_after_alike : (d e : List Deed) (request : Request) → IsSound d → IsSound e → SameRows d e → SameContents d e → SameContents (after d (step d request).deeds) (after e (step d request).deeds)
 contents_after_alike d e request left right same_rows same_contents =
@@ -91,18 +90,18 @@ checkpoint_opens d = go (nat_le 4095 (generation d))
     go false = inr (ap (λ (n : ℕ). n + 1) (sym (told_is_counted d)))
 
 request_opens : (request : Request) (d : List Deed) → request.command ≡ Ok Checkpoint → no_deed_or_next d (step d request).deeds
-request_opens request d is = step_from (no_deed_or_next d) (inl refl) is_built d request Checkpoint is (checkpoint_opens d)
+request_opens request d is = step_from (no_deed_or_next d) (inl refl) d request Checkpoint is (checkpoint_opens d)
 
 other_stays : (request : Request) (command : Command) → IsProper request → request.command ≡ Ok command → command ≢ Checkpoint → (d : List Deed) → generation_in (after d (step d request).deeds) ≡ generation_in d
 other_stays request command proper is other d =
     let formed : is_command command ≡ true = (subst (λ (asked : Result Command WordFault). IfOk asked IsWellFormed) is proper.0).form in
     let Counts : Result Command WordFault → Type 0 = λ asked. IfOk asked CountsNoGeneration in
-    request_keeps_generation is_built d request (subst Counts (sym is) (formed, other))
+    request_keeps_generation d request (subst Counts (sym is) (formed, other))
 
 fault_stays : (request : Request) (fault : WordFault) → request.command ≡ Err fault → (d : List Deed) → generation_in (after d (step d request).deeds) ≡ generation_in d
 fault_stays request fault is d =
     let Counts : Result Command WordFault → Type 0 = λ asked. IfOk asked CountsNoGeneration in
-    request_keeps_generation is_built d request (subst Counts (sym is) tt)
+    request_keeps_generation d request (subst Counts (sym is) tt)
 
 no_checkpoint : (command : Command) → is_checkpoint command ≡ false → command ≢ Checkpoint
 no_checkpoint Checkpoint other = absurd cc

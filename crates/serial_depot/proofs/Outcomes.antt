@@ -6,7 +6,7 @@ use Rattle.command_core.specs.Outcomes.{HasNeeded}
 use Rattle.command_core.specs.declared.outcome.Outcome.{Outcome}
 use Rattle.depot_rows.specs.db_records.declared.table.TableId.TheVariants.{Rev}
 use Rattle.depot_rows.specs.table_changes.Changed.{AllFitIn, AllRows}
-use Rattle.depot_runs.specs.Today.{step}
+use Rattle.depot_rows.specs.depot_model.Commands.{step}
 use Rattle.depot_rows.specs.depot_model.Deeds.{Deed}
 use Rattle.depot_rows.specs.depot_model.Places.{Placed, taken, told_at}
 use Rattle.depot_rows.specs.depot_model.Printed.{printed}

@@ -2,7 +2,7 @@
 use Rattle.std.proofs.Common.{◌≡◌, ◌≢◌, ◌⊎◌, ℕ, ◌≤◌, ◌+◌, Bool, true, false, List, [], ◌∷◌, ◌++◌, length, take, refl, sym, ap, subst, ◌∙◌, inl, inr, arith}
 use Rattle.std.proofs.lemmas.List.{take-append-le, take_all, length-append}
 use Rattle.depot_rows.specs.table_changes.Changed.{AllRows}
-use Rattle.depot_runs.specs.Today.{step}
+use Rattle.depot_rows.specs.depot_model.Commands.{step}
 use Rattle.depot_rows.specs.depot_model.Deeds.{Deed}
 use Rattle.depot_runs.specs.Kept.{IsChange, NoChange, IsKept, KeptInDoubt}
 use Rattle.depot_rows.specs.depot_model.Places.{Placed, deeds_of, done_at, taken}

@@ -10,7 +10,7 @@ use Rattle.disk_journal.specs.Stands.{Doubtful, nothing, group, opening, HasWith
 use Rattle.disk_journal.specs.declared.journal.Journal.{Journal}
 use Rattle.depot_rows.specs.table_changes.Changed.{AllRows, changed_by, rows_of}
 use Rattle.depot_rows.specs.table_store.declared.tables.Tables.{Tables}
-use Rattle.depot_runs.specs.Today.{step}
+use Rattle.depot_rows.specs.depot_model.Commands.{step}
 use Rattle.depot_rows.specs.depot_model.Deeds.{Deed}
 use Rattle.depot_runs.specs.Kept.{IsChange}
 use Rattle.depot_rows.specs.depot_model.Places.{Placed, done_at, taken}

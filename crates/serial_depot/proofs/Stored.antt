@@ -28,13 +28,13 @@ use Rattle.depot_rows.specs.Standing.{Stand}
 use Rattle.recovery.specs.Holding.{spot_end, spots_end}
 use Rattle.recovery.specs.Rules.{DeletesAreUnplaced}
 use Rattle.recovery.specs.Standing.{HasContent}
-use Rattle.reply_rows.specs.Made.{IsSpotOf, StandAt}
+use Rattle.reply_rows.specs.declared.content.RowContent.{RowContent}
 use Rattle.step_stores.specs.Stored.{StandsAmong}
 use Rattle.stored_contents.specs.Placed.{HasNoneIfDeleted, HasPlace, HasSpot, IfPut, IsPlacedAt, StandAfter, spot_of}
-use Rattle.serial_depot.specs.Holding.{HasItsContents, KeepContents}
-use Rattle.serial_depot.proofs.Contents.{revision_there}
+use Rattle.serial_depot.specs.Holding.{KeepContents}
+use Rattle.serial_depot.proofs.Contents.{one_row, revision_there}
 use Rattle.serial_depot.proofs.Staying.{row_there}
-use Rattle.serial_depot.specs.Storing.{AllReach, AllStored, AreAt, AreStored, HasStored, KeepsBelow, stores_end}
+use Rattle.serial_depot.specs.Storing.{AllReach, AllStored, AreAt, AreStored, HasStored, IsAt, KeepsBelow, stores_end}
 
 -- what holds anyway holds on an error
 pub on_err : {T E : Type 0} (result : Result T E) (P : Type 0) → P → OnErr result P
@@ -279,35 +279,32 @@ module _ (images : Files → Type 0) (from : ℕ) (first second : List (List ℕ
         reach = omega (arith, far, end);
       }
 
--- ---- contents at their spots
+-- ---- contents at their places
 
-pub at_length : (file : List ℕ) (spots : List Spot) (contents : List (List ℕ)) → AreAt file spots contents → length contents ≡ length spots
+pub at_length : (file : List ℕ) (places : List RowContent) (contents : List (List ℕ)) → AreAt file places contents → length contents ≡ length places
 at_length file [] [] at = refl
 at_length file [] (content ∷ contents) at = absurd at
-at_length file (spot ∷ spots) [] at = absurd at
-at_length file (spot ∷ spots) (content ∷ contents) at = ap suc (at_length file spots contents at.1)
+at_length file (place ∷ places) [] at = absurd at
+at_length file (place ∷ places) (content ∷ contents) at = ap suc (at_length file places contents at.1)
 
 -- the content of one place
-pub record AtIndex (file : List ℕ) (spot : Spot) (contents : List (List ℕ)) (i : ℕ) : Type 0 where
+pub record AtIndex (file : List ℕ) (place : RowContent) (contents : List (List ℕ)) (i : ℕ) : Type 0 where
   pub content : List ℕ
-  pub has : Has file spot content
+  pub here : IsAt file place content
   pub more : take (i + 1) contents ≡ take i contents ++ content ∷ []
 
-pub at_index : (file : List ℕ) (spots : List Spot) (contents : List (List ℕ)) (i : ℕ) (d : Spot) → AreAt file spots contents → i < length spots → AtIndex file (get_or spots i d) contents i
+pub at_index : (file : List ℕ) (places : List RowContent) (contents : List (List ℕ)) (i : ℕ) (d : RowContent) → AreAt file places contents → i < length places → AtIndex file (get_or places i d) contents i
 at_index file [] contents i d at lt = absurd (omega (arith, lt))
-at_index file (first ∷ spots) [] i d at lt = absurd at
-at_index file (first ∷ spots) (content ∷ contents) zero d at lt =
+at_index file (first ∷ places) [] i d at lt = absurd at
+at_index file (first ∷ places) (content ∷ contents) zero d at lt =
     let on : zero + 1 ≡ suc zero = omega arith in
-    record { content = content; has = at.0; more = ap (λ (n : ℕ). take n (content ∷ contents)) on }
-at_index file (first ∷ spots) (content ∷ contents) (suc i) d at lt =
-    let rest = at_index file spots contents i d at.1 (omega (arith, lt)) in
+    record { content = content; here = at.0; more = ap (λ (n : ℕ). take n (content ∷ contents)) on }
+at_index file (first ∷ places) (content ∷ contents) (suc i) d at lt =
+    let rest = at_index file places contents i d at.1 (omega (arith, lt)) in
     let on : suc i + 1 ≡ suc (i + 1) = omega arith in
-    record { content = rest.content; has = rest.has; more = ap (λ (n : ℕ). take n (content ∷ contents)) on ∙ ap (λ (l : List (List ℕ)). content ∷ l) rest.more }
+    record { content = rest.content; here = rest.here; more = ap (λ (n : ℕ). take n (content ∷ contents)) on ∙ ap (λ (l : List (List ℕ)). content ∷ l) rest.more }
 
 -- ---- contents
-
-one_row : (a b : RevRecord) → Some (RevRow a) ≡ Some (RevRow b) → a ≡ b
-one_row a b e = cc
 
 -- the contents of a depot stay, where images keep what ends below what is used
 pub contents_kept : (old new : Files → Type 0) (used used' : ℕ) (rows : AllRows) (d : List Deed) → used ≤ used' → KeepsBelow old new used → Stand rows d
@@ -367,17 +364,3 @@ contents_follow images used used' from rows d e stores changes placed sound le k
         let here : HasContent (image 0) s.row bytes = subst (λ (x : RevRecord). HasContent (image 0) x bytes) (one_row found.0 s.row (sym found.1 ∙ s.there)) found.2 in
         subst (λ (x : Spot). Has (image 0) x bytes) (sym s.at) here
     at_spot image left spot bytes (inr among) = stored_at images image left stores from spot bytes stored among
-
--- the contents that a reply waits for are at their spots in an image that has the contents of the depot
-pub contents_at : (rows : AllRows) (d : List Deed) (image : Files) → HasItsContents rows d image → (contents : List (List ℕ)) (spots : List Spot) → StandAt rows d contents spots → AreAt (image 0) spots contents
-contents_at rows d image has [] [] at = tt
-contents_at rows d image has [] (spot ∷ spots) at = absurd at
-contents_at rows d image has (content ∷ contents) [] at = absurd at
-contents_at rows d image has (content ∷ contents) (spot ∷ spots) at = (here at.0, contents_at rows d image has contents spots at.1)
-  where
-    here : IsSpotOf rows d content spot → Has (image 0) spot content
-    here s =
-        let r = revision_there (revision d s.path s.rev) content s.content_is in
-        let found = has.contents s.path s.rev r.0 content r.1 r.2 in
-        let row : HasContent (image 0) s.row content = subst (λ (x : RevRecord). HasContent (image 0) x content) (one_row found.0 s.row (sym found.1 ∙ s.there)) found.2 in
-        subst (λ (x : Spot). Has (image 0) x content) (sym s.at) row

@@ -5,7 +5,7 @@ use Rattle.journal_groups.specs.Groups.{AreRecords}
 use Rattle.command_core.specs.Outcomes.{IsOutcome}
 use Rattle.command_core.specs.declared.outcome.Outcome.{Outcome}
 use Rattle.depot_rows.specs.table_changes.Changed.{AllRows, changed_by}
-use Rattle.depot_runs.specs.Today.{step}
+use Rattle.depot_rows.specs.depot_model.Commands.{step}
 use Rattle.depot_rows.specs.depot_model.Deeds.{Deed}
 use Rattle.depot_rows.specs.depot_model.Step.{after}
 use Rattle.depot_rows.specs.depot_model.declared.order.Answer.{Answer}

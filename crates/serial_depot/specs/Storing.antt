@@ -1,8 +1,10 @@
--- Contents that are stored in the archive, one after another from a place on, and read there. This project's own choice.
+-- Contents that are stored in the archive, one after another from a place on, and contents that are read there or given. This project's own choice.
 use Rattle.std.specs.Prelude.{◌≡◌, ◌≤◌, ◌+◌, ℕ, List, [], ◌∷◌, length}
 use Rattle.outside_api.specs.Disk.{Files}
 use Rattle.depot_rows.specs.db_records.declared.change.Spot.{Spot}
 use Rattle.archive_file.specs.Archive.{AllHave, Has, end_of}
+use Rattle.reply_rows.specs.declared.content.RowContent.{RowContent}
+use Rattle.reply_rows.specs.declared.content.RowContent.TheVariants.{At, Given}
 
 -- new images keep each content that ends at or before a place
 abbrev pub KeepsBelow : (Files → Type 0) → (Files → Type 0) → ℕ → Type 0
@@ -34,8 +36,18 @@ pub record HasStored (images : Files → Type 0) (used : ℕ) (stores : List (Li
   pub stored : AreStored (image 0) stores used
   pub reach : stores_end stores used ≤ length (image 0)
 
--- a file has each of these contents at its spot
-abbrev pub AreAt : List ℕ → List Spot → List (List ℕ) → Type 0
+-- what is read for a content, if anything is, ends at or before a place
+abbrev pub EndsBy : ℕ → RowContent → Type 0
+EndsBy place (At spot) = end_of spot ≤ place
+EndsBy place (Given text) = Unit {0}
+
+-- a file has a content at its spot, or it is the text that is given
+abbrev pub IsAt : List ℕ → RowContent → List ℕ → Type 0
+IsAt file (At spot) content = Has file spot content
+IsAt file (Given text) content = text ≡ content
+
+-- so is each of several
+abbrev pub AreAt : List ℕ → List RowContent → List (List ℕ) → Type 0
 AreAt file [] [] = Unit {0}
-AreAt file (spot ∷ spots) (content ∷ contents) = Has file spot content × AreAt file spots contents
+AreAt file (place ∷ places) (content ∷ contents) = IsAt file place content × AreAt file places contents
 AreAt file _ _ = ⊥

@@ -5,7 +5,7 @@ use Rattle.depot_rows.specs.depot_model.Deeds.{Deed}
 use Rattle.depot_rows.specs.depot_model.Printed.{printed}
 use Rattle.depot_rows.specs.depot_model.Rows.{disk_row}
 use Rattle.depot_rows.specs.depot_model.declared.request.Request.{Request}
-use Rattle.depot_runs.specs.Today.{step}
+use Rattle.depot_rows.specs.depot_model.Commands.{step}
 use Rattle.row_texts.specs.Texts.{IsOf64Bits, is_counted}
 use Rattle.serial_depot.specs.declared.telling.Told.{Told}
 

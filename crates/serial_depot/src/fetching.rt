@@ -18,9 +18,9 @@ use crate::depot::SerialDepot;
 use crate::storing::{are_within, read_all};
 use archive_file::{Archive, ContentFault};
 use depot_rows::paths::{Sequence, Text};
-use depot_rows::records::Spot;
 use disk_journal::Journal;
 use outside_api::{Disk, DiskFault, Fetched};
+use reply_rows::RowContent;
 use std::alloc::Global;
 
 /// Committed bytes of a journal of a generation from a place on, at the front of the buffer, as far as the
@@ -41,22 +41,23 @@ pub fn fetch_texts<D: Disk>(
     journal.fetch(generation, at, buffer)
 }
 
-/// The contents at spots of an archive, in their order. A spot that ends behind what is used of it is
-/// answered as want of memory. Without spots no call of the disk is made.
+/// The contents of these places, in their order: each the bytes at its spot of an archive, or a copy of
+/// the text that is given. A spot that ends behind what is used of the archive is answered as want of
+/// memory. Without places no call of the disk is made.
 pub fn read_contents<D: Disk>(
     alloc: Global,
     archive: &mut Archive<D>,
-    spots: &[Spot],
+    places: &[RowContent],
 ) -> Result<Sequence<Text>, ContentFault>
-    ensures contents { (files : Files) (contents : List (List ℕ)) → D.seen (archive_disk_of archive.old) files → AreAt (files 0) spots.now contents → IfOk result (λ texts. texts ≡ contents) }
+    ensures contents { (files : Files) (contents : List (List ℕ)) → D.seen (archive_disk_of archive.old) files → AreAt (files 0) places.now contents → IfOk result (λ texts. texts ≡ contents) }
     ensures read { IsRead D.seen D.may_leave archive.old archive.new }
-    ensures no_call { spots.now ≡ [] → archive.new ≡ archive.old }
+    ensures no_call { places.now ≡ [] → archive.new ≡ archive.old }
     ensures cause { HasMemoryOr (D.faults (archive_disk_of archive.old)) (D.faults (archive_disk_of archive.new)) result }
 {
-    if !are_within(spots, archive.used()) {
+    if !are_within(places, archive.used()) {
         return Err(ContentFault::Memory);
     }
-    read_all(alloc, archive, spots)
+    read_all(alloc, archive, places)
 }
 
 impl<D: Disk> SerialDepot<D> {
@@ -83,14 +84,14 @@ impl<D: Disk> SerialDepot<D> {
         fetch_texts(&mut self.journal, generation, at, buffer)
     }
 
-    /// The contents at spots of the archive, in their order. A spot that ends behind what is used of the archive, which no row of the tables has, is
-    /// answered as want of memory. Without spots no call of the disk is made.
+    /// The contents of these places, in their order: each the bytes at its spot of the archive, or a copy of the text that is given. A spot that ends behind
+    /// what is used of the archive, which no row of the tables has, is answered as want of memory. Without places no call of the disk is made.
     pub fn contents(
         &mut self,
         alloc: Global,
-        spots: &[Spot],
+        places: &[RowContent],
     ) -> Result<Sequence<Text>, ContentFault>
-        ensures contents { (files : Files) (contents : List (List ℕ)) → D.seen (archive_disk_of self.old.archive) files → AreAt (files 0) spots.now contents → IfOk result (λ texts. texts ≡ contents) }
+        ensures contents { (files : Files) (contents : List (List ℕ)) → D.seen (archive_disk_of self.old.archive) files → AreAt (files 0) places.now contents → IfOk result (λ texts. texts ≡ contents) }
         ensures can { CanTake D.may_leave self.old → CanTake D.may_leave self.new }
         ensures ran { (since : ℕ) (start : List Deed) (places : List Placed) → HasRun D.seen D.may_leave D.moment D.left_since self.old since start places →
             HasRun D.seen D.may_leave D.moment D.left_since self.new since start places }
@@ -98,9 +99,9 @@ impl<D: Disk> SerialDepot<D> {
         ensures journal { self.new.journal ≡ self.old.journal }
         ensures groups { (c : Chronicle) → HasGroups D.seen D.may_leave self.old.journal c → HasGroups D.seen D.may_leave self.new.journal c }
         ensures stored { KeepsStored D.may_leave self.old.archive self.new.archive }
-        ensures no_call { spots.now ≡ [] → self.new ≡ self.old }
+        ensures no_call { places.now ≡ [] → self.new ≡ self.old }
         ensures cause { HasMemoryOr (D.faults (archive_disk_of self.old.archive)) (D.faults (archive_disk_of self.new.archive)) result }
     {
-        read_contents(alloc, &mut self.archive, spots)
+        read_contents(alloc, &mut self.archive, places)
     }
 }

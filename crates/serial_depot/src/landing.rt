@@ -8,7 +8,7 @@ ghost use Rattle.depot_rows.specs.Standing.{Stand};
 ghost use Rattle.depot_rows.specs.depot_model.Deeds.{Deed};
 ghost use Rattle.depot_rows.specs.depot_model.Places.{Placed, taken};
 ghost use Rattle.depot_rows.specs.table_changes.Changed.{AllFitIn, changed_by, rows_of};
-ghost use Rattle.depot_runs.specs.Today.{step};
+ghost use Rattle.depot_rows.specs.depot_model.Commands.{step};
 ghost use Rattle.disk_journal.specs.Stands.{disk_of};
 ghost use Rattle.session_loop.specs.Taking.{Answers, IsProper, place_by, with_place};
 ghost use Rattle.serial_depot.specs.Committing.{AreRowsAfter, IsOutcomeOf, IsToldAt};

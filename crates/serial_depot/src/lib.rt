@@ -1,7 +1,8 @@
 //! A depot in files that one thread asks.
 //!
-//! It keeps the rows of the tables in memory, reads the contents that a reply has from the archive, and
-//! before it answers stores the contents of a command there and commits what it changes to the journal.
+//! It keeps the rows of the tables in memory, reads the contents that a reply has from the archive where
+//! they aren't given, and before it answers stores the contents of a command there and commits what it
+//! changes to the journal.
 #![tactic(auto)]
 
 mod commit;

@@ -5,7 +5,7 @@ ghost use Rattle.archive_file.specs.Archive.{disk_of as archive_disk_of, used_of
 ghost use Rattle.outside_api.specs.Count.{HasRisen};
 ghost use Rattle.depot_rows.specs.db_records.declared.change.Change.{Change as AnyChange};
 ghost use Rattle.depot_rows.specs.table_changes.Changed.{AllFitIn, changed_by, rows_of};
-ghost use Rattle.depot_runs.specs.Today.{step};
+ghost use Rattle.depot_rows.specs.depot_model.Commands.{step};
 ghost use Rattle.depot_rows.specs.depot_model.Deeds.{Deed};
 ghost use Rattle.depot_rows.specs.depot_model.Places.{Placed, taken};
 ghost use Rattle.depot_rows.specs.depot_model.Step.{after};

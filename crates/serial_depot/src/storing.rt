@@ -1,15 +1,15 @@
-//! Contents that commands store in the archive, and contents that they read there.
+//! Contents that commands store in the archive, and contents that they read there or are given.
 
 ghost use Rattle.std.specs.Prelude.{◌≡◌, ◌↔◌, ◌≤◌, ◌<◌, ◌^◌, ℕ, List, [], All, IsTrue, IfOk};
-ghost use Rattle.archive_file.specs.Archive.{HasMemoryOr, disk_of, end_of, used_of};
+ghost use Rattle.archive_file.specs.Archive.{HasMemoryOr, disk_of, used_of};
 ghost use Rattle.outside_api.specs.Count.{HasCause};
 ghost use Rattle.outside_api.specs.Disk.{Files, NoMore, Same, StillTells};
-ghost use Rattle.serial_depot.specs.Storing.{AllReach, AllStored, AreAt, KeepsBelow, stores_end};
+ghost use Rattle.serial_depot.specs.Storing.{AllReach, AllStored, AreAt, EndsBy, IsAt, KeepsBelow, stores_end};
 
 use archive_file::{Archive, ContentFault};
 use depot_rows::paths::{Sequence, Text};
-use depot_rows::records::Spot;
 use outside_api::{Disk, DiskFault};
+use reply_rows::RowContent;
 use std::alloc::Global;
 
 /// Stores contents one after another from a place on that isn't below what is used of the archive, and
@@ -39,42 +39,68 @@ pub(crate) fn store_all<D: Disk>(
     Ok(end)
 }
 
-/// Whether a spot ends within what is used of the archive.
-fn is_within(spot: &Spot, used: u64) -> bool
-    ensures { IsTrue result ↔ (end_of spot.now ≤ used) }
+/// Whether what is read for a content, if anything is, ends within what is used of the archive.
+fn is_within(place: &RowContent, used: u64) -> bool
+    ensures { IsTrue result ↔ EndsBy used place.now }
 {
-    spot.at <= used && spot.length <= used - spot.at
+    match place {
+        RowContent::At(spot) => spot.at <= used && spot.length <= used - spot.at,
+        RowContent::Given(_) => true,
+    }
 }
 
-/// Whether all spots do.
-pub(crate) fn are_within(spots: &[Spot], used: u64) -> bool
-    ensures { IsTrue result ↔ All (λ spot. end_of spot ≤ used) spots.now }
+/// Whether that holds of all.
+pub(crate) fn are_within(places: &[RowContent], used: u64) -> bool
+    ensures { IsTrue result ↔ All (EndsBy used) places.now }
 {
-    for spot in spots {
-        if !is_within(spot, used) {
+    for place in places {
+        if !is_within(place, used) {
             return false;
         }
     }
     true
 }
 
-/// The contents at spots, in their order. Without spots no call of the disk is made.
-pub(crate) fn read_all<D: Disk>(
+/// A content: the bytes at its spot of the archive, or a copy of the text that is given.
+fn read_one<D: Disk>(
     alloc: Global,
     archive: &mut Archive<D>,
-    spots: &[Spot],
-) -> Result<Sequence<Text>, ContentFault>
-    requires { All (λ spot. end_of spot ≤ used_of archive.old) spots.now }
-    ensures contents { (files : Files) (contents : List (List ℕ)) → D.seen (disk_of archive.old) files → AreAt (files 0) spots.now contents → IfOk result (λ texts. texts ≡ contents) }
+    place: &RowContent,
+) -> Result<Text, ContentFault>
+    requires { EndsBy (used_of archive.old) place.now }
+    ensures content { (files : Files) (content : List ℕ) → D.seen (disk_of archive.old) files → IsAt (files 0) place.now content → IfOk result (λ text. text ≡ content) }
     ensures same { Same (D.seen (disk_of archive.old)) (D.seen (disk_of archive.new)) }
     ensures crash { NoMore (D.may_leave (disk_of archive.old)) (D.may_leave (disk_of archive.new)) }
     ensures used { used_of archive.new ≡ used_of archive.old }
-    ensures no_call { spots.now ≡ [] → archive.new ≡ archive.old }
+    ensures cause { HasMemoryOr (D.faults (disk_of archive.old)) (D.faults (disk_of archive.new)) result }
+{
+    match place {
+        RowContent::At(spot) => archive.read(alloc, *spot),
+        RowContent::Given(text) => match Text::from_bytes(alloc, text.as_bytes()) {
+            Ok(copy) => Ok(copy),
+            Err(_) => Err(ContentFault::Memory),
+        },
+    }
+}
+
+/// The contents of these places, in their order: each the bytes at its spot of the archive, or a copy
+/// of the text that is given. Without places no call of the disk is made.
+pub(crate) fn read_all<D: Disk>(
+    alloc: Global,
+    archive: &mut Archive<D>,
+    places: &[RowContent],
+) -> Result<Sequence<Text>, ContentFault>
+    requires { All (EndsBy (used_of archive.old)) places.now }
+    ensures contents { (files : Files) (contents : List (List ℕ)) → D.seen (disk_of archive.old) files → AreAt (files 0) places.now contents → IfOk result (λ texts. texts ≡ contents) }
+    ensures same { Same (D.seen (disk_of archive.old)) (D.seen (disk_of archive.new)) }
+    ensures crash { NoMore (D.may_leave (disk_of archive.old)) (D.may_leave (disk_of archive.new)) }
+    ensures used { used_of archive.new ≡ used_of archive.old }
+    ensures no_call { places.now ≡ [] → archive.new ≡ archive.old }
     ensures cause { HasMemoryOr (D.faults (disk_of archive.old)) (D.faults (disk_of archive.new)) result }
 {
     let mut contents = Sequence::new(alloc);
-    for spot in spots {
-        let content = archive.read(alloc, *spot)?;
+    for place in places {
+        let content = read_one(alloc, archive, place)?;
         match contents.push(content) {
             Ok(()) => {}
             Err(_) => return Err(ContentFault::Memory),

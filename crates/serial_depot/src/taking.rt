@@ -4,7 +4,7 @@ ghost use Rattle.std.specs.Prelude.{◌≡◌, ◌⊎◌, ◌≤◌, ℕ, List, 
 ghost use Rattle.archive_file.specs.Archive.{disk_of as archive_disk_of};
 ghost use Rattle.outside_api.specs.Count.{HasRisen};
 ghost use Rattle.depot_rows.specs.depot_model.Deeds.{Deed};
-ghost use Rattle.depot_runs.specs.Today.{step};
+ghost use Rattle.depot_rows.specs.depot_model.Commands.{step};
 ghost use Rattle.depot_rows.specs.depot_model.Places.{Placed};
 ghost use Rattle.depot_rows.specs.depot_model.Records.{SameRows};
 ghost use Rattle.depot_rows.specs.depot_model.Step.{after};

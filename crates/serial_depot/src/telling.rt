@@ -1,7 +1,7 @@
 //! What a command is answered and does, once its reply is printed.
 
 ghost use Rattle.std.specs.Prelude.{◌≡◌, ◌≤◌, ℕ, List, [], ◌∷◌, All, IsTrue, true, false, IfOk, map};
-ghost use Rattle.archive_file.specs.Archive.{disk_of, end_of, used_of};
+ghost use Rattle.archive_file.specs.Archive.{disk_of, used_of};
 ghost use Rattle.command_core.specs.Outcomes.{IsOutcome};
 ghost use Rattle.depot_rows.specs.depot_model.Deeds.{Deed};
 ghost use Rattle.depot_rows.specs.depot_model.Printed.{printed};
@@ -14,6 +14,7 @@ ghost use Rattle.outside_api.specs.Disk.{Files, NoMore, Same};
 ghost use Rattle.reply_rows.specs.Made.{contents_of, waiting};
 ghost use Rattle.row_texts.specs.Texts.{IsOf64Bits, is_counted};
 ghost use Rattle.serial_depot.specs.Holding.{HasItsContents};
+ghost use Rattle.serial_depot.specs.Storing.{EndsBy};
 ghost use Rattle.serial_depot.specs.Telling.{IsReplyOf, IsTold};
 
 use crate::commit::fault_reply;
@@ -53,10 +54,10 @@ impl Told {
 }
 
 /// Whether an outcome can be committed and answered: a text may say the numbers of each row that is
-/// changed, and the contents that the reply needs lie within what is used of the archive, as those of
+/// changed, and the contents that the reply reads lie within what is used of the archive, as those of
 /// the tables' rows do.
 fn is_ready(outcome: &Outcome, used: u64) -> bool
-    ensures { result ≡ true → All (λ change. IsTrue (is_counted change.row)) outcome.now.changes × All (λ spot. end_of spot ≤ used) outcome.now.reads }
+    ensures { result ≡ true → All (λ change. IsTrue (is_counted change.row)) outcome.now.changes × All (EndsBy used) outcome.now.reads }
 {
     are_within(outcome.reads.as_slice(), used) && are_counted(outcome.changes.as_slice())
 }
@@ -143,7 +144,7 @@ pub fn tell(alloc: Global, outcome: Outcome, number: u32) -> Result<Told, AllocE
     }
 }
 
-/// Reads the contents that the reply of an outcome waits for, and prints it. The one error is want of
+/// Reads the contents that the reply of an outcome waits for, where they aren't given, and prints it. The one error is want of
 /// memory; it also stands for an outcome that changes a row with a number that no text says, and for
 /// one that reads behind what is used of the archive.
 pub fn tell_reading<D: Disk>(

@@ -17,7 +17,7 @@ use Rattle.depot_model.specs.Printed.{printed}
 use Rattle.depot_model.specs.declared.request.Request.{Request}
 use Rattle.depot_model.specs.declared.request.Session.{Session}
 use Rattle.depot_model.specs.Order.{Rises}
-use Rattle.depot_runs.specs.Today.{step}
+use Rattle.depot_model.specs.Commands.{step}
 use Rattle.depot_runs.specs.Run.{request_of, request_at, request_by, placed, is_place_of, reply_to, output_of, outputs}
 use Rattle.session_loop.proofs.Orders.{IsUnplaced, reply_to-unplaced, reply_to-last, outputs-other}
 use Rattle.wire_text.proofs.Pieces.{both, extended-nil, extended-extended}

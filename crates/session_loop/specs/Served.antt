@@ -10,7 +10,7 @@ use Rattle.depot_model.specs.declared.request.Session.{Session}
 use Rattle.depot_model.specs.Order.{Rises}
 use Rattle.depot_model.specs.Printed.{printed}
 use Rattle.depot_model.specs.Rows.{memory_row}
-use Rattle.depot_runs.specs.Today.{step}
+use Rattle.depot_model.specs.Commands.{step}
 use Rattle.depot_model.specs.Places.{Placed, taken, told_at}
 use Rattle.depot_runs.specs.Run.{request_of, outputs, output_of}
 use Rattle.wire_text.specs.Giving.{GivesAll, IsProperFront}

@@ -4,7 +4,7 @@ ghost use Rattle.std.specs.Prelude.{◌≡◌, ◌⊎◌, ◌≤◌, ℕ, List, 
 ghost use Rattle.outside_api.specs.Count.{HasRisen};
 ghost use Rattle.depot_model.specs.Deeds.{Deed};
 ghost use Rattle.depot_model.specs.Places.{Placed, taken};
-ghost use Rattle.depot_runs.specs.Today.{step};
+ghost use Rattle.depot_model.specs.Commands.{step};
 ghost use Rattle.session_loop.specs.Taking.{Answers, ChangesNoRow, IsProper, PrintsNoContent, with_place};
 
 use depot_model::{Answer, Request};

@@ -15,7 +15,7 @@ use Rattle.depot_rows.specs.depot_model.declared.order.Place.{Place}
 use Rattle.depot_rows.specs.depot_model.declared.request.Request.{Request}
 use Rattle.depot_rows.specs.depot_model.declared.request.Session.{Session}
 use Rattle.depot_runs.specs.Run.{placed}
-use Rattle.depot_runs.specs.Today.{step}
+use Rattle.depot_rows.specs.depot_model.Commands.{step}
 use Rattle.lock_core.specs.Core.{IsAt, IsCommit, IsReady, Shows}
 use Rattle.lock_core.specs.Finished.{Finishes}
 use Rattle.lock_core.specs.declared.machine.LockCore.{LockCore}

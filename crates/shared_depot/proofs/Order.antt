@@ -11,7 +11,7 @@ use Rattle.depot_rows.specs.depot_model.Places.{Placed, taken, told_at}
 use Rattle.depot_rows.specs.depot_model.Printed.{printed}
 use Rattle.depot_rows.specs.depot_model.declared.order.Answer.{Answer}
 use Rattle.depot_rows.specs.depot_model.declared.request.Request.{Request}
-use Rattle.depot_runs.specs.Today.{step}
+use Rattle.depot_rows.specs.depot_model.Commands.{step}
 use Rattle.disk_journal.specs.Stands.{disk_of}
 use Rattle.disk_journal.specs.declared.journal.Journal.{Journal}
 use Rattle.locked_tables.specs.Known.{PartyKnown}

@@ -236,7 +236,7 @@ impl<D: Disk, N: Naming + Marking + Imaging + Serving> SharedDepot<D, N> {
         Ok((gathered, Some(archive)))
     }
 
-    /// The lock of the archive, where it is held or contents are to be read.
+    /// The lock of the archive, where it is held or the reply waits for contents.
     fn archive_for<'a, R: Wait>(
         &'a self,
         rt: &R,

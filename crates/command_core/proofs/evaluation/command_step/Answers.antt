@@ -1,13 +1,10 @@
-use Rattle.std.proofs.Common.{◌≡◌, ◌++◌, true, refl, sym, subst, ◌∙◌}
+use Rattle.std.proofs.Common.{◌++◌, refl, sym, ◌∙◌}
 use Rattle.depot_rows.specs.db_records.declared.table.TableId.TheVariants as tables
 use Rattle.depot_rows.specs.table_changes.Changed.{rows_of}
 use Rattle.depot_rows.specs.depot_model.About.{about}
-use Rattle.depot_runs.specs.Built.{is_built}
 use Rattle.depot_rows.specs.depot_model.Commands.{own_step}
 use Rattle.depot_rows.specs.depot_model.Common.{common_refusals, last_refusals}
-use Rattle.depot_rows.specs.depot_model.Step.{Step as ModelStep}
-use Rattle.step_stores.specs.Stored.{IsStoring}
-use Rattle.command_core.proofs.Granted.{built_is, refusing, granting}
+use Rattle.command_core.proofs.Granted.{refusing, granting}
 use Rattle.command_core.proofs.Refusals.{none_later}
 use Rattle.command_core.proofs.evaluation.command_step.Goals as goal
 
@@ -17,10 +14,8 @@ returns-in_ok-refused-in-Some c = λ d sound asks has.
     let command = c.args.command.now in
     let all = rows_of c.args.tables.now in
     let from = c.args.tables.now.archive_end in
-    let built : is_built command ≡ true = sym c.is_built.ensures ∙ c.if-not-is_built.false in
-    let P : ModelStep → Type 0 = λ s. IsStoring all from d s c.in_ok-refused-in-Some.refused in
-    subst P (sym (built_is d request command built)) (refusing all from d (common_refusals d request.caller (about command) ++ last_refusals d command) (own_step d request command) c.in-Some.row
-    c.in_ok-refused-in-Some.refused (sym c.in-Some.is ∙ c.in_ok-refusal.ensures d sound (has tables.Group refl) (has tables.Protect refl) (has tables.Domain refl)) c.in_ok-refused-in-Some.ensures)
+    refusing all from d (common_refusals d request.caller (about command) ++ last_refusals d command) (own_step d request command) c.in-Some.row
+    c.in_ok-refused-in-Some.refused (sym c.in-Some.is ∙ c.in_ok-refusal.ensures d sound (has tables.Group refl) (has tables.Protect refl) (has tables.Domain refl)) c.in_ok-refused-in-Some.ensures
 
 pub returns-in_ok-step-in-None : goal.returns-in_ok-step-in-None
 returns-in_ok-step-in-None c = λ d sound asks has.
@@ -28,10 +23,8 @@ returns-in_ok-step-in-None c = λ d sound asks has.
     let command = c.args.command.now in
     let all = rows_of c.args.tables.now in
     let from = c.args.tables.now.archive_end in
-    let built : is_built command ≡ true = sym c.is_built.ensures ∙ c.if-not-is_built.false in
     let none = none_later (common_refusals d request.caller (about command)) (last_refusals d command)
     (sym c.in-None.is ∙ c.in_ok-refusal.ensures d sound (has tables.Group refl) (has tables.Protect refl) (has tables.Domain refl)) in
-    let P : ModelStep → Type 0 = λ s. IsStoring all from d s c.in_ok-step-in-None.step in
-    subst P (sym (built_is d request command built)) (granting all from d (common_refusals d request.caller (about command) ++ last_refusals d command) (own_step d request command)
+    granting all from d (common_refusals d request.caller (about command) ++ last_refusals d command) (own_step d request command)
     c.in_ok-step-in-None.step (sym c.in-None.is ∙ c.in_ok-refusal.ensures d sound (has tables.Group refl) (has tables.Protect refl) (has tables.Domain refl))
-    (c.in_ok-step-in-None.ensures d sound built none asks has))
+    (c.in_ok-step-in-None.ensures d sound none asks has)

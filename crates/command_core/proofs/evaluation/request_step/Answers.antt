@@ -3,8 +3,7 @@ use Rattle.std.specs.Prelude.{IfOk}
 use Rattle.depot_rows.specs.table_changes.Changed.{rows_of}
 use Rattle.depot_rows.specs.depot_model.declared.command.Command.{Command}
 use Rattle.depot_rows.specs.depot_model.declared.request.WordFault.{WordFault}
-use Rattle.depot_runs.specs.Built.{is_built}
-use Rattle.depot_rows.specs.depot_model.Commands.{built_step}
+use Rattle.depot_rows.specs.depot_model.Commands.{whole_step}
 use Rattle.depot_rows.specs.depot_model.Common.{word_refusal}
 use Rattle.depot_rows.specs.depot_model.Step.{refuses}
 use Rattle.step_stores.specs.Stored.{IsStoring}
@@ -20,6 +19,6 @@ returns-in_ok-step-in-Ok c = λ d sound asks has.
     let step = c.in_ok-step-in-Ok.step in
     let Asks : Result Command WordFault → Type 0 = λ asked. IfOk asked IsFormed in
     let P : Result Command WordFault → Type 0 =
-    λ asked. IsStoring all from d (elim asked [ Err fault ↦ refuses (word_refusal fault) | Ok command ↦ built_step is_built d request command ]) step in
+    λ asked. IsStoring all from d (elim asked [ Err fault ↦ refuses (word_refusal fault) | Ok command ↦ whole_step d request command ]) step in
     let made = subst P (sym c.in-Ok.is) (c.in_ok-step-in-Ok.ensures d sound (subst Asks c.in-Ok.is asks) (subst (HasNeededBy all d) c.in-Ok.is has)) in
     record { is_made = made; opened = opened_has_rows all d request step.deeds has made.deeds }

@@ -5,7 +5,7 @@ use Rattle.depot_rows.specs.depot_model.Places.{taken}
 use Rattle.depot_rows.specs.depot_model.Step.{after}
 use Rattle.depot_rows.specs.table_changes.Changed.{AllFitIn, changed_by, rows_of}
 use Rattle.depot_rows.specs.table_store.declared.tables.Tables.{Tables}
-use Rattle.depot_runs.specs.Today.{step}
+use Rattle.depot_rows.specs.depot_model.Commands.{step}
 use Rattle.session_loop.specs.Taking.{placed_by}
 use Rattle.stored_contents.specs.Placed.{StandAfter}
 use Rattle.serial_depot.specs.Committing.{AreChangesOf, AreRowsAfter}

@@ -4,7 +4,7 @@ use Rattle.depot_rows.specs.db_records.declared.change.Change.{Change}
 use Rattle.depot_rows.specs.depot_model.Places.{taken}
 use Rattle.depot_rows.specs.depot_model.Step.{after}
 use Rattle.depot_rows.specs.table_changes.Changed.{changed_by, rows_of}
-use Rattle.depot_runs.specs.Today.{step}
+use Rattle.depot_rows.specs.depot_model.Commands.{step}
 use Rattle.stored_contents.specs.Placed.{StandAfter}
 use Rattle.serial_depot.specs.Committing.{AreChangesOf}
 use Rattle.serial_depot.specs.Storing.{HasStored, stores_end}

@@ -3,7 +3,7 @@ use Rattle.std.specs.Prelude.{All}
 use Rattle.std.proofs.lemmas.Result.{IfOk-weaker}
 use Rattle.depot_rows.specs.db_records.declared.change.Change.{Change}
 use Rattle.depot_rows.specs.depot_model.Printed.{printed}
-use Rattle.depot_runs.specs.Today.{step}
+use Rattle.depot_rows.specs.depot_model.Commands.{step}
 use Rattle.reply_rows.specs.Made.{contents_of}
 use Rattle.row_texts.specs.Texts.{IsOf64Bits}
 use Rattle.serial_depot.proofs.Finished.{none_waits}

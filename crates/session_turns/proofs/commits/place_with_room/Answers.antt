@@ -4,7 +4,7 @@ use Rattle.depot_rows.specs.depot_model.declared.order.Place.{Place}
 use Rattle.disk_journal.specs.Stands.{disk_of}
 use Rattle.outside_api.specs.Count.{HasRisen}
 use Rattle.depot_rows.specs.depot_model.Places.{taken}
-use Rattle.depot_runs.specs.Today.{step}
+use Rattle.depot_rows.specs.depot_model.Commands.{step}
 use Rattle.disk_journal.specs.declared.journal.Journal.{Journal}
 use Rattle.run_parties.proofs.replica_turns.Masters.{place_master, texts_grow, unmoved_master}
 use Rattle.run_parties.specs.serial_depot.Growing.{HasGroups, grown}

@@ -6,7 +6,7 @@ use Rattle.depot_rows.specs.depot_model.Places.{taken}
 use Rattle.depot_rows.specs.depot_model.declared.order.Answer.{Answer}
 use Rattle.depot_rows.specs.table_changes.Changed.{AllFitIn, rows_of}
 use Rattle.depot_rows.specs.table_store.declared.tables.Tables.{Tables}
-use Rattle.depot_runs.specs.Today.{step}
+use Rattle.depot_rows.specs.depot_model.Commands.{step}
 use Rattle.outside_api.specs.Count.{HasRisen}
 use Rattle.session_loop.specs.Taking.{Answers, with_place}
 use Rattle.serial_depot.specs.Committing.{AreRowsAfter}

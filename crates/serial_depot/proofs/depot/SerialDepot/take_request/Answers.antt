@@ -1,6 +1,6 @@
 use Rattle.std.proofs.Common.{◌≡◌, List, refl}
 use Rattle.depot_rows.specs.table_changes.Changed.{rows_of}
-use Rattle.depot_runs.specs.Today.{step}
+use Rattle.depot_rows.specs.depot_model.Commands.{step}
 use Rattle.depot_rows.specs.depot_model.Step.{after}
 use Rattle.depot_rows.specs.depot_model.declared.request.Request.{Request}
 use Rattle.session_loop.specs.Taking.{IsProper}

@@ -1,4 +1,4 @@
-use Rattle.depot_runs.specs.Today.{step}
+use Rattle.depot_rows.specs.depot_model.Commands.{step}
 use Rattle.depot_rows.specs.depot_model.Places.{taken}
 use Rattle.serial_depot.proofs.Quiet.{no_contents}
 use Rattle.serial_depot.proofs.taking.SerialDepotTaker.take.Goals as goal

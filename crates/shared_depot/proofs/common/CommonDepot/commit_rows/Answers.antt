@@ -4,7 +4,7 @@ use Rattle.depot_rows.specs.depot_model.Deeds.{Deed}
 use Rattle.depot_rows.specs.depot_model.Places.{Placed, taken}
 use Rattle.depot_rows.specs.table_changes.Changed.{changed_by, rows_of}
 use Rattle.depot_rows.specs.table_store.declared.tables.Tables.{Tables}
-use Rattle.depot_runs.specs.Today.{step}
+use Rattle.depot_rows.specs.depot_model.Commands.{step}
 use Rattle.disk_journal.specs.Stands.{disk_of}
 use Rattle.locked_tables.specs.Known.{OrderKnown}
 use Rattle.locked_tables.specs.Taken.{end_after, placed_of, rows_after}
