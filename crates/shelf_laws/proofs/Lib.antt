@@ -1,0 +1,9 @@
+pub mod Landing
+pub mod Shelving
+pub mod Keeping
+pub mod Apart
+pub mod Choosing
+pub mod Telling
+pub mod Changes
+pub mod History
+pub mod Unshelving

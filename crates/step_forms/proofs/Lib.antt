@@ -1,0 +1,6 @@
+pub mod Parts
+pub mod Combining
+pub mod Staying
+pub mod Saving
+pub mod Whole
+pub mod Placing
