@@ -1,36 +1,21 @@
-//! Tests of the libraries below the opening of a depot: of what no contract says.
+//! Tests of what neither a contract nor a run of the whole server tells: real files, folders and the clock, and a link in memory that no program has.
 //!
-//! They show that calls which may want memory answer otherwise where there is memory, values from outside, threads, and real files. A file has
-//! the tests of one library. What a run of the whole server can show stands in the cases of the program `acceptance`.
+//! What a run of the whole server can show stands in the cases of the program `acceptance`, and what a definition gives for values from outside is
+//! computed in proofs, here that of dates.
 #![tactic(auto)]
 
-/// A content that is stored and read, between calls that fail (`archive_file`).
+/// Whether disks in folders do what they are asked, as the tests ask.
 #[cfg(test)]
-mod contents;
-/// The seven test values of RFC 1321 (`archive_file`).
+mod disks;
+/// Disks that keep numbered files in folders (`real_world`).
 #[cfg(test)]
-mod digests;
-/// Real files, folders and the clock (`real_world`).
-#[cfg(test)]
-mod files;
-/// Filters of a replica, and the types of files (`depot_model`).
-#[cfg(test)]
-mod filters;
-/// Values that the tests share.
-#[cfg(test)]
-mod fixtures;
-/// Gates that hold commands back (`waiting_gates`).
-#[cfg(test)]
-mod gates;
-/// Journals that are read at once and byte by byte (`journal_groups`).
-#[cfg(test)]
-mod groups;
+mod folders;
 /// A link that loses what it brings (`memory_world`).
 #[cfg(test)]
 mod losses;
-/// The words of the order, in one thread and in two (`order_words`).
+/// Files that are read and written in turn, the doors to them, and the clock (`real_world`).
 #[cfg(test)]
-mod orders;
-/// Paths, patterns and revisions (`depot_path`).
+mod streams;
+/// To which files a sync of a disk comes (`real_world`).
 #[cfg(test)]
-mod paths;
+mod syncs;
