@@ -1,6 +1,6 @@
 //! The groups of a file of a disk, which is read in pieces.
 
-ghost use Rattle.std.specs.Prelude.{◌≡◌, ◌≢◌, ◌+◌, ◌-◌, ◌<◌, ◌≤◌, ◌^◌, ◌++◌, ℕ, List, length, drop, IfOk, OnOk, Err};
+ghost use Rattle.std.specs.Prelude.{◌≡◌, ◌≢◌, ◌⊎◌, ◌+◌, ◌-◌, ◌<◌, ◌≤◌, ◌^◌, ◌++◌, ℕ, List, length, drop, IfOk, OnOk, Err};
 ghost use Rattle.std.specs.Result.{IfErr};
 ghost use Rattle.outside_api.specs.Disk.{Files};
 ghost use Rattle.journal_groups.specs.Groups.{body_of};
@@ -24,7 +24,8 @@ const LONGEST: u64 = 0x7FFF_FFFF_FFFF_FFFA;
 /// which the text can't be read on.
 pub(crate) type GroupRead = Result<Option<Sequence<Change>>, u64>;
 
-/// The groups of a file one after another, behind some bytes. At most one group and one piece of the file are held.
+/// The groups of a file one after another, behind some bytes. Of the file at most one group and one piece are held,
+/// and as much again as was read of a record that isn't whole.
 #[derive(Drop)]
 pub(crate) struct FileGroups {
     pub(crate) reader: GroupReader,
@@ -107,6 +108,33 @@ impl FileGroups {
         Ok(())
     }
 
+    /// Reads on by whole pieces, until at least so many more bytes are there or the file ends.
+    fn read_on<D: Disk>(
+        &mut self,
+        alloc: Global,
+        disk: &mut D,
+        piece: &mut [u8],
+        wanted: u64,
+    ) -> Result<(), OpenFault>
+        requires room { 0 < length piece.old }
+        requires before_end { self.old.read < self.old.length }
+        ensures text { (files : Files) → D.seen disk.old files → KnowsEnd self.old files → OnOk result ((text_left self.new files ≡ text_left self.old files) × KnowsEnd self.new files) }
+        ensures goes_on { OnOk result (self.new.length - self.new.read < self.old.length - self.old.read) }
+        ensures enough { OnOk result ((self.old.read + wanted ≤ self.new.read) ⊎ (self.new.read ≡ self.new.length)) }
+        ensures reader { (self.new.file ≡ self.old.file) × (self.new.front ≡ self.old.front) × (self.new.reader.at ≡ self.old.reader.at) × (self.new.reader.number ≡ self.old.reader.number) }
+        ensures fault { IfErr result SaysNothing }
+        ensures reads { OnlyReads D.seen D.may_leave D.moment D.left_since disk.old disk.new }
+        ensures cause { IsCause (D.faults disk.old) (D.faults disk.new) (result ≡ Err DiskFault) }
+    {
+        let target = self.read.saturating_add(wanted);
+        loop {
+            self.read_piece(alloc, disk, piece)?;
+            if self.read == self.length || target <= self.read {
+                return Ok(());
+            }
+        }
+    }
+
     /// The fault of this file at a place, which counts the bytes before the file's too.
     pub(crate) fn damaged(&self, place: u64) -> OpenFault
         ensures { result ≡ Damaged Journal self.now.file (place - self.now.front) }
@@ -144,6 +172,9 @@ impl FileGroups {
 
     /// Reads the next group. Where the text can't be read on, the whole records before that place are kept;
     /// the place counts the bytes before the file's too.
+    ///
+    /// A record that isn't whole is read from its begin again once there is as much of it again, or a piece
+    /// more: so each byte is read a bounded number of times on average.
     pub(crate) fn next<D: Disk>(
         &mut self,
         alloc: Global,
@@ -168,7 +199,8 @@ impl FileGroups {
                     if self.read == self.length {
                         return Ok(Err(place));
                     }
-                    self.read_piece(alloc, disk, piece)?;
+                    let begun = place.saturating_sub(self.reader.reached());
+                    self.read_on(alloc, disk, piece, begun)?;
                 }
             }
         }

@@ -1,0 +1,21 @@
+use Rattle.std.proofs.Common.{◌≡◌, ◌-◌, ◌<◌, ◌≤◌}
+use Rattle.outside_api.specs.Disk.{Files}
+use Rattle.recovery.specs.Looking.{OnlyReads}
+use Rattle.recovery.specs.Pieces.{text_left, KnowsEnd}
+use Rattle.recovery.proofs.pieces.FileGroups.read_on.Given as goal
+
+abbrev pub invariant-loop : goal.invariant-loop
+invariant-loop g l = record {
+  before_end : l.self.read < l.self.length;
+  less_left : l.self.length - l.self.read ≤ l.initial.self.length - l.initial.self.read;
+  front : l.self.front ≡ l.initial.self.front;
+  file : l.self.file ≡ l.initial.self.file;
+  at : l.self.reader.at ≡ l.initial.self.reader.at;
+  number : l.self.reader.number ≡ l.initial.self.reader.number;
+  text : (files : Files) → g.D.Disk.seen l.initial.disk files → KnowsEnd l.initial.self files → (text_left l.self files ≡ text_left l.initial.self files) × KnowsEnd l.self files;
+  reads : OnlyReads g.D.Disk.seen g.D.Disk.may_leave g.D.Disk.moment g.D.Disk.left_since l.initial.disk l.disk;
+  faults : g.D.Disk.faults l.initial.disk ≤ g.D.Disk.faults l.disk;
+}
+
+abbrev pub decreases-loop : goal.decreases-loop
+decreases-loop g l = l.self.length - l.self.read
