@@ -1,5 +1,5 @@
 -- Seats of lanes that announce a place, and the tables that it changes.
-use Rattle.std.proofs.Common.{◌≡◌, ◌≤◌, ◌||◌, ℕ, ◌+◌, Bool, true, false, List, [], ◌∷◌, ◌++◌, length, sym, ap, ◌∙◌, subst, arith}
+use Rattle.std.proofs.Common.{◌≡◌, ◌≤◌, ℕ, ◌+◌, true, false, List, [], ◌∷◌, ◌++◌, length, sym, ap, ◌∙◌, subst, arith}
 use mathlib.Core.List.{IsPrefix}
 use Rattle.depot_model.specs.db_records.Table.{table_number}
 use Rattle.depot_model.specs.db_records.declared.table.TableId.{TableId}
@@ -12,6 +12,7 @@ use Rattle.locked_tables.specs.Known.{at_rest}
 use Rattle.locked_tables.specs.Taken.{TouchesItsTables, lanes_of, rows_after}
 use Rattle.locked_tables.specs.Held.{OnlyChange}
 use Rattle.locked_tables.specs.declared.taken.Taken.{Taken}
+use Rattle.locked_tables.proofs.Lanes.{not_last}
 use Rattle.locked_tables.proofs.Rows.{rows_next}
 use Rattle.locked_tables.proofs.Seats.{listed, same_touch, settled_at_rest}
 
@@ -22,6 +23,22 @@ announced_placed old new before after entry is last has =
     let word : new.word ≡ length before + 1 = ap (λ (s : LaneState Taken). s.word) is in
     let touched : last_touch lanes_of new.lane after ≡ length before + 1 = ap (last_touch lanes_of new.lane) last ∙ last_touch_touched lanes_of new.lane before entry has in
     omega arith
+
+-- a seat at rest announces the place of the entry, which comes behind the order
+module _ (run : Run) (lane : ℕ) (seat announced : LaneState Taken) (order after : List Taken) (entry : Taken) (rests : seat ≡ at_rest run lane seat.list)
+    (announced_is : announced ≡ record seat { list = order; word = length order + 1; resting = false }) (last : after ≡ order ++ entry ∷ []) (touches : has_lane entry.lanes lane ≡ true) where
+  lane_is : announced.lane ≡ lane
+  lane_is = ap (λ (s : LaneState Taken). s.lane) announced_is ∙ ap (λ (s : LaneState Taken). s.lane) rests
+
+  -- the place is there then
+  pub is_placed : announced.word ≤ last_touch lanes_of announced.lane after
+  is_placed = announced_placed seat announced order after entry announced_is last (subst (λ (n : ℕ). has_lane entry.lanes n ≡ true) (sym lane_is) touches)
+
+  -- and the seat, once it is settled, at rest again
+  pub rests_again : (settled : LaneState Taken) → settled ≡ record announced { list = after; resting = true } → last_touch lanes_of announced.lane after ≡ announced.word → settled ≡ at_rest run lane settled.list
+  rests_again settled settled_is placed =
+      let run_is : announced.run ≡ run = ap (λ (s : LaneState Taken). s.run) announced_is ∙ ap (λ (s : LaneState Taken). s.run) rests in
+      listed run lane after settled (settled_at_rest run lane after announced settled run_is lane_is settled_is placed)
 
 module _ (run : Run) (rows : AllRows) (table : TableId) where
   -- the next version is the table after the places that the settled seat knows
@@ -46,14 +63,6 @@ module _ (run : Run) (rows : AllRows) (table : TableId) where
             ∙ ((λ i. rows_after rows (sym list_is i) (sym table_is i)))),
       )
 
-or_none : (a b : Bool) → (a || b) ≡ false → b ≡ false
-or_none true b e = absurd (cc e)
-or_none false b e = e
-
--- an entry touches its tables where those of its lanes are all that it changes
-pub touches_its : (entry : Taken) (lane : ℕ) (lanes : List ℕ) → ((i : ℕ) → has_lane entry.lanes i ≡ is_among i (lane ∷ lanes)) → OnlyChange entry.changes lanes → TouchesItsTables entry
-touches_its entry lane lanes are only = λ table none. only table (or_none _ (is_among (table_number table) lanes) (sym (are (table_number table)) ∙ none))
-
--- the same where there is one more lane
-pub touches_its_too : (entry : Taken) (more lane : ℕ) (lanes : List ℕ) → ((i : ℕ) → has_lane entry.lanes i ≡ is_among i (more ∷ lane ∷ lanes)) → OnlyChange entry.changes lanes → TouchesItsTables entry
-touches_its_too entry more lane lanes are only = λ table none. only table (or_none _ (is_among (table_number table) lanes) (or_none _ (is_among (table_number table) (lane ∷ lanes)) (sym (are (table_number table)) ∙ none)))
+-- an entry touches its tables where those of its last lanes are all that it changes
+pub touches_its : (entry : Taken) (front lanes : List ℕ) → ((i : ℕ) → has_lane entry.lanes i ≡ is_among i (front ++ lanes)) → OnlyChange entry.changes lanes → TouchesItsTables entry
+touches_its entry front lanes are only = λ table none. only table (not_last (table_number table) front lanes (sym (are (table_number table)) ∙ none))

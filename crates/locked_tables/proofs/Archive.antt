@@ -1,17 +1,13 @@
 -- How much of the archive is used after the entries that touch its lane.
-use Rattle.std.proofs.Common.{◌≡◌, ◌≤◌, ◌==◌, ℕ, Bool, true, false, List, [], ◌∷◌, ◌++◌, if◌then◌else◌, refl, sym, ap, ◌∙◌, arith}
+use Rattle.std.proofs.Common.{◌≡◌, ℕ, Bool, true, false, List, [], ◌∷◌, ◌++◌, if◌then◌else◌, refl, sym, ap, ◌∙◌}
 use Rattle.std.specs.List.{AllByRecursion}
-use Rattle.std.proofs.lemmas.Bool.{eq-eqb}
-use Rattle.order_words.specs.Lanes.{has_lane, is_among, last_touch}
-use Rattle.locked_tables.specs.Held.{lanes_next}
+use Rattle.order_words.specs.Lanes.{has_lane, last_touch}
 use Rattle.locked_tables.specs.Known.{GoesOnWithout, KnowsLane}
-use Rattle.locked_tables.specs.Taken.{archive_lane, end_after, lanes_of, party_lane}
-use Rattle.locked_tables.specs.declared.held_table.HeldTable.{HeldTable}
+use Rattle.locked_tables.specs.Taken.{archive_lane, end_after, lanes_of}
 use Rattle.locked_tables.specs.declared.taken.Taken.{Taken}
-use Rattle.locked_tables.proofs.Lanes.{not_next, not_party, or_first, or_no_first}
 use Rattle.locked_tables.proofs.Rows.{none_behind, past_known}
 
-end_append : (xs ys : List Taken) (end : ℕ) → end_after end (xs ++ ys) ≡ end_after (end_after end xs) ys
+pub end_append : (xs ys : List Taken) (end : ℕ) → end_after end (xs ++ ys) ≡ end_after (end_after end xs) ys
 end_append [] ys end = refl
 end_append (x ∷ xs) ys end = end_append xs ys (if has_lane x.lanes archive_lane then x.end else end)
 
@@ -29,14 +25,6 @@ none_touch lane (taken ∷ order) e = let h = none_behind (has_lane taken.lanes 
 pub goes_on : (lane : ℕ) (known order : List Taken) → KnowsLane lane known order → GoesOnWithout lane known order
 goes_on lane known order knows = record { behind = knows.begins.0; parts = sym knows.begins.1; untouched = none_touch lane knows.begins.0 (past_known lane known order knows) }
 
--- lanes of a party and of tables alone don't have the archive's
-pub spared : {N : Type 0} (lanes party : ℕ) (held : List (HeldTable N)) → 1 ≤ party → ((i : ℕ) → has_lane lanes i ≡ is_among i (party_lane party ∷ lanes_next held)) → has_lane lanes archive_lane ≡ false
-spared lanes party held low are =
-    are archive_lane ∙ (or_no_first (archive_lane == party_lane party) (is_among archive_lane (lanes_next held)) (not_party party low) ∙ not_next archive_lane held (omega arith))
-
-pub touched : (lanes : ℕ) (others : List ℕ) → ((i : ℕ) → has_lane lanes i ≡ is_among i (archive_lane ∷ others)) → has_lane lanes archive_lane ≡ true
-touched lanes others are = are archive_lane ∙ or_first (archive_lane == archive_lane) (is_among archive_lane others) (eq-eqb archive_lane archive_lane refl)
-
 module _ (end : ℕ) where
   -- who knows the archive's lane knows how much is used
   pub end_kept : (known order : List Taken) → KnowsLane archive_lane known order → end_after end order ≡ end_after end known
@@ -46,11 +34,11 @@ module _ (end : ℕ) where
   end_with : (order : List Taken) (taken : Taken) (b : Bool) → has_lane taken.lanes archive_lane ≡ b → end_after end (order ++ taken ∷ []) ≡ (if b then taken.end else end_after end order)
   end_with order taken b is = end_append order (taken ∷ []) end ∙ ap (λ (c : Bool). if c then taken.end else end_after end order) is
 
-  module _ {N : Type 0} (order after : List Taken) (entry : Taken) (last : after ≡ order ++ entry ∷ []) (party : ℕ) (held : List (HeldTable N)) where
-    -- a place that touches the lanes of a party and of tables leaves it
-    pub end_same : 1 ≤ party → ((i : ℕ) → has_lane entry.lanes i ≡ is_among i (party_lane party ∷ lanes_next held)) → end_after end after ≡ end_after end order
-    end_same low are = ap (end_after end) last ∙ end_with order entry false (spared entry.lanes party held low are)
+  module _ (order after : List Taken) (entry : Taken) (last : after ≡ order ++ entry ∷ []) where
+    -- a place that doesn't touch the archive's lane leaves it
+    pub end_same : has_lane entry.lanes archive_lane ≡ false → end_after end after ≡ end_after end order
+    end_same spares = ap (end_after end) last ∙ end_with order entry false spares
 
-    -- one that touches the archive's lane says it
-    pub end_said : ((i : ℕ) → has_lane entry.lanes i ≡ is_among i (archive_lane ∷ party_lane party ∷ lanes_next held)) → end_after end after ≡ entry.end
-    end_said are = ap (end_after end) last ∙ end_with order entry true (touched entry.lanes (party_lane party ∷ lanes_next held) are)
+    -- one that touches it says it
+    pub end_said : has_lane entry.lanes archive_lane ≡ true → end_after end after ≡ entry.end
+    end_said touches = ap (end_after end) last ∙ end_with order entry true touches

@@ -1,5 +1,6 @@
 -- The lanes of an entry.
-use Rattle.std.proofs.Common.{◌≡◌, ◌≢◌, ◌≤◌, ◌<◌, ◌==◌, ◌||◌, ℕ, Bool, true, false, List, [], ◌∷◌, Option, Some, None, refl, sym, ap, ◌∙◌, arith}
+use Rattle.std.proofs.Common.{◌≡◌, ◌≢◌, ◌≤◌, ◌<◌, ◌==◌, ◌||◌, ℕ, Bool, true, false, List, [], ◌∷◌, ◌++◌, Option, Some, None, refl, sym, ap, ◌∙◌, arith}
+use Rattle.std.specs.List.{AllByRecursion}
 use mathlib.Core.Logic.{dite}
 use native.Mathlib.Decide.{ℕ_discrete}
 use Rattle.std.proofs.lemmas.Bool.{eq-eqb, ne_eqb}
@@ -10,7 +11,7 @@ use Rattle.depot_model.specs.db_records.declared.table.TableId.TheVariants.{Coun
 use Rattle.order_words.specs.Lanes.{has_lane, is_among}
 use Rattle.table_changes.specs.table_store.Rows.{TableRows}
 use Rattle.locked_tables.specs.Held.{AreAmong, lane_next, lanes_next, table_held}
-use Rattle.locked_tables.specs.Taken.{archive_lane, party_lane}
+use Rattle.locked_tables.specs.Taken.{party_lane}
 use Rattle.locked_tables.specs.declared.held_table.HeldTable.{HeldTable}
 
 pub or_first : (a b : Bool) → a ≡ true → (a || b) ≡ true
@@ -26,6 +27,26 @@ or_no_first a b e = ap (λ (c : Bool). c || b) e
 pub or_no_second : (a b : Bool) → b ≡ false → (a || b) ≡ a
 or_no_second true b e = refl
 or_no_second false b e = e
+
+neither_first : (a b : Bool) → (a || b) ≡ false → a ≡ false
+neither_first true b e = e
+neither_first false b e = refl
+
+neither_second : (a b : Bool) → (a || b) ≡ false → b ≡ false
+neither_second true b e = absurd (cc e)
+neither_second false b e = e
+
+module _ (lane : ℕ) where
+  -- what isn't among the lanes isn't among the last of them
+  pub not_last : (front rest : List ℕ) → is_among lane (front ++ rest) ≡ false → is_among lane rest ≡ false
+  not_last [] rest e = e
+  not_last (first ∷ front) rest e = not_last front rest (neither_second (lane == first) (is_among lane (front ++ rest)) e)
+
+  -- what is among neither the first nor the last isn't among the lanes
+  not_both : (front rest : List ℕ) → is_among lane front ≡ false → is_among lane rest ≡ false → is_among lane (front ++ rest) ≡ false
+  not_both [] rest none e = e
+  not_both (first ∷ front) rest none e = or_no_first (lane == first) (is_among lane (front ++ rest)) (neither_first (lane == first) (is_among lane front) none)
+      ∙ not_both front rest (neither_second (lane == first) (is_among lane front) none) e
 
 -- no bit of zero is set
 pub no_lane : (lane : ℕ) → has_lane 0 lane ≡ false
@@ -66,15 +87,22 @@ small Rev = omega arith
 not_of_table : (lane : ℕ) (table : TableId) → 11 ≤ lane → (lane == table_number table) ≡ false
 not_of_table lane table past = let less = small table in ne_eqb lane (table_number table) (λ e. absurd (omega arith))
 
+-- no lane behind those of the tables is among these
+abbrev pub AreOfTables : List ℕ → Type 0
+AreOfTables lanes = (lane : ℕ) → 11 ≤ lane → is_among lane lanes ≡ false
+
 module _ {N : Type 0} where
-  -- nor is it among those of the held tables that are changed
-  pub not_next : (lane : ℕ) (held : List (HeldTable N)) → 11 ≤ lane → is_among lane (lanes_next held) ≡ false
+  not_next : (lane : ℕ) (held : List (HeldTable N)) → 11 ≤ lane → is_among lane (lanes_next held) ≡ false
   not_next lane [] past = refl
   not_next lane (h ∷ held) past = go h.next (not_next lane held past)
     where
       go : (next : Option TableRows) → is_among lane (lanes_next held) ≡ false → is_among lane (lane_next next (table_held h) (lanes_next held)) ≡ false
       go None none = none
       go (Some version) none = ap (λ (b : Bool). b || is_among lane (lanes_next held)) (not_of_table lane (table_held h) past) ∙ none
+
+  -- the lanes of held tables that are changed are such
+  pub next_of_tables : (held : List (HeldTable N)) → AreOfTables (lanes_next held)
+  next_of_tables held = λ lane past. not_next lane held past
 
 -- the lane of a party is that of another just where they are one
 same_lane : (party other : ℕ) → (party_lane party == party_lane other) ≡ (other == party)
@@ -86,9 +114,20 @@ same_lane party other = dite (ℕ_discrete other party)
 pub lane_of_party : (party other : ℕ) (lanes : List ℕ) → is_among (party_lane party) lanes ≡ false → is_among (party_lane party) (party_lane other ∷ lanes) ≡ (other == party)
 lane_of_party party other lanes none = or_no_second (party_lane party == party_lane other) (is_among (party_lane party) lanes) none ∙ same_lane party other
 
--- none of a party is the archive's
-pub not_archive : (party : ℕ) → 1 ≤ party → (party_lane party == archive_lane) ≡ false
-not_archive party low = ne_eqb (party_lane party) archive_lane (λ e. absurd (omega arith))
+-- lanes behind those of the tables and before those of the parties: that of the archive and that of the journal
+abbrev pub IsBetween : ℕ → Type 0
+IsBetween lane = (11 ≤ lane) × (lane ≤ 12)
 
-pub not_party : (party : ℕ) → 1 ≤ party → (archive_lane == party_lane party) ≡ false
-not_party party low = ne_eqb archive_lane (party_lane party) (λ e. absurd (omega arith))
+-- of such lanes and of others, a party's lane is among the others
+pub past_between : (front rest : List ℕ) (party : ℕ) → AllByRecursion IsBetween front → 1 ≤ party → is_among (party_lane party) (front ++ rest) ≡ is_among (party_lane party) rest
+past_between [] rest party all low = refl
+past_between (lane ∷ front) rest party all low = let high = all.0.1 in
+    or_no_first (party_lane party == lane) (is_among (party_lane party) (front ++ rest)) (ne_eqb (party_lane party) lane (λ e. absurd (omega arith))) ∙ past_between front rest party all.1 low
+
+-- such a lane is not among others, a party's and those of tables
+pub not_among : (lane : ℕ) (front : List ℕ) (party : ℕ) (tables : List ℕ) → IsBetween lane → 1 ≤ party → AreOfTables tables → is_among lane front ≡ false → is_among lane (front ++ party_lane party ∷ tables) ≡ false
+not_among lane front party tables between low are none =
+    let past = between.0 in
+    let high = between.1 in
+    not_both lane front (party_lane party ∷ tables) none
+    (or_no_first (lane == party_lane party) (is_among lane tables) (ne_eqb lane (party_lane party) (λ e. absurd (omega arith))) ∙ are lane past)

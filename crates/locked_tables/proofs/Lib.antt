@@ -1,7 +1,9 @@
 pub mod Rows
 pub mod Lanes
 pub mod Parties
+pub mod Room
 pub mod Archive
 pub mod Seats
 pub mod Announced
+pub mod Placed
 pub mod Learnt

@@ -5,12 +5,10 @@ use Rattle.std.proofs.lemmas.Bool.{eq-eqb}
 use Rattle.std.proofs.lemmas.List.{append-nil}
 use Rattle.order_words.specs.Lanes.{has_lane, is_among, last_touch}
 use Rattle.order_words.specs.Seats.{Run}
-use Rattle.locked_tables.specs.Held.{lanes_next}
 use Rattle.locked_tables.specs.Known.{KnowsLane}
-use Rattle.locked_tables.specs.Taken.{IsOwn, IsParty, TouchesItsParty, archive_lane, lanes_of, of_party, party_lane}
-use Rattle.locked_tables.specs.declared.held_table.HeldTable.{HeldTable}
+use Rattle.locked_tables.specs.Taken.{IsOwn, IsParty, TouchesItsParty, lanes_of, of_party, party_lane}
 use Rattle.locked_tables.specs.declared.taken.Taken.{Taken}
-use Rattle.locked_tables.proofs.Lanes.{lane_of_party, not_archive, not_next, or_no_first}
+use Rattle.locked_tables.proofs.Lanes.{AreOfTables, IsBetween, lane_of_party, past_between}
 use Rattle.locked_tables.proofs.Rows.{none_behind, past_known}
 
 -- those behind some are among all
@@ -63,22 +61,15 @@ module _ (run : Run) (party : ℕ) (is : IsParty run party) where
 
 -- ---- the parties' lanes of an entry
 
-module _ {N : Type 0} (run : Run) (entry : Taken) (party : ℕ) (is : IsParty run party) (asks : entry.request.party ≡ party) (held : List (HeldTable N)) where
-  asked_by : (other : ℕ) → is_among (party_lane other) (party_lane party ∷ lanes_next held) ≡ (entry.request.party == other)
-  asked_by other = lane_of_party other party (lanes_next held) (not_next (party_lane other) held (omega arith)) ∙ ap (λ (p : ℕ). p == other) (sym asks)
+module _ (run : Run) (entry : Taken) (party : ℕ) (is : IsParty run party) (asks : entry.request.party ≡ party) (tables : List ℕ) (below : AreOfTables tables) where
+  asked_by : (other : ℕ) → is_among (party_lane other) (party_lane party ∷ tables) ≡ (entry.request.party == other)
+  asked_by other = lane_of_party other party tables (below (party_lane other) (omega arith)) ∙ ap (λ (p : ℕ). p == other) (sym asks)
 
-  -- its own party's alone, where it touches that and lanes of tables
-  pub touches_party : ((i : ℕ) → has_lane entry.lanes i ≡ is_among i (party_lane party ∷ lanes_next held)) → TouchesItsParty run entry
-  touches_party are = record {
+  -- its own party's alone, where it touches that, lanes before those of the parties, and lanes of tables
+  pub touches_party : (front : List ℕ) → AllByRecursion IsBetween front → ((i : ℕ) → has_lane entry.lanes i ≡ is_among i (front ++ party_lane party ∷ tables)) → TouchesItsParty run entry
+  touches_party front between are = record {
     party = subst (IsParty run) (sym asks) is;
-    lanes = λ other low high. are (party_lane other) ∙ asked_by other;
-  }
-
-  -- the same where it touches the archive's lane too
-  pub touches_party_too : ((i : ℕ) → has_lane entry.lanes i ≡ is_among i (archive_lane ∷ party_lane party ∷ lanes_next held)) → TouchesItsParty run entry
-  touches_party_too are = record {
-    party = subst (IsParty run) (sym asks) is;
-    lanes = λ other low high. are (party_lane other) ∙ (or_no_first (party_lane other == archive_lane) (is_among (party_lane other) (party_lane party ∷ lanes_next held)) (not_archive other low) ∙ asked_by other);
+    lanes = λ other low high. are (party_lane other) ∙ (past_between front (party_lane party ∷ tables) other between low ∙ asked_by other);
   }
 
 -- each entry is of a party of the run

@@ -57,7 +57,7 @@ module _ (table : TableId) where
   after_alike [] rows other e = e
   after_alike (taken ∷ order) rows other e = after_alike order (rows_behind rows taken) (rows_behind other taken) (behind_alike taken rows other e)
 
-  after_append : (xs ys : List Taken) (rows : AllRows) → rows_after rows (xs ++ ys) ≡ rows_after (rows_after rows xs) ys
+  pub after_append : (xs ys : List Taken) (rows : AllRows) → rows_after rows (xs ++ ys) ≡ rows_after (rows_after rows xs) ys
   after_append [] ys rows = refl
   after_append (x ∷ xs) ys rows = after_append xs ys (rows_behind rows x)
 
@@ -67,11 +67,17 @@ module _ (table : TableId) where
       let h = none_behind (has_lane taken.lanes (table_number table)) (last_touch lanes_of (table_number table) order) e in
       untouched order (rows_behind rows taken) h.1 ∙ ap (λ (b : Bool). if b then changed_by rows taken.changes table else rows table) h.0
 
+  -- places behind some of which none touches the table leave the same rows
+  rows_past : (rows : AllRows) (xs ys : List Taken) → (p : IsPrefix xs ys) → last_touch lanes_of (table_number table) p.0 ≡ 0 → rows_after rows ys table ≡ rows_after rows xs table
+  rows_past rows xs ys p e = ap (λ (l : List Taken). rows_after rows l table) (sym p.1) ∙ (ap (λ (r : AllRows). r table) (after_append xs p.0 rows) ∙ untouched p.0 (rows_after rows xs) e)
+
   -- two beginnings with the same last touching place leave the same rows
   pub rows_kept : (rows : AllRows) (xs ys : List Taken) → IsPrefix xs ys → last_touch lanes_of (table_number table) ys ≡ last_touch lanes_of (table_number table) xs → rows_after rows ys table ≡ rows_after rows xs table
-  rows_kept rows xs ys p e =
-      ap (λ (l : List Taken). rows_after rows l table) (sym p.1)
-      ∙ (ap (λ (r : AllRows). r table) (after_append xs p.0 rows) ∙ untouched p.0 (rows_after rows xs) (past_known (table_number table) xs ys (record { begins = p; last = e })))
+  rows_kept rows xs ys p e = rows_past rows xs ys p (past_known (table_number table) xs ys (record { begins = p; last = e }))
+
+  -- so does a beginning behind which is no touching place
+  pub rows_within : (rows : AllRows) (xs ys : List Taken) → IsPrefix xs ys → last_touch lanes_of (table_number table) ys ≤ length xs → rows_after rows ys table ≡ rows_after rows xs table
+  rows_within rows xs ys p low = rows_past rows xs ys p (none_past (table_number table) xs p.0 (subst (λ (l : List Taken). last_touch lanes_of (table_number table) l ≤ length xs) (sym p.1) low))
 
   -- one more entry that touches the table leaves what its changes do
   pub rows_placed : (rows : AllRows) (xs : List Taken) (taken : Taken) → has_lane taken.lanes (table_number table) ≡ true → rows_after rows (xs ++ taken ∷ []) table ≡ changed_by (rows_after rows xs) taken.changes table

@@ -1,12 +1,12 @@
 -- What is known behind each lock. This project's own choice.
-use Rattle.std.specs.Prelude.{◌≡◌, ◌<◌, ℕ, ◌-◌, true, false, List, [], ◌∷◌, ◌++◌}
+use Rattle.std.specs.Prelude.{◌≡◌, ◌<◌, ℕ, zero, suc, ◌+◌, true, false, List, ◌++◌, length}
 use Rattle.std.specs.List.{AllByRecursion}
 use mathlib.Core.List.{IsPrefix}
 use Rattle.depot_model.specs.db_records.declared.table.TableId.{TableId}
 use Rattle.order_words.specs.Lanes.{has_lane, last_touch}
 use Rattle.order_words.specs.Seats.{Run, LaneState, fresh_lane}
 use Rattle.table_changes.specs.Changed.{AllRows}
-use Rattle.locked_tables.specs.Taken.{lanes_of, rows_after}
+use Rattle.locked_tables.specs.Taken.{lanes_of, of_party, rows_after}
 use Rattle.locked_tables.specs.declared.taken.Taken.{Taken}
 
 -- the seat of a lane at rest: the lane's word is the last place of its list that touches the lane
@@ -27,14 +27,14 @@ pub record PartyKnown : Type 0 where
   pub party : ℕ
   pub list : List Taken
 
--- the whole order, and how many more places there is room for
-pub record OrderKnown : Type 0 where
-  pub list : List Taken
-  pub room : ℕ
+-- how many places parties may have, from 1 up to a number
+abbrev pub all_places : (ℕ → ℕ) → ℕ → ℕ
+all_places places zero = 0
+all_places places (suc n) = all_places places n + places (suc n)
 
--- one more entry, for which there was room
-abbrev pub with_entry : OrderKnown → Taken → OrderKnown
-with_entry known taken = record { list = known.list ++ taken ∷ []; room = known.room - 1 }
+-- a party may have one more place
+abbrev pub HasPlaceLeft : (ℕ → ℕ) → PartyKnown → Type 0
+HasPlaceLeft places known = length (of_party known.party known.list) < places known.party
 
 -- a list begins the order, and no place behind it touches the lane
 pub record KnowsLane (lane : ℕ) (known order : List Taken) : Type 0 where

@@ -11,13 +11,16 @@ use Rattle.order_words.specs.Seats.{Run, lane_count}
 use Rattle.table_changes.specs.Changed.{AllRows, changed_by}
 use Rattle.locked_tables.specs.declared.taken.Taken.{Taken}
 
--- ---- lanes: that of a table is its number, then come that of the archive and those of the parties
+-- ---- lanes: that of a table is its number, then come that of the archive, that of the journal and those of the parties
 
 abbrev pub archive_lane : ℕ
 archive_lane = 11
 
+abbrev pub journal_lane : ℕ
+journal_lane = 12
+
 abbrev pub party_lane : ℕ → ℕ
-party_lane party = party + 11
+party_lane party = party + 12
 
 -- the lanes that an entry touches
 abbrev pub lanes_of : Taken → ℕ

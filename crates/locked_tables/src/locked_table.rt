@@ -1,16 +1,13 @@
 //! What lies behind the lock of a table.
-ghost use Rattle.std.specs.Prelude.{◌≡◌, [], IfOk};
+ghost use Rattle.std.specs.Prelude.{◌≡◌, []};
 ghost use Rattle.depot_model.specs.db_records.Table.{table_number};
 ghost use Rattle.order_words.specs.Seats.{fresh_lane};
 ghost use Rattle.locked_tables.specs.Taken.{rows_after};
 
 use crate::naming::Naming;
-use crate::peek::Peek;
 use crate::taken::Taken;
-use crate::words::OrderWords;
 use depot_model::records::TableId;
 use order_words::LaneSeat;
-use std::alloc::AllocError;
 use std::marker::{Model, PhantomData};
 use table_changes::tables::Version;
 
@@ -63,17 +60,5 @@ impl<N: Naming> LockedTable<N> {
         ensures { result.now ≡ record { table = self.now.table; rows = rows_after N.rows self.now.list self.now.table } }
     {
         &self.version
-    }
-
-    /// Shows the version, for a comparison later. The one error is that there are too many shares.
-    pub fn peek(&mut self, words: &OrderWords<N>) -> Result<Peek<N>, AllocError>
-        ensures same { self.new ≡ self.old }
-        ensures peek { IfOk result (λ peek. peek ≡ self.old) }
-    {
-        let version = self.version.share()?;
-        let lane = self.seat.lane();
-        let word = words.orders.look(&mut self.seat, lane);
-        let note = words.orders.lane_note(&mut self.seat);
-        Ok(Peek::of(note, word, version))
     }
 }

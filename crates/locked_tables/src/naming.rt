@@ -2,8 +2,9 @@
 //! words, and all versions began with the same rows, beside the same archive.
 use std::marker::Brand;
 
-/// Names the words of one run, the rows that the tables had when it began, and how many bytes of
-/// the archive were used then. Each call of a program picks them.
+/// Names the words of one run, the rows that the tables had when it began, how many bytes of the
+/// archive were used then, and how many places each party may have. Each call of a program picks
+/// them.
 pub trait Naming {
     ghost use Rattle.std.specs.Prelude.{ℕ};
     ghost use Rattle.order_words.specs.Seats.{Run};
@@ -14,6 +15,9 @@ pub trait Naming {
     ghost rows: { AllRows };
 
     ghost end: { ℕ };
+
+    /// How many places each party may have.
+    ghost places: { ℕ → ℕ };
 }
 
 impl Naming for Brand {
@@ -25,4 +29,6 @@ impl Naming for Brand {
     ghost rows = { no_rows };
 
     ghost end = { 0 };
+
+    ghost places = { λ party. 0 };
 }

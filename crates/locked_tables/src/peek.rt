@@ -1,8 +1,6 @@
-//! A table that was seen under its lock, which was given back at once.
-ghost use Rattle.std.specs.Prelude.{◌≡◌};
-ghost use Rattle.depot_model.specs.db_records.Table.{table_number};
-ghost use Rattle.order_words.specs.Lanes.{last_touch};
-ghost use Rattle.locked_tables.specs.Taken.{lanes_of, rows_after};
+//! A table that was seen under the lock of the order.
+ghost use Rattle.std.specs.Prelude.{◌≡◌, length};
+ghost use Rattle.locked_tables.specs.Taken.{rows_after};
 
 use crate::naming::Naming;
 use crate::taken::Taken;
@@ -11,42 +9,40 @@ use order_words::Note;
 use std::marker::{Model, PhantomData};
 use table_changes::tables::Version;
 
-/// What the holder of the lock showed: the version, the word of the table's lane, and a note of
-/// the order up to there. Contracts see which table it is, and the beginning of the order for
-/// which the version stands.
+/// What the holder of the lock showed: the version, how many places the order had, and a note of
+/// them. Contracts see which table it is, and the beginning of the order for which the version
+/// stands.
 #[derive(Drop)]
 pub struct Peek<N: Naming> {
     pub(crate) note: Note<Taken>,
-    pub(crate) word: u64,
+    pub(crate) places: u64,
     pub(crate) version: Version,
     pub(crate) of: PhantomData<N>,
 }
 
 impl<N: Naming> Model for Peek<N> {
-    ghost use Rattle.std.specs.Prelude.{◌≡◌};
-    ghost use Rattle.depot_model.specs.db_records.Table.{table_number};
-    ghost use Rattle.order_words.specs.Lanes.{last_touch};
+    ghost use Rattle.std.specs.Prelude.{◌≡◌, length};
     ghost use Rattle.locked_tables.specs.Known.{TableKnown};
-    ghost use Rattle.locked_tables.specs.Taken.{lanes_of, rows_after};
+    ghost use Rattle.locked_tables.specs.Taken.{rows_after};
 
     ghost Value = { TableKnown };
 
     ghost view = { λ p. record { table = p.version.table; list = p.note.list } };
 
-    ghost invariant = { λ p. (p.note.run ≡ N.run) × (p.word ≡ last_touch lanes_of (table_number p.version.table) p.note.list) × (p.version.rows ≡ rows_after N.rows p.note.list p.version.table) };
+    ghost invariant = { λ p. (p.note.run ≡ N.run) × (p.places ≡ length p.note.list) × (p.version.rows ≡ rows_after N.rows p.note.list p.version.table) };
 }
 
 impl<N: Naming> Peek<N> {
     /// What was seen.
-    pub(crate) fn of(note: Note<Taken>, word: u64, version: Version) -> Peek<N>
+    pub(crate) fn of(note: Note<Taken>, places: u64, version: Version) -> Peek<N>
         requires run { note.run ≡ N.run }
-        requires word { word ≡ last_touch lanes_of (table_number version.table) note.list }
+        requires places { places ≡ length note.list }
         requires rows { version.rows ≡ rows_after N.rows note.list version.table }
         ensures { result ≡ record { table = version.table; list = note.list } }
     {
         Peek {
             note,
-            word,
+            places,
             version,
             of: PhantomData,
         }

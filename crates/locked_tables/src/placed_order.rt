@@ -1,31 +1,35 @@
 //! What lies behind the lock of the order.
-ghost use Rattle.std.specs.Prelude.{◌≡◌, ◌<◌, ◌≤◌, ◌-◌, ◌^◌, ℕ, [], ◌∷◌, map, true, false, OnOk, IsTrue};
+ghost use Rattle.std.specs.Prelude.{◌≡◌, ◌≤◌, ◌-◌, ◌^◌, ℕ, [], ◌∷◌, ◌++◌, map, true, false, IfOk, IsTrue};
 ghost use Rattle.std.specs.List.{AllByRecursion};
 ghost use mathlib.Core.List.{IsPrefix};
 ghost use Rattle.depot_model.specs.db_records.declared.table.TableId.{TableId};
 ghost use Rattle.table_changes.specs.Changed.{changed_by};
 ghost use Rattle.order_words.specs.Lanes.{has_lane, is_among};
 ghost use Rattle.locked_tables.specs.Held.{AllHaveLearnt, AllNext, AllStill, OnlyChange, lanes_next};
-ghost use Rattle.locked_tables.specs.Known.{GoesOnWithout, IsStill, with_entry};
-ghost use Rattle.locked_tables.specs.Taken.{archive_lane, changes_of, end_after, of_party, party_lane, place_of, rows_after, IsOwn, IsParty};
+ghost use Rattle.locked_tables.specs.Known.{GoesOnWithout, HasPlaceLeft, IsStill, all_places};
+ghost use Rattle.locked_tables.specs.Taken.{archive_lane, changes_of, end_after, journal_lane, of_party, party_lane, place_of, rows_after, IsOwn, IsParty};
 
 use crate::held_table::HeldTable;
 use crate::locked_archive::LockedArchive;
+use crate::locked_journal::LockedJournal;
 use crate::locked_table::LockedTable;
 use crate::naming::Naming;
 use crate::party_pass::PartyPass;
 use crate::peek::Peek;
-use crate::placing::{learn_tables, place_stored_at, place_touching};
+use crate::placing::{
+    learn_tables, place_stored_at, place_touching, place_unread_at, place_written,
+};
 use crate::taken::Taken;
 use crate::words::OrderWords;
 use depot_model::Place;
 use order_words::OrderSeat;
 use std::alloc::{AllocError, Global};
 use std::marker::{Model, PhantomData};
+use table_changes::tables::Version;
 
-/// The seat of the order, with the places of the order. Contracts see the whole order, and how
-/// many more places there is room for. Each entry touches the lane of each table that it changes, and of
-/// the parties' lanes that of its own party alone.
+/// The seat of the order, with the places of the order. Contracts see the list of all places. Each
+/// entry touches the lane of each table that it changes, and of the parties' lanes that of its own
+/// party alone. No party has more places than it may have, and there is room for all of them.
 #[derive(Drop)]
 pub struct PlacedOrder<N: Naming> {
     seat: OrderSeat<Taken>,
@@ -34,43 +38,42 @@ pub struct PlacedOrder<N: Naming> {
 }
 
 impl<N: Naming> Model for PlacedOrder<N> {
-    ghost use Rattle.std.specs.Prelude.{◌≡◌, ◌-◌, map, vec_len, vec_capacity};
+    ghost use Rattle.std.specs.Prelude.{◌≡◌, ◌≤◌, ℕ, List, map, length, vec_capacity};
     ghost use Rattle.std.specs.List.{AllByRecursion};
-    ghost use Rattle.locked_tables.specs.Known.{OrderKnown};
-    ghost use Rattle.locked_tables.specs.Taken.{place_of, TouchesItsParty, TouchesItsTables};
+    ghost use Rattle.locked_tables.specs.Known.{all_places};
+    ghost use Rattle.locked_tables.specs.Taken.{of_party, place_of, TouchesItsParty, TouchesItsTables};
+    ghost use Rattle.locked_tables.specs.declared.taken.Taken.{Taken};
 
-    ghost Value = { OrderKnown };
+    ghost Value = { List Taken };
 
-    ghost view = { λ o. record { list = o.seat.list; room = vec_capacity o.places - vec_len o.places } };
+    ghost view = { λ o. o.seat.list };
 
-    ghost invariant = { λ o. (o.seat.run ≡ N.run) × (o.places.items ≡ map place_of o.seat.list) × AllByRecursion TouchesItsTables o.seat.list × AllByRecursion (TouchesItsParty N.run) o.seat.list };
+    ghost invariant = { λ o. (o.seat.run ≡ N.run) × (o.places.items ≡ map place_of o.seat.list) × AllByRecursion TouchesItsTables o.seat.list × AllByRecursion (TouchesItsParty N.run) o.seat.list × ((party : ℕ) → length (of_party party o.seat.list) ≤ N.places party) × (all_places N.places 16 ≤ vec_capacity o.places) };
 }
 
 impl<N: Naming> PlacedOrder<N> {
-    /// An order without a place.
-    pub fn new(alloc: Global, seat: OrderSeat<Taken>) -> PlacedOrder<N>
-        requires { (seat.run ≡ N.run) × (seat.list ≡ []) }
-        ensures { result.list ≡ [] }
+    /// An order without a place, with room for all that parties may have. The one error is want of
+    /// memory.
+    pub fn new(
+        alloc: Global,
+        seat: OrderSeat<Taken>,
+        room: usize,
+    ) -> Result<PlacedOrder<N>, AllocError>
+        requires seat { (seat.run ≡ N.run) × (seat.list ≡ []) }
+        requires room { all_places N.places 16 ≤ room }
+        ensures { IfOk result (λ order. order ≡ []) }
     {
-        PlacedOrder {
+        Ok(PlacedOrder {
             seat,
-            places: Vec::new(alloc),
+            places: Vec::with_capacity(alloc, room)?,
             of: PhantomData,
-        }
-    }
-
-    /// Makes room for one more place. The one error is want of memory.
-    pub fn make_room(&mut self) -> Result<(), AllocError>
-        ensures same { self.new.list ≡ self.old.list }
-        ensures room { OnOk result (0 < self.new.room) }
-    {
-        self.places.reserve(1)
+        })
     }
 
     /// What a party knows begins the order.
     pub fn hear(&mut self, words: &OrderWords<N>, pass: &mut PartyPass<N>)
         ensures same { (self.new ≡ self.old) × (pass.new ≡ pass.old) }
-        ensures begins { IsPrefix pass.old.list self.old.list }
+        ensures begins { IsPrefix pass.old.list self.old }
     {
         let known = words.orders.lane_note(&mut pass.seat);
         words.orders.order_meet(&mut self.seat, known);
@@ -79,38 +82,51 @@ impl<N: Naming> PlacedOrder<N> {
     /// The party learns all places so far. Each of its own was known to it.
     pub fn tell(&mut self, words: &OrderWords<N>, pass: &mut PartyPass<N>)
         ensures same { self.new ≡ self.old }
-        ensures told { pass.new ≡ record pass.old { list = self.old.list } }
-        ensures begins { IsPrefix pass.old.list self.old.list }
-        ensures own { of_party pass.old.party self.old.list ≡ of_party pass.old.party pass.old.list }
+        ensures told { pass.new ≡ record pass.old { list = self.old } }
+        ensures begins { IsPrefix pass.old.list self.old }
+        ensures own { of_party pass.old.party self.old ≡ of_party pass.old.party pass.old.list }
     {
         words.orders.learn(&mut self.seat, &mut pass.seat);
+    }
+
+    /// Shows a version of a table that is as it is after the whole order, for a comparison later.
+    /// The one error is that there are too many shares.
+    pub fn look(&mut self, words: &OrderWords<N>, version: &Version) -> Result<Peek<N>, AllocError>
+        requires { version.now.rows ≡ rows_after N.rows self.old version.now.table }
+        ensures same { self.new ≡ self.old }
+        ensures peek { IfOk result (λ peek. peek ≡ record { table = version.now.table; list = self.old }) }
+    {
+        let version = version.share()?;
+        let places = self.seat.places();
+        let note = words.orders.note(&mut self.seat);
+        Ok(Peek::of(note, places, version))
     }
 
     /// Whether no place touched a table since it was looked at. It then is after the whole order
     /// as it was seen.
     pub fn judge(&mut self, words: &OrderWords<N>, peek: Peek<N>) -> bool
         ensures same { self.new ≡ self.old }
-        ensures begins { IsPrefix peek.list self.old.list }
-        ensures still { IsTrue result → IsStill N.rows self.old.list peek }
+        ensures begins { IsPrefix peek.list self.old }
+        ensures still { IsTrue result → IsStill N.rows self.old peek }
     {
         let Peek {
             note,
-            word,
+            places,
             version,
             of: _,
         } = peek;
         words.orders.order_meet(&mut self.seat, note);
         let lane = version.table().number() as u32;
-        words.orders.check(&mut self.seat, lane) == word
+        words.orders.check(&mut self.seat, lane) <= places
     }
 
     /// A locked table learns the whole order, and is after it as it was after the places that it
     /// knew.
     pub fn learn(&mut self, words: &OrderWords<N>, table: &mut LockedTable<N>)
         ensures same { self.new ≡ self.old }
-        ensures learnt { table.new ≡ record table.old { list = self.old.list } }
-        ensures begins { IsPrefix table.old.list self.old.list }
-        ensures still { IsStill N.rows self.old.list table.old }
+        ensures learnt { table.new ≡ record table.old { list = self.old } }
+        ensures begins { IsPrefix table.old.list self.old }
+        ensures still { IsStill N.rows self.old table.old }
     {
         words.orders.learn(&mut self.seat, &mut table.seat);
     }
@@ -119,8 +135,8 @@ impl<N: Naming> PlacedOrder<N> {
     /// knew.
     pub fn learn_held(&mut self, words: &OrderWords<N>, held: &mut [HeldTable<'_, N>])
         ensures same { self.new ≡ self.old }
-        ensures learnt { AllHaveLearnt self.old.list held.old held.new }
-        ensures still { AllStill N.rows self.old.list held.old }
+        ensures learnt { AllHaveLearnt self.old held.old held.new }
+        ensures still { AllStill N.rows self.old held.old }
     {
         learn_tables(words, &mut self.seat, held);
     }
@@ -129,37 +145,104 @@ impl<N: Naming> PlacedOrder<N> {
     /// after the places that it knew: none behind these touches it.
     pub fn learn_archive(&mut self, words: &OrderWords<N>, archive: &mut LockedArchive<N>)
         ensures same { self.new ≡ self.old }
-        ensures learnt { archive.new ≡ self.old.list }
-        ensures begins { IsPrefix archive.old self.old.list }
-        ensures behind { GoesOnWithout archive_lane archive.old self.old.list }
-        ensures still { end_after N.end self.old.list ≡ end_after N.end archive.old }
+        ensures learnt { archive.new ≡ self.old }
+        ensures begins { IsPrefix archive.old self.old }
+        ensures behind { GoesOnWithout archive_lane archive.old self.old }
+        ensures still { end_after N.end self.old ≡ end_after N.end archive.old }
     {
         words.orders.learn(&mut self.seat, &mut archive.seat);
     }
 
+    /// The journal's lane learns the whole order: none behind the places that it knew touches it.
+    pub fn learn_journal(&mut self, words: &OrderWords<N>, journal: &mut LockedJournal<N>)
+        ensures same { self.new ≡ self.old }
+        ensures learnt { journal.new ≡ self.old }
+        ensures begins { IsPrefix journal.old self.old }
+        ensures behind { GoesOnWithout journal_lane journal.old self.old }
+    {
+        words.orders.learn(&mut self.seat, &mut journal.seat);
+    }
+
+    /// Gives a command of the party that changes nothing the next place of the order. Answers the
+    /// lanes that it touches: the party's alone.
+    pub fn place_read<'a>(
+        &mut self,
+        words: &'a OrderWords<N>,
+        pass: &mut PartyPass<N>,
+        taken: Taken,
+    ) -> u32
+        requires room { HasPlaceLeft N.places pass.old }
+        requires party { taken.request.party ≡ pass.old.party }
+        requires unchanged { taken.changes ≡ [] }
+        ensures placed { self.new ≡ self.old ++ record taken { lanes = result } ∷ [] }
+        ensures lanes { (lane : ℕ) → has_lane result lane ≡ is_among lane (party_lane pass.old.party ∷ []) }
+        ensures spares { has_lane result archive_lane ≡ false }
+        ensures silent { has_lane result journal_lane ≡ false }
+        ensures pass { pass.new ≡ record pass.old { list = self.new } }
+        ensures own { IsOwn pass.old.party pass.old.list self.old self.new }
+        ensures end { end_after N.end self.new ≡ end_after N.end self.old }
+    {
+        let place = taken.place();
+        let mut none: [HeldTable<'a, N>; 0] = [];
+        let lanes = place_touching(words, &mut self.seat, &mut none, pass, 0, taken);
+        self.places.push_reserved(place);
+        lanes
+    }
+
+    /// The same for a command that touches the archive's lane too: one for which the archive's disk
+    /// failed before anything was written. As much of the archive is used then as it says.
+    pub fn place_unread(
+        &mut self,
+        words: &OrderWords<N>,
+        archive: &mut LockedArchive<N>,
+        pass: &mut PartyPass<N>,
+        taken: Taken,
+    ) -> u32
+        requires room { HasPlaceLeft N.places pass.old }
+        requires party { taken.request.party ≡ pass.old.party }
+        requires unchanged { taken.changes ≡ [] }
+        requires fits { taken.end ≤ 2 ^ 63 - 1 }
+        ensures placed { self.new ≡ self.old ++ record taken { lanes = result } ∷ [] }
+        ensures lanes { (lane : ℕ) → has_lane result lane ≡ is_among lane (archive_lane ∷ party_lane pass.old.party ∷ []) }
+        ensures touches { has_lane result archive_lane ≡ true }
+        ensures silent { has_lane result journal_lane ≡ false }
+        ensures archive { archive.new ≡ self.new }
+        ensures pass { pass.new ≡ record pass.old { list = self.new } }
+        ensures own { IsOwn pass.old.party pass.old.list self.old self.new }
+        ensures end { end_after N.end self.new ≡ taken.end }
+    {
+        let place = taken.place();
+        let lanes = place_unread_at(words, &mut self.seat, archive, pass, taken);
+        self.places.push_reserved(place);
+        lanes
+    }
+
     /// Gives a command of the party the next place of the order, and puts the prepared versions in
-    /// the place of those that it changes. Answers the lanes that it touches: the party's, and
-    /// those of the tables that are changed.
+    /// the place of those that it changes. Answers the lanes that it touches: the journal's, the
+    /// party's, and those of the tables that are changed.
     pub fn place(
         &mut self,
         words: &OrderWords<N>,
         held: &mut [HeldTable<'_, N>],
+        journal: &mut LockedJournal<N>,
         pass: &mut PartyPass<N>,
         taken: Taken,
     ) -> u32
-        requires room { 0 < self.old.room }
+        requires room { HasPlaceLeft N.places pass.old }
         requires party { taken.request.party ≡ pass.old.party }
         requires next { AllNext N.rows taken.changes held.old }
         requires only { OnlyChange taken.changes (lanes_next held.old) }
-        ensures placed { self.new ≡ with_entry self.old (record taken { lanes = result }) }
-        ensures lanes { (lane : ℕ) → has_lane result lane ≡ is_among lane (party_lane pass.old.party ∷ lanes_next held.old) }
+        ensures placed { self.new ≡ self.old ++ record taken { lanes = result } ∷ [] }
+        ensures lanes { (lane : ℕ) → has_lane result lane ≡ is_among lane (journal_lane ∷ party_lane pass.old.party ∷ lanes_next held.old) }
         ensures spares { has_lane result archive_lane ≡ false }
-        ensures pass { pass.new ≡ record pass.old { list = self.new.list } }
-        ensures own { IsOwn pass.old.party pass.old.list self.old.list self.new.list }
-        ensures end { end_after N.end self.new.list ≡ end_after N.end self.old.list }
+        ensures writes { has_lane result journal_lane ≡ true }
+        ensures journal { journal.new ≡ self.new }
+        ensures pass { pass.new ≡ record pass.old { list = self.new } }
+        ensures own { IsOwn pass.old.party pass.old.list self.old self.new }
+        ensures end { end_after N.end self.new ≡ end_after N.end self.old }
     {
         let place = taken.place();
-        let lanes = place_touching(words, &mut self.seat, held, pass, 0, taken);
+        let lanes = place_written(words, &mut self.seat, held, journal, pass, 0, taken);
         self.places.push_reserved(place);
         lanes
     }
@@ -171,45 +254,48 @@ impl<N: Naming> PlacedOrder<N> {
         words: &OrderWords<N>,
         held: &mut [HeldTable<'_, N>],
         archive: &mut LockedArchive<N>,
+        journal: &mut LockedJournal<N>,
         pass: &mut PartyPass<N>,
         taken: Taken,
     ) -> u32
-        requires room { 0 < self.old.room }
+        requires room { HasPlaceLeft N.places pass.old }
         requires party { taken.request.party ≡ pass.old.party }
         requires fits { taken.end ≤ 2 ^ 63 - 1 }
         requires next { AllNext N.rows taken.changes held.old }
         requires only { OnlyChange taken.changes (lanes_next held.old) }
-        ensures placed { self.new ≡ with_entry self.old (record taken { lanes = result }) }
-        ensures lanes { (lane : ℕ) → has_lane result lane ≡ is_among lane (archive_lane ∷ party_lane pass.old.party ∷ lanes_next held.old) }
+        ensures placed { self.new ≡ self.old ++ record taken { lanes = result } ∷ [] }
+        ensures lanes { (lane : ℕ) → has_lane result lane ≡ is_among lane (archive_lane ∷ journal_lane ∷ party_lane pass.old.party ∷ lanes_next held.old) }
         ensures touches { has_lane result archive_lane ≡ true }
-        ensures archive { archive.new ≡ self.new.list }
-        ensures pass { pass.new ≡ record pass.old { list = self.new.list } }
-        ensures own { IsOwn pass.old.party pass.old.list self.old.list self.new.list }
-        ensures end { end_after N.end self.new.list ≡ taken.end }
+        ensures writes { has_lane result journal_lane ≡ true }
+        ensures archive { archive.new ≡ self.new }
+        ensures journal { journal.new ≡ self.new }
+        ensures pass { pass.new ≡ record pass.old { list = self.new } }
+        ensures own { IsOwn pass.old.party pass.old.list self.old self.new }
+        ensures end { end_after N.end self.new ≡ taken.end }
     {
         let place = taken.place();
-        let lanes = place_stored_at(words, &mut self.seat, held, archive, pass, taken);
+        let lanes = place_stored_at(words, &mut self.seat, held, archive, journal, pass, taken);
         self.places.push_reserved(place);
         lanes
     }
 
     /// The rows of the tables after the order are those after all its changes.
     pub fn rows_are_changed(&self)
-        ensures { (table : TableId) → rows_after N.rows self.now.list table ≡ changed_by N.rows (changes_of self.now.list) table }
+        ensures { (table : TableId) → rows_after N.rows self.now table ≡ changed_by N.rows (changes_of self.now) table }
     {
         let _count = self.places.len();
     }
 
     /// Each place is of a party of the run.
     pub fn parties_are_of_run(&self)
-        ensures { AllByRecursion (λ taken. IsParty N.run taken.request.party) self.now.list }
+        ensures { AllByRecursion (λ taken. IsParty N.run taken.request.party) self.now }
     {
         let _count = self.places.len();
     }
 
     /// The places, in order. It takes no memory.
     pub fn into_places(self) -> Vec<Place>
-        ensures { result.items ≡ map place_of self.list }
+        ensures { result.items ≡ map place_of self }
     {
         let PlacedOrder {
             seat: _,

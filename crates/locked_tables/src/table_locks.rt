@@ -9,9 +9,7 @@ ghost use Rattle.locked_tables.specs.Known.{IsSeatOfTable};
 use crate::held_table::HeldTable;
 use crate::locked_table::LockedTable;
 use crate::naming::Naming;
-use crate::peek::Peek;
 use crate::taken::Taken;
-use crate::words::OrderWords;
 use depot_model::records::TableId;
 use order_words::LaneSeat;
 use std::alloc::{AllocError, Global};
@@ -57,24 +55,5 @@ impl<N: Naming> TableLocks<N> {
             return Err(AllocError);
         }
         Ok(HeldTable { guard, next: None })
-    }
-
-    /// Looks at a table under its lock, which is given back at once. The error is as with `hold`,
-    /// or stands for too many shares.
-    pub fn peek(
-        &self,
-        rt: &impl Wait,
-        words: &OrderWords<N>,
-        table: TableId,
-    ) -> Result<Peek<N>, AllocError>
-        ensures { IfOk result (λ peek. peek.table ≡ table) }
-    {
-        let lock = self.locks.get(table.number()).ok_or(AllocError)?;
-        let mut guard = lock.lock(rt);
-        let peek = guard.peek(words)?;
-        if peek.table() != table {
-            return Err(AllocError);
-        }
-        Ok(peek)
     }
 }

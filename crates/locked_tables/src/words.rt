@@ -8,19 +8,19 @@ use order_words::Orders;
 use std::marker::PhantomData;
 
 /// The words of the run that `N` names. There is one for the order, one for each table, one for
-/// the archive, and one for each party.
+/// the archive, one for the journal, and one for each party.
 #[derive(Drop)]
 pub struct OrderWords<N: Naming> {
     pub(crate) orders: Orders<Taken>,
     of: PhantomData<N>,
     ghost named: { orders ≡ N.run },
-    ghost wide: { 12 ≤ lane_count N.run },
+    ghost wide: { 13 ≤ lane_count N.run },
 }
 
 impl<N: Naming> OrderWords<N> {
     /// These words.
     pub fn new(orders: Orders<Taken>) -> OrderWords<N>
-        requires { (orders ≡ N.run) × (12 ≤ lane_count N.run) }
+        requires { (orders ≡ N.run) × (13 ≤ lane_count N.run) }
     {
         OrderWords {
             orders,

@@ -42,7 +42,7 @@ impl<E: Entry> Orders<E> {
         alloc: Global,
         lanes: u32,
     ) -> Result<(Orders<E>, OrderSeat<E>, Vec<LaneSeat<E>>), AllocError>
-        requires { (1 ≤ lanes) × (lanes ≤ 28) }
+        requires { (1 ≤ lanes) × (lanes ≤ 32) }
         ensures words { IfOk result (λ r. lane_count r.0 ≡ lanes) }
         ensures order { IfOk result (λ r. r.1 ≡ fresh_order r.0 lanes) }
         ensures seats { IfOk result (λ r. r.2.items ≡ fresh_lanes r.0 lanes) }

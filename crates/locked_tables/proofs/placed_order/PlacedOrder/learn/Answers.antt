@@ -1,7 +1,7 @@
 use Rattle.std.proofs.Common.{List, sym, ap, subst, ◌∙◌}
 use Rattle.depot_model.specs.db_records.Table.{table_number}
 use Rattle.order_words.specs.Seats.{LaneState}
-use Rattle.locked_tables.specs.Known.{IsStill, OrderKnown, TableKnown}
+use Rattle.locked_tables.specs.Known.{IsStill, TableKnown}
 use Rattle.locked_tables.specs.Taken.{rows_after}
 use Rattle.locked_tables.specs.declared.taken.Taken.{Taken}
 use Rattle.locked_tables.proofs.Rows.{rows_kept}
@@ -33,4 +33,4 @@ returns-clause-still g c =
     let rows = g.N.Naming.rows in
     let seen : TableKnown = record { table = table; list = seat.list } in
     let inner : IsStill rows order seen = rows_kept table rows seat.list order c.learn.ensures.begins (same_touch run (table_number table) order seat.list seat c.table.invariant.0 c.learn.ensures.last) in
-    subst (IsStill rows c.args.self.now.list) c.table.view_is (subst (λ (known : OrderKnown). IsStill rows known.list seen) c.self.view_is inner)
+    subst (IsStill rows c.args.self.now) c.table.view_is (subst (λ (l : List Taken). IsStill rows l seen) c.self.view_is inner)

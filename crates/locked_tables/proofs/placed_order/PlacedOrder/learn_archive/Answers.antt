@@ -1,6 +1,6 @@
 use Rattle.std.proofs.Common.{◌≡◌, List, sym, ap, subst, ◌∙◌}
 use Rattle.order_words.specs.Seats.{LaneState}
-use Rattle.locked_tables.specs.Known.{GoesOnWithout, KnowsLane, OrderKnown}
+use Rattle.locked_tables.specs.Known.{GoesOnWithout, KnowsLane}
 use Rattle.locked_tables.specs.Taken.{archive_lane, end_after}
 use Rattle.locked_tables.specs.declared.taken.Taken.{Taken}
 use Rattle.locked_tables.proofs.Archive.{end_kept, goes_on}
@@ -30,7 +30,7 @@ returns-clause-still g c =
     let order = c.self.inside.seat.list in
     let knows : KnowsLane archive_lane seat.list order = record { begins = c.learn.ensures.begins; last = same_touch run archive_lane order seat.list seat c.archive.invariant.0 c.learn.ensures.last } in
     let inner : end_after end order ≡ end_after end seat.list = end_kept end seat.list order knows in
-    subst (λ (l : List Taken). end_after end c.args.self.now.list ≡ end_after end l) c.archive.view_is (subst (λ (o : OrderKnown). end_after end o.list ≡ end_after end seat.list) c.self.view_is inner)
+    subst (λ (l : List Taken). end_after end c.args.self.now ≡ end_after end l) c.archive.view_is (subst (λ (l : List Taken). end_after end l ≡ end_after end seat.list) c.self.view_is inner)
 
 pub returns-clause-behind : goal.returns-clause-behind
 returns-clause-behind g c =
@@ -38,5 +38,5 @@ returns-clause-behind g c =
     let seat = c.archive.inside.seat in
     let order = c.self.inside.seat.list in
     let knows : KnowsLane archive_lane seat.list order = record { begins = c.learn.ensures.begins; last = same_touch run archive_lane order seat.list seat c.archive.invariant.0 c.learn.ensures.last } in
-    subst (λ (l : List Taken). GoesOnWithout archive_lane l c.args.self.now.list) c.archive.view_is
-    (subst (λ (o : OrderKnown). GoesOnWithout archive_lane seat.list o.list) c.self.view_is (goes_on archive_lane seat.list order knows))
+    subst (λ (l : List Taken). GoesOnWithout archive_lane l c.args.self.now) c.archive.view_is
+    (subst (λ (l : List Taken). GoesOnWithout archive_lane seat.list l) c.self.view_is (goes_on archive_lane seat.list order knows))
