@@ -1,6 +1,7 @@
 -- The next versions of held tables.
 use Rattle.std.proofs.Common.{◌≡◌, ℕ, Bool, true, false, List, [], ◌∷◌, Option, Some, None, IfSome, refl, sym, ap, subst, ◌∙◌}
 use Rattle.std.specs.Prelude.{◌==◌, ◌||◌, ◌&&◌, if◌then◌else◌}
+use Rattle.std.proofs.Math.Bool.{and-false}
 use Rattle.std.proofs.lemmas.Bool.{eqb-true, eq-eqb, true≢false, false≢true}
 use Rattle.depot_model.specs.db_records.Record.{table_of}
 use Rattle.depot_model.specs.db_records.Table.{table_number}
@@ -19,10 +20,6 @@ use Rattle.table_locks.specs.Confirmed.{tables_of}
 use Rattle.table_locks.specs.Gathered.{AllHeldSeen, HasSeen}
 use Rattle.table_locks.specs.Prepared.{AllFollow, Follows, are_held, is_changed, is_held, next_of}
 use Rattle.table_locks.proofs.Tables.{same_number}
-
-and_false : (a : Bool) → (a && false) ≡ false
-and_false true = refl
-and_false false = refl
 
 and_kept : (a b : Bool) → (a ≡ true → b ≡ true) → (a && b) ≡ a
 and_kept true b h = h refl
@@ -73,7 +70,7 @@ module _ {N : Type 0} (changes : List Change) where
   module _ (after : AllRows) where
     -- the lanes of the next versions are those of the held tables of which a row changes
     lanes_are : (olds news : List (HeldTable N)) → AllFollow after changes olds news → (table : TableId) → is_among (table_number table) (lanes_next news) ≡ (is_changed changes table && is_held olds table)
-    lanes_are [] [] follow table = sym (and_false (is_changed changes table))
+    lanes_are [] [] follow table = sym (and-false (is_changed changes table))
     lanes_are [] (n ∷ news) follow table = absurd follow
     lanes_are (o ∷ olds) [] follow table = absurd follow
     lanes_are (o ∷ olds) (n ∷ news) follow table =

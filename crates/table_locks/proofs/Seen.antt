@@ -1,8 +1,8 @@
 -- The versions of tables that were seen.
-use Rattle.std.proofs.Common.{◌≡◌, ◌≢◌, ℕ, ◌+◌, ◌<◌, Bool, true, false, List, [], ◌∷◌, refl, sym, ap, subst, ◌∙◌, arith}
+use Rattle.std.proofs.Common.{◌≡◌, ◌≢◌, Bool, true, false, List, [], ◌∷◌, refl, sym, ap, subst, ◌∙◌}
 use Rattle.std.specs.Prelude.{◌||◌}
 use Rattle.std.specs.List.{AllByRecursion, list_any}
-use Rattle.std.proofs.lemmas.Bool.{eqb-true, false≢true}
+use Rattle.std.proofs.lemmas.Bool.{eqb-true, false≢true, or_parts}
 use Rattle.depot_model.specs.db_records.Table.{table_number}
 use Rattle.depot_model.specs.db_records.declared.table.TableId.{TableId}
 use Rattle.locked_tables.specs.Known.{IsStill, TableKnown}
@@ -13,7 +13,7 @@ use Rattle.table_changes.specs.table_store.Rows.{TableRows}
 use Rattle.table_changes.specs.table_store.Tables.{version_of}
 use Rattle.table_changes.specs.table_store.declared.tables.Tables.{Tables}
 use Rattle.table_locks.specs.Gathered.{HasSeen, is_of}
-use Rattle.table_locks.proofs.Tables.{less_apart, same_number}
+use Rattle.table_locks.proofs.Tables.{apart_number, same_number}
 
 -- a version that is put in its place is what was seen of its table
 pub shown_new : (start : AllRows) (new : Tables) (version : TableRows) (known : TableKnown) → version ≡ record { table = known.table; rows = rows_after start known.list known.table }
@@ -22,19 +22,15 @@ shown_new start new version known is put =
     ap (λ (t : TableId). (version_of new t).rows) (sym (ap (λ (v : TableRows). v.table) is)) ∙ (ap (λ (v : TableRows). v.rows) put ∙ ap (λ (v : TableRows). v.rows) is)
 
 module _ {X : Type 0} (known : X → TableKnown) where
-  -- it leaves what was seen of tables with smaller numbers
+  -- it leaves what was seen of other tables
   pub shown_put : (start : AllRows) (old new : Tables) (table : TableId) → ((t : TableId) → t ≢ table → version_of new t ≡ version_of old t) → (xs : List X)
-      → AllByRecursion (λ x. table_number (known x).table < table_number table) xs → AllByRecursion (λ x. HasSeen start (rows_of old) (known x)) xs → AllByRecursion (λ x. HasSeen start (rows_of new) (known x)) xs
-  shown_put start old new table others [] below seen = tt
-  shown_put start old new table others (x ∷ xs) below seen = (
-    ap (λ (v : TableRows). v.rows) (others (known x).table (less_apart (known x).table table below.0)) ∙ seen.0,
-    shown_put start old new table others xs below.1 seen.1,
-  )
-
-  -- numbers below one are below the next
-  pub below_next : (n : ℕ) (xs : List X) → AllByRecursion (λ x. table_number (known x).table < n) xs → AllByRecursion (λ x. table_number (known x).table < n + 1) xs
-  below_next n [] below = tt
-  below_next n (x ∷ xs) below = (let less = below.0 in omega arith, below_next n xs below.1)
+      → list_any (λ x. is_of table (known x)) xs ≡ false → AllByRecursion (λ x. HasSeen start (rows_of old) (known x)) xs → AllByRecursion (λ x. HasSeen start (rows_of new) (known x)) xs
+  shown_put start old new table others [] none seen = tt
+  shown_put start old new table others (x ∷ xs) none seen =
+      let parts = or_parts (is_of table (known x)) (list_any (λ y. is_of table (known y)) xs) none in (
+        ap (λ (v : TableRows). v.rows) (others (known x).table (apart_number (known x).table table parts.0)) ∙ seen.0,
+        shown_put start old new table others xs parts.1 seen.1,
+      )
 
   -- what was seen and is still so is what is after all places
   pub rows_now : (start rows : AllRows) (order : List Taken) (xs : List X) → AllByRecursion (λ x. HasSeen start rows (known x)) xs → AllByRecursion (λ x. IsStill start order (known x)) xs

@@ -3,6 +3,7 @@ use Rattle.std.proofs.Common.{◌≡◌, Bool, true, false, not, List, map, Resu
 use Rattle.std.specs.Prelude.{◌==◌, ◌||◌, ◌&&◌, filter}
 use Rattle.std.specs.List.{list_any, range_with_len}
 use Rattle.std.proofs.lemmas.Bool.{eqb-true}
+use Rattle.std.proofs.lemmas.Map.Views.{any-filter_same}
 use Rattle.command_needs.specs.Sets.{need_of}
 use Rattle.command_needs.specs.declared.sets.Need.{Need}
 use Rattle.depot_model.specs.db_records.Table.{all_tables, table_number}
@@ -19,7 +20,7 @@ use Rattle.locked_tables.specs.declared.held_table.HeldTable.{HeldTable}
 use Rattle.table_locks.specs.Gathered.{Covers, CoversBy, has_table, is_of, tables_held, tables_seen}
 use Rattle.table_locks.specs.Ways.{holds_table, looks_at, needs_table}
 use Rattle.table_locks.specs.declared.gathered.Gathered.{Gathered}
-use Rattle.table_locks.proofs.Tables.{any-map, in_all, in_filter, is_table, same_number}
+use Rattle.table_locks.proofs.Tables.{among_passing, any-map, in_all, is_table}
 
 -- each number of a table is in the range
 in_range : (table : TableId) → list_any (λ n. n == table_number table) (range_with_len 0 12) ≡ true
@@ -40,7 +41,7 @@ touched_in : (command : Command) (table : TableId) → touches command (table_nu
     → list_any (λ (m : model.Need). m.lock == table_number table) (map (need_for command) (filter (touches command) (range_with_len 0 12))) ≡ true
 touched_in command table touched =
     any-map (λ (m : model.Need). m.lock == table_number table) (need_for command) (filter (touches command) (range_with_len 0 12))
-    ∙ in_filter (λ n. n == table_number table) (touches command) (λ n is. ap (touches command) (eqb-true n (table_number table) is) ∙ touched) (range_with_len 0 12) (in_range table)
+    ∙ (any-filter_same (λ n. n == table_number table) (touches command) true (λ n is. ap (touches command) (eqb-true n (table_number table) is) ∙ touched) (range_with_len 0 12) ∙ in_range table)
 
 needed : (needs : List Need) (command : Command) → map need_of needs ≡ map (need_for command) (filter (touches command) (range_with_len 0 12)) → (table : TableId) → touches command (table_number table) ≡ true
     → needs_table needs table ≡ true
@@ -55,18 +56,23 @@ or_right : (a b : Bool) → b ≡ true → (a || b) ≡ true
 or_right true b e = refl
 or_right false b e = e
 
+module _ {N : Type 0} (g : Gathered N) (table : TableId) where
+  -- a table is held, or was looked at, where it is among those
+  pub held_by : list_any (λ (h : HeldTable N). is_of table (known_of h)) g.held.items ≡ list_any (is_table table) (tables_held g)
+  held_by = sym (any-map (is_table table) (λ (h : HeldTable N). table_held h) g.held.items)
+
+  pub seen_by : list_any (is_of table) g.peeks.items ≡ list_any (is_table table) (tables_seen g)
+  seen_by = sym (any-map (is_table table) (λ (known : TableKnown). known.table) g.peeks.items)
+
 module _ {N : Type 0} (g : Gathered N) (whole : Bool) (needs : List Need) (held : tables_held g ≡ filter (holds_table whole needs) all_tables) (seen : tables_seen g ≡ filter (looks_at whole needs) all_tables) where
   passes : (p : TableId → Bool) (table : TableId) → p table ≡ true → list_any (is_table table) (filter p all_tables) ≡ true
-  passes p table has = in_filter (is_table table) p (λ x is. ap p (same_table x is) ∙ has) all_tables (in_all table)
-    where
-      same_table : (x : TableId) → is_table table x ≡ true → x ≡ table
-      same_table x is = same_number x table (eqb-true (table_number x) (table_number table) is)
+  passes p table has = among_passing p table all_tables ∙ (λ i. has i && in_all table i)
 
   in_held : (table : TableId) → holds_table whole needs table ≡ true → list_any (λ (h : HeldTable N). is_of table (known_of h)) g.held.items ≡ true
-  in_held table has = sym (any-map (is_table table) (λ (h : HeldTable N). table_held h) g.held.items) ∙ (ap (list_any (is_table table)) held ∙ passes (holds_table whole needs) table has)
+  in_held table has = held_by g table ∙ (ap (list_any (is_table table)) held ∙ passes (holds_table whole needs) table has)
 
   in_seen : (table : TableId) → looks_at whole needs table ≡ true → list_any (is_of table) g.peeks.items ≡ true
-  in_seen table has = sym (any-map (is_table table) (λ (known : TableKnown). known.table) g.peeks.items) ∙ (ap (list_any (is_table table)) seen ∙ passes (looks_at whole needs) table has)
+  in_seen table has = seen_by g table ∙ (ap (list_any (is_table table)) seen ∙ passes (looks_at whole needs) table has)
 
   -- a table of the set is held or seen
   has_needed : (table : TableId) → needs_table needs table ≡ true → has_table g table ≡ true

@@ -1,8 +1,9 @@
 -- Tables, their numbers, and lists of them.
-use Rattle.std.proofs.Common.{◌≡◌, ◌≢◌, ℕ, ◌<◌, Bool, true, false, cond, List, [], ◌∷◌, map, get_or, refl, sym, ap, ◌∙◌, zero-add, arith}
-use Rattle.std.specs.Prelude.{◌==◌, ◌||◌, filter}
+use Rattle.std.proofs.Common.{◌≡◌, ◌≢◌, ℕ, ◌<◌, Bool, true, false, List, [], ◌∷◌, map, get_or, take, refl, sym, ap, subst, ◌∙◌, zero-add}
+use Rattle.std.specs.Prelude.{◌==◌, ◌||◌, ◌&&◌, filter}
 use Rattle.std.specs.List.{list_any}
-use Rattle.std.proofs.lemmas.Bool.{true≢false}
+use Rattle.std.proofs.lemmas.Bool.{eq-eqb, eqb-true, true≢false}
+use Rattle.std.proofs.lemmas.Map.Views.{any-filter_same}
 use Rattle.std.proofs.lemmas.List.{get_or-map}
 use Rattle.std.proofs.lemmas.List.FromFn.{get_or-range_with_len}
 use Rattle.depot_model.specs.db_records.Table.{table_number, all_tables}
@@ -30,8 +31,8 @@ of_number-number Rev = refl
 pub same_number : (a b : TableId) → table_number a ≡ table_number b → a ≡ b
 same_number a b e = sym (of_number-number a) ∙ (ap of_number e ∙ of_number-number b)
 
-pub less_apart : (a b : TableId) → table_number a < table_number b → a ≢ b
-less_apart a b h e = let same = ap table_number e in absurd (omega arith)
+pub apart_number : (a b : TableId) → (table_number a == table_number b) ≡ false → a ≢ b
+apart_number a b e same = absurd (true≢false (sym (eq-eqb (table_number a) (table_number b) (ap table_number same)) ∙ e))
 
 -- the number of the table at a place
 pub number_at : (i : ℕ) (d : TableId) → i < 11 → table_number (get_or all_tables i d) ≡ i
@@ -55,17 +56,26 @@ in_all Working = refl
 in_all Change = refl
 in_all Rev = refl
 
-module _ {X : Type 0} (same p : X → Bool) where
-  -- what is among some is among those of them that pass a test which it passes
-  pub in_filter : ((x : X) → same x ≡ true → p x ≡ true) → (xs : List X) → list_any same xs ≡ true → list_any same (filter p xs) ≡ true
-  in_filter passes [] e = e
-  in_filter passes (x ∷ xs) e = go (same x) (p x) refl refl e (λ h. in_filter passes xs h)
-    where
-      go : (s b : Bool) → same x ≡ s → p x ≡ b → (s || list_any same xs) ≡ true → (list_any same xs ≡ true → list_any same (filter p xs) ≡ true) → list_any same (cond b (x ∷ filter p xs) (filter p xs)) ≡ true
-      go true true is at h rest = ap (λ t. t || list_any same (filter p xs)) is
-      go true false is at h rest = absurd (true≢false (sym (passes x is) ∙ at))
-      go false true is at h rest = ap (λ t. t || list_any same (filter p xs)) is ∙ rest h
-      go false false is at h rest = rest h
+-- none is among those before it
+first : (table : TableId) → list_any (is_table table) (take (table_number table) all_tables) ≡ false
+first Counter = refl
+first Group = refl
+first Protect = refl
+first Domain = refl
+first Have = refl
+first Label = refl
+first Integed = refl
+first Resolve = refl
+first Working = refl
+first Change = refl
+first Rev = refl
+
+pub first_at : (i : ℕ) (d : TableId) → i < 11 → list_any (is_table (get_or all_tables i d)) (take i all_tables) ≡ false
+first_at i d h = subst (λ (n : ℕ). list_any (is_table (get_or all_tables i d)) (take n all_tables) ≡ false) (number_at i d h) (first (get_or all_tables i d))
+
+-- a table is among those that pass a test where it passes, and is among all of them
+pub among_passing : (p : TableId → Bool) (table : TableId) (tables : List TableId) → list_any (is_table table) (filter p tables) ≡ (p table && list_any (is_table table) tables)
+among_passing p table tables = any-filter_same (is_table table) p (p table) (λ x is. ap p (same_number x table (eqb-true (table_number x) (table_number table) is))) tables
 
 pub any-map : {X Y : Type 0} (test : Y → Bool) (f : X → Y) (xs : List X) → list_any test (map f xs) ≡ list_any (λ x. test (f x)) xs
 any-map test f [] = refl

@@ -1,5 +1,5 @@
 -- What a command has gathered of its set. This project's own choice.
-use Rattle.std.specs.Prelude.{◌≡◌, ◌<◌, ◌+◌, ◌==◌, ◌||◌, ℕ, Bool, IsTrue, List, [], ◌∷◌, ◌++◌, map, Result, Ok, Err}
+use Rattle.std.specs.Prelude.{◌≡◌, ◌==◌, ◌||◌, Bool, IsTrue, List, ◌++◌, map, Result, Ok, Err}
 use Rattle.std.specs.List.{AllByRecursion, list_any}
 use Rattle.depot_model.specs.db_records.Table.{table_number}
 use Rattle.depot_model.specs.db_records.declared.table.TableId.{TableId}
@@ -40,11 +40,6 @@ module _ {N : Type 0} where
     pub held : AllHeldSeen start (rows_of g.tables) g.held.items
     pub peeks : AllByRecursion (HasSeen start (rows_of g.tables)) g.peeks.items
 
-  -- the numbers of its tables are below one
-  pub record IsBelow (number : ℕ) (g : Gathered N) : Type 0 where
-    pub held : AllByRecursion (λ (h : HeldTable N). table_number (table_held h) < number) g.held.items
-    pub peeks : AllByRecursion (λ (known : TableKnown). table_number known.table < number) g.peeks.items
-
   -- the tables whose locks are taken, and those that were looked at
   abbrev pub tables_held : Gathered N → List TableId
   tables_held g = map (λ (h : HeldTable N). table_held h) g.held.items
@@ -52,19 +47,17 @@ module _ {N : Type 0} where
   abbrev pub tables_seen : Gathered N → List TableId
   tables_seen g = map (λ (known : TableKnown). known.table) g.peeks.items
 
-  -- the lock of one more table is taken
-  pub record AddsHeld (start : AllRows) (table : TableId) (old new : Gathered N) : Type 0 where
+  -- the locks of further tables are taken
+  pub record AddsHeld (start : AllRows) (tables : List TableId) (old new : Gathered N) : Type 0 where
     pub shown : IsShown start new
-    pub below : IsBelow (table_number table + 1) new
-    pub held : tables_held new ≡ tables_held old ++ table ∷ []
+    pub held : tables_held new ≡ tables_held old ++ tables
     pub peeks : new.peeks ≡ old.peeks
 
-  -- one more table was looked at
-  pub record AddsPeek (start : AllRows) (table : TableId) (old new : Gathered N) : Type 0 where
+  -- further tables are looked at
+  pub record AddsPeeks (start : AllRows) (tables : List TableId) (old new : Gathered N) : Type 0 where
     pub shown : IsShown start new
-    pub below : IsBelow (table_number table + 1) new
     pub held : new.held ≡ old.held
-    pub peeks : tables_seen new ≡ tables_seen old ++ table ∷ []
+    pub peeks : tables_seen new ≡ tables_seen old ++ tables
 
   -- a table is among those that it has
   abbrev pub has_table : Gathered N → TableId → Bool

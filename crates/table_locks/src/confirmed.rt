@@ -5,7 +5,7 @@ use locked_tables::{HeldTable, Naming};
 use table_changes::tables::Tables;
 
 /// The tables whose locks a command holds, which know the whole order, and the version of each
-/// table of its set after it. While the lock of the order is held, both stay so.
+/// table of its set after it. Both stay so until a place changes a table or touches the lane of one.
 #[derive(Drop)]
 pub struct Confirmed<'a, N: Naming> {
     pub(crate) held: Vec<HeldTable<'a, N>>,

@@ -1,4 +1,4 @@
-//! What a command does first under the lock of the order.
+//! What a command compares under the lock of the order before it is given its place.
 ghost use Rattle.std.specs.Prelude.{◌≡◌, [], IfSome, IsSome, IsTrue};
 ghost use Rattle.std.specs.List.{AllByRecursion};
 ghost use Rattle.depot_model.specs.declared.request.Request.{Request};
@@ -19,7 +19,7 @@ fn are_still<N: Naming>(
     peeks: Vec<Peek<N>>,
 ) -> bool
     ensures same { order.new ≡ order.old }
-    ensures still { IsTrue result → AllByRecursion (IsStill N.rows order.old.list) peeks.items }
+    ensures still { IsTrue result → AllByRecursion (IsStill N.rows order.old) peeks.items }
     ensures always { peeks.items ≡ [] → IsTrue result }
 {
     for peek in peeks {
@@ -41,8 +41,8 @@ impl<'a, N: Naming> Gathered<'a, N> {
     ) -> Option<Confirmed<'a, N>>
         requires { IsShown N.rows self }
         ensures same { order.new ≡ order.old }
-        ensures confirmed { IfSome result (IsConfirmed N.rows order.old.list self.entry) }
-        ensures set { IfSome result (λ confirmed. (request : Request) → Covers self.entry request → HasSet (rows_after N.rows order.old.list) (rows_of confirmed.tables) request) }
+        ensures confirmed { IfSome result (IsConfirmed N.rows order.old self.entry) }
+        ensures set { IfSome result (λ confirmed. (request : Request) → Covers self.entry request → HasSet (rows_after N.rows order.old) (rows_of confirmed.tables) request) }
         ensures always { self.entry.peeks.items ≡ [] → IsSome result }
     {
         let Gathered {

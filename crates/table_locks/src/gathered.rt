@@ -1,13 +1,14 @@
 //! What a command has gathered of its set.
-ghost use Rattle.std.specs.Prelude.{◌≡◌, ◌≤◌, ◌-◌, ◌^◌, [], IfOk, OnOk};
-ghost use Rattle.depot_model.specs.db_records.Table.{table_number};
+ghost use Rattle.std.specs.Prelude.{◌≡◌, ◌≤◌, ◌-◌, ◌^◌, [], ◌∷◌, false, IfOk, OnOk};
 ghost use Rattle.depot_model.specs.db_records.declared.table.TableId.{TableId as AnyTable};
 ghost use Rattle.depot_model.specs.declared.request.Request.{Request};
+ghost use Rattle.locked_tables.specs.Taken.{rows_after};
+ghost use Rattle.table_changes.specs.Changed.{rows_of};
 ghost use Rattle.table_changes.specs.table_store.Tables.{version_of};
-ghost use Rattle.table_locks.specs.Gathered.{AddsHeld, AddsPeek, Covers, IsBelow, IsShown};
+ghost use Rattle.table_locks.specs.Gathered.{AddsHeld, AddsPeeks, Covers, IsShown, has_table};
 
 use depot_model::records::TableId;
-use locked_tables::{HeldTable, Naming, OrderWords, Peek, TableLocks};
+use locked_tables::{HeldTable, Naming, OrderWords, Peek, PlacedOrder, TableLocks};
 use std::alloc::{AllocError, Global};
 use std::sync::Wait;
 use table_changes::tables::Tables;
@@ -52,8 +53,8 @@ impl<'a, N: Naming> Gathered<'a, N> {
         self.tables.set_archive_end(used);
     }
 
-    /// Takes the lock of a table behind those that it has. The error is that of `hold`, or stands
-    /// for want of memory.
+    /// Takes the lock of a table that it doesn't have yet. The error is that of `TableLocks::hold`,
+    /// or stands for want of memory.
     pub(crate) fn hold(
         &mut self,
         rt: &impl Wait,
@@ -61,8 +62,8 @@ impl<'a, N: Naming> Gathered<'a, N> {
         table: TableId,
     ) -> Result<(), AllocError>
         requires shown { IsShown N.rows self.old }
-        requires below { IsBelow (table_number table) self.old }
-        ensures { OnOk result (AddsHeld N.rows table self.old self.new) }
+        requires apart { has_table self.old table ≡ false }
+        ensures { OnOk result (AddsHeld N.rows (table ∷ []) self.old self.new) }
     {
         let held = locks.hold(rt, table)?;
         let version = held.guard.version().share()?;
@@ -71,19 +72,25 @@ impl<'a, N: Naming> Gathered<'a, N> {
         Ok(())
     }
 
-    /// Looks at a table behind those that it has. The error is as with `hold`.
-    pub(crate) fn look(
+    /// Looks at a table that it doesn't have yet, as it is after the whole order. The error stands
+    /// for want of memory, or for too many shares.
+    pub(crate) fn peek(
         &mut self,
-        rt: &impl Wait,
         words: &OrderWords<N>,
-        locks: &TableLocks<N>,
+        order: &mut PlacedOrder<N>,
+        tables: &Tables,
         table: TableId,
     ) -> Result<(), AllocError>
+        requires rows { rows_of tables.now table ≡ rows_after N.rows order.old table }
         requires shown { IsShown N.rows self.old }
-        requires below { IsBelow (table_number table) self.old }
-        ensures { OnOk result (AddsPeek N.rows table self.old self.new) }
+        requires apart { has_table self.old table ≡ false }
+        ensures same { order.new ≡ order.old }
+        ensures held { self.new.held ≡ self.old.held }
+        ensures end { self.new.tables.archive_end ≡ self.old.tables.archive_end }
+        ensures seen { OnOk result (AddsPeeks N.rows (table ∷ []) self.old self.new) }
     {
-        let peek = locks.peek(rt, words, table)?;
+        let now = tables.version(table);
+        let peek = order.look(words, now)?;
         let version = peek.version().share()?;
         self.peeks.push(peek)?;
         self.tables.put(version);

@@ -1,9 +1,10 @@
-use Rattle.std.proofs.Common.{◌≡◌, [], ◌∷◌, ◌++◌, length, sym, ap, subst, ◌∙◌, append_assoc, append-nil, arith}
+use Rattle.std.proofs.Common.{◌≡◌, List, [], ◌∷◌, ◌++◌, length, sym, ap, subst, ◌∙◌, append_assoc, append-nil, arith}
 use Rattle.std.proofs.SliceLists.{all_by_recursion_push}
 use Rattle.std.proofs.lemmas.List.{nil_from_length}
 use Rattle.std.specs.List.{AllByRecursion}
 use Rattle.std.specs.Vec.Iter.{into_iter_items}
-use Rattle.locked_tables.specs.Known.{IsStill, OrderKnown}
+use Rattle.locked_tables.specs.Known.{IsStill}
+use Rattle.locked_tables.specs.declared.taken.Taken.{Taken}
 use Rattle.table_locks.proofs.confirming.are_still.Goals as goal
 
 pub loop-peek-preserved : goal.loop-peek-preserved
@@ -13,7 +14,7 @@ loop-peek-preserved g c =
     let rest = into_iter_items c.next.new.self in
     let steps : into_iter_items at.peek-iterator ≡ peek ∷ rest = c.in-Some.ensures.steps.0 in
     let parts : at.yielded ++ peek ∷ rest ≡ c.args.peeks.items = rw (← steps) at.invariant.items in
-    let still = subst (λ (o : OrderKnown). IsStill g.N.Naming.rows o.list peek) at.invariant.same (c.judge.ensures.still c.if-not-judge.false) in
+    let still = subst (λ (l : List Taken). IsStill g.N.Naming.rows l peek) at.invariant.same (c.judge.ensures.still c.if-not-judge.false) in
     record {
       items = append_assoc at.yielded (peek ∷ []) rest ∙ parts;
       left =
@@ -22,7 +23,7 @@ loop-peek-preserved g c =
           let short = ap length steps in
           omega arith;
       same = c.judge.ensures.same ∙ at.invariant.same;
-      still = all_by_recursion_push (IsStill g.N.Naming.rows c.args.order.now.list) at.yielded peek at.invariant.still still;
+      still = all_by_recursion_push (IsStill g.N.Naming.rows c.args.order.now) at.yielded peek at.invariant.still still;
     }
 
 pub returns-clause-still : goal.returns-clause-still
@@ -30,4 +31,4 @@ returns-clause-still g c = λ yes.
     let at = c.loop-peek in
     let none : into_iter_items at.peek-iterator ≡ [] = nil_from_length (into_iter_items at.peek-iterator) (sym at.invariant.left ∙ c.in-None.ensures.steps.0) in
     let all : at.yielded ≡ c.args.peeks.items = sym (append-nil at.yielded) ∙ rw (← none) at.invariant.items in
-    subst (AllByRecursion (IsStill g.N.Naming.rows c.args.order.now.list)) all at.invariant.still
+    subst (AllByRecursion (IsStill g.N.Naming.rows c.args.order.now)) all at.invariant.still

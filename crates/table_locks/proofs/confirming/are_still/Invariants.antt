@@ -9,5 +9,5 @@ invariant-loop-peek g l = record {
   items : l.yielded ++ into_iter_items l.peek-iterator ≡ l.fn.peeks.items;
   left : into_iter_len l.peek-iterator ≡ length (into_iter_items l.peek-iterator);
   same : l.order ≡ l.fn.order;
-  still : AllByRecursion (IsStill g.N.Naming.rows l.fn.order.list) l.yielded;
+  still : AllByRecursion (IsStill g.N.Naming.rows l.fn.order) l.yielded;
 }

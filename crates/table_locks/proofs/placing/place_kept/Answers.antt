@@ -1,16 +1,11 @@
-use Rattle.std.proofs.Common.{List, ap, ◌∙◌}
-use Rattle.depot_model.specs.db_records.declared.change.Change.{Change}
-use Rattle.locked_tables.specs.Taken.{rows_after}
 use Rattle.locked_tables.specs.declared.taken.Taken.{Taken}
-use Rattle.table_changes.specs.Changed.{changed_by}
-use Rattle.table_locks.proofs.Placed.{changes_none, rows_with, touches_none}
+use Rattle.table_locks.proofs.Placed.{rows_stay, unchanged}
 use Rattle.table_locks.proofs.placing.place_kept.Goals as goal
 
 pub place_stored-requires-clause-only : goal.place_stored-requires-clause-only
-place_stored-requires-clause-only g c = changes_none c.args.taken.changes c.requires.unchanged _
+place_stored-requires-clause-only g c = λ table apart rows. unchanged table c.args.taken.changes c.requires.unchanged rows
 
 pub returns-clause-rows : goal.returns-clause-rows
-returns-clause-rows g c = λ table.
+returns-clause-rows g c =
     let entry : Taken = record c.args.taken { lanes = c.place_stored.result } in
-    rows_with table g.N.Naming.rows c.args.order.now c.place_stored.new.self entry c.place_stored.ensures.placed (touches_none entry c.requires.unchanged)
-    ∙ ap (λ (changes : List Change). changed_by (rows_after g.N.Naming.rows c.args.order.now.list) changes table) c.requires.unchanged
+    rows_stay g.N.Naming.rows c.args.order.now c.place_stored.new.self entry c.place_stored.ensures.placed c.requires.unchanged

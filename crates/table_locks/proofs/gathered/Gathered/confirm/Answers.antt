@@ -1,8 +1,9 @@
 use Rattle.std.proofs.Common.{◌≡◌, List, refl, sym, subst}
 use Rattle.std.specs.List.{AllByRecursion}
 use Rattle.locked_tables.specs.Held.{AllHaveLearnt, AllStill, known_of}
-use Rattle.locked_tables.specs.Known.{IsStill, OrderKnown}
+use Rattle.locked_tables.specs.Known.{IsStill}
 use Rattle.locked_tables.specs.declared.held_table.HeldTable.{HeldTable}
+use Rattle.locked_tables.specs.declared.taken.Taken.{Taken}
 use Rattle.table_changes.specs.Changed.{rows_of}
 use Rattle.table_locks.specs.Confirmed.{tables_of}
 use Rattle.table_locks.specs.Gathered.{AllHeldSeen}
@@ -13,7 +14,7 @@ use Rattle.table_locks.proofs.gathered.Gathered.confirm.Goals as goal
 pub returns-clause-confirmed : goal.returns-clause-confirmed
 returns-clause-confirmed g c =
     let start = g.N.Naming.rows in
-    let order = c.args.order.now.list in
+    let order = c.args.order.now in
     let olds = c.args.self.held.items in
     let news = c.learn_held.new.held in
     let learnt = subst (λ (l : List (HeldTable _)). AllHaveLearnt order l news) c.as_mut_slice.ensures.value c.learn_held.ensures.learnt in
@@ -29,8 +30,8 @@ returns-clause-confirmed g c =
 pub returns-clause-set : goal.returns-clause-set
 returns-clause-set g c =
     let start = g.N.Naming.rows in
-    let order = c.args.order.now.list in
+    let order = c.args.order.now in
     let still = subst (AllStill start order) c.as_mut_slice.ensures.value c.learn_held.ensures.still in
     let judged = c.are_still.ensures.still c.if-not-are_still.false in
-    let peeks = subst (λ (o : OrderKnown). AllByRecursion (IsStill start o.list) c.args.self.peeks.items) c.learn_held.ensures.same judged in
+    let peeks = subst (λ (l : List Taken). AllByRecursion (IsStill start l) c.args.self.peeks.items) c.learn_held.ensures.same judged in
     set_now start order c.args.self c.requires still peeks

@@ -1,6 +1,6 @@
-use Rattle.std.proofs.Common.{List, sym, subst}
+use Rattle.std.proofs.Common.{List, [], ◌∷◌, sym, subst}
 use Rattle.locked_tables.specs.Held.{OnlyChange, lanes_next}
-use Rattle.locked_tables.specs.Taken.{party_lane}
+use Rattle.locked_tables.specs.Taken.{journal_lane, party_lane}
 use Rattle.locked_tables.specs.declared.held_table.HeldTable.{HeldTable}
 use Rattle.locked_tables.specs.declared.taken.Taken.{Taken}
 use Rattle.locked_tables.proofs.Announced.{touches_its}
@@ -12,4 +12,4 @@ returns-clause-rows g c = λ table.
     let only = subst (λ (l : List (HeldTable _)). OnlyChange c.args.taken.changes (lanes_next l)) (sym c.as_mut_slice.ensures.value) c.requires.prepared.only in
     let entry : Taken = record c.args.taken { lanes = c.place.result } in
     rows_with table g.N.Naming.rows c.args.order.now c.place.new.self entry c.place.ensures.placed
-    (touches_its entry (party_lane c.args.pass.now.party) (lanes_next c.as_mut_slice.result.now) c.place.ensures.lanes only)
+    (touches_its entry (journal_lane ∷ party_lane c.args.pass.now.party ∷ []) (lanes_next c.as_mut_slice.result.now) c.place.ensures.lanes only)
