@@ -10,4 +10,4 @@ mod replying;
 
 pub use laws::{depots_grow_by_their_changes, replicas_reply_for_their_last_pull};
 pub use party::{Answered, ReplicaParty};
-pub use replying::is_print;
+pub use replying::{is_print, is_pull};

@@ -12,9 +12,9 @@ ghost use Rattle.serial_depot.specs.Fetching.{IsFetched, IsRead};
 ghost use Rattle.serial_depot.specs.command_core.Outcomes.{IsFormedBy};
 ghost use Rattle.serial_depot.specs.declared.depot.SerialDepot.{SerialDepot as AnyDepot};
 ghost use Rattle.replica_turns.specs.Going.{IsFresh, IsTurned};
-ghost use Rattle.replica_turns.specs.Replying.{IsAnsweredBy, reads_archive};
+ghost use Rattle.replica_turns.specs.Replying.{IsAnsweredBy, pulls, reads_archive};
 
-use crate::replying::{answer_by_journal, answer_request, reply_print};
+use crate::replying::{answer_by_journal, answer_request, reply_bare, reply_print};
 use archive_file::Archive;
 use depot_rows::model::Request;
 use depot_rows::paths::Text;
@@ -103,7 +103,21 @@ impl ReplicaParty {
         reply_print(alloc, &self.replica, archive, request)
     }
 
-    /// Answers another command; `pull` fetches of the journal where the replica awaits its next piece. The
+    /// Answers a command other than `pull` and `print`, from the replica's rows alone. The one error is want of memory.
+    pub fn answer_alone<D: Disk>(
+        &self,
+        alloc: Global,
+        request: &Request,
+    ) -> Result<Answered, AllocError>
+        requires { (reads_archive request.now ≡ false) × (pulls request.now.command ≡ false) }
+        ensures answered { (depot : AnyDepot D) → IsFormedBy request.now →
+            IfOk result (λ answered. IsAnsweredBy (λ been. been ≡ depot) D.seen D.may_leave self.now.replica self.now.replica request.now answered.text answered.lost) }
+        ensures kept { IfOk result (λ answered. answered.lost ≡ false) }
+    {
+        reply_bare(alloc, &self.replica, request)
+    }
+
+    /// Answers any command but `print`; `pull` fetches of the journal where the replica awaits its next piece. The
     /// one error is want of memory, and then the replica is as it was.
     pub fn answer_by_journal<D: Disk>(
         &mut self,

@@ -44,7 +44,7 @@ pub fn is_print(request: &Request) -> bool
 }
 
 /// Whether a request is a `pull`.
-fn is_pull(request: &Request) -> bool
+pub fn is_pull(request: &Request) -> bool
     ensures { result ≡ pulls request.now.command }
 {
     matches!(&request.command, Ok(Command::Pull))
@@ -119,7 +119,11 @@ pub(crate) fn reply_print<D: Disk>(
 }
 
 /// Answers a command other than `pull` and `print`. No call of a disk is made.
-fn reply_bare(alloc: Global, replica: &Replica, request: &Request) -> Result<Answered, AllocError>
+pub(crate) fn reply_bare(
+    alloc: Global,
+    replica: &Replica,
+    request: &Request,
+) -> Result<Answered, AllocError>
     requires { reads_archive request.now ≡ false }
     ensures told { (d : List Deed) → Stand (rows_of replica.now.tables) d → IsFormedBy request.now → IfOk result (λ answered. answered.text ≡ printed (replica_reply d request.now) request.now.number) }
     ensures kept { IfOk result (λ answered. answered.lost ≡ false) }

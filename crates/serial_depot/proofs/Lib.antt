@@ -8,7 +8,7 @@ pub mod Contents
 pub mod Stored
 pub mod Places
 pub mod Kept
-mod Steps
+pub mod Steps
 pub mod Moved
 pub mod Outcomes
 pub mod Finished

@@ -3,8 +3,13 @@ use Rattle.std.specs.Prelude.{◌≡◌, ◌++◌, ℕ, List}
 use Rattle.outside_api.specs.Disk.{Files, StillTells}
 use Rattle.archive_file.specs.Archive.{disk_of, used_of}
 use Rattle.archive_file.specs.declared.archive.Archive.{Archive}
+use Rattle.depot_rows.specs.depot_model.Commands.{step}
 use Rattle.depot_rows.specs.depot_model.Deeds.{Deed}
 use Rattle.depot_rows.specs.depot_model.Places.{Placed}
+use Rattle.depot_rows.specs.depot_model.Step.{after}
+use Rattle.depot_rows.specs.depot_model.declared.request.Request.{Request}
+use Rattle.depot_rows.specs.Standing.{Stand}
+use Rattle.depot_rows.specs.table_changes.Changed.{AllRows}
 use Rattle.depot_rows.specs.table_store.declared.tables.Tables.{Tables}
 use Rattle.disk_journal.specs.declared.journal.Journal.{Journal}
 use Rattle.serial_depot.specs.Running.{HasRunOver}
@@ -21,3 +26,7 @@ pub record StoresBehind {D : Type 0} (seen may_leave : D → Files → Type 0) (
   pub all : AllStored (may_leave (disk_of new)) stored (used_of old)
   pub room : AllReach (may_leave (disk_of new)) (used_of new)
   pub tells : StillTells (seen (disk_of old)) (seen (disk_of new))
+
+-- a request leaves the rows of each depot that has these rows
+abbrev pub LeavesRows : AllRows → Request → Type 0
+LeavesRows rows request = (d : List Deed) → Stand rows d → Stand rows (after d (step d request).deeds)

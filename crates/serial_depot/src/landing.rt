@@ -241,7 +241,7 @@ pub fn place_rows<D: Disk, I: Imaging>(
 }
 
 /// The answer to a request: what is told, or that of a fault.
-fn answer_told(request: &Request, told: Told, fault: bool) -> Answer
+pub(crate) fn answer_told(request: &Request, told: Told, fault: bool) -> Answer
     ensures fault { result.place.fault ≡ fault }
     ensures told { IsToldAt (place_by request.now false) told.reply told.of_fault result }
 {

@@ -16,6 +16,7 @@ mod placing;
 mod storing;
 mod taking;
 mod telling;
+mod unwritten;
 mod writing;
 
 pub use depot::{Closed, SerialDepot};
@@ -23,3 +24,4 @@ pub use fetching::{fetch_texts, read_contents};
 pub use imaging::Imaging;
 pub use landing::{Landed, place_contents, place_rows};
 pub use telling::{Told, tell, tell_reading};
+pub use unwritten::place_unwritten;
