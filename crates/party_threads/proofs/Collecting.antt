@@ -111,7 +111,7 @@ pub length_fresh_marks : (n : ℕ) → length (fresh_marks n) ≡ n
 length_fresh_marks = made_count marks_of_party fresh_marks refl (λ n. refl)
 
 -- a party without a lane has no entry
-pub among_of : (run : Run) (n : ℕ) → lane_count run ≡ 12 + n → (order : List Taken) → AllByRecursion (λ (entry : Taken). IsParty run entry.request.party) order → AllByRecursion (IsAmong n) order
+pub among_of : (run : Run) (n : ℕ) → lane_count run ≡ 13 + n → (order : List Taken) → AllByRecursion (λ (entry : Taken). IsParty run entry.request.party) order → AllByRecursion (IsAmong n) order
 among_of run n lanes [] parties = tt
 among_of run n lanes (entry ∷ order) parties =
     let low = parties.0.low in

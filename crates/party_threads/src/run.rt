@@ -44,11 +44,12 @@ pub struct ThreadsRun<D: Disk, K> {
     pub depot: SerialDepot<D>,
 }
 
-/// What all parties ask, and the words of the order of their places and of their marks.
+/// What all parties ask, how many places each may have, and the words of the order of their places and of their marks.
 #[derive(Drop)]
 struct Brought {
     requests: Vec<Vec<Request>>,
     replicas: Vec<Option<ReplicaParty>>,
+    places: Vec<u64>,
     words: (Orders<Taken>, OrderSeat<Taken>, Vec<LaneSeat<Taken>>),
     mark_words: (Orders<Mark>, OrderSeat<Mark>, Vec<LaneSeat<Mark>>),
     content_words: (Orders<Mark>, OrderSeat<Mark>, Vec<LaneSeat<Mark>>),
@@ -67,9 +68,9 @@ fn words_for(
     AllocError,
 >
     requires { parties ≤ 16 }
-    ensures lanes { IfOk result (λ r. lane_count r.0.0 ≡ 12 + parties) }
-    ensures order { IfOk result (λ r. r.0.1 ≡ fresh_order r.0.0 (12 + parties)) }
-    ensures seats { IfOk result (λ r. r.0.2.items ≡ fresh_lanes r.0.0 (12 + parties)) }
+    ensures lanes { IfOk result (λ r. lane_count r.0.0 ≡ 13 + parties) }
+    ensures order { IfOk result (λ r. r.0.1 ≡ fresh_order r.0.0 (13 + parties)) }
+    ensures seats { IfOk result (λ r. r.0.2.items ≡ fresh_lanes r.0.0 (13 + parties)) }
     ensures mark_lanes { IfOk result (λ r. lane_count r.1.0 ≡ 1 + parties) }
     ensures mark_order { IfOk result (λ r. r.1.1 ≡ fresh_order r.1.0 (1 + parties)) }
     ensures mark_seats { IfOk result (λ r. r.1.2.items ≡ fresh_lanes r.1.0 (1 + parties)) }
@@ -77,13 +78,25 @@ fn words_for(
     ensures content_order { IfOk result (λ r. r.2.1 ≡ fresh_order r.2.0 (1 + parties)) }
     ensures content_seats { IfOk result (λ r. r.2.2.items ≡ fresh_lanes r.2.0 (1 + parties)) }
 {
-    let words = Orders::new(alloc, 12 + parties)?;
+    let words = Orders::new(alloc, 13 + parties)?;
     let mark_words = Orders::new(alloc, 1 + parties)?;
     let content_words = Orders::new(alloc, 1 + parties)?;
     Ok((words, mark_words, content_words))
 }
 
-/// The requests of sessions and the replicas of scripts, whose parties are numbered from 1, and words for as many parties. The one error is want of memory.
+/// How many places each party may have: as many as its session has requests, each of which gets at most one. The one error is want of memory.
+fn places_for(alloc: Global, requests: &[Vec<Request>]) -> Result<Vec<u64>, AllocError>
+    ensures { IfOk result (λ places. places.items ≡ map (λ own. length own.items) requests.now) }
+{
+    let mut places = Vec::new(alloc);
+    for own in requests {
+        places.push(own.len() as u64)?;
+    }
+    Ok(places)
+}
+
+/// The requests of sessions and the replicas of scripts, whose parties are numbered from 1, how many places each party may have, and words for as many
+/// parties. The one error is want of memory.
 fn bring<C: Clock>(
     alloc: Global,
     sessions: Vec<Option<Session>>,
@@ -96,9 +109,10 @@ fn bring<C: Clock>(
     requires few_replicas { All (λ script. length (replica_commands script) ≤ 67108864) scripts.items }
     ensures requests { IfOk result (λ brought. AreRequestsOfAll (C.may_give clock.now) 1 sessions.items (map (λ own. own.items) brought.requests.items)) }
     ensures replicas { IfOk result (λ brought. AreFresh (C.may_give clock.now) 1 scripts.items brought.replicas.items) }
-    ensures lanes { IfOk result (λ brought. lane_count brought.words.0 ≡ 12 + length sessions.items) }
-    ensures order { IfOk result (λ brought. brought.words.1 ≡ fresh_order brought.words.0 (12 + length sessions.items)) }
-    ensures seats { IfOk result (λ brought. brought.words.2.items ≡ fresh_lanes brought.words.0 (12 + length sessions.items)) }
+    ensures places { IfOk result (λ brought. brought.places.items ≡ map (λ own. length own.items) brought.requests.items) }
+    ensures lanes { IfOk result (λ brought. lane_count brought.words.0 ≡ 13 + length sessions.items) }
+    ensures order { IfOk result (λ brought. brought.words.1 ≡ fresh_order brought.words.0 (13 + length sessions.items)) }
+    ensures seats { IfOk result (λ brought. brought.words.2.items ≡ fresh_lanes brought.words.0 (13 + length sessions.items)) }
     ensures mark_lanes { IfOk result (λ brought. lane_count brought.mark_words.0 ≡ 1 + length sessions.items) }
     ensures mark_order { IfOk result (λ brought. brought.mark_words.1 ≡ fresh_order brought.mark_words.0 (1 + length sessions.items)) }
     ensures mark_seats { IfOk result (λ brought. brought.mark_words.2.items ≡ fresh_lanes brought.mark_words.0 (1 + length sessions.items)) }
@@ -116,27 +130,33 @@ fn bring<C: Clock>(
         drop(sessions);
         return Err(AllocError);
     };
-    match all_requests(alloc, sessions, clock) {
-        Ok(requests) => Ok(Brought {
+    let Ok(requests) = all_requests(alloc, sessions, clock) else {
+        drop(replicas);
+        return Err(AllocError);
+    };
+    match places_for(alloc, &requests) {
+        Ok(places) => Ok(Brought {
             requests,
             replicas,
+            places,
             words,
             mark_words,
             content_words,
         }),
         Err(error) => {
+            drop(requests);
             drop(replicas);
             Err(error)
         }
     }
 }
 
-/// Takes the commands of sessions and has replicas answer theirs, each party on a thread of its own where one can be started, and gives each reply to the
-/// sink of its party. Parties are numbered from 1, in the order of both lists, of which each party has a place in either; one whose script has no head is in
-/// neither and asks nothing. All requests are made before the first thread is started. A command of a session whose commit failed has a fault place; one
-/// that finds no memory is answered so and has no place. A replica has the rows of the files inside its filter, as far as it has followed the journal of this
-/// depot, while sessions commit; its commands have no place. A party whose sink failed takes no further command. Where no thread can be started, the caller's
-/// runs the party. The one error is want of memory before the first thread; it gives back the depot, with which nothing was done.
+/// Takes the commands of sessions and has replicas answer theirs, each party on a thread of its own where one can be started, and gives each reply to the sink
+/// of its party. Parties are numbered from 1, in the order of both lists, of which each party has a place in either; one whose script has no head is in neither
+/// and asks nothing. All requests are made, and room for their places, before the first thread is started. A command of a session whose commit failed has a
+/// fault place; one that finds no memory is answered so and has no place. A replica has the rows of the files inside its filter, as far as it has followed the
+/// journal of this depot, while sessions commit; its commands have no place. A party whose sink failed takes no further command. Where no thread can be
+/// started, the caller's runs the party. The one error is want of memory before the first thread; it gives back the depot, with which nothing was done.
 pub fn run_on_threads<
     R: Threads + Wait + Sync,
     D: Disk + Send,
@@ -183,6 +203,7 @@ pub fn run_on_threads<
             Brought {
                 requests,
                 replicas,
+                places,
                 words,
                 mark_words,
                 content_words,
@@ -193,6 +214,7 @@ pub fn run_on_threads<
             words,
             mark_words,
             content_words,
+            places,
             requests,
             replicas,
             clock,

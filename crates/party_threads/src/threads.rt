@@ -12,7 +12,7 @@ ghost use Rattle.party_threads.specs.Parties.{AreAsked, AreCollected, HasRunPart
 ghost use Rattle.party_threads.specs.Rooms.{IsRoom};
 ghost use Rattle.run_parties.specs.Asking.{left_in};
 ghost use Rattle.run_parties.specs.serial_depot.Running.{CanTake, HasRun};
-ghost use Rattle.shared_depot.specs.Sharing.{fresh_marks, fresh_passes};
+ghost use Rattle.shared_depot.specs.Sharing.{fresh_marks, fresh_passes, places_in};
 ghost use Rattle.table_changes.specs.Changed.{rows_of};
 
 use crate::party::{ThreadParty, put_parties};
@@ -170,7 +170,7 @@ fn run_and_close<
 ) -> ThreadsRun<D, K>
     requires passes { shared.passes.items ≡ fresh_passes (length requests.items) }
     requires marks { shared.marks.items ≡ fresh_marks (length requests.items) }
-    requires lanes { lane_count N.run ≡ 12 + length requests.items }
+    requires lanes { lane_count N.run ≡ 13 + length requests.items }
     requires as_many { length sinks.items ≡ length requests.items }
     requires as_many_replicas { length replicas.items ≡ length requests.items }
     requires asked { AreAsked N.begins (map (λ own. own.items) requests.items) }
@@ -202,8 +202,8 @@ fn run_and_close<
     }
 }
 
-/// Runs all parties, numbered from 1, over a depot, with words for their places and marks. The one error is want of memory before the first thread; it
-/// gives back the depot, with which nothing was done.
+/// Runs all parties, numbered from 1, over a depot, with words for their places and marks, where each may have so many places. The one error is want of
+/// memory before the first thread; it gives back the depot, with which nothing was done.
 pub(crate) fn run_named<
     R: Threads + Wait + Sync,
     D: Disk + Send,
@@ -217,6 +217,7 @@ pub(crate) fn run_named<
     words: (Orders<Taken>, OrderSeat<Taken>, Vec<LaneSeat<Taken>>),
     mark_words: (Orders<Mark>, OrderSeat<Mark>, Vec<LaneSeat<Mark>>),
     content_words: (Orders<Mark>, OrderSeat<Mark>, Vec<LaneSeat<Mark>>),
+    places: Vec<u64>,
     requests: Vec<Vec<Request>>,
     replicas: Vec<Option<ReplicaParty>>,
     clock: &C,
@@ -226,9 +227,9 @@ pub(crate) fn run_named<
 ) -> Result<ThreadsRun<D, K>, SerialDepot<D>>
     requires run { words.0 ≡ N.run }
     requires few_parties { length requests.items ≤ 16 }
-    requires lanes { lane_count N.run ≡ 12 + length requests.items }
-    requires order { words.1 ≡ fresh_order N.run (12 + length requests.items) }
-    requires seats { words.2.items ≡ fresh_lanes N.run (12 + length requests.items) }
+    requires lanes { lane_count N.run ≡ 13 + length requests.items }
+    requires order { words.1 ≡ fresh_order N.run (13 + length requests.items) }
+    requires seats { words.2.items ≡ fresh_lanes N.run (13 + length requests.items) }
     requires marks { mark_words.0 ≡ N.marks }
     requires mark_lanes { lane_count N.marks ≡ 1 + length requests.items }
     requires mark_order { mark_words.1 ≡ fresh_order N.marks (1 + length requests.items) }
@@ -237,6 +238,8 @@ pub(crate) fn run_named<
     requires content_lanes { lane_count N.content_marks ≡ 1 + length requests.items }
     requires content_order { content_words.1 ≡ fresh_order N.content_marks (1 + length requests.items) }
     requires content_seats { content_words.2.items ≡ fresh_lanes N.content_marks (1 + length requests.items) }
+    requires as_many_places { length places.items ≡ length requests.items }
+    requires places { (party : ℕ) → N.places party ≡ places_in places.items party }
     requires rows { (table : TableId) → rows_of depot.tables table ≡ N.rows table }
     requires end { depot.tables.archive_end ≡ N.end }
     requires images { (files : Files) → N.images files ↔ D.may_leave (archive_disk_of depot.archive) files }
@@ -251,15 +254,14 @@ pub(crate) fn run_named<
     ensures run { IfOk result (HaveRunAll D.seen D.may_leave D.moment D.left_since N.end N.images D.faults (C.may_give clock.now) K.given K.faults N.begins N.faults N.content_faults (map (λ own. own.items) requests.items) replicas.items sinks.items) }
     ensures kept { IfErr result (λ kept. kept ≡ depot) }
 {
-    let count = requests.len();
-    match Room::new(alloc, count) {
+    match Room::new(alloc, requests.len()) {
         Err(_) => Err(depot),
         Ok(room) => match SharedDepot::<D, N>::new(
             alloc,
             words,
             mark_words,
             content_words,
-            count as u32,
+            places.as_slice(),
             depot,
         ) {
             Err(depot) => Err(depot),

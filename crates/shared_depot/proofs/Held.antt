@@ -1,19 +1,17 @@
--- What is said of held tables goes by which tables they are.
-use Rattle.std.proofs.Common.{◌≡◌, ◌⊎◌, ℕ, true, List, Option, Some, None, inl, inr, refl, sym, ap, subst, ◌∙◌}
+-- What is said of held tables goes by which tables they are, and what is said of the archive by whether its lock is held.
+use Rattle.std.proofs.Common.{◌≡◌, ◌⊎◌, ℕ, Bool, true, false, List, Option, Some, None, inl, inr, refl, sym, ap, subst, ◌∙◌}
 use Rattle.std.specs.List.{list_all, list_any}
 use Rattle.std.specs.Prelude.{IfSome}
-use Rattle.std.specs.Sync.Mutex.{mutex_guard_value}
 use Rattle.std.specs.declared.sync.MutexGuard.{MutexGuard}
 use Rattle.depot_rows.specs.db_records.Record.{table_of}
 use Rattle.depot_rows.specs.db_records.declared.change.Change.{Change}
 use Rattle.depot_rows.specs.db_records.declared.table.TableId.{TableId}
 use Rattle.locked_tables.specs.Held.{table_held}
 use Rattle.locked_tables.specs.declared.held_table.HeldTable.{HeldTable}
-use Rattle.locked_tables.specs.declared.taken.Taken.{Taken}
 use Rattle.table_locks.proofs.Tables.{any-map, is_table}
 use Rattle.table_locks.specs.Confirmed.{tables_of}
 use Rattle.table_locks.specs.Prepared.{are_held, is_held}
-use Rattle.shared_depot.specs.Room.{IsAtOrder, IsEndKnown}
+use Rattle.shared_depot.specs.Room.{IsEndKnown}
 use Rattle.shared_depot.specs.Stored.{ArchiveKnown}
 
 module _ {N : Type 0} (held other : List (HeldTable N)) (same : tables_of held ≡ tables_of other) where
@@ -32,14 +30,13 @@ end_still end archive S seen now without (inl none) f = inl none
 end_still end None S seen now without (inr e) f = inl (without refl)
 end_still end (Some guard) S seen now without (inr e) f = inr (e ∙ sym f)
 
--- where the lock is kept, the whole order is known behind it
-pub at_order : (learnt kept : Option (MutexGuard ArchiveKnown)) (order : List Taken) (Unread : Type 0) → (kept ≡ None) ⊎ (kept ≡ learnt) → IfSome learnt (λ guard. (mutex_guard_value guard).list ≡ order)
-    → (Unread → IfSome learnt (λ guard. (mutex_guard_value guard).failed ≡ true)) → IfSome kept (λ guard. IsAtOrder order Unread (mutex_guard_value guard))
-at_order learnt kept order Unread (inl none) knows failed = subst (λ (o : Option (MutexGuard ArchiveKnown)). IfSome o (λ guard. IsAtOrder order Unread (mutex_guard_value guard))) (sym none) tt
-at_order learnt kept order Unread (inr same) knows failed =
-    subst (λ (o : Option (MutexGuard ArchiveKnown)). IfSome o (λ guard. IsAtOrder order Unread (mutex_guard_value guard))) (sym same) (go learnt knows failed)
-  where
-    go : (o : Option (MutexGuard ArchiveKnown)) → IfSome o (λ guard. (mutex_guard_value guard).list ≡ order) → (Unread → IfSome o (λ guard. (mutex_guard_value guard).failed ≡ true))
-        → IfSome o (λ guard. IsAtOrder order Unread (mutex_guard_value guard))
-    go None list failed = tt
-    go (Some guard) list failed = record { list = list; failed = failed }
+module _ (P : Option (MutexGuard ArchiveKnown) → Type 0) where
+  -- what is said of the lock that is kept where it is needed
+  pub kept_so : (needed : Bool) (archive kept : Option (MutexGuard ArchiveKnown)) → (needed ≡ true → kept ≡ archive) → (needed ≡ false → kept ≡ None) → (needed ≡ true → P archive) → (needed ≡ false → P None) → P kept
+  kept_so true archive kept same none at gone = subst P (sym (same refl)) (at refl)
+  kept_so false archive kept same none at gone = subst P (sym (none refl)) (gone refl)
+
+-- what needs no lock is so of any
+pub if_held : (S : Type 0) (archive : Option (MutexGuard ArchiveKnown)) → S → IfSome archive (λ guard. S)
+if_held S None is = tt
+if_held S (Some guard) is = is

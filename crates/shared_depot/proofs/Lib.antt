@@ -1,10 +1,13 @@
-mod Held
-mod Stored
-pub mod Fronts
-mod Marks
-mod Order
+pub mod Stored
+mod Quietly
 mod Seats
 mod Sets
 mod Outcomes
-mod Turns
+pub mod Order
+pub mod Fronts
+mod Committed
 mod Ended
+mod Held
+mod Marks
+mod Turns
+mod Places

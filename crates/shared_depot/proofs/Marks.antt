@@ -85,6 +85,11 @@ marked_before party old new contents lost is =
     ∙ (swap_or (has_marks party old) lost (has_marks party contents)
     ∙ sym (ap (λ (b : Bool). b || lost) (has_either party old contents))))
 
+-- an answer that tells of no failed disk leaves them
+pub marked_still : (has lost : Bool) → lost ≡ false → has ≡ (has || lost)
+marked_still true lost not_so = refl
+marked_still false lost not_so = sym not_so
+
 join_or : (a b c : Bool) → a || (b || c) ≡ (a || b) || c
 join_or true b c = refl
 join_or false b c = refl

@@ -1,5 +1,5 @@
 -- Tables and a journal that have run an order, and an archive in which its contents were stored, before and after one more command.
-use Rattle.std.proofs.Common.{◌≡◌, ◌≤◌, ℕ, Bool, true, false, List, [], ◌∷◌, ◌++◌, map, refl, sym, ap, subst, ◌∙◌, arith}
+use Rattle.std.proofs.Common.{◌≡◌, ◌≤◌, ◌+◌, ℕ, Bool, true, false, cond, List, [], ◌∷◌, ◌++◌, map, refl, sym, ap, subst, ◌∙◌, append-nil, arith}
 use Rattle.std.specs.Prelude.{if◌then◌else◌}
 use mathlib.Core.List.{map-append}
 use Rattle.archive_file.specs.Archive.{disk_of as archive_disk_of, used_of}
@@ -14,9 +14,10 @@ use Rattle.depot_rows.specs.depot_model.declared.request.Request.{Request}
 use Rattle.depot_rows.specs.depot_model.Commands.{step}
 use Rattle.disk_journal.specs.Stands.{disk_of}
 use Rattle.disk_journal.specs.declared.journal.Journal.{Journal}
-use Rattle.locked_tables.specs.Known.{PartyKnown}
-use Rattle.locked_tables.specs.Taken.{IsOwn, end_after, place_of, placed_of, rows_after}
+use Rattle.locked_tables.specs.Known.{GoesOnWithout, PartyKnown}
+use Rattle.locked_tables.specs.Taken.{IsOwn, archive_lane, end_after, place_of, placed_of, rows_after}
 use Rattle.locked_tables.specs.declared.taken.Taken.{Taken}
+use Rattle.order_words.specs.Lanes.{has_lane}
 use Rattle.outside_api.specs.Count.{HasRisen, counted}
 use Rattle.outside_api.specs.Disk.{Files, NoMore}
 use Rattle.serial_depot.specs.Committing.{AreRowsAfter, IsOutcomeOf}
@@ -35,8 +36,8 @@ use Rattle.depot_rows.specs.table_store.declared.tables.Tables.{Tables}
 use Rattle.shared_depot.specs.Common.{HasAllStored, HasRunOrder, IsArchiveAfter}
 use Rattle.shared_depot.specs.Room.{StandsAfter}
 use Rattle.shared_depot.specs.Sharing.{IsTakenAt}
-use Rattle.shared_depot.specs.Stored.{ArchiveKnown, images_after, is_unwritten, lost_count, lost_in, stored_end, stores_of, unwritten_count}
-use Rattle.shared_depot.proofs.Stored.{count_caused, count_one}
+use Rattle.shared_depot.specs.Stored.{ArchiveKnown, images_after, is_lost, is_unwritten, lost_count, lost_in, stored_end, stores_of, unwritten_count}
+use Rattle.shared_depot.proofs.Stored.{count_caused, count_one, lost_kept, lost_risen, stores_kept, stores_touched}
 
 module _ {D : Type 0} (seen may_leave : D → Files → Type 0) (moment : D → ℕ) (left_since : D → ℕ → Files → Type 0) (faults : D → ℕ)
     (rows : AllRows) (end : ℕ) (images : Files → Type 0) (begins : ℕ → List Deed → Type 0) (faults_then : ℕ) where
@@ -171,6 +172,38 @@ module _ {D : Type 0} (seen may_leave : D → Files → Type 0) (moment : D → 
     caused = caused;
     no_fewer = let before = was.no_fewer in omega (arith, before, le);
   }
+
+  -- the same behind an order that goes on without touching its lane
+  pub archive_then : (known order : List Taken) (failed : Bool) (archive archive' : Archive D) → Kept (record { list = known; failed = failed }) archive → GoesOnWithout archive_lane known order → (entry : Taken) (stored : List (List ℕ))
+      → has_lane entry.lanes archive_lane ≡ true → entry.stores ≡ stored → StoresBehind seen may_leave stored archive archive' → faults (archive_disk_of archive) ≤ faults (archive_disk_of archive')
+      → (is_lost entry ≡ true → HasRisen (faults (archive_disk_of archive)) (faults (archive_disk_of archive'))) → Kept (record { list = order ++ entry ∷ []; failed = failed }) archive'
+  archive_then known order failed archive archive' was on entry stored touches stores behind le risen =
+      let here : Kept (record { list = order; failed = failed }) archive =
+      archive_learnt (record { list = known; failed = failed }) order archive was (stores_kept known order on) (lost_kept known order on) in
+      archive_more (record { list = order; failed = failed }) archive archive' here entry stored (stores_touched order entry touches ∙ ap (λ (l : List (List ℕ)). stores_of order ++ l) stores) behind le failed
+      (subst (λ (n : ℕ). counted (n + cond failed 1 0) faults_then ≤ faults (archive_disk_of archive')) (sym (count_one is_lost order entry))
+      (lost_risen (lost_count order) faults_then (faults (archive_disk_of archive)) (faults (archive_disk_of archive')) failed (is_lost entry) here.caused le risen))
+
+-- a place more for the command without one, for which its disk failed: it stored nothing
+module _ {D : Type 0} (seen may_leave : D → Files → Type 0) (moment : D → ℕ) (left_since : D → ℕ → Files → Type 0) (faults : D → ℕ)
+    (end : ℕ) (images : Files → Type 0) (begins : ℕ → List Deed → Type 0) (faults_then : ℕ) where
+  pub archive_placed : (order : List Taken) (archive : Archive D) → IsArchiveAfter seen may_leave moment left_since faults end images begins faults_then (record { list = order; failed = true }) archive
+      → (entry : Taken) → has_lane entry.lanes archive_lane ≡ true → entry.stores ≡ [] → is_lost entry ≡ true
+      → IsArchiveAfter seen may_leave moment left_since faults end images begins faults_then (record { list = order ++ entry ∷ []; failed = false }) archive
+  archive_placed order archive was entry touches none lost =
+      let stores : stores_of (order ++ entry ∷ []) ≡ stores_of order = stores_touched order entry touches ∙ (ap (λ (l : List (List ℕ)). stores_of order ++ l) none ∙ append-nil (stores_of order)) in
+      record {
+        used = was.used ∙ ap (λ (l : List (List ℕ)). stores_end l end) (sym stores);
+        among = subst (λ (l : List (List ℕ)). NoMore (HasStored images end l) (may_leave (archive_disk_of archive))) (sym stores) was.among;
+        room = was.room;
+        tells = was.tells;
+        caused =
+            let before = was.caused in
+            let count = count_one is_lost order entry in
+            let one = ap (λ (b : Bool). let n : ℕ = cond b 1 0 in n) lost in
+            omega (arith, before, count, one);
+        no_fewer = was.no_fewer;
+      }
 
 -- ---- what the party is promised
 

@@ -7,6 +7,7 @@ use Rattle.serial_depot.specs.command_core.Outcomes.{HasNeeded, IsFormed, IsForm
 use Rattle.serial_depot.specs.command_core.declared.outcome.Outcome.{Outcome}
 use Rattle.command_needs.specs.Sets.{need_of}
 use Rattle.command_needs.specs.declared.sets.Need.{Need}
+use Rattle.depot_rows.specs.db_records.declared.change.Change.{Change}
 use Rattle.depot_rows.specs.depot_model.Deeds.{Deed}
 use Rattle.depot_rows.specs.depot_model.Rules.{IsSound}
 use Rattle.depot_rows.specs.depot_model.Tables.{needs_of}
@@ -15,6 +16,7 @@ use Rattle.depot_rows.specs.depot_model.declared.command.Command.{Command}
 use Rattle.depot_rows.specs.depot_model.declared.request.Request.{Request}
 use Rattle.depot_rows.specs.depot_model.declared.request.WordFault.{WordFault}
 use Rattle.depot_rows.specs.Standing.{Stand}
+use Rattle.depot_rows.specs.table_store.declared.tables.Tables.{Tables}
 use Rattle.locked_tables.specs.Taken.{end_after, rows_after}
 use Rattle.locked_tables.specs.declared.taken.Taken.{Taken}
 use Rattle.needed_tables.proofs.Sets.{in_set_needed}
@@ -24,7 +26,7 @@ use Rattle.session_loop.specs.Taking.{IsProper}
 use Rattle.depot_rows.specs.table_changes.Changed.{AllRows, rows_of}
 use Rattle.table_locks.specs.Gathered.{HasSet, HasSetBy}
 use Rattle.table_locks.specs.declared.gathered.Gathered.{Gathered}
-use Rattle.shared_depot.specs.Ready.{IsGatheredFor}
+use Rattle.shared_depot.specs.Ready.{IsFoundOver, IsGatheredFor}
 use Rattle.outside_api.specs.Disk.{Files}
 use Rattle.serial_depot.specs.Committing.{IsOutcomeOf}
 use Rattle.serial_depot.specs.Holding.{KeepContents}
@@ -50,6 +52,13 @@ agree_of all rows request set = go request.command set
     go (Ok command) has = has
     go (Err fault) has = tt
 
+agree_alike : (rows : AllRows) (request : Request) → AgreeOnNeeded rows rows request
+agree_alike rows request = go request.command
+  where
+    go : (asked : Result Command WordFault) → AgreeOnNeededBy rows rows asked
+    go (Ok command) = λ table there. refl
+    go (Err fault) = tt
+
 module _ {N : Type 0} (rows : AllRows) (end : ℕ) (begins : ℕ → List Deed → Type 0) (order : List Taken) (g : Gathered N) (whole : Bool) (needs : List Need) (request : Request) (outcome : Outcome)
     (gathered : IsGatheredFor rows whole needs g) (set : map need_of needs ≡ needs_of request) (proper : (since : ℕ) (start : List Deed) → begins since start → IsProper request)
     (found : (d : List Deed) → IsSound d → IsFormedBy request → HasNeeded (rows_of g.tables) d request → IsOutcome (rows_of g.tables) g.tables.archive_end d request outcome)
@@ -70,8 +79,21 @@ module _ {N : Type 0} (rows : AllRows) (end : ℕ) (begins : ℕ → List Deed �
   at_end d (inl none) is = outcome_anywhere all g.tables.archive_end (end_after end order) d request outcome is none
   at_end d (inr same) is = subst (λ (from : ℕ). IsOutcome all from d request outcome) same is
 
-  pub stands_after : StandsAfter rows end begins order request outcome
+  stands_after : StandsAfter rows end begins order request outcome
   stands_after = λ since start at d stand. at_end d still.end_is (over_all d stand (formed_of request (proper since start at)))
+
+-- an outcome that stores nothing, and was found over tables after the order, is the request's over these
+pub stands_after_all : (rows : AllRows) (end : ℕ) (begins : ℕ → List Deed → Type 0) (order : List Taken) (tables : Tables) → rows_of tables ≡ rows_after rows order → (request : Request) (outcome : Outcome)
+    → ((since : ℕ) (start : List Deed) → begins since start → IsProper request)
+    → ((d : List Deed) → IsSound d → IsFormedBy request → HasNeeded (rows_of tables) d request → IsOutcome (rows_of tables) tables.archive_end d request outcome)
+    → outcome.stores ≡ [] → StandsAfter rows end begins order request outcome
+stands_after_all rows end begins order tables same request outcome proper found none = λ since start at d stand.
+    let all : AllRows = rows_after rows order in
+    let formed = formed_of request (proper since start at) in
+    let here : Stand (rows_of tables) d = subst (λ (r : AllRows). Stand r d) (sym same) stand in
+    outcome_anywhere all tables.archive_end (end_after end order) d request outcome
+    (subst (λ (r : AllRows). IsOutcome r tables.archive_end d request outcome) same
+    (found d stand.sound formed (have_needed (rows_of tables) (rows_of tables) d request here (agree_alike (rows_of tables) request)))) none
 
 -- ---- the reply
 
@@ -84,9 +106,23 @@ reply_here rows end images begins order now here request told due since start at
     (subst (λ (l : List Taken). KeepContents (images_after images end l) (stored_end end l) all d) here kept)
 
 -- what was printed over the places that were known behind the lock of the archive is told after the whole order, behind which its lane wasn't touched
-pub told_after : (end : ℕ) (images : Files → Type 0) (begins : ℕ → List Deed → Type 0) (archive : Option (MutexGuard ArchiveKnown)) (order : List Taken) (request : Request) (outcome : Outcome) (told : Told)
+told_after : (end : ℕ) (images : Files → Type 0) (begins : ℕ → List Deed → Type 0) (archive : Option (MutexGuard ArchiveKnown)) (order : List Taken) (request : Request) (outcome : Outcome) (told : Told)
     → IfSome archive (λ guard. stores_of order ≡ stores_of (mutex_guard_value guard).list)
     → ((known : List Taken) → IfSome archive (λ guard. known ≡ (mutex_guard_value guard).list) → IsToldAfter end images begins known request outcome told) → IsToldAfter end images begins order request outcome told
 told_after end images begins None order request outcome told same found = found order tt
 told_after end images begins (Some guard) order request outcome told same found = λ since start at rows from d stand is kept.
     found (mutex_guard_value guard).list refl since start at rows from d stand is (subst (λ (stores : List (List ℕ)). KeepContents (HasStored images end stores) (stores_end stores end) rows d) same kept)
+
+-- What was found over gathered tables that are still so after an order is due after it.
+pub due_after : {N : Type 0} (rows : AllRows) (end : ℕ) (images : Files → Type 0) (begins : ℕ → List Deed → Type 0) (order : List Taken) (g : Gathered N) (whole : Bool) (needs : List Need) (request : Request)
+    (archive : Option (MutexGuard ArchiveKnown)) (told : Told) → IsGatheredFor rows whole needs g → map need_of needs ≡ needs_of request → ((since : ℕ) (start : List Deed) → begins since start → IsProper request)
+    → IsFoundOver end images begins g archive request told → IsStillSo rows end order g told.changes told.stores
+    → IfSome archive (λ guard. stores_of order ≡ stores_of (mutex_guard_value guard).list) → IsDueAfter rows end images begins order request told
+due_after rows end images begins order g whole needs request archive told gathered set proper found still same = record {
+  outcome = found.outcome;
+  tells = found.tells;
+  stands = stands_after rows end begins order g whole needs request found.outcome gathered set proper found.found
+      (subst (λ (stores : List (List ℕ)). IsStillSo rows end order g found.outcome.changes stores) found.tells.stores
+      (subst (λ (changes : List Change). IsStillSo rows end order g changes told.stores) found.tells.changes still));
+  reply = told_after end images begins archive order request found.outcome told same found.reply;
+}

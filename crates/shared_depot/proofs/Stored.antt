@@ -49,13 +49,13 @@ stores_spared order entry is =
 
 -- ---- faults
 
-count_append : {X : Type 0} (test : X → Bool) (xs ys : List X) → count_by test (xs ++ ys) ≡ count_by test xs + count_by test ys
+pub count_append : {X : Type 0} (test : X → Bool) (xs ys : List X) → count_by test (xs ++ ys) ≡ count_by test xs + count_by test ys
 count_append {X} test xs ys = sum_by-append (λ (x : X). cond (test x) 1 0) xs ys
 
 pub count_one : (test : Taken → Bool) (order : List Taken) (entry : Taken) → count_by test (order ++ entry ∷ []) ≡ count_by test order + cond (test entry) 1 0
 count_one test order entry = sum_by_push (λ (taken : Taken). cond (test taken) 1 0) order entry
 
-count_first : {X : Type 0} (test : X → Bool) (x : X) (xs : List X) → count_by test (x ∷ xs) ≡ cond (test x) 1 0 + count_by test xs
+pub count_first : {X : Type 0} (test : X → Bool) (x : X) (xs : List X) → count_by test (x ∷ xs) ≡ cond (test x) 1 0 + count_by test xs
 count_first test x xs = let all = count_append test (x ∷ []) xs in omega (arith, all)
 
 never : (b : Bool) → b && false ≡ false
@@ -91,6 +91,14 @@ lost_of entry is = go entry.fault (has_lane entry.lanes archive_lane) entry.lost
     go true true lost all = all
     go true false lost all = absurd cc
     go false touched lost all = absurd cc
+
+-- a place that touches the archive's lane and says that its disk failed isn't one at which the journal's did
+pub written_so : (entry : Taken) → has_lane entry.lanes archive_lane ≡ true → entry.lost ≡ true → is_unwritten entry ≡ false
+written_so entry touches lost = (λ k. entry.fault && not (touches k && lost k)) ∙ never entry.fault
+
+-- at a fault it is lost
+pub lost_so : (entry : Taken) → has_lane entry.lanes archive_lane ≡ true → entry.fault ≡ true → entry.lost ≡ true → is_lost entry ≡ true
+lost_so entry touches fault lost = λ k. fault k && (touches k && lost k)
 
 none_lost : (order : List Taken) → AllByRecursion Spares order → lost_count order ≡ 0
 none_lost [] all = refl
@@ -131,16 +139,10 @@ pub count_caused : (count before mid now : ℕ) (failed : Bool) → counted coun
 count_caused count before mid now true was le risen = let more = risen refl in omega (arith, was, more)
 count_caused count before mid now false was le risen = omega (arith, was, le)
 
--- the archive's disk failed for a command: the place is for that one, or its count rose anew
-pub lost_caused_so : (count before mid now : ℕ) (failed unread lost : Bool) → counted (count + cond failed 1 0) before ≤ mid → mid ≤ now → (unread ≡ true → failed ≡ true) → (lost ≡ true → unread ≡ false → HasRisen mid now)
-    → counted (count + cond lost 1 0 + cond (failed && not unread) 1 0) before ≤ now
-lost_caused_so count before mid now true true true was le known risen = omega (arith, was, le)
-lost_caused_so count before mid now true true false was le known risen = omega (arith, was, le)
-lost_caused_so count before mid now false true lost was le known risen = absurd (let no = known refl in cc)
-lost_caused_so count before mid now true false true was le known risen = let more = risen refl refl in omega (arith, was, more)
-lost_caused_so count before mid now true false false was le known risen = omega (arith, was, le)
-lost_caused_so count before mid now false false true was le known risen = let more = risen refl refl in omega (arith, was, more)
-lost_caused_so count before mid now false false false was le known risen = omega (arith, was, le)
+-- the archive's disk failed for a command that has its place then: its count rose
+pub lost_risen : (count before mid now : ℕ) (failed lost : Bool) → counted (count + cond failed 1 0) before ≤ mid → mid ≤ now → (lost ≡ true → HasRisen mid now) → counted (count + cond lost 1 0 + cond failed 1 0) before ≤ now
+lost_risen count before mid now failed true was le risen = let more = risen refl in omega (arith, was, more)
+lost_risen count before mid now failed false was le risen = omega (arith, was, le)
 
 -- its disk failed for a command without a place: its count rose, or it had failed for one before
 pub failed_caused : (count before mid now : ℕ) (failed unread : Bool) → counted (count + cond failed 1 0) before ≤ mid → mid ≤ now → (unread ≡ true → HasRisen mid now) → counted (count + cond (failed || unread) 1 0) before ≤ now

@@ -63,6 +63,11 @@ module _ (before mid after : ReplicaParty) (request : Request) (taken : before.l
       heard = is.heard;
     }
 
+-- an answer from a replica's own rows tells of no failed disk
+pub never_lost : {E : Type 0} (answer : Result Answered E) → IfOk answer (λ answered. answered.lost ≡ false) → is_lost answer ≡ false
+never_lost (Ok answered) is = is
+never_lost (Err error) is = refl
+
 -- a replica that stays is as it was
 pub kept_so : {A T E : Type 0} (answer : Result T E) (replica : A) → OnErr answer (replica ≡ replica)
 kept_so (Ok answered) replica = tt

@@ -1,5 +1,6 @@
--- What lies behind the lock of the order and behind that of the archive. This project's own choice.
-use Rattle.std.specs.Prelude.{◌≡◌, ◌≤◌, ◌⊎◌, ℕ, false, List, map}
+-- What lies behind the locks of the archive, of the journal and of the order. This project's own choice.
+use Rattle.std.specs.Prelude.{◌≡◌, ◌≤◌, ◌⊎◌, ℕ, true, false, List, [], ◌∷◌, ◌++◌, map, if◌then◌else◌}
+use mathlib.Core.List.{IsPrefix}
 use Rattle.archive_file.specs.Archive.{disk_of as archive_disk_of, used_of}
 use Rattle.archive_file.specs.declared.archive.Archive.{Archive}
 use Rattle.depot_rows.specs.db_records.declared.table.TableId.{TableId}
@@ -7,17 +8,18 @@ use Rattle.depot_rows.specs.depot_model.Deeds.{Deed}
 use Rattle.depot_rows.specs.table_store.declared.tables.Tables.{Tables}
 use Rattle.disk_journal.specs.Stands.{disk_of}
 use Rattle.disk_journal.specs.declared.journal.Journal.{Journal}
-use Rattle.locked_tables.specs.Taken.{end_after, placed_of, rows_after}
+use Rattle.locked_tables.specs.Taken.{archive_lane, end_after, journal_lane, placed_of, rows_after, rows_behind}
 use Rattle.locked_tables.specs.declared.taken.Taken.{Taken}
+use Rattle.order_words.specs.Lanes.{has_lane}
 use Rattle.outside_api.specs.Count.{HasRisen, counted}
 use Rattle.outside_api.specs.Disk.{Files, NoMore}
 use Rattle.party_marks.specs.Marks.{is_empty}
 use Rattle.party_marks.specs.declared.mark.Mark.{Mark}
-use Rattle.serial_depot.specs.Placing.{HasRunBeside}
+use Rattle.serial_depot.specs.Placing.{HasRunBeside, LeavesRows}
 use Rattle.serial_depot.specs.Running.{CanCommit}
 use Rattle.serial_depot.specs.Storing.{AllReach}
-use Rattle.depot_rows.specs.table_changes.Changed.{AllRows, rows_of}
-use Rattle.shared_depot.specs.Stored.{ArchiveKnown, images_after, lost_in, stored_end, stores_of, unwritten_count}
+use Rattle.depot_rows.specs.table_changes.Changed.{AllRows, changed_by, rows_of}
+use Rattle.shared_depot.specs.Stored.{ArchiveKnown, images_after, is_unwritten, lost_in, stored_end, stores_of, unwritten_count}
 
 module _ {D : Type 0} (seen may_leave : D → Files → Type 0) (moment : D → ℕ) (left_since : D → ℕ → Files → Type 0) where
   -- An archive in which the contents of an order's places were stored, and maybe others behind them.
@@ -48,6 +50,52 @@ module _ {D : Type 0} (seen may_leave : D → Files → Type 0) (moment : D → 
     pub tells : (since : ℕ) (start : List Deed) → begins since start → (files : Files) × seen (archive_disk_of archive) files
     pub caused : counted (lost_in known) faults_then ≤ faults (archive_disk_of archive)
     pub no_fewer : faults_then ≤ faults (archive_disk_of archive)
+
+  -- some tables and a journal have run the places of an order
+  abbrev pub WasRun : AllRows → ℕ → (Files → Type 0) → (ℕ → List Deed → Type 0) → ℕ → List Taken → Type 0
+  WasRun rows end images begins faults_then order = (tables : Tables) × ((journal : Journal D) × HasRunOrder rows end images begins faults_then order tables journal)
+
+-- ---- places at which nothing is written
+
+-- A place behind which the rows and the archive's end are as before: it changes and stores nothing, and if it is that of a fault, the archive's disk
+-- failed. If it isn't, its request leaves the rows of each depot that has these.
+pub record IsQuiet (begins : ℕ → List Deed → Type 0) (rows : AllRows) (end : ℕ) (entry : Taken) : Type 0 where
+  pub unchanged : entry.changes ≡ []
+  pub unstored : has_lane entry.lanes archive_lane ≡ true → (entry.stores ≡ []) × (entry.end ≡ end)
+  pub written : is_unwritten entry ≡ false
+  pub leaves : (since : ℕ) (start : List Deed) → begins since start → entry.fault ≡ false → LeavesRows rows entry.request
+
+-- so is each of an order that doesn't touch the journal's lane, from these rows and this end of the archive on
+abbrev pub AreQuiet : (ℕ → List Deed → Type 0) → AllRows → ℕ → List Taken → Type 0
+AreQuiet begins rows end [] = Unit {0}
+AreQuiet begins rows end (entry ∷ order) =
+    (has_lane entry.lanes journal_lane ≡ false → IsQuiet begins rows end entry) × AreQuiet begins (rows_behind rows entry) (if has_lane entry.lanes archive_lane then entry.end else end) order
+
+module _ {D : Type 0} (seen may_leave : D → Files → Type 0) (moment : D → ℕ) (left_since : D → ℕ → Files → Type 0) (faults : D → ℕ) where
+  -- What is kept of an order: tables show the rows after it, the places that don't touch the journal's lane are quiet, and it was run.
+  pub record KeepsOrder (rows : AllRows) (end : ℕ) (images : Files → Type 0) (begins : ℕ → List Deed → Type 0) (faults_then : ℕ) (order : List Taken) (tables : Tables) : Type 0 where
+    pub shown : (table : TableId) → rows_of tables table ≡ rows_after rows order table
+    pub quiet : AreQuiet begins rows end order
+    pub run : WasRun seen may_leave moment left_since faults rows end images begins faults_then order
+
+-- Behind an order and a place at which something was to be written the rows are those after its changes, and so much of the archive is used.
+pub record IsEntered (rows : AllRows) (end : ℕ) (order : List Taken) (entry : Taken) (used : ℕ) : Type 0 where
+  pub writes : has_lane entry.lanes journal_lane ≡ true
+  pub rows_are : (table : TableId) → rows_after rows (order ++ entry ∷ []) table ≡ changed_by (rows_after rows order) entry.changes table
+  pub end_is : end_after end (order ++ entry ∷ []) ≡ used
+
+-- Behind a beginning of an order nothing was written: the rows, the contents and the faults of the journal's disk are the same, and tables and a journal
+-- that have run the beginning have run the order.
+module _ {D : Type 0} (may_leave : D → Files → Type 0) (moment : D → ℕ) (left_since : D → ℕ → Files → Type 0) where
+  pub record GoesOnQuietly (rows : AllRows) (end : ℕ) (images : Files → Type 0) (begins : ℕ → List Deed → Type 0) (known order : List Taken) : Type 0 where
+    pub begins_it : IsPrefix known order
+    pub rows_are : rows_after rows order ≡ rows_after rows known
+    pub end_is : end_after end order ≡ end_after end known
+    pub stores : stores_of order ≡ stores_of known
+    pub unwritten : unwritten_count order ≡ unwritten_count known
+    pub runs : (tables : Tables) (journal : Journal D) → ((table : TableId) → rows_of tables table ≡ rows_after rows known table) → (since : ℕ) (start : List Deed) → begins since start
+        → HasRunBeside may_leave moment left_since images end (stores_of known) tables journal since start (map placed_of known)
+        → HasRunBeside may_leave moment left_since images end (stores_of known) tables journal since start (map placed_of order)
 
 -- where there is a mark, a count has risen
 abbrev pub IsMarkCaused : ℕ → ℕ → List Mark → Type 0

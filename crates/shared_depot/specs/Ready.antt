@@ -1,5 +1,5 @@
--- What a command has whose commit is at hand. This project's own choice.
-use Rattle.std.specs.Prelude.{◌≡◌, ℕ, List, [], filter, map, Bool, IfSome, IsTrue, Option}
+-- What a command has whose place is at hand. This project's own choice.
+use Rattle.std.specs.Prelude.{◌≡◌, ◌⊎◌, ℕ, true, false, List, [], filter, map, Bool, IfSome, IsTrue, None, Option}
 use Rattle.std.specs.Sync.Mutex.{mutex_guard_value}
 use Rattle.std.specs.declared.sync.MutexGuard.{MutexGuard}
 use Rattle.command_needs.specs.declared.sets.Need.{Need}
@@ -9,7 +9,6 @@ use Rattle.depot_rows.specs.depot_model.Rules.{IsSound}
 use Rattle.depot_rows.specs.depot_model.Tables.{needs_of}
 use Rattle.command_needs.specs.Sets.{need_of}
 use Rattle.depot_rows.specs.depot_model.declared.request.Request.{Request}
-use Rattle.locked_tables.specs.Known.{OrderKnown}
 use Rattle.locked_tables.specs.declared.taken.Taken.{Taken}
 use Rattle.outside_api.specs.Disk.{Files}
 use Rattle.serial_depot.specs.Telling.{IsTold}
@@ -20,11 +19,20 @@ use Rattle.depot_rows.specs.table_changes.Changed.{AllRows, rows_of}
 use Rattle.table_locks.specs.Gathered.{Covers, IsShown, tables_held}
 use Rattle.table_locks.specs.Ways.{holds_table}
 use Rattle.table_locks.specs.declared.gathered.Gathered.{Gathered}
-use Rattle.shared_depot.specs.Room.{IsDueAfter, IsRoomFor, IsToldAfter}
+use Rattle.shared_depot.specs.Room.{IsAtOrder, IsDueAfter, IsFailed, IsRoomFor, IsToldAfter}
 use Rattle.shared_depot.specs.Stored.{ArchiveKnown}
+use Rattle.shared_depot.specs.declared.ready.Quiet.{Quiet}
 use Rattle.shared_depot.specs.declared.ready.Ready.{Ready}
+use Rattle.shared_depot.specs.declared.ready.Ready.TheVariants as ways
+use Rattle.shared_depot.specs.declared.ready.Writing.{Writing}
 
 module _ {N : Type 0} where
+  -- the tables of a set whose locks its needs ask for are held, and none was looked at yet
+  pub record IsTakenFor (rows : AllRows) (whole : Bool) (needs : List Need) (gathered : Gathered N) : Type 0 where
+    pub shown : IsShown rows gathered
+    pub held : tables_held gathered ≡ filter (holds_table whole needs) all_tables
+    pub unseen : gathered.peeks.items ≡ []
+
   -- the set of a request is gathered as its needs ask for it; where the whole set is held, no table is only looked at
   pub record IsGatheredFor (rows : AllRows) (whole : Bool) (needs : List Need) (gathered : Gathered N) : Type 0 where
     pub shown : IsShown rows gathered
@@ -40,12 +48,28 @@ module _ {N : Type 0} where
     pub found : (d : List Deed) → IsSound d → IsFormedBy request → HasNeeded (rows_of gathered.tables) d request → IsOutcome (rows_of gathered.tables) gathered.tables.archive_end d request outcome
     pub reply : (order : List Taken) → IfSome archive (λ guard. order ≡ (mutex_guard_value guard).list) → IsToldAfter end images begins order request outcome told
 
-module _ {D N : Type 0} where
-  -- what lies behind the lock of the order, which is held
-  abbrev pub order_held : Ready D N → OrderKnown
-  order_held ready = mutex_guard_value ready.common
+-- a command writes nothing more: it changes nothing, or a content couldn't be read
+abbrev pub IsUnwritten : Told → Type 0
+IsUnwritten told = (told.changes ≡ []) ⊎ (told.unread ≡ true)
 
-  -- what is told is the request's after the order, and room is made for it
-  pub record IsReadyFor (rows : AllRows) (end : ℕ) (images : Files → Type 0) (begins : ℕ → List Deed → Type 0) (request : Request) (ready : Ready D N) : Type 0 where
-    pub room : IsRoomFor rows (order_held ready) ready.told ready.room
-    pub due : IsDueAfter rows end images begins (order_held ready).list request ready.told
+module _ {D N : Type 0} where
+  -- What is told is the request's after the whole order, and nothing more is written. Where a content couldn't be read, the lock of the archive is held,
+  -- behind which the order is known, and that its disk failed.
+  pub record IsQuietFor (rows : AllRows) (end : ℕ) (images : Files → Type 0) (begins : ℕ → List Deed → Type 0) (request : Request) (quiet : Quiet D N) : Type 0 where
+    pub unwritten : IsUnwritten quiet.told
+    pub due : IsDueAfter rows end images begins (mutex_guard_value quiet.common) request quiet.told
+    pub archive : IsAtOrder (mutex_guard_value quiet.common) quiet.archive
+    pub failed : IsFailed quiet.archive
+    pub with_it : IfSome quiet.archive (λ guard. quiet.told.unread ≡ true)
+    pub without : quiet.archive ≡ None → quiet.told.unread ≡ false
+
+  -- What is told is the request's after the order that is known behind the lock of the journal, each content was read, and room is made for it.
+  pub record IsWritingFor (rows : AllRows) (end : ℕ) (images : Files → Type 0) (begins : ℕ → List Deed → Type 0) (request : Request) (writing : Writing D N) : Type 0 where
+    pub room : IsRoomFor rows (mutex_guard_value writing.journal) writing.told writing.room
+    pub read : writing.told.unread ≡ false
+    pub due : IsDueAfter rows end images begins (mutex_guard_value writing.journal) request writing.told
+
+  -- one of the two
+  abbrev pub IsReadyFor : AllRows → ℕ → (Files → Type 0) → (ℕ → List Deed → Type 0) → Request → Ready D N → Type 0
+  IsReadyFor rows end images begins request (ways.Quiet quiet) = IsQuietFor rows end images begins request quiet
+  IsReadyFor rows end images begins request (ways.Writing writing) = IsWritingFor rows end images begins request writing

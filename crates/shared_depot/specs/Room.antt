@@ -1,5 +1,5 @@
--- What a command has under the lock of the order before it is committed. This project's own choice.
-use Rattle.std.specs.Prelude.{◌≡◌, ◌⊎◌, ◌<◌, ℕ, true, false, IsTrue, IfSome, List, [], Option, None}
+-- What a command has under the lock of the journal before it is committed, and what it is answered. This project's own choice.
+use Rattle.std.specs.Prelude.{◌≡◌, ◌⊎◌, ℕ, true, IsTrue, IfSome, List, [], Option, None}
 use Rattle.std.specs.Sync.Mutex.{mutex_guard_value}
 use Rattle.std.specs.declared.sync.MutexGuard.{MutexGuard}
 use Rattle.serial_depot.specs.command_core.declared.outcome.Outcome.{Outcome}
@@ -8,7 +8,6 @@ use Rattle.depot_rows.specs.db_records.declared.change.Change.{Change}
 use Rattle.depot_rows.specs.db_records.declared.table.TableId.{TableId}
 use Rattle.depot_rows.specs.depot_model.Deeds.{Deed}
 use Rattle.depot_rows.specs.depot_model.declared.request.Request.{Request}
-use Rattle.locked_tables.specs.Known.{OrderKnown}
 use Rattle.locked_tables.specs.Taken.{end_after, rows_after}
 use Rattle.locked_tables.specs.declared.taken.Taken.{Taken}
 use Rattle.outside_api.specs.Disk.{Files}
@@ -27,25 +26,28 @@ use Rattle.shared_depot.specs.declared.room.Room.{Room}
 abbrev pub IsEndKnown : ℕ → ℕ → Option (MutexGuard ArchiveKnown) → Type 0
 IsEndKnown end used archive = IfSome archive (λ guard. used ≡ end_after end (mutex_guard_value guard).list)
 
--- Behind the lock of the archive, if it is held, the whole order is known; where a content couldn't be read, that its disk failed is known there.
-pub record IsAtOrder (order : List Taken) (unread : Type 0) (known : ArchiveKnown) : Type 0 where
-  pub list : known.list ≡ order
-  pub failed : unread → known.failed ≡ true
+-- behind the lock of the archive, if it is held, an order is known
+abbrev pub IsAtOrder : List Taken → Option (MutexGuard ArchiveKnown) → Type 0
+IsAtOrder order archive = IfSome archive (λ guard. (mutex_guard_value guard).list ≡ order)
+
+-- and that its disk failed for a command without a place
+abbrev pub IsFailed : Option (MutexGuard ArchiveKnown) → Type 0
+IsFailed archive = IfSome archive (λ guard. (mutex_guard_value guard).failed ≡ true)
 
 module _ {D N : Type 0} where
-  -- Room is made for what a command changes and stores: the versions that are to follow, the tables after the changes, a copy of the changes, a place behind
-  -- the order, and the lock of the archive if contents are stored or one couldn't be read.
-  pub record IsRoomFor (rows : AllRows) (order : OrderKnown) (told : Told) (room : Room D N) : Type 0 where
-    pub place : 0 < order.room
+  -- Room is made for what a command changes and stores behind an order: the versions that are to follow, the tables after the changes, twice, a copy of the
+  -- changes, and the lock of the archive if contents are stored.
+  pub record IsRoomFor (rows : AllRows) (order : List Taken) (told : Told) (room : Room D N) : Type 0 where
     pub prepared : IsPrepared rows told.changes room.prepared
-    pub after : (table : TableId) → rows_of room.after table ≡ changed_by (rows_after rows order.list) told.changes table
+    pub after : (table : TableId) → rows_of room.after table ≡ changed_by (rows_after rows order) told.changes table
+    pub shown : rows_of room.shown ≡ rows_of room.after
     pub copied : room.changes ≡ told.changes
-    pub archive : IfSome room.archive (λ guard. IsAtOrder order.list (told.unread ≡ true) (mutex_guard_value guard))
-    pub without : room.archive ≡ None → (told.stores ≡ []) × (told.unread ≡ false)
+    pub archive : IsAtOrder order room.archive
+    pub without : room.archive ≡ None → told.stores ≡ []
 
 module _ {N : Type 0} where
-  -- What was gathered is still so after the whole order: the tables of the set are as they were seen, those of the changes are held, and if contents are
-  -- stored, the archive ends where it was seen to end.
+  -- What was gathered is still so after an order: the tables of the set are as they were seen, those of the changes are held, and if contents are stored,
+  -- the archive ends where it was seen to end.
   pub record IsStillSo (rows : AllRows) (end : ℕ) (order : List Taken) (gathered : Gathered N) (changes : List Change) (stores : List (List ℕ)) : Type 0 where
     pub set : (request : Request) → Covers gathered request → HasSet (rows_after rows order) (rows_of gathered.tables) request
     pub held : IsTrue (are_held gathered.held.items changes)

@@ -31,3 +31,10 @@ fresh_passes (suc n) = fresh_passes n ++ record { party = suc n; list = [] } ∷
 abbrev pub fresh_marks : ℕ → List PassKnown
 fresh_marks zero = []
 fresh_marks (suc n) = fresh_marks n ++ record { party = suc n; list = [] } ∷ []
+
+-- how many places a party may have, of the numbers of all parties, the first of which is that of party 1
+abbrev pub places_in : List ℕ → ℕ → ℕ
+places_in [] party = 0
+places_in (n ∷ numbers) zero = 0
+places_in (n ∷ numbers) (suc zero) = n
+places_in (n ∷ numbers) (suc (suc party)) = places_in numbers (suc party)

@@ -1,7 +1,8 @@
 //! The answer to a command of a replica.
 ghost use Rattle.std.specs.Prelude.{◌≡◌, ◌||◌, true, false};
+ghost use Rattle.party_marks.specs.Known.{PassKnown};
 ghost use Rattle.party_marks.specs.Marks.{has_marks};
-ghost use Rattle.replica_turns.specs.Replying.{reads_archive};
+ghost use Rattle.replica_turns.specs.Replying.{pulls, reads_archive};
 ghost use Rattle.shared_depot.specs.Replicas.{AreMarkedBy, IsMarkedBy, IsReplicaAnswer, IsToldOn};
 
 use crate::both_marks::BothMarks;
@@ -9,6 +10,7 @@ use crate::common::CommonDepot;
 use crate::of_archive::OfArchive;
 use crate::serving::Serving;
 use crate::stored_archive::StoredArchive;
+use crate::written_journal::WrittenJournal;
 use depot_rows::model::Request;
 use locked_tables::{Naming, OrderWords, PartyPass};
 use outside_api::Disk;
@@ -61,13 +63,36 @@ fn mark_lost<N: Marking>(
     }
 }
 
-impl<D: Disk, N: Naming + Marking + Imaging + Serving> CommonDepot<D, N> {
-    /// Answers a command of a replica that isn't a `print` beside the journal, and makes a mark where the
-    /// answer tells that its disk failed. The party learns all places so far.
-    pub(crate) fn answer_replica(
+impl<D: Disk, N: Naming + Imaging + Serving> CommonDepot<D, N> {
+    /// Answers a command of a replica that is neither a `pull` nor a `print`, from the replica's own rows.
+    /// The party learns all places so far.
+    pub(crate) fn answer_alone(
         &mut self,
         words: &OrderWords<N>,
+        alloc: Global,
+        pass: &mut PartyPass<N>,
+        replica: &ReplicaParty,
+        request: &Request,
+    ) -> Result<Answered, AllocError>
+        requires { (reads_archive request.now ≡ false) × (pulls request.now.command ≡ false) }
+        ensures answer { (marks : PassKnown) → IsReplicaAnswer D.seen D.may_leave D.moment D.left_since N.end N.images N.begins pass.old pass.new marks marks request.now replica.now replica.now result }
+    {
+        let answer = replica.answer_alone::<D>(alloc, request);
+        self.order.tell(words, pass);
+        answer
+    }
+}
+
+impl<D: Disk, N: Naming + Marking + Imaging + Serving> WrittenJournal<D, N> {
+    /// Answers a `pull` of a replica, which fetches of the journal, and makes a mark where the answer tells
+    /// that its disk failed. Then the lock of the order is taken too, and the party learns all places so
+    /// far.
+    pub(crate) fn answer_pull<R: Wait>(
+        &mut self,
+        rt: &R,
+        words: &OrderWords<N>,
         mark_words: &MarkWords<N>,
+        common: &Mutex<CommonDepot<D, N>>,
         alloc: Global,
         pass: &mut PartyPass<N>,
         marks: &mut BothMarks<N>,
@@ -79,7 +104,10 @@ impl<D: Disk, N: Naming + Marking + Imaging + Serving> CommonDepot<D, N> {
         ensures left { replica.new.left ≡ replica.old.left }
     {
         let answer = replica.answer_by_journal(alloc, &mut self.journal, request);
-        self.order.tell(words, pass);
+        let mut guard = common.lock(rt);
+        let held = &mut *guard;
+        held.learn_journal(words, &mut self.lane);
+        held.order.tell(words, pass);
         mark_lost(mark_words, &mut self.marks, &mut marks.journal, answer)
     }
 }

@@ -1,11 +1,12 @@
-//! How a command is made ready to be committed.
-ghost use Rattle.std.specs.Prelude.{◌≡◌, ◌⊎◌, ◌&&◌, ◌==◌, ℕ, List, None, [], true, false, IfOk, IfSome, IsSome, IsTrue, IsFalse, map};
-ghost use Rattle.std.specs.List.{list_any};
+//! How a command is made ready for its place.
+ghost use Rattle.std.specs.Prelude.{◌≡◌, ◌⊎◌, ◌&&◌, ◌==◌, ℕ, List, None, [], true, false, IfOk, IfSome, IsSome, IsTrue, IsFalse, OnOk, map, not};
+ghost use Rattle.std.specs.List.{list_all, list_any};
 ghost use Rattle.std.specs.Sync.Mutex.{mutex_guard_value};
 ghost use Rattle.serial_depot.specs.command_core.Outcomes.{HasNeeded, IsFormedBy, IsOutcome};
 ghost use Rattle.serial_depot.specs.Telling.{IsTold};
 ghost use Rattle.command_needs.specs.Sets.{need_of};
 ghost use Rattle.command_needs.specs.declared.sets.Need.{Need as AnyNeed};
+ghost use Rattle.depot_rows.specs.db_records.declared.table.TableId.{TableId};
 ghost use Rattle.depot_rows.specs.depot_model.Deeds.{Deed};
 ghost use Rattle.depot_rows.specs.depot_model.Rules.{IsSound};
 ghost use Rattle.depot_rows.specs.depot_model.Tables.{needs_of};
@@ -18,17 +19,18 @@ ghost use Rattle.table_locks.specs.Confirmed.{IsConfirmed};
 ghost use Rattle.table_locks.specs.Gathered.{IsShown};
 ghost use Rattle.table_locks.specs.Prepared.{are_held};
 ghost use Rattle.table_locks.specs.declared.gathered.Gathered.{Gathered as AnyGathered};
-ghost use Rattle.shared_depot.specs.Ready.{IsFoundOver, IsGatheredFor, IsReadyFor};
-ghost use Rattle.shared_depot.specs.Room.{IsAtOrder, IsEndKnown, IsRoomFor, IsStillSo, IsToldAfter};
+ghost use Rattle.shared_depot.specs.Ready.{IsFoundOver, IsGatheredFor, IsQuietFor, IsReadyFor, IsTakenFor, IsUnwritten, IsWritingFor};
+ghost use Rattle.shared_depot.specs.Room.{IsAtOrder, IsEndKnown, IsFailed, IsRoomFor, IsStillSo, IsToldAfter, StandsAfter};
 ghost use Rattle.shared_depot.specs.Stored.{stores_of};
 
 use crate::common::CommonDepot;
 use crate::copying::copy_changes;
-use crate::ready::Ready;
+use crate::ready::{Quiet, Ready, Writing};
 use crate::room::Room;
 use crate::serving::Serving;
 use crate::shared::SharedDepot;
 use crate::stored_archive::StoredArchive;
+use crate::written_journal::{WrittenJournal, share_tables};
 use command_core::{Outcome, evaluate};
 use command_needs::{Need, request_needs};
 use depot_rows::model::Request;
@@ -54,27 +56,27 @@ fn may_store_so(told: &Told, may: bool) -> bool
     told.stores.is_empty() || may
 }
 
-/// Whether a command is done with the archive once its reply is printed: it stores nothing, and each
-/// content could be read.
-fn is_done_with_archive(told: &Told) -> bool
-    ensures { IsTrue result → (told.now.stores ≡ []) × (told.now.unread ≡ false) }
+/// Whether a command writes nothing more: it changes nothing, or a content couldn't be read.
+fn is_unwritten(told: &Told) -> bool
+    ensures unwritten { IsTrue result → IsUnwritten told.now }
+    ensures read { IsFalse result → told.now.unread ≡ false }
 {
-    told.stores.is_empty() && !told.is_unread()
+    told.is_unread() || told.changes.is_empty()
 }
 
-/// Gives the lock of the archive back, where a command is done with it.
-fn kept_for<'a, D: Disk, N: Naming + Imaging + Serving>(
+/// The lock of the archive, which is given back where it isn't needed any more.
+fn kept_where<'a, D: Disk, N: Naming + Imaging + Serving>(
     archive: Option<MutexGuard<'a, StoredArchive<D, N>>>,
-    told: &Told,
+    needed: bool,
 ) -> Option<MutexGuard<'a, StoredArchive<D, N>>>
-    ensures kept { result ≡ None → (archive.entry ≡ None) ⊎ ((told.now.stores ≡ []) × (told.now.unread ≡ false)) }
-    ensures same { (result ≡ None) ⊎ (result ≡ archive.entry) }
+    ensures kept { IsTrue needed → result ≡ archive.entry }
+    ensures given { IsFalse needed → result ≡ None }
 {
-    if is_done_with_archive(told) {
+    if needed {
+        archive
+    } else {
         drop(archive);
         None
-    } else {
-        archive
     }
 }
 
@@ -89,7 +91,7 @@ fn tell_over<'a, D: Disk, N: Naming + Imaging + Serving>(
     requires none { archive ≡ None → outcome.reads ≡ [] }
     ensures told { IfOk result (λ r. IsTold outcome number r.0) }
     ensures reply { (request : AnyRequest) (order : List Taken) → request.number ≡ number → IfOk result (λ r. IfSome r.1 (λ guard. order ≡ (mutex_guard_value guard).list) → IsToldAfter N.end N.images N.begins order request outcome r.0) }
-    ensures failed { IfOk result (λ r. r.0.unread ≡ true → IfSome r.1 (λ guard. (mutex_guard_value guard).failed ≡ true)) }
+    ensures failed { IfOk result (λ r. r.0.unread ≡ true → IsFailed r.1) }
     ensures read { IfOk result (λ r. r.1 ≡ None → r.0.unread ≡ false) }
     ensures list { IfOk result (λ r. (end used : ℕ) → IsEndKnown end used archive.entry → IsEndKnown end used r.1) }
     ensures held { IfOk result (λ r. r.1 ≡ None → archive.entry ≡ None) }
@@ -106,7 +108,39 @@ fn tell_over<'a, D: Disk, N: Naming + Imaging + Serving>(
     }
 }
 
-impl<D: Disk, N: Naming + Marking + Imaging + Serving> CommonDepot<D, N> {
+/// What is confirmed of what a command has gathered, and the lock of the archive, where it is held.
+#[derive(Drop)]
+struct Settled<'a, D: Disk, N: Naming + Imaging + Serving> {
+    confirmed: Confirmed<'a, N>,
+    archive: Option<MutexGuard<'a, StoredArchive<D, N>>>,
+}
+
+impl<D: Disk, N: Naming + Imaging + Serving> CommonDepot<D, N> {
+    /// Looks at the tables of a set that aren't held, as they are after the whole order. The one error is
+    /// want of memory.
+    fn look<'a>(
+        &mut self,
+        words: &OrderWords<N>,
+        gathered: &mut Gathered<'a, N>,
+        needs: &[Need],
+        whole: bool,
+    ) -> Result<(), AllocError>
+        requires { IsTakenFor N.rows whole needs.now gathered.old }
+        ensures same { self.new ≡ self.old }
+        ensures gathered { OnOk result (IsGatheredFor N.rows whole needs.now gathered.new) }
+    {
+        gathered.look(words, &mut self.order, &self.tables, needs, whole)
+    }
+
+    /// What the command of a request does over the tables after the whole order. The one error is want of
+    /// memory.
+    fn outcome(&self, alloc: Global, request: &Request) -> Result<Outcome, AllocError>
+        requires { (since : ℕ) (start : List Deed) → N.begins since start → IsProper request.now }
+        ensures { IfOk result (λ outcome. outcome.stores ≡ [] → StandsAfter N.rows N.end N.begins self.now request.now outcome) }
+    {
+        evaluate(alloc, &self.tables, request)
+    }
+
     /// Where the lock of the archive is held, the archive's lane learns the whole order.
     fn learn_held<'a>(
         &mut self,
@@ -115,10 +149,10 @@ impl<D: Disk, N: Naming + Marking + Imaging + Serving> CommonDepot<D, N> {
     ) -> Option<MutexGuard<'a, StoredArchive<D, N>>>
         ensures same { self.new ≡ self.old }
         ensures held { result ≡ None → archive.entry ≡ None }
-        ensures learnt { IfSome result (λ guard. (mutex_guard_value guard).list ≡ self.old.list) }
-        ensures still { IsEndKnown N.end (end_after N.end self.old.list) archive.entry }
-        ensures stores { IfSome archive.entry (λ guard. stores_of self.old.list ≡ stores_of (mutex_guard_value guard).list) }
-        ensures failed { IfSome archive.entry (λ guard. (mutex_guard_value guard).failed ≡ true) → IfSome result (λ guard. (mutex_guard_value guard).failed ≡ true) }
+        ensures learnt { IsAtOrder self.old result }
+        ensures still { IsEndKnown N.end (end_after N.end self.old) archive.entry }
+        ensures stores { IfSome archive.entry (λ guard. stores_of self.old ≡ stores_of (mutex_guard_value guard).list) }
+        ensures failed { IsFailed archive.entry → IsFailed result }
     {
         match archive {
             None => None,
@@ -129,76 +163,94 @@ impl<D: Disk, N: Naming + Marking + Imaging + Serving> CommonDepot<D, N> {
         }
     }
 
-    /// Makes room for what is told, where the tables that it changes are held. The one error is want of
-    /// memory.
-    fn make_room_for<'a>(
-        &mut self,
-        alloc: Global,
-        confirmed: Confirmed<'a, N>,
-        archive: Option<MutexGuard<'a, StoredArchive<D, N>>>,
-        told: &Told,
-    ) -> Result<Room<'a, D, N>, AllocError>
-        requires confirmed { (gathered : AnyGathered N) × IsConfirmed N.rows self.old.list gathered confirmed }
-        requires held { IsTrue (are_held confirmed.held.items told.now.changes) }
-        requires fit { AllFitIn (rows_after N.rows self.old.list) told.now.changes }
-        requires archive { IfSome archive (λ guard. IsAtOrder self.old.list (told.now.unread ≡ true) (mutex_guard_value guard)) }
-        requires without { archive ≡ None → (told.now.stores ≡ []) × (told.now.unread ≡ false) }
-        ensures same { self.new.list ≡ self.old.list }
-        ensures room { IfOk result (IsRoomFor N.rows self.new told.now) }
-    {
-        let changes = told.changes.as_slice();
-        self.make_room()?;
-        let after = self.tables_after(alloc, changes)?;
-        let prepared = confirmed.prepare(&after, changes)?;
-        let changes = copy_changes(alloc, changes)?;
-        Ok(Room {
-            archive,
-            prepared,
-            after,
-            changes,
-        })
-    }
-
-    /// Makes room for what is told of an outcome that was found over gathered tables, where no table
-    /// that was looked at was touched since; else all locks are given back. Where no table was only
-    /// looked at, it doesn't come to this. The one error is want of memory. It also stands for an outcome
+    /// What was gathered, where no table that was looked at was touched since; else all locks are given
+    /// back. Where no table was only looked at, it doesn't come to this. The error stands for an outcome
     /// that changes a table whose lock isn't held, and for one that stores contents where the archive's
     /// lock isn't held. No run of a depot comes to these: a command changes only tables that its set
     /// writes, and stores contents only where one of them is the table of revisions. But that is said of
     /// outcomes over a depot, and here none is known to exist.
-    fn room_for<'a>(
+    fn settle<'a>(
         &mut self,
-        alloc: Global,
         words: &OrderWords<N>,
         gathered: Gathered<'a, N>,
         archive: Option<MutexGuard<'a, StoredArchive<D, N>>>,
         told: &Told,
-    ) -> Result<Option<Room<'a, D, N>>, AllocError>
+    ) -> Result<Option<Settled<'a, D, N>>, AllocError>
         requires shown { IsShown N.rows gathered }
         requires end { (told.now.stores ≡ []) ⊎ IsEndKnown N.end gathered.tables.archive_end archive }
-        requires fit { AllFitIn (rows_of gathered.tables) told.now.changes }
-        requires unread { told.now.unread ≡ true → IfSome archive (λ guard. (mutex_guard_value guard).failed ≡ true) }
-        requires read { archive ≡ None → told.now.unread ≡ false }
-        ensures same { self.new.list ≡ self.old.list }
-        ensures room { IfOk result (λ found. IfSome found (IsRoomFor N.rows self.new told.now)) }
-        ensures still { IfOk result (λ found. IfSome found (λ room. IsStillSo N.rows N.end self.new.list gathered.entry told.now.changes told.now.stores)) }
-        ensures stores { IfOk result (λ found. IfSome found (λ room. IfSome archive.entry (λ guard. stores_of self.new.list ≡ stores_of (mutex_guard_value guard).list))) }
+        ensures same { self.new ≡ self.old }
+        ensures confirmed { IfOk result (λ found. IfSome found (λ settled. IsConfirmed N.rows self.old gathered.entry settled.confirmed)) }
+        ensures held { IfOk result (λ found. IfSome found (λ settled. IsTrue (are_held settled.confirmed.held.items told.now.changes))) }
+        ensures fit { AllFitIn (rows_of gathered.entry.tables) told.now.changes → IfOk result (λ found. IfSome found (λ settled. AllFitIn (rows_after N.rows self.old) told.now.changes)) }
+        ensures still { IfOk result (λ found. IfSome found (λ settled. IsStillSo N.rows N.end self.old gathered.entry told.now.changes told.now.stores)) }
+        ensures archive { IfOk result (λ found. IfSome found (λ settled. IsAtOrder self.old settled.archive)) }
+        ensures stores { IfOk result (λ found. IfSome found (λ settled. IfSome archive.entry (λ guard. stores_of self.old ≡ stores_of (mutex_guard_value guard).list))) }
+        ensures failed { IfOk result (λ found. IfSome found (λ settled. IsFailed archive.entry → IsFailed settled.archive)) }
+        ensures without { IfOk result (λ found. IfSome found (λ settled. settled.archive ≡ None → (archive.entry ≡ None) × (told.now.stores ≡ []))) }
         ensures always { IfOk result (λ found. gathered.entry.peeks.items ≡ [] → IsSome found) }
     {
+        let may = archive.is_some();
         let Some(confirmed) = self.confirm(words, gathered) else {
             return Ok(None);
         };
         if !confirmed.holds(told.changes.as_slice()) {
             return Err(AllocError);
         }
-        if !may_store_so(told, archive.is_some()) {
+        if !may_store_so(told, may) {
             return Err(AllocError);
         }
         let archive = self.learn_held(words, archive);
-        let archive = kept_for(archive, told);
-        let room = self.make_room_for(alloc, confirmed, archive, told)?;
-        Ok(Some(room))
+        Ok(Some(Settled { confirmed, archive }))
     }
+}
+
+impl<D: Disk, N: Naming + Marking + Imaging + Serving> WrittenJournal<D, N> {
+    /// Makes room for what is told, where the tables that it changes are held. The one error is want of
+    /// memory.
+    fn room_for<'a>(
+        &self,
+        alloc: Global,
+        settled: Settled<'a, D, N>,
+        told: &Told,
+    ) -> Result<Room<'a, D, N>, AllocError>
+        requires confirmed { (gathered : AnyGathered N) × IsConfirmed N.rows self.now gathered settled.confirmed }
+        requires held { IsTrue (are_held settled.confirmed.held.items told.now.changes) }
+        requires fit { AllFitIn (rows_after N.rows self.now) told.now.changes }
+        requires archive { IsAtOrder self.now settled.archive }
+        requires without { settled.archive ≡ None → told.now.stores ≡ [] }
+        ensures { IfOk result (IsRoomFor N.rows self.now told.now) }
+    {
+        let Settled { confirmed, archive } = settled;
+        let stores = !told.stores.is_empty();
+        let archive = kept_where(archive, stores);
+        let changes = told.changes.as_slice();
+        let after = self.tables_after(alloc, changes)?;
+        let shown = share_tables(alloc, &after)?;
+        let prepared = confirmed.prepare(&after, changes)?;
+        let changes = copy_changes(alloc, changes)?;
+        Ok(Room {
+            archive,
+            prepared,
+            after,
+            shown,
+            changes,
+        })
+    }
+}
+
+/// Whether a command with these needs writes no table.
+fn only_reads(needs: &[Need]) -> bool
+    ensures { result ≡ list_all (λ (need : AnyNeed). not need.writes) needs.now }
+{
+    needs.iter().all(|need| !need.writes)
+}
+
+/// Whether a command is done once its reply is printed: it changes and stores nothing, and its reply
+/// waits for no content.
+fn is_told_alone(outcome: &Outcome) -> bool
+    ensures { IsTrue result → (outcome.now.changes ≡ []) × ((outcome.now.stores ≡ []) × (outcome.now.reads ≡ [])) }
+{
+    outcome.changes.is_empty() && outcome.stores.is_empty() && outcome.reads.is_empty()
 }
 
 /// What the command of a request does over gathered tables. The one error is want of memory.
@@ -227,13 +279,36 @@ impl<D: Disk, N: Naming + Marking + Imaging + Serving> SharedDepot<D, N> {
         ensures gathered { IfOk result (λ r. IsGatheredFor N.rows whole needs.now r.0) }
         ensures end { IfOk result (λ r. IsEndKnown N.end r.0.tables.archive_end r.1) }
     {
-        let mut gathered = gather(rt, alloc, &self.words, &self.tables, needs, whole)?;
-        if !may_store(needs) {
-            return Ok((gathered, None));
+        let mut gathered = gather(rt, alloc, &self.tables, needs, whole)?;
+        let archive = if may_store(needs) {
+            Some(self.archive.lock(rt))
+        } else {
+            None
+        };
+        self.look(rt, &mut gathered, needs, whole)?;
+        match archive {
+            None => Ok((gathered, None)),
+            Some(guard) => {
+                gathered.set_archive_end(guard.end());
+                Ok((gathered, Some(guard)))
+            }
         }
-        let archive = self.archive.lock(rt);
-        gathered.set_archive_end(archive.end());
-        Ok((gathered, Some(archive)))
+    }
+
+    /// Looks at the tables of a set that aren't held, under the lock of the order, which is given back at
+    /// once. The one error is want of memory.
+    fn look<'a, R: Wait>(
+        &'a self,
+        rt: &R,
+        gathered: &mut Gathered<'a, N>,
+        needs: &[Need],
+        whole: bool,
+    ) -> Result<(), AllocError>
+        requires { IsTakenFor N.rows whole needs.now gathered.old }
+        ensures { OnOk result (IsGatheredFor N.rows whole needs.now gathered.new) }
+    {
+        let mut common = self.common.lock(rt);
+        common.look(&self.words, gathered, needs, whole)
     }
 
     /// The lock of the archive, where it is held or the reply waits for contents.
@@ -258,8 +333,129 @@ impl<D: Disk, N: Naming + Marking + Imaging + Serving> SharedDepot<D, N> {
         }
     }
 
-    /// Takes the lock of the order, and makes room for what is told of an outcome that was found over
+    /// Takes the lock of the order for what is told of an outcome that was found over gathered tables,
+    /// where they are still so, as they are where the whole set is held, and nothing more is written. The
+    /// error is that of `settle`.
+    fn quiet_for<'a, R: Wait>(
+        &'a self,
+        rt: &R,
+        needs: &[Need],
+        whole: bool,
+        gathered: Gathered<'a, N>,
+        archive: Option<MutexGuard<'a, StoredArchive<D, N>>>,
+        request: &Request,
+        told: Told,
+    ) -> Result<Option<Quiet<'a, D, N>>, AllocError>
+        requires gathered { IsGatheredFor N.rows whole needs.now gathered }
+        requires end { (told.stores ≡ []) ⊎ IsEndKnown N.end gathered.tables.archive_end archive }
+        requires needs { map need_of needs.now ≡ needs_of request.now }
+        requires proper { (since : ℕ) (start : List Deed) → N.begins since start → IsProper request.now }
+        requires found { IsFoundOver N.end N.images N.begins gathered archive request.now told }
+        requires unwritten { IsUnwritten told }
+        requires unread { told.unread ≡ true → IsFailed archive }
+        requires read { archive ≡ None → told.unread ≡ false }
+        ensures quiet { IfOk result (λ found. IfSome found (IsQuietFor N.rows N.end N.images N.begins request.now)) }
+        ensures always { IfOk result (λ found. IsTrue whole → IsSome found) }
+    {
+        let mut common = self.common.lock(rt);
+        match common.settle(&self.words, gathered, archive, &told) {
+            Ok(Some(Settled { confirmed, archive })) => {
+                drop(confirmed);
+                let archive = kept_where(archive, told.is_unread());
+                Ok(Some(Quiet {
+                    common,
+                    archive,
+                    told,
+                }))
+            }
+            Ok(None) => {
+                drop(told);
+                Ok(None)
+            }
+            Err(error) => {
+                drop(told);
+                Err(error)
+            }
+        }
+    }
+
+    /// What was gathered, where no table that was looked at was touched since, as the lock of the order
+    /// tells, which is given back at once. The journal's lane has learnt the whole order then. The error is
+    /// that of `settle`.
+    fn settle_under<'a, R: Wait>(
+        &'a self,
+        rt: &R,
+        journal: &mut WrittenJournal<D, N>,
+        gathered: Gathered<'a, N>,
+        archive: Option<MutexGuard<'a, StoredArchive<D, N>>>,
+        told: &Told,
+    ) -> Result<Option<Settled<'a, D, N>>, AllocError>
+        requires shown { IsShown N.rows gathered }
+        requires end { (told.now.stores ≡ []) ⊎ IsEndKnown N.end gathered.tables.archive_end archive }
+        ensures confirmed { IfOk result (λ found. IfSome found (λ settled. IsConfirmed N.rows journal.new gathered.entry settled.confirmed)) }
+        ensures held { IfOk result (λ found. IfSome found (λ settled. IsTrue (are_held settled.confirmed.held.items told.now.changes))) }
+        ensures fit { AllFitIn (rows_of gathered.entry.tables) told.now.changes → IfOk result (λ found. IfSome found (λ settled. AllFitIn (rows_after N.rows journal.new) told.now.changes)) }
+        ensures still { IfOk result (λ found. IfSome found (λ settled. IsStillSo N.rows N.end journal.new gathered.entry told.now.changes told.now.stores)) }
+        ensures archive { IfOk result (λ found. IfSome found (λ settled. IsAtOrder journal.new settled.archive)) }
+        ensures stores { IfOk result (λ found. IfSome found (λ settled. IfSome archive.entry (λ guard. stores_of journal.new ≡ stores_of (mutex_guard_value guard).list))) }
+        ensures without { IfOk result (λ found. IfSome found (λ settled. settled.archive ≡ None → (archive.entry ≡ None) × (told.now.stores ≡ []))) }
+        ensures always { IfOk result (λ found. gathered.entry.peeks.items ≡ [] → IsSome found) }
+    {
+        let mut common = self.common.lock(rt);
+        let held = &mut *common;
+        journal.learn(&self.words, held);
+        held.settle(&self.words, gathered, archive, told)
+    }
+
+    /// Takes the lock of the journal, and makes room for what is told of an outcome that was found over
     /// gathered tables, where they are still so, as they are where the whole set is held.
+    fn writing_for<'a, R: Wait>(
+        &'a self,
+        rt: &R,
+        alloc: Global,
+        needs: &[Need],
+        whole: bool,
+        gathered: Gathered<'a, N>,
+        archive: Option<MutexGuard<'a, StoredArchive<D, N>>>,
+        request: &Request,
+        told: Told,
+    ) -> Result<Option<Writing<'a, D, N>>, AllocError>
+        requires gathered { IsGatheredFor N.rows whole needs.now gathered }
+        requires end { (told.stores ≡ []) ⊎ IsEndKnown N.end gathered.tables.archive_end archive }
+        requires needs { map need_of needs.now ≡ needs_of request.now }
+        requires proper { (since : ℕ) (start : List Deed) → N.begins since start → IsProper request.now }
+        requires found { IsFoundOver N.end N.images N.begins gathered archive request.now told }
+        requires fit { AllFitIn (rows_of gathered.tables) told.changes }
+        requires read { told.unread ≡ false }
+        ensures writing { IfOk result (λ found. IfSome found (IsWritingFor N.rows N.end N.images N.begins request.now)) }
+        ensures always { IfOk result (λ found. IsTrue whole → IsSome found) }
+    {
+        let mut journal = self.journal.lock(rt);
+        match self.settle_under(rt, &mut *journal, gathered, archive, &told) {
+            Ok(Some(settled)) => match journal.room_for(alloc, settled, &told) {
+                Ok(room) => Ok(Some(Writing {
+                    journal,
+                    room,
+                    told,
+                })),
+                Err(error) => {
+                    drop(told);
+                    Err(error)
+                }
+            },
+            Ok(None) => {
+                drop(told);
+                Ok(None)
+            }
+            Err(error) => {
+                drop(told);
+                Err(error)
+            }
+        }
+    }
+
+    /// Makes what is told ready for its place: with the lock of the order where nothing more is written,
+    /// and else with that of the journal.
     fn ready_for<'a, R: Wait>(
         &'a self,
         rt: &R,
@@ -277,21 +473,20 @@ impl<D: Disk, N: Naming + Marking + Imaging + Serving> SharedDepot<D, N> {
         requires proper { (since : ℕ) (start : List Deed) → N.begins since start → IsProper request.now }
         requires found { IsFoundOver N.end N.images N.begins gathered archive request.now told }
         requires fit { AllFitIn (rows_of gathered.tables) told.changes }
-        requires unread { told.unread ≡ true → IfSome archive (λ guard. (mutex_guard_value guard).failed ≡ true) }
+        requires unread { told.unread ≡ true → IsFailed archive }
         requires read { archive ≡ None → told.unread ≡ false }
         ensures ready { IfOk result (λ found. IfSome found (IsReadyFor N.rows N.end N.images N.begins request.now)) }
         ensures always { IfOk result (λ found. IsTrue whole → IsSome found) }
     {
-        let mut common = self.common.lock(rt);
-        match common.room_for(alloc, &self.words, gathered, archive, &told) {
-            Ok(Some(room)) => Ok(Some(Ready { common, room, told })),
-            Ok(None) => {
-                drop(told);
-                Ok(None)
+        if is_unwritten(&told) {
+            match self.quiet_for(rt, needs, whole, gathered, archive, request, told)? {
+                Some(quiet) => Ok(Some(Ready::Quiet(quiet))),
+                None => Ok(None),
             }
-            Err(error) => {
-                drop(told);
-                Err(error)
+        } else {
+            match self.writing_for(rt, alloc, needs, whole, gathered, archive, request, told)? {
+                Some(writing) => Ok(Some(Ready::Writing(writing))),
+                None => Ok(None),
             }
         }
     }
@@ -329,8 +524,58 @@ impl<D: Disk, N: Naming + Marking + Imaging + Serving> SharedDepot<D, N> {
         self.ready_for(rt, alloc, needs, whole, gathered, archive, request, told)
     }
 
-    /// Makes the command of a request ready to be committed: where the first attempt was overtaken, a
-    /// second one holds its whole set, and nothing overtakes it.
+    /// Evaluates a command that only reads under the lock of the order, where nothing overtakes it. No
+    /// table's lock is taken, so that it waits for no disk. Answers nothing where its reply waits for
+    /// contents. The error is that of `tell`.
+    fn read_under_order<'a, R: Wait>(
+        &'a self,
+        rt: &R,
+        alloc: Global,
+        request: &Request,
+    ) -> Result<Option<Quiet<'a, D, N>>, AllocError>
+        requires { (since : ℕ) (start : List Deed) → N.begins since start → IsProper request.now }
+        ensures { IfOk result (λ found. IfSome found (IsQuietFor N.rows N.end N.images N.begins request.now)) }
+    {
+        let common = self.common.lock(rt);
+        let outcome = common.outcome(alloc, request)?;
+        if !is_told_alone(&outcome) {
+            drop(outcome);
+            return Ok(None);
+        }
+        let told = tell(alloc, outcome, request.number)?;
+        Ok(Some(Quiet {
+            common,
+            archive: None,
+            told,
+        }))
+    }
+
+    /// A second attempt to make a command ready, which nothing overtakes: a command that only reads is
+    /// evaluated under the lock of the order. Where it isn't done with that, and where a command writes,
+    /// the whole set is held.
+    fn attempt_again<'a, R: Wait, G: Gate>(
+        &'a self,
+        rt: &R,
+        alloc: Global,
+        gate: &G,
+        needs: &[Need],
+        request: &Request,
+    ) -> Result<Ready<'a, D, N>, AllocError>
+        requires needs { map need_of needs.now ≡ needs_of request.now }
+        requires proper { (since : ℕ) (start : List Deed) → N.begins since start → IsProper request.now }
+        ensures { IfOk result (IsReadyFor N.rows N.end N.images N.begins request.now) }
+    {
+        if only_reads(needs) {
+            if let Some(quiet) = self.read_under_order(rt, alloc, request)? {
+                return Ok(Ready::Quiet(quiet));
+            }
+        }
+        let whole = self.attempt(rt, alloc, gate, needs, true, request)?;
+        Ok(whole.unwrap())
+    }
+
+    /// Makes the command of a request ready for its place, in a second attempt where the first one was
+    /// overtaken.
     pub(crate) fn ready<'a, R: Wait, G: Gate>(
         &'a self,
         rt: &R,
@@ -344,10 +589,7 @@ impl<D: Disk, N: Naming + Marking + Imaging + Serving> SharedDepot<D, N> {
         let needs = request_needs(alloc, request)?;
         match self.attempt(rt, alloc, gate, needs.as_slice(), false, request)? {
             Some(ready) => Ok(ready),
-            None => {
-                let second = self.attempt(rt, alloc, gate, needs.as_slice(), true, request)?;
-                Ok(second.unwrap())
-            }
+            None => self.attempt_again(rt, alloc, gate, needs.as_slice(), request),
         }
     }
 }

@@ -17,6 +17,7 @@ use crate::of_archive::OfArchive;
 use crate::serving::Serving;
 use crate::shared::SharedDepot;
 use crate::stored_archive::StoredArchive;
+use crate::written_journal::WrittenJournal;
 use archive_file::Archive;
 use depot_rows::model::Place;
 use depot_rows::tables::Tables;
@@ -49,10 +50,10 @@ impl<D: Disk, N: Naming + Marking + Imaging + Serving> Model for OpenedDepot<D, 
 
     ghost Value = { OpenedKnown };
 
-    ghost view = { λ o. record { order = o.order.list; marks = o.marks.list ++ o.content_marks.list } };
+    ghost view = { λ o. record { order = o.order; marks = o.marks.list ++ o.content_marks.list } };
 
-    ghost invariant = { λ o. HasRunOrder D.seen D.may_leave D.moment D.left_since D.faults N.rows N.end N.images N.begins N.faults o.order.list o.tables o.journal ×
-        IsArchiveAfter D.seen D.may_leave D.moment D.left_since D.faults N.end N.images N.begins N.content_faults (record { list = o.order.list; failed = false }) o.archive ×
+    ghost invariant = { λ o. HasRunOrder D.seen D.may_leave D.moment D.left_since D.faults N.rows N.end N.images N.begins N.faults o.order o.tables o.journal ×
+        IsArchiveAfter D.seen D.may_leave D.moment D.left_since D.faults N.end N.images N.begins N.content_faults (record { list = o.order; failed = false }) o.archive ×
         IsMarkCaused N.faults (D.faults (disk_of o.journal)) o.marks.list × IsMarkCaused N.content_faults (D.faults (archive_disk_of o.archive)) o.content_marks.list };
 }
 
@@ -72,6 +73,7 @@ impl<D: Disk, N: Naming + Marking + Imaging + Serving> SharedDepot<D, N> {
             words,
             tables: locks,
             archive,
+            journal,
             common,
             mark_words,
             content_words,
@@ -83,13 +85,22 @@ impl<D: Disk, N: Naming + Marking + Imaging + Serving> SharedDepot<D, N> {
             failed: _,
             marks: content_marks,
         } = archive.into_inner();
-        let CommonDepot {
-            mut order,
+        let WrittenJournal {
+            lane: mut journal_lane,
             tables,
             journal,
             marks,
-        } = common.into_inner();
+        } = journal.into_inner();
+        let mut common = common.into_inner();
+        common.learn_journal(&words, &mut journal_lane);
+        let CommonDepot {
+            mut order,
+            tables: shown,
+            ..
+        } = common;
         order.learn_archive(&words, &mut lane);
+        drop(shown);
+        drop(journal_lane);
         drop(lane);
         OpenedDepot {
             words,

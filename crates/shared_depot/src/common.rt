@@ -1,79 +1,62 @@
 //! What lies behind the lock of the order.
-ghost use Rattle.std.specs.Prelude.{◌≡◌, ◌<◌, [], IfOk, IfSome, IsSome, OnOk};
+ghost use Rattle.std.specs.Prelude.{◌≡◌, ◌++◌, ◌∷◌, ◌^◌, ◌-◌, ◌≤◌, ℕ, List, [], false, true, filter, map, IfSome, IsSome, IsTrue, OnOk};
+ghost use Rattle.depot_rows.specs.db_records.Table.{all_tables};
 ghost use Rattle.depot_rows.specs.db_records.declared.table.TableId.{TableId};
+ghost use Rattle.depot_rows.specs.depot_model.Deeds.{Deed};
+ghost use Rattle.depot_rows.specs.depot_model.Tables.{needs_of};
 ghost use Rattle.depot_rows.specs.depot_model.declared.request.Request.{Request};
+ghost use Rattle.depot_rows.specs.table_changes.Changed.{rows_of};
+ghost use Rattle.disk_journal.specs.declared.journal.Journal.{Journal};
 ghost use Rattle.locked_tables.specs.Taken.{end_after, rows_after};
-ghost use Rattle.depot_rows.specs.table_changes.Changed.{AllFitIn, changed_by, rows_of};
 ghost use Rattle.table_locks.specs.Confirmed.{IsConfirmed};
 ghost use Rattle.table_locks.specs.Gathered.{Covers, HasSet, IsShown};
-ghost use Rattle.shared_depot.specs.Common.{HasRunOrder};
+ghost use Rattle.shared_depot.specs.Common.{AreQuiet, GoesOnQuietly, HasRunOrder, WasRun};
 ghost use Rattle.shared_depot.specs.Stored.{lost_count, stores_of};
 
 use crate::serving::Serving;
 use crate::stored_archive::StoredArchive;
-use depot_rows::changes::change_tables;
-use depot_rows::records::Change;
 use depot_rows::tables::Tables;
-use disk_journal::Journal;
-use locked_tables::{Naming, OrderWords, PlacedOrder};
+use locked_tables::{LockedJournal, Naming, OrderWords, PlacedOrder};
 use outside_api::Disk;
-use party_marks::{Marking, Marks};
 use serial_depot::Imaging;
-use std::alloc::{AllocError, Global};
-use std::marker::Model;
+use std::marker::{Model, PhantomData};
 use table_locks::{Confirmed, Gathered};
 
-/// The order of all places, the rows and the journal, which have run exactly the commands of these
-/// places, and the marks of parties that were told that the journal's disk failed: while there is one,
-/// the count of the disk has risen. Contracts see the order, and how many more places there is room for.
+/// The order of all places, and the tables after them. Some tables and a journal have run exactly the
+/// commands of these places, and those at which nothing is written are the ones that don't touch the
+/// journal's lane. Contracts see the order.
 #[derive(Drop)]
-pub(crate) struct CommonDepot<D: Disk, N: Naming + Marking + Imaging + Serving> {
+pub(crate) struct CommonDepot<D: Disk, N: Naming + Imaging + Serving> {
     pub(crate) order: PlacedOrder<N>,
     pub(crate) tables: Tables,
-    pub(crate) journal: Journal<D>,
-    pub(crate) marks: Marks<N>,
+    of: PhantomData<D>,
 }
 
-impl<D: Disk, N: Naming + Marking + Imaging + Serving> Model for CommonDepot<D, N> {
-    ghost use Rattle.disk_journal.specs.Stands.{disk_of};
-    ghost use Rattle.locked_tables.specs.Known.{OrderKnown};
-    ghost use Rattle.shared_depot.specs.Common.{HasRunOrder, IsMarkCaused};
+impl<D: Disk, N: Naming + Imaging + Serving> Model for CommonDepot<D, N> {
+    ghost use Rattle.std.specs.Prelude.{List};
+    ghost use Rattle.locked_tables.specs.declared.taken.Taken.{Taken};
+    ghost use Rattle.shared_depot.specs.Common.{KeepsOrder};
 
-    ghost Value = { OrderKnown };
+    ghost Value = { List Taken };
 
     ghost view = { λ c. c.order };
 
-    ghost invariant = { λ c. HasRunOrder D.seen D.may_leave D.moment D.left_since D.faults N.rows N.end N.images N.begins N.faults c.order.list c.tables c.journal ×
-        IsMarkCaused N.faults (D.faults (disk_of c.journal)) c.marks.list };
+    ghost invariant = { λ c. KeepsOrder D.seen D.may_leave D.moment D.left_since D.faults N.rows N.end N.images N.begins N.faults c.order c.tables };
 }
 
-impl<D: Disk, N: Naming + Marking + Imaging + Serving> CommonDepot<D, N> {
-    /// Rows and a journal that have run no place, where there is no mark.
-    pub(crate) fn new(
-        order: PlacedOrder<N>,
-        tables: Tables,
-        journal: Journal<D>,
-        marks: Marks<N>,
-    ) -> CommonDepot<D, N>
-        requires order { order.list ≡ [] }
-        requires marks { marks.list ≡ [] }
-        requires run { HasRunOrder D.seen D.may_leave D.moment D.left_since D.faults N.rows N.end N.images N.begins N.faults [] tables journal }
-        ensures { result.list ≡ [] }
+impl<D: Disk, N: Naming + Imaging + Serving> CommonDepot<D, N> {
+    /// An order without a place, and tables that have run none, as others did with a journal.
+    pub(crate) fn new(order: PlacedOrder<N>, tables: Tables) -> CommonDepot<D, N>
+        requires order { order ≡ [] }
+        requires rows { (table : TableId) → rows_of tables table ≡ N.rows table }
+        requires run { WasRun D.seen D.may_leave D.moment D.left_since D.faults N.rows N.end N.images N.begins N.faults [] }
+        ensures { result ≡ [] }
     {
         CommonDepot {
             order,
             tables,
-            journal,
-            marks,
+            of: PhantomData,
         }
-    }
-
-    /// Makes room for one more place. The one error is want of memory.
-    pub(crate) fn make_room(&mut self) -> Result<(), AllocError>
-        ensures same { self.new.list ≡ self.old.list }
-        ensures room { OnOk result (0 < self.new.room) }
-    {
-        self.order.make_room()
     }
 
     /// What was gathered, where no table that was looked at was touched since.
@@ -84,8 +67,8 @@ impl<D: Disk, N: Naming + Marking + Imaging + Serving> CommonDepot<D, N> {
     ) -> Option<Confirmed<'a, N>>
         requires { IsShown N.rows gathered }
         ensures same { self.new ≡ self.old }
-        ensures confirmed { IfSome result (IsConfirmed N.rows self.old.list gathered.entry) }
-        ensures set { IfSome result (λ confirmed. (request : Request) → Covers gathered.entry request → HasSet (rows_after N.rows self.old.list) (rows_of confirmed.tables) request) }
+        ensures confirmed { IfSome result (IsConfirmed N.rows self.old gathered.entry) }
+        ensures set { IfSome result (λ confirmed. (request : Request) → Covers gathered.entry request → HasSet (rows_after N.rows self.old) (rows_of confirmed.tables) request) }
         ensures always { gathered.entry.peeks.items ≡ [] → IsSome result }
     {
         gathered.confirm(words, &mut self.order)
@@ -95,23 +78,21 @@ impl<D: Disk, N: Naming + Marking + Imaging + Serving> CommonDepot<D, N> {
     /// the archive has the contents of the whole order.
     pub(crate) fn learn_archive(&mut self, words: &OrderWords<N>, archive: &mut StoredArchive<D, N>)
         ensures same { self.new ≡ self.old }
-        ensures learnt { archive.new ≡ record archive.old { list = self.old.list } }
-        ensures end { end_after N.end self.old.list ≡ end_after N.end archive.old.list }
-        ensures stores { stores_of self.old.list ≡ stores_of archive.old.list }
-        ensures lost { lost_count self.old.list ≡ lost_count archive.old.list }
+        ensures learnt { archive.new ≡ record archive.old { list = self.old } }
+        ensures end { end_after N.end self.old ≡ end_after N.end archive.old.list }
+        ensures stores { stores_of self.old ≡ stores_of archive.old.list }
+        ensures lost { lost_count self.old ≡ lost_count archive.old.list }
     {
         self.order.learn_archive(words, &mut archive.lane);
     }
 
-    /// The tables after the order and then these changes. The one error is want of memory.
-    pub(crate) fn tables_after(
-        &self,
-        alloc: Global,
-        changes: &[Change],
-    ) -> Result<Tables, AllocError>
-        requires fit { AllFitIn (rows_after N.rows self.now.list) changes.now }
-        ensures rows { IfOk result (λ after. (table : TableId) → rows_of after table ≡ changed_by (rows_after N.rows self.now.list) changes.now table) }
+    /// The journal's lane learns the whole order, behind whose places that it knew none touches it: at
+    /// those nothing was written.
+    pub(crate) fn learn_journal(&mut self, words: &OrderWords<N>, lane: &mut LockedJournal<N>)
+        ensures same { self.new ≡ self.old }
+        ensures learnt { lane.new ≡ self.old }
+        ensures on { GoesOnQuietly D.may_leave D.moment D.left_since N.rows N.end N.images N.begins lane.old self.old }
     {
-        change_tables(alloc, &self.tables, changes)
+        self.order.learn_journal(words, lane);
     }
 }

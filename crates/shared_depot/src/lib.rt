@@ -1,24 +1,29 @@
 //! A depot in files that many threads ask at once.
 //!
-//! Each table lies behind a lock of its own, and so does the archive. Behind one lock more lie the order
-//! of all places, the rows and the journal, which have run exactly the commands of these places
-//! ([`SharedDepot`]). Locks are taken in rising order: those of the tables, that of the archive, and that
-//! of the order. How a thread has a session's command taken:
+//! Each table lies behind a lock of its own, and so do the archive and the journal. Behind one lock more
+//! lie the order of all places and the tables after them ([`SharedDepot`]). Locks are taken in rising order:
+//! those of the tables, that of the archive, that of the journal, and that of the order, under which no
+//! device is called. How a thread has a session's command taken:
 //!
-//! - It gathers the tables of the command's set, takes the lock of the archive if the command may store
-//!   contents, and finds over the tables what the command does. No other thread waits for that but those
-//!   that want a table that the command writes, or the archive.
+//! - It takes the locks of the tables that the command writes, and that of the archive if the command may
+//!   store contents. It looks at the other tables of the command's set under the lock of the order, and
+//!   finds over all these what the command does. No other thread waits for that but those that write a table
+//!   that the command writes, or want the archive.
 //! - It passes the gate. If the reply waits for contents, it takes the lock of the archive, and reads
 //!   them. It prints the reply. A command that neither stores nor reads doesn't touch the archive.
-//! - It takes the lock of the order. Where a table that it only looked at was changed since, it gives
-//!   all locks back and makes a second attempt, in which it holds its whole set, so that nothing
-//!   overtakes it.
-//! - What is in doubt is settled, what the command stores is stored, what it changes is committed, and the
-//!   command has the next place.
+//! - If the command writes nothing, it takes the lock of the order, and the command has the next place.
+//! - Else it takes the lock of the journal, and under it that of the order for a moment. Then what is in
+//!   doubt is settled, what the command stores is stored, and what it changes is committed. It takes the
+//!   lock of the order once more, and the command has the next place. Between the two only commands have
+//!   their places that write nothing, which is what the journal's lane says.
+//! - Where a table that it only looked at was changed since, it gives all locks back and makes a second
+//!   attempt, which nothing overtakes: a command that only reads finds what it does under the lock of the
+//!   order. Another one, and one whose reply waits for contents, holds its whole set.
 //!
-//! A replica's `pull` fetches of the journal under the lock of the order, so that it follows the journal
-//! between two commits, and its `print` reads the archive under that of the archive; its commands have no
-//! place. Where the answer tells that a disk failed, the party makes a mark under the same lock.
+//! A replica's `pull` fetches of the journal under its lock, so that it follows the journal between two
+//! commits, and its `print` reads the archive under that of the archive; its other commands are answered
+//! from its own rows. Its commands have no place. Where the answer tells that a disk failed, the party makes
+//! a mark under the same lock.
 //!
 //! Once all threads have ended, the depot is opened ([`OpenedDepot`]), each party's passes are heard,
 //! and the depot in files and the order are given back ([`Closed`]).
@@ -34,11 +39,13 @@ mod copying;
 mod making;
 mod of_archive;
 mod placing;
+mod quiet;
 mod ready;
 mod room;
 mod serving;
 mod shared;
 mod stored_archive;
+mod written_journal;
 
 pub use both_marks::BothMarks;
 pub use closing::{Closed, OpenedDepot};

@@ -1,5 +1,5 @@
 //! Making a shared depot.
-ghost use Rattle.std.specs.Prelude.{◌≡◌, ◌≤◌, ◌-◌, ◌+◌, ◌++◌, ◌↔◌, ℕ, List, [], IfOk, OnOk};
+ghost use Rattle.std.specs.Prelude.{◌≡◌, ◌≤◌, ◌-◌, ◌+◌, ◌++◌, ◌↔◌, ℕ, List, [], length, IfOk, OnOk};
 ghost use Rattle.std.specs.Result.{IfErr};
 ghost use Rattle.archive_file.specs.Archive.{disk_of as archive_disk_of};
 ghost use Rattle.depot_rows.specs.db_records.declared.table.TableId.{TableId};
@@ -9,7 +9,8 @@ ghost use Rattle.outside_api.specs.Disk.{Files};
 ghost use Rattle.order_words.specs.Seats.{fresh_lanes, fresh_order, lane_count};
 ghost use Rattle.serial_depot.specs.Running.{CanTake, HasRun};
 ghost use Rattle.depot_rows.specs.table_changes.Changed.{rows_of};
-ghost use Rattle.shared_depot.specs.Sharing.{fresh_marks, fresh_passes};
+ghost use Rattle.locked_tables.specs.Known.{all_places};
+ghost use Rattle.shared_depot.specs.Sharing.{fresh_marks, fresh_passes, places_in};
 
 use crate::both_marks::BothMarks;
 use crate::common::CommonDepot;
@@ -17,8 +18,11 @@ use crate::of_archive::OfArchive;
 use crate::serving::Serving;
 use crate::shared::SharedDepot;
 use crate::stored_archive::StoredArchive;
+use crate::written_journal::{WrittenJournal, share_tables};
 use depot_rows::tables::Tables;
-use locked_tables::{LockedArchive, Naming, OrderWords, PartyPass, PlacedOrder, TableLocks, Taken};
+use locked_tables::{
+    LockedArchive, LockedJournal, Naming, OrderWords, PartyPass, PlacedOrder, TableLocks, Taken,
+};
 use order_words::{LaneSeat, OrderSeat, Orders};
 use outside_api::Disk;
 use party_marks::{Mark, MarkPass, MarkWords, Marking, Marks};
@@ -34,15 +38,39 @@ pub struct Shared<D: Disk, N: Naming + Marking + Imaging + Serving> {
     pub marks: Vec<BothMarks<N>>,
 }
 
+/// How many places a party may have.
+fn place_count(places: &[u64], party: u32) -> u64
+    requires { 1 ≤ party }
+    ensures { result ≡ places_in places.now party }
+{
+    places.get(party as usize - 1).copied().unwrap_or(0)
+}
+
+/// How many places the first so many parties may have. The one error is that they are too many for any
+/// memory.
+fn total_places(places: &[u64], parties: u32) -> Result<u64, AllocError>
+    ensures { IfOk result (λ total. total ≡ all_places (places_in places.now) parties) }
+{
+    if parties == 0 {
+        return Ok(0);
+    }
+    let before = total_places(places, parties - 1)?;
+    before
+        .checked_add(place_count(places, parties))
+        .ok_or(AllocError)
+}
+
 /// Makes the passes of the first so many parties of their seats, which are the last.
 fn make_passes<N: Naming>(
     lanes: &mut Vec<LaneSeat<Taken>>,
     passes: &mut Vec<PartyPass<N>>,
+    places: &[u64],
     count: u32,
 ) -> Result<(), AllocError>
-    requires few { (count ≤ 16) × (count + 12 ≤ lane_count N.run) }
-    requires seats { lanes.old.items ≡ fresh_lanes N.run (count + 12) }
-    ensures seats { OnOk result (lanes.new.items ≡ fresh_lanes N.run 12) }
+    requires few { (count ≤ 16) × (count + 13 ≤ lane_count N.run) }
+    requires seats { lanes.old.items ≡ fresh_lanes N.run (count + 13) }
+    requires places { (party : ℕ) → N.places party ≡ places_in places.now party }
+    ensures seats { OnOk result (lanes.new.items ≡ fresh_lanes N.run 13) }
     ensures passes { OnOk result (passes.new.items ≡ passes.old.items ++ fresh_passes count) }
 {
     if count == 0 {
@@ -51,8 +79,8 @@ fn make_passes<N: Naming>(
     let Some(seat) = lanes.pop() else {
         return Err(AllocError);
     };
-    make_passes(lanes, passes, count - 1)?;
-    passes.push(PartyPass::new(seat, count))?;
+    make_passes(lanes, passes, places, count - 1)?;
+    passes.push(PartyPass::new(seat, count, place_count(places, count)))?;
     Ok(())
 }
 
@@ -138,30 +166,44 @@ fn pair_first<N: Marking + Serving>(
     Ok(())
 }
 
-/// What lies behind the locks of the tables, the seat of the archive's lane, and the passes.
+/// What lies behind the locks of the tables, the seats of the archive's lane and of the journal's, the order,
+/// and the passes.
 #[derive(Drop)]
 struct Parts<N: Naming> {
     tables: TableLocks<N>,
     archive: LockedArchive<N>,
+    journal: LockedJournal<N>,
+    order: PlacedOrder<N>,
     passes: Vec<PartyPass<N>>,
 }
 
-/// Makes them of the seats of the lanes. The one error is want of memory.
+/// Makes them of the seats. The one error is want of memory.
 fn make_parts<N: Naming>(
     alloc: Global,
+    order: OrderSeat<Taken>,
     mut lanes: Vec<LaneSeat<Taken>>,
-    count: u32,
+    places: &[u64],
     tables: &Tables,
 ) -> Result<Parts<N>, AllocError>
-    requires few { (count ≤ 16) × (count + 12 ≤ lane_count N.run) }
-    requires seats { lanes.items ≡ fresh_lanes N.run (count + 12) }
+    requires few { (length places.now ≤ 16) × (length places.now + 13 ≤ lane_count N.run) }
+    requires order { (order.run ≡ N.run) × (order.list ≡ []) }
+    requires seats { lanes.items ≡ fresh_lanes N.run (length places.now + 13) }
+    requires places { (party : ℕ) → N.places party ≡ places_in places.now party }
     requires rows { (table : TableId) → rows_of tables.now table ≡ N.rows table }
     requires end { tables.now.archive_end ≡ N.end }
-    ensures passes { IfOk result (λ parts. parts.passes.items ≡ fresh_passes count) }
+    ensures passes { IfOk result (λ parts. parts.passes.items ≡ fresh_passes (length places.now)) }
     ensures archive { IfOk result (λ parts. parts.archive ≡ []) }
+    ensures journal { IfOk result (λ parts. parts.journal ≡ []) }
+    ensures order { IfOk result (λ parts. parts.order ≡ []) }
 {
     let mut passes = Vec::new(alloc);
-    make_passes(&mut lanes, &mut passes, count)?;
+    let total = total_places(places, 16)?;
+    let order = PlacedOrder::new(alloc, order, total as usize)?;
+    make_passes(&mut lanes, &mut passes, places, places.len() as u32)?;
+    let Some(seat) = lanes.pop() else {
+        return Err(AllocError);
+    };
+    let journal = LockedJournal::new(seat);
     let Some(seat) = lanes.pop() else {
         return Err(AllocError);
     };
@@ -170,6 +212,8 @@ fn make_parts<N: Naming>(
     Ok(Parts {
         tables,
         archive,
+        journal,
+        order,
         passes,
     })
 }
@@ -192,29 +236,31 @@ fn both_passes<N: Marking + Serving>(
 }
 
 impl<D: Disk, N: Naming + Marking + Imaging + Serving> SharedDepot<D, N> {
-    /// Shares a depot in files among parties, up to 16, with the words that were made for them: those
-    /// of `Orders::new` with 12 lanes more than parties, and for the marks of each of the two disks with
-    /// one more. Where memory is wanting, the depot is given back as it was.
+    /// Shares a depot in files among parties, up to 16, each of which may have so many places, with the
+    /// words that were made for them: those of `Orders::new` with 13 lanes more than parties, and for the
+    /// marks of each of the two disks with one more. Where memory is wanting, the depot is given back as it
+    /// was.
     pub fn new(
         alloc: Global,
         words: (Orders<Taken>, OrderSeat<Taken>, Vec<LaneSeat<Taken>>),
         mark_words: (Orders<Mark>, OrderSeat<Mark>, Vec<LaneSeat<Mark>>),
         content_words: (Orders<Mark>, OrderSeat<Mark>, Vec<LaneSeat<Mark>>),
-        parties: u32,
+        places: &[u64],
         depot: SerialDepot<D>,
     ) -> Result<Shared<D, N>, SerialDepot<D>>
         requires run { words.0 ≡ N.run }
-        requires few { (parties ≤ 16) × (lane_count N.run ≡ 12 + parties) }
-        requires order { words.1 ≡ fresh_order N.run (12 + parties) }
-        requires seats { words.2.items ≡ fresh_lanes N.run (12 + parties) }
+        requires few { (length places.now ≤ 16) × (lane_count N.run ≡ 13 + length places.now) }
+        requires places { (party : ℕ) → N.places party ≡ places_in places.now party }
+        requires order { words.1 ≡ fresh_order N.run (13 + length places.now) }
+        requires seats { words.2.items ≡ fresh_lanes N.run (13 + length places.now) }
         requires marks { mark_words.0 ≡ N.marks }
-        requires mark_lanes { lane_count N.marks ≡ 1 + parties }
-        requires mark_order { mark_words.1 ≡ fresh_order N.marks (1 + parties) }
-        requires mark_seats { mark_words.2.items ≡ fresh_lanes N.marks (1 + parties) }
+        requires mark_lanes { lane_count N.marks ≡ 1 + length places.now }
+        requires mark_order { mark_words.1 ≡ fresh_order N.marks (1 + length places.now) }
+        requires mark_seats { mark_words.2.items ≡ fresh_lanes N.marks (1 + length places.now) }
         requires content_marks { content_words.0 ≡ N.content_marks }
-        requires content_lanes { lane_count N.content_marks ≡ 1 + parties }
-        requires content_order { content_words.1 ≡ fresh_order N.content_marks (1 + parties) }
-        requires content_seats { content_words.2.items ≡ fresh_lanes N.content_marks (1 + parties) }
+        requires content_lanes { lane_count N.content_marks ≡ 1 + length places.now }
+        requires content_order { content_words.1 ≡ fresh_order N.content_marks (1 + length places.now) }
+        requires content_seats { content_words.2.items ≡ fresh_lanes N.content_marks (1 + length places.now) }
         requires rows { (table : TableId) → rows_of depot.tables table ≡ N.rows table }
         requires end { depot.tables.archive_end ≡ N.end }
         requires images { (files : Files) → N.images files ↔ D.may_leave (archive_disk_of depot.archive) files }
@@ -222,23 +268,28 @@ impl<D: Disk, N: Naming + Marking + Imaging + Serving> SharedDepot<D, N> {
         requires begins { (since : ℕ) (start : List Deed) → N.begins since start → HasRun D.seen D.may_leave D.moment D.left_since depot since start [] }
         requires faults { N.faults ≡ D.faults (disk_of depot.journal) }
         requires content_faults { N.content_faults ≡ D.faults (archive_disk_of depot.archive) }
-        ensures passes { IfOk result (λ shared. shared.passes.items ≡ fresh_passes parties) }
-        ensures mark_passes { IfOk result (λ shared. shared.marks.items ≡ fresh_marks parties) }
+        ensures passes { IfOk result (λ shared. shared.passes.items ≡ fresh_passes (length places.now)) }
+        ensures mark_passes { IfOk result (λ shared. shared.marks.items ≡ fresh_marks (length places.now)) }
         ensures back { IfErr result (λ given. given ≡ depot) }
     {
         let (mark_orders, mark_order, mark_lanes) = mark_words;
         let (content_orders, content_order, content_lanes) = content_words;
+        let parties = places.len() as u32;
         let Ok(marks) = both_passes(alloc, mark_lanes, content_lanes, parties) else {
             return Err(depot);
         };
         let (orders, order, lanes) = words;
-        match make_parts(alloc, lanes, parties, &depot.tables) {
+        let Ok(shown) = share_tables(alloc, &depot.tables) else {
+            return Err(depot);
+        };
+        match make_parts(alloc, order, lanes, places, &depot.tables) {
             Err(_) => Err(depot),
             Ok(parts) => {
-                let order = PlacedOrder::new(alloc, order);
                 let Parts {
                     tables: locks,
-                    archive: lane,
+                    archive: archive_lane,
+                    journal: journal_lane,
+                    order,
                     passes,
                 } = parts;
                 let SerialDepot {
@@ -246,13 +297,20 @@ impl<D: Disk, N: Naming + Marking + Imaging + Serving> SharedDepot<D, N> {
                     journal,
                     archive,
                 } = depot;
-                let archive = StoredArchive::new(lane, archive, Marks::new(content_order));
-                let common = CommonDepot::new(order, tables, journal, Marks::new(mark_order));
+                let archive = StoredArchive::new(archive_lane, archive, Marks::new(content_order));
+                let common = CommonDepot::new(order, shown);
+                let journal = WrittenJournal::new(
+                    journal_lane,
+                    tables,
+                    journal,
+                    Marks::new(mark_order),
+                );
                 Ok(Shared {
                     depot: SharedDepot {
                         words: OrderWords::new(orders),
                         tables: locks,
                         archive: Mutex::new(archive),
+                        journal: Mutex::new(journal),
                         common: Mutex::new(common),
                         mark_words: MarkWords::new(mark_orders),
                         content_words: MarkWords::new(content_orders),

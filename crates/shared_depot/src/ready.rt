@@ -1,17 +1,35 @@
-//! A command whose commit is at hand.
+//! A command whose place is at hand.
 use crate::common::CommonDepot;
 use crate::room::Room;
 use crate::serving::Serving;
+use crate::stored_archive::StoredArchive;
+use crate::written_journal::WrittenJournal;
 use locked_tables::Naming;
 use outside_api::Disk;
 use party_marks::Marking;
 use serial_depot::{Imaging, Told};
 use std::sync::MutexGuard;
 
-/// What a command is answered and does, with the lock of the order and the room that is made under it.
+/// What a command is answered that writes nothing more, with the lock of the order, and that of the
+/// archive where a content couldn't be read.
 #[derive(Drop)]
-pub(crate) struct Ready<'a, D: Disk, N: Naming + Marking + Imaging + Serving> {
+pub(crate) struct Quiet<'a, D: Disk, N: Naming + Imaging + Serving> {
     pub(crate) common: MutexGuard<'a, CommonDepot<D, N>>,
+    pub(crate) archive: Option<MutexGuard<'a, StoredArchive<D, N>>>,
+    pub(crate) told: Told,
+}
+
+/// What a command is answered and does, with the lock of the journal and the room that is made under it.
+#[derive(Drop)]
+pub(crate) struct Writing<'a, D: Disk, N: Naming + Marking + Imaging + Serving> {
+    pub(crate) journal: MutexGuard<'a, WrittenJournal<D, N>>,
     pub(crate) room: Room<'a, D, N>,
     pub(crate) told: Told,
+}
+
+/// A command that can be given its place: at once, or once it is committed.
+#[derive(Drop)]
+pub(crate) enum Ready<'a, D: Disk, N: Naming + Marking + Imaging + Serving> {
+    Quiet(Quiet<'a, D, N>),
+    Writing(Writing<'a, D, N>),
 }

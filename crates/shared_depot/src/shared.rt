@@ -10,21 +10,23 @@ use crate::common::CommonDepot;
 use crate::of_archive::OfArchive;
 use crate::serving::Serving;
 use crate::stored_archive::StoredArchive;
+use crate::written_journal::WrittenJournal;
 use depot_rows::model::{Answer, Request};
 use locked_tables::{Naming, OrderWords, PartyPass, TableLocks};
 use outside_api::{Disk, Gate};
 use party_marks::{MarkWords, Marking};
-use replica_turns::{Answered, ReplicaParty, is_print};
+use replica_turns::{Answered, ReplicaParty, is_print, is_pull};
 use serial_depot::Imaging;
 use std::alloc::{AllocError, Global};
 use std::sync::{Mutex, Wait};
 
-/// A depot in files whose tables, and whose archive, lie behind locks of their own.
+/// A depot in files whose tables, archive, journal and order lie behind locks of their own.
 #[derive(Drop)]
 pub struct SharedDepot<D: Disk, N: Naming + Marking + Imaging + Serving> {
     pub(crate) words: OrderWords<N>,
     pub(crate) tables: TableLocks<N>,
     pub(crate) archive: Mutex<StoredArchive<D, N>>,
+    pub(crate) journal: Mutex<WrittenJournal<D, N>>,
     pub(crate) common: Mutex<CommonDepot<D, N>>,
     pub(crate) mark_words: MarkWords<N>,
     pub(crate) content_words: MarkWords<OfArchive<N>>,
@@ -34,7 +36,8 @@ impl<D: Disk, N: Naming + Marking + Imaging + Serving> SharedDepot<D, N> {
     /// Has the command of a party's request taken. It gets a place behind all that the party knew, and is
     /// answered as one thread would be that took the commands of all places before it; at a fault place
     /// the commit failed, or a content couldn't be read or stored, and the command did nothing. The one
-    /// error is want of memory, and then nothing is done. The command may be held back at the gate.
+    /// error is want of memory, and then nothing is done; it also stands for a party that has had as many
+    /// places as it may have. The command may be held back at the gate.
     pub fn take<R: Wait, G: Gate>(
         &self,
         rt: &R,
@@ -48,6 +51,10 @@ impl<D: Disk, N: Naming + Marking + Imaging + Serving> SharedDepot<D, N> {
         ensures taken { IfOk result (IsTakenAt N.begins pass.old pass.new request) }
         ensures nothing { OnErr result (pass.new ≡ pass.old) }
     {
+        if !pass.has_place_left() {
+            drop(request);
+            return Err(AllocError);
+        }
         let party = request.party;
         let number = request.number;
         match self.ready(rt, alloc, gate, &request) {
@@ -56,7 +63,7 @@ impl<D: Disk, N: Naming + Marking + Imaging + Serving> SharedDepot<D, N> {
                 Err(error)
             }
             Ok(ready) => {
-                let answer = ready.commit(&self.words, alloc, pass, request)?;
+                let answer = ready.take(rt, &self.words, &self.common, alloc, pass, request)?;
                 gate.answered(party, number);
                 Ok(answer)
             }
@@ -66,7 +73,7 @@ impl<D: Disk, N: Naming + Marking + Imaging + Serving> SharedDepot<D, N> {
     /// Answers the next command of a replica, which is one of the parties, over the depot in files as
     /// it is then. The party learns all places so far, of which it has none that it didn't know; it has
     /// one mark more where the answer tells that a disk failed. `pull` fetches of the journal under the
-    /// lock of the order, and `print` reads the archive under the archive's. The one error is want of
+    /// lock of the journal, and `print` reads the archive under the archive's. The one error is want of
     /// memory, or that there are 2^64 - 1 marks; the command counts as answered then too, and the replica
     /// is as it was.
     pub fn answer_replica<R: Wait>(
@@ -95,17 +102,22 @@ impl<D: Disk, N: Naming + Marking + Imaging + Serving> SharedDepot<D, N> {
                 replica,
                 &request,
             )
-        } else {
-            let mut common = self.common.lock(rt);
-            common.answer_replica(
+        } else if is_pull(&request) {
+            let mut journal = self.journal.lock(rt);
+            journal.answer_pull(
+                rt,
                 &self.words,
                 &self.mark_words,
+                &self.common,
                 alloc,
                 pass,
                 marks,
                 replica,
                 &request,
             )
+        } else {
+            let mut common = self.common.lock(rt);
+            common.answer_alone(&self.words, alloc, pass, replica, &request)
         };
         drop(request);
         answer

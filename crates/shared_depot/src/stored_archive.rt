@@ -36,14 +36,6 @@ fn either(before: bool, now: bool) -> bool
     before || now
 }
 
-/// Whether its disk failed for a command that still has no place, where one was given to a command that it
-/// failed for, or didn't.
-pub(crate) fn without(failed: bool, placed: bool) -> bool
-    ensures { result ≡ (failed && not placed) }
-{
-    failed && !placed
-}
-
 impl<D: Disk, N: Naming + Imaging + Serving> Model for StoredArchive<D, N> {
     ghost use Rattle.archive_file.specs.Archive.{disk_of};
     ghost use Rattle.shared_depot.specs.Common.{IsArchiveAfter, IsMarkCaused};

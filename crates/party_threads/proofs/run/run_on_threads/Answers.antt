@@ -1,7 +1,9 @@
-use Rattle.std.proofs.Common.{◌≡◌, ◌≤◌, ◌+◌, ℕ, true, [], length, map, Option, sym, ap, ◌∙◌, arith}
+use Rattle.std.proofs.Common.{◌≡◌, ◌≤◌, ◌+◌, ℕ, true, [], length, map, Option, Vec, Global, sym, ap, ◌∙◌, arith}
+use Rattle.std.proofs.lemmas.List.{length-map}
 use Rattle.std.proofs.lemmas.List.Elements.{All-from_recursion, recursion_from_All}
 use Rattle.std.proofs.lemmas.Result.{IfOk-weaker}
 use Rattle.archive_file.specs.Archive.{disk_of as archive_disk_of}
+use Rattle.depot_model.specs.declared.request.Request.{Request}
 use Rattle.depot_runs.specs.Run.{placed}
 use Rattle.disk_journal.specs.Stands.{disk_of}
 use Rattle.order_words.specs.Seats.{fresh_lanes, fresh_order}
@@ -28,17 +30,17 @@ run_named-requires-clause-few_parties g c = λ κs bounds.
 pub run_named-requires-clause-lanes : goal.run_named-requires-clause-lanes
 run_named-requires-clause-lanes g c = λ κs bounds.
     let count = as_many (g.C.Clock.may_give c.args.clock.now) c.args.sessions.items c.in-Ok.field-0.requests.items c.in-Ok.ensures.requests in
-    c.in-Ok.ensures.lanes ∙ ap (λ (n : ℕ). 12 + n) (sym count)
+    c.in-Ok.ensures.lanes ∙ ap (λ (n : ℕ). 13 + n) (sym count)
 
 pub run_named-requires-clause-order : goal.run_named-requires-clause-order
 run_named-requires-clause-order g c = λ κs bounds.
     let count = as_many (g.C.Clock.may_give c.args.clock.now) c.args.sessions.items c.in-Ok.field-0.requests.items c.in-Ok.ensures.requests in
-    c.in-Ok.ensures.order ∙ ap (λ (n : ℕ). fresh_order c.in-Ok.field-0.words.0 (12 + n)) (sym count)
+    c.in-Ok.ensures.order ∙ ap (λ (n : ℕ). fresh_order c.in-Ok.field-0.words.0 (13 + n)) (sym count)
 
 pub run_named-requires-clause-seats : goal.run_named-requires-clause-seats
 run_named-requires-clause-seats g c = λ κs bounds.
     let count = as_many (g.C.Clock.may_give c.args.clock.now) c.args.sessions.items c.in-Ok.field-0.requests.items c.in-Ok.ensures.requests in
-    c.in-Ok.ensures.seats ∙ ap (λ (n : ℕ). fresh_lanes c.in-Ok.field-0.words.0 (12 + n)) (sym count)
+    c.in-Ok.ensures.seats ∙ ap (λ (n : ℕ). fresh_lanes c.in-Ok.field-0.words.0 (13 + n)) (sym count)
 
 pub run_named-requires-clause-mark_lanes : goal.run_named-requires-clause-mark_lanes
 run_named-requires-clause-mark_lanes g c = λ κs bounds.
@@ -69,6 +71,10 @@ pub run_named-requires-clause-content_seats : goal.run_named-requires-clause-con
 run_named-requires-clause-content_seats g c = λ κs bounds.
     let count = as_many (g.C.Clock.may_give c.args.clock.now) c.args.sessions.items c.in-Ok.field-0.requests.items c.in-Ok.ensures.requests in
     c.in-Ok.ensures.content_seats ∙ ap (λ (n : ℕ). fresh_lanes c.in-Ok.field-0.content_words.0 (1 + n)) (sym count)
+
+pub run_named-requires-clause-as_many_places : goal.run_named-requires-clause-as_many_places
+run_named-requires-clause-as_many_places g c = λ κs bounds.
+    ap (length {A = ℕ}) c.in-Ok.ensures.places ∙ length-map c.in-Ok.field-0.requests.items (λ (own : Vec Request Global). length own.items)
 
 pub run_named-requires-clause-as_many : goal.run_named-requires-clause-as_many
 run_named-requires-clause-as_many g c = λ κs bounds.

@@ -5,12 +5,13 @@ use Rattle.depot_model.specs.declared.request.Request.{Request}
 use Rattle.disk_journal.specs.Stands.{disk_of}
 use Rattle.run_parties.specs.serial_depot.Running.{HasRun}
 use Rattle.session_loop.specs.Taking.{IsProper}
+use Rattle.shared_depot.specs.Sharing.{places_in}
 use Rattle.table_changes.specs.Changed.{rows_of}
 use Rattle.party_threads.proofs.run.run_on_threads.Given as goal
 
--- the words that were just made, and the tables and the archive as they are
+-- the words that were just made, the tables and the archive as they are, and as many places as requests
 abbrev pub ghosts-run_named-N-Naming : goal.ghosts-run_named-N-Naming
-ghosts-run_named-N-Naming g a = record { run = a.words.0; rows = rows_of a.depot.tables; end = a.depot.tables.archive_end }
+ghosts-run_named-N-Naming g a = record { run = a.words.0; rows = rows_of a.depot.tables; end = a.depot.tables.archive_end; places = places_in a.places.items }
 
 -- the words of the marks
 abbrev pub ghosts-run_named-N-Marking : goal.ghosts-run_named-N-Marking

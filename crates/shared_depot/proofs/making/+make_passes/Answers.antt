@@ -11,10 +11,10 @@ new-requires-clause-seat g t c =
     let run = g.N.Naming.run in
     let count = c.args.count in
     let some : 1 ≤ count = omega arith in
-    let next : count + 12 ≡ suc (count - 1 + 12) = omega arith in
-    let lane : count - 1 + 12 ≡ party_lane count = omega arith in
-    let is : c.args.lanes.now.items ≡ fresh_lanes run (suc (count - 1 + 12)) = c.requires.seats ∙ ap (λ (n : ℕ). fresh_lanes {E = Taken} run n) next in
-    (last_seat run c.args.lanes.now.items c.pop.new.self.items c.in-Some.seat c.in-Some.ensures.items (count - 1 + 12) is).1 ∙ ap (λ (n : ℕ). fresh_lane {E = Taken} run n) lane
+    let next : count + 13 ≡ suc (count - 1 + 13) = omega arith in
+    let lane : count - 1 + 13 ≡ party_lane count = omega arith in
+    let is : c.args.lanes.now.items ≡ fresh_lanes run (suc (count - 1 + 13)) = c.requires.seats ∙ ap (λ (n : ℕ). fresh_lanes {E = Taken} run n) next in
+    (last_seat run c.args.lanes.now.items c.pop.new.self.items c.in-Some.seat c.in-Some.ensures.items (count - 1 + 13) is).1 ∙ ap (λ (n : ℕ). fresh_lane {E = Taken} run n) lane
 
 pub returns-clause-passes : goal.returns-clause-passes
 returns-clause-passes g t c =

@@ -19,13 +19,13 @@ returns-clause-can g c =
     let D = g.D.Disk in
     let parts = c.self.inside in
     subst (λ (depot : SerialDepot g.row.D.Denot). CanTake D.may_leave depot) (sym c.new.ensures)
-    (closed_can D.seen D.may_leave D.moment D.left_since D.faults g.N.Naming.rows g.N.Naming.end g.N.Imaging.images g.N.Serving.begins g.N.Serving.faults g.N.Serving.content_faults parts.order.list false parts.tables parts.journal parts.archive c.self.invariant.0 c.self.invariant.1)
+    (closed_can D.seen D.may_leave D.moment D.left_since D.faults g.N.Naming.rows g.N.Naming.end g.N.Imaging.images g.N.Serving.begins g.N.Serving.faults g.N.Serving.content_faults parts.order false parts.tables parts.journal parts.archive c.self.invariant.0 c.self.invariant.1)
 
 pub returns-clause-ran : goal.returns-clause-ran
 returns-clause-ran g c = λ since start at.
     let D = g.D.Disk in
     let parts = c.self.inside in
-    let order = parts.order.list in
+    let order = parts.order in
     subst (λ (o : OpenedKnown). HasRun D.seen D.may_leave D.moment D.left_since c.new.result since start (map placed_of o.order)) c.self.view_is
     (subst (λ (depot : SerialDepot g.row.D.Denot). HasRun D.seen D.may_leave D.moment D.left_since depot since start (map placed_of order)) (sym c.new.ensures)
     (closed_run D.seen D.may_leave D.moment D.left_since D.faults g.N.Naming.rows g.N.Naming.end g.N.Imaging.images g.N.Serving.begins g.N.Serving.faults g.N.Serving.content_faults order false parts.tables parts.journal parts.archive c.self.invariant.0 c.self.invariant.1 since start at))
@@ -37,7 +37,7 @@ returns-clause-stored g c =
     let images = g.N.Imaging.images in
     let begins = g.N.Serving.begins in
     let parts = c.self.inside in
-    let order = parts.order.list in
+    let order = parts.order in
     subst (λ (o : OpenedKnown). HasAllStored D.seen D.may_leave D.moment D.left_since end images begins o.order c.new.result.archive) c.self.view_is
     (subst (λ (depot : SerialDepot g.row.D.Denot). HasAllStored D.seen D.may_leave D.moment D.left_since end images begins order depot.archive) (sym c.new.ensures)
     (closed_stored D.seen D.may_leave D.moment D.left_since D.faults g.N.Naming.rows end images begins g.N.Serving.faults g.N.Serving.content_faults order false parts.tables parts.journal parts.archive c.self.invariant.0 c.self.invariant.1))
@@ -46,7 +46,7 @@ pub returns-clause-faults : goal.returns-clause-faults
 returns-clause-faults g c =
     let D = g.D.Disk in
     let parts = c.self.inside in
-    let order = parts.order.list in
+    let order = parts.order in
     let before = g.N.Serving.faults in
     let contents_before = g.N.Serving.content_faults in
     let lost = c.self.invariant.1.caused in

@@ -1,8 +1,8 @@
-use Rattle.std.proofs.Common.{subst}
+use Rattle.std.proofs.Common.{List, subst}
 use Rattle.std.specs.Prelude.{IfSome}
 use Rattle.depot_rows.specs.depot_model.declared.request.Request.{Request}
-use Rattle.locked_tables.specs.Known.{OrderKnown}
 use Rattle.locked_tables.specs.Taken.{rows_after}
+use Rattle.locked_tables.specs.declared.taken.Taken.{Taken}
 use Rattle.depot_rows.specs.table_changes.Changed.{rows_of}
 use Rattle.table_locks.specs.Gathered.{Covers, HasSet}
 use Rattle.table_locks.specs.declared.confirmed.Confirmed.{Confirmed}
@@ -10,5 +10,5 @@ use Rattle.shared_depot.proofs.common.CommonDepot.confirm.Goals as goal
 
 pub returns-clause-set : goal.returns-clause-set
 returns-clause-set g c =
-    subst (λ (o : OrderKnown). IfSome c.confirm.result (λ (confirmed : Confirmed _). (request : Request) → Covers c.args.gathered request → HasSet (rows_after g.N.Naming.rows o.list) (rows_of confirmed.tables) request))
+    subst (λ (o : List Taken). IfSome c.confirm.result (λ (confirmed : Confirmed _). (request : Request) → Covers c.args.gathered request → HasSet (rows_after g.N.Naming.rows o) (rows_of confirmed.tables) request))
     c.self.view_is c.confirm.ensures.set

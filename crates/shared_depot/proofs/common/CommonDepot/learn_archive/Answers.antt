@@ -1,8 +1,7 @@
 use Rattle.std.proofs.Common.{◌≡◌, List, sym, ap, subst, ◌∙◌}
-use Rattle.locked_tables.specs.Known.{OrderKnown}
 use Rattle.locked_tables.specs.Taken.{end_after}
 use Rattle.locked_tables.specs.declared.taken.Taken.{Taken}
-use Rattle.shared_depot.specs.Common.{HasRunOrder, IsArchiveAfter}
+use Rattle.shared_depot.specs.Common.{IsArchiveAfter, KeepsOrder}
 use Rattle.shared_depot.specs.Stored.{ArchiveKnown, lost_count, stores_of}
 use Rattle.shared_depot.proofs.Order.{archive_learnt}
 use Rattle.shared_depot.proofs.Stored.{lost_kept, stores_kept}
@@ -11,15 +10,13 @@ use Rattle.shared_depot.proofs.common.CommonDepot.learn_archive.Goals as goal
 pub invariant_of-self : goal.invariant_of-self
 invariant_of-self g c =
     let D = g.D.Disk in
-    let same : c.learn_archive.new.self.list ≡ c.self.inside.order.list = ap (λ (o : OrderKnown). o.list) c.learn_archive.ensures.same in (
-      subst (λ (l : List Taken). HasRunOrder D.seen D.may_leave D.moment D.left_since D.faults g.N.Naming.rows g.N.Naming.end g.N.Imaging.images g.N.Serving.begins g.N.Serving.faults l c.self.inside.tables c.self.inside.journal) (sym same) c.self.invariant.0,
-      c.self.invariant.1,
-    )
+    subst (λ (l : List Taken). KeepsOrder D.seen D.may_leave D.moment D.left_since D.faults g.N.Naming.rows g.N.Naming.end g.N.Imaging.images g.N.Serving.begins g.N.Serving.faults l c.self.inside.tables)
+    (sym c.learn_archive.ensures.same) c.self.invariant
 
 pub invariant_of-archive : goal.invariant_of-archive
 invariant_of-archive g c =
     let D = g.D.Disk in
-    let order = c.self.inside.order.list in
+    let order = c.self.inside.order in
     let known : ArchiveKnown = record { list = c.archive.inside.lane; failed = c.archive.inside.failed } in
     let behind = c.learn_archive.ensures.behind in (
       subst (λ (l : List Taken). IsArchiveAfter D.seen D.may_leave D.moment D.left_since D.faults g.N.Naming.end g.N.Imaging.images g.N.Serving.begins g.N.Serving.content_faults (record { list = l; failed = known.failed }) c.archive.inside.archive)
@@ -31,22 +28,22 @@ invariant_of-archive g c =
 
 pub returns-clause-learnt : goal.returns-clause-learnt
 returns-clause-learnt g c = λ i. record {
-  list = (c.learn_archive.ensures.learnt ∙ ap (λ (o : OrderKnown). o.list) c.self.view_is) i;
+  list = (c.learn_archive.ensures.learnt ∙ c.self.view_is) i;
   failed = ap (λ (a : ArchiveKnown). a.failed) c.archive.view_is i;
 }
 
 pub returns-clause-end : goal.returns-clause-end
 returns-clause-end g c =
     let end = g.N.Naming.end in
-    subst (λ (a : ArchiveKnown). end_after end c.args.self.now.list ≡ end_after end a.list) c.archive.view_is
-    (subst (λ (o : OrderKnown). end_after end o.list ≡ end_after end c.archive.inside.lane) c.self.view_is c.learn_archive.ensures.still)
+    subst (λ (a : ArchiveKnown). end_after end c.args.self.now ≡ end_after end a.list) c.archive.view_is
+    (subst (λ (o : List Taken). end_after end o ≡ end_after end c.archive.inside.lane) c.self.view_is c.learn_archive.ensures.still)
 
 pub returns-clause-stores : goal.returns-clause-stores
 returns-clause-stores g c =
-    subst (λ (a : ArchiveKnown). stores_of c.args.self.now.list ≡ stores_of a.list) c.archive.view_is
-    (subst (λ (o : OrderKnown). stores_of o.list ≡ stores_of c.archive.inside.lane) c.self.view_is (stores_kept c.archive.inside.lane c.self.inside.order.list c.learn_archive.ensures.behind))
+    subst (λ (a : ArchiveKnown). stores_of c.args.self.now ≡ stores_of a.list) c.archive.view_is
+    (subst (λ (o : List Taken). stores_of o ≡ stores_of c.archive.inside.lane) c.self.view_is (stores_kept c.archive.inside.lane c.self.inside.order c.learn_archive.ensures.behind))
 
 pub returns-clause-lost : goal.returns-clause-lost
 returns-clause-lost g c =
-    subst (λ (a : ArchiveKnown). lost_count c.args.self.now.list ≡ lost_count a.list) c.archive.view_is
-    (subst (λ (o : OrderKnown). lost_count o.list ≡ lost_count c.archive.inside.lane) c.self.view_is (lost_kept c.archive.inside.lane c.self.inside.order.list c.learn_archive.ensures.behind))
+    subst (λ (a : ArchiveKnown). lost_count c.args.self.now ≡ lost_count a.list) c.archive.view_is
+    (subst (λ (o : List Taken). lost_count o ≡ lost_count c.archive.inside.lane) c.self.view_is (lost_kept c.archive.inside.lane c.self.inside.order c.learn_archive.ensures.behind))

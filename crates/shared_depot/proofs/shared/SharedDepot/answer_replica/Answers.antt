@@ -8,7 +8,7 @@ use Rattle.replica_turns.specs.declared.party.Answered.{Answered}
 use Rattle.replica_turns.specs.declared.party.ReplicaParty.{ReplicaParty}
 use Rattle.shared_depot.proofs.Turns.{turn_so}
 use Rattle.shared_depot.specs.Replicas.{IsReplicaTurn}
-use Rattle.shared_depot.proofs.shared.SharedDepot.answer_replica.Goals.{then-is_print, else-is_print}
+use Rattle.shared_depot.proofs.shared.SharedDepot.answer_replica.Goals.{then-is_print, else-is_print+then-is_pull, else-is_print+else-is_pull}
 use Rattle.shared_depot.proofs.shared.SharedDepot.answer_replica.Goals as goal
 
 -- the same turn, by what it left
@@ -40,8 +40,12 @@ returns-clause-turn g c =
           let new = w.answer_print-answer.new in
           turn_as Turn c.if-is_print.pass new.pass c.if-is_print.marks new.marks c.if-is_print.replica mid c.if-is_print.answer w.answer_print-answer.result w.pass-is w.marks-is w.replica-is w.answer-is
           (turn_so before mid mid request taken refl D.seen D.may_leave D.moment D.left_since end images begins old new.pass old_marks new.marks c.take_next.ensures.same w.answer_print-answer.result w.answer_print-answer.ensures.answer)
-      | else-is_print w ↦
-          let new = w.answer_replica-answer.new in
-          turn_as Turn c.if-is_print.pass new.pass c.if-is_print.marks new.marks c.if-is_print.replica new.replica c.if-is_print.answer w.answer_replica-answer.result w.pass-is w.marks-is w.replica-is w.answer-is
-          (turn_so before mid new.replica request taken w.answer_replica-answer.ensures.left D.seen D.may_leave D.moment D.left_since end images begins old new.pass old_marks new.marks c.take_next.ensures.same w.answer_replica-answer.result w.answer_replica-answer.ensures.answer)
+      | else-is_print+then-is_pull w ↦
+          let new = w.answer_pull.new in
+          turn_as Turn c.if-is_print.pass new.pass c.if-is_print.marks new.marks c.if-is_print.replica new.replica c.if-is_print.answer w.answer_pull.result w.pass-is w.marks-is w.replica-is w.answer-is
+          (turn_so before mid new.replica request taken w.answer_pull.ensures.left D.seen D.may_leave D.moment D.left_since end images begins old new.pass old_marks new.marks c.take_next.ensures.same w.answer_pull.result w.answer_pull.ensures.answer)
+      | else-is_print+else-is_pull w ↦
+          let new = w.answer_alone.new in
+          turn_as Turn c.if-is_print.pass new.pass c.if-is_print.marks old_marks c.if-is_print.replica mid c.if-is_print.answer w.answer_alone.result w.pass-is w.marks-is w.replica-is w.answer-is
+          (turn_so before mid mid request taken refl D.seen D.may_leave D.moment D.left_since end images begins old new.pass old_marks old_marks c.take_next.ensures.same w.answer_alone.result (w.answer_alone.ensures.answer old_marks))
     ]

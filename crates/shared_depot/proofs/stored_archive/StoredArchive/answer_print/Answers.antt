@@ -1,7 +1,7 @@
 use Rattle.std.proofs.Common.{◌≡◌, ◌||◌, ℕ, Bool, List, map, refl, sym, ap, subst, ◌∙◌}
 use mathlib.Core.List.{IsPrefix}
 use Rattle.archive_file.specs.Archive.{disk_of}
-use Rattle.locked_tables.specs.Known.{OrderKnown, PartyKnown}
+use Rattle.locked_tables.specs.Known.{PartyKnown}
 use Rattle.locked_tables.specs.Taken.{of_party, placed_of}
 use Rattle.locked_tables.specs.declared.taken.Taken.{Taken}
 use Rattle.party_marks.specs.Known.{PassKnown}
@@ -9,7 +9,7 @@ use Rattle.party_marks.specs.Marks.{has_marks}
 use Rattle.replica_turns.specs.Going.{is_lost}
 use Rattle.serial_depot.specs.Running.{HasRun}
 use Rattle.serial_depot.specs.declared.depot.SerialDepot.{SerialDepot}
-use Rattle.shared_depot.specs.Common.{HasRunOrder, IsArchiveAfter}
+use Rattle.shared_depot.specs.Common.{IsArchiveAfter, KeepsOrder}
 use Rattle.shared_depot.specs.Stored.{ArchiveKnown, lost_in}
 use Rattle.shared_depot.proofs.Marks.{lost_caused, mark_caused, marked_behind}
 use Rattle.shared_depot.proofs.Order.{archive_learnt, archive_read, depot_ran, has_all}
@@ -20,10 +20,8 @@ use Rattle.shared_depot.proofs.stored_archive.StoredArchive.answer_print.Goals a
 pub invariant_of-held : goal.invariant_of-held
 invariant_of-held g c =
     let D = g.D.Disk in
-    let same : c.tell.new.self.list ≡ c.held.inside.order.list = ap (λ (o : OrderKnown). o.list) c.tell.ensures.same ∙ ap (λ (o : OrderKnown). o.list) c.learn_archive.ensures.same in (
-      subst (λ (l : List Taken). HasRunOrder D.seen D.may_leave D.moment D.left_since D.faults g.N.Naming.rows g.N.Naming.end g.N.Imaging.images g.N.Serving.begins g.N.Serving.faults l c.held.inside.tables c.held.inside.journal) (sym same) c.held.invariant.0,
-      c.held.invariant.1,
-    )
+    let same = c.tell.ensures.same ∙ c.learn_archive.ensures.same in
+    subst (λ (l : List Taken). KeepsOrder D.seen D.may_leave D.moment D.left_since D.faults g.N.Naming.rows g.N.Naming.end g.N.Imaging.images g.N.Serving.begins g.N.Serving.faults l c.held.inside.tables) (sym same) c.held.invariant
 
 pub invariant_of-self : goal.invariant_of-self
 invariant_of-self g c =
@@ -33,7 +31,7 @@ invariant_of-self g c =
     let begins = g.N.Serving.begins in
     let contents_then = g.N.Serving.content_faults in
     let next = c.answer_print-answer.ensures in
-    let order = c.held.inside.order.list in
+    let order = c.held.inside.order in
     let old = c.self.inside.archive in
     let new = c.answer_print-answer.new.archive in
     let was = c.self.invariant.0 in
@@ -57,18 +55,18 @@ returns g c =
     let end = g.N.Naming.end in
     let images = g.N.Imaging.images in
     let begins = g.N.Serving.begins in
-    let order = c.held.inside.order.list in
-    let tables = c.held.inside.tables in
-    let journal = c.held.inside.journal in
+    let order = c.held.inside.order in
+    let run = c.held.invariant.run in
+    let tables = run.0 in
+    let journal = run.1.0 in
     let archive = c.self.inside.archive in
-    let was = c.held.invariant.0 in
+    let was = run.1.1 in
     let request = c.args.request.now in
     let replica = c.args.replica.now in
     let answer = c.answer_print-answer.result in
     let party = c.args.pass.now.party in
     let told = c.tell.ensures.told in
-    let same : c.learn_archive.new.self.list ≡ order = ap (λ (o : OrderKnown). o.list) c.learn_archive.ensures.same in
-    let known : c.tell.new.pass.list ≡ order = ap (λ (k : PartyKnown). k.list) told ∙ same in
+    let known : c.tell.new.pass.list ≡ order = ap (λ (k : PartyKnown). k.list) told ∙ c.learn_archive.ensures.same in
     let marks = c.marks.inside in
     let given = c.mark_lost.new.pass.list in
     let lost : Bool = is_lost c.mark_lost.result in

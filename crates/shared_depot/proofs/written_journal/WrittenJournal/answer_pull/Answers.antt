@@ -1,7 +1,7 @@
 use Rattle.std.proofs.Common.{◌≡◌, ◌++◌, ◌||◌, ℕ, Bool, List, map, refl, sym, ap, subst, ◌∙◌}
 use mathlib.Core.List.{IsPrefix}
 use Rattle.disk_journal.specs.Stands.{disk_of}
-use Rattle.locked_tables.specs.Known.{OrderKnown, PartyKnown}
+use Rattle.locked_tables.specs.Known.{PartyKnown}
 use Rattle.locked_tables.specs.Taken.{of_party, placed_of}
 use Rattle.locked_tables.specs.declared.taken.Taken.{Taken}
 use Rattle.party_marks.specs.Known.{PassKnown}
@@ -11,12 +11,19 @@ use Rattle.serial_depot.specs.Running.{HasRun}
 use Rattle.serial_depot.specs.Storing.{HasStored, stores_end}
 use Rattle.serial_depot.specs.declared.depot.SerialDepot.{SerialDepot}
 use Rattle.serial_depot.proofs.Moved.{over_fetched}
-use Rattle.shared_depot.specs.Common.{HasAllStored, HasRunOrder}
+use Rattle.shared_depot.specs.Common.{HasAllStored, HasRunOrder, KeepsOrder}
 use Rattle.shared_depot.specs.Stored.{stores_of}
+use Rattle.shared_depot.proofs.Committed.{run_on}
 use Rattle.shared_depot.proofs.Marks.{lost_caused, mark_caused, marked_before}
 use Rattle.shared_depot.proofs.Order.{depot_ran, run_fetched}
 use Rattle.shared_depot.proofs.Turns.{answered_so, told_on}
-use Rattle.shared_depot.proofs.common.CommonDepot.answer_replica.Goals as goal
+use Rattle.shared_depot.proofs.written_journal.WrittenJournal.answer_pull.Goals as goal
+
+pub invariant_of-held : goal.invariant_of-held
+invariant_of-held g c =
+    let D = g.D.Disk in
+    subst (λ (l : List Taken). KeepsOrder D.seen D.may_leave D.moment D.left_since D.faults g.N.Naming.rows g.N.Naming.end g.N.Imaging.images g.N.Serving.begins g.N.Serving.faults l c.held.inside.tables)
+    (sym c.tell.ensures.same) c.held.invariant
 
 pub invariant_of-self : goal.invariant_of-self
 invariant_of-self g c =
@@ -26,13 +33,12 @@ invariant_of-self g c =
     let images = g.N.Imaging.images in
     let begins = g.N.Serving.begins in
     let next = c.answer_by_journal-answer.ensures in
-    let order = c.self.inside.order.list in
+    let order = c.deref_mut-held.result.now in
     let tables = c.self.inside.tables in
     let old = c.self.inside.journal in
     let new = c.answer_by_journal-answer.new.journal in
-    let was = c.self.invariant.0 in
-    let same : c.tell.new.self.list ≡ order = ap (λ (o : OrderKnown). o.list) c.tell.ensures.same in (
-      subst (λ (l : List Taken). HasRunOrder D.seen D.may_leave D.moment D.left_since D.faults rows end images begins g.N.Serving.faults l tables new) (sym same)
+    let was = run_on D.seen D.may_leave D.moment D.left_since D.faults rows end images begins g.N.Serving.faults c.self.inside.lane order c.learn_journal.ensures.on tables old c.self.invariant.0 in (
+      subst (λ (l : List Taken). HasRunOrder D.seen D.may_leave D.moment D.left_since D.faults rows end images begins g.N.Serving.faults l tables new) (sym c.learn_journal.ensures.learnt)
           (run_fetched D.seen D.may_leave D.moment D.left_since D.faults rows end images begins g.N.Serving.faults order tables old new was
           (was.can.0, (was.can.1.0, next.fetched.stands was.can.0 was.can.1.0 was.can.1.1)) next.never_falls
           (λ since start places h. over_fetched D.seen D.may_leave D.moment D.left_since (HasStored images end (stores_of order)) (stores_end (stores_of order) end) tables old since start places h new next.fetched)),
@@ -50,16 +56,17 @@ returns-clause-answer g c =
     let end = g.N.Naming.end in
     let images = g.N.Imaging.images in
     let begins = g.N.Serving.begins in
-    let order = c.self.inside.order.list in
+    let order = c.deref_mut-held.result.now in
     let tables = c.self.inside.tables in
     let journal = c.self.inside.journal in
-    let was = c.self.invariant.0 in
+    let was = run_on D.seen D.may_leave D.moment D.left_since D.faults rows end images begins g.N.Serving.faults c.self.inside.lane order c.learn_journal.ensures.on tables journal c.self.invariant.0 in
     let request = c.args.request.now in
     let replica = c.args.replica.now in
     let replica' = c.answer_by_journal-answer.new.self in
     let answer = c.answer_by_journal-answer.result in
     let party = c.args.pass.now.party in
-    let known : c.tell.new.pass.list ≡ order = ap (λ (k : PartyKnown). k.list) c.tell.ensures.told in
+    let told : c.tell.new.pass.list ≡ c.held.inside.order = ap (λ (k : PartyKnown). k.list) c.tell.ensures.told in
+    let known : c.tell.new.pass.list ≡ order = told ∙ (c.held.view_is ∙ c.learn_journal.ensures.same) in
     let marks = c.marks.inside in
     let given = c.mark_lost.new.pass.list in
     let lost : Bool = is_lost c.mark_lost.result in
@@ -80,8 +87,8 @@ returns-clause-answer g c =
           );
       heard = record {
         party = ap (λ (k : PartyKnown). k.party) c.tell.ensures.told;
-        later = subst (IsPrefix c.args.pass.now.list) (sym known) c.tell.ensures.begins;
-        own = subst (λ (l : List Taken). of_party party l ≡ of_party party c.args.pass.now.list) (sym known) c.tell.ensures.own;
+        later = subst (IsPrefix c.args.pass.now.list) (sym told) c.tell.ensures.begins;
+        own = subst (λ (l : List Taken). of_party party l ≡ of_party party c.args.pass.now.list) (sym told) c.tell.ensures.own;
         marks_party = c.mark_lost.ensures.party ∙ ap (λ (k : PassKnown). k.party) c.marks.view_is;
         marked =
             ap (λ (p : ℕ). has_marks p (given ++ marks.archive.list)) c.mark_lost.ensures.party

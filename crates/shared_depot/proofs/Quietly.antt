@@ -1,0 +1,160 @@
+-- Places at which nothing is written leave the rows, the contents and the run of tables and a journal.
+use Rattle.std.proofs.Common.{◌≡◌, ℕ, Bool, true, false, cond, List, [], ◌∷◌, ◌++◌, map, refl, sym, ap, subst, ◌∙◌, append_assoc, append-nil, arith}
+use Rattle.std.specs.Prelude.{if◌then◌else◌}
+use Rattle.std.specs.List.{AllByRecursion}
+use mathlib.Core.List.{map-append}
+use Rattle.depot_rows.specs.db_records.Table.{table_number}
+use Rattle.depot_rows.specs.db_records.declared.change.Change.{Change}
+use Rattle.depot_rows.specs.db_records.declared.table.TableId.{TableId}
+use Rattle.depot_rows.specs.depot_model.Deeds.{Deed}
+use Rattle.depot_rows.specs.depot_model.Places.{Placed}
+use Rattle.depot_rows.specs.table_changes.Changed.{AllRows, changed_by, rows_of}
+use Rattle.depot_rows.specs.table_store.declared.tables.Tables.{Tables}
+use Rattle.disk_journal.specs.declared.journal.Journal.{Journal}
+use Rattle.locked_tables.specs.Known.{GoesOnWithout}
+use Rattle.locked_tables.specs.Taken.{archive_lane, end_after, journal_lane, placed_of, rows_after, rows_behind}
+use Rattle.locked_tables.specs.declared.taken.Taken.{Taken}
+use Rattle.locked_tables.proofs.Archive.{end_append}
+use Rattle.locked_tables.proofs.Rows.{after_append}
+use Rattle.order_words.specs.Lanes.{has_lane}
+use Rattle.outside_api.specs.Disk.{Files}
+use Rattle.serial_depot.specs.Committing.{AreChangesOf}
+use Rattle.serial_depot.specs.Placing.{HasRunBeside, LeavesRows}
+use Rattle.serial_depot.proofs.Steps.{over_faulted, over_idle}
+use Rattle.session_loop.specs.Taking.{placed_by}
+use Rattle.shared_depot.specs.Common.{AreQuiet, GoesOnQuietly, IsQuiet}
+use Rattle.shared_depot.specs.Stored.{is_unwritten, stores_of, unwritten_count}
+use Rattle.shared_depot.proofs.Stored.{count_append, count_first, stores_append}
+
+-- ---- orders one behind another
+
+pub rows_append : (rows : AllRows) (xs ys : List Taken) → rows_after rows (xs ++ ys) ≡ rows_after (rows_after rows xs) ys
+rows_append rows xs ys = λ k table. after_append table xs ys rows k table
+
+module _ (begins : ℕ → List Deed → Type 0) where
+  -- those behind an order are quiet where all are
+  pub quiet_behind : (rows : AllRows) (end : ℕ) (xs ys : List Taken) → AreQuiet begins rows end (xs ++ ys) → AreQuiet begins (rows_after rows xs) (end_after end xs) ys
+  quiet_behind rows end [] ys all = all
+  quiet_behind rows end (x ∷ xs) ys all = quiet_behind (rows_behind rows x) (if has_lane x.lanes archive_lane then x.end else end) xs ys all.1
+
+  -- one more
+  pub quiet_more : (rows : AllRows) (end : ℕ) (order : List Taken) (entry : Taken) → AreQuiet begins rows end order
+      → (has_lane entry.lanes journal_lane ≡ false → IsQuiet begins (rows_after rows order) (end_after end order) entry) → AreQuiet begins rows end (order ++ entry ∷ [])
+  quiet_more rows end [] entry all is = (is, tt)
+  quiet_more rows end (x ∷ xs) entry all is = (all.0, quiet_more (rows_behind rows x) (if has_lane x.lanes archive_lane then x.end else end) xs entry all.1 is)
+
+  -- ---- one place
+
+  either_rows : (b : Bool) (rows : AllRows) (table : TableId) → (if b then rows table else rows table) ≡ rows table
+  either_rows true rows table = refl
+  either_rows false rows table = refl
+
+  -- it leaves the rows
+  pub rows_left : (rows : AllRows) (entry : Taken) → entry.changes ≡ [] → rows_behind rows entry ≡ rows
+  rows_left rows entry none = λ k table. (ap (λ (l : List Change). if has_lane entry.lanes (table_number table) then changed_by rows l table else rows table) none ∙ either_rows (has_lane entry.lanes (table_number table)) rows table) k
+
+  -- the end of the archive
+  pub end_left : (rows : AllRows) (end : ℕ) (entry : Taken) → IsQuiet begins rows end entry → (if has_lane entry.lanes archive_lane then entry.end else end) ≡ end
+  end_left rows end entry is = go (has_lane entry.lanes archive_lane) refl
+    where
+      go : (b : Bool) → has_lane entry.lanes archive_lane ≡ b → (if b then entry.end else end) ≡ end
+      go true touches = (is.unstored touches).1
+      go false spares = refl
+
+  -- and the contents
+  pub stores_left : (rows : AllRows) (end : ℕ) (entry : Taken) → IsQuiet begins rows end entry → (if has_lane entry.lanes archive_lane then entry.stores else []) ≡ []
+  stores_left rows end entry is = go (has_lane entry.lanes archive_lane) refl
+    where
+      go : (b : Bool) → has_lane entry.lanes archive_lane ≡ b → (if b then entry.stores else []) ≡ []
+      go true touches = (is.unstored touches).0
+      go false spares = refl
+
+  -- ---- each of an order
+
+  module _ (rows : AllRows) (end : ℕ) where
+    abbrev AllQuiet : List Taken → Type 0
+    AllQuiet order = AllByRecursion (IsQuiet begins rows end) order
+
+    -- where none touches the journal's lane, each leaves the rows and the end for the next
+    pub all_quiet : (order : List Taken) → AreQuiet begins rows end order → AllByRecursion (λ (entry : Taken). has_lane entry.lanes journal_lane ≡ false) order → AllQuiet order
+    all_quiet [] all silent = tt
+    all_quiet (entry ∷ order) all silent =
+        let here : IsQuiet begins rows end entry = all.0 silent.0 in (
+          here,
+          all_quiet order
+              (subst (λ (n : ℕ). AreQuiet begins rows n order) (end_left rows end entry here)
+              (subst (λ (r : AllRows). AreQuiet begins r (if has_lane entry.lanes archive_lane then entry.end else end) order) (rows_left rows entry here.unchanged) all.1)) silent.1,
+        )
+
+    rows_stay : (order : List Taken) → AllQuiet order → rows_after rows order ≡ rows
+    rows_stay [] all = refl
+    rows_stay (entry ∷ order) all = ap (λ (r : AllRows). rows_after r order) (rows_left rows entry all.0.unchanged) ∙ rows_stay order all.1
+
+    end_stays : (order : List Taken) → AllQuiet order → end_after end order ≡ end
+    end_stays [] all = refl
+    end_stays (entry ∷ order) all = ap (λ (n : ℕ). end_after n order) (end_left rows end entry all.0) ∙ end_stays order all.1
+
+    none_stored : (order : List Taken) → AllQuiet order → stores_of order ≡ []
+    none_stored [] all = refl
+    none_stored (entry ∷ order) all = ap (λ (l : List (List ℕ)). l ++ stores_of order) (stores_left rows end entry all.0) ∙ none_stored order all.1
+
+    none_unwritten : (order : List Taken) → AllQuiet order → unwritten_count order ≡ 0
+    none_unwritten [] all = refl
+    none_unwritten (entry ∷ order) all =
+        let rest = none_unwritten order all.1 in
+        let first = count_first is_unwritten entry order in
+        let here = ap (λ (b : Bool). let n : ℕ = cond b 1 0 in n) all.0.written in
+        omega (arith, rest, first, here)
+
+    -- tables and a journal that have run some places have run these behind them
+    module _ {D : Type 0} (may_leave : D → Files → Type 0) (moment : D → ℕ) (left_since : D → ℕ → Files → Type 0) (images : Files → Type 0) (from : ℕ) (stores : List (List ℕ))
+        (tables : Tables) (journal : Journal D) (same : rows_of tables ≡ rows) (since : ℕ) (start : List Deed) (at : begins since start) where
+      abbrev Ran : List Placed → Type 0
+      Ran places = HasRunBeside may_leave moment left_since images from stores tables journal since start places
+
+      one_more : (places : List Placed) (entry : Taken) → IsQuiet begins rows end entry → Ran places → Ran (places ++ placed_of entry ∷ [])
+      one_more places entry is ran = go entry.fault refl
+        where
+          left : entry.fault ≡ false → AreChangesOf (rows_of tables) entry.request false []
+          left fine =
+              let leaves : LeavesRows (rows_of tables) entry.request = subst (λ (r : AllRows). LeavesRows r entry.request) (sym same) (is.leaves since start at fine) in
+              record { records = tt; stand = leaves; generation = λ d stand some. absurd (some refl) }
+
+          go : (fault : Bool) → entry.fault ≡ fault → Ran (places ++ placed_of entry ∷ [])
+          go true failed =
+              subst (λ (b : Bool). Ran (places ++ placed_by entry.request b ∷ [])) (sym failed)
+              (over_faulted may_leave moment left_since _ _ tables journal since start places entry.request ran)
+          go false fine =
+              subst (λ (b : Bool). Ran (places ++ placed_by entry.request b ∷ [])) (sym fine)
+              (over_idle may_leave moment left_since _ _ tables journal since start places entry.request ran false (left fine))
+
+      pub all_more : (order : List Taken) (places : List Placed) → AllQuiet order → Ran places → Ran (places ++ map placed_of order)
+      all_more [] places all ran = subst Ran (sym (append-nil places)) ran
+      all_more (entry ∷ order) places all ran =
+          subst Ran (append_assoc places (placed_of entry ∷ []) (map placed_of order)) (all_more order (places ++ placed_of entry ∷ []) all.1 (one_more places entry all.0 ran))
+
+-- ---- an order that goes on without touching the journal's lane
+
+module _ {D : Type 0} (may_leave : D → Files → Type 0) (moment : D → ℕ) (left_since : D → ℕ → Files → Type 0) (rows : AllRows) (end : ℕ) (images : Files → Type 0) (begins : ℕ → List Deed → Type 0) where
+  pub goes_on_quietly : (known order : List Taken) → AreQuiet begins rows end order → GoesOnWithout journal_lane known order → GoesOnQuietly may_leave moment left_since rows end images begins known order
+  goes_on_quietly known order all on =
+      let behind = on.behind in
+      let here : AllByRecursion (IsQuiet begins (rows_after rows known) (end_after end known)) behind =
+      all_quiet begins (rows_after rows known) (end_after end known) behind (quiet_behind begins rows end known behind (subst (AreQuiet begins rows end) on.parts all)) on.untouched in
+      record {
+        begins_it = (behind, sym on.parts);
+        rows_are = ap (rows_after rows) on.parts ∙ (rows_append rows known behind ∙ rows_stay begins (rows_after rows known) (end_after end known) behind here);
+        end_is = ap (end_after end) on.parts ∙ (end_append known behind end ∙ end_stays begins (rows_after rows known) (end_after end known) behind here);
+        stores =
+            ap stores_of on.parts
+            ∙ (stores_append known behind
+            ∙ (ap (λ (l : List (List ℕ)). stores_of known ++ l) (none_stored begins (rows_after rows known) (end_after end known) behind here)
+            ∙ append-nil (stores_of known)));
+        unwritten =
+            let parts = ap unwritten_count on.parts ∙ count_append is_unwritten known behind in
+            let none = none_unwritten begins (rows_after rows known) (end_after end known) behind here in
+            omega (arith, parts, none);
+        runs = λ tables journal same since start at ran.
+            subst (λ (l : List Placed). HasRunBeside may_leave moment left_since images end (stores_of known) tables journal since start l) (sym (ap (map placed_of) on.parts ∙ map-append placed_of known behind))
+            (all_more begins (rows_after rows known) (end_after end known) may_leave moment left_since images end (stores_of known) tables journal (λ k table. same table k) since start at behind (map placed_of known) here ran);
+      }

@@ -1,0 +1,35 @@
+use Rattle.std.proofs.Common.{◌≡◌, Option, List, sym, subst}
+use Rattle.std.specs.Prelude.{IfSome}
+use Rattle.std.specs.Sync.Mutex.{mutex_guard_value}
+use Rattle.locked_tables.specs.declared.taken.Taken.{Taken}
+use Rattle.table_locks.specs.Confirmed.{IsConfirmed}
+use Rattle.shared_depot.proofs.Outcomes.{due_after}
+use Rattle.shared_depot.specs.Room.{IsRoomFor, IsStillSo}
+use Rattle.shared_depot.specs.Stored.{stores_of}
+use Rattle.shared_depot.specs.declared.attempts.Settled.{Settled}
+use Rattle.shared_depot.proofs.shared.SharedDepot.writing_for.Goals as goal
+
+pub room_for-requires-clause-confirmed : goal.room_for-requires-clause-confirmed
+room_for-requires-clause-confirmed g c = (
+  c.args.gathered,
+  subst (λ (l : List Taken). IsConfirmed g.N.Naming.rows l c.args.gathered c.in-Ok-Some.settled.confirmed) (sym c.deref.ensures)
+      (subst (λ (o : Option (Settled _ _)). IfSome o (λ s. IsConfirmed g.N.Naming.rows c.settle_under.new.journal c.args.gathered s.confirmed)) c.in-Ok-Some.field-0-is c.in-Ok-Some.ensures.confirmed),
+)
+
+pub returns-in-Ok-clause-writing : goal.returns-in-Ok-clause-writing
+returns-in-Ok-clause-writing g c =
+    let rows = g.N.Naming.rows in
+    let end = g.N.Naming.end in
+    let gathered = c.args.gathered in
+    let was = c.args.archive in
+    let told = c.args.told in
+    let order = c.settle_under.new.journal in
+    let found = c.in-Ok-Some.ensures in
+    let is = c.in-Ok-Some.field-0-is in
+    record {
+      room = subst (λ (l : List Taken). IsRoomFor rows l told c.in-Ok.room) c.deref.ensures c.in-Ok.ensures;
+      read = c.requires.read;
+      due = due_after rows end g.N.Imaging.images g.N.Serving.begins order gathered c.args.whole c.args.needs.now c.args.request.now was told c.requires.gathered c.requires.needs c.requires.proper c.requires.found
+          (subst (λ (o : Option (Settled _ _)). IfSome o (λ s. IsStillSo rows end order gathered told.changes told.stores)) is found.still)
+          (subst (λ (o : Option (Settled _ _)). IfSome o (λ s. IfSome was (λ guard. stores_of order ≡ stores_of (mutex_guard_value guard).list))) is found.stores);
+    }
