@@ -13,7 +13,7 @@ use Rattle.depot_rows.specs.db_records.declared.record.Record.{Record}
 use Rattle.depot_rows.specs.db_records.declared.table.TableId.{TableId}
 use Rattle.depot_rows.specs.table_changes.Changed.{AllRows}
 use Rattle.depot_rows.specs.table_store.Rows.{AllAbove, AllOfTable, IsRising}
-use Rattle.depot_rows.proofs.table_store.Order.{AllAbove-append}
+use Rattle.row_order.proofs.Order.{AllAbove-append}
 use Rattle.checkpoint_file.specs.Tables.{AreTables}
 
 -- tables whose numbers rise from this one on

@@ -15,8 +15,7 @@ use Rattle.recovery.proofs.Fits.{changed_joined}
 use Rattle.recovery.specs.Holding.{rows_put}
 use Rattle.depot_rows.specs.table_changes.Changed.{AllRows, changed_by, changed_in, no_rows}
 use Rattle.depot_rows.specs.table_store.Rows.{AllOfTable, IsRising, changed_once}
-use Rattle.depot_rows.proofs.table_store.Order.{IsRising-left, before_row}
-use Rattle.depot_rows.proofs.table_store.Place.{row_behind}
+use Rattle.row_order.proofs.Order.{IsRising-left, before_row, row_behind}
 use Rattle.checkpoint_file.specs.Checkpoint.{put, puts, puts_in, puts_of}
 use Rattle.checkpoint_file.specs.Tables.{AreTables}
 use Rattle.checkpoint_file.proofs.OneAfterOther.{RiseFrom, all_rise}

@@ -20,7 +20,7 @@ use Rattle.depot_rows.specs.db_records.declared.record.Record.{Record}
 use Rattle.depot_rows.specs.db_records.declared.table.TableId.{TableId}
 use Rattle.depot_rows.specs.db_records.declared.table.TableId.TheVariants as tables
 use Rattle.depot_rows.specs.table_store.Rows.{AllAbove, AllOfTable, IsRising, TableRows, row_at}
-use Rattle.depot_rows.proofs.table_store.Order.{turned_less}
+use Rattle.row_order.proofs.Order.{turned_less}
 use Rattle.row_ranges.specs.Ranges.{has_row, is_in}
 use Rattle.row_ranges.specs.declared.range.KeyRange.TheVariants.{OpenedFiles}
 use Rattle.depot_rows.specs.depot_model.Deeds.{Deed, Opening}

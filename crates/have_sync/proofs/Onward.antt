@@ -11,7 +11,7 @@ use Rattle.depot_rows.specs.db_records.Record.{key_of}
 use Rattle.depot_rows.specs.db_records.declared.key.Key.{Key}
 use Rattle.depot_rows.specs.db_records.declared.record.Record.{Record}
 use Rattle.depot_rows.specs.table_store.Rows.{AllAbove, AllBelow, IsRising, is_below, row_at, rows_from}
-use Rattle.depot_rows.proofs.table_store.Order.{AllAbove-lower, AllAbove-tied, AllBelow-append, AllBelow-higher, AllBelow-tied, IsRising-left, IsRising-right, before_row, below_by_last, row_at-below, row_at-gap, row_at-here, rows_from-above}
+use Rattle.row_order.proofs.Order.{AllAbove-lower, AllAbove-tied, AllBelow-append, AllBelow-higher, AllBelow-tied, IsRising-left, IsRising-right, before_row, below_by_last, row_at-below, row_at-gap, row_at-here, rows_from-above}
 use Rattle.have_sync.specs.Places.{EndsWith, at_key, has_passed, is_next_below}
 
 -- a row more is passed

@@ -20,7 +20,7 @@ use Rattle.depot_rows.specs.db_records.declared.table.TableId.{TableId}
 use Rattle.depot_rows.specs.db_records.declared.table.TableId.TheVariants as tables
 use Rattle.depot_rows.specs.protect_table.Rights.{may}
 use Rattle.depot_rows.specs.table_store.Rows.{AllAbove, AllOfTable, IsRising, TableRows, is_at, row_at}
-use Rattle.depot_rows.proofs.table_store.Order.{AllAbove-lower, AllAbove-tied, turned_less}
+use Rattle.row_order.proofs.Order.{AllAbove-lower, AllAbove-tied, turned_less}
 use Rattle.row_ranges.specs.Ranges.{has_row}
 use Rattle.row_ranges.specs.declared.range.KeyRange.TheVariants.{Integrations}
 use Rattle.depot_rows.specs.depot_model.declared.reply.Row.{Row}

@@ -9,8 +9,7 @@ use Rattle.depot_rows.specs.db_records.declared.record.Record.{Record}
 use Rattle.depot_rows.specs.db_records.Key.{key_cmp}
 use Rattle.depot_rows.specs.db_records.Record.{key_of}
 use Rattle.depot_rows.specs.table_store.Rows.{AllBelow, IsRising}
-use Rattle.depot_rows.proofs.table_store.Order.{turned_less, AllAbove-append, before_row, IsRising-left}
-use Rattle.depot_rows.proofs.table_store.Place.{below_where_last_is}
+use Rattle.row_order.proofs.Order.{turned_less, AllAbove-append, before_row, IsRising-left, below_where_last_is}
 use Rattle.recovery.specs.Holding.{ArePuts, rows_put}
 
 rising_more : (rows : List Record) (row : Record) → IsRising rows → AllBelow (key_of row) rows → IsRising (rows ++ row ∷ [])

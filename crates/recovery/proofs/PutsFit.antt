@@ -12,8 +12,8 @@ use Rattle.depot_rows.specs.db_records.Key.{key_cmp}
 use Rattle.depot_rows.specs.db_records.Record.{key_of, table_of}
 use Rattle.depot_rows.specs.db_records.Table.{table_number}
 use Rattle.depot_rows.specs.table_store.Rows.{AllAbove, AllBelow, FitsAt, IsRising, changed_once, row_at}
-use Rattle.depot_rows.proofs.table_store.Order.{turned_greater, AllBelow-append, row_at-below}
-use Rattle.depot_rows.proofs.table_store.Place.{row_behind}
+use Rattle.depot_rows.proofs.table_store.Order.{turned_greater}
+use Rattle.row_order.proofs.Order.{AllBelow-append, row_at-below, row_behind}
 use Rattle.depot_rows.specs.table_changes.Changed.{AllRows, FitsIn, AllFitIn, changed_in, no_rows}
 use Rattle.recovery.specs.Holding.{ArePuts, rows_put}
 

@@ -16,7 +16,7 @@ use Rattle.depot_rows.specs.depot_path.Bytes.{same}
 use Rattle.depot_rows.specs.depot_path.Path.{path_of, printed}
 use Rattle.depot_rows.specs.depot_path.declared.fault.PathFault.{PathFault}
 use Rattle.depot_rows.specs.table_store.Rows.{IsRising, row_at, changed_once}
-use Rattle.depot_rows.proofs.table_store.Order.{changed_once_rises, before_row, IsRising-right, row_at-here}
+use Rattle.row_order.proofs.Order.{changed_once_rises, before_row, IsRising-right, row_at-here}
 use Rattle.depot_rows.specs.table_changes.Changed.{AllRows, changed_by, changed_in, no_rows}
 use Rattle.depot_rows.specs.depot_model.Deeds.{Deed, Action, Add, Edit, Delete, Branch, Integrate, MoveAdd, MoveDelete}
 use Rattle.depot_rows.specs.depot_model.Revisions.{Revision, revision, is_live_action}

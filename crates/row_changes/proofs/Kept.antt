@@ -20,7 +20,7 @@ use Rattle.depot_rows.specs.db_records.Table.{table_number}
 use Rattle.depot_rows.specs.db_records.KeyLaws.{keys_total}
 use Rattle.depot_rows.proofs.db_records.Order.{keys_equal}
 use Rattle.depot_rows.specs.table_store.Rows.{is_below, is_at, is_above, row_at, left_by, changed_once, FitsAt}
-use Rattle.depot_rows.proofs.table_store.Order.{turned_less}
+use Rattle.row_order.proofs.Order.{turned_less}
 use Rattle.depot_rows.specs.table_changes.Changed.{AllRows, changed_in, changed_by, AllFitIn}
 use Rattle.depot_rows.specs.depot_model.Records.{unplaced, is_at as at}
 use Rattle.depot_rows.specs.depot_model.Rules.{Rows}

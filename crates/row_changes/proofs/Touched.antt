@@ -13,7 +13,8 @@ use Rattle.std.proofs.lemmas.Bool.{true≢false}
 use Rattle.depot_rows.specs.db_records.declared.key.Key.{Key}
 use Rattle.depot_rows.specs.db_records.declared.record.Record.{Record}
 use Rattle.depot_rows.specs.db_records.Key.{key_cmp}
-use Rattle.depot_rows.proofs.table_store.Order.{turned_greater, turned_less}
+use Rattle.depot_rows.proofs.table_store.Order.{turned_greater}
+use Rattle.row_order.proofs.Order.{turned_less}
 use Rattle.row_ranges.specs.declared.range.KeyRange.{KeyRange}
 use Rattle.row_ranges.specs.Ranges.{is_in}
 use Rattle.row_ranges.specs.Walking.{first_key}

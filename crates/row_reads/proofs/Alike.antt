@@ -13,7 +13,7 @@ use Rattle.depot_rows.specs.db_records.Key.{key_cmp, key_table}
 use Rattle.depot_rows.specs.db_records.Record.{key_of, table_of}
 use Rattle.depot_rows.proofs.db_records.Order.{keys_equal}
 use Rattle.depot_rows.specs.table_store.Rows.{is_at, row_at, AllAbove, AllOfTable, IsRising}
-use Rattle.depot_rows.proofs.table_store.Order.{row_at-gap, AllAbove-lower, AllAbove-tied, turned_less}
+use Rattle.row_order.proofs.Order.{row_at-gap, AllAbove-lower, AllAbove-tied, turned_less}
 use Rattle.depot_rows.specs.depot_model.Records.{unplaced}
 use Rattle.depot_rows.specs.Standing.{unplaced_at}
 

@@ -22,7 +22,7 @@ use Rattle.depot_rows.specs.db_records.declared.table.TableId.{TableId}
 use Rattle.depot_rows.specs.db_records.declared.table.TableId.TheVariants as tables
 use Rattle.depot_rows.proofs.db_records.Order.{keys_equal}
 use Rattle.depot_rows.specs.table_store.Rows.{AllAbove, AllOfTable, IsRising, TableRows, row_at}
-use Rattle.depot_rows.proofs.table_store.Order.{AllAbove-lower, AllAbove-tied, turned_less}
+use Rattle.row_order.proofs.Order.{AllAbove-lower, AllAbove-tied, turned_less}
 use Rattle.depot_rows.specs.depot_model.Asking.{groups_of}
 use Rattle.depot_rows.specs.depot_model.Deeds as deeds
 use Rattle.depot_rows.specs.depot_model.Deeds.{Deed}

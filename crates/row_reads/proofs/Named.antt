@@ -15,7 +15,7 @@ use Rattle.depot_rows.specs.db_records.declared.key.Key.{Key}
 use Rattle.depot_rows.specs.db_records.declared.record.Record.{Record}
 use Rattle.depot_rows.specs.db_records.declared.table.TableId.{TableId}
 use Rattle.depot_rows.specs.table_store.Rows.{AllAbove, AllOfTable, IsRising, row_at}
-use Rattle.depot_rows.proofs.table_store.Order.{AllAbove-tied}
+use Rattle.row_order.proofs.Order.{AllAbove-tied}
 use Rattle.depot_rows.specs.depot_model.Sorted.{inserted}
 use Rattle.row_reads.proofs.Alike.{rows_alike, above_all, here, behind}
 use Rattle.row_reads.proofs.GroupsListed.{kept_rise, kept_of, kept_at, pass, same_text, same_self}

@@ -14,7 +14,7 @@ use Rattle.depot_rows.specs.db_records.Key.{key_cmp}
 use Rattle.depot_rows.specs.db_records.Record.{key_of, table_of}
 use Rattle.depot_rows.proofs.db_records.Order.{keys_equal}
 use Rattle.depot_rows.specs.table_store.Rows.{is_at, row_at, AllAbove, IsRising, AllOfTable}
-use Rattle.depot_rows.proofs.table_store.Order.{row_at-above}
+use Rattle.row_order.proofs.Order.{row_at-above}
 use Rattle.depot_rows.specs.depot_model.Records.{unplaced}
 use Rattle.row_rules.proofs.Deciding.{left, right}
 

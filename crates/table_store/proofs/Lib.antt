@@ -2,4 +2,4 @@ pub mod Order
 pub mod Place
 pub mod Nodes
 pub mod Changes
-pub mod Rising
+pub mod Marks

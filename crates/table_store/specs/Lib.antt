@@ -1,5 +1,7 @@
 pub mod Nodes
 pub mod Rows
+pub mod Places
+pub mod Marks
 pub mod SearchKey
 pub mod Parts
 pub mod Tables

@@ -3,11 +3,9 @@
 -- Which changes a table takes, and what each leaves, is this project's own choice: a Put adds a row, a
 -- Replace puts a row in the place of the one with its key, and a Remove takes one away as it is given.
 -- That no two rows of a table have one key is the database's (Helix Core database schema reference).
-use Rattle.std.specs.Prelude.{◌≡◌, ℕ, ◌+◌, ◌<◌, ◌≤◌, Bool, not, List, [], ◌∷◌, ◌++◌, length, take, drop, Option, Some, None, IsSome, slice_index_or}
+use Rattle.std.specs.Prelude.{◌≡◌, Bool, not, List, [], ◌∷◌, ◌++◌, Option, Some, None, IsSome}
 use Rattle.std.specs.List.{filter, find}
 use Rattle.std.specs.Ordering.{is_lt, is_eq, is_gt}
-use Rattle.std.specs.declared.cmp.Ordering.{Ordering}
-use Rattle.std.specs.declared.cmp.Ordering.TheVariants.{Less, Equal, Greater}
 use Rattle.db_records.specs.declared.key.Key.{Key}
 use Rattle.db_records.specs.declared.table.TableId.{TableId}
 use Rattle.db_records.specs.declared.record.Record.{Record}
@@ -16,6 +14,8 @@ use Rattle.db_records.specs.declared.change.Op.{Op}
 use Rattle.db_records.specs.declared.change.Op.TheVariants.{Put, Replace, Remove}
 use Rattle.db_records.specs.Key.{key_cmp}
 use Rattle.db_records.specs.Record.{key_of, table_of}
+use Rattle.table_store.specs.Places.{at_key, by_key, AllStandBelow, AllStandAbove, StandsRising}
+pub use Rattle.table_store.specs.Places.{left_by}
 
 -- where a row stands by a key
 abbrev pub is_below : Key → Record → Bool
@@ -28,17 +28,14 @@ abbrev pub is_above : Key → Record → Bool
 is_above key row = is_gt (key_cmp (key_of row) key)
 
 abbrev pub AllBelow : Key → List Record → Type 0
-AllBelow key [] = Unit {0}
-AllBelow key (row ∷ rows) = (key_cmp (key_of row) key ≡ Less) × AllBelow key rows
+AllBelow key rows = AllStandBelow by_key (at_key key) rows
 
 abbrev pub AllAbove : Key → List Record → Type 0
-AllAbove key [] = Unit {0}
-AllAbove key (row ∷ rows) = (key_cmp (key_of row) key ≡ Greater) × AllAbove key rows
+AllAbove key rows = AllStandAbove by_key (at_key key) rows
 
 -- the keys rise
 abbrev pub IsRising : List Record → Type 0
-IsRising [] = Unit {0}
-IsRising (row ∷ rows) = AllAbove (key_of row) rows × IsRising rows
+IsRising rows = StandsRising by_key rows
 
 -- all rows are of the table
 abbrev pub AllOfTable : TableId → List Record → Type 0
@@ -57,12 +54,6 @@ row_at key rows = find (is_at key) rows
 -- the rows from the first key at or above the key
 abbrev pub rows_from : Key → List Record → List Record
 rows_from key rows = filter (λ row. not (is_below key row)) rows
-
--- the row that a change leaves at its key
-abbrev pub left_by : Op → Record → List Record
-left_by Put row = row ∷ []
-left_by Replace row = row ∷ []
-left_by Remove row = []
 
 -- the rows after a change: those below its key, what it leaves there, and those above
 abbrev pub changed_once : List Record → Change → List Record
@@ -90,35 +81,3 @@ with_rows version rows = record { table = version.table; rows = rows }
 abbrev pub AllFit : TableRows → List Change → Type 0
 AllFit version [] = Unit {0}
 AllFit version (change ∷ changes) = Fits version change × AllFit (with_rows version (changed_once version.rows change)) changes
-
--- ---- pages
-
-pub record IsPage (rows : List Record) : Type 0 where
-  pub filled : 0 < length rows
-  pub short : length rows ≤ 64
-  pub rising : IsRising rows
-
--- the order of the first row's key and the key
-abbrev pub first_order : List Record → Key → Ordering
-first_order [] key = Less
-first_order (row ∷ rows) key = key_cmp (key_of row) key
-
--- the row at place i has the key
-pub record IsAt (key : Key) (rows : List Record) (i : ℕ) : Type 0 where
-  pub in_range : i < length rows
-  pub below : AllBelow key (take i rows)
-  pub same : (d : Record) → key_cmp (key_of (slice_index_or rows i d)) key ≡ Equal
-  pub above : AllAbove key (drop (i + 1) rows)
-
--- the key would go at place i
-pub record IsGap (key : Key) (rows : List Record) (i : ℕ) : Type 0 where
-  pub in_range : i ≤ length rows
-  pub below : AllBelow key (take i rows)
-  pub above : AllAbove key (drop i rows)
-
--- the first `before` rows are those below the key, and those from place `after` on are above it
-pub record IsCut (key : Key) (rows : List Record) (before after : ℕ) : Type 0 where
-  pub in_order : before ≤ after
-  pub in_range : after ≤ length rows
-  pub below : filter (is_below key) rows ≡ take before rows
-  pub above : filter (is_above key) rows ≡ drop after rows

@@ -1,9 +1,24 @@
-use Rattle.db_records.specs.declared.key.Key.{Key}
-use Rattle.db_records.specs.Record.{key_of}
+use Rattle.std.specs.Prelude.{Option, Some, None}
+use Rattle.std.specs.Option.{option_copied}
+use Rattle.db_records.specs.declared.record.Record.{Record}
+use Rattle.table_store.specs.Places.{Mark, OfChange, OfClient, OfUser, Place, at_key}
+use Rattle.table_store.specs.declared.search_key.MarkRef.{MarkRef}
+use Rattle.table_store.specs.declared.search_key.MarkRef.TheVariants as marks
 use Rattle.table_store.specs.declared.search_key.SearchKey.{SearchKey}
-use Rattle.table_store.specs.declared.search_key.SearchKey.TheVariants.{Given, OfRow}
+use Rattle.table_store.specs.declared.search_key.SearchKey.TheVariants.{Given, OfRow, Marked}
 
--- the key that is looked for
-abbrev pub sought_key : SearchKey → Key
-sought_key (Given key) = key.now
-sought_key (OfRow row) = key_of row.now
+-- the mark that is looked for
+abbrev pub sought_mark : MarkRef → Mark
+sought_mark (marks.Change change) = OfChange change
+sought_mark (marks.Client client) = OfClient client.now
+sought_mark (marks.User user) = OfUser user.now
+
+abbrev pub mark_found : Option MarkRef → Option Mark
+mark_found None = None
+mark_found (Some mark) = Some (sought_mark mark)
+
+-- the place that is looked for in an order
+abbrev pub sought_place : (Record → Place) → SearchKey → Place
+sought_place place (Given key) = at_key key.now
+sought_place place (OfRow row) = place row.now
+sought_place place (Marked mark key) = record { mark = Some (sought_mark mark); key = option_copied key }

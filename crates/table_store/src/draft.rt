@@ -1,46 +1,59 @@
 //! Drafts of a version.
 
-ghost use Rattle.std.specs.Prelude.{◌≡◌, IfOk, IsTrue, OnOk, OnErr, ◌↔◌};
+ghost use Rattle.std.specs.Prelude.{◌≡◌, ◌≢◌, List, IfOk, IsTrue, OnOk, OnErr, ◌↔◌};
 ghost use Rattle.std.specs.Option.{option_copied};
+ghost use Rattle.db_records.specs.declared.record.Record.{Record};
 ghost use Rattle.db_records.specs.declared.table.TableId.{TableId};
+ghost use Rattle.db_records.specs.declared.change.Op.TheVariants.{Remove};
 ghost use Rattle.table_store.specs.Rows.{AllOfTable, Fits, row_at, changed_once, with_rows};
+ghost use Rattle.table_store.specs.Marks.{AllHavePlaces};
 
-use crate::search_key::SearchKey;
-use crate::tree::Tree;
+use crate::row_order::{ByKey, ByMark};
+use crate::search_key::{MarkRef, SearchKey};
+use crate::shared_row::SharedRow;
+use crate::tree::{Tree, fits};
 use crate::version::Version;
-use db_records::{Change, Key, Record, TableId};
+use db_records::{Change, Key, Op, Record, TableId};
 use std::alloc::{AllocError, Global};
 use std::marker::Model;
 
 /// The rows of one table, changed one after another until they are a version.
 ///
 /// It is for who tests and makes many changes, each against the rows that those before it left. A
-/// change is made in place where its page isn't shared with a version. Else it copies the rows of that
-/// page, and where the branch is shared, the handles of its pages. Rows that come in the order of
+/// change is made in place where its page isn't shared with a version. Else it copies the handles of the
+/// rows of that page, and where the branch is shared, those of its pages. Rows that come in the order of
 /// their keys are put behind the others without a search.
 #[derive(Drop)]
 pub struct Draft {
     table: TableId,
-    tree: Tree,
+    tree: Tree<ByKey>,
+    /// The rows that have marks, as in [`Version`].
+    marked: Tree<ByMark>,
 }
 
 impl Model for Draft {
     ghost use Rattle.table_store.specs.Rows.{TableRows, AllOfTable};
+    ghost use Rattle.table_store.specs.Marks.{AllHavePlaces};
 
     ghost Value = { TableRows };
 
     ghost view = { λ a. record { table = a.table; rows = a.tree } };
 
-    ghost invariant = { λ a. AllOfTable a.table a.tree };
+    ghost invariant = { λ a. AllOfTable a.table a.tree × AllHavePlaces a.marked a.tree };
 }
 
 impl Draft {
-    /// The draft that has the rows of the tree.
-    pub(crate) fn of_tree(table: TableId, tree: Tree) -> Draft
-        requires { AllOfTable table tree }
+    /// The draft that has the rows of the first tree, and finds them by the second one.
+    pub(crate) fn of_trees(table: TableId, tree: Tree<ByKey>, marked: Tree<ByMark>) -> Draft
+        requires of_table { AllOfTable table tree }
+        requires places { AllHavePlaces marked tree }
         ensures { result ≡ record { table = table; rows = tree } }
     {
-        Draft { table, tree }
+        Draft {
+            table,
+            tree,
+            marked,
+        }
     }
 
     /// The table whose rows these are.
@@ -61,7 +74,7 @@ impl Draft {
     pub fn fits(&self, change: &Change) -> bool
         ensures { IsTrue result ↔ Fits self.now change.now }
     {
-        change.row.table() == self.table && self.tree.fits(change)
+        change.row.table() == self.table && fits(&self.tree, change)
     }
 
     /// Makes a change that fits. The one error is want of memory, and then the rows stay as they
@@ -71,13 +84,38 @@ impl Draft {
         ensures ok { OnOk result (self.new ≡ with_rows self.old (changed_once self.old.rows change.now)) }
         ensures err { OnErr result (self.new ≡ self.old) }
     {
-        self.tree.change(alloc, change)
+        let row = SharedRow::copy_of(alloc, &change.row)?;
+        if change.op != Op::Remove {
+            change_place(&mut self.marked, alloc, change.op, &row)?;
+            return self.tree.change(alloc, change.op, &row);
+        }
+        self.tree.change(alloc, Op::Remove, &row)?;
+        // Without memory for it the place stays: it costs a look-up, and finds nothing.
+        if let Err(_) = change_place(&mut self.marked, alloc, Op::Remove, &row) {}
+        Ok(())
     }
 
     /// The version with these rows. The one error is want of memory.
     pub fn finish(self, alloc: Global) -> Result<Version, AllocError>
         ensures { IfOk result (λ version. version ≡ self) }
     {
-        Version::of_tree(alloc, self.table, self.tree)
+        Version::of_trees(alloc, self.table, self.tree, self.marked)
+    }
+}
+
+/// Makes a change among the rows that have marks. A row without one is none of them.
+fn change_place(
+    marked: &mut Tree<ByMark>,
+    alloc: Global,
+    op: Op,
+    row: &SharedRow,
+) -> Result<(), AllocError>
+    ensures places { OnOk result ((rows : List Record) → AllHavePlaces marked.old rows → AllHavePlaces marked.new (changed_once rows (record { op = op; row = row.now }))) }
+    ensures more { OnOk result (op ≢ Remove → (rows : List Record) → AllHavePlaces marked.old rows → AllHavePlaces marked.new rows) }
+    ensures err { OnErr result (marked.new ≡ marked.old) }
+{
+    match MarkRef::of_row(row.row()) {
+        Some(_) => marked.change(alloc, op, row),
+        None => Ok(()),
     }
 }

@@ -3,19 +3,24 @@
 //!
 //! A [`Version`] holds the rows of one table in the order of their keys. A change makes a new
 //! version and leaves the old one as it is, so that who reads a version goes on reading it while
-//! the next one is made. [`Tables`] has a version of each table.
+//! the next one is made. The rows of a changelist, of a client and of a user are found without those of
+//! others. [`Tables`] has a version of each table.
 #![tactic(auto)]
 
 mod branch;
 mod draft;
+mod mark_walk;
 mod page;
+mod row_order;
 mod search_key;
+mod shared_row;
 mod tables;
 mod tree;
 mod version;
 mod walk;
 
 pub use draft::Draft;
+pub use mark_walk::MarkWalk;
 pub use tables::Tables;
 pub use version::Version;
 pub use walk::Walk;

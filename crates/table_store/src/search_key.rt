@@ -1,28 +1,111 @@
-//! Keys that are looked for.
+//! Keys and marks that are looked for.
 
-ghost use Rattle.std.specs.Prelude.{◌≡◌};
+ghost use Rattle.std.specs.Prelude.{◌≡◌, Some};
+ghost use Rattle.std.specs.Option.{option_cmp};
 ghost use Rattle.db_records.specs.Key.{key_cmp};
 ghost use Rattle.db_records.specs.Record.{key_of};
-ghost use Rattle.table_store.specs.SearchKey.{sought_key};
+ghost use Rattle.table_store.specs.Places.{mark_cmp};
+ghost use Rattle.table_store.specs.Marks.{by_mark, is_of, mark_of};
+ghost use Rattle.table_store.specs.SearchKey.{mark_found, sought_mark, sought_place};
 
+use db_records::paths::Text;
 use db_records::{Key, Record};
 use std::cmp::Ordering;
 
-/// A key that is looked for: given itself, or as the key of a row.
+/// What rows are looked for by beside their keys. A row has one mark at most.
 #[derive(Clone, Copy)]
-pub(crate) enum SearchKey<'a> {
+pub enum MarkRef<'a> {
+    /// A revision's changelist.
+    Change(u32),
+    /// The client of an opening.
+    Client(&'a Text),
+    /// A user of a group.
+    User(&'a Text),
+}
+
+/// What is looked for in an order of rows: a key, the place of a row, or a mark with a key from which
+/// on its rows are asked for.
+#[derive(Clone, Copy)]
+pub enum SearchKey<'a> {
     Given(&'a Key),
     OfRow(&'a Record),
+    Marked(MarkRef<'a>, Option<&'a Key>),
+}
+
+impl<'a> MarkRef<'a> {
+    /// The mark of a row, where it has one.
+    pub(crate) fn of_row(row: &'a Record) -> Option<MarkRef<'a>>
+        ensures { mark_found result ≡ mark_of row.now }
+    {
+        match row {
+            Record::Rev(row) => Some(MarkRef::Change(row.change)),
+            Record::Working(row) => Some(MarkRef::Client(&row.client)),
+            Record::Group(row) => Some(MarkRef::User(&row.user)),
+            _ => None,
+        }
+    }
+
+    /// Whether a row has the mark.
+    pub(crate) fn is_of(self, row: &Record) -> bool
+        ensures { result ≡ is_of (sought_mark self.entry) row.now }
+    {
+        match (self, row) {
+            (MarkRef::Change(change), Record::Rev(row)) => row.change == change,
+            (MarkRef::Client(client), Record::Working(row)) => row.client == *client,
+            (MarkRef::User(user), Record::Group(row)) => row.user == *user,
+            _ => false,
+        }
+    }
+
+    /// How the mark stands to another one: by kind, then by number or name.
+    fn compare(self, other: MarkRef<'_>) -> Ordering
+        ensures { result ≡ mark_cmp (sought_mark self.entry) (sought_mark other.entry) }
+    {
+        match (self, other) {
+            (MarkRef::Change(a), MarkRef::Change(b)) => a.cmp(&b),
+            (MarkRef::Change(_), _) => Ordering::Less,
+            (MarkRef::Client(_), MarkRef::Change(_)) => Ordering::Greater,
+            (MarkRef::Client(a), MarkRef::Client(b)) => a.cmp(b),
+            (MarkRef::Client(_), MarkRef::User(_)) => Ordering::Less,
+            (MarkRef::User(a), MarkRef::User(b)) => a.cmp(b),
+            (MarkRef::User(_), _) => Ordering::Greater,
+        }
+    }
 }
 
 impl<'a> SearchKey<'a> {
-    /// The order of a row's key and the key that is looked for.
-    pub(crate) fn order_of(self, row: &Record) -> Ordering
-        ensures { result ≡ key_cmp (key_of row.now) (sought_key self.entry) }
+    /// The mark that is looked for in the order of marks.
+    pub(crate) fn mark(self) -> Option<MarkRef<'a>>
+        ensures { mark_found result ≡ (sought_place by_mark self.entry).mark }
+    {
+        match self {
+            SearchKey::Given(_) => None,
+            SearchKey::OfRow(row) => MarkRef::of_row(row),
+            SearchKey::Marked(mark, _) => Some(mark),
+        }
+    }
+
+    /// The order of a row's key and the key that is looked for. Without one all rows are above.
+    pub(crate) fn order_of_key(self, row: &Record) -> Ordering
+        ensures { result ≡ option_cmp key_cmp (Some (key_of row.now)) (sought_place by_mark self.entry).key }
     {
         match self {
             SearchKey::Given(key) => row.compare_key(key),
             SearchKey::OfRow(other) => row.compare(other),
+            SearchKey::Marked(_, Some(key)) => row.compare_key(key),
+            SearchKey::Marked(_, None) => Ordering::Greater,
         }
+    }
+}
+
+/// How marks stand to each other. No mark is before all others.
+pub(crate) fn compare_marks(a: Option<MarkRef<'_>>, b: Option<MarkRef<'_>>) -> Ordering
+    ensures { result ≡ option_cmp mark_cmp (mark_found a.entry) (mark_found b.entry) }
+{
+    match (a, b) {
+        (None, None) => Ordering::Equal,
+        (None, Some(_)) => Ordering::Less,
+        (Some(_), None) => Ordering::Greater,
+        (Some(a), Some(b)) => a.compare(b),
     }
 }

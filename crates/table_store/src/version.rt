@@ -1,40 +1,56 @@
 //! Versions of a table.
 
-ghost use Rattle.std.specs.Prelude.{◌≡◌, [], ◌↔◌, IfOk, IfSome, IsSome, IsTrue};
+ghost use Rattle.std.specs.Prelude.{◌≡◌, [], ◌↔◌, IfOk, IsTrue, filter};
 ghost use Rattle.std.specs.Option.{option_copied};
 ghost use Rattle.db_records.specs.declared.table.TableId.{TableId};
 ghost use Rattle.table_store.specs.Rows.{AllFit, AllOfTable, Fits, IsRising, row_at, rows_from, changed, with_rows};
+ghost use Rattle.table_store.specs.Marks.{AllHavePlaces, is_of_change, is_of_client, is_of_user};
 
 use crate::draft::Draft;
-use crate::search_key::SearchKey;
-use crate::tree::Tree;
+use crate::mark_walk::MarkWalk;
+use crate::row_order::{ByKey, ByMark};
+use crate::search_key::{MarkRef, SearchKey};
+use crate::tree::{Tree, fits};
 use crate::walk::Walk;
+use db_records::paths::Text;
 use db_records::{Change, Key, Record, TableId};
 use std::alloc::{AllocError, Global};
 use std::marker::Model;
 use std::sync::Arc;
 
 /// The rows of one table, in the order of their keys. It never changes.
+///
+/// Rows that have a mark (a revision its changelist, an opening its client, a user of a group the user)
+/// stand a second time in the order of marks, so that those of one mark are found at the cost of what
+/// is given.
 pub struct Version {
     table: TableId,
-    tree: Arc<Tree, Global>,
+    tree: Arc<Tree<ByKey>, Global>,
+    /// The rows that have marks. There may be others too, that are gone: each look-up by a mark asks
+    /// the rows by key for what is there now.
+    marked: Arc<Tree<ByMark>, Global>,
 }
 
 impl Drop for Version {
     fn drop(self) {
-        let Version { table: _, tree: _ } = self;
+        let Version {
+            table: _,
+            tree: _,
+            marked: _,
+        } = self;
     }
 }
 
 impl Model for Version {
     ghost use Rattle.std.specs.Arc.{arc_value};
     ghost use Rattle.table_store.specs.Rows.{TableRows, AllOfTable};
+    ghost use Rattle.table_store.specs.Marks.{AllHavePlaces};
 
     ghost Value = { TableRows };
 
     ghost view = { λ a. record { table = a.table; rows = arc_value a.tree } };
 
-    ghost invariant = { λ a. AllOfTable a.table (arc_value a.tree) };
+    ghost invariant = { λ a. AllOfTable a.table (arc_value a.tree) × AllHavePlaces (arc_value a.marked) (arc_value a.tree) };
 }
 
 impl Version {
@@ -42,34 +58,24 @@ impl Version {
     pub fn empty(alloc: Global, table: TableId) -> Result<Version, AllocError>
         ensures { IfOk result (λ version. version ≡ record { table = table; rows = [] }) }
     {
-        Version::of_tree(alloc, table, Tree::empty(alloc))
+        Version::of_trees(alloc, table, Tree::empty(alloc), Tree::empty(alloc))
     }
 
-    /// The version of these rows, or None exactly where one of them isn't of the table or their keys
-    /// don't rise. The one error is want of memory.
-    pub fn from_rows(
+    /// The version that has the rows of the first tree, and finds them by the second one.
+    pub(crate) fn of_trees(
         alloc: Global,
         table: TableId,
-        rows: Vec<Record>,
-    ) -> Result<Option<Version>, AllocError>
-        ensures rows { IfOk result (λ found. IfSome found (λ version. version ≡ record { table = table; rows = rows.items })) }
-        ensures exactly { IfOk result (λ found. IsSome found ↔ (AllOfTable table rows.items × IsRising rows.items)) }
-    {
-        if !are_of_table(table, &rows) || !are_rising(&rows) {
-            return Ok(None);
-        }
-        let tree = Tree::of_rows(alloc, rows)?;
-        Ok(Some(Version::of_tree(alloc, table, tree)?))
-    }
-
-    /// The version that has the rows of the tree.
-    pub(crate) fn of_tree(alloc: Global, table: TableId, tree: Tree) -> Result<Version, AllocError>
-        requires { AllOfTable table tree }
+        tree: Tree<ByKey>,
+        marked: Tree<ByMark>,
+    ) -> Result<Version, AllocError>
+        requires of_table { AllOfTable table tree }
+        requires places { AllHavePlaces marked tree }
         ensures { IfOk result (λ version. version ≡ record { table = table; rows = tree }) }
     {
         Ok(Version {
             table,
             tree: Arc::new(alloc, tree)?,
+            marked: Arc::new(alloc, marked)?,
         })
     }
 
@@ -104,6 +110,37 @@ impl Version {
         self.tree.walk_from(SearchKey::Given(key))
     }
 
+    /// The revisions that a changelist made, in the order of their keys. In another table than db.rev
+    /// there are none.
+    pub fn of_change(&self, change: u32) -> MarkWalk<'_>
+        ensures { result ≡ filter (is_of_change change) self.now.rows }
+    {
+        MarkWalk::new(&self.tree, &self.marked, MarkRef::Change(change), None)
+    }
+
+    /// The openings of a client, in the order of their keys. In another table than db.working there
+    /// are none.
+    pub fn of_client<'a>(&'a self, client: &'a Text) -> MarkWalk<'a>
+        ensures { result ≡ filter (is_of_client client.now) self.now.rows }
+    {
+        MarkWalk::new(&self.tree, &self.marked, MarkRef::Client(client), None)
+    }
+
+    /// The openings of a client from the first key at or above the key, in the order of their keys.
+    pub fn of_client_from<'a>(&'a self, client: &'a Text, key: &Key) -> MarkWalk<'a>
+        ensures { result ≡ filter (is_of_client client.now) (rows_from key.now self.now.rows) }
+    {
+        MarkWalk::new(&self.tree, &self.marked, MarkRef::Client(client), Some(key))
+    }
+
+    /// The places of a user in groups, in the order of their keys. In another table than db.group there
+    /// are none.
+    pub fn of_user<'a>(&'a self, user: &'a Text) -> MarkWalk<'a>
+        ensures { result ≡ filter (is_of_user user.now) self.now.rows }
+    {
+        MarkWalk::new(&self.tree, &self.marked, MarkRef::User(user), None)
+    }
+
     /// The same rows, shared. The one error is that there are too many shares.
     pub fn share(&self) -> Result<Version, AllocError>
         ensures { IfOk result (λ version. version ≡ self.now) }
@@ -111,6 +148,7 @@ impl Version {
         Ok(Version {
             table: self.table,
             tree: Arc::try_clone(&self.tree)?,
+            marked: Arc::try_clone(&self.marked)?,
         })
     }
 
@@ -119,7 +157,7 @@ impl Version {
     pub fn fits(&self, change: &Change) -> bool
         ensures { IsTrue result ↔ Fits self.now change.now }
     {
-        change.row.table() == self.table && self.tree.fits(change)
+        change.row.table() == self.table && fits(&self.tree, change)
     }
 
     /// The version after the changes, each of which fits after those before it. The two share all
@@ -139,25 +177,8 @@ impl Version {
     pub fn draft(&self, alloc: Global) -> Result<Draft, AllocError>
         ensures { IfOk result (λ draft. draft ≡ self.now) }
     {
-        Ok(Draft::of_tree(self.table, self.tree.share(alloc)?))
+        let tree = self.tree.share(alloc)?;
+        let marked = self.marked.share(alloc)?;
+        Ok(Draft::of_trees(self.table, tree, marked))
     }
-}
-
-/// Whether all rows are of the table.
-fn are_of_table(table: TableId, rows: &[Record]) -> bool
-    ensures { IsTrue result ↔ AllOfTable table rows.now }
-{
-    for row in rows {
-        if row.table() != table {
-            return false;
-        }
-    }
-    true
-}
-
-/// Whether the keys of the rows rise.
-fn are_rising(rows: &[Record]) -> bool
-    ensures { IsTrue result ↔ IsRising rows.now }
-{
-    rows.is_sorted_by(|low, high| low.compare(high).is_lt())
 }

@@ -6,21 +6,23 @@ ghost use Rattle.table_store.specs.Nodes.{rows_of, AllFilled};
 
 use crate::branch::Branch;
 use crate::page::Page;
+use crate::row_order::{ByKey, RowOrder};
+use crate::shared_row::SharedRow;
 use db_records::Record;
 use std::alloc::Global;
 use std::marker::Model;
 use std::slice;
 use std::sync::Arc;
 
-/// The rows of a version from a place on, in key order.
+/// The rows of a version from a place on, in an order, which is that of keys where none is named.
 #[derive(Drop)]
-pub struct Walk<'a> {
-    rows: slice::Iter<'a, Record>,
-    pages: slice::Iter<'a, Arc<Page, Global>>,
-    branches: slice::Iter<'a, Arc<Branch, Global>>,
+pub struct Walk<'a, O: RowOrder = ByKey> {
+    rows: slice::Iter<'a, SharedRow>,
+    pages: slice::Iter<'a, Arc<Page<O>, Global>>,
+    branches: slice::Iter<'a, Arc<Branch<O>, Global>>,
 }
 
-impl<'a> Model for Walk<'a> {
+impl<'a, O: RowOrder> Model for Walk<'a, O> {
     ghost use Rattle.std.specs.Prelude.{List, ◌++◌};
     ghost use Rattle.std.specs.Slice.Iter.{iter_rest};
     ghost use Rattle.db_records.specs.declared.record.Record.{Record};
@@ -33,13 +35,13 @@ impl<'a> Model for Walk<'a> {
     ghost invariant = { λ a. AllFilled (iter_rest a.pages) × AllFilled (iter_rest a.branches) };
 }
 
-impl<'a> Walk<'a> {
+impl<'a, O: RowOrder> Walk<'a, O> {
     /// These rows, then those of the pages, and then those of the branches.
     pub(crate) fn new(
-        rows: &'a [Record],
-        pages: &'a [Arc<Page, Global>],
-        branches: &'a [Arc<Branch, Global>],
-    ) -> Walk<'a>
+        rows: &'a [SharedRow],
+        pages: &'a [Arc<Page<O>, Global>],
+        branches: &'a [Arc<Branch<O>, Global>],
+    ) -> Walk<'a, O>
         requires pages { AllFilled pages.now }
         requires branches { AllFilled branches.now }
         ensures { result ≡ rows.now ++ (rows_of pages.now ++ rows_of branches.now) }
@@ -52,7 +54,7 @@ impl<'a> Walk<'a> {
     }
 }
 
-impl<'a> Iterator for Walk<'a> {
+impl<'a, O: RowOrder> Iterator for Walk<'a, O> {
     type Item = &'a Record;
 
     ghost next_gives = { YieldsFirstRef (λ s. s) };
@@ -61,15 +63,15 @@ impl<'a> Iterator for Walk<'a> {
 
     fn next(&mut self) -> Option<&'a Record> {
         if let Some(row) = self.rows.next() {
-            return Some(row);
+            return Some(row.row());
         }
         if let Some(page) = self.pages.next() {
             self.rows = page.rows().iter();
-            return self.rows.next();
+            return Some(self.rows.next()?.row());
         }
         let (first, pages) = self.branches.next()?.list().split_first()?;
         self.rows = first.rows().iter();
         self.pages = pages.iter();
-        self.rows.next()
+        Some(self.rows.next()?.row())
     }
 }

@@ -1,12 +1,12 @@
 use Rattle.std.proofs.Common.{rules}
 use Rattle.std.proofs.lemmas.Fn.{always_returns_same}
-use Rattle.table_store.specs.SearchKey.{sought_key}
+use Rattle.table_store.specs.SearchKey.{sought_place}
 use Rattle.table_store.proofs.Nodes.{begins, nodes_parted, node_count}
 use Rattle.table_store.proofs.branch.pages_up_to.Goals as goal
 
 -- the closure tells whether a page begins at or below the key
 pub returns : goal.returns
-returns c =
+returns g c =
     let facts = c.partition_point.ensures in
-    let key = sought_key c.args.sought in
-    node_count key _ _ c.requires facts.bound (facts.partitioned (begins key) (always_returns_same _ _ _ (λ a r g called. search rules)) (nodes_parted key _ c.requires))
+    let key = sought_place g.O.RowOrder.place c.args.sought in
+    node_count g.O.RowOrder.place key _ _ c.requires facts.bound (facts.partitioned (begins g.O.RowOrder.place key) (always_returns_same _ _ _ (λ a r g called. search rules)) (nodes_parted g.O.RowOrder.place key _ c.requires))

@@ -3,17 +3,13 @@ use Rattle.std.specs.Arc.{arc_value}
 use Rattle.table_store.proofs.Nodes.{rows_of_push, filled_push}
 use Rattle.table_store.proofs.branch.push_page.Goals as goal
 
--- the page has the copy of the row alone
-one_row : (c : goal.In_ok-push-2) → arc_value c.in_ok-new.field-0 ≡ c.args.row.now ∷ []
-one_row c =
-    c.in_ok-new.ensures.ok
-    ∙ c.from_rows.ensures
-    ∙ c.in_ok-push.ensures.items
-    ∙ ap (λ rows. rows ++ c.in_ok-copy.field-0 ∷ []) c.new-rows.ensures.items
-    ∙ ap (λ row. row ∷ []) c.in_ok-copy.ensures
-
+-- the page has the row alone
 pub returns-clause-ok : goal.returns-clause-ok
-returns-clause-ok c = rw c.in_ok-push-2.ensures.items (rows_of_push c.args.list.now.items c.in_ok-new.field-0 c.args.row.now (one_row c))
+returns-clause-ok g c =
+    let one : arc_value c.in_ok-new.field-0 ≡ c.args.row.now ∷ [] = c.in_ok-new.ensures.ok ∙ c.from_rows.ensures ∙ c.in_ok-push.ensures.items ∙ ap (λ rows. rows ++ c.in_ok-share.field-0 ∷ []) c.new-rows.ensures.items ∙ ap (λ row. row ∷ []) c.in_ok-share.ensures in
+    rw c.in_ok-push-2.ensures.items (rows_of_push c.args.list.now.items c.in_ok-new.field-0 c.args.row.now one)
 
 pub returns-clause-filled : goal.returns-clause-filled
-returns-clause-filled c = rw c.in_ok-push-2.ensures.items (filled_push c.args.list.now.items c.in_ok-new.field-0 c.args.row.now (one_row c))
+returns-clause-filled g c =
+    let one : arc_value c.in_ok-new.field-0 ≡ c.args.row.now ∷ [] = c.in_ok-new.ensures.ok ∙ c.from_rows.ensures ∙ c.in_ok-push.ensures.items ∙ ap (λ rows. rows ++ c.in_ok-share.field-0 ∷ []) c.new-rows.ensures.items ∙ ap (λ row. row ∷ []) c.in_ok-share.ensures in
+    rw c.in_ok-push-2.ensures.items (filled_push c.args.list.now.items c.in_ok-new.field-0 c.args.row.now one)

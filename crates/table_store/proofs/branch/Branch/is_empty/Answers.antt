@@ -4,4 +4,4 @@ use Rattle.table_store.proofs.Nodes.{rows_of-none, rows_of-some}
 use Rattle.table_store.proofs.branch.Branch.is_empty.Goals as goal
 
 pub returns : goal.returns
-returns c = rw (← c.self.view_is) (grind (arith, common_steps, rows_of-none c.self.inside.list.items, rows_of-some c.self.inside.list.items c.self.invariant.filled))
+returns g c = rw (← c.self.view_is) (grind (arith, common_steps, rows_of-none c.self.inside.list.items, rows_of-some c.self.inside.list.items c.self.invariant.filled))

@@ -3,7 +3,7 @@ use Rattle.table_store.proofs.Nodes.{rows_of-more, AllFilled-more}
 use Rattle.table_store.proofs.branch.Branch.share.Goals as goal
 
 pub loop-page-preserved : goal.loop-page-preserved
-loop-page-preserved c =
+loop-page-preserved g c =
     let all : AllFilled c.deref-page-items.result.now = rw c.deref-page-items.ensures.value c.self.invariant.filled in
     let shared = c.in_ok-try_clone.ensures in
     rw c.in_ok-push.ensures.items record {

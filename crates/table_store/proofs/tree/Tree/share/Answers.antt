@@ -3,7 +3,7 @@ use Rattle.table_store.proofs.Nodes.{rows_of-more, AllFilled-more}
 use Rattle.table_store.proofs.tree.Tree.share.Goals as goal
 
 pub loop-branch-preserved : goal.loop-branch-preserved
-loop-branch-preserved c =
+loop-branch-preserved g c =
     let all : AllFilled c.deref-branch-items.result.now = rw c.deref-branch-items.ensures.value c.self.invariant.filled in
     let shared = c.in_ok-try_clone.ensures in
     rw c.in_ok-push.ensures.items record {
