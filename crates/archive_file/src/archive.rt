@@ -5,13 +5,17 @@ ghost use Rattle.outside_api.specs.Count.{HasCause, counted};
 ghost use Rattle.outside_api.specs.Disk.{Files, LeavesOnly, NoMore, Same, StillTells};
 ghost use Rattle.db_records.specs.declared.change.Spot.{Spot};
 ghost use Rattle.archive_file.specs.Archive.{disk_of, used_of, end_of, Has, AllHave, HasMemoryOr};
+ghost use Rattle.md5.specs.Md5.{md5};
+ghost use Rattle.hex.specs.Hex.{encode_upper as digits_of};
 
+use crate::digests::digest_on_disk;
 use db_records::Spot;
 use db_records::paths::Text;
-use outside_api::{Disk, DiskFault, fill, write_through};
+use outside_api::{Disk, DiskFault, fill};
 use std::alloc::Global;
 
-const FILE: u32 = 0;
+/// The file of the contents.
+pub(crate) const FILE: u32 = 0;
 
 /// Why a content can't be given.
 #[derive(Clone, Copy, PartialEq, Eq)]
@@ -70,11 +74,50 @@ impl<D: Disk> Archive<D> {
         ensures at_most { D.calls (disk_of self.new) ≤ counted 2 (D.calls (disk_of self.old)) }
         ensures cause { HasCause (D.faults (disk_of self.old)) (D.faults (disk_of self.new)) result }
     {
-        write_through(&mut self.disk, FILE, at, content)?;
+        let spot = self.write(at, content)?;
+        self.sync()?;
+        Ok(spot)
+    }
+
+    /// Writes a content at a place that isn't below `used`: a read gives it then at the spot that is
+    /// answered, and each image has it after a sync. Contents that end at or before the place stay in
+    /// each image, whatever is answered.
+    pub fn write(&mut self, at: u64, content: &[u8]) -> Result<Spot, DiskFault>
+        requires above { used_of self.old ≤ at }
+        requires room { (files : Files) → D.seen (disk_of self.old) files → at ≤ length (files 0) }
+        ensures spot { IfOk result (λ spot. spot ≡ record { at = at; length = length content.now }) }
+        ensures written { IfOk result (λ spot. AllHave (D.seen (disk_of self.new)) spot content.now) }
+        ensures small { IfOk result (λ spot. end_of spot < 2 ^ 63) }
+        // What a read gives before the place it still gives.
+        ensures read { OnOk result ((spot : Spot) (bytes : List ℕ) → end_of spot ≤ at → AllHave (D.seen (disk_of self.old)) spot bytes → AllHave (D.seen (disk_of self.new)) spot bytes) }
+        ensures kept { (spot : Spot) (bytes : List ℕ) → end_of spot ≤ at → AllHave (D.may_leave (disk_of self.old)) spot bytes → AllHave (D.may_leave (disk_of self.new)) spot bytes }
+        ensures any_moment { (spot : Spot) (bytes : List ℕ) → end_of spot ≤ at → AllHave (D.may_leave (disk_of self.old)) spot bytes → LeavesOnly D.moment D.left_since (disk_of self.old) (disk_of self.new) (λ c. Has (c 0) spot bytes) }
+        ensures told { StillTells (D.seen (disk_of self.old)) (D.seen (disk_of self.new)) }
+        ensures used { used_of self.new ≡ used_of self.old }
+        ensures asked { D.calls (disk_of self.new) ≡ counted 1 (D.calls (disk_of self.old)) }
+        ensures cause { HasCause (D.faults (disk_of self.old)) (D.faults (disk_of self.new)) result }
+    {
+        self.disk.write_at(FILE, at, content)?;
         Ok(Spot {
             at,
             length: content.len() as u64,
         })
+    }
+
+    /// Syncs: after Ok each image is what a read gives. Whatever is answered, no image is one that
+    /// wasn't one before.
+    pub fn sync(&mut self) -> Result<(), DiskFault>
+        ensures durable { OnOk result (NoMore (D.seen (disk_of self.old)) (D.may_leave (disk_of self.new))) }
+        ensures same { OnOk result (Same (D.seen (disk_of self.old)) (D.seen (disk_of self.new))) }
+        ensures crash { NoMore (D.may_leave (disk_of self.old)) (D.may_leave (disk_of self.new)) }
+        ensures any_moment { LeavesOnly D.moment D.left_since (disk_of self.old) (disk_of self.new) (D.may_leave (disk_of self.old)) }
+        ensures told { StillTells (D.seen (disk_of self.old)) (D.seen (disk_of self.new)) }
+        ensures used { used_of self.new ≡ used_of self.old }
+        ensures asked { D.calls (disk_of self.new) ≡ counted 1 (D.calls (disk_of self.old)) }
+        ensures cause { HasCause (D.faults (disk_of self.old)) (D.faults (disk_of self.new)) result }
+    {
+        self.disk.sync()?;
+        Ok(())
     }
 
     /// Counts a stored content as used, so that no later store is at a place below its end. Makes no
@@ -109,5 +152,19 @@ impl<D: Disk> Archive<D> {
             }
             Err(_) => Err(ContentFault::DiskFault),
         }
+    }
+
+    /// The digest of the bytes at a spot, whether they are counted as used or not. They are read in
+    /// pieces. Where the file ends before the spot does, it is that of the bytes up to there.
+    pub fn digest_at(&mut self, alloc: Global, spot: Spot) -> Result<Text, ContentFault>
+        requires { end_of spot < 2 ^ 63 }
+        ensures digest { (files : Files) → D.seen (disk_of self.old) files → end_of spot ≤ length (files 0) → IfOk result (λ text. text ≡ digits_of (md5 (take spot.length (drop spot.at (files 0))))) }
+        ensures same { Same (D.seen (disk_of self.old)) (D.seen (disk_of self.new)) }
+        ensures crash { NoMore (D.may_leave (disk_of self.old)) (D.may_leave (disk_of self.new)) }
+        ensures any_moment { LeavesOnly D.moment D.left_since (disk_of self.old) (disk_of self.new) (D.may_leave (disk_of self.old)) }
+        ensures used { used_of self.new ≡ used_of self.old }
+        ensures cause { HasMemoryOr (D.faults (disk_of self.old)) (D.faults (disk_of self.new)) result }
+    {
+        digest_on_disk(alloc, &mut self.disk, spot, &mut [0u8; 4096])
     }
 }

@@ -28,7 +28,7 @@ pub struct MemoryDisk {
 
 impl MemoryDisk {
     ghost use Rattle.memory_world.specs.Ranges.{IsFilled};
-    ghost use Rattle.memory_world.specs.Disk.{files_of, disk_faults, disk_calls, state_at, moment_of};
+    ghost use Rattle.memory_world.specs.Disk.{files_of, disk_faults, disk_calls, state_at, moment_of, may_be_left};
 
     /// A disk of empty files, which takes no memory. The calls of these numbers, from 1, fail.
     pub fn new(fails: Vec<u64>) -> Self
@@ -45,6 +45,19 @@ impl MemoryDisk {
             files: Vec::new(alloc),
             log: Vec::new(alloc),
         }
+    }
+
+    /// The same disk, of whose calls from now on those of these numbers, from 1, fail.
+    pub fn with_fails(mut self, fails: Vec<u64>) -> Self
+        ensures files { (f : ℕ) → files_of result f ≡ files_of self f }
+        ensures moment { moment_of result ≡ moment_of self }
+        ensures states { (moment : ℕ) → state_at result moment ≡ state_at self moment }
+        ensures left { Same (may_be_left self) (may_be_left result) }
+        ensures faults { disk_faults result ≡ 0 }
+        ensures calls { disk_calls result ≡ no_call fails.items }
+    {
+        self.failing = Failing::new(fails);
+        self
     }
 
     /// The disk that a stop after so many calls leaves, or a stop now where there were fewer: with the
