@@ -1,6 +1,6 @@
 //! Contents that commands store in the archive, and contents that they read there or are given.
 
-ghost use Rattle.std.specs.Prelude.{◌≡◌, ◌↔◌, ◌≤◌, ◌<◌, ◌^◌, ℕ, List, [], All, IsTrue, IfOk};
+ghost use Rattle.std.specs.Prelude.{◌≡◌, ◌↔◌, ◌+◌, ◌≤◌, ◌<◌, ◌^◌, ℕ, List, [], length, All, IsTrue, IfOk};
 ghost use Rattle.archive_file.specs.Archive.{HasMemoryOr, disk_of, used_of};
 ghost use Rattle.outside_api.specs.Count.{HasCause};
 ghost use Rattle.outside_api.specs.Disk.{Files, NoMore, Same, StillTells};
@@ -13,7 +13,8 @@ use reply_rows::RowContent;
 use std::alloc::Global;
 
 /// Stores contents one after another from a place on that isn't below what is used of the archive, and
-/// answers where they end: two calls of the disk for each. What is stored isn't counted as used yet.
+/// answers where they end: a write of each, and one sync behind the last. Without contents no call of
+/// the disk is made. What is stored isn't counted as used yet.
 pub(crate) fn store_all<D: Disk>(
     archive: &mut Archive<D>,
     at: u64,
@@ -29,13 +30,19 @@ pub(crate) fn store_all<D: Disk>(
     ensures kept { KeepsBelow (D.may_leave (disk_of archive.old)) (D.may_leave (disk_of archive.new)) at }
     ensures told { StillTells (D.seen (disk_of archive.old)) (D.seen (disk_of archive.new)) }
     ensures used { used_of archive.new ≡ used_of archive.old }
+    ensures no_call { contents.now ≡ [] → archive.new ≡ archive.old }
+    ensures at_most { D.calls (disk_of archive.new) ≤ D.calls (disk_of archive.old) + length contents.now + 1 }
     ensures cause { HasCause (D.faults (disk_of archive.old)) (D.faults (disk_of archive.new)) result }
 {
+    if contents.is_empty() {
+        return Ok(at);
+    }
     let mut end = at;
     for content in contents {
-        let spot = archive.store(end, content.as_bytes())?;
+        let spot = archive.write(end, content.as_bytes())?;
         end = spot.at + spot.length;
     }
+    archive.sync()?;
     Ok(end)
 }
 

@@ -1,36 +1,45 @@
-use Rattle.std.proofs.Common.{◌≡◌, ◌+◌, ℕ, List, length, refl, sym, ap, subst, ◌∙◌, arith}
+use Rattle.std.proofs.Common.{◌≡◌, ◌+◌, ℕ, List, length, take, refl, ap, subst, ◌∙◌, arith}
 use Rattle.std.proofs.lemmas.List.{take_all}
 use Rattle.archive_file.specs.Archive.{AllHave, disk_of, end_of}
 use Rattle.depot_rows.specs.db_records.declared.change.Spot.{Spot}
 use Rattle.outside_api.specs.Count.{HasRisen}
 use Rattle.serial_depot.specs.Storing.{AllStored, stores_end}
-use Rattle.serial_depot.proofs.Stored.{end_more, keeps_same, on_err, stored_more}
+use Rattle.serial_depot.proofs.Stored.{end_more, keeps_more, keeps_same, on_err, stored_kept, stored_more}
 use Rattle.serial_depot.proofs.storing.store_all.Goals as goal
 
-pub loop-content-init : goal.loop-content-init
-loop-content-init g c =
-    let fits = c.requires.fits in
-    record {
-      end_is = refl;
-      above = omega arith;
-      fits = fits;
-      stored = tt;
-      room = c.requires.room;
-      kept = keeps_same (g.D.Disk.may_leave (disk_of c.args.archive.now)) c.args.at;
-      told = λ files read. (files, read);
-      used = refl;
-      counts = omega arith;
-    }
+-- ---- no content
 
-pub store-requires-clause-above : goal.store-requires-clause-above
-store-requires-clause-above g c =
+pub returns-then-is_empty-clause-kept : goal.returns-then-is_empty-clause-kept
+returns-then-is_empty-clause-kept g c = keeps_same (g.D.Disk.may_leave (disk_of c.args.archive.now)) c.args.at
+
+pub returns-then-is_empty-clause-told : goal.returns-then-is_empty-clause-told
+returns-then-is_empty-clause-told g c = λ files read. (files, read)
+
+-- ---- each content is written
+
+pub loop-content-init : goal.loop-content-init
+loop-content-init g c = record {
+  end_is = refl;
+  above = omega arith;
+  fits = c.requires.fits;
+  written = tt;
+  room = λ files read. c.requires.room files (g.met.D.Disk.reads_an_image _ files read);
+  kept = keeps_same (g.D.Disk.may_leave (disk_of c.args.archive.now)) c.args.at;
+  told = λ files read. (files, read);
+  used = refl;
+  calls = omega arith;
+  counts = omega arith;
+}
+
+pub write-requires-clause-above : goal.write-requires-clause-above
+write-requires-clause-above g c =
     let above = c.requires.above in
     let end = c.loop-content.invariant.above in
     let used = c.loop-content.invariant.used in
     omega (arith, above, end, used)
 
-pub store-requires-clause-room : goal.store-requires-clause-room
-store-requires-clause-room g c = λ files read. c.loop-content.invariant.room files (g.met.D.Disk.reads_an_image _ files read)
+pub write-requires-clause-room : goal.write-requires-clause-room
+write-requires-clause-room g c = c.loop-content.invariant.room
 
 pub loop-content-preserved : goal.loop-content-preserved
 loop-content-preserved g c =
@@ -41,40 +50,51 @@ loop-content-preserved g c =
     let end_is : end_of spot ≡ at.end + length text = ap end_of spot_is in
     let was = at.invariant.end_is in
     let more = end_more c.args.contents.now at.content-index c.args.at text c.loop-content-test.true c.content-item.is in
-    let images = g.D.Disk.may_leave (disk_of c.store.new.self) in
+    let read = g.D.Disk.seen (disk_of c.write.new.self) in
     let above = at.invariant.above in
+    let calls = at.invariant.calls in
+    let asked = c.in_ok-spot.ensures.asked in
     let counts = at.invariant.counts in
     let risen = c.in_ok-spot.ensures.cause.never_falls in
     record {
       end_is = omega (arith, end_is, was, more);
       above = omega (arith, above, end_is);
       fits = c.in_ok-spot.ensures.small;
-      stored = stored_more c.args.contents.now at.content-index c.args.at text c.loop-content-test.true c.content-item.is (g.D.Disk.may_leave (disk_of at.archive)) images at.end was c.store.ensures.kept at.invariant.stored
-          (subst (λ (s : Spot). AllHave images s text) spot_is (subst (AllHave images spot) c.as_bytes.ensures c.in_ok-spot.ensures.stored));
-      room = λ image left. let there = c.in_ok-spot.ensures.stored image left in there.within;
-      kept = λ spot bytes le all. c.store.ensures.kept spot bytes (omega (arith, le, above)) (at.invariant.kept spot bytes le all);
-      told = λ files read. let mid = at.invariant.told files read in c.store.ensures.told mid.0 mid.1;
-      used = c.store.ensures.used ∙ at.invariant.used;
+      written = stored_more c.args.contents.now at.content-index c.args.at text c.loop-content-test.true c.content-item.is (g.D.Disk.seen (disk_of at.archive)) read at.end was c.in_ok-spot.ensures.read at.invariant.written
+          (subst (λ (s : Spot). AllHave read s text) spot_is (subst (AllHave read spot) c.as_bytes.ensures c.in_ok-spot.ensures.written));
+      room = λ files seen. let there = c.in_ok-spot.ensures.written files seen in there.within;
+      kept = λ spot bytes le all. c.write.ensures.kept spot bytes (omega (arith, le, above)) (at.invariant.kept spot bytes le all);
+      told = λ files seen. let mid = at.invariant.told files seen in c.write.ensures.told mid.0 mid.1;
+      used = c.write.ensures.used ∙ at.invariant.used;
+      calls = omega (arith, calls, asked);
       counts = omega (arith, counts, risen);
     }
 
--- ---- a content couldn't be stored
+-- ---- a content couldn't be written
 
 pub returns-in_err-spot-clause-kept : goal.returns-in_err-spot-clause-kept
 returns-in_err-spot-clause-kept g c = λ spot bytes le all.
     let at = c.loop-content in
     let above = at.invariant.above in
-    c.store.ensures.kept spot bytes (omega (arith, le, above)) (at.invariant.kept spot bytes le all)
+    c.write.ensures.kept spot bytes (omega (arith, le, above)) (at.invariant.kept spot bytes le all)
 
 pub returns-in_err-spot-clause-told : goal.returns-in_err-spot-clause-told
-returns-in_err-spot-clause-told g c = λ files read. let mid = c.loop-content.invariant.told files read in c.store.ensures.told mid.0 mid.1
+returns-in_err-spot-clause-told g c = λ files read. let mid = c.loop-content.invariant.told files read in c.write.ensures.told mid.0 mid.1
 
 pub returns-in_err-spot-clause-cause : goal.returns-in_err-spot-clause-cause
 returns-in_err-spot-clause-cause g c =
     let counts = c.loop-content.invariant.counts in
     let more = c.in_err-spot.ensures.cause.never_falls in
     let risen = c.in_err-spot.ensures.cause.risen in
-    record { never_falls = omega (arith, counts, more); risen = on_err c.from_residual.result (HasRisen (g.D.Disk.faults (disk_of c.args.archive.now)) (g.D.Disk.faults (disk_of c.store.new.self))) (omega (arith, counts, risen)) }
+    record { never_falls = omega (arith, counts, more); risen = on_err c.from_residual.result (HasRisen (g.D.Disk.faults (disk_of c.args.archive.now)) (g.D.Disk.faults (disk_of c.write.new.self))) (omega (arith, counts, risen)) }
+
+-- ---- they couldn't be synced
+
+pub returns-in_err-sync-clause-kept : goal.returns-in_err-sync-clause-kept
+returns-in_err-sync-clause-kept g c = λ spot bytes le all image left. c.loop-content.invariant.kept spot bytes le all image (c.sync.ensures.crash image left)
+
+pub returns-in_err-sync-clause-told : goal.returns-in_err-sync-clause-told
+returns-in_err-sync-clause-told g c = λ files read. let mid = c.loop-content.invariant.told files read in c.sync.ensures.told mid.0 mid.1
 
 -- ---- all were stored
 
@@ -86,4 +106,18 @@ returns-clause-end g c =
 pub returns-clause-stored : goal.returns-clause-stored
 returns-clause-stored g c =
     let at = c.loop-content in
-    subst (λ (l : List (List ℕ)). AllStored (g.D.Disk.may_leave (disk_of at.archive)) l c.args.at) (take_all at.content-index c.args.contents.now c.loop-content-test.false) at.invariant.stored
+    let read = g.D.Disk.seen (disk_of at.archive) in
+    let images = g.D.Disk.may_leave (disk_of c.sync.new.self) in
+    let all : take at.content-index c.args.contents.now ≡ c.args.contents.now = take_all at.content-index c.args.contents.now c.loop-content-test.false in
+    let written = subst (λ (l : List (List ℕ)). AllStored read l c.args.at) all at.invariant.written in
+    let end = stores_end c.args.contents.now c.args.at in
+    stored_kept read images end c.args.contents.now c.args.at (keeps_more read images end c.in_ok-sync.ensures.durable) (omega arith) written
+
+pub returns-clause-room : goal.returns-clause-room
+returns-clause-room g c = λ image left. c.loop-content.invariant.room image (c.in_ok-sync.ensures.durable image left)
+
+pub returns-clause-kept : goal.returns-clause-kept
+returns-clause-kept g c = λ spot bytes le all image left. c.loop-content.invariant.kept spot bytes le all image (c.sync.ensures.crash image left)
+
+pub returns-clause-told : goal.returns-clause-told
+returns-clause-told g c = λ files read. let mid = c.loop-content.invariant.told files read in c.sync.ensures.told mid.0 mid.1
