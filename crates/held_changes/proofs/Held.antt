@@ -4,7 +4,7 @@ use Rattle.std.specs.Prelude.{◌&&◌, ◌||◌, codes, decimal, filter, filter
 use Rattle.std.specs.List.{cons_option, list_all, list_any}
 use Rattle.std.specs.Option.{option_map_or}
 use Rattle.std.proofs.lemmas.Bool.{true≢false}
-use Rattle.depot_rows.specs.depot_path.Bytes.{same}
+use Rattle.depot_rows.specs.depot_path.Bytes.{begins_with, same}
 use Rattle.depot_rows.specs.depot_path.Digits.{is_digits}
 use Rattle.depot_rows.specs.depot_path.Path.{printed, is_path}
 use Rattle.depot_rows.specs.spec_form.Form.{FormValue}
@@ -17,13 +17,14 @@ use Rattle.depot_rows.specs.depot_model.Numerals.{is_numeral}
 use Rattle.depot_rows.specs.depot_model.Rules.{IsSound}
 use Rattle.depot_rows.specs.depot_model.Shelves.{is_kept, is_of_change, is_shelved, kept, kept_paths, shelf_name, shelf_paths}
 use Rattle.depot_rows.specs.depot_model.Values.{value_of}
-use Rattle.depot_rows.proofs.Keys.{same-self, left-true, right-true}
+use Rattle.depot_rows.proofs.Keys.{same-is, same-self, left-true, right-true}
 use Rattle.sound_deeds.proofs.Decimals.{decimal_digits}
 use Rattle.sound_deeds.proofs.Read.{spelled_reads, value_is}
 use Rattle.sound_form_steps.proofs.Found.{saved_shelf, shelf_there, spec_names, spelled}
 use Rattle.sound_form_steps.proofs.Members.{In, in_some, key_in}
 use Rattle.sound_form_steps.proofs.Shelving.{kept_are}
 use Rattle.depots_alike.proofs.Kept.{parts_are}
+use Rattle.named_forms.proofs.Texts.{begins_front}
 use Rattle.held_changes.specs.Holding.{holds, is_held}
 
 -- ---- fixes
@@ -127,7 +128,7 @@ module _ (d : List Deed) (sound : IsSound d) (n : ℕ) where
           by_kept true on false of = refl
           by_kept true on true of = absurd (true≢false (sym (shelf_there d sound n name form e on of) ∙ none))
 
-  pub shelved_held : list_any held_in (keys_of (spec_name ShelfForm) d) ≡ is_shelved d n
+  shelved_held : list_any held_in (keys_of (spec_name ShelfForm) d) ≡ is_shelved d n
   shelved_held = go (is_shelved d n) refl
     where
       go : (b : Bool) → is_shelved d n ≡ b → list_any held_in (keys_of (spec_name ShelfForm) d) ≡ b
@@ -135,3 +136,39 @@ module _ (d : List Deed) (sound : IsSound d) (n : ℕ) where
           let file = found (λ path. is_some (kept d n path)) (paths_of (shelf_paths n) d) (kept_are d sound.paths n) e in
           path_holds file.0 file.1 file.2
       go false e = none_of held_in (none_holds e) (keys_of (spec_name ShelfForm) d)
+
+-- ---- the forms of a change stand together by their names
+
+any_kept : (test begins : List ℕ → Bool) → ((name : List ℕ) → test name ≡ true → begins name ≡ true) → (names : List (List ℕ))
+    → list_any test (filter begins names) ≡ list_any test names
+any_kept test begins all [] = refl
+any_kept test begins all (name ∷ names) = go (begins name) refl (test name) refl (any_kept test begins all names)
+  where
+    go : (b : Bool) → begins name ≡ b → (t : Bool) → test name ≡ t → list_any test (filter begins names) ≡ list_any test names
+        → list_any test (if b then name ∷ filter begins names else filter begins names) ≡ (t || list_any test names)
+    go true e t k more = λ i. k i || more i
+    go false e true k more = absurd (true≢false (sym (all name k) ∙ e))
+    go false e false k more = more
+
+module _ (d : List Deed) (sound : IsSound d) (n : ℕ) where
+  held_begins : (name : List ℕ) → is_held ShelfForm d (codes "kept") (decimal n) name ≡ true → begins_with name (decimal n ++ 0x20 ∷ []) ≡ true
+  held_begins name h = go (spec d ShelfForm name) refl h
+    where
+      go : (o : Option FormValue) → spec d ShelfForm name ≡ o → option_map_or (holds (codes "kept") (decimal n)) o false ≡ true
+          → begins_with name (decimal n ++ 0x20 ∷ []) ≡ true
+      go None e k = absurd (true≢false (sym k))
+      go (Some form) e k =
+          let reads = spelled_reads ShelfForm form (spelled d sound ShelfForm name form e) in
+          let value = value_is ShelfShape form reads in
+          let shelf = saved_shelf d sound name form e in
+          let of : value_of form (codes "Change") ≡ decimal n =
+          same-is (value_of form (codes "Change")) (decimal n) (right-true (same (value_of form (codes "State")) (codes "kept")) (same (value_of form (codes "Change")) (decimal n)) k) in
+          let named : name ≡ decimal n ++ 0x20 ∷ value_of form (codes "Path") =
+          shelf.named ∙ (λ i. value (codes "Change") i ++ 0x20 ∷ value (codes "Path") i) ∙ (λ i. of i ++ 0x20 ∷ value_of form (codes "Path")) in
+          ap (λ (text : List ℕ). begins_with text (decimal n ++ 0x20 ∷ [])) named ∙ begins_front (decimal n) (value_of form (codes "Path"))
+
+  pub shelved_begun : list_any (is_held ShelfForm d (codes "kept") (decimal n)) (filter (λ name. begins_with name (decimal n ++ 0x20 ∷ [])) (keys_of (spec_name ShelfForm) d))
+      ≡ is_shelved d n
+  shelved_begun =
+      any_kept (is_held ShelfForm d (codes "kept") (decimal n)) (λ name. begins_with name (decimal n ++ 0x20 ∷ [])) held_begins (keys_of (spec_name ShelfForm) d)
+      ∙ shelved_held d sound n

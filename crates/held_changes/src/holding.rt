@@ -1,6 +1,6 @@
 //! Whether a form holds a change.
 
-ghost use Rattle.std.specs.Prelude.{◌≡◌, List, false, IfOk, decimal};
+ghost use Rattle.std.specs.Prelude.{◌≡◌, ◌++◌, ◌∷◌, [], List, false, IfOk, decimal};
 ghost use Rattle.std.specs.List.{list_any};
 ghost use Rattle.std.specs.Option.{option_copied, option_map_or};
 ghost use Rattle.depot_rows.specs.db_records.declared.table.TableId.TheVariants as table_ids;
@@ -19,6 +19,7 @@ use depot_rows::forms::Form;
 use depot_rows::paths::Text;
 use depot_rows::tables::Tables;
 use itoa::Buffer;
+use named_forms::names_with;
 use row_reads::{form_names, form_value, saved_form};
 use std::alloc::{AllocError, Global};
 
@@ -101,12 +102,31 @@ fn number_text(alloc: Global, number: u32) -> Result<Text, AllocError>
     Text::from_bytes(alloc, Buffer::new().format(number).as_bytes())
 }
 
-/// Whether a change has shelved files (Command-Line Reference, "p4 shelve"), from the table of forms alone. It looks at every shelved file.
+/// What the names of the forms of the files that are shelved in a change begin with: its number and a space.
+fn shelf_beginning(alloc: Global, number: u32) -> Result<Text, AllocError>
+    ensures { IfOk result (λ start. start ≡ decimal number ++ 0x20 ∷ []) }
+{
+    let mut start = number_text(alloc, number)?;
+    start.append(b" ")?;
+    Ok(start)
+}
+
+/// Whether a change has shelved files (Command-Line Reference, "p4 shelve"), from the table of forms alone. It looks at the forms of that change, and reads
+/// them until one is of a file that is kept.
 pub fn is_shelved(alloc: Global, tables: &Tables, change: u32) -> Result<bool, AllocError>
     ensures { IfOk result (λ shelved. (d : List Deed) → IsSound d → HasRows (rows_of tables.now) d table_ids.Domain → shelved ≡ is_shelved_in d change) }
 {
     let number = number_text(alloc, change)?;
-    let shelved = any_is_held(alloc, tables, SpecKind::Shelf, b"kept", number.as_bytes())?;
+    let start = shelf_beginning(alloc, change)?;
+    let names = names_with(alloc, tables, b"shelf", start.as_bytes())?;
+    let shelved = some_is_held(
+        alloc,
+        tables,
+        SpecKind::Shelf,
+        b"kept",
+        number.as_bytes(),
+        names.as_slice(),
+    )?;
     Ok(shelved)
 }
 

@@ -7,3 +7,4 @@ mod ChangeRows
 mod Distinct
 mod Stepping
 pub mod Telling
+pub mod FixNames

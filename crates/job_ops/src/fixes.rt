@@ -2,7 +2,7 @@
 
 ghost use Rattle.std.specs.List.{cons_option, filter_map};
 ghost use Rattle.std.specs.Option.{option_map_or};
-ghost use Rattle.std.specs.Prelude.{◌≡◌, ◌++◌, [], true, List, IfOk, OnOk, decimal, filter, map, option_map};
+ghost use Rattle.std.specs.Prelude.{◌≡◌, ◌++◌, ◌∷◌, [], true, List, IfOk, OnOk, decimal, filter, map, option_map};
 ghost use Rattle.depot_rows.specs.depot_path.Bytes.{same};
 ghost use Rattle.depot_rows.specs.db_records.declared.table.TableId.TheVariants as table_ids;
 ghost use Rattle.depot_rows.specs.depot_model.Deeds.{Deed, FixForm};
@@ -11,7 +11,7 @@ ghost use Rattle.depot_rows.specs.depot_model.Latest.{spec};
 ghost use Rattle.depot_rows.specs.depot_model.Rules.{IsSound};
 ghost use Rattle.depot_rows.specs.depot_model.Steps.Jobs as steps;
 ghost use Rattle.depot_rows.specs.Standing.{HasRows};
-ghost use Rattle.job_ops.specs.Fixes.{fixes_among, is_asked as is_asked_in};
+ghost use Rattle.job_ops.specs.Fixes.{fixes_among, is_asked as is_asked_in, names_asked};
 ghost use Rattle.reply_rows.specs.Made.{IsMade};
 ghost use Rattle.depot_rows.specs.table_changes.Changed.{rows_of};
 
@@ -21,6 +21,7 @@ use depot_rows::forms::Form;
 use depot_rows::model::Row;
 use depot_rows::paths::{Sequence, Text};
 use depot_rows::tables::Tables;
+use named_forms::names_with;
 use reply_rows::{Step, push_values, row_of};
 use row_reads::{form_names, form_value, saved_form};
 use std::alloc::{AllocError, Global};
@@ -102,7 +103,38 @@ fn digits_of(alloc: Global, change: Option<u32>) -> Result<Option<Text>, AllocEr
     }
 }
 
-/// The fixes that are on, by name, of a change and of a job, as far as they are asked for, from the table of forms alone. It reads all fixes.
+/// What the names of the fixes of a job begin with: its name and a space.
+fn fix_beginning(alloc: Global, job: &Text) -> Result<Text, AllocError>
+    ensures { IfOk result (λ start. start ≡ job.now ++ 0x20 ∷ []) }
+{
+    let mut start = Text::from_bytes(alloc, job.as_bytes())?;
+    start.append(b" ")?;
+    Ok(start)
+}
+
+/// The names of the fixes of a job, where one is asked for, or of all.
+fn fix_names(
+    alloc: Global,
+    tables: &Tables,
+    job: &Option<Text>,
+) -> Result<Sequence<Text>, AllocError>
+    ensures { IfOk result (λ names. (d : List Deed) → HasRows (rows_of tables.now) d table_ids.Domain → names ≡ names_asked d job.now) }
+{
+    match job {
+        Some(job) => {
+            let start = fix_beginning(alloc, job)?;
+            let names = names_with(alloc, tables, b"fix", start.as_bytes())?;
+            Ok(names)
+        }
+        None => {
+            let names = form_names(alloc, tables, SpecKind::Fix)?;
+            Ok(names)
+        }
+    }
+}
+
+/// The fixes that are on, by name, of a change and of a job, as far as they are asked for, from the table of forms alone. It reads the fixes of the job,
+/// or where none is asked for, all fixes.
 fn fixes_asked(
     alloc: Global,
     tables: &Tables,
@@ -112,7 +144,7 @@ fn fixes_asked(
     ensures { IfOk result (λ forms. (d : List Deed) → IsSound d → HasRows (rows_of tables.now) d table_ids.Domain →
         forms ≡ filter (steps.is_wanted change job.now) (model.fixes_on d)) }
 {
-    let names = form_names(alloc, tables, SpecKind::Fix)?;
+    let names = fix_names(alloc, tables, job)?;
     let change = digits_of(alloc, change)?;
     let forms = fixes_named(alloc, tables, &change, job, names.as_slice())?;
     Ok(forms)
@@ -150,7 +182,7 @@ fn fix_rows(alloc: Global, forms: &[Form]) -> Result<Sequence<Row>, AllocError>
     Ok(rows)
 }
 
-/// `fixes [-c N] [-j JOB]`, from the table of forms alone. It reads all fixes.
+/// `fixes [-c N] [-j JOB]`, from the table of forms alone. It reads the fixes of the job, or without one all fixes.
 pub fn fix_list(
     alloc: Global,
     tables: &Tables,

@@ -17,7 +17,8 @@ use Rattle.depot_rows.specs.db_records.declared.rows.RevRecord.{RevRecord}
 use Rattle.depot_rows.specs.db_records.Key.{key_cmp}
 use Rattle.depot_rows.specs.db_records.Record.{key_of}
 use Rattle.depot_rows.specs.table_store.Rows.{is_at, row_at, AllAbove, IsRising}
-use Rattle.depot_rows.proofs.table_store.Order.{AllAbove-lower, greater_trans, row_at-gap, turned_greater, turned_less}
+use Rattle.depot_rows.proofs.table_store.Order.{turned_greater}
+use Rattle.row_order.proofs.Order.{AllAbove-lower, greater_trans, row_at-gap, turned_less}
 use Rattle.depot_rows.proofs.Keys.{at-is, at-self, same-self}
 use Rattle.named_files.specs.HeadRows.{IsHead, are_of_one_file, ended, heads_after, heads_in_front, heads_in_turn}
 use Rattle.named_files.specs.Listed.{is_in_front}

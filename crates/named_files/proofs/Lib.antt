@@ -14,3 +14,4 @@ pub mod Heads
 pub mod HeadRows
 pub mod Begun
 pub mod Spelled
+pub mod LookedUp

@@ -24,6 +24,7 @@ use Rattle.depot_rows.specs.db_records.Record.{key_of, table_of}
 use Rattle.depot_rows.specs.table_store.Rows.{is_at, row_at, AllAbove, AllOfTable, IsRising}
 use Rattle.depot_rows.proofs.Keys.{at-is, at-self, number-is, same-is, same-self}
 use Rattle.named_files.specs.Listed.{listed, listed_text, listing_table, path_in_text, paths_in}
+pub use Rattle.named_files.specs.Listed.{own_key}
 use Rattle.named_files.specs.declared.listing.Listing.{Listing}
 use Rattle.named_files.specs.declared.listing.Listing.TheVariants.{Had, OpenedBy, Submitted}
 use Rattle.named_files.proofs.Rising.{Below, Rise, turned}
@@ -140,11 +141,6 @@ module _ (listing : Listing) (key : List ℕ → Key) (each : (row : Record) (p 
           subst (λ (ps : List (List ℕ)). Rise (ps ++ listed listing rs)) (sym one.2) both
 
 -- ---- each list
-
-abbrev pub own_key : Listing → List ℕ → Key
-own_key (Had client) p = keys.Have client (printed p)
-own_key (OpenedBy client) p = keys.Working (printed p) client
-own_key Submitted p = keys.Rev (printed p) 1
 
 -- a path is that of a text that a test chooses, where the test holds and it is its own text
 in_chosen : (p text : List ℕ) (t b : Bool) → is_path p ≡ true → (t ≡ true → printed p ≡ text → b ≡ true) → (b ≡ true → (t ≡ true) × (printed p ≡ text))

@@ -3,4 +3,5 @@ pub mod Asked
 pub mod Beginnings
 pub mod HeadRows
 pub mod Listed
+pub mod Rising
 pub mod Sets

@@ -17,6 +17,7 @@ use crate::beginning::beginnings_of;
 use crate::choosing::{add_row, files_join, rows_list_files};
 use crate::front::rows_in;
 use crate::listing::Listing;
+use crate::looked_up::{has_wildcard, looked_up};
 use depot_rows::paths::{DepotPath, Pattern, Sequence, Text};
 use depot_rows::records::Record;
 use depot_rows::tables::Tables;
@@ -27,7 +28,7 @@ use std::alloc::{AllocError, Global};
 pub struct HeadedFiles<'t> {
     /// The files.
     pub paths: Sequence<DepotPath>,
-    /// The rows, in the order of the files; none where the list isn't that of the submitted files.
+    /// The rows, in the order of the files; none where the list isn't that of the submitted files, or the files were looked up.
     pub heads: Vec<&'t Record>,
 }
 
@@ -119,7 +120,8 @@ fn last_rows_are_heads(tables: &Tables, listing: &Listing)
     let _table = version.table();
 }
 
-/// The files that [`candidates`](crate::candidates) gives, and the rows of their newest revisions, in the same walk. The one error is want of memory.
+/// The files that [`candidates`](crate::candidates) gives, and where it walks, the rows of their newest revisions, in the same walk. The one error is
+/// want of memory.
 pub(crate) fn headed_candidates<'t>(
     alloc: Global,
     tables: &'t Tables,
@@ -134,6 +136,11 @@ pub(crate) fn headed_candidates<'t>(
     rows_list_files(tables, listing);
     files_join(tables, listing);
     last_rows_are_heads(tables, listing);
+    if !has_wildcard(pattern) {
+        let paths = looked_up(alloc, tables, asker, listing, pattern)?;
+        let heads = Vec::new(alloc);
+        return Ok(HeadedFiles { paths, heads });
+    }
     let beginnings = beginnings_of(alloc, asker, pattern)?;
     let found = headed_below(alloc, tables, listing, beginnings.as_slice())?;
     Ok(found)

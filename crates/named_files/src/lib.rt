@@ -1,7 +1,8 @@
 //! The files that an argument names, from the rows of the tables.
 //!
 //! A [`Listing`] is a list of files as a table has it, as those that a client has. An [`Asker`] says which of them an argument names, and
-//! [`candidates`] walks over the rows alone whose paths begin with one of the texts with which the files begin that the argument may name.
+//! [`candidates`] looks up the files that an argument without wildcards may name. For another one it walks over the rows alone whose paths begin with
+//! one of the texts with which the files begin that the argument may name.
 //! [`ListedFiles`], [`ShownFiles`], [`HeadFiles`], [`ChosenFiles`], [`SelectedFiles`] and [`OpenedAnywhere`] are the sets of files over which
 //! commands go.
 #![tactic(auto)]
@@ -16,6 +17,7 @@ mod head_files;
 mod head_rows;
 mod listed_files;
 mod listing;
+mod looked_up;
 mod selected_files;
 mod shown_files;
 mod spelling;

@@ -4,7 +4,7 @@ ghost use Rattle.std.specs.Prelude.{◌≡◌, IfOk, if◌then◌else◌, Some, 
 ghost use Rattle.std.specs.Option.{option_copied};
 ghost use Rattle.std.specs.Option.{option_to_list};
 ghost use Rattle.depot_rows.specs.depot_path.Bytes.{same};
-ghost use Rattle.named_files.specs.Listed.{front_key, front_text as text_in_front, listed_text as text_listed, listing_table, path_in_text};
+ghost use Rattle.named_files.specs.Listed.{front_key, front_text as text_in_front, listed_text as text_listed, listing_table, own_key as key_of_file, path_in_text};
 
 use depot_rows::paths::{DepotPath, Name, PathFault, Sequence, Text};
 use depot_rows::records::{Key, Record, TableId};
@@ -74,6 +74,24 @@ impl Listing {
             (Listing::OpenedBy { .. }, Record::Working(row)) => Some(&row.path),
             (Listing::Submitted, Record::Rev(row)) => Some(&row.path),
             _ => None,
+        }
+    }
+
+    /// The key of the row that lists a file. The one error is want of memory.
+    pub(crate) fn own_key(&self, alloc: Global, file: &DepotPath) -> Result<Key, AllocError>
+        ensures { IfOk result (λ key. key ≡ key_of_file self.now file.now) }
+    {
+        let path = file.print(alloc)?;
+        match self {
+            Listing::Had { client } => Ok(Key::Have {
+                client: Text::from_bytes(alloc, client.as_bytes())?,
+                path,
+            }),
+            Listing::OpenedBy { client } => Ok(Key::Working {
+                path,
+                client: Text::from_bytes(alloc, client.as_bytes())?,
+            }),
+            Listing::Submitted => Ok(Key::Rev { path, rev: 1 }),
         }
     }
 

@@ -1,6 +1,7 @@
 use Rattle.std.proofs.Common.{ℕ, List, Option, ap, ◌∙◌}
 use Rattle.std.specs.Prelude.{decimal, option_map}
 use Rattle.job_ops.specs.Fixes.{fixes_among}
+use Rattle.job_ops.proofs.FixNames.{among_asked}
 use Rattle.job_ops.proofs.FixRows.{fixes_are}
 use Rattle.job_ops.proofs.fixes.fixes_asked.Goals as goal
 
@@ -10,4 +11,5 @@ returns c = λ d sound has.
     c.in_ok-forms.ensures d sound has
     ∙ ap (λ (digits : Option (List ℕ)). fixes_among d digits job c.as_slice.result.now) c.in_ok-change.ensures
     ∙ ap (fixes_among d (option_map decimal c.args.change) job) (c.as_slice.ensures ∙ c.in_ok-names.ensures d has)
+    ∙ among_asked d sound (option_map decimal c.args.change) job
     ∙ fixes_are d c.args.change job

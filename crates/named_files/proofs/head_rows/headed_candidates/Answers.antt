@@ -9,6 +9,10 @@ use Rattle.named_files.specs.Listed.{listed, listing_table}
 use Rattle.named_files.proofs.Sifting.{sifted}
 use Rattle.named_files.proofs.head_rows.headed_candidates.Goals as goal
 
+pub returns-then-not-has_wildcard-clause-depot : goal.returns-then-not-has_wildcard-clause-depot
+returns-then-not-has_wildcard-clause-depot c = λ d sound has test passes.
+    c.in_ok-paths.ensures test passes ∙ ap (filter test) (c.rows_list_files.ensures d sound has)
+
 pub returns-clause-depot : goal.returns-clause-depot
 returns-clause-depot c = λ d sound has test passes.
     let listing = c.args.listing.now in
