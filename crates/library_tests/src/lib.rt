@@ -4,12 +4,18 @@
 //! computed in proofs, here that of dates.
 #![tactic(auto)]
 
+/// Calls that no program makes, with ample memory (`replica_pull`, `journal_groups`, `table_store`, `wire_text`).
+#[cfg(test)]
+mod calls;
 /// Whether disks in folders do what they are asked, as the tests ask.
 #[cfg(test)]
 mod disks;
 /// Disks that keep numbered files in folders (`real_world`).
 #[cfg(test)]
 mod folders;
+/// Disks over a folder that another has (`real_world`).
+#[cfg(test)]
+mod holders;
 /// A link that loses what it brings (`memory_world`).
 #[cfg(test)]
 mod losses;

@@ -1,8 +1,8 @@
 //! Files that are read and written in turn, the doors to them, and the clock.
 
-use crate::disks::has_text;
+use crate::disks::{has_text, is_free};
 use outside_api::{Clock, Doors, Sink, Source};
-use real_world::{FileSink, FileSource, FolderDoors, SystemClock};
+use real_world::{FileSink, FileSource, FolderDoors, PartyFile, SystemClock};
 use std::fs;
 use std::fs::File;
 use std::test::Fail;
@@ -62,13 +62,51 @@ fn brings(
 #[test]
 fn doors_open_the_files_of_a_name(rt: HostRuntime) -> Result<(), Fail> {
     fs::write(&rt, "door", "x")?;
-    let mut doors = FolderDoors::new(&rt);
+    fs::write(&rt, "door.out", "old replies")?;
+    let mut doors = FolderDoors::new(&rt, rt.alloc(), &["door"])?;
     assert!(rt; brings(&mut doors, "door", b"x", b"y"));
     assert!(rt; has_text(&rt, "door.out", "y"));
+    assert!(rt; !brings(&mut doors, "door", b"x", b"y"));
     assert!(rt; !brings(&mut doors, "no such door", b"", b""));
     drop(doors);
     fs::remove_file(&rt, "door")?;
     fs::remove_file(&rt, "door.out")?;
+    Ok(())
+}
+
+/// Whether the doors of these names fail at the first, for a file of that name.
+fn fail_at(rt: &HostRuntime, names: &[&str], first: &str, name: &str, file: PartyFile) -> bool {
+    let Ok(mut doors) = FolderDoors::new(rt, rt.alloc(), names) else {
+        return false;
+    };
+    let is_brought = brings(&mut doors, first, b"x", b"y");
+    let is_told = match doors.first_fault() {
+        Some(fault) => fault.name == name && fault.file == file,
+        None => false,
+    };
+    drop(doors);
+    !is_brought && is_told
+}
+
+#[test]
+fn nothing_is_emptied_before_all_doors_are_open(rt: HostRuntime) -> Result<(), Fail> {
+    fs::write(&rt, "here", "x")?;
+    fs::write(&rt, "here.out", "old replies")?;
+    assert!(rt; fail_at(&rt, &["here", "gone"], "here", "gone", PartyFile::Script));
+    assert!(rt; is_free(&rt, "gone.out"));
+    assert!(rt;
+        fail_at(
+            &rt,
+            &["here.out", "here"],
+            "here.out",
+            "here",
+            PartyFile::Replies
+        )
+    );
+    assert!(rt; is_free(&rt, "here.out.out"));
+    assert!(rt; has_text(&rt, "here.out", "old replies"));
+    fs::remove_file(&rt, "here")?;
+    fs::remove_file(&rt, "here.out")?;
     Ok(())
 }
 

@@ -8,11 +8,14 @@ mod clock;
 mod count;
 mod disk;
 mod doors;
-mod handles;
+mod folder;
+mod interrupts;
+mod lines;
 mod paths;
 mod stream;
 
 pub use clock::SystemClock;
 pub use disk::FolderDisk;
-pub use doors::FolderDoors;
+pub use doors::{DoorFault, FolderDoors, PartyFile};
+pub use lines::line_of;
 pub use stream::{FileSink, FileSource};

@@ -3,16 +3,18 @@
 ghost use Rattle.std.specs.Prelude.{◌≡◌};
 
 use crate::count::Faults;
+use crate::interrupts::{read, write};
 use outside_api::{Failed, Sink, Source};
 use std::fs::File;
-use std::io::{Read, Write};
+use std::io;
+use std::io::ErrorKind;
 use std::rt::Stdout;
 
 /// A file that is read from its front. It doesn't tell its bytes.
 #[derive(Drop)]
 pub struct FileSource {
     file: File,
-    faults: Faults,
+    faults: Faults<io::Error>,
 }
 
 impl FileSource {
@@ -22,8 +24,13 @@ impl FileSource {
     {
         FileSource {
             file,
-            faults: Faults { count: 0 },
+            faults: Faults::none(),
         }
+    }
+
+    /// Why the first call failed that did.
+    pub fn first_error(&self) -> Option<&io::Error> {
+        self.faults.first.as_ref()
     }
 }
 
@@ -35,10 +42,10 @@ impl Source for FileSource {
     ghost left = { λ source. None };
 
     fn take(&mut self, buffer: &mut [u8]) -> Result<usize, Failed> {
-        match self.file.read(buffer) {
+        match read(&mut self.file, buffer) {
             Ok(count) => Ok(count),
-            Err(_) => {
-                self.faults.rise();
+            Err(error) => {
+                self.faults.rise(error);
                 Err(Failed)
             }
         }
@@ -55,7 +62,7 @@ enum Target {
 #[derive(Drop)]
 pub struct FileSink {
     target: Target,
-    faults: Faults,
+    faults: Faults<io::Error>,
 }
 
 impl FileSink {
@@ -65,7 +72,7 @@ impl FileSink {
     {
         FileSink {
             target: Target::File(file),
-            faults: Faults { count: 0 },
+            faults: Faults::none(),
         }
     }
 
@@ -75,8 +82,13 @@ impl FileSink {
     {
         FileSink {
             target: Target::Output(output),
-            faults: Faults { count: 0 },
+            faults: Faults::none(),
         }
+    }
+
+    /// Why the first call failed that did.
+    pub fn first_error(&self) -> Option<&io::Error> {
+        self.faults.first.as_ref()
     }
 }
 
@@ -89,13 +101,17 @@ impl Sink for FileSink {
 
     fn give(&mut self, piece: &[u8]) -> Result<usize, Failed> {
         let written = match &mut self.target {
-            Target::File(file) => file.write(piece),
-            Target::Output(output) => output.write(piece),
+            Target::File(file) => write(file, piece),
+            Target::Output(output) => write(output, piece),
         };
         match written {
             Ok(count) if count > 0 || piece.is_empty() => Ok(count),
-            _ => {
-                self.faults.rise();
+            Ok(_) => {
+                self.faults.rise(io::Error::from(ErrorKind::WriteZero));
+                Err(Failed)
+            }
+            Err(error) => {
+                self.faults.rise(error);
                 Err(Failed)
             }
         }
