@@ -20,8 +20,8 @@ use Rattle.p4_server.specs.Promise.{IsRefused, Keeps, KeepsPromise}
 use Rattle.p4_server.specs.Runs.{RunsParties, IsClosed, IsShut, IsRun}
 use Rattle.p4_server.specs.Serve.{AnyOrder, NotSaid}
 use Rattle.p4_server.specs.Telling.{IsTold, IsToldAlone}
-use Rattle.p4_server.specs.declared.words.Mode.{Mode}
-use Rattle.p4_server.specs.Words.{HasParties, Job, asked, job_of, init, dump, checkpoint, load, schedule, serve}
+use Rattle.program_words.specs.declared.mode.Mode.{Mode}
+use Rattle.program_words.specs.Words.{HasParties, Job, asked, job_of, init, dump, checkpoint, load, schedule, serve}
 use Rattle.p4_server.specs.Written.{AreWritten}
 
 abbrev is_usage : Cause → Bool

@@ -1,5 +1,3 @@
-pub mod WordsLemmas
-pub mod WordsExamples
 pub mod Tellings
 pub mod RowsLemmas
 pub mod Openings

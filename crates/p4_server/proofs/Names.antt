@@ -6,10 +6,8 @@ use Rattle.std.proofs.lemmas.List.Folds.{list_any_at}
 use Rattle.std.proofs.lemmas.List.Kept.{AllPairs-cons}
 use Rattle.std.proofs.lemmas.Slice.Eq.{bytes_eq-Decides}
 use Rattle.depot_rows.specs.depot_path.Bytes.{same}
-use Rattle.depot_rows.specs.depot_model.Rules.{are_distinct}
 use Rattle.p4_server.specs.Parties.{AreDifferent}
-use Rattle.p4_server.specs.Words.{Job, Said, asked, asked_by, init, dump, checkpoint, load, schedule, serve, said_from, job_of_words, job_with, seed_given, count_given, are_party_names}
-use Rattle.p4_server.specs.declared.words.Coming.TheVariants.{Anything}
+use Rattle.program_words.specs.Words.{Job, Said, asked, asked_by, init, dump, checkpoint, load, schedule, serve, said_from, job_of_words, job_with, seed_given, count_given, are_party_names, are_distinct, anything}
 
 left_of : (a b : Bool) → (a && b) ≡ true → a ≡ true
 left_of true b e = refl
@@ -83,7 +81,7 @@ of_said None = tt
 of_said (Some said) = of_numbers (seed_given said.seeds) (count_given said.counts) said.plain
 
 party_names : (words : List (List ℕ)) → AllNamed (asked words)
-party_names words = of_said (said_from Anything words)
+party_names words = of_said (said_from anything words)
 
 -- the names are different
 pub names_differ : (seed : ℕ) (names words : List (List ℕ)) → asked words ≡ Some (schedule seed names) → AreDifferent names

@@ -12,7 +12,7 @@ use Rattle.p4_server.specs.Load.{Loads}
 use Rattle.p4_server.specs.Schedule.{Schedules}
 use Rattle.p4_server.specs.Serve.{Serves}
 use Rattle.p4_server.specs.Telling.{IsToldAlone}
-use Rattle.p4_server.specs.Words.{Job, asked, init, dump, checkpoint, load, schedule, serve}
+use Rattle.program_words.specs.Words.{Job, asked, init, dump, checkpoint, load, schedule, serve}
 
 -- For this cause nothing is run, and no disk and no door is touched.
 pub record IsRefused {D S K H : Type 0} (given : K → Option (List ℕ)) (sink_faults : K → ℕ) (old_doors new_doors : H) (journal archive : D) (old_out new_out : K) (ended : Ended D S K) (cause : Cause) : Type 0 where

@@ -13,7 +13,7 @@ ghost use Rattle.session_turns.specs.Drawn.{IsDrawn};
 ghost use Rattle.p4_server.specs.declared.party.NotRun.{NotRun};
 ghost use Rattle.p4_server.specs.Headline.{AreEnds, IsRunFrom};
 ghost use Rattle.p4_server.specs.Parties.{AreDifferent, AreFew, AreFormed, AreRead, CanBeTold, HaveCome, OnlyTheseCome, parties_of};
-ghost use Rattle.p4_server.specs.Words.{words_of};
+ghost use Rattle.program_words.specs.Words.{words_of};
 
 use depot_rows::model::{Place, Session};
 use depot_rows::paths::Sequence;

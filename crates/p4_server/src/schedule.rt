@@ -4,7 +4,7 @@ ghost use Rattle.std.specs.Prelude.{◌≡◌, ◌≤◌, length};
 ghost use Rattle.p4_server.specs.Ends.{status_of};
 ghost use Rattle.p4_server.specs.Parties.{AreDifferent};
 ghost use Rattle.p4_server.specs.Schedule.{Schedules};
-ghost use Rattle.p4_server.specs.Words.{words_of};
+ghost use Rattle.program_words.specs.Words.{words_of};
 
 use crate::ended::Ended;
 use crate::opening::end_unopened;

@@ -11,7 +11,7 @@ ghost use Rattle.p4_server.specs.declared.party.NotRun.{NotRun};
 ghost use Rattle.p4_server.specs.Headline.{AreEnds, IsRunFrom};
 ghost use Rattle.p4_server.specs.Parties.{AreDifferent, CanBeTold, OnlyTheseCome, parties_of};
 ghost use Rattle.p4_server.specs.Serve.{AnyOrder, NotSaid};
-ghost use Rattle.p4_server.specs.Words.{words_of};
+ghost use Rattle.program_words.specs.Words.{words_of};
 
 use crate::party::{Came, NotRun, PartiesRun, Scripts, open_doors, read_scripts};
 use depot_rows::paths::Sequence;

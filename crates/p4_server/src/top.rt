@@ -2,7 +2,7 @@
 
 ghost use Rattle.std.specs.Prelude.{◌≡◌, true};
 ghost use Rattle.p4_server.specs.Promise.{KeepsPromise};
-ghost use Rattle.p4_server.specs.Words.{asks_alone, words_of};
+ghost use Rattle.program_words.specs.Words.{asks_alone, words_of};
 
 use crate::checkpoint::checkpoint;
 use crate::dump::dump;
@@ -12,8 +12,8 @@ use crate::load::load;
 use crate::schedule::schedule;
 use crate::serve::serve;
 use crate::telling::end_alone;
-use crate::words::{Mode, mode_of, served_names};
 use outside_api::{Clock, Disk, Doors, Gate};
+use program_words::{Mode, mode_of, served_names};
 use std::alloc::Global;
 use std::sync::Wait;
 use std::thread::Threads;

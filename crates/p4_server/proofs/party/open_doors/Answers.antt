@@ -3,7 +3,7 @@ use Rattle.std.specs.Prelude.{slice_get, option_map}
 use Rattle.std.specs.Borrow.{Bor}
 use Rattle.std.proofs.lemmas.Option.{slice_get-get_or, slice_get-map}
 use Rattle.std.proofs.lemmas.List.{length-map}
-use Rattle.p4_server.specs.Words.{words_of}
+use Rattle.program_words.specs.Words.{words_of}
 use Rattle.p4_server.proofs.Coming.{firsts_none, firsts_more, only_more, have_come}
 use Rattle.p4_server.proofs.party.open_doors.Goals as goal
 

@@ -1,5 +1,5 @@
 use Rattle.std.proofs.Common.{◌≤◌}
-use Rattle.p4_server.specs.Words.{words_of}
+use Rattle.program_words.specs.Words.{words_of}
 use Rattle.p4_server.proofs.Coming.{FirstsCome}
 use Rattle.p4_server.proofs.party.open_doors.Given as goal
 

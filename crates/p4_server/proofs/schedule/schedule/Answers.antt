@@ -6,7 +6,7 @@ use Rattle.party_threads.specs.serial_depot.Growing.{Chronicle}
 use Rattle.party_threads.specs.serial_depot.Running.{HasRun}
 use Rattle.party_threads.specs.serial_depot.declared.depot.SerialDepot.{SerialDepot}
 use Rattle.p4_server.specs.Parties.{parties_of}
-use Rattle.p4_server.specs.Words.{words_of}
+use Rattle.program_words.specs.Words.{words_of}
 use Rattle.p4_server.proofs.Openings.{opened_of, unopened_of}
 use Rattle.p4_server.proofs.Promises.{parties_run, parties_shut, parties_unopened}
 use Rattle.p4_server.proofs.Ran.{began_from}

@@ -3,7 +3,7 @@ use Rattle.archive_file.specs.Archive as archives
 use Rattle.disk_journal.specs.Stands.{disk_of}
 use Rattle.party_threads.specs.serial_depot.declared.depot.SerialDepot.{SerialDepot}
 use Rattle.p4_server.specs.Parties.{parties_of}
-use Rattle.p4_server.specs.Words.{words_of}
+use Rattle.program_words.specs.Words.{words_of}
 use Rattle.p4_server.proofs.Openings.{opened_of, unopened_of}
 use Rattle.p4_server.proofs.Promises.{parties_run, parties_shut, parties_unopened}
 use Rattle.p4_server.proofs.Scheduled.{begins, can_take, are_kept, run_of, why_unrun}

@@ -1,9 +1,9 @@
 use Rattle.std.proofs.Common.{Some, refl, ap, ◌∙◌}
 use Rattle.p4_server.proofs.Asked.{asks_for, asks_none, kept, unasked, unread}
 use Rattle.p4_server.proofs.Names.{names_differ}
-use Rattle.p4_server.specs.Words.{checkpoint, dump, init, load, schedule, words_of}
-use Rattle.p4_server.specs.declared.words.Mode.{Mode}
-use Rattle.p4_server.specs.declared.words.Mode.TheVariants as modes
+use Rattle.program_words.specs.Words.{checkpoint, dump, init, load, schedule, words_of}
+use Rattle.program_words.specs.declared.mode.Mode.{Mode}
+use Rattle.program_words.specs.declared.mode.Mode.TheVariants as modes
 use Rattle.p4_server.proofs.top.p4_alone.Goals as goal
 
 pub returns-in-Err : goal.returns-in-Err

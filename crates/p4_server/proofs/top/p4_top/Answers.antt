@@ -1,5 +1,5 @@
 use Rattle.p4_server.proofs.Names.{served_differ}
-use Rattle.p4_server.specs.Words.{words_of}
+use Rattle.program_words.specs.Words.{words_of}
 use Rattle.p4_server.proofs.top.p4_top.Goals as goal
 
 pub serve-requires-clause-different : goal.serve-requires-clause-different

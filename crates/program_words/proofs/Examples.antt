@@ -1,11 +1,6 @@
 -- Some command lines, and what they ask.
-use Rattle.std.proofs.Common.{◌≡◌, [], ◌∷◌, Some, None, refl}
-use Rattle.std.specs.Prelude.{codes}
-use Rattle.p4_server.specs.Words.{asked, init, dump, load, schedule, serve}
-
--- `--seed 1 --count 3 dump`
-options_before : asked (codes "--seed" ∷ codes "1" ∷ codes "--count" ∷ codes "3" ∷ codes "dump" ∷ []) ≡ Some dump
-options_before = refl
+use Rattle.std.proofs.Common.{◌≡◌, [], ◌∷◌, Some, None, codes, refl}
+use Rattle.program_words.specs.Words.{asked, init, load, schedule, serve}
 
 -- `--seed 1 --count 3 load`
 options_of_a_load : asked (codes "--seed" ∷ codes "1" ∷ codes "--count" ∷ codes "3" ∷ codes "load" ∷ []) ≡ Some (load 1 3)
