@@ -2,6 +2,7 @@
 
 use crate::fault::CaseFault;
 use crate::gate::CaseGate;
+use crate::running::Ran;
 use depot_path::Text;
 use memory_world::MemorySink;
 use p4_server::PartyEnd;
@@ -66,7 +67,7 @@ impl Answers {
     }
 
     /// Adds a line of a front, a word and a back.
-    fn add_line(&mut self, front: &str, word: &str, back: &str) -> Result<(), AllocError> {
+    pub fn add_line(&mut self, front: &str, word: &str, back: &str) -> Result<(), AllocError> {
         self.text.append(front.as_bytes())?;
         self.text.append(word.as_bytes())?;
         self.text.append(back.as_bytes())?;
@@ -120,23 +121,87 @@ impl Answers {
     }
 
     /// Adds the end of a run with these words and this gate: what `out` got, the status, what each party got, and what the gate tells.
-    pub fn add_run(
-        &mut self,
-        words: &str,
-        out: &[u8],
-        status: u8,
-        parties: &[PartyEnd<MemorySink>],
-        gate: &CaseGate,
-    ) -> Result<(), AllocError> {
+    pub fn add_run(&mut self, words: &str, ran: &Ran, gate: &CaseGate) -> Result<(), AllocError> {
         self.add_line("$ ", words, "")?;
         if is_serve(words) && !gate.is_turn() {
-            self.add_unordered(out)?;
+            self.add_unordered(ran.out.given())?;
         } else {
-            self.text.append(out)?;
+            self.text.append(ran.out.given())?;
         }
-        self.add_line("status ", itoa::Buffer::new().format(status), "")?;
-        self.add_parties(names_of(words), parties)?;
+        self.add_line("status ", itoa::Buffer::new().format(ran.ended.status), "")?;
+        self.add_parties(names_of(words), ran.ended.parties.as_slice())?;
         self.add_gate(gate)
+    }
+
+    /// Adds a word to the last line, with a space before it.
+    pub fn add_word(&mut self, word: &[u8]) -> Result<(), AllocError> {
+        self.text.append(b" ")?;
+        self.text.append(word)
+    }
+
+    /// Begins a line with a byte that the open bytes of a stop are.
+    pub fn add_pick(&mut self, byte: u8) -> Result<(), AllocError> {
+        self.text.append(b"open bytes ")?;
+        self.text.append(&[byte])?;
+        self.text.append(b":")
+    }
+
+    /// Ends the last line.
+    pub fn end_line(&mut self) -> Result<(), AllocError> {
+        self.text.append(b"\n")
+    }
+
+    /// Adds to the last line those lines of what a run gave out that tell no place of the order.
+    fn add_faults(&mut self, out: &[u8]) -> Result<(), AllocError> {
+        for line in out.split(|byte| *byte == b'\n') {
+            if !line.is_empty() && !line.starts_with(b"place ") {
+                self.add_word(line)?;
+                self.text.append(b",")?;
+            }
+        }
+        Ok(())
+    }
+
+    /// Adds to the last line the code of each reply, `-` where it has none.
+    fn add_codes(&mut self, given: &[u8]) -> Result<(), AllocError> {
+        let mut is_refused = false;
+        for line in given.split(|byte| *byte == b'\n') {
+            if line.starts_with(b"... end ") {
+                if !is_refused {
+                    self.add_word(b"-")?;
+                }
+                is_refused = false;
+            } else if let Some(code) = line.strip_prefix(b"... code ") {
+                if !is_refused {
+                    self.add_word(code)?;
+                }
+                is_refused = true;
+            }
+        }
+        Ok(())
+    }
+
+    /// Adds to the last line how a run with these words ended: its status, the places that are faults, the faults of scripts, and each party's codes.
+    pub fn add_end(&mut self, words: &str, ran: &Ran) -> Result<(), AllocError> {
+        self.text.append(b"status ")?;
+        self.text
+            .append(itoa::Buffer::new().format(ran.ended.status).as_bytes())?;
+        self.text.append(b",")?;
+        self.add_faults(ran.out.given())?;
+        for (place, name) in names_of(words).split(' ').enumerate() {
+            let Some(given) = given_to(ran.ended.parties.as_slice(), place) else {
+                break;
+            };
+            self.add_word(name.as_bytes())?;
+            self.add_codes(given)?;
+            self.text.append(b",")?;
+        }
+        Ok(())
+    }
+
+    /// Adds bytes as they are.
+    pub fn add_bytes(&mut self, bytes: &[u8]) -> Result<(), AllocError> {
+        self.text.append(bytes)
     }
 
     /// Adds the fault of a line, at which the cases end.

@@ -4,7 +4,7 @@ ghost use Rattle.std.specs.Prelude.{◌≤◌, ◌<◌, length};
 ghost use Rattle.std.specs.Iterator.{at_most};
 
 use crate::fault::CaseFault;
-use crate::step::{Step, cut, damage, gate, script};
+use crate::step::{Step, cut, damage, every_call, fail, file, gate, more, script, show};
 
 /// A line of a file of cases.
 #[derive(Clone, Copy)]
@@ -56,17 +56,41 @@ impl<'a> Cases<'a> {
         line
     }
 
+    /// Takes so many bytes that a line announces.
+    fn take_bytes(&mut self, size: u64) -> Result<&'a [u8], CaseFault>
+        ensures { length self.new.rest.now ≤ length self.old.rest.now }
+    {
+        let bytes = self.take_block(size as usize).ok_or(CaseFault::CutScript)?;
+        let feeds = bytes.iter().filter(|byte| **byte == b'\n').count();
+        self.lines = self.lines.saturating_add(1).saturating_add(feeds as u64);
+        Ok(bytes)
+    }
+
     /// The script of these words, with its bytes.
     fn take_script(&mut self, text: &'a str) -> Result<Step<'a>, CaseFault>
         ensures { length self.new.rest.now ≤ length self.old.rest.now }
     {
         let (name, length) = script(text)?;
-        let bytes = self
-            .take_block(length as usize)
-            .ok_or(CaseFault::CutScript)?;
-        let feeds = bytes.iter().filter(|byte| **byte == b'\n').count();
-        self.lines = self.lines.saturating_add(1).saturating_add(feeds as u64);
+        let bytes = self.take_bytes(length)?;
         Ok(Step::Script { name, bytes })
+    }
+
+    /// What is put behind the script of these words.
+    fn take_more(&mut self, text: &'a str) -> Result<Step<'a>, CaseFault>
+        ensures { length self.new.rest.now ≤ length self.old.rest.now }
+    {
+        let (name, count, length) = more(text)?;
+        let bytes = self.take_bytes(length)?;
+        Ok(Step::More { name, count, bytes })
+    }
+
+    /// The file of these words, with its bytes.
+    fn take_file(&mut self, text: &'a str) -> Result<Step<'a>, CaseFault>
+        ensures { length self.new.rest.now ≤ length self.old.rest.now }
+    {
+        let (disk, file, length) = file(text)?;
+        let bytes = self.take_bytes(length)?;
+        Ok(Step::File { disk, file, bytes })
     }
 
     /// What a line asks.
@@ -81,8 +105,15 @@ impl<'a> Cases<'a> {
         match form {
             "case" => Ok(Step::Case(words)),
             "script" => self.take_script(words),
+            "more" => self.take_more(words),
+            "file" => self.take_file(words),
             "gate" => gate(words),
+            "fail" => fail(words),
             "run" => Ok(Step::Run(words)),
+            "kept" => Ok(Step::Kept(words)),
+            "every" => every_call(words),
+            "stops" => Ok(Step::Stops(words)),
+            "show" => show(words),
             "damage" => damage(words),
             "cut" => cut(words),
             _ => Err(CaseFault::UnknownWord),

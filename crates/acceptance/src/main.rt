@@ -1,44 +1,28 @@
-//! Runs cases over the depot server in memory, and prints what it answers.
+//! Runs cases over the depot server in memory, and compares what it answers with what is expected.
 //!
-//! The words of the command line name files of cases, each a list of lines:
-//!
-//! | Line | Meaning |
-//! |---|---|
-//! | empty, or `#` first | skipped |
-//! | `case NAME` | begins a case: the disks are empty, and no script is there |
-//! | `script NAME LENGTH` | LENGTH bytes and a line feed follow: the script that the door NAME brings from now on |
-//! | `run WORDS..` | runs the server with these words over the disks as they are |
-//! | `gate turn PARTY NUMBER PARTY NUMBER TURNS` | holds in the next run the first command until the second was answered, for so many looks at most |
-//! | `gate meet PARTY NUMBER PARTY NUMBER TURNS` | holds in the next run each of two commands until the other has come, for so many looks at most |
-//! | `damage DISK FILE PLACE BYTE` | changes a byte of a file of the disk `journal` or `archive` |
-//! | `cut DISK FILE LENGTH` | cuts a file of that disk to a length |
-//!
-//! A case is answered by `== NAME`, and a run by `$ WORDS`, what the server gave out, `status N`, and for each party in order `[NAME]` and
-//! what its sink got. Behind a run that was given a gate stands `released yes`, `released no`, `met yes` or `met no`: whether the gate got what it
-//! waited for before its looks were spent. The clock says 1700000000. A line of another form, or one that can't be followed, ends the program: its
-//! last line is then the fault's name and the line's number.
-//!
-//! In a run of `serve` each party has a thread of its own, and the order of the commands depends on these threads. So the lines `place ..` and
-//! `fault ..` that tell it are printed in rising order of their bytes, unless the run has a gate of the form `turn`, by which a case can fix the
-//! order. In all other runs what the server gave out is printed as it came.
-//!
-//! The gate runs the files that `args` names, which lie in `data/`, and compares what is printed with `stdout`. So a further file of cases
-//! is put into `data/`, its name becomes the last line of `args`, and its answers are put behind those of `stdout`: answers from the
-//! specification, never from the program. It costs no proof.
+//! The words of the command line name files of cases, whose lines `data/README.md` tells. The answers that the cases of a file `NAME.cases` are to have
+//! stand in `NAME.expected`. Where the server answers just so, a line says how many lines were compared; else it names the first line that differs, shows
+//! both and the program ends with status 1. Where there is no such file the answers themselves are printed.
 #![tactic(auto)]
 
 mod answers;
 mod cases;
+mod comparison;
+mod disks;
 mod fault;
 mod gate;
+mod running;
 mod step;
+mod trial;
 mod world;
 
 use crate::answers::Answers;
 use crate::cases::Cases;
+use crate::comparison::{first_difference, line_at, line_count};
 use crate::fault::CaseFault;
 use crate::world::World;
 use std::alloc::Global;
+use std::io::{ErrorKind, Write};
 use std::process::ExitCode;
 use std::rt::{Env, Files};
 use std::sync::Wait;
@@ -66,20 +50,68 @@ fn answer_cases<R: Threads + Wait + Sync>(
     Ok(())
 }
 
-/// Answers the cases of each file that the words of the command line name, up to the first fault.
+/// The answers that are expected of the cases of a file. Nothing where there is no file of them.
+fn expected_of<R: Files + AllocGlobal>(rt: &R, name: &str) -> io::Result<Option<Vec<u8>>> {
+    let stem = name.strip_suffix(".cases").unwrap_or(name);
+    let path = format!(in rt.alloc(); "{stem}.expected")?;
+    match fs::read(rt, path) {
+        Ok(expected) => Ok(Some(expected)),
+        Err(error) => {
+            if error.kind() == ErrorKind::NotFound {
+                Ok(None)
+            } else {
+                Err(error)
+            }
+        }
+    }
+}
+
+/// Prints how the answers of the cases of a file compare with those that are expected, and returns whether they are the same.
+fn compare<R: Print>(rt: &R, name: &str, answered: &[u8], expected: &[u8]) -> io::Result<bool> {
+    match first_difference(answered, expected) {
+        None => {
+            println!(rt; "{name}: {} lines as expected", line_count(expected))?;
+            Ok(true)
+        }
+        Some(number) => {
+            println!(rt; "{name}: line {number} differs, expected and answered are")?;
+            io::writer(rt).write_all(line_at(expected, number))?;
+            io::writer(rt).write_all(b"\n")?;
+            io::writer(rt).write_all(line_at(answered, number))?;
+            io::writer(rt).write_all(b"\n")?;
+            Ok(false)
+        }
+    }
+}
+
+/// Answers the cases of a file, and returns whether no line has a fault and nothing differs from what is expected.
+fn answer_file<R: Files + AllocGlobal + Print + Threads + Wait + Sync>(
+    rt: &R,
+    name: &str,
+) -> io::Result<bool> {
+    let cases = fs::read(rt, name)?;
+    let mut answers = Answers::new(rt.alloc());
+    let followed = answer_cases(rt, rt.alloc(), &cases, &mut answers);
+    match expected_of(rt, name)? {
+        Some(expected) => compare(rt, name, answers.as_bytes(), &expected),
+        None => {
+            io::writer(rt).write_all(answers.as_bytes())?;
+            Ok(followed.is_ok())
+        }
+    }
+}
+
+/// Answers the cases of each file that the words of the command line name.
 fn answer_files<R: Env + Files + AllocGlobal + Print + Threads + Wait + Sync>(
     rt: &R,
 ) -> io::Result<ExitCode> {
+    let mut end = ExitCode::SUCCESS;
     for name in env::args(rt)?.skip(1) {
-        let cases = fs::read(rt, name)?;
-        let mut answers = Answers::new(rt.alloc());
-        let answered = answer_cases(rt, rt.alloc(), &cases, &mut answers);
-        io::Write::write_all(&mut io::writer(rt), answers.as_bytes())?;
-        if answered.is_err() {
-            return Ok(ExitCode::FAILURE);
+        if !answer_file(rt, &name)? {
+            end = ExitCode::FAILURE;
         }
     }
-    Ok(ExitCode::SUCCESS)
+    Ok(end)
 }
 
 fn main(rt: HostRuntime) -> io::Result<ExitCode> {

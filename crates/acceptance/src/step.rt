@@ -31,6 +31,69 @@ pub struct GatePlan {
     pub turns: u64,
 }
 
+/// An object of the outside of a run.
+#[derive(Clone, Copy, PartialEq, Eq)]
+pub enum Outside<'a> {
+    /// The journal's disk.
+    Journal,
+    /// The archive's disk.
+    Archive,
+    /// The doors.
+    Doors,
+    /// What the server writes to.
+    Out,
+    /// The source of the script of this name.
+    Source(&'a str),
+    /// The sink of the party of this name.
+    Sink(&'a str),
+}
+
+/// Calls of an object that fail: those of the numbers from the first to the last, counted from 1 in a run.
+#[derive(Clone, Copy)]
+pub struct Failure<'a> {
+    pub object: Outside<'a>,
+    pub first: u64,
+    pub last: u64,
+}
+
+/// Which calls fail in the runs of a trial.
+#[derive(Clone, Copy)]
+pub enum Extent {
+    /// One call.
+    One,
+    /// A call and all behind it.
+    On,
+}
+
+/// How many calls fail where a call and all behind it are to. No run of a case makes as many.
+const ALL: u64 = 300;
+
+impl<'a> Failure<'a> {
+    /// The call of a number, or that call and all behind it.
+    pub fn new(object: Outside<'a>, first: u64, extent: Extent) -> Self {
+        let last = match extent {
+            Extent::One => first,
+            Extent::On => first.saturating_add(ALL),
+        };
+        Failure {
+            object,
+            first,
+            last,
+        }
+    }
+}
+
+/// Runs in which one call of an object after another fails.
+#[derive(Clone, Copy)]
+pub struct Every<'a> {
+    /// All words of the line behind the first.
+    pub line: &'a str,
+    pub extent: Extent,
+    pub object: Outside<'a>,
+    /// The words of each run.
+    pub words: &'a str,
+}
+
 /// What a line of a file of cases asks.
 #[derive(Clone, Copy)]
 pub enum Step<'a> {
@@ -43,10 +106,36 @@ pub enum Step<'a> {
         name: &'a str,
         bytes: &'a [u8],
     },
+    /// Put these bytes so many times behind the script of the door of this name.
+    More {
+        name: &'a str,
+        count: u64,
+        bytes: &'a [u8],
+    },
+    /// Let a file of a disk be these bytes.
+    File {
+        disk: DiskName,
+        file: u32,
+        bytes: &'a [u8],
+    },
     /// Give the next run this gate.
     Gate(GatePlan),
+    /// Let calls of an object fail in the next run.
+    Fail(Failure<'a>),
     /// Run the server with these words, between which spaces stand.
     Run(&'a str),
+    /// Keep the rows that a run with these words leaves of the disks as they are.
+    Kept(&'a str),
+    /// Tell what runs with these words leave in which one call of an object after another fails.
+    Every(Every<'a>),
+    /// Tell what a stop leaves at every moment of a run with these words.
+    Stops(&'a str),
+    /// Show the bytes of a file.
+    Show {
+        line: &'a str,
+        disk: DiskName,
+        file: u32,
+    },
     /// Change a byte of a file.
     Damage {
         disk: DiskName,
@@ -99,6 +188,33 @@ impl<'a> Words<'a> {
         }
     }
 
+    /// The object that the next words name.
+    fn outside(&mut self) -> Result<Outside<'a>, CaseFault> {
+        match self.word()? {
+            "journal" => Ok(Outside::Journal),
+            "archive" => Ok(Outside::Archive),
+            "doors" => Ok(Outside::Doors),
+            "out" => Ok(Outside::Out),
+            "source" => Ok(Outside::Source(self.word()?)),
+            "sink" => Ok(Outside::Sink(self.word()?)),
+            _ => Err(CaseFault::UnknownObject),
+        }
+    }
+
+    /// Which calls fail by the next word.
+    fn extent(&mut self) -> Result<Extent, CaseFault> {
+        match self.word()? {
+            "one" => Ok(Extent::One),
+            "on" => Ok(Extent::On),
+            _ => Err(CaseFault::UnknownExtent),
+        }
+    }
+
+    /// All that is left, between which spaces stand.
+    fn rest(self) -> &'a str {
+        self.left.unwrap_or("")
+    }
+
     /// The next word as a number below `2 ^ 32`.
     fn short_number(&mut self) -> Result<u32, CaseFault> {
         u32::try_from(self.number()?).or(Err(CaseFault::BadNumber))
@@ -143,6 +259,26 @@ pub fn script<'a>(text: &'a str) -> Result<(&'a str, u64), CaseFault> {
     Ok((name, length))
 }
 
+/// The name of a script, and how often so many bytes are put behind it.
+pub fn more<'a>(text: &'a str) -> Result<(&'a str, u64, u64), CaseFault> {
+    let mut words = Words::new(text);
+    let name = words.word()?;
+    let count = words.number()?;
+    let length = words.number()?;
+    words.end()?;
+    Ok((name, count, length))
+}
+
+/// A file of a disk, and its length.
+pub fn file(text: &str) -> Result<(DiskName, u32, u64), CaseFault> {
+    let mut words = Words::new(text);
+    let disk = words.disk()?;
+    let file = words.short_number()?;
+    let length = words.number()?;
+    words.end()?;
+    Ok((disk, file, length))
+}
+
 /// The gate of the next run.
 pub fn gate<'a>(text: &'a str) -> Result<Step<'a>, CaseFault> {
     let mut words = Words::new(text);
@@ -157,6 +293,19 @@ pub fn gate<'a>(text: &'a str) -> Result<Step<'a>, CaseFault> {
         other,
         turns,
     }))
+}
+
+/// The bytes of a file.
+pub fn show<'a>(text: &'a str) -> Result<Step<'a>, CaseFault> {
+    let mut words = Words::new(text);
+    let disk = words.disk()?;
+    let file = words.short_number()?;
+    words.end()?;
+    Ok(Step::Show {
+        line: text,
+        disk,
+        file,
+    })
 }
 
 /// The change of a byte.
@@ -183,4 +332,27 @@ pub fn cut<'a>(text: &'a str) -> Result<Step<'a>, CaseFault> {
     let length = words.number()?;
     words.end()?;
     Ok(Step::Cut { disk, file, length })
+}
+
+/// The calls that fail in the next run.
+pub fn fail<'a>(text: &'a str) -> Result<Step<'a>, CaseFault> {
+    let mut words = Words::new(text);
+    let object = words.outside()?;
+    let extent = words.extent()?;
+    let first = words.number()?;
+    words.end()?;
+    Ok(Step::Fail(Failure::new(object, first, extent)))
+}
+
+/// The trial of failing calls.
+pub fn every_call<'a>(text: &'a str) -> Result<Step<'a>, CaseFault> {
+    let mut words = Words::new(text);
+    let extent = words.extent()?;
+    let object = words.outside()?;
+    Ok(Step::Every(Every {
+        line: text,
+        extent,
+        object,
+        words: words.rest(),
+    }))
 }

@@ -1,0 +1,184 @@
+//! Runs over copies of the disks of a case, and what stops leave of them.
+
+use crate::answers::Answers;
+use crate::disks::stopped;
+use crate::fault::CaseFault;
+use crate::running::{Ran, dump};
+use depot_path::Text;
+use memory_world::{MemoryDisk, MemorySink, MemorySource};
+use outside_api::Disk;
+use p4_server::Ended;
+use std::alloc::{AllocError, Global};
+use std::sync::Wait;
+use std::thread::Threads;
+
+/// The greatest number of a call of a trial that may fail. No run of a case makes as many calls of an object.
+pub const MOST_CALLS: u64 = 4_000;
+
+/// The bytes that the open ones of a stop are: none of a mark, that of an open mark, and that of a closed one.
+const PICKS: &[u8] = b"0em";
+
+/// How many open bytes are given one of these bytes; those behind them are 0.
+const PICKED: usize = 8192;
+
+/// A run over copies of the disks of a case.
+#[derive(Drop)]
+pub struct Trial {
+    pub ran: Ran,
+    /// The moment of the journal's disk at which it began.
+    pub begin: u64,
+}
+
+/// How many lengths a disk gives before a call fails.
+fn calls_left(disk: &mut MemoryDisk) -> u64 {
+    for asked in 0..MOST_CALLS {
+        if disk.length(0).is_err() {
+            return asked;
+        }
+    }
+    MOST_CALLS
+}
+
+/// The first line of a text, without its line feed.
+fn first_line(text: &[u8]) -> &[u8] {
+    text.split(|byte| *byte == b'\n').next().unwrap_or(text)
+}
+
+/// The first line of what a run gave out, in parentheses.
+fn told_alone(alloc: Global, out: &[u8]) -> Result<Text, AllocError> {
+    let mut told = Text::from_bytes(alloc, b"(")?;
+    told.append(first_line(out))?;
+    told.append(b")")?;
+    Ok(told)
+}
+
+/// To which of the depots that are kept disks open: its number, from 0, or `?` where it is none of them. Of disks that don't open it is the line that says so.
+fn told(alloc: Global, kept: &[Text], dumped: &Ran) -> Result<Text, AllocError> {
+    let rows = dumped.out.given();
+    if dumped.ended.status != 0 {
+        return told_alone(alloc, rows);
+    }
+    match kept.iter().position(|depot| depot.as_bytes() == rows) {
+        Some(number) => {
+            Text::from_bytes(alloc, itoa::Buffer::new().format(number as u64).as_bytes())
+        }
+        None => Text::from_bytes(alloc, b"?"),
+    }
+}
+
+/// Bytes for the open ones of a stop.
+fn picked(alloc: Global, byte: u8) -> Result<Vec<u8>, AllocError> {
+    Ok(vec![in alloc; byte; PICKED]?)
+}
+
+/// The rows of the disks that a run leaves after a stop at a moment of the journal's disk.
+fn dump_stopped<R: Threads + Wait + Sync>(
+    rt: &R,
+    alloc: Global,
+    ended: &Ended<MemoryDisk, MemorySource, MemorySink>,
+    moment: u64,
+    pick: &[u8],
+) -> Result<Ran, AllocError> {
+    let journal = ended.journal.image(moment, pick)?;
+    match stopped(&ended.archive, pick) {
+        Ok(archive) => Ok(dump(rt, alloc, journal, archive)),
+        Err(AllocError) => {
+            drop(journal);
+            Err(AllocError)
+        }
+    }
+}
+
+impl Trial {
+    /// The moment of the journal's disk at which the run ended, where the call of the number `MOST_CALLS` was to fail.
+    pub fn end(&mut self) -> u64 {
+        let left = calls_left(&mut self.ran.ended.journal);
+        let calls = (MOST_CALLS - 1).saturating_sub(left);
+        self.begin.saturating_add(calls)
+    }
+
+    /// To what the disks open after a stop at a moment of the journal's disk, with open bytes of this one, and the archive's disk as it is at the end.
+    fn opened<R: Threads + Wait + Sync>(
+        &self,
+        rt: &R,
+        alloc: Global,
+        kept: &[Text],
+        moment: u64,
+        byte: u8,
+    ) -> Result<Text, AllocError> {
+        let pick = picked(alloc, byte)?;
+        let dumped = dump_stopped(rt, alloc, &self.ran.ended, moment, &pick)?;
+        let opened = told(alloc, kept, &dumped);
+        drop(dumped);
+        opened
+    }
+
+    /// The rows of the depot that the run leaves, where it ended with status 0.
+    pub fn rows<R: Threads + Wait + Sync>(&self, rt: &R, alloc: Global) -> Result<Text, CaseFault> {
+        if self.ran.ended.status != 0 {
+            return Err(CaseFault::NotDone);
+        }
+        let dumped = dump_stopped(rt, alloc, &self.ran.ended, u64::MAX, &[])?;
+        let rows = Text::from_bytes(alloc, dumped.out.given());
+        drop(dumped);
+        rows.map_err(CaseFault::from)
+    }
+
+    /// To what the disks open after a stop at each moment of the run, in turn, each once where neighbours are alike.
+    fn stopped<R: Threads + Wait + Sync>(
+        &self,
+        rt: &R,
+        alloc: Global,
+        kept: &[Text],
+        end: u64,
+        byte: u8,
+    ) -> Result<Answers, AllocError> {
+        let mut line = Answers::new(alloc);
+        line.add_pick(byte)?;
+        let mut last = Text::new(alloc);
+        for moment in self.begin..=end {
+            let opened = self.opened(rt, alloc, kept, moment, byte)?;
+            if opened.as_bytes() != last.as_bytes() {
+                line.add_word(opened.as_bytes())?;
+            }
+            last = opened;
+        }
+        line.end_line()?;
+        Ok(line)
+    }
+
+    /// Adds what stops at the moments of the run leave, for each of the bytes that the open ones may be.
+    pub fn tell_stops<R: Threads + Wait + Sync>(
+        &self,
+        rt: &R,
+        alloc: Global,
+        kept: &[Text],
+        end: u64,
+        answers: &mut Answers,
+    ) -> Result<(), AllocError> {
+        for byte in PICKS {
+            let stopped = self.stopped(rt, alloc, kept, end, *byte)?;
+            answers.add_bytes(stopped.as_bytes())?;
+        }
+        Ok(())
+    }
+
+    /// How the run ended, which commands were refused, and to what a stop at its end leaves the disks.
+    pub fn outcome<R: Threads + Wait + Sync>(
+        &self,
+        rt: &R,
+        alloc: Global,
+        words: &str,
+        kept: &[Text],
+    ) -> Result<Answers, AllocError> {
+        let mut line = Answers::new(alloc);
+        line.add_end(words, &self.ran)?;
+        line.add_word(b"opens to")?;
+        for byte in PICKS {
+            let opened = self.opened(rt, alloc, kept, u64::MAX, *byte)?;
+            line.add_word(opened.as_bytes())?;
+        }
+        line.end_line()?;
+        Ok(line)
+    }
+}
