@@ -3,4 +3,3 @@ pub mod Storing
 pub mod Granted
 pub mod Locking
 pub mod Refusals
-mod Waiting

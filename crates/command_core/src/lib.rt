@@ -4,7 +4,6 @@
 mod about;
 mod change_commands;
 mod evaluation;
-mod filling;
 mod history_commands;
 mod input;
 mod job_commands;
@@ -20,6 +19,5 @@ mod submit_commands;
 mod syncing_commands;
 
 pub use evaluation::evaluate;
-pub use filling::filled;
 pub use laws::{depots_with_the_same_rows_and_contents_answer_alike, steps_keep_depots_sound};
 pub use outcome::Outcome;

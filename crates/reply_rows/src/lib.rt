@@ -8,6 +8,7 @@ mod builder;
 mod content;
 mod does;
 mod fields;
+mod filling;
 mod forms;
 mod refusals;
 mod step;
@@ -15,6 +16,7 @@ mod step;
 pub use builder::RowBuilder;
 pub use content::RowContent;
 pub use fields::{change_field, number_field, path_field, row_of, text_field};
+pub use filling::filled;
 pub use forms::{form_fields, push_numbered, push_values};
 pub use refusals::{
     all_integrated_row, already_open_row, already_shelved_row, bad_form_row, bad_path_row,

@@ -21,10 +21,11 @@ use crate::commit::fault_reply;
 use crate::counting::{are_counted, know_records};
 use crate::storing::{are_within, read_all};
 use archive_file::{Archive, ContentFault};
-use command_core::{Outcome, filled};
+use command_core::Outcome;
 use depot_rows::paths::{Sequence, Text};
 use depot_rows::records::Change;
 use outside_api::Disk;
+use reply_rows::filled;
 use std::alloc::{AllocError, Global};
 use wire_text::print_reply;
 

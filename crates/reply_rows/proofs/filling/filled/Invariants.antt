@@ -1,8 +1,8 @@
 use Rattle.std.proofs.Common.{◌≡◌, ◌≤◌, List, length, map, take}
 use Rattle.depot_rows.specs.depot_model.declared.reply.Row.{Row}
 use Rattle.reply_rows.specs.Made.{contents_of, waiting}
-use Rattle.command_core.proofs.Waiting.{partly}
-use Rattle.command_core.proofs.filling.filled.Given as goal
+use Rattle.reply_rows.proofs.Waiting.{partly}
+use Rattle.reply_rows.proofs.filling.filled.Given as goal
 
 abbrev pub invariant-loop-left : goal.invariant-loop-left
 invariant-loop-left l = record {

@@ -3,8 +3,8 @@ use Rattle.std.specs.Option.{option_to_list}
 use Rattle.std.proofs.lemmas.List.{length-map, take_all}
 use Rattle.depot_rows.specs.depot_model.declared.reply.Row.{Row}
 use Rattle.reply_rows.specs.Made.{contents_of, waiting}
-use Rattle.command_core.proofs.Waiting.{Next, next, partly, partly_all}
-use Rattle.command_core.proofs.filling.filled.Goals as goal
+use Rattle.reply_rows.proofs.Waiting.{Next, next, partly, partly_all}
+use Rattle.reply_rows.proofs.filling.filled.Goals as goal
 
 pub loop-left-init : goal.loop-left-init
 loop-left-init c = record {
