@@ -20,4 +20,3 @@ pub mod Landed
 pub mod Whole
 pub mod GoodSpots
 pub mod Damaged
-pub mod Hashed

@@ -1,9 +1,16 @@
 -- What the faults of opening say.
 use Rattle.std.specs.Prelude.{◌≡◌, ℕ, Result, Ok, Err}
+use Rattle.archive_file.specs.declared.archive.ContentFault.{ContentFault}
+use Rattle.archive_file.specs.declared.archive.ContentFault.TheVariants as content_faults
 use Rattle.recovery.specs.declared.fault.DepotDisk.{DepotDisk}
 use Rattle.recovery.specs.declared.fault.DepotDisk.TheVariants.{Journal, Archive}
 use Rattle.recovery.specs.declared.fault.OpenFault.{OpenFault}
 use Rattle.recovery.specs.declared.fault.OpenFault.TheVariants.{Unmade, Damaged, DiskFault, Memory}
+
+-- why a content can't be given, as a fault of opening
+abbrev pub unread_as : ContentFault → OpenFault
+unread_as content_faults.DiskFault = DiskFault
+unread_as content_faults.Memory = Memory
 
 -- a fault that says nothing of what the files read
 abbrev pub SaysNothing : OpenFault → Type 0

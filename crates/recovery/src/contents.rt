@@ -2,7 +2,6 @@
 
 ghost use Rattle.std.specs.Prelude.{◌≡◌, ◌≢◌, ◌≤◌, ◌<◌, ◌+◌, ◌^◌, ℕ, List, length, take, drop, IfOk, OnOk, Err};
 ghost use Rattle.std.specs.Result.{IfErr};
-ghost use Rattle.md5.specs.Md5.{Holds};
 ghost use Rattle.outside_api.specs.Disk.{Files};
 ghost use Rattle.depot_rows.specs.db_records.declared.table.TableId.TheVariants.{Rev};
 ghost use Rattle.depot_rows.specs.depot_model.Records.{digest};
@@ -16,12 +15,10 @@ ghost use Rattle.recovery.specs.declared.fault.OpenFault.TheVariants.{Damaged, D
 
 use crate::fault::{DepotDisk, OpenFault};
 use crate::spots::{end_within, revisions};
-use depot_rows::paths::Text;
-use depot_rows::records::{Record, RevRecord};
+use archive_file::digest_on_disk;
+use depot_rows::records::{Record, RevRecord, Spot};
 use depot_rows::tables::Tables;
-use hex::encode_upper;
-use md5::{Digest, Md5};
-use outside_api::{Disk, fill};
+use outside_api::Disk;
 use std::alloc::{AllocError, Global};
 
 /// The file of the archive's disk.
@@ -29,43 +26,6 @@ const CONTENTS: u32 = 0;
 
 /// How many bytes of the file are read at a time.
 const PIECE: usize = 65_536;
-
-/// The hasher of so many bytes of the archive from a place on, which are read in pieces. Where the file
-/// ends before, it has the bytes up to there.
-fn hash_content<D: Disk>(
-    disk: &mut D,
-    at: u64,
-    size: u64,
-    piece: &mut [u8],
-) -> Result<Md5, OpenFault>
-    requires room { 0 < length piece.old }
-    requires small { at + size < 2 ^ 63 }
-    ensures holds { (files : Files) → D.seen disk.old files → at + size ≤ length (files 0) → IfOk result (λ hasher. Holds hasher (take size (drop at (files 0)))) }
-    ensures fault { IfErr result SaysNothing }
-    ensures reads { OnlyReads D.seen D.may_leave D.moment D.left_since disk.old disk.new }
-    ensures cause { IsCause (D.faults disk.old) (D.faults disk.new) (result ≡ Err DiskFault) }
-{
-    let mut hasher = Md5::new();
-    let mut done = 0;
-    while done < size {
-        let room = (size - done).min(piece.len() as u64) as usize;
-        let count = fill(disk, CONTENTS, at + done, &mut piece[..room])?;
-        if count == 0 {
-            return Ok(hasher);
-        }
-        hasher.update(&piece[..count]);
-        done += count as u64;
-    }
-    Ok(hasher)
-}
-
-/// The digest of what a hasher has taken in, as the digest field of the table db.rev has it.
-fn finish_digest(alloc: Global, hasher: Md5) -> Result<Text, AllocError>
-    ensures { (bytes : List ℕ) → Holds hasher bytes → IfOk result (λ text. text ≡ digest bytes) }
-{
-    let digits = encode_upper(alloc, hasher.finalize())?;
-    Text::from_bytes(alloc, digits.as_str().as_bytes())
-}
 
 /// The fault of the archive at a place.
 fn damaged(place: u64) -> OpenFault
@@ -93,8 +53,11 @@ fn check_content<D: Disk>(
     ensures reads { OnlyReads D.seen D.may_leave D.moment D.left_since disk.old disk.new }
     ensures cause { IsCause (D.faults disk.old) (D.faults disk.new) (result ≡ Err DiskFault) }
 {
-    let hasher = hash_content(disk, revision.at, revision.length, piece)?;
-    let found = finish_digest(alloc, hasher)?;
+    let spot = Spot {
+        at: revision.at,
+        length: revision.length,
+    };
+    let found = digest_on_disk(alloc, disk, spot, piece)?;
     if found != revision.digest {
         return Err(damaged(revision.at));
     }

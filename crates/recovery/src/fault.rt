@@ -1,9 +1,11 @@
 //! Why the files of a depot can't be made or opened.
 
 ghost use Rattle.std.specs.Prelude.{◌≡◌};
+ghost use Rattle.recovery.specs.Faults.{unread_as};
 ghost use Rattle.recovery.specs.declared.fault.MakeFault.TheVariants as make_faults;
 ghost use Rattle.recovery.specs.declared.fault.OpenFault.TheVariants as open_faults;
 
+use archive_file::ContentFault;
 use outside_api::{DiskFault, Failed};
 use std::alloc::AllocError;
 
@@ -63,6 +65,17 @@ impl From<Failed> for OpenFault {
 
     fn from(_: Failed) -> OpenFault {
         OpenFault::DiskFault
+    }
+}
+
+impl From<ContentFault> for OpenFault {
+    ghost from_gives = { λ content fault. fault ≡ unread_as content };
+
+    fn from(fault: ContentFault) -> OpenFault {
+        match fault {
+            ContentFault::DiskFault => OpenFault::DiskFault,
+            ContentFault::Memory => OpenFault::Memory,
+        }
     }
 }
 
