@@ -5,3 +5,4 @@ pub mod OwedRows
 pub mod Owing
 pub mod OwingRows
 pub mod OwnDeeds
+pub mod ToldRows
