@@ -1,5 +1,5 @@
 -- Where the arguments ask for no revision, they name what they name at the heads; and the loop over chosen files is the model's.
-use Rattle.std.proofs.Common.{◌≡◌, ℕ, Bool, true, false, List, [], ◌∷◌, refl, sym, ap, ◌∙◌}
+use Rattle.std.proofs.Common.{◌≡◌, ℕ, Bool, true, false, List, [], ◌∷◌, refl, sym, ap}
 use Rattle.std.specs.Prelude.{filter, is_some}
 use Rattle.std.specs.List.{list_all}
 use Rattle.depot_rows.specs.depot_path.declared.file_spec.FileSpec.{FileSpec}
@@ -7,7 +7,7 @@ use Rattle.depot_rows.specs.depot_path.declared.revision.Wanted.{Wanted}
 use Rattle.depot_rows.specs.depot_path.declared.revision.Wanted.TheVariants.{Head, One, Range}
 use Rattle.depot_rows.specs.depot_model.declared.command.FileArgument.{FileArgument}
 use Rattle.depot_rows.specs.depot_model.declared.request.Caller.{Caller}
-use Rattle.depot_rows.specs.depot_model.Arguments.{everything, named, names, over, over_all, submitted}
+use Rattle.depot_rows.specs.depot_model.Arguments.{named, names, over, over_all, submitted}
 use Rattle.depot_rows.specs.depot_model.Deeds.{Deed}
 use Rattle.depot_rows.specs.depot_model.Step.{Step as ModelStep}
 use Rattle.depot_rows.specs.depot_model.Steps.Listing.{chosen_revision, listed}

@@ -46,7 +46,7 @@ use Rattle.named_files.specs.declared.listing.Listing.TheVariants.{OpenedBy}
 use Rattle.named_files.proofs.Joining.{joined}
 use Rattle.named_files.proofs.Rising as paths
 use Rattle.named_files.proofs.Rising.{filter_rises, in_filter, one_list, told_rise}
-use Rattle.named_files.proofs.RowsListed.{Single, in_text, single_text}
+use Rattle.named_files.proofs.RowsListed.{Single, in_text, same_turned, single_text}
 use Rattle.named_files.proofs.Told.{open_are_paths, open_told}
 
 order : IsTotalOrder (slice_cmp nat_cmp)
@@ -166,15 +166,6 @@ has_text text _ = false
 or_absorb : (a b : Bool) → (a || b) ≡ (a || (a || b))
 or_absorb true b = refl
 or_absorb false b = refl
-
-same_turned : (a b : List ℕ) → same a b ≡ same b a
-same_turned a b = go (same a b) refl (same b a) refl
-  where
-    go : (x : Bool) → same a b ≡ x → (y : Bool) → same b a ≡ y → x ≡ y
-    go true e true k = refl
-    go true e false k = absurd (true≢false (sym (ap (λ c. same c a) (sym (same-is a b e)) ∙ same-self a) ∙ k))
-    go false e true k = absurd (true≢false (sym (ap (λ c. same c b) (sym (same-is b a k)) ∙ same-self b) ∙ e))
-    go false e false k = refl
 
 abbrev later_has : List ℕ → WorkingRecord → List Record → Bool
 later_has text r rows = list_any (same text) (texts_after (Some r.path) rows)

@@ -35,6 +35,10 @@ both_ways true b to from = sym (to refl)
 both_ways false true to from = from refl
 both_ways false false to from = refl
 
+pub same_turned : (a b : List ℕ) → same a b ≡ same b a
+same_turned a b =
+    both_ways (same a b) (same b a) (λ e. ap (λ c. same c a) (sym (same-is a b e)) ∙ same-self a) (λ e. ap (λ c. same c b) (sym (same-is b a e)) ∙ same-self b)
+
 -- ---- the path in a text
 
 read_is_path : (text x : List ℕ) → path_of text ≡ Ok x → is_path x ≡ true

@@ -3,7 +3,7 @@ use Rattle.std.proofs.Common.{◌≡◌, ℕ, Bool, true, false, List, [], ◌�
 use Rattle.std.specs.Prelude.{◌&&◌, ◌||◌, ◌==◌, not, filter, flat_map, if◌then◌else◌, is_some, option_map, unwrap_or, slice_get}
 use Rattle.std.specs.List.{list_all, list_any}
 use Rattle.std.specs.Option.{option_or, option_flatten}
-use Rattle.std.proofs.lemmas.Bool.{true≢false, false≢true}
+use Rattle.std.proofs.lemmas.Bool.{false≢true}
 use Rattle.depot_rows.specs.depot_path.Bytes.{same}
 use Rattle.depot_rows.specs.depot_path.Path.{printed, is_path}
 use Rattle.depot_rows.specs.db_records.Key.{key_table}
@@ -26,7 +26,7 @@ use Rattle.depot_rows.proofs.Spelled.{at_path-here}
 use Rattle.named_files.specs.Listed.{files_of, listed, listing_table}
 use Rattle.named_files.specs.declared.listing.Listing.{Listing}
 use Rattle.named_files.specs.declared.listing.Listing.TheVariants.{Had, OpenedBy, Submitted}
-use Rattle.named_files.proofs.RowsListed.{own_key, each_row, in_listed, in_order, listed_rise}
+use Rattle.named_files.proofs.RowsListed.{own_key, each_row, in_listed, in_order, listed_rise, same_turned}
 use Rattle.named_files.proofs.Rising.{Rise, filter_rises, in_all_inserted, in_filter, in_inserted, one_list, told_rise}
 
 or_right : (a b : Bool) → b ≡ true → (a || b) ≡ true
@@ -108,15 +108,6 @@ module _ (p : List ℕ) where
       right : (b : Bool) → true ≡ (b || true)
       right true = refl
       right false = refl
-
-  same_turned : (a b : List ℕ) → same a b ≡ same b a
-  same_turned a b = go (same a b) refl (same b a) refl
-    where
-      go : (x : Bool) → same a b ≡ x → (y : Bool) → same b a ≡ y → x ≡ y
-      go true e true k = refl
-      go true e false k = absurd (true≢false (sym (ap (λ c. same c a) (sym (same-is a b e)) ∙ same-self a) ∙ k))
-      go false e true k = absurd (true≢false (sym (ap (λ c. same c b) (sym (same-is b a k)) ∙ same-self b) ∙ e))
-      go false e false k = refl
 
   abbrev entry_path : Entry → List ℕ
   entry_path e = e.path

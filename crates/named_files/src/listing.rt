@@ -4,7 +4,7 @@ ghost use Rattle.std.specs.Prelude.{◌≡◌, IfOk, if◌then◌else◌, Some, 
 ghost use Rattle.std.specs.Option.{option_copied};
 ghost use Rattle.std.specs.Option.{option_to_list};
 ghost use Rattle.depot_rows.specs.depot_path.Bytes.{same};
-ghost use Rattle.named_files.specs.Listed.{front_key, front_text as text_in_front, listed_text as text_listed, listing_table, own_key as key_of_file, path_in_text};
+ghost use Rattle.named_files.specs.Listed.{front_key, front_text as text_in_front, listed_text as text_listed, listing_table, opener_of, own_key as key_of_file, path_in_text};
 
 use depot_rows::paths::{DepotPath, Name, PathFault, Sequence, Text};
 use depot_rows::records::{Key, Record, TableId};
@@ -48,6 +48,17 @@ impl Listing {
             Listing::Had { .. } => TableId::Have,
             Listing::OpenedBy { .. } => TableId::Working,
             Listing::Submitted => TableId::Rev,
+        }
+    }
+
+    /// The client whose openings the list has, as the rows name it, where it is a list of opened files. The one error is want of memory.
+    pub(crate) fn opener(&self, alloc: Global) -> Result<Option<Text>, AllocError>
+        ensures { IfOk result (λ client. client ≡ opener_of self.now) }
+    {
+        match self {
+            Listing::OpenedBy { client } => Ok(Some(Text::from_bytes(alloc, client.as_bytes())?)),
+            Listing::Had { .. } => Ok(None),
+            Listing::Submitted => Ok(None),
         }
     }
 
