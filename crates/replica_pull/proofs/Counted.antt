@@ -1,5 +1,6 @@
 -- The changes of groups, and the generations that were passed of a journal.
-use Rattle.std.proofs.Common.{◌≡◌, ℕ, zero, suc, ◌+◌, ◌-◌, ◌<◌, ◌≤◌, ◌^◌, List, [], ◌∷◌, ◌++◌, length, take, refl, sym, ◌∙◌, ap, subst, arith, append_assoc}
+use Rattle.std.proofs.Common.{◌≡◌, ℕ, zero, suc, ◌+◌, ◌-◌, ◌<◌, ◌≤◌, ◌^◌, List, [], ◌∷◌, ◌++◌, length, take, refl, sym, ◌∙◌, ap, subst, arith, append_assoc, length-append}
+use Rattle.std.specs.List.{flat_map}
 use Rattle.std.proofs.lemmas.List.{append-nil}
 use Rattle.outside_api.specs.Link.{text_of, IsEarlier}
 use Rattle.depot_rows.specs.db_records.declared.change.Change.{Change}
@@ -10,7 +11,7 @@ use Rattle.recovery.specs.Holding.{joined}
 use Rattle.recovery.proofs.Fits.{joined_append, changed_joined}
 use Rattle.recovery.proofs.Groups.{unreadable_never}
 use Rattle.recovery.proofs.Reading.{ends_short}
-use Rattle.replica_pull.specs.Prefix.{begun, changes_from, HasNoGroup, AreWholeIn, ArePassed}
+use Rattle.replica_pull.specs.Prefix.{begun, bytes_of, changes_from, HasNoGroup, AreWholeIn, ArePassed}
 
 -- ---- the changes of generations
 
@@ -72,6 +73,16 @@ passed_later (text ∷ now) (suc newest) bytes (x ∷ generations) there h =
     let within : newest ≤ length now - 1 = omega (arith, there) in
     (long, h.1, passed_later now newest bytes generations within h.2)
 
+-- the generations that were passed have their texts still
+pub passed_texts : (now : List (List ℕ)) (newest bytes : ℕ) (generations : List (List (List Change))) → newest ≤ length now - 1
+    → ArePassed (take newest now ++ take bytes (text_of now newest) ∷ []) generations
+    → take (length generations) (take newest now ++ take bytes (text_of now newest) ∷ []) ≡ take (length generations) now
+passed_texts now newest bytes [] there h = refl
+passed_texts now zero bytes (x ∷ generations) there h = absurd (omega (arith, h.0))
+passed_texts [] (suc newest) bytes (x ∷ generations) there h = absurd (omega (arith, there))
+passed_texts (text ∷ now) (suc newest) bytes (x ∷ generations) there h =
+    ap (λ (texts : List (List ℕ)). text ∷ texts) (passed_texts now newest bytes generations (omega (arith, there, h.0)) h.2)
+
 -- a generation that was closed has its text still
 same_closed : (now : List (List ℕ)) (newest bytes g : ℕ) → newest ≤ length now - 1 → g + 1 < length (take newest now ++ take bytes (text_of now newest) ∷ [])
     → (text_of (take newest now ++ take bytes (text_of now newest) ∷ []) g ≡ text_of now g) × (g + 1 < length now)
@@ -89,6 +100,26 @@ pub closed_text : (earlier now : List (List ℕ)) (g : ℕ) → IsEarlier earlie
 closed_text earlier now g was closed =
     let again = same_closed now was.newest was.bytes g was.there (subst (λ (j : List (List ℕ)). g + 1 < length j) was.is closed) in
     (ap (λ (j : List (List ℕ)). text_of j g) was.is ∙ again.0, again.1)
+
+-- ---- bytes
+
+pub bytes_more : (journal : List (List ℕ)) (g : ℕ) → g < length journal → bytes_of (take (suc g) journal) ≡ bytes_of (take g journal) + length (text_of journal g)
+bytes_more [] g there = absurd (omega (arith, there))
+bytes_more (text ∷ journal) zero there = let all = length-append text [] in omega (arith, all)
+bytes_more (text ∷ journal) (suc g) there =
+    let rest = bytes_more journal g (omega (arith, there)) in
+    let one = length-append text (flat_map (λ (t : List ℕ). t) (take (suc g) journal)) in
+    let other = length-append text (flat_map (λ (t : List ℕ). t) (take g journal)) in
+    omega (arith, rest, one, other)
+
+pub bytes_within : (journal : List (List ℕ)) (g : ℕ) → g < length journal → bytes_of (take g journal) + length (text_of journal g) ≤ bytes_of journal
+bytes_within [] g there = absurd (omega (arith, there))
+bytes_within (text ∷ journal) zero there = let all = length-append text (flat_map (λ (t : List ℕ). t) journal) in omega (arith, all)
+bytes_within (text ∷ journal) (suc g) there =
+    let rest = bytes_within journal g (omega (arith, there)) in
+    let one = length-append text (flat_map (λ (t : List ℕ). t) (take g journal)) in
+    let all = length-append text (flat_map (λ (t : List ℕ). t) journal) in
+    omega (arith, rest, one, all)
 
 -- one more generation that is passed
 pub passed_on : (journal : List (List ℕ)) (generations : List (List (List Change))) (groups : List (List Change)) (rest : List ℕ) → ArePassed journal generations

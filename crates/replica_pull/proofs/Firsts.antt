@@ -48,12 +48,12 @@ begins n (x ∷ front) (y ∷ all) behind are both same =
       text = on.text ∙ ap (λ (k : ℕ). groups_text k on.later) shift;
     }
 
-last_of : (P : List Change → Type 0) (xs ys : List (List Change)) → AllByRecursion P (xs ++ ys) → AllByRecursion P ys
+pub last_of : (P : List Change → Type 0) (xs ys : List (List Change)) → AllByRecursion P (xs ++ ys) → AllByRecursion P ys
 last_of P [] ys all = all
 last_of P (x ∷ xs) ys all = last_of P xs ys all.1
 
 -- where no group is left behind them they are all
-all_whole : (front all : List (List Change)) (rest : List ℕ) → AllByRecursion IsGroup all → AreWholeIn front (groups_text 1 all) rest → all ≡ front
+pub all_whole : (front all : List (List Change)) (rest : List ℕ) → AllByRecursion IsGroup all → AreWholeIn front (groups_text 1 all) rest → all ≡ front
 all_whole front all rest are whole =
     let on = begins 1 front all rest whole.are_groups are whole.is in
     let next : 1 + length front ≡ suc (length front) = omega arith in
@@ -68,7 +68,7 @@ all_whole front all rest are whole =
 
 -- ---- the changes of generations
 
-abbrev texts : List (List (List Change)) → List (List ℕ)
+abbrev pub texts : List (List (List Change)) → List (List ℕ)
 texts generations = map (groups_text 1) generations
 
 module _ (groups : List (List Change)) (rest : List ℕ) (at : ℕ) where

@@ -13,10 +13,10 @@ use Rattle.journal_groups.specs.declared.moved.Moved.{Moved}
 use Rattle.journal_groups.specs.declared.moved.Moved.TheVariants as moves
 use Rattle.recovery.specs.Holding.{joined}
 use Rattle.replica_pull.specs.Cut.{AreCut}
-use Rattle.replica_pull.specs.Prefix.{HasPulled, HasGrown, Moment, HasFollowed, begun, changes_from, HasNoGroup, AreWholeIn, ArePassed, HasPrefix}
+use Rattle.replica_pull.specs.Prefix.{HasPulled, HasGrown, Moment, HasFollowed, begun, bytes_of, changes_from, HasNoGroup, AreWholeIn, ArePassed, HasPrefix}
 use Rattle.replica_pull.specs.Replica.{HasMoved, HasPassed, HasTakenPiece, IsNew, beginning}
 use Rattle.replica_pull.specs.declared.replica.Replica.{Replica}
-use Rattle.replica_pull.proofs.Counted.{with_groups, with_next, rows_on, goes_no_group, empty_no_group, passed_later, closed_text, passed_on}
+use Rattle.replica_pull.proofs.Counted.{with_groups, with_next, rows_on, goes_no_group, empty_no_group, passed_later, closed_text, passed_on, passed_texts, bytes_more}
 use Rattle.replica_pull.proofs.Fronts.{earlier_front}
 use Rattle.replica_pull.proofs.Kept as kept
 use Rattle.replica_pull.proofs.Taking.{groups_joined, all_joined}
@@ -32,6 +32,7 @@ fresh rules journal r new = record {
   number = new.number;
   passed = tt;
   within = omega (arith, new.at);
+  taken = let none : bytes_of (take r.generation journal) ≡ 0 = ap (λ (g : ℕ). bytes_of (take g journal)) new.generation in omega (arith, new.taken, new.at, none);
   whole = record {
     are_groups = tt;
     is = ap (λ (n : ℕ). take n (text_of journal r.generation)) new.at ∙ sym new.rest;
@@ -44,20 +45,26 @@ fresh rules journal r new = record {
 module _ (rules : List FilterRule) (journal : List (List ℕ)) where
   -- ---- the journal grew
 
-  grown : (before : List (List ℕ)) (r : Replica) → HasPrefix rules before r → HasGrown before journal → HasPrefix rules journal r
+  pub grown : (before : List (List ℕ)) (r : Replica) → HasPrefix rules before r → HasGrown before journal → HasPrefix rules journal r
   grown before r p (inl same) = subst (λ (j : List (List ℕ)). HasPrefix rules j r) (sym same) p
   grown before r p (inr was) =
       let front = earlier_front before journal r.generation was in
       let text = text_of before r.generation in
       let same : take r.at (text_of journal r.generation) ≡ take r.at text = ap (take r.at) front.1 ∙ take-append-le r.at text front.0 p.within in
+      let closed : ArePassed (take was.newest journal ++ take was.bytes (text_of journal was.newest) ∷ []) p.generations = subst (λ (j : List (List ℕ)). ArePassed j p.generations) was.is p.passed in
+      let first : take (length p.generations) before ≡ take (length p.generations) journal =
+      ap (take (length p.generations)) was.is ∙ passed_texts journal was.newest was.bytes p.generations was.there closed in
+      let passed : take r.generation before ≡ take r.generation journal =
+      ap (λ (g : ℕ). take g before) p.generation ∙ first ∙ ap (λ (g : ℕ). take g journal) (sym p.generation) in
       record {
         generations = p.generations;
         groups = p.groups;
         filter = p.filter;
         generation = p.generation;
         number = p.number;
-        passed = passed_later journal was.newest was.bytes p.generations was.there (subst (λ (j : List (List ℕ)). ArePassed j p.generations) was.is p.passed);
+        passed = passed_later journal was.newest was.bytes p.generations was.there closed;
         within = omega (arith, p.within, ap length front.1, length-append text front.0);
+        taken = p.taken ∙ ap (λ (texts : List (List ℕ)). bytes_of texts + r.at) passed;
         whole = subst (λ (l : List ℕ). AreWholeIn p.groups l r.rest) (sym same) p.whole;
         changes = p.changes;
         rows = p.rows;
@@ -121,6 +128,7 @@ module _ (rules : List FilterRule) (journal : List (List ℕ)) where
             number = number;
             passed = p.passed;
             within = omega (arith, at, room, at_within, ap length there, ap length front.1, length-append said front.0, length-drop old.at text);
+            taken = omega (arith, has.taken, long, at, p.taken, ap (λ (g : ℕ). bytes_of (take g journal)) has.generation);
             whole = record {
               are_groups = all_joined IsGroup p.groups has.groups p.whole.are_groups has.are.are_groups;
               is = ap (take new.at) there ∙ all;
@@ -145,6 +153,10 @@ module _ (rules : List FilterRule) (journal : List (List ℕ)) where
           let less : length p.generations + 1 < length journal = omega (arith, still.1, p.generation) in
           let long : length (p.generations ++ p.groups ∷ []) ≡ length p.generations + 1 = length-append p.generations (p.groups ∷ []) in
           let next : old.generation + 1 ≡ suc (length p.generations) = omega (arith, p.generation) in
+          let at_end : old.at ≡ length text = omega (arith, end, ap length still.0, p.within) in
+          let up : new.generation ≡ suc old.generation = omega (arith, has.generation) in
+          let all_bytes : bytes_of (take new.generation journal) ≡ bytes_of (take old.generation journal) + length text =
+          ap (λ (g : ℕ). bytes_of (take g journal)) up ∙ bytes_more journal old.generation (omega (arith, still.1)) in
           let index : suc (length p.generations) ≡ 0 + length (p.generations ++ p.groups ∷ []) = omega (arith, long) in
           let now : changes_from 0 ((p.generations ++ p.groups ∷ []) ++ [] ∷ []) ≡ before ++ begun (suc (length p.generations)) =
           with_next 0 (p.generations ++ p.groups ∷ []) (suc (length p.generations)) index in
@@ -161,6 +173,7 @@ module _ (rules : List FilterRule) (journal : List (List ℕ)) where
             number = has.number;
             passed = passed_on journal p.generations p.groups old.rest p.passed whole less;
             within = omega (arith, has.at);
+            taken = omega (arith, has.taken, has.at, p.taken, at_end, all_bytes);
             whole = record {
               are_groups = tt;
               is = ap (λ (k : ℕ). take k (text_of journal new.generation)) has.at ∙ sym has.rest;

@@ -10,4 +10,5 @@ pub mod Fronts
 pub mod Counted
 pub mod Followed
 pub mod Firsts
+pub mod GoodFeeds
 pub mod Standing

@@ -1,11 +1,11 @@
 -- Pulls one after another, and what a replica has of its master after them: the groups that lie whole in what it took. How a replica follows is this
 -- project's own choice.
-use Rattle.std.specs.Prelude.{◌≡◌, ◌⊎◌, ◌≤◌, ℕ, zero, suc, List, [], ◌∷◌, ◌++◌, length, map, take}
-use Rattle.std.specs.List.{AllByRecursion}
+use Rattle.std.specs.Prelude.{◌≡◌, ◌⊎◌, ◌≤◌, ◌<◌, ◌+◌, ◌^◌, ℕ, zero, suc, List, [], ◌∷◌, ◌++◌, length, map, take}
+use Rattle.std.specs.List.{AllByRecursion, flat_map}
 use Rattle.outside_api.specs.Link.{IsEarlier, Answers, text_of}
 use Rattle.outside_api.specs.declared.link.Fetched.{Fetched}
 use Rattle.depot_rows.specs.db_records.declared.change.Change.{Change}
-use Rattle.depot_rows.specs.table_changes.Changed.{AllRows, changed_by, no_rows, rows_of}
+use Rattle.depot_rows.specs.table_changes.Changed.{AllRows, AllFitIn, changed_by, no_rows, rows_of}
 use Rattle.depot_rows.specs.depot_model.declared.filter.FilterRule.{FilterRule}
 use Rattle.journal_groups.specs.Groups.{IsGroup, group_text, groups_text, mark, open_byte}
 use Rattle.journal_groups.specs.declared.moved.Moved.{Moved}
@@ -71,8 +71,12 @@ ArePassed journal [] = Unit {0}
 ArePassed [] (groups ∷ generations) = ⊥
 ArePassed (text ∷ journal) (groups ∷ generations) = (1 ≤ length journal) × ((rest : List ℕ) × AreWholeIn groups text rest) × ArePassed journal generations
 
--- A replica has the groups of the generations that it passed, and of the one at which it is those that lie whole in what it took of its text. Its count
--- is that of these changes, and its rows are what they make, cut to its filter.
+-- how many bytes texts have together
+abbrev pub bytes_of : List (List ℕ) → ℕ
+bytes_of texts = length (flat_map (λ (text : List ℕ). text) texts)
+
+-- A replica has the groups of the generations that it passed, and of the one at which it is those that lie whole in what it took of its text. Its counts
+-- are those of these changes and of the bytes that it took, and its rows are what the changes make, cut to its filter.
 pub record HasPrefix (rules : List FilterRule) (journal : List (List ℕ)) (r : Replica) : Type 0 where
   pub generations : List (List (List Change))
   pub groups : List (List Change)
@@ -81,6 +85,7 @@ pub record HasPrefix (rules : List FilterRule) (journal : List (List ℕ)) (r : 
   pub number : r.number ≡ suc (length groups)
   pub passed : ArePassed journal generations
   pub within : r.at ≤ length (text_of journal r.generation)
+  pub taken : r.taken ≡ bytes_of (take r.generation journal) + r.at
   pub whole : AreWholeIn groups (take r.at (text_of journal r.generation)) r.rest
   pub changes : r.changes ≡ length (changes_from 0 (generations ++ groups ∷ []))
   pub rows : AreCut rules (changed_by no_rows (joined (changes_from 0 (generations ++ groups ∷ [])))) (rows_of r.tables)
@@ -90,6 +95,18 @@ pub record HasPrefix (rules : List FilterRule) (journal : List (List ℕ)) (r : 
 -- the texts are those of the groups of generations
 abbrev pub IsJournalOf : List (List ℕ) → List (List (List Change)) → Type 0
 IsJournalOf journal generations = (journal ≡ map (groups_text 1) generations) × AllByRecursion (AllByRecursion IsGroup) generations
+
+-- The changes of each generation fit the rows that those before them make, one after another, behind the beginning of their generation.
+abbrev pub FitFrom : AllRows → ℕ → List (List (List Change)) → Type 0
+FitFrom rows g [] = Unit {0}
+FitFrom rows g (groups ∷ generations) =
+    AllFitIn (changed_by rows (joined (begun g))) (joined groups) × FitFrom (changed_by rows (joined (begun g ++ groups))) (suc g) generations
+
+-- a master's journal: whole groups whose changes fit, below 2 ^ 63 bytes
+pub record IsGoodJournal (journal : List (List ℕ)) (generations : List (List (List Change))) : Type 0 where
+  pub of_groups : IsJournalOf journal generations
+  pub fit : FitFrom no_rows 0 generations
+  pub short : bytes_of journal < 2 ^ 63
 
 -- the rows that the first changes make, so many
 abbrev pub first_rows : ℕ → List (List (List Change)) → AllRows

@@ -9,12 +9,13 @@ ghost use Rattle.depot_rows.specs.depot_model.Deeds.{Deed};
 ghost use Rattle.depot_rows.specs.depot_model.Rules.{has_paths};
 ghost use Rattle.depot_rows.specs.depot_model.declared.filter.FilterRule.{FilterRule};
 ghost use Rattle.depot_rows.specs.Standing.{HasRows, Stand};
-ghost use Rattle.outside_api.specs.Link.{IsEarlier, text_of};
+ghost use Rattle.outside_api.specs.Link.{Answers, IsEarlier, text_of};
+ghost use Rattle.outside_api.specs.declared.link.Fetched.TheVariants.{Bytes};
 ghost use Rattle.recovery.specs.Holding.{joined};
 ghost use Rattle.depot_rows.specs.table_changes.Changed.{AllRows, AllFitIn, changed_by, changed_in, no_rows, rows_of};
 ghost use Rattle.replica_pull.specs.Cut.{AreCut, cut_changes};
-ghost use Rattle.replica_pull.specs.Prefix.{HasFirst, HasFollowed, HasPrefix, IsJournalOf, Moment, first_rows};
-ghost use Rattle.replica_pull.specs.Replica.{HasPassed, HasTakenPiece, IsNew, IsOfText, beginning};
+ghost use Rattle.replica_pull.specs.Prefix.{HasFirst, HasFollowed, HasPrefix, IsGoodJournal, IsJournalOf, Moment, first_rows};
+ghost use Rattle.replica_pull.specs.Replica.{HasPassed, HasTakenPiece, IsBadPiece, IsNew, IsOfText, beginning};
 ghost use Rattle.replica_pull.specs.declared.replica.Replica.{Replica};
 
 /// Changes that are cut make of cut rows what the changes make of the rows, cut, and fit where those do. Rows of a depot, cut, are the rows of the
@@ -57,6 +58,13 @@ pub fn replicas_have_a_prefix()
         HasFollowed rules journal r moments → HasPrefix rules journal r }
     ensures first { (rules : List FilterRule) (journal : List (List ℕ)) (generations : List (List (List Change))) (r : Replica) →
         HasPrefix rules journal r → IsJournalOf journal generations → HasFirst rules generations r }
+{}
+
+/// A master's journal is never a bad feed: a replica that has followed it can take each piece of it that stands where it awaits its next one, whatever was
+/// committed since.
+pub fn journals_are_good_feeds()
+    ensures { (rules : List FilterRule) (journal earlier : List (List ℕ)) (generations : List (List (List Change))) (r : Replica) (buffer : List ℕ) (n place : ℕ) →
+        HasPrefix rules journal r → IsGoodJournal journal generations → IsEarlier earlier journal → Answers earlier r.generation r.at (Bytes n) buffer → IsBadPiece r (take n buffer) place → ⊥ }
 {}
 
 /// Where the rows that these changes make stand for a depot, a replica's tables stand for the depot that is cut to its filter.

@@ -11,6 +11,7 @@ ghost use Rattle.depot_rows.specs.table_changes.Changed.{rows_of, changed_in};
 ghost use Rattle.depot_rows.specs.table_changes.Drafts.{rows_of_draft};
 ghost use Rattle.journal_groups.specs.Reader.{State};
 ghost use Rattle.replica_pull.specs.Feed.{AreTaken, HasMadeOne, IfBadFeed, IsOfFeed};
+ghost use Rattle.replica_pull.specs.Prefix.{HasPrefix, IsGoodJournal};
 ghost use Rattle.replica_pull.specs.Replica.{with_piece, Waits, IsNew, HasTakenPiece, HasPassed, HasMoved, IsBadPiece, IsStopped, IsUnread, beginning, telling};
 ghost use Rattle.replica_pull.specs.declared.fault.PullFault.TheVariants as faults;
 
@@ -280,6 +281,9 @@ impl Replica {
         ensures stopped { IfErr result (λ fault. IsUnread fault ⊎ ((fetched : Fetched) × ((piece : List ℕ) × (IsStopped self.old fetched piece fault ×
             ((now : List (List ℕ)) → L.tells link.new now → (earlier : List (List ℕ)) × (IsEarlier earlier now × Answers earlier self.old.generation self.old.at fetched piece)))))) }
         ensures cause { IsCause (L.faults link.old) (L.faults link.new) (result ≡ Err faults.LinkFault) }
+        // A master's journal is never a bad feed to a replica that has followed it.
+        ensures good { (rules : List FilterRule) (before : List (List ℕ)) → L.tells link.old before → HasPrefix rules before self.old →
+            ((now : List (List ℕ)) → L.tells link.new now → (generations : List (List (List Change))) × IsGoodJournal now generations) → IfBadFeed result (λ place. ⊥) }
         ensures grows { (before : List (List ℕ)) → L.tells link.old before → (now : List (List ℕ)) × (L.tells link.new now × ((now ≡ before) ⊎ IsEarlier before now)) }
     {
         let mut piece = vec![in alloc; 0u8; PIECE]?;

@@ -1,4 +1,5 @@
 use Rattle.std.proofs.Common.{inl, refl}
+use Rattle.replica_pull.proofs.GoodFeeds.{no_bad_feed}
 use Rattle.replica_pull.proofs.replica.Replica.pull.Goals as goal
 
 pub returns-in_err-piece-clause-grows : goal.returns-in_err-piece-clause-grows
@@ -15,3 +16,7 @@ returns-clause-cause g c = c.pull_into-moved.ensures.cause
 
 pub returns-clause-grows : goal.returns-clause-grows
 returns-clause-grows g c = c.pull_into-moved.ensures.grows
+
+pub returns-clause-good : goal.returns-clause-good
+returns-clause-good g c = λ rules before told p masters.
+    no_bad_feed rules before c.args.self.now (g.L.Link.tells c.pull_into-moved.new.link) p (c.pull_into-moved.ensures.grows before told) masters c.pull_into-moved.result c.pull_into-moved.ensures.stopped
