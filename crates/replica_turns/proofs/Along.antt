@@ -1,11 +1,10 @@
 -- A replica's replies turn by turn, by the depot that it follows.
-use Rattle.std.proofs.Common.{◌≡◌, ◌⊎◌, ◌≤◌, ◌+◌, ◌++◌, ◌∷◌, [], ℕ, suc, List, Bool, true, false, Result, Ok, Err, length, inl, inr, refl, sym, ap, subst, ◌∙◌, append_assoc, arith}
+use Rattle.std.proofs.Common.{◌≡◌, ◌⊎◌, ◌≤◌, ◌+◌, ◌++◌, ◌∷◌, [], ℕ, suc, List, Bool, true, false, Result, Ok, length, inl, inr, refl, sym, ap, subst, ◌∙◌, append_assoc, arith}
 use Rattle.std.specs.Prelude.{map, reverse}
 use Rattle.std.proofs.lemmas.List.{map-append, reverse-append}
 use Rattle.std.proofs.lemmas.List.Elements.{recursion_from_All}
 use Rattle.outside_api.specs.Disk.{Files}
 use Rattle.archive_file.specs.Archive as archives
-use Rattle.serial_depot.specs.command_core.Outcomes.{IsFormedBy}
 use Rattle.depot_rows.specs.db_records.declared.change.Change.{Change}
 use Rattle.depot_rows.specs.depot_model.Cut.{cut}
 use Rattle.depot_rows.specs.depot_model.Deeds.{Deed}
@@ -14,19 +13,16 @@ use Rattle.depot_rows.specs.depot_model.declared.filter.FilterRule.{FilterRule}
 use Rattle.depot_rows.specs.depot_model.declared.request.Request.{Request}
 use Rattle.disk_journal.specs.Text.{blocks}
 use Rattle.journal_groups.specs.Groups.{groups_text}
-use Rattle.journal_groups.specs.declared.moved.Moved.{Moved}
 use Rattle.recovery.specs.Holding.{group_texts}
 use Rattle.recovery.proofs.Held.{blocks_of}
-use Rattle.replica_pull.specs.Prefix.{HasFirst, HasFollowed, HasGrown, HasPrefix, IsJournalOf, Moment, first_rows}
-use Rattle.replica_pull.specs.Replica.{HasMoved, IsStopped}
-use Rattle.replica_pull.specs.declared.fault.PullFault.{PullFault}
+use Rattle.replica_pull.specs.Prefix.{HasFirst, HasFollowed, HasGrown, IsJournalOf, Moment, first_rows}
 use Rattle.replica_pull.specs.declared.replica.Replica.{Replica}
 use Rattle.replica_pull.proofs.Firsts.{first_changes}
 use Rattle.replica_pull.proofs.Followed.{has_prefix}
 use Rattle.replica_pull.proofs.Moves.{never_falls}
 use Rattle.replica_pull.proofs.Standing.{stands_cut}
 use Rattle.serial_depot.specs.Fetching.{HasTexts}
-use Rattle.serial_depot.specs.Growing.{Chronicle, generations_of}
+use Rattle.serial_depot.specs.Growing.{Chronicle, HasGroups, generations_of}
 use Rattle.serial_depot.specs.declared.depot.SerialDepot.{SerialDepot}
 use Rattle.session_loop.specs.Asking.{AreWellFormed}
 use Rattle.session_loop.specs.Requests.{AreRequests}
@@ -35,7 +31,7 @@ use Rattle.depot_rows.specs.table_changes.Changed.{rows_of}
 use Rattle.replica_turns.specs.Along.{AreTold, IsAlong, IsToldAs}
 use Rattle.replica_turns.specs.Going.{IsFresh, IsTurned, is_lost, reply_text}
 use Rattle.replica_turns.specs.Master.{HasNth, IsMaster, IsNth, Past, texts_in}
-use Rattle.replica_turns.specs.Replying.{IsAnsweredAs, IsPulled, IsWithoutMemory, pulls}
+use Rattle.replica_turns.specs.Replying.{Follows, IsAnsweredAs, IsPulled, IsWithoutMemory, pulls}
 use Rattle.replica_turns.specs.declared.party.Answered.{Answered}
 use Rattle.replica_turns.specs.declared.party.ReplicaParty.{ReplicaParty}
 use Rattle.replica_turns.proofs.CutContents.{cut_contents}
@@ -47,29 +43,29 @@ texts_of_all : (generations : List (List (List Change))) → map (groups_text 1)
 texts_of_all [] = refl
 texts_of_all (groups ∷ generations) = λ i. sym (blocks_of 1 groups) i ∷ texts_of_all generations i
 
+-- a journal has the texts of its groups
+pub has_texts : {D : Type 0} (seen may_leave : D → Files → Type 0) (reads : (disk : D) (files : Files) → seen disk files → may_leave disk files) (depot : SerialDepot D) (c : Chronicle)
+    → HasGroups seen may_leave depot.journal c → HasTexts seen may_leave depot (texts_in c)
+has_texts seen may_leave reads depot c g =
+    let count = g.keeps.count in
+    let generation = g.stands.generation in
+    record {
+      was = g.was;
+      doubt = g.doubt;
+      before = map (group_texts 1) c.closed;
+      files = g.keeps.tells.0;
+      stands = g.stands;
+      sees = g.keeps.tells.1;
+      as_many = count ∙ generation;
+      older = g.keeps.each g.keeps.tells.0 (reads depot.journal.disk g.keeps.tells.0 g.keeps.tells.1);
+      are = texts_of_all (generations_of c)
+          ∙ ap (map blocks) (map-append (group_texts 1) c.closed (c.newest ∷ []) ∙ ap (λ (groups : List (List ℕ)). map (group_texts 1) c.closed ++ groups ∷ []) (sym g.are));
+    }
+
 -- ---- one turn over a depot that replicas follow
 
 module _ {D : Type 0} (seen may_leave : D → Files → Type 0) (reads : (disk : D) (files : Files) → seen disk files → may_leave disk files) (past : Past) (start : List Deed) (places : List Placed)
     (depot : SerialDepot D) (c : Chronicle) (master : IsMaster seen may_leave past start places depot c) (tells : (files : Files) × seen (archives.disk_of depot.archive) files) where
-  -- its journal has the texts of its groups
-  has_texts : HasTexts seen may_leave depot (texts_in c)
-  has_texts =
-      let g = master.groups in
-      let count = g.keeps.count in
-      let generation = g.stands.generation in
-      record {
-        was = g.was;
-        doubt = g.doubt;
-        before = map (group_texts 1) c.closed;
-        files = g.keeps.tells.0;
-        stands = g.stands;
-        sees = g.keeps.tells.1;
-        as_many = count ∙ generation;
-        older = g.keeps.each g.keeps.tells.0 (reads depot.journal.disk g.keeps.tells.0 g.keeps.tells.1);
-        are = texts_of_all (generations_of c)
-            ∙ ap (map blocks) (map-append (group_texts 1) c.closed (c.newest ∷ []) ∙ ap (λ (groups : List (List ℕ)). map (group_texts 1) c.closed ++ groups ∷ []) (sym g.are));
-      }
-
   journal_of : IsJournalOf (texts_in c) (generations_of c)
   journal_of = (refl, master.groups.are_groups)
 
@@ -97,7 +93,7 @@ module _ {D : Type 0} (seen may_leave : D → Files → Type 0) (reads : (disk :
     no_fewer : (pull : IsPulled (λ been. been ≡ depot) seen may_leave old new request.number text) → old.changes ≤ new.changes
     no_fewer pull = go pull.follows
       where
-        go : ((moved : Moved) × HasMoved old new pull.fetched pull.piece moved) ⊎ ((new ≡ old) × (fault : PullFault) × IsStopped old pull.fetched pull.piece fault) → old.changes ≤ new.changes
+        go : Follows old new pull.fetched pull.piece → old.changes ≤ new.changes
         go (inl did) = never_falls old new pull.piece pull.fetched (Ok did.0) did.1 tt
         go (inr stopped) = let same = same_changes stopped.0 in omega (arith, same)
 
@@ -107,7 +103,7 @@ module _ {D : Type 0} (seen may_leave : D → Files → Type 0) (reads : (disk :
     turn_told true true (inl is) = (moments, same_followed is.0, inr (same_changes is.0, inl is.1))
     turn_told true false (inl is) =
         let P : SerialDepot D → Type 0 = λ been. HasTexts seen may_leave been (texts_in c) in
-        let pulled = follows_journal (λ been. been ≡ depot) seen may_leave old new request.number text is (texts_in c) (subst P (sym is.been) has_texts) in
+        let pulled = follows_journal (λ been. been ≡ depot) seen may_leave old new request.number text is (texts_in c) (subst P (sym is.been) (has_texts seen may_leave reads depot c master.groups)) in
         (record { journal = texts_in c; replica = old } ∷ moments, (inl refl, pulled, followed), inl (new.generation, no_fewer is, is.reply))
     turn_told false true (inl is) = (moments, same_followed is.0, (same_changes is.0, inr (inl is.1)))
     turn_told false false (inl is) =

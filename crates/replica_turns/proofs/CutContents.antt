@@ -1,28 +1,23 @@
 -- A file that has the contents of a depot has those of the depot cut to a filter.
-use Rattle.std.proofs.Common.{◌≡◌, ℕ, zero, suc, Bool, true, false, cond, List, [], ◌∷◌, Option, Some, None, refl, sym, ap, subst, ◌∙◌}
+use Rattle.std.proofs.Common.{◌≡◌, ℕ, zero, suc, Bool, true, false, cond, List, [], Option, Some, None, refl, sym, ap, ◌∙◌}
 use Rattle.std.specs.Prelude.{map, option_map, slice_get}
 use Rattle.std.proofs.lemmas.Option.{slice_get-map}
-use Rattle.depot_rows.specs.depot_path.Path.{is_path, printed}
+use Rattle.depot_rows.specs.depot_path.Path.{printed}
 use Rattle.depot_rows.specs.db_records.declared.key.Key.TheVariants as keys
-use Rattle.depot_rows.specs.db_records.declared.record.Record.{Record}
-use Rattle.depot_rows.specs.db_records.declared.record.Record.TheVariants.{Rev as RevRow}
-use Rattle.depot_rows.specs.db_records.declared.rows.RevRecord.{RevRecord}
-use Rattle.depot_rows.specs.db_records.declared.table.TableId.TheVariants.{Rev}
 use Rattle.depot_rows.specs.depot_model.Cut.{cut}
 use Rattle.depot_rows.specs.depot_model.Deeds.{Deed}
 use Rattle.depot_rows.specs.depot_model.Filter.{is_inside}
 use Rattle.depot_rows.specs.depot_model.Revisions.{Revision, revision, revision_in, revisions}
 use Rattle.depot_rows.specs.depot_model.Rules.{IsSound}
 use Rattle.depot_rows.specs.depot_model.declared.filter.FilterRule.{FilterRule}
-use Rattle.depot_rows.specs.Cut.{cut_row, cut_rows, is_left, is_text_inside}
+use Rattle.depot_rows.specs.Cut.{cut_row, is_text_inside}
 use Rattle.depot_rows.specs.Standing.{row_in}
 use Rattle.depot_rows.proofs.CutPairs.{text_as}
 use Rattle.depot_rows.proofs.Cutting.{cut_rev, revisions_cut, revisions_out}
-use Rattle.recovery.specs.Standing.{HasContent, HasContents}
+use Rattle.recovery.specs.Standing.{HasContents}
 use Rattle.replica_pull.specs.Cut.{AreCut}
 use Rattle.serial_depot.proofs.Staying.{path_there}
 use Rattle.depot_rows.specs.table_changes.Changed.{AllRows}
-use Rattle.depot_rows.specs.table_store.Rows.{row_at}
 
 module _ (rules : List FilterRule) (d : List Deed) (sound : IsSound d) where
   -- a revision of the cut depot is one of the depot, of a file inside, with the same content

@@ -1,22 +1,19 @@
 -- A pull of a run follows the journal of a depot that has been, as it is then.
-use Rattle.std.proofs.Common.{◌≡◌, ◌⊎◌, ◌≤◌, ◌+◌, ◌-◌, ◌++◌, ◌∷◌, [], ℕ, List, length, inl, inr, refl, sym, ap, subst, ◌∙◌, arith}
-use Rattle.std.specs.Prelude.{get_or, map, take}
+use Rattle.std.proofs.Common.{◌≡◌, ◌+◌, ◌++◌, ◌∷◌, [], ℕ, List, length, inl, inr, sym, ap, subst, ◌∙◌, arith}
+use Rattle.std.specs.Prelude.{map, take}
 use Rattle.std.proofs.Math.Seq.{get_or-append_seam, take-append_seam, take-length}
 use Rattle.std.proofs.lemmas.List.{length-append, map-append}
 use Rattle.outside_api.specs.Disk.{Files}
 use Rattle.outside_api.specs.Link.{IsEarlier, text_of}
 use Rattle.disk_journal.specs.Text.{blocks}
-use Rattle.journal_groups.specs.declared.moved.Moved.{Moved}
 use Rattle.replica_pull.specs.Prefix.{HasPulled}
-use Rattle.replica_pull.specs.Replica.{HasMoved, IsStopped}
-use Rattle.replica_pull.specs.declared.fault.PullFault.{PullFault}
 use Rattle.replica_pull.specs.declared.replica.Replica.{Replica}
 use Rattle.serial_depot.specs.Fetching.{HasTexts}
 use Rattle.serial_depot.specs.declared.depot.SerialDepot.{SerialDepot}
-use Rattle.replica_turns.specs.Replying.{IsPulled}
+use Rattle.replica_turns.specs.Replying.{Follows, IsPulled}
 
 -- a journal is the journal as it is
-earlier_self : (front : List (List ℕ)) (last : List ℕ) → IsEarlier (front ++ last ∷ []) (front ++ last ∷ [])
+pub earlier_self : (front : List (List ℕ)) (last : List ℕ) → IsEarlier (front ++ last ∷ []) (front ++ last ∷ [])
 earlier_self front last =
     let texts = front ++ last ∷ [] in
     let here : text_of texts (length front) ≡ last = get_or-append_seam front last [] [] in
@@ -34,7 +31,7 @@ pub follows_journal : {D : Type 0} (HasBeen : SerialDepot D → Type 0) (seen ma
     → (pull : IsPulled HasBeen seen may_leave old new number text) (texts : List (List ℕ)) → HasTexts seen may_leave pull.depot texts → HasPulled texts old new
 follows_journal HasBeen seen may_leave old new number text pull texts has = go pull.follows
   where
-    go : ((moved : Moved) × HasMoved old new pull.fetched pull.piece moved) ⊎ ((new ≡ old) × (fault : PullFault) × IsStopped old pull.fetched pull.piece fault) → HasPulled texts old new
+    go : Follows old new pull.fetched pull.piece → HasPulled texts old new
     go (inl did) = inr (record {
       fetched = pull.fetched;
       piece = pull.piece;

@@ -2,6 +2,7 @@ pub mod Along
 pub mod CutContents
 pub mod Following
 pub mod Masters
+pub mod Moving
 pub mod Positions
 pub mod Replies
 pub mod Turns

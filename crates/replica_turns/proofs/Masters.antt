@@ -1,6 +1,6 @@
 -- A place of a run over the depot that replicas follow.
-use Rattle.std.proofs.Common.{◌≡◌, ◌≢◌, ◌⊎◌, ◌≤◌, ◌<◌, ◌+◌, ◌-◌, ℕ, suc, Bool, true, false, List, [], ◌∷◌, ◌++◌, length, take, inl, inr, refl, sym, ap, subst, ◌∙◌, append-nil, arith, length-append}
-use Rattle.std.specs.Prelude.{map, get_or}
+use Rattle.std.proofs.Common.{◌≡◌, ◌≢◌, ◌⊎◌, ◌≤◌, ◌<◌, ◌+◌, ℕ, suc, Bool, true, false, List, [], ◌∷◌, ◌++◌, length, take, inl, inr, refl, sym, ap, subst, ◌∙◌, append-nil, arith, length-append}
+use Rattle.std.specs.Prelude.{map}
 use Rattle.std.proofs.Math.Nat.{eq-or-lt_of_le}
 use Rattle.std.proofs.Math.Seq.{get_or-append_seam, take-append_seam, take-length}
 use Rattle.std.proofs.lemmas.List.{length-map, map-append, take-append-le}
@@ -20,7 +20,7 @@ use Rattle.depot_runs.specs.Replica.{IsAfterChanges}
 use Rattle.depot_rows.specs.depot_model.Commands.{step}
 use Rattle.journal_groups.specs.Groups.{groups_text}
 use Rattle.recovery.specs.Holding.{group_texts, joined}
-use Rattle.replica_pull.specs.Prefix.{HasGrown, begun, changes_from, first_rows}
+use Rattle.replica_pull.specs.Prefix.{HasGrown, begun, first_rows}
 use Rattle.replica_pull.proofs.Counted.{rows_on, with_groups, with_next}
 use Rattle.replica_pull.proofs.Taking.{groups_joined}
 use Rattle.serial_depot.specs.Committing.{AreRowsAfter}

@@ -1,6 +1,6 @@
 -- The answers to commands, case by case.
-use Rattle.std.proofs.Common.{◌≡◌, ◌++◌, ◌∷◌, [], ℕ, List, Bool, true, false, Result, Ok, Err, length, inl, inr, refl, sym, ap, subst, ◌∙◌}
-use Rattle.std.specs.Prelude.{IfOk, IsFalse, IsTrue, OnErr, reverse}
+use Rattle.std.proofs.Common.{◌≡◌, ◌++◌, ◌∷◌, [], List, Bool, true, false, Result, Ok, Err, inl, inr, refl, sym, subst}
+use Rattle.std.specs.Prelude.{IfOk, OnErr}
 use Rattle.outside_api.specs.Disk.{Files}
 use Rattle.archive_file.specs.Archive as archives
 use Rattle.serial_depot.specs.command_core.Outcomes.{IsFormedBy}

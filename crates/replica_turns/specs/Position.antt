@@ -1,5 +1,5 @@
 -- Memory for the reply to `pull`. This project's own choice.
-use Rattle.std.specs.Prelude.{◌≡◌, ◌≤◌, List, [], vec_capacity}
+use Rattle.std.specs.Prelude.{◌≡◌, ◌≤◌, [], vec_capacity}
 use Rattle.replica_turns.specs.declared.position.Room.{Room}
 
 -- nothing is in it, and the reply to any `pull` has room

@@ -1,6 +1,6 @@
 -- What a replica among the parties of a run answers to one command, and when (Server Administrator Guide, on replicas that answer from their own rows). That
 -- a replica follows by a command of its own is this project's own choice.
-use Rattle.std.specs.Prelude.{◌≡◌, ◌⊎◌, ℕ, Bool, true, false, IsTrue, List, [], ◌∷◌, Result, Ok, Err}
+use Rattle.std.specs.Prelude.{◌≡◌, ◌≢◌, ◌⊎◌, ℕ, Bool, true, false, IsTrue, List, [], ◌∷◌, Result, Ok, Err}
 use Rattle.outside_api.specs.Disk.{Files}
 use Rattle.outside_api.specs.Link.{Answers}
 use Rattle.outside_api.specs.declared.link.Fetched.{Fetched}
@@ -19,6 +19,7 @@ use Rattle.depot_rows.specs.Standing.{Stand}
 use Rattle.recovery.specs.Standing.{HasContents}
 use Rattle.replica_pull.specs.Replica.{HasMoved, IsStopped}
 use Rattle.replica_pull.specs.declared.fault.PullFault.{PullFault}
+use Rattle.replica_pull.specs.declared.fault.PullFault.TheVariants.{Memory}
 use Rattle.replica_pull.specs.declared.replica.Replica.{Replica}
 use Rattle.replica_replies.specs.Prints.{prints}
 use Rattle.serial_depot.specs.Fetching.{HasTexts}
@@ -34,9 +35,18 @@ abbrev pub pulls : Result Command WordFault → Bool
 pulls (Ok command) = is_pull command
 pulls (Err fault) = false
 
--- The replica does what was fetched; or, where it can't, it stays as it was.
+-- The replica took what was fetched, passed to the next generation, or found nothing; or, where what was fetched can't be taken, it stays as it was. Want of
+-- memory is no such cause.
 abbrev pub Follows : Replica → Replica → Fetched → List ℕ → Type 0
-Follows old new fetched piece = ((moved : Moved) × HasMoved old new fetched piece moved) ⊎ ((new ≡ old) × (fault : PullFault) × IsStopped old fetched piece fault)
+Follows old new fetched piece = ((moved : Moved) × HasMoved old new fetched piece moved) ⊎ ((new ≡ old) × (fault : PullFault) × (fault ≢ Memory) × IsStopped old fetched piece fault)
+
+-- Of these texts the replica took at least one byte, or it passed to the next generation, or all of the text of its generation was taken.
+pub record HasPulledOf (texts : List (List ℕ)) (old new : Replica) : Type 0 where
+  pub fetched : Fetched
+  pub piece : List ℕ
+  pub moved : Moved
+  pub answers : Answers texts old.generation old.at fetched piece
+  pub has : HasMoved old new fetched piece moved
 
 -- Of a depot there was fetched where the replica awaited its next piece, as the committed texts of its journal are; the replica followed, and the reply
 -- is its position after it.

@@ -1,17 +1,21 @@
 //! Laws of replicas that follow a depot which takes commands.
 
-ghost use Rattle.std.specs.Prelude.{◌≡◌, ℕ, Bool, List, Result, [], ◌∷◌, ◌++◌, ◌+◌, length};
+ghost use Rattle.std.specs.Prelude.{◌≡◌, ◌⊎◌, ℕ, Bool, true, List, Result, [], ◌∷◌, ◌++◌, ◌+◌, length};
 ghost use Rattle.archive_file.specs.Archive.{disk_of as archive_disk_of};
-ghost use Rattle.serial_depot.specs.command_core.Outcomes.{IsOutcome};
+ghost use Rattle.serial_depot.specs.command_core.Outcomes.{IsFormedBy, IsOutcome};
 ghost use Rattle.serial_depot.specs.command_core.declared.outcome.Outcome.{Outcome};
 ghost use Rattle.depot_rows.specs.db_records.declared.change.Change.{Change};
 ghost use Rattle.depot_rows.specs.depot_model.Deeds.{Deed};
 ghost use Rattle.depot_rows.specs.depot_model.Places.{Placed, taken};
+ghost use Rattle.depot_rows.specs.depot_model.Printed.{printed};
+ghost use Rattle.depot_rows.specs.depot_model.Rows.{memory_row};
+ghost use Rattle.depot_rows.specs.depot_model.declared.filter.FilterRule.{FilterRule};
 ghost use Rattle.depot_rows.specs.depot_model.declared.request.Request.{Request};
 ghost use Rattle.depot_rows.specs.depot_model.Commands.{step};
 ghost use Rattle.outside_api.specs.Disk.{Files};
+ghost use Rattle.replica_pull.specs.Prefix.{HasFollowed, IsGoodJournal, Moment};
 ghost use Rattle.serial_depot.specs.Committing.{AreRowsAfter};
-ghost use Rattle.serial_depot.specs.Growing.{Chronicle, HasGroups, KeepsStored, grown};
+ghost use Rattle.serial_depot.specs.Growing.{Chronicle, HasGroups, KeepsStored, generations_of, grown};
 ghost use Rattle.serial_depot.specs.Opening.{opens_generation};
 ghost use Rattle.serial_depot.specs.Running.{HasRun};
 ghost use Rattle.serial_depot.specs.declared.depot.SerialDepot.{SerialDepot as AnyDepot};
@@ -20,8 +24,9 @@ ghost use Rattle.session_loop.specs.Taking.{placed_by};
 ghost use Rattle.session_loop.specs.declared.reading.ReplicaScript.{ReplicaScript};
 ghost use Rattle.depot_rows.specs.table_changes.Changed.{rows_of};
 ghost use Rattle.replica_turns.specs.Along.{IsAlong};
-ghost use Rattle.replica_turns.specs.Going.{IsFresh, IsTurned, reply_text};
-ghost use Rattle.replica_turns.specs.Master.{HasGrownTo, IsMaster, IsNth, Past};
+ghost use Rattle.replica_turns.specs.Going.{IsFresh, IsTurned, is_lost, reply_text};
+ghost use Rattle.replica_turns.specs.Master.{HasGrownTo, IsMaster, IsNth, Past, texts_in};
+ghost use Rattle.replica_turns.specs.Replying.{HasPulledOf, pulls};
 ghost use Rattle.replica_turns.specs.declared.party.Answered.{Answered};
 ghost use Rattle.replica_turns.specs.declared.party.ReplicaParty.{ReplicaParty};
 
@@ -54,3 +59,12 @@ pub fn replicas_reply_for_their_last_pull<D: Disk, C: Clock>(clock: &C)
 {
     let _clock = clock;
 }
+
+/// A pull moves: over a depot whose journal has these groups, whose changes fit, below 2^63 bytes, each `pull` of a replica that has followed it, unless it tells
+/// that a disk failed or that there was no memory, takes at least one byte of what is committed then, passes to the next generation, or finds all of it taken.
+pub fn pulls_move<D: Disk>()
+    ensures { (depot : AnyDepot D) (c : Chronicle) (rules : List FilterRule) (moments : List Moment) (old new : ReplicaParty) (result : Result Answered (Unit {0})) →
+        HasGroups D.seen D.may_leave depot.journal c → IsGoodJournal (texts_in c) (generations_of c) → HasFollowed rules (texts_in c) old.replica moments →
+        (turn : IsTurned D.seen D.may_leave depot old new result) → IsFormedBy turn.request → pulls turn.request.command ≡ true →
+        (is_lost result ≡ true) ⊎ ((reply_text result turn.request.number ≡ printed (memory_row ∷ []) turn.request.number) ⊎ HasPulledOf (texts_in c) old.replica new.replica) }
+{}

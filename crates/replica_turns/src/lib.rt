@@ -8,6 +8,6 @@ mod position;
 mod pulling;
 mod replying;
 
-pub use laws::{depots_grow_by_their_changes, replicas_reply_for_their_last_pull};
+pub use laws::{depots_grow_by_their_changes, pulls_move, replicas_reply_for_their_last_pull};
 pub use party::{Answered, ReplicaParty};
 pub use replying::{is_print, is_pull};

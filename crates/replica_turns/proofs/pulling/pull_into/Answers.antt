@@ -1,4 +1,4 @@
-use Rattle.std.proofs.Common.{◌≡◌, ℕ, List, [], ◌∷◌, refl, sym, ap, subst, ◌∙◌, rules}
+use Rattle.std.proofs.Common.{◌≡◌, ℕ, [], ◌∷◌, refl, sym, ap, subst, ◌∙◌}
 use Rattle.outside_api.specs.Link.{Answers}
 use Rattle.depot_runs.specs.Replica.{position_row}
 use Rattle.depot_rows.specs.depot_model.Printed.{printed}

@@ -1,4 +1,4 @@
-use Rattle.std.proofs.Common.{◌≡◌, List, sym, ap, subst, ◌∙◌}
+use Rattle.std.proofs.Common.{List, sym, ap, subst, ◌∙◌}
 use Rattle.reply_rows.specs.Made.{contents_of}
 use Rattle.reply_rows.specs.declared.content.RowContent.{RowContent}
 use Rattle.serial_depot.specs.Storing.{AreAt}

@@ -1,4 +1,4 @@
-use Rattle.std.proofs.Common.{◌≡◌, List, length, ap, ◌∙◌}
+use Rattle.std.proofs.Common.{List, length, ap, ◌∙◌}
 use Rattle.std.proofs.lemmas.List.{length-reverse}
 use Rattle.depot_rows.specs.depot_model.declared.request.Request.{Request}
 use Rattle.replica_turns.proofs.Turns.{requests_many}
