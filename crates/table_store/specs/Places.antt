@@ -50,6 +50,11 @@ left_by Put row = row ∷ []
 left_by Replace row = row ∷ []
 left_by Remove row = []
 
+-- the row is the first of the rows
+abbrev pub IsFirst : Record → List Record → Type 0
+IsFirst first [] = ⊥
+IsFirst first (row ∷ rows) = first ≡ row
+
 -- rows in an order
 module _ (place : Record → Place) where
   -- where a row stands by a place

@@ -238,7 +238,7 @@ fn change_page<O: RowOrder>(
     ensures ok { OnOk result (ChangesNode O.place list.old.items at op row.now list.new.items) }
     ensures err { OnErr result (list.new.items ≡ list.old.items) }
 {
-    if change_at(list, at, op, row)? {
+    if change_at(list, alloc, at, op, row)? {
         return Ok(());
     }
     if at + 1 == list.len() && list[at].ends_before(op, row) {
@@ -251,6 +251,7 @@ fn change_page<O: RowOrder>(
 /// Makes a change in the page at a place, if that can be, and tells whether it did.
 fn change_at<O: RowOrder>(
     list: &mut Vec<Arc<Page<O>, Global>>,
+    alloc: Global,
     at: usize,
     op: Op,
     row: &SharedRow,
@@ -260,12 +261,13 @@ fn change_at<O: RowOrder>(
     ensures left { IfOk result (λ done. IsFalse done → list.new.items ≡ list.old.items) }
     ensures err { OnErr result (list.new.items ≡ list.old.items) }
 {
-    change_alone(&mut list[at], op, row)
+    change_alone(&mut list[at], alloc, op, row)
 }
 
 /// Makes a change in a page that isn't shared, if it then still is a page, and tells whether it did.
 fn change_alone<O: RowOrder>(
     page: &mut Arc<Page<O>, Global>,
+    alloc: Global,
     op: Op,
     row: &SharedRow,
 ) -> Result<bool, AllocError>
@@ -275,7 +277,7 @@ fn change_alone<O: RowOrder>(
     ensures filled { 0 < length (arc_value page.old) → 0 < length (arc_value page.new) }
 {
     match Arc::get_mut(page) {
-        Some(page) => page.change(op, row),
+        Some(page) => page.change(alloc, op, row),
         None => Ok(false),
     }
 }
@@ -292,7 +294,7 @@ fn push_page<O: RowOrder>(
 {
     let mut rows = Vec::new(alloc);
     rows.push(row.share()?)?;
-    list.push(Arc::new(alloc, Page::from_rows(rows))?)?;
+    list.push(Arc::new(alloc, Page::from_rows(rows)?)?)?;
     Ok(())
 }
 
@@ -314,12 +316,12 @@ fn replace_page<O: RowOrder>(
         return Ok(());
     }
     if rows.len() <= PAGE_ROWS {
-        list[at] = Arc::new(alloc, Page::from_rows(rows))?;
+        list[at] = Arc::new(alloc, Page::from_rows(rows)?)?;
         return Ok(());
     }
     let upper = rows.split_off(PAGE_ROWS / 2)?;
-    let lower = Arc::new(alloc, Page::from_rows(rows))?;
-    list.insert(at + 1, Arc::new(alloc, Page::from_rows(upper))?)?;
+    let lower = Arc::new(alloc, Page::from_rows(rows)?)?;
+    list.insert(at + 1, Arc::new(alloc, Page::from_rows(upper)?)?)?;
     list[at] = lower;
     Ok(())
 }

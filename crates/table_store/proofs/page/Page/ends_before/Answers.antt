@@ -11,7 +11,7 @@ returns-then-ne g c = ((λ e. absurd (false≢true e)), (λ all. absurd (differs
 
 pub returns : goal.returns
 returns g c =
-    let full : length c.self.inside.rows.items ≡ 64 = omega (arith, c.self.invariant.short) in
+    let full : length c.self.inside.rows.items ≡ 64 = omega (arith, c.self.invariant.0.short) in
     let at = λ (r : Record). AllStandBelow g.O.RowOrder.place (g.O.RowOrder.place r) c.args.self.now in
     let here : length c.args.self.now ≡ 64 = rw (← c.self.view_is) full in
     ((λ low. (differs_false the_type (search rules) _ _ (sym c.if-ne.ensures), here, subst at c.row.ensures (c.ends_below.ensures.0 low))), (λ all. c.ends_below.ensures.1 (subst at (sym c.row.ensures) all.2)))

@@ -10,4 +10,4 @@ pub returns-clause-place : goal.returns-clause-place
 returns-clause-place g c =
     let facts = c.binary_search_by.ensures in
     let by_key = facts.position (λ row. place_cmp (g.O.RowOrder.place row) (sought_place g.O.RowOrder.place c.args.sought)) (always_returns_same _ _ _ (λ a r g called. search rules)) in
-    rw (← c.self.view_is, ← c.deref.ensures.value) (searched g.O.RowOrder.place _ _ (rw c.deref.ensures.value c.self.invariant.rising) _ facts.bound by_key)
+    rw (← c.self.view_is, ← c.deref.ensures.value) (searched g.O.RowOrder.place _ _ (rw c.deref.ensures.value c.self.invariant.0.rising) _ facts.bound by_key)
