@@ -6,7 +6,7 @@ use Rattle.depot_rows.specs.depot_model.Deeds.{Deed}
 use Rattle.depot_rows.specs.depot_model.Step.{Step as ModelStep, after, both, does}
 use Rattle.depot_rows.specs.Effects.{Follow}
 use Rattle.depot_rows.specs.declared.deed.Deed.{Deed as Done}
-use Rattle.opened_files.proofs.Reverts.{joined_made}
+use Rattle.opening_parts.proofs.Joined.{joined_made}
 use Rattle.reply_rows.specs.Made.{IsMade, does as does_so}
 use Rattle.reply_rows.specs.declared.step.Step.{Step}
 use Rattle.reply_rows.proofs.Joined.{follow_on, made_done}

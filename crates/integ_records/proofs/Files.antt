@@ -1,7 +1,7 @@
 -- What `resolve` does with a file by its row is what the model does.
 use Rattle.std.proofs.Common.{◌≡◌, ℕ, List, [], Option, Some, None, map, refl, sym, ap, subst, ◌∙◌}
 use Rattle.std.specs.Prelude.{filter, option_map}
-use Rattle.depot_rows.specs.db_records.declared.record.Record.{Record}
+use Rattle.std.proofs.lemmas.Option.{same_Some}
 use Rattle.depot_rows.specs.db_records.declared.record.Record.TheVariants.{Working}
 use Rattle.depot_rows.specs.db_records.declared.rows.WorkingRecord.{WorkingRecord}
 use Rattle.depot_rows.specs.depot_model.declared.command.Taking.{Taking}
@@ -24,9 +24,6 @@ module _ (d : List Deed) (caller : Caller) (taking : Taking) (path : List ℕ) w
   abbrev owed_by : Option Opening → List Owing
   owed_by found = elim found as (λ _. List Owing) [ None ↦ [] | Some o ↦ map (λ (r : Resolve). r.owing) (filter is_unpaid (resolves_of d o)) ]
 
-  one_row : (r s : Record) → Some r ≡ Some s → r ≡ s
-  one_row r s e = cc
-
   pub not_resolved : None ≡ option_map (working_record d) (opened d caller.client path) → nothing ≡ next (owings d caller path)
   not_resolved is = go (opened d caller.client path) refl is
     where
@@ -44,4 +41,4 @@ module _ (d : List Deed) (caller : Caller) (taking : Taking) (path : List ℕ) w
           subst P
           (sym (turned d caller taking path d (λ p. refl) (Some o) e (owed_by (Some o)) (owings_of_file d sound.paths caller.client path o e))
           ∙ ap (λ (x : Option Opening). next (owed_by x)) (sym e))
-          (made o e (one_row (Working row) (working_record d o) k))
+          (made o e (same_Some (Working row) (working_record d o) k))

@@ -2,8 +2,8 @@
 
 ghost use Rattle.std.specs.Prelude.{◌≡◌, IfOk};
 
-use depot_rows::paths::DepotPath;
 use depot_rows::{Opening, Owing, Source};
+use opening_parts::own_path;
 use std::alloc::AllocError;
 
 /// Gives an opening a base and a source.
@@ -14,14 +14,7 @@ pub(crate) fn rebase(opening: &mut Opening, base: u32, source: Option<Source>)
     opening.source = source;
 }
 
-/// A copy of a path. The one error, here and below, is want of memory.
-pub(crate) fn own_path(path: &DepotPath) -> Result<DepotPath, AllocError>
-    ensures { IfOk result (λ own. own ≡ path.now) }
-{
-    path.clone()
-}
-
-/// The last revision of a resolve.
+/// The last revision of a resolve. The one error is want of memory.
 pub(crate) fn source_of(owing: &Owing) -> Result<Source, AllocError>
     ensures { IfOk result (λ source. source ≡ record { path = owing.now.from; rev = owing.now.last }) }
 {

@@ -28,7 +28,7 @@ use depot_rows::protections::Level;
 use depot_rows::tables::Tables;
 use file_steps::{TurnAct, in_turn, named_by, no_file, within_files};
 use named_files::{Asker, Listing, ShownFiles};
-use opened_files::{exclusive_refusal, right_refusal, unseen_row};
+use opening_parts::{exclusive_refusal, right_refusal, unseen_row};
 use opening_reads::OwnOpenings;
 use reply_rows::{Step, already_open_row, not_in_view_row};
 use revision_reads::{Chosen, chosen_of, shown_in_view, target_at, target_text};

@@ -12,18 +12,15 @@ ghost use Rattle.depot_rows.specs.depot_model.Steps.Integrating as model;
 ghost use Rattle.depot_rows.specs.Deed.{action_of, how_of, opening_of as opening_of_deed, source_of};
 ghost use Rattle.depot_rows.specs.Standing.{HasRows};
 ghost use Rattle.depot_rows.specs.declared.deed.Deed.TheVariants as done_deeds;
-ghost use Rattle.opened_files.specs.Opens.{type_in};
 ghost use Rattle.reply_rows.specs.Made.{IsMade, does as done_with};
-ghost use Rattle.std.specs.Option.{option_copied};
 ghost use Rattle.integ_records.specs.Ways.{by_ends, paid_step, way_in, way_step};
 
 use crate::crediting::Span;
 use depot_rows::model::{Caller, Row};
-use depot_rows::paths::{DepotPath, Name, Text};
-use depot_rows::records::RevRecord;
+use depot_rows::paths::{DepotPath, Text};
 use depot_rows::tables::Tables;
 use depot_rows::{Action, Held, How, Opening, Owing, Source};
-use opened_files::action_word;
+use opening_parts::{action_word, own_name, own_path, type_of};
 use opening_reads::held;
 use reply_rows::{RowBuilder, Step, all_integrated_row};
 use revision_reads::{head_of, is_live_at, is_live_head, revision_of};
@@ -64,36 +61,6 @@ fn way_of(source_live: bool, target_live: bool) -> Option<Way>
         Some(Way::Delete)
     } else {
         None
-    }
-}
-
-/// A copy of a name.
-fn own_name(name: &Name) -> Result<Name, AllocError>
-    ensures { IfOk result (λ own. own ≡ name.now) }
-{
-    name.clone()
-}
-
-/// A copy of a path.
-fn own_path(path: &DepotPath) -> Result<DepotPath, AllocError>
-    ensures { IfOk result (λ own. own ≡ path.now) }
-{
-    path.clone()
-}
-
-/// The type of a revision, `text` where there is none.
-fn type_of(alloc: Global, row: Option<&RevRecord>) -> Result<Text, AllocError>
-    ensures { IfOk result (λ text. text ≡ type_in (option_copied row.entry)) }
-{
-    match row {
-        Some(row) => {
-            let file_type = row.file_type.clone()?;
-            Ok(file_type)
-        }
-        None => {
-            let file_type = Text::from_bytes(alloc, b"text")?;
-            Ok(file_type)
-        }
     }
 }
 

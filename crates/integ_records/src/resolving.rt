@@ -27,7 +27,7 @@ use depot_rows::tables::Tables;
 use file_openings::opening_of;
 use file_steps::{FileAct, over_all, within_files};
 use named_files::{Asker, HeadFiles, Listing};
-use opened_files::right_refusal;
+use opening_parts::right_refusal;
 use opening_reads::{opening_in, owed_resolves};
 use reply_rows::Step;
 use std::alloc::{AllocError, Global};

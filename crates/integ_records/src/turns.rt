@@ -17,11 +17,12 @@ ghost use Rattle.depot_rows.specs.Standing.{HasRows};
 ghost use Rattle.reply_rows.specs.Made.{IsMade, does as does_so};
 ghost use Rattle.integ_records.specs.Turns.{Adds, IsTurned, left, left_other, left_own, turns as turns_said};
 
-use crate::based::{own_path, rebase, source_of};
+use crate::based::{rebase, source_of};
 use deed_list::Deeds;
 use depot_rows::model::{Row, Taking};
 use depot_rows::tables::Tables;
 use depot_rows::{How, Opening, Owing, Source};
+use opening_parts::own_path;
 use opening_reads::{held, own_opening};
 use reply_rows::{RowBuilder, Step};
 use revision_reads::is_live_at;

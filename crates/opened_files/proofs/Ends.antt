@@ -2,8 +2,8 @@
 use Rattle.std.proofs.Common.{◌≡◌, ℕ, Bool, true, false, List, Option, Some, None, refl, sym, ap, ◌∙◌}
 use Rattle.std.specs.Prelude.{if◌then◌else◌, option_and_then, option_map}
 use Rattle.std.specs.Option.{option_map_or}
+use Rattle.std.proofs.lemmas.Option.{same_Some}
 use Rattle.depot_rows.specs.depot_path.Bytes.{same}
-use Rattle.depot_rows.specs.db_records.declared.record.Record.{Record}
 use Rattle.depot_rows.specs.db_records.declared.record.Record.TheVariants.{Working}
 use Rattle.depot_rows.specs.db_records.declared.rows.WorkingRecord.{WorkingRecord}
 use Rattle.depot_rows.specs.depot_model.Deeds.{Deed, Opening}
@@ -15,9 +15,6 @@ use Rattle.depot_rows.proofs.Locks.{opened-is}
 use Rattle.opening_reads.specs.Read.{path_in_text}
 use Rattle.opening_reads.proofs.Opens.{row_opens}
 use Rattle.opened_files.specs.Partners.{end_named, partner_path}
-
-one_row : (r s : Record) → Some r ≡ Some s → r ≡ s
-one_row r s e = cc
 
 abbrev moved_of : Opening → Option (List ℕ)
 moved_of o = o.moved
@@ -33,7 +30,7 @@ module _ (d : List Deed) (client path : List ℕ) where
       go : (found : Option Opening) → opened d client path ≡ found → Some (Working row) ≡ option_map (working_record d) found
           → path_in_text row.moved ≡ option_and_then moved_of found
       go None e k = absurd cc
-      go (Some o) e k = ap moved_of (row_opens d client path o row None None sound e (one_row (Working row) (working_record d o) k))
+      go (Some o) e k = ap moved_of (row_opens d client path o row None None sound e (same_Some (Working row) (working_record d o) k))
 
   pub no_end : None ≡ option_map (working_record d) (opened d client path) → None ≡ end_named d client path
   no_end is = go (opened d client path) is

@@ -1,11 +1,10 @@
 -- What `edit` and `delete` do with a file, by what was found of it, is what the model does.
 use Rattle.std.proofs.Common.{◌≡◌, ℕ, List, [], ◌∷◌, Option, Some, None, refl, sym, ap, ◌∙◌}
-use Rattle.std.specs.Prelude.{codes, is_none, option_map, unwrap_or}
+use Rattle.std.specs.Prelude.{is_none, option_map, unwrap_or}
+use Rattle.std.proofs.lemmas.Option.{same_Some}
 use Rattle.depot_rows.specs.depot_path.Path.{printed}
 use Rattle.depot_rows.specs.depot_path.declared.revision.Wanted.TheVariants.{Head}
-use Rattle.depot_rows.specs.db_records.declared.record.Record.{Record}
-use Rattle.depot_rows.specs.db_records.declared.record.Record.TheVariants.{Rev, Working}
-use Rattle.depot_rows.specs.db_records.declared.rows.RevRecord.{RevRecord}
+use Rattle.depot_rows.specs.db_records.declared.record.Record.TheVariants.{Working}
 use Rattle.depot_rows.specs.db_records.declared.rows.WorkingRecord.{WorkingRecord}
 use Rattle.depot_rows.specs.depot_model.declared.refusal.Refusal.{Refusal}
 use Rattle.depot_rows.specs.depot_model.declared.refusal.Refusal.TheVariants.{NotInView}
@@ -13,8 +12,7 @@ use Rattle.depot_rows.specs.depot_model.declared.request.Caller.{Caller}
 use Rattle.depot_rows.specs.depot_model.Choice.{shown}
 use Rattle.depot_rows.specs.depot_model.Deeds.{Action, Deed, Opening}
 use Rattle.depot_rows.specs.depot_model.Opened.{opened}
-use Rattle.depot_rows.specs.depot_model.Records.{rev_record, unplaced, working_record}
-use Rattle.depot_rows.specs.depot_model.Revisions.{Revision}
+use Rattle.depot_rows.specs.depot_model.Records.{working_record}
 use Rattle.depot_rows.specs.depot_model.Rules.{IsSound}
 use Rattle.depot_rows.specs.depot_model.Step.{Step as ModelStep, refuse_if, unless}
 use Rattle.depot_rows.specs.depot_model.Steps.Editing.{had_type, new_type, next_opening, open_file, opening, reopened}
@@ -22,23 +20,7 @@ use Rattle.depot_rows.specs.depot_model.Steps.Opening.{exclusive_refusal, right_
 use Rattle.depot_rows.specs.Deed.{opening_of}
 use Rattle.opening_reads.specs.Read.{opening_in_row}
 use Rattle.opening_reads.proofs.Opens.{row_opens}
-use Rattle.opened_files.specs.Opens.{open_step, opens_next, opens_permitted, opens_shown, type_in}
-
--- ---- the type of a revision
-
-abbrev type_field : Record → List ℕ
-type_field (Rev r) = r.file_type
-type_field _ = []
-
-one_row : (r s : Record) → Some r ≡ Some s → r ≡ s
-one_row r s e = cc
-
-pub type_told : (rev : ℕ) (row : Option RevRecord) (found : Option Revision) → option_map (λ r. unplaced (Rev r)) row ≡ option_map (rev_record rev) found
-    → type_in row ≡ (elim found as (λ _. List ℕ) [ None ↦ codes "text" | Some r ↦ r.entry.file_type ])
-type_told rev None None e = refl
-type_told rev None (Some r) e = absurd cc
-type_told rev (Some row) None e = absurd cc
-type_told rev (Some row) (Some r) e = ap type_field (one_row (unplaced (Rev row)) (rev_record rev r) e)
+use Rattle.opened_files.specs.Opens.{open_step, opens_next, opens_permitted, opens_shown}
 
 -- no row, no opening
 pub not_opened : (d : List Deed) (found : Option Opening) → None ≡ option_map (working_record d) found → found ≡ None
@@ -78,7 +60,7 @@ module _ (d : List Deed) (caller : Caller) (action : Action) (change : Option �
           → by_row row ≡ opens_shown d caller action change type place path
       go None e k = absurd cc
       go (Some o) e k =
-          let one = one_row (Working row) (working_record d o) k in
+          let one = same_Some (Working row) (working_record d o) k in
           (λ i. unless (exclusive_refusal d path caller.client (working_type row o one i) ∷ []) (opens_next path place (reopened action (row_opens d caller.client path o row None None sound e one i))))
           ∙ sym (ap shown_by e)
 

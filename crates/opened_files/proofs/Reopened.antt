@@ -1,7 +1,7 @@
 -- What `reopen` does with a file by its row is what the model does.
 use Rattle.std.proofs.Common.{◌≡◌, ℕ, Bool, List, Option, Some, None, refl, sym, ap, ◌∙◌}
 use Rattle.std.specs.Prelude.{option_map}
-use Rattle.depot_rows.specs.db_records.declared.record.Record.{Record}
+use Rattle.std.proofs.lemmas.Option.{same_Some}
 use Rattle.depot_rows.specs.db_records.declared.record.Record.TheVariants.{Working}
 use Rattle.depot_rows.specs.db_records.declared.rows.WorkingRecord.{WorkingRecord}
 use Rattle.depot_rows.specs.depot_model.declared.request.Caller.{Caller}
@@ -34,13 +34,10 @@ module _ (d : List Deed) (caller : Caller) (path : List ℕ) (change : Option �
       → reopening path may (opening_of (opening_in_row caller.client path row change type)) ≡ reopen_file d caller change type path
   reopened_by may row sound may_is is = go (opened d caller.client path) refl is
     where
-      one_row : (r s : Record) → Some r ≡ Some s → r ≡ s
-      one_row r s e = cc
-
       go : (found : Option Opening) → opened d caller.client path ≡ found → Some (Working row) ≡ option_map (working_record d) found
           → reopening path may (opening_of (opening_in_row caller.client path row change type)) ≡ model_of found
       go None e k = absurd cc
       go (Some o) e k =
-          ap (λ (x : Opening). reopening path may x) (row_opens d caller.client path o row change type sound e (one_row (Working row) (working_record d o) k))
+          ap (λ (x : Opening). reopening path may x) (row_opens d caller.client path o row change type sound e (same_Some (Working row) (working_record d o) k))
           ∙ ap (λ (m : Bool). reopening path m (moved change type o)) may_is
           ∙ sym (ap (λ (p : List ℕ). reopening p (may_at d caller p 3) (moved change type o)) (opened-is d caller.client path o e).1)

@@ -13,25 +13,16 @@ use Rattle.depot_rows.specs.depot_model.Asking.{may_at}
 use Rattle.depot_rows.specs.depot_model.Deeds.{Deed, Opening}
 use Rattle.depot_rows.specs.depot_model.Opened.{opened, partner}
 use Rattle.depot_rows.specs.depot_model.Sorted.{path_inserted}
-use Rattle.depot_rows.specs.depot_model.Step.{Step as ModelStep, after, both, nothing}
+use Rattle.depot_rows.specs.depot_model.Step.{Step as ModelStep, both, nothing}
 use Rattle.depot_rows.specs.depot_model.Steps.Reverting.{both_ends, is_selected, not_open, other_end, revert_file, revert_files, revert_named, revert_over, selected}
 use Rattle.reply_rows.specs.declared.step.Step.{Step}
 use Rattle.reply_rows.specs.Made.{IsMade}
-use Rattle.reply_rows.proofs.Joined.{both_assoc, both_nothing, made_on, then_on}
+use Rattle.reply_rows.proofs.Joined.{both_assoc, both_nothing}
 use Rattle.named_files.specs.Sets.{is_chosen}
 use Rattle.named_files.proofs.Rising.{in_inserted}
 use Rattle.named_files.proofs.Selection.{both_tests}
 use Rattle.opened_files.specs.Partners.{partner_path}
 use Rattle.opened_files.specs.Reverts.{AreAlike, IsReverted}
-
--- ---- steps one after another
-
-pub joined_made : (all : AllRows) (d e : List Deed) (m more : ModelStep) (step other joined : Step) → IsMade all d e m step → IsMade all d (after e m.deeds) more other
-    → joined.deeds ≡ step.deeds ++ other.deeds → joined.rows ≡ step.rows ++ other.rows → joined.stores ≡ step.stores ++ other.stores
-    → joined.reads ≡ step.reads ++ other.reads → IsMade all d e (both m more) joined
-joined_made all d e m more step other joined was is deeds rows stores reads =
-    let one : joined ≡ then_on step other = λ i. record { deeds = deeds i; rows = rows i; stores = stores i; reads = reads i } in
-    subst (λ (x : Step). IsMade all d e (both m more) x) (sym one) (made_on all d e m more step other was is)
 
 -- the first item and those behind it
 pub parted_arguments : (rest : List FileArgument) (a : FileArgument) → 1 ≤ length rest → a ≡ get_or rest 0 a → a ∷ take (length rest - 1) (drop 1 rest) ≡ rest

@@ -1,9 +1,8 @@
 -- What `edit` and `delete` do with a file once it is known that the caller may open it, where the view shows it, and what is to be opened; and what
 -- is read for it. This project's own choice.
-use Rattle.std.specs.Prelude.{ℕ, false, List, [], ◌∷◌, codes, Option, Some, None, is_none}
+use Rattle.std.specs.Prelude.{ℕ, false, List, [], ◌∷◌, Option, Some, None, is_none}
 use Rattle.depot_rows.specs.depot_path.Path.{printed}
 use Rattle.depot_rows.specs.depot_path.declared.revision.Wanted.TheVariants.{Head}
-use Rattle.depot_rows.specs.db_records.declared.rows.RevRecord.{RevRecord}
 use Rattle.depot_rows.specs.db_records.declared.table.TableId.TheVariants as table_ids
 use Rattle.depot_rows.specs.table_changes.Changed.{AllRows}
 use Rattle.depot_rows.specs.depot_model.declared.command.FileArgument.{FileArgument}
@@ -19,11 +18,6 @@ use Rattle.depot_rows.specs.depot_model.Steps.Opening.{exclusive_refusal, openin
 use Rattle.depot_rows.specs.Standing.{HasRows}
 use Rattle.named_files.specs.Asked.{IsAsker}
 use Rattle.named_files.specs.declared.asker.Asker.{Asker}
-
--- the type of a revision, by its row
-abbrev pub type_in : Option RevRecord → List ℕ
-type_in None = codes "text"
-type_in (Some r) = r.file_type
 
 -- a file that is opened
 abbrev pub open_step : Opening → Option (List ℕ) → Step

@@ -22,7 +22,6 @@ ghost use Rattle.opened_files.specs.Adds.{Reads, adds_permitted, adds_shown, new
 ghost use Rattle.opened_files.specs.Opens.{open_step};
 
 use crate::editing::open_file;
-use crate::refusing::{exclusive_refusal, right_refusal, unseen_row};
 use command_parts::named_change_refusal;
 use depot_rows::model::{Caller, FileArgument, Row};
 use depot_rows::paths::{ClientPath, DepotPath, Name, Sequence, Text, Wanted};
@@ -31,6 +30,7 @@ use depot_rows::tables::Tables;
 use depot_rows::{Action, Opening};
 use file_steps::{FileAct, FileFinder, over_found, within_files};
 use named_files::{Asker, spelled_path};
+use opening_parts::{exclusive_refusal, right_refusal, unseen_row};
 use opening_reads::is_opened_by;
 use reply_rows::{Step, already_open_row, exists_row, not_in_view_row};
 use revision_reads::{file_at, head_of, is_live_head, shown_in_view};

@@ -18,10 +18,7 @@ ghost use Rattle.opening_reads.specs.Read.{opening_in_row};
 ghost use Rattle.reply_rows.specs.Made.{IsMade};
 ghost use Rattle.opened_files.specs.Opens.{Reads, had_over, open_step, opens_next, opens_permitted, opens_shown};
 
-use crate::copies::{own_name, own_path};
 use crate::had::first_type;
-use crate::opening_rows::opening_row;
-use crate::refusing::{exclusive_refusal, right_refusal, unseen_row};
 use command_parts::named_change_refusal;
 use depot_rows::model::{Caller, FileArgument};
 use depot_rows::paths::{ClientPath, DepotPath, Name, Text, Wanted};
@@ -32,6 +29,9 @@ use depot_rows::{Action, Opening};
 use file_openings::opening_of;
 use file_steps::{FileAct, over, within_files};
 use named_files::{Asker, HeadFiles, Listing};
+use opening_parts::{
+    exclusive_refusal, opening_row, own_name, own_path, right_refusal, unseen_row,
+};
 use opening_reads::opening_in;
 use reply_rows::{Step, already_open_row};
 use revision_reads::shown_of;

@@ -1,37 +1,25 @@
 //! What a client has of a file that it is to open.
 
-ghost use Rattle.std.specs.Prelude.{◌≡◌, List, IfOk, codes, option_map, unwrap_or};
-ghost use Rattle.std.specs.Option.{option_copied};
+ghost use Rattle.std.specs.Prelude.{◌≡◌, List, IfOk, unwrap_or};
 ghost use Rattle.depot_rows.specs.db_records.declared.table.TableId.TheVariants as table_ids;
 ghost use Rattle.depot_rows.specs.table_changes.Changed.{rows_of};
 ghost use Rattle.depot_rows.specs.depot_model.Deeds.{Deed};
 ghost use Rattle.depot_rows.specs.depot_model.Steps.Editing as model;
 ghost use Rattle.depot_rows.specs.Standing.{HasRows};
-ghost use Rattle.opened_files.specs.Opens.{type_in};
 
-use crate::copies::own_text;
 use depot_rows::model::Caller;
 use depot_rows::paths::{DepotPath, Text};
-use depot_rows::records::RevRecord;
 use depot_rows::tables::Tables;
+use opening_parts::type_of;
 use revision_reads::revision_of;
 use row_reads::have_of;
 use std::alloc::{AllocError, Global};
 
-/// The type of a revision, `text` where there is none.
-fn type_of(alloc: Global, row: Option<&RevRecord>) -> Result<Text, AllocError>
-    ensures { IfOk result (λ text. text ≡ type_in (option_copied row.entry)) }
+/// A copy of a text.
+fn own_text(text: &Text) -> Result<Text, AllocError>
+    ensures { IfOk result (λ own. own ≡ text.now) }
 {
-    match row {
-        Some(row) => {
-            let file_type = row.file_type.clone()?;
-            Ok(file_type)
-        }
-        None => {
-            let file_type = Text::from_bytes(alloc, b"text")?;
-            Ok(file_type)
-        }
-    }
+    text.clone()
 }
 
 /// The type of the revision of a file that the caller's client has, `text` where it has none (Command-Line Reference, "p4 edit"), from the tables of

@@ -21,10 +21,7 @@ ghost use Rattle.opened_files.specs.Moves.{added_at as opening_added, edited_at 
 ghost use Rattle.opened_files.specs.Moves.{file_refusal as file_refusal_in, place_refusal as place_refusal_in, taken_refusal as taken_refusal_in, target_refusal as target_refusal_in};
 
 use crate::adding::new_refusal;
-use crate::copies::own_path;
-use crate::opening_rows::action_word;
 use crate::partners::is_end;
-use crate::refusing::{right_refusal, unseen_row};
 use command_parts::named_change_refusal;
 use deed_list::Deeds;
 use depot_rows::model::{Caller, FileArgument, PatternArgument, Row};
@@ -34,6 +31,7 @@ use depot_rows::tables::Tables;
 use depot_rows::{Action, Opening, Source};
 use file_steps::{TurnAct, in_turn, named_by, not_open, within_files};
 use named_files::{Asker, HeadFiles, Listing};
+use opening_parts::{action_word, own_path, right_refusal, unseen_row};
 use opening_reads::{OwnOpenings, held, own_opening};
 use reply_rows::{RowBuilder, Step, not_in_view_row, not_movable_row};
 use revision_reads::{head_of, shown_in_view, target_at as file_of_target, target_text};

@@ -13,15 +13,14 @@ ghost use Rattle.depot_rows.specs.Standing.{HasRows};
 ghost use Rattle.reply_rows.specs.Made.{IsMade};
 ghost use Rattle.opened_files.specs.Reverts.{AreAlike, IsReverted, Reads, shut_row as row_of_shut};
 
-use crate::copies::own_path;
 use crate::partners::partner_of;
-use crate::refusing::right_refusal;
 use depot_rows::model::{Caller, FileArgument, Row};
 use depot_rows::paths::DepotPath;
 use depot_rows::protections::Level;
 use depot_rows::tables::Tables;
 use file_steps::{PathSet, named_by, not_open, within_files};
 use named_files::{Asker, SelectedFiles};
+use opening_parts::{own_path, right_refusal};
 use opening_reads::held;
 use reply_rows::{RowBuilder, Step};
 use row_reads::have_of;

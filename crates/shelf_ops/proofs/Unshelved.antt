@@ -20,7 +20,7 @@ use Rattle.depot_rows.specs.depot_model.declared.reply.Row.{Row}
 use Rattle.depot_rows.specs.depot_model.declared.request.Caller.{Caller}
 use Rattle.depot_rows.specs.depot_model.Asking.{to_open}
 use Rattle.depot_rows.specs.depot_model.Choice.{shown}
-use Rattle.depot_rows.specs.depot_model.Deeds.{Action, Add, Deed, Delete, Edit, Opening, ShelfForm}
+use Rattle.depot_rows.specs.depot_model.Deeds.{Add, Deed, Delete, Edit, Opening, ShelfForm}
 use Rattle.depot_rows.specs.depot_model.Latest.{spec, when}
 use Rattle.depot_rows.specs.depot_model.Opened.{opened}
 use Rattle.depot_rows.specs.depot_model.Records.{record_of, working_record}

@@ -19,7 +19,7 @@ use depot_rows::model::Caller;
 use depot_rows::paths::{DepotPath, Text};
 use depot_rows::{Opening, Source};
 use itoa::Buffer;
-use opened_files::action_word;
+use opening_parts::action_word;
 use std::alloc::{AllocError, Global};
 
 /// Adds what stands behind the colon of a single field with a value.

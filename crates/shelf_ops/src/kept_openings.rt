@@ -12,9 +12,10 @@ ghost use Rattle.shelf_ops.specs.Unshelved.{line_block, word_action};
 
 use depot_rows::forms::Form;
 use depot_rows::model::Caller;
-use depot_rows::paths::{DepotPath, Name, Text, value_up_to};
+use depot_rows::paths::{DepotPath, Text, value_up_to};
 use depot_rows::{Action, Opening, Source};
 use hex::FromHexError;
+use opening_parts::{own_name, own_path};
 use opening_reads::path_in;
 use row_reads::form_value;
 use std::alloc::{AllocError, Global};
@@ -114,20 +115,6 @@ pub(crate) fn kept_block(alloc: Global, form: &Form) -> Result<Option<Text>, All
     let lines = form.lines("Content");
     let block = block_in(alloc, lines)?;
     Ok(block)
-}
-
-/// A copy of a name.
-fn own_name(name: &Name) -> Result<Name, AllocError>
-    ensures { IfOk result (λ own. own ≡ name.now) }
-{
-    name.clone()
-}
-
-/// A copy of a path.
-fn own_path(path: &DepotPath) -> Result<DepotPath, AllocError>
-    ensures { IfOk result (λ own. own ≡ path.now) }
-{
-    path.clone()
 }
 
 /// The opening in a change, 0 for the default one, of a file that is kept, by its form. The one error is want of memory.

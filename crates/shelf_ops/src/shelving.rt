@@ -35,7 +35,7 @@ use depot_rows::{Action, Opening};
 use file_contents::{Blocks, block_given, lacks_content};
 use file_steps::{FileAct, over_all};
 use named_files::Asker;
-use opened_files::{action_word, right_refusal};
+use opening_parts::{action_word, right_refusal};
 use opening_reads::opening_by;
 use reply_rows::{RowBuilder, Step, already_shelved_row, no_content_row, not_shelvable_row};
 use std::alloc::{AllocError, Global};

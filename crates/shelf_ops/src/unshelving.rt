@@ -30,7 +30,7 @@ use depot_rows::{Opening, Source};
 use file_openings::opening_of;
 use file_steps::{FileAct, over_all, within_files};
 use named_files::Asker;
-use opened_files::{exclusive_refusal, opening_row, right_refusal, unseen_row};
+use opening_parts::{exclusive_refusal, opening_row, right_refusal, unseen_row};
 use reply_rows::{RowContent, Step, already_open_row, no_shelf_row, number_field, path_field};
 use revision_reads::shown_of;
 use std::alloc::{AllocError, Global};

@@ -20,9 +20,9 @@ use std::marker::Model;
 /// The rows of one table, changed one after another until they are a version.
 ///
 /// It is for who tests and makes many changes, each against the rows that those before it left. A
-/// change is made in place where its page isn't shared with a version. Else it copies the handles of the
-/// rows of that page, and where the branch is shared, those of its pages. Rows that come in the order of
-/// their keys are put behind the others without a search.
+/// change is made in place where its page isn't shared with a version and keeps its first row. Else it
+/// copies the handles of the rows of that page, and where the branch is shared, those of its pages. Rows
+/// that come in the order of their keys are put behind the others without a search.
 #[derive(Drop)]
 pub struct Draft {
     table: TableId,

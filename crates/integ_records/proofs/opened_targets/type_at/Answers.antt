@@ -1,6 +1,6 @@
 use Rattle.std.proofs.Common.{◌∙◌}
 use Rattle.depot_rows.specs.depot_model.Revisions.{revision}
-use Rattle.opened_files.proofs.Opens.{type_told}
+use Rattle.opening_parts.proofs.RevisionTypes.{type_told}
 use Rattle.integ_records.proofs.opened_targets.type_at.Goals as goal
 
 pub returns : goal.returns

@@ -1,7 +1,7 @@
 use Rattle.std.proofs.Common.{ℕ, List, ap, ◌∙◌}
 use Rattle.std.specs.Prelude.{codes, Some, None}
 use Rattle.depot_rows.specs.depot_model.Revisions.{revision}
-use Rattle.opened_files.proofs.Opens.{type_told}
+use Rattle.opening_parts.proofs.RevisionTypes.{type_told}
 use Rattle.opened_files.proofs.had.had_type.Goals as goal
 
 pub returns : goal.returns

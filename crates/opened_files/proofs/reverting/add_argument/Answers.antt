@@ -5,7 +5,8 @@ use Rattle.depot_rows.specs.depot_model.Step.{Step as ModelStep, after, both}
 use Rattle.depot_rows.specs.depot_model.Steps.Reverting.{both_ends, not_open, revert_files, selected}
 use Rattle.reply_rows.specs.Made.{IsMade}
 use Rattle.opened_files.specs.Reverts.{AreAlike, IsReverted}
-use Rattle.opened_files.proofs.Reverts.{chosen_are, joined_made, none_named, some_named}
+use Rattle.opening_parts.proofs.Joined.{joined_made}
+use Rattle.opened_files.proofs.Reverts.{chosen_are, none_named, some_named}
 use Rattle.opened_files.proofs.reverting.add_argument.Goals as goal
 
 pub returns : goal.returns

@@ -6,7 +6,7 @@ use Rattle.depot_rows.specs.depot_model.Step.{after, both, nothing}
 use Rattle.depot_rows.specs.depot_model.Steps.Reverting.{revert_file}
 use Rattle.reply_rows.specs.Made.{IsMade}
 use Rattle.opened_files.specs.Reverts.{AreAlike}
-use Rattle.opened_files.proofs.Reverts.{joined_made}
+use Rattle.opening_parts.proofs.Joined.{joined_made}
 use Rattle.opened_files.proofs.reverting.add_file.Goals as goal
 
 pub returns : goal.returns

@@ -5,7 +5,7 @@ use Rattle.depot_rows.specs.depot_model.Step.{Step as ModelStep, after, all_of, 
 use Rattle.depot_rows.specs.depot_model.Steps.Reverting.{shut}
 use Rattle.reply_rows.specs.Made.{IsMade}
 use Rattle.reply_rows.proofs.Joined.{both_nothing}
-use Rattle.opened_files.proofs.Reverts.{joined_made}
+use Rattle.opening_parts.proofs.Joined.{joined_made}
 use Rattle.opened_files.proofs.reverting.shut_ends.Goals as goal
 
 pub returns-in_ok-add-in-Some : goal.returns-in_ok-add-in-Some

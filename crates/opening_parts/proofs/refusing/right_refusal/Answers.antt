@@ -7,7 +7,7 @@ use Rattle.depot_rows.specs.depot_model.declared.reply.Row.{Row}
 use Rattle.depot_rows.specs.depot_model.Asking.{may_at}
 use Rattle.depot_rows.specs.depot_model.Refusals.{refusal_row}
 use Rattle.depot_rows.specs.depot_model.Step.{refuse_if}
-use Rattle.opened_files.proofs.refusing.right_refusal.Goals as goal
+use Rattle.opening_parts.proofs.refusing.right_refusal.Goals as goal
 
 pub returns-then-may : goal.returns-then-may
 returns-then-may c = λ d caller asked.

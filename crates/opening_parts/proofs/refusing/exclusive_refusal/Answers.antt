@@ -3,7 +3,7 @@ use Rattle.std.specs.Prelude.{option_map}
 use Rattle.depot_rows.specs.depot_model.declared.refusal.Refusal.TheVariants.{ExclusiveOpen}
 use Rattle.depot_rows.specs.depot_model.declared.reply.Row.{Row}
 use Rattle.depot_rows.specs.depot_model.Refusals.{refusal_row}
-use Rattle.opened_files.proofs.refusing.exclusive_refusal.Goals as goal
+use Rattle.opening_parts.proofs.refusing.exclusive_refusal.Goals as goal
 
 pub returns-in_ok-row-in-Some : goal.returns-in_ok-row-in-Some
 returns-in_ok-row-in-Some c = λ d sound working.
