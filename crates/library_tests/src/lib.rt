@@ -16,6 +16,9 @@ mod folders;
 /// Disks over a folder that another has (`real_world`).
 #[cfg(test)]
 mod holders;
+/// Words of an order (`order_words`).
+#[cfg(test)]
+mod lanes;
 /// A link that loses what it brings (`memory_world`).
 #[cfg(test)]
 mod losses;
