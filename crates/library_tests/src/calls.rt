@@ -9,7 +9,6 @@ use memory_world::{Loss, LossyLink, MemoryLink, MemorySource};
 use outside_api::Link;
 use replica_pull::{PullFault, Replica};
 use std::alloc::{AllocError, Global};
-use std::test::Fail;
 use wire_text::ScriptReader;
 
 /// The text of a group of one counter.
@@ -27,18 +26,47 @@ fn link_to(alloc: Global, text: &[u8]) -> Result<MemoryLink, AllocError> {
     Ok(MemoryLink::new(vec![in alloc; text]?, Vec::new(alloc)))
 }
 
-/// A replica of all files.
-fn whole_replica(alloc: Global) -> Result<Replica, Fail> {
-    let all = Text::from_bytes(alloc, b"//...")?;
-    match Filter::read(alloc, &[all]) {
-        Ok(filter) => Ok(Replica::with_filter(alloc, filter)?),
-        Err(_) => Err(Fail::from("no filter")),
+/// A link to a journal of one group that loses these, one after another.
+fn lossy_link(alloc: Global, losses: &[Loss]) -> Result<LossyLink, AllocError> {
+    let losses = Vec::from_slice(alloc, losses)?;
+    match link_to(alloc, JOURNAL) {
+        Ok(link) => Ok(LossyLink::new(link, losses)),
+        Err(AllocError) => {
+            drop(losses);
+            Err(AllocError)
+        }
     }
 }
 
-/// Whether a pull is refused so and leaves the replica at its begin.
-fn refuses<L: Link>(alloc: Global, replica: &mut Replica, link: &mut L, fault: PullFault) -> bool {
-    replica.pull(alloc, link) == Err(fault) && replica.position() == (0, 0)
+/// The filter of all files.
+fn whole_filter(alloc: Global) -> Option<Filter> {
+    let all = Text::from_bytes(alloc, b"//...").ok()?;
+    Filter::read(alloc, &[all]).ok()
+}
+
+/// A replica of all files.
+fn whole_replica(alloc: Global) -> Option<Replica> {
+    Replica::with_filter(alloc, whole_filter(alloc)?).ok()
+}
+
+/// Whether a pull of a new replica is refused so and leaves it at its begin.
+fn refuses<L: Link>(alloc: Global, link: &mut L, fault: PullFault) -> bool {
+    let Some(mut replica) = whole_replica(alloc) else {
+        return false;
+    };
+    let is_refused = replica.pull(alloc, link) == Err(fault) && replica.position() == (0, 0);
+    drop(replica);
+    is_refused
+}
+
+/// Whether a journal of this text is no feed for a new replica.
+fn is_no_feed(alloc: Global, text: &[u8], fault: PullFault) -> bool {
+    let Ok(mut link) = link_to(alloc, text) else {
+        return false;
+    };
+    let is_refused = refuses(alloc, &mut link, fault);
+    drop(link);
+    is_refused
 }
 
 /// Whether pulls never lead a replica back, and at last to the end of a journal of one group.
@@ -55,37 +83,45 @@ fn never_goes_back<L: Link>(alloc: Global, replica: &mut Replica, link: &mut L) 
     replica.position() == (0, 1) && replica.awaits() == (0, 46)
 }
 
-/// Whether a replica follows a journal of one group over a link that loses these, one after another.
-fn follows(alloc: Global, losses: [Loss; 3]) -> Result<bool, Fail> {
-    let losses = Vec::from_slice(alloc, &losses)?;
-    let mut link = LossyLink::new(link_to(alloc, JOURNAL)?, losses);
-    let mut replica = whole_replica(alloc)?;
-    let is_so = never_goes_back(alloc, &mut replica, &mut link);
+/// Whether a new replica follows a journal of one group over a link.
+fn follows<L: Link>(alloc: Global, link: &mut L) -> bool {
+    let Some(mut replica) = whole_replica(alloc) else {
+        return false;
+    };
+    let follows = never_goes_back(alloc, &mut replica, link);
     drop(replica);
+    follows
+}
+
+/// Whether a new replica follows a journal of one group over a link that loses these, one after another.
+fn follows_over(alloc: Global, losses: &[Loss]) -> bool {
+    let Ok(mut link) = lossy_link(alloc, losses) else {
+        return false;
+    };
+    let follows = follows(alloc, &mut link);
     drop(link);
-    Ok(is_so)
+    follows
 }
 
 #[test]
-fn a_feed_that_is_no_journal_is_refused(rt: HostRuntime) -> Result<(), Fail> {
-    let mut link = link_to(rt.alloc(), b"@ex@\nx")?;
-    let mut replica = whole_replica(rt.alloc())?;
-    assert!(rt; refuses(rt.alloc(), &mut replica, &mut link, PullFault::BadFeed(5)));
-    drop(replica);
-    drop(link);
-    Ok(())
+fn a_feed_that_is_no_journal_is_refused(rt: HostRuntime) {
+    assert!(rt; is_no_feed(rt.alloc(), b"@ex@\nx", PullFault::BadFeed(5)));
 }
 
 #[test]
-fn a_replica_never_goes_back(rt: HostRuntime) -> Result<(), Fail> {
+fn a_replica_never_goes_back(rt: HostRuntime) {
     let (fail, short, old) = (Loss::Fail, Loss::Short(1), Loss::Old(0));
-    assert!(rt; follows(rt.alloc(), [fail, short, old])?);
-    assert!(rt; follows(rt.alloc(), [fail, old, short])?);
-    assert!(rt; follows(rt.alloc(), [short, fail, old])?);
-    assert!(rt; follows(rt.alloc(), [short, old, fail])?);
-    assert!(rt; follows(rt.alloc(), [old, fail, short])?);
-    assert!(rt; follows(rt.alloc(), [old, short, fail])?);
-    Ok(())
+    let orders = [
+        [fail, short, old],
+        [fail, old, short],
+        [short, fail, old],
+        [short, old, fail],
+        [old, fail, short],
+        [old, short, fail],
+    ];
+    for losses in &orders {
+        assert!(rt; follows_over(rt.alloc(), losses));
+    }
 }
 
 /// Whether one more byte is put behind those that a reader has.
@@ -123,41 +159,57 @@ fn reads_bytewise(alloc: Global, reader: &mut GroupReader, text: &[u8]) -> bool 
 }
 
 #[test]
-fn groups_are_read_byte_by_byte(rt: HostRuntime) -> Result<(), Fail> {
+fn groups_are_read_byte_by_byte(rt: HostRuntime) {
     let mut reader = GroupReader::new(Text::new(rt.alloc()), 0, 1);
-    assert!(rt; reads_bytewise(rt.alloc(), &mut reader, JOURNAL));
+    let is_read = reads_bytewise(rt.alloc(), &mut reader, JOURNAL);
     drop(reader);
-    Ok(())
+    assert!(rt; is_read);
 }
 
 /// Whether a table without rows has one after the change, which is all that there is.
-fn makes_row(alloc: Global, changes: &[Change]) -> Result<bool, AllocError> {
-    let before = Version::empty(alloc, TableId::Counter)?;
+fn adds_row(alloc: Global, before: &Version, changes: &[Change]) -> bool {
     let [change] = changes else {
-        return Ok(false);
+        return false;
     };
     if !before.fits(change) {
-        return Ok(false);
+        return false;
     }
-    let after = before.with_changes(alloc, changes)?;
+    let Ok(after) = before.with_changes(alloc, changes) else {
+        return false;
+    };
     let is_there = before.rows().next().is_none() && after.rows().next() == Some(&change.row);
     drop(after);
-    Ok(is_there)
+    is_there
+}
+
+/// Whether changes make a row in the table of counters without rows.
+fn makes_row(alloc: Global, changes: &[Change]) -> bool {
+    let Ok(before) = Version::empty(alloc, TableId::Counter) else {
+        return false;
+    };
+    let makes_row = adds_row(alloc, &before, changes);
+    drop(before);
+    makes_row
+}
+
+/// Whether a text is a group, which makes a row in the table of counters without rows.
+fn is_group(alloc: Global, text: &[u8]) -> bool {
+    let Ok((changes, length)) = read_group(alloc, text, 1) else {
+        return false;
+    };
+    let makes_row = makes_row(alloc, changes.as_slice());
+    drop(changes);
+    makes_row && length == text.len()
 }
 
 #[test]
-fn a_group_is_read_whole_and_makes_its_row(rt: HostRuntime) -> Result<(), Fail> {
-    let Ok((changes, length)) = read_group(rt.alloc(), GROUP, 1) else {
-        return Err(Fail::from("no group"));
-    };
-    assert!(rt; length == 41 && makes_row(rt.alloc(), changes.as_slice())?);
-    drop(changes);
-    Ok(())
+fn a_group_is_read_whole_and_makes_its_row(rt: HostRuntime) {
+    assert!(rt; is_group(rt.alloc(), GROUP));
 }
 
-/// Whether a reader gives the one command of a script, and then its end.
-fn reads_script(alloc: Global, reader: &mut ScriptReader, source: &mut MemorySource) -> bool {
-    let is_first = match reader.next(alloc, source) {
+/// Whether what a reader gives next is the first command of its script.
+fn gives_first(alloc: Global, reader: &mut ScriptReader, source: &mut MemorySource) -> bool {
+    match reader.next(alloc, source) {
         Ok(Some(item)) => {
             let is_first = item.number == 1;
             drop(item);
@@ -165,21 +217,42 @@ fn reads_script(alloc: Global, reader: &mut ScriptReader, source: &mut MemorySou
         }
         Ok(None) => false,
         Err(_) => false,
+    }
+}
+
+/// Whether what a reader gives next is the only command of its script.
+fn gives_one(alloc: Global, reader: &mut ScriptReader, source: &mut MemorySource) -> bool {
+    gives_first(alloc, reader, source) && matches!(reader.next(alloc, source), Ok(None))
+}
+
+/// Whether a source is a script of one command.
+fn gives_script(alloc: Global, source: &mut MemorySource) -> bool {
+    let Ok(mut reader) = ScriptReader::new(alloc) else {
+        return false;
     };
-    is_first && matches!(reader.next(alloc, source), Ok(None))
+    let is_script = match reader.head(alloc, source) {
+        Ok(head) => {
+            drop(head);
+            gives_one(alloc, &mut reader, source)
+        }
+        Err(_) => false,
+    };
+    drop(reader);
+    is_script
+}
+
+/// Whether a text is a script of one command.
+fn is_script(alloc: Global, text: &[u8]) -> bool {
+    let Ok(text) = Text::from_bytes(alloc, text) else {
+        return false;
+    };
+    let mut source = MemorySource::new(text, Vec::new(alloc));
+    let is_script = gives_script(alloc, &mut source);
+    drop(source);
+    is_script
 }
 
 #[test]
-fn a_script_is_read_command_by_command(rt: HostRuntime) -> Result<(), Fail> {
-    let script = Text::from_bytes(rt.alloc(), b"session ann ws1 hostA\np4 counters\n")?;
-    let mut source = MemorySource::new(script, Vec::new(rt.alloc()));
-    let mut reader = ScriptReader::new(rt.alloc())?;
-    match reader.head(rt.alloc(), &mut source) {
-        Ok(head) => drop(head),
-        Err(_) => return Err(Fail::from("no head")),
-    }
-    assert!(rt; reads_script(rt.alloc(), &mut reader, &mut source));
-    drop(reader);
-    drop(source);
-    Ok(())
+fn a_script_is_read_command_by_command(rt: HostRuntime) {
+    assert!(rt; is_script(rt.alloc(), b"session ann ws1 hostA\np4 counters\n"));
 }

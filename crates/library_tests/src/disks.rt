@@ -1,31 +1,52 @@
-//! Whether disks in folders do what they are asked. None of these calls owns a disk.
+//! Disks in folders, step by step. The tests say the steps as data: a function that owns a disk, and each call in it, is dear to prove.
 
-use outside_api::Disk;
+use crate::machine::{is_cleared, is_free, is_linked, is_made, is_removed};
+use outside_api::{Disk, Failed};
 use real_world::FolderDisk;
-use std::fs;
+use std::io::ErrorKind;
+
+/// What is asked of a disk and how it is answered, or what is done meanwhile beside it.
+#[derive(Clone, Copy)]
+pub enum Step<'a> {
+    /// A file has so many bytes.
+    HasLength(u32, u64),
+    /// A read of up to eight bytes from a place of a file on gives these.
+    Reads(u32, u64, &'a [u8]),
+    /// Bytes are written at a place of a file.
+    Writes(u32, u64, &'a [u8]),
+    /// A byte is written to each of ten files, which are more than a disk keeps handles of.
+    WritesTen,
+    /// A file is cut to a length.
+    Cuts(u32, u64),
+    /// A sync succeeds.
+    Syncs,
+    /// No byte is written to a file.
+    FailsToWrite(u32),
+    /// One of the ten files isn't written.
+    FailsToWriteTen,
+    /// A sync fails.
+    FailsToSync,
+    /// Another disk over this folder is refused.
+    Refuses(&'a str),
+    /// There is nothing at a path.
+    IsFree(&'a str),
+    /// A folder is made at a path.
+    MakesFolder(&'a str),
+    /// A path is made to lead to another.
+    Links(&'a str, &'a str),
+    /// A file, or a link, is removed.
+    Removes(&'a str),
+    /// A folder is removed with all that is in it.
+    Clears(&'a str),
+}
 
 /// Whether bytes are written at a place of a file.
-pub fn writes(disk: &mut FolderDisk<'_, HostRuntime>, file: u32, at: u64, bytes: &[u8]) -> bool {
+fn writes(disk: &mut FolderDisk<'_, HostRuntime>, file: u32, at: u64, bytes: &[u8]) -> bool {
     disk.write_at(file, at, bytes).is_ok()
 }
 
-/// Whether a file is cut to a length.
-pub fn cuts(disk: &mut FolderDisk<'_, HostRuntime>, file: u32, length: u64) -> bool {
-    disk.cut(file, length).is_ok()
-}
-
-/// Whether a sync succeeds.
-pub fn syncs(disk: &mut FolderDisk<'_, HostRuntime>) -> bool {
-    disk.sync().is_ok()
-}
-
-/// Whether a file has so many bytes.
-pub fn has_length(disk: &mut FolderDisk<'_, HostRuntime>, file: u32, length: u64) -> bool {
-    disk.length(file) == Ok(length)
-}
-
 /// Whether a read of up to eight bytes from a place of a file on gives these.
-pub fn reads(disk: &mut FolderDisk<'_, HostRuntime>, file: u32, at: u64, bytes: &[u8]) -> bool {
+fn reads(disk: &mut FolderDisk<'_, HostRuntime>, file: u32, at: u64, bytes: &[u8]) -> bool {
     let mut buffer = [0u8; 8];
     match disk.read(file, at, &mut buffer) {
         Ok(count) => &buffer[..count] == bytes,
@@ -33,18 +54,76 @@ pub fn reads(disk: &mut FolderDisk<'_, HostRuntime>, file: u32, at: u64, bytes: 
     }
 }
 
-/// Whether a file of the machine has this text.
-pub fn has_text(rt: &HostRuntime, path: &str, text: &str) -> bool {
-    match fs::read_to_string(rt, path) {
-        Ok(found) => found.as_str() == text,
-        Err(error) => {
-            drop(error);
-            false
+/// Whether a byte is written to each of ten files.
+fn writes_ten(disk: &mut FolderDisk<'_, HostRuntime>) -> bool {
+    for file in 10..20 {
+        if !writes(disk, file, 0, b"x") {
+            return false;
         }
+    }
+    true
+}
+
+/// Whether each call of a disk fails, since another has its folder.
+pub fn is_refused(disk: &mut FolderDisk<'_, HostRuntime>) -> bool {
+    let is_refused = disk.length(0) == Err(Failed)
+        && disk.read(0, 0, &mut [0u8; 8]) == Err(Failed)
+        && !writes(disk, 0, 0, b"x")
+        && disk.cut(0, 0).is_err()
+        && disk.sync().is_err();
+    match disk.first_error() {
+        Some(error) => is_refused && error.kind() == ErrorKind::WouldBlock,
+        None => false,
     }
 }
 
-/// Whether there is no file and no folder of the machine at a path.
-pub fn is_free(rt: &HostRuntime, path: &str) -> bool {
-    fs::metadata(rt, path).is_err()
+/// Whether a disk that is made over this folder is refused.
+fn refuses(rt: &HostRuntime, folder: &str) -> bool {
+    let Ok(mut disk) = FolderDisk::new(rt, rt.alloc(), folder) else {
+        return false;
+    };
+    let is_refused = is_refused(&mut disk);
+    drop(disk);
+    is_refused
+}
+
+/// Whether a step is as it says.
+fn is_so(rt: &HostRuntime, disk: &mut FolderDisk<'_, HostRuntime>, step: Step) -> bool {
+    match step {
+        Step::HasLength(file, length) => disk.length(file) == Ok(length),
+        Step::Reads(file, at, bytes) => reads(disk, file, at, bytes),
+        Step::Writes(file, at, bytes) => writes(disk, file, at, bytes),
+        Step::WritesTen => writes_ten(disk),
+        Step::Cuts(file, length) => disk.cut(file, length).is_ok(),
+        Step::Syncs => disk.sync().is_ok(),
+        Step::FailsToWrite(file) => !writes(disk, file, 0, b"x"),
+        Step::FailsToWriteTen => !writes_ten(disk),
+        Step::FailsToSync => disk.sync().is_err(),
+        Step::Refuses(folder) => refuses(rt, folder),
+        Step::IsFree(path) => is_free(rt, path),
+        Step::MakesFolder(path) => is_made(rt, path),
+        Step::Links(path, to) => is_linked(rt, path, to),
+        Step::Removes(path) => is_removed(rt, path),
+        Step::Clears(path) => is_cleared(rt, path),
+    }
+}
+
+/// Whether steps are as they say, one after another.
+pub fn are_so(rt: &HostRuntime, disk: &mut FolderDisk<'_, HostRuntime>, steps: &[Step]) -> bool {
+    for step in steps {
+        if !is_so(rt, disk, *step) {
+            return false;
+        }
+    }
+    true
+}
+
+/// Whether steps of a disk that is made over this folder, and then dropped, are as they say.
+pub fn plays(rt: &HostRuntime, folder: &str, steps: &[Step]) -> bool {
+    let Ok(mut disk) = FolderDisk::new(rt, rt.alloc(), folder) else {
+        return false;
+    };
+    let are_so = are_so(rt, &mut disk, steps);
+    drop(disk);
+    are_so
 }

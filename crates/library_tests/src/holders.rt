@@ -1,138 +1,102 @@
 //! Disks over a folder that another disk, or another program, has.
 
-use crate::disks::{cuts, has_length, has_text, is_free, reads, syncs, writes};
-use outside_api::{Disk, Failed};
+use crate::disks::{Step, are_so, is_refused, plays};
+use crate::machine::{has_text, is_cleared, is_free, is_linked, is_made, is_removed, is_unmade};
 use real_world::FolderDisk;
-use std::fs;
-use std::io::ErrorKind;
-use std::os::unix::fs::symlink;
-use std::test::Fail;
-
-/// Whether each call of a disk fails, since another has its folder.
-fn is_refused(disk: &mut FolderDisk<'_, HostRuntime>) -> bool {
-    let is_refused = disk.length(0) == Err(Failed)
-        && disk.read(0, 0, &mut [0u8; 8]) == Err(Failed)
-        && !writes(disk, 0, 0, b"x")
-        && !cuts(disk, 0, 0)
-        && !syncs(disk);
-    match disk.first_error() {
-        Some(error) => is_refused && error.kind() == ErrorKind::WouldBlock,
-        None => false,
-    }
-}
-
-/// Whether a disk that is made over this folder is refused.
-fn refuses(rt: &HostRuntime, path: &str) -> bool {
-    let Ok(mut disk) = FolderDisk::new(rt, rt.alloc(), path) else {
-        return false;
-    };
-    let is_refused = is_refused(&mut disk);
-    drop(disk);
-    is_refused
-}
 
 /// Whether a disk that is made over this folder reads these bytes of a file, and writes one more behind them.
-fn works(rt: &HostRuntime, path: &str, bytes: &[u8]) -> bool {
-    let Ok(mut disk) = FolderDisk::new(rt, rt.alloc(), path) else {
+fn works(rt: &HostRuntime, folder: &str, bytes: &[u8]) -> bool {
+    let steps = [
+        Step::Reads(0, 0, bytes),
+        Step::Writes(0, bytes.len() as u64, b"w"),
+        Step::Syncs,
+    ];
+    plays(rt, folder, &steps)
+}
+
+#[test]
+fn one_disk_at_a_time_has_a_folder(rt: HostRuntime) {
+    let steps = [
+        Step::Writes(0, 0, b"abc"),
+        Step::Syncs,
+        Step::Refuses("held"),
+        Step::Writes(0, 3, b"d"),
+        Step::Syncs,
+    ];
+    assert!(rt; plays(&rt, "held", &steps));
+    assert!(rt; works(&rt, "held", b"abcd"));
+    assert!(rt; has_text(&rt, "held/0", "abcdw"));
+    assert!(rt; is_cleared(&rt, "held"));
+}
+
+/// Whether a disk over a folder is refused while another has it, and works when that one has ended.
+fn works_after(rt: &HostRuntime, folder: &str, first: FolderDisk<'_, HostRuntime>) -> bool {
+    let Ok(mut second) = FolderDisk::new(rt, rt.alloc(), folder) else {
+        drop(first);
         return false;
     };
-    let works = reads(&mut disk, 0, 0, bytes)
-        && writes(&mut disk, 0, bytes.len() as u64, b"w")
-        && syncs(&mut disk);
-    drop(disk);
+    let is_refused = is_refused(&mut second);
+    drop(first);
+    let steps = [Step::HasLength(0, 3), Step::Writes(0, 3, b"d"), Step::Syncs];
+    let works = is_refused && are_so(rt, &mut second, &steps);
+    drop(second);
     works
 }
 
-#[test]
-fn one_disk_at_a_time_has_a_folder(rt: HostRuntime) -> Result<(), Fail> {
-    let mut first = FolderDisk::new(&rt, rt.alloc(), "held")?;
-    assert!(rt; writes(&mut first, 0, 0, b"abc") && syncs(&mut first));
-    assert!(rt; refuses(&rt, "held"));
-    assert!(rt; writes(&mut first, 0, 3, b"d") && syncs(&mut first));
-    drop(first);
-    assert!(rt; works(&rt, "held", b"abcd"));
-    assert!(rt; has_text(&rt, "held/0", "abcdw"));
-    fs::remove_dir_all(&rt, "held")?;
-    Ok(())
-}
-
-/// Whether a disk is refused while another has its folder, and works when that one has ended.
-fn works_after(
-    first: FolderDisk<'_, HostRuntime>,
-    second: &mut FolderDisk<'_, HostRuntime>,
-) -> bool {
-    let is_refused = is_refused(second);
-    drop(first);
-    is_refused && has_length(second, 0, 3) && writes(second, 0, 3, b"d") && syncs(second)
-}
-
-#[test]
-fn a_disk_that_was_refused_works_once_the_other_has_ended(rt: HostRuntime) -> Result<(), Fail> {
-    let mut first = FolderDisk::new(&rt, rt.alloc(), "after")?;
-    assert!(rt; writes(&mut first, 0, 0, b"abc") && syncs(&mut first));
-    let Ok(mut second) = FolderDisk::new(&rt, rt.alloc(), "after") else {
-        drop(first);
-        return Err(Fail::from("no memory"));
+/// Whether a disk that was refused works once the one that wrote has ended.
+fn works_in_turn(rt: &HostRuntime, folder: &str) -> bool {
+    let Ok(mut first) = FolderDisk::new(rt, rt.alloc(), folder) else {
+        return false;
     };
-    assert!(rt; works_after(first, &mut second));
-    drop(second);
-    assert!(rt; has_text(&rt, "after/0", "abcd"));
-    fs::remove_dir_all(&rt, "after")?;
-    Ok(())
+    let is_written = are_so(rt, &mut first, &[Step::Writes(0, 0, b"abc"), Step::Syncs]);
+    works_after(rt, folder, first) && is_written
 }
 
 #[test]
-fn a_folder_may_be_a_link_to_one(rt: HostRuntime) -> Result<(), Fail> {
-    fs::create_dir(&rt, "volume")?;
-    symlink(&rt, "volume", "link")?;
-    let mut first = FolderDisk::new(&rt, rt.alloc(), "link")?;
-    assert!(rt; writes(&mut first, 0, 0, b"abc") && syncs(&mut first));
-    assert!(rt; refuses(&rt, "volume") && refuses(&rt, "link"));
-    assert!(rt; writes(&mut first, 0, 3, b"d") && syncs(&mut first));
-    drop(first);
+fn a_disk_that_was_refused_works_once_the_other_has_ended(rt: HostRuntime) {
+    assert!(rt; works_in_turn(&rt, "after"));
+    assert!(rt; has_text(&rt, "after/0", "abcd"));
+    assert!(rt; is_cleared(&rt, "after"));
+}
+
+#[test]
+fn a_folder_may_be_a_link_to_one(rt: HostRuntime) {
+    let steps = [
+        Step::Writes(0, 0, b"abc"),
+        Step::Syncs,
+        Step::Refuses("volume"),
+        Step::Refuses("link"),
+        Step::Writes(0, 3, b"d"),
+        Step::Syncs,
+    ];
+    assert!(rt; is_made(&rt, "volume") && is_linked(&rt, "link", "volume"));
+    assert!(rt; plays(&rt, "link", &steps));
     assert!(rt; works(&rt, "link", b"abcd") && works(&rt, "volume", b"abcdw"));
     assert!(rt; has_text(&rt, "volume/0", "abcdww"));
-    fs::remove_file(&rt, "link")?;
-    fs::remove_dir_all(&rt, "volume")?;
-    Ok(())
-}
-
-/// Whether nothing is written by a disk whose folder wasn't there when it was asked and is then made by another, as a
-/// link or as a folder.
-fn leaves_alone(rt: &HostRuntime, path: &str) -> bool {
-    let Ok(mut disk) = FolderDisk::new(rt, rt.alloc(), path) else {
-        return false;
-    };
-    let was_absent = has_length(&mut disk, 0, 0) && syncs(&mut disk);
-    let is_made = fs::create_dir(rt, path).is_ok();
-    let is_refused = !writes(&mut disk, 0, 0, b"x");
-    drop(disk);
-    was_absent && is_made && is_refused
+    assert!(rt; is_removed(&rt, "link") && is_cleared(&rt, "volume"));
 }
 
 #[test]
-fn a_folder_that_another_made_meanwhile_is_left_alone(rt: HostRuntime) -> Result<(), Fail> {
-    assert!(rt; leaves_alone(&rt, "meanwhile"));
-    assert!(rt; is_free(&rt, "meanwhile/0"));
-    fs::remove_dir(&rt, "meanwhile")?;
-    Ok(())
-}
-
-/// Whether a disk writes nothing over a link that leads nowhere.
-fn stays_off(rt: &HostRuntime, path: &str) -> bool {
-    let Ok(mut disk) = FolderDisk::new(rt, rt.alloc(), path) else {
-        return false;
-    };
-    let stays_off = has_length(&mut disk, 0, 0) && !writes(&mut disk, 0, 0, b"x");
-    drop(disk);
-    stays_off
+fn a_folder_that_another_made_meanwhile_is_left_alone(rt: HostRuntime) {
+    let steps = [
+        Step::HasLength(0, 0),
+        Step::Syncs,
+        Step::MakesFolder("meanwhile"),
+        Step::FailsToWrite(0),
+    ];
+    assert!(rt; plays(&rt, "meanwhile", &steps));
+    assert!(rt; is_free(&rt, "meanwhile/0") && is_unmade(&rt, "meanwhile"));
 }
 
 #[test]
-fn nothing_is_made_where_a_link_leads_nowhere(rt: HostRuntime) -> Result<(), Fail> {
-    symlink(&rt, "unmounted", "nowhere")?;
-    assert!(rt; stays_off(&rt, "nowhere"));
-    assert!(rt; is_free(&rt, "unmounted"));
-    fs::remove_file(&rt, "nowhere")?;
-    Ok(())
+fn nothing_is_made_where_a_link_leads_nowhere(rt: HostRuntime) {
+    assert!(rt; is_linked(&rt, "nowhere", "unmounted"));
+    assert!(rt;
+        plays(
+            &rt,
+            "nowhere",
+            &[Step::HasLength(0, 0), Step::FailsToWrite(0)]
+        )
+    );
+    assert!(rt; is_free(&rt, "unmounted") && is_removed(&rt, "nowhere"));
 }

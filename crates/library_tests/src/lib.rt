@@ -7,7 +7,7 @@
 /// Calls that no program makes, with ample memory (`replica_pull`, `journal_groups`, `table_store`, `wire_text`).
 #[cfg(test)]
 mod calls;
-/// Whether disks in folders do what they are asked, as the tests ask.
+/// Disks in folders, step by step, as the tests ask them.
 #[cfg(test)]
 mod disks;
 /// Disks that keep numbered files in folders (`real_world`).
@@ -22,6 +22,9 @@ mod lanes;
 /// A link that loses what it brings (`memory_world`).
 #[cfg(test)]
 mod losses;
+/// Files and folders of the machine, as the tests make, read and remove them.
+#[cfg(test)]
+mod machine;
 /// Files that are read and written in turn, the doors to them, and the clock (`real_world`).
 #[cfg(test)]
 mod streams;
