@@ -1,6 +1,6 @@
 -- The rows of groups list the groups of a user that the depot has.
-use Rattle.std.proofs.Common.{◌≡◌, ℕ, Bool, true, false, ◌&&◌, ◌||◌, cond, List, [], ◌∷◌, ◌++◌, map, Option, Some, None, refl, sym, ap, ◌∙◌, subst}
-use Rattle.std.specs.Prelude.{IfSome, filter, if◌then◌else◌, option_and_then, unwrap_or}
+use Rattle.std.proofs.Common.{◌≡◌, ℕ, Bool, true, false, ◌||◌, cond, List, [], ◌∷◌, ◌++◌, map, Option, Some, None, refl, sym, ap, ◌∙◌, subst}
+use Rattle.std.specs.Prelude.{IfSome, filter, flat_map, if◌then◌else◌, option_and_then, unwrap_or}
 use Rattle.std.specs.List.{list_any}
 use Rattle.std.specs.Option.{option_or}
 use Rattle.std.specs.Ordering.{nat_cmp, is_eq, is_lt}
@@ -17,7 +17,6 @@ use Rattle.depot_rows.specs.db_records.declared.key.Key.{Key}
 use Rattle.depot_rows.specs.db_records.declared.key.Key.TheVariants as keys
 use Rattle.depot_rows.specs.db_records.declared.record.Record.{Record}
 use Rattle.depot_rows.specs.db_records.declared.record.Record.TheVariants as records
-use Rattle.depot_rows.specs.db_records.declared.rows.GroupRecord.{GroupRecord}
 use Rattle.depot_rows.specs.db_records.declared.table.TableId.{TableId}
 use Rattle.depot_rows.specs.db_records.declared.table.TableId.TheVariants as tables
 use Rattle.depot_rows.proofs.db_records.Order.{keys_equal}
@@ -30,7 +29,8 @@ use Rattle.depot_rows.specs.depot_model.Latest.{keys_of, group_name, group_said,
 use Rattle.depot_rows.specs.depot_model.Records.{record_of}
 use Rattle.depot_rows.specs.depot_model.Rules.{IsRow, IsSound}
 use Rattle.depot_rows.specs.depot_model.Sorted.{inserted}
-use Rattle.row_reads.specs.Groups.{groups_in}
+use Rattle.depot_rows.specs.table_store.Marks.{is_of_user}
+use Rattle.row_reads.specs.Groups.{group_in, groups_in}
 use Rattle.depot_rows.specs.Standing.{unplaced_at}
 use Rattle.row_reads.proofs.Alike.{itself, rows_alike, above_all, here, behind, unplaced_row}
 
@@ -282,36 +282,14 @@ module _ (user : List ℕ) where
 
   -- ---- the rows that are of the user
 
-  abbrev is_of : Record → Bool
-  is_of (records.Group r) = same user r.user
-  is_of _ = false
-
-  abbrev given : Bool → Bool → List ℕ → List (List ℕ)
-  given b named group = if b && named then group ∷ [] else []
-
-  first_given : (r : GroupRecord) (rows : List Record) (b : Bool) → same user r.user ≡ b → groups_in user rows ≡ groups_in user (filter is_of rows)
-      → given b (is_name r.group) r.group ++ groups_in user rows ≡ groups_in user (cond b (records.Group r ∷ filter is_of rows) (filter is_of rows))
-  first_given r rows true e more =
-      ap (λ (l : List (List ℕ)). given true (is_name r.group) r.group ++ l) more
-      ∙ ap (λ b. given b (is_name r.group) r.group ++ groups_in user (filter is_of rows)) (sym e)
-  first_given r rows false e more = more
-
-  groups_of_rows : (rows : List Record) → groups_in user rows ≡ groups_in user (filter is_of rows)
-  groups_of_rows [] = refl
-  groups_of_rows (records.Group r ∷ rows) = first_given r rows (same user r.user) refl (groups_of_rows rows)
-  groups_of_rows (_ ∷ rows) = groups_of_rows rows
-
   abbrev AllNames : List (List ℕ) → Type 0
   AllNames [] = Unit {0}
   AllNames (g ∷ groups) = (is_name g ≡ true) × AllNames groups
 
-  named_in : (groups : List (List ℕ)) → AllNames groups → groups_in user (rows_in groups) ≡ groups
+  named_in : (groups : List (List ℕ)) → AllNames groups → flat_map group_in (rows_in groups) ≡ groups
   named_in [] all = refl
   named_in (g ∷ groups) all =
-      let rest = named_in groups all.1 in
-      ap (λ b. given b (is_name g) g ++ groups_in user (rows_in groups)) (same_self user)
-      ∙ ap (λ b. given true b g ++ groups_in user (rows_in groups)) all.0
-      ∙ ap (λ (l : List (List ℕ)). g ∷ l) rest
+      ap (λ b. (if b then g ∷ [] else []) ++ flat_map group_in (rows_in groups)) all.0 ∙ ap (λ (l : List (List ℕ)). g ∷ l) (named_in groups all.1)
 
   first_named : (test : List ℕ → Bool) (g : List ℕ) (kept : List (List ℕ)) (b : Bool) → test g ≡ b → (test g ≡ true → is_name g ≡ true) → AllNames kept
       → AllNames (cond b (g ∷ kept) kept)
@@ -344,7 +322,7 @@ module _ (user : List ℕ) where
     own_rise : IsRising (rows_in groups)
     own_rise = passing_rise lists (keys_of group_name d) (names_rise d)
 
-    own_names : groups_in user (rows_in groups) ≡ groups
+    own_names : flat_map group_in (rows_in groups) ≡ groups
     own_names = named_in groups (all_named lists listed_name (keys_of group_name d))
 
     module _ (rows : List Record) (up : IsRising rows) (of : AllOfTable tables.Group rows) (has : (key : Key) → key_table key ≡ tables.Group → row_at key rows ≡ record_of d key) where
@@ -352,26 +330,26 @@ module _ (user : List ℕ) where
       row_for g u b = if b then Some (records.Group (record { group = g; user = u })) else None
 
       abbrev passed : Option Record → Option Record
-      passed found = option_and_then (λ x. if is_of x then Some x else None) found
+      passed found = option_and_then (λ x. if is_of_user user x then Some x else None) found
 
       passed_at : (g : List ℕ) (b : Bool) → lists g ≡ b → passed (row_for g user b) ≡ row_at (key_in g) (rows_in groups)
       passed_at g true e = ap (λ b. if b then Some (row_in g) else None) (same_self user) ∙ sym (own_at g true e)
       passed_at g false e = sym (own_at g false e)
 
-      apart : (g u : List ℕ) (b : Bool) → same user u ≡ false → passed (row_for g u b) ≡ None
+      apart : (g u : List ℕ) (b : Bool) → same u user ≡ false → passed (row_for g u b) ≡ None
       apart g u true e = ap (λ b. if b then Some (records.Group (record { group = g; user = u })) else None) e
       apart g u false e = refl
 
-      found_at : (g u : List ℕ) (b : Bool) → same user u ≡ b → row_at (keys.Group g u) (filter is_of rows) ≡ row_at (keys.Group g u) (rows_in groups)
+      found_at : (g u : List ℕ) (b : Bool) → same u user ≡ b → row_at (keys.Group g u) (filter (is_of_user user) rows) ≡ row_at (keys.Group g u) (rows_in groups)
       found_at g u true e =
-          let P : List ℕ → Type 0 = λ x. row_at (keys.Group g x) (filter is_of rows) ≡ row_at (keys.Group g x) (rows_in groups) in
-          subst P (same_text user u e) (kept_at is_of (key_in g) rows up ∙ ap passed (has (key_in g) refl) ∙ passed_at g (lists g) refl)
+          let P : List ℕ → Type 0 = λ x. row_at (keys.Group g x) (filter (is_of_user user) rows) ≡ row_at (keys.Group g x) (rows_in groups) in
+          subst P (sym (same_text u user e)) (kept_at (is_of_user user) (key_in g) rows up ∙ ap passed (has (key_in g) refl) ∙ passed_at g (lists g) refl)
       found_at g u false e =
-          kept_at is_of (keys.Group g u) rows up ∙ ap passed (has (keys.Group g u) refl) ∙ apart g u (list_any (same u) (users d g)) e
-          ∙ sym (of_no_other g u groups (λ k. let h : true ≡ false = sym ((bytes_eq-Decides user u).1 k) ∙ e in cc))
+          kept_at (is_of_user user) (keys.Group g u) rows up ∙ ap passed (has (keys.Group g u) refl) ∙ apart g u (list_any (same u) (users d g)) e
+          ∙ sym (of_no_other g u groups (λ k. let h : true ≡ false = sym ((bytes_eq-Decides u user).1 (sym k)) ∙ e in cc))
 
-      at_key : (key : Key) → key_table key ≡ tables.Group → row_at key (filter is_of rows) ≡ row_at key (rows_in groups)
-      at_key (keys.Group g u) k = found_at g u (same user u) refl
+      at_key : (key : Key) → key_table key ≡ tables.Group → row_at key (filter (is_of_user user) rows) ≡ row_at key (rows_in groups)
+      at_key (keys.Group g u) k = found_at g u (same u user) refl
       at_key (keys.Counter name) k = absurd cc
       at_key (keys.Protect n) k = absurd cc
       at_key (keys.Domain a b) k = absurd cc
@@ -385,9 +363,10 @@ module _ (user : List ℕ) where
 
       pub groups_listed : groups_in user rows ≡ groups_of d user
       groups_listed =
-          let alike = rows_alike tables.Group (filter is_of rows) (rows_in groups) (kept_rise is_of rows up)
-          own_rise (kept_of is_of tables.Group rows of) (are_groups groups) at_key in
-          groups_of_rows rows ∙ ap (λ rs. groups_in user rs) alike ∙ own_names
+          ap (λ rs. flat_map group_in rs)
+          (rows_alike tables.Group (filter (is_of_user user) rows) (rows_in groups) (kept_rise (is_of_user user) rows up) own_rise (kept_of (is_of_user user) tables.Group rows of)
+          (are_groups groups) at_key)
+          ∙ own_names
 
 -- depots with the same rows have the same groups of a user
 module _ (user : List ℕ) (d e : List Deed) (left : IsSound d) (right : IsSound e) (same_rows : (key : Key) → record_of d key ≡ record_of e key) where
@@ -418,7 +397,7 @@ module _ (user : List ℕ) (d e : List Deed) (left : IsSound d) (right : IsSound
   same_groups =
       let alike = rows_alike tables.Group (rows_in user (groups user d left)) (rows_in user (groups user e right)) (own_rise user d left) (own_rise user e right)
       (are_groups user (groups user d left)) (are_groups user (groups user e right)) alike_key in
-      sym (own_names user d left) ∙ ap (λ rs. groups_in user rs) alike ∙ own_names user e right
+      sym (own_names user d left) ∙ ap (λ rs. flat_map group_in rs) alike ∙ own_names user e right
 
 pub groups_told : (version : TableRows) (rows : List Record) → version.rows ≡ rows → version.table ≡ tables.Group → AllOfTable version.table version.rows
     → IsRising version.rows → (d : List Deed) → IsSound d → ((key : Key) → key_table key ≡ tables.Group → unplaced_at rows key ≡ record_of d key)

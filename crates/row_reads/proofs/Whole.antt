@@ -1,11 +1,10 @@
 -- The range of a whole table has all that is read of the table.
-use Rattle.std.proofs.Common.{◌≡◌, ℕ, List, [], ◌∷◌, ◌++◌, refl, ap}
+use Rattle.std.proofs.Common.{◌≡◌, List, [], ◌∷◌, ◌++◌, refl, ap}
 use Rattle.std.specs.Prelude.{filter}
 use Rattle.depot_rows.specs.db_records.declared.record.Record.{Record}
 use Rattle.depot_rows.specs.db_records.declared.record.Record.TheVariants as records
-use Rattle.row_ranges.specs.declared.range.KeyRange.TheVariants.{Protections, Users}
+use Rattle.row_ranges.specs.declared.range.KeyRange.TheVariants.{Protections}
 use Rattle.row_ranges.specs.Ranges.{has_row}
-use Rattle.row_reads.specs.Groups.{group_in, groups_in}
 use Rattle.row_reads.specs.Lines.{text_in, texts_in}
 
 pub all_lines : (rows : List Record) → texts_in (filter (has_row Protections) rows) ≡ texts_in rows
@@ -21,17 +20,3 @@ all_lines (records.Resolve r ∷ rs) = all_lines rs
 all_lines (records.Working r ∷ rs) = all_lines rs
 all_lines (records.Change r ∷ rs) = all_lines rs
 all_lines (records.Rev r ∷ rs) = all_lines rs
-
-pub all_groups : (user : List ℕ) (rows : List Record) → groups_in user (filter (has_row Users) rows) ≡ groups_in user rows
-all_groups user [] = refl
-all_groups user (records.Counter r ∷ rs) = all_groups user rs
-all_groups user (records.Group r ∷ rs) = ap (λ l. group_in user (records.Group r) ++ l) (all_groups user rs)
-all_groups user (records.Protect r ∷ rs) = all_groups user rs
-all_groups user (records.Domain r ∷ rs) = all_groups user rs
-all_groups user (records.Have r ∷ rs) = all_groups user rs
-all_groups user (records.Label r ∷ rs) = all_groups user rs
-all_groups user (records.Integed r ∷ rs) = all_groups user rs
-all_groups user (records.Resolve r ∷ rs) = all_groups user rs
-all_groups user (records.Working r ∷ rs) = all_groups user rs
-all_groups user (records.Change r ∷ rs) = all_groups user rs
-all_groups user (records.Rev r ∷ rs) = all_groups user rs
