@@ -1,8 +1,7 @@
 -- What is told of a change by its record, and of its revisions by theirs, is what the model tells.
 use Rattle.std.proofs.Common.{Bor, ◌≤◌, ◌≡◌, ℕ, Bool, true, false, suc, ◌+◌, append_assoc, List, [], ◌∷◌, ◌++◌, Option, Some, None, refl, sym, ap, subst, ◌∙◌, length, arith}
-use Rattle.std.specs.Prelude.{◌==◌, codes, decimal, filter, filter_map, flat_map, if◌then◌else◌, IsSome, map, option_map}
-use Rattle.std.specs.List.{cons_option, enumerate_from}
-use Rattle.std.specs.Option.{option_to_list}
+use Rattle.std.specs.Prelude.{◌==◌, codes, decimal, flat_map, if◌then◌else◌, IsSome, map, option_map}
+use Rattle.std.specs.List.{enumerate_from}
 use Rattle.std.proofs.lemmas.Bool.Decides.{nat_tests}
 use Rattle.depot_rows.specs.depot_path.Path.{printed}
 use Rattle.depot_rows.specs.db_records.declared.record.Record.{Record}
@@ -17,7 +16,6 @@ use Rattle.depot_rows.specs.depot_model.declared.refusal.Refusal.TheVariants.{No
 use Rattle.depot_rows.specs.depot_model.declared.reply.Field.{Field}
 use Rattle.depot_rows.specs.depot_model.declared.reply.Row.{Row}
 use Rattle.depot_rows.specs.depot_model.declared.request.Caller.{Caller}
-use Rattle.depot_rows.specs.depot_model.Asking.{may_list}
 use Rattle.depot_rows.specs.depot_model.Deeds.{Deed, Landing, Pending}
 use Rattle.depot_rows.specs.depot_model.Numbers.{landing, pending}
 use Rattle.depot_rows.specs.depot_model.Records.{change_record, digest, landed_record, pending_record}
@@ -25,14 +23,13 @@ use Rattle.depot_rows.specs.depot_model.Refusals.{refusal_row}
 use Rattle.depot_rows.specs.depot_model.Rows.{action_word, if_any, number_field, path_field, row, text_field}
 use Rattle.depot_rows.specs.depot_model.Rules.{NotBoth}
 use Rattle.depot_rows.specs.depot_model.Step.{Step as ModelStep, refuse_if, refuses, tells, unless}
-use Rattle.depot_rows.specs.depot_model.Steps.Changing.{files_of_change}
-use Rattle.depot_rows.specs.depot_model.Steps.History.{change_fields, describe, describe_fields, describe_landed, landed_files, made_in}
+use Rattle.depot_rows.specs.depot_model.Steps.History.{change_fields, describe, describe_fields, describe_landed, landed_files}
 use Rattle.depot_rows.specs.depot_model.Steps.Listing.{Numbered}
 use Rattle.reply_rows.specs.declared.step.Step.{Step}
 use Rattle.reply_rows.specs.Made.{IsMade, told}
 use Rattle.reply_rows.proofs.Joined.{made_row}
 use Rattle.revision_reads.specs.History.{numbered_record, seen}
-use Rattle.change_lists.specs.Describing.{content_fields, described_in, described_told, fields_at, landed_by, landed_told, record_fields, revision_fields}
+use Rattle.change_lists.specs.Describing.{content_fields, described_told, fields_at, landed_by, landed_told, record_fields, revision_fields}
 
 -- ---- the fields of a revision
 
@@ -101,25 +98,6 @@ five_pushed f f1 f2 f3 f4 f5 a b c n more e1 e2 e3 e4 e5 =
     ∙ ap (λ (l : List Field). l ++ c ∷ n ∷ more) e2 ∙ append_assoc f1 (b ∷ []) (c ∷ n ∷ more) ∙ ap (λ (l : List Field). l ++ b ∷ c ∷ n ∷ more) e1
     ∙ append_assoc f (a ∷ []) (b ∷ c ∷ n ∷ more)
 
--- ---- the revisions of a change
-
-pub landed_are : (d : List Deed) (caller : Caller) (n : ℕ) (paths : List (List ℕ))
-    → flat_map (λ path. map numbered_record (described_in d caller n path)) paths ≡ map numbered_record (filter_map (made_in d n) (filter (may_list d caller) paths))
-landed_are d caller n [] = refl
-landed_are d caller n (path ∷ paths) = go (may_list d caller path) (landed_are d caller n paths)
-  where
-    with_one : (o : Option Numbered) → flat_map (λ p. map numbered_record (described_in d caller n p)) paths ≡ map numbered_record (filter_map (made_in d n) (filter (may_list d caller) paths))
-        → map numbered_record (option_to_list o) ++ flat_map (λ p. map numbered_record (described_in d caller n p)) paths
-        ≡ map numbered_record (cons_option o (filter_map (made_in d n) (filter (may_list d caller) paths)))
-    with_one None more = more
-    with_one (Some x) more = ap (λ (l : List Record). numbered_record x ∷ l) more
-
-    go : (b : Bool) → flat_map (λ p. map numbered_record (described_in d caller n p)) paths ≡ map numbered_record (filter_map (made_in d n) (filter (may_list d caller) paths))
-        → map numbered_record (if b then option_to_list (made_in d n path) else []) ++ flat_map (λ p. map numbered_record (described_in d caller n p)) paths
-        ≡ map numbered_record (filter_map (made_in d n) (if b then path ∷ filter (may_list d caller) paths else filter (may_list d caller) paths))
-    go true more = with_one (made_in d n path) more
-    go false more = more
-
 -- ---- what is told
 
 abbrev told_by : List Deed → ChangeRecord → List Numbered → Row
@@ -137,17 +115,13 @@ told_by_is d r (y ∷ rs) (x ∷ xs) e =
     ∙ ap (λ (b : Bool). if b then refusal_row (NoSuchChange r.change) else row (record_fields r ++ flat_map (describe_fields d) (enumerate_from 0 (x ∷ xs))))
     (sym (not_zero (length (x ∷ xs)) (omega arith)))
 
-rows_seen : (rows : List (Bor RevRecord)) → map seen (map (λ r. r.now) rows) ≡ map (λ r. seen r.now) rows
+pub rows_seen : (rows : List (Bor RevRecord)) → map seen (map (λ r. r.now) rows) ≡ map (λ r. seen r.now) rows
 rows_seen [] = refl
 rows_seen (r ∷ rows) = ap (λ (l : List Record). seen r.now ∷ l) (rows_seen rows)
 
-pub landed_by_is : (d : List Deed) (caller : Caller) (r : ChangeRecord) (rows : List (Bor RevRecord)) (paths : List (List ℕ)) → paths ≡ files_of_change d r.change
-    → map (λ x. seen x.now) rows ≡ flat_map (λ path. map numbered_record (described_in d caller r.change path)) paths
-    → landed_by r (map (λ x. x.now) rows) ≡ landed_told d caller r
-landed_by_is d caller r rows paths are e =
-    told_by_is d r (map (λ x. x.now) rows) (landed_files d caller r.change)
-    (rows_seen rows ∙ e ∙ ap (λ (l : List (List ℕ)). flat_map (λ path. map numbered_record (described_in d caller r.change path)) l) are
-    ∙ landed_are d caller r.change (files_of_change d r.change))
+pub landed_by_is : (d : List Deed) (caller : Caller) (r : ChangeRecord) (rows : List (Bor RevRecord))
+    → map (λ x. seen x.now) rows ≡ map numbered_record (landed_files d caller r.change) → landed_by r (map (λ x. x.now) rows) ≡ landed_told d caller r
+landed_by_is d caller r rows e = told_by_is d r (map (λ x. x.now) rows) (landed_files d caller r.change) (rows_seen rows ∙ e)
 
 -- ---- the step
 

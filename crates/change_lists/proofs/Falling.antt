@@ -18,7 +18,7 @@ use Rattle.depot_rows.specs.depot_model.Steps.Changes.{number_inserted, numbers}
 use Rattle.change_lists.specs.Numbers.{Falls, Under, is_among}
 
 -- the numbers below one, the greatest first
-abbrev down : ℕ → List ℕ
+abbrev pub down : ℕ → List ℕ
 down zero = []
 down (suc n) = n ∷ down n
 

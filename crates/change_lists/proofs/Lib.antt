@@ -4,6 +4,7 @@ pub mod Falling
 pub mod ListedRows
 pub mod MadeOnce
 pub mod Moved
+pub mod Newest
 pub mod RowsTell
 pub mod Saved
 pub mod Shown

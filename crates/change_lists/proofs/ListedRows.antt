@@ -1,11 +1,22 @@
 -- The rows of changes, by their records and the greatest first, are those of the model.
 use Rattle.std.proofs.Common.{◌≡◌, ℕ, zero, suc, ◌≤◌, Bool, true, false, List, [], ◌∷◌, ◌++◌, Option, Some, None, refl, sym, ap, ◌∙◌, subst, arith, append_assoc, append-nil, drop, get_or, length, ◌<◌}
-use Rattle.std.specs.Prelude.{◌-◌, not, ◌==◌, ◌&&◌, ◌||◌, filter, filter_map, flat_map, if◌then◌else◌, map, option_map, take}
+use Rattle.std.specs.Prelude.{IsSome, ◌-◌, codes, nat_le, not, ◌==◌, ◌&&◌, ◌||◌, filter, filter_map, flat_map, if◌then◌else◌, map, option_map, take}
 use Rattle.std.specs.List.{cons_option, list_any}
 use Rattle.std.specs.Option.{option_or, option_to_list}
 use Rattle.std.proofs.lemmas.Bool.{false≢true, true≢false}
+use Rattle.std.proofs.lemmas.Bool.Decides.{nat_tests}
 use Rattle.std.proofs.lemmas.List.Folds.{list_any-append}
+use Rattle.depot_rows.specs.depot_path.Bytes.{same}
+use Rattle.depot_rows.specs.db_records.Key.{key_table}
+use Rattle.depot_rows.specs.db_records.declared.key.Key.{Key}
+use Rattle.depot_rows.specs.db_records.declared.key.Key.TheVariants as keys
 use Rattle.depot_rows.specs.db_records.declared.record.Record.{Record}
+use Rattle.depot_rows.specs.db_records.declared.record.Record.TheVariants.{Change}
+use Rattle.depot_rows.specs.db_records.declared.rows.ChangeRecord.{ChangeRecord}
+use Rattle.depot_rows.specs.db_records.declared.table.TableId.TheVariants as tables
+use Rattle.depot_rows.specs.table_store.Rows.{row_at}
+use Rattle.depot_rows.specs.Standing.{unplaced_at}
+use Rattle.depot_rows.specs.depot_model.Rules.{IsSound}
 use Rattle.depot_rows.specs.depot_model.declared.reply.Row.{Row}
 use Rattle.depot_rows.specs.depot_model.declared.request.Caller.{Caller}
 use Rattle.depot_rows.specs.depot_model.declared.command.FileArgument.{FileArgument}
@@ -18,15 +29,15 @@ use Rattle.depot_rows.specs.depot_model.Asking.{may_list}
 use Rattle.depot_rows.specs.depot_model.Choice.{made_by, shown}
 use Rattle.depot_rows.specs.depot_model.Deeds.{Deed, Landing, Pending}
 use Rattle.depot_rows.specs.depot_model.Numbers.{landing, pending}
-use Rattle.depot_rows.specs.depot_model.Records.{landed_record, pending_record}
+use Rattle.depot_rows.specs.depot_model.Records.{change_record, landed_record, pending_record, record_of, unplaced}
 use Rattle.depot_rows.specs.depot_model.Revisions.{Revision, revision, revisions}
 use Rattle.depot_rows.specs.depot_model.Steps.Changes.{Listed, at_most, change_at, change_row, is_listable, is_made, listed, listed_landing, listed_pending, made_of, made_over, missing, numbers, passes}
 use Rattle.reply_rows.proofs.Bare.{AreBare}
 use Rattle.file_steps.proofs.Spelling.{AreAlike, left_alike}
 use Rattle.opening_reads.proofs.Onwards.{all_but_first}
-use Rattle.change_lists.specs.Listed.{asked_at, asked_of, changes_listed, is_listed, is_pending, is_pending_record, less_by, lists_one, made_in_file, rows_asked}
+use Rattle.change_lists.specs.Listed.{asked_at, asked_of, changes_listed, is_asked, is_pending, is_pending_record, less_by, listed_at, lists_one, made_in_file, row_told, rows_asked}
 use Rattle.change_lists.specs.Numbers.{Falls, is_among}
-use Rattle.change_lists.proofs.Falling.{alike_among, given_among}
+use Rattle.change_lists.proofs.Falling.{alike_among, down, given_among, given_numbers}
 use Rattle.change_lists.proofs.RowsTell.{made_at}
 
 map_take : {A B : Type 0} (f : A → B) (n : ℕ) (xs : List A) → map f (take n xs) ≡ take n (map f xs)
@@ -130,31 +141,80 @@ module _ (d : List Deed) (caller : Caller) (status user client : Option (List �
   or_with true b e = refl
   or_with false b e = e
 
-  module _ (all : Bool) (made : List ℕ) (from : (n : ℕ) → is_among n made ≡ true → list_any (lists_one d caller n) (submitted d) ≡ true) where
+  none_in : (n : ℕ) (p : Option Pending) (l : Option Landing) → record_in p l ≡ None → told_if true (found_in n p l) ≡ []
+  none_in n (Some p) l e = absurd cc
+  none_in n None (Some l) e = absurd cc
+  none_in n None None e = refl
+
+  -- ---- the row of a number's change
+
+  pub none_listed : (n : ℕ) → change_record d n ≡ None → listed_at d caller status user client n ≡ []
+  none_listed n e = none_in n (pending d n) (landing d n) e
+
+  module _ (n : ℕ) (r : ChangeRecord) (is : Some (Change r) ≡ change_record d n) where
+    abbrev is_shown : Bool
+    is_shown = same r.status (codes "pending") || is_listable d caller n
+
+    seen : (b : Bool) → b ≡ is_shown → (is_pending_record (record_in (pending d n) (landing d n)) || is_listable d caller n) ≡ b
+    seen b e = ap (λ (o : Option Record). is_pending_record o || is_listable d caller n) (sym is) ∙ sym e
+
+    asked_so : (b : Bool) → b ≡ is_asked status user client r → (if b then Some (row_told r) else None) ≡ asked_at d status user client n
+    asked_so b e = ap (λ (b : Bool). if b then Some (row_told r) else None) e ∙ ap (asked_of status user client) is
+
+    pub one_listed : true ≡ is_asked status user client r → true ≡ is_shown → row_told r ∷ [] ≡ listed_at d caller status user client n
+    one_listed e f = ap (λ (o : Option Row). option_to_list o) (asked_so true e) ∙ told_alike n (pending d n) (landing d n) (seen true f)
+
+    pub none_shown : false ≡ is_shown → [] ≡ listed_at d caller status user client n
+    none_shown f = sym (none_told n (pending d n) (landing d n) (seen false f))
+
+    pub none_asked : false ≡ is_asked status user client r → [] ≡ listed_at d caller status user client n
+    none_asked e = go is_shown refl
+      where
+        go : (b : Bool) → b ≡ is_shown → [] ≡ listed_at d caller status user client n
+        go true f = ap (λ (o : Option Row). option_to_list o) (asked_so false e) ∙ told_alike n (pending d n) (landing d n) (seen true f)
+        go false f = none_shown f
+
+  -- the numbers of a depot are all from the newest one in its rows down
+  pub newest_down : (rows : List Record) → IsSound d → ((key : Key) → key_table key ≡ tables.Change → unplaced_at rows key ≡ record_of d key) → (newest : ℕ)
+      → ((n : ℕ) → newest < n → n ≤ 4294967295 → row_at (keys.Change n) rows ≡ None)
+      → flat_map (listed_at d caller status user client) (numbers d) ≡ flat_map (listed_at d caller status user client) (down (suc newest))
+  newest_down rows sound has newest above =
+      given_numbers (listed_at d caller status user client) d (suc newest) (λ m e f. nothing_there true m (pending d m) (landing d m) e f)
+      (λ m h. none_listed m (go m h (nat_le m 4294967295) refl (change_record d m) refl))
+    where
+      fits : (m : ℕ) → nat_le m 4294967295 ≡ true → m ≤ 4294967295
+      fits m e = grind (arith, nat_tests)
+
+      beyond : (m : ℕ) → nat_le m 4294967295 ≡ false → 4294967295 < m
+      beyond m e = grind (arith, nat_tests)
+
+      go : (m : ℕ) → suc newest ≤ m → (b : Bool) → nat_le m 4294967295 ≡ b → (o : Option Record) → change_record d m ≡ o → change_record d m ≡ None
+      go m h true e o f = sym (has (keys.Change m) refl) ∙ ap (option_map unplaced) (above m (omega (arith, h)) (fits m e))
+      go m h false e None f = f
+      go m h false e (Some r) f =
+          let P : Option Record → Type 0 = λ x. IsSome x in
+          let top = sound.rules.top_is m (subst P (sym f) refl) in
+          let small = sound.rules.top_fits in
+          let large = beyond m e in
+          absurd (omega (arith, top, small, large))
+
+  -- ---- the changes that arguments give
+
+  module _ (made : List ℕ) (from : (n : ℕ) → is_among n made ≡ true → list_any (lists_one d caller n) (submitted d) ≡ true) where
     abbrev keeps : ℕ → Bool
-    keeps n = all || is_among n made
+    keeps n = is_among n made
 
-    -- a number that is listed is kept, and its change is pending or may be listed
-    listed_so : (n : ℕ) (b : Bool) → (if b then is_pending d n || list_any (lists_one d caller n) (submitted d) else is_among n made) ≡ true
-        → ((b || is_among n made) ≡ true) × ((is_pending d n || is_listable d caller n) ≡ true)
-    listed_so n true e = (refl, ap (λ (x : Bool). is_pending d n || x) (listable_is n) ∙ e)
-    listed_so n false e = (e, or_with (is_pending d n) (is_listable d caller n) (listable_is n ∙ from n e))
+    -- the change of a number that is given may be listed
+    given_told : (n : ℕ) → is_among n made ≡ true → option_to_list (asked_at d status user client n) ≡ kept_told keeps n
+    given_told n e =
+        told_alike n (pending d n) (landing d n) (or_with (is_pending d n) (is_listable d caller n) (listable_is n ∙ from n e))
+        ∙ ap (λ (b : Bool). told_if b (listed d caller n)) (sym e)
 
-    given_listed : (n : ℕ) → is_listed d caller all made n ≡ true → option_to_list (asked_at d status user client n) ≡ kept_told keeps n
-    given_listed n e =
-        let so = listed_so n all e in
-        told_alike n (pending d n) (landing d n) so.1 ∙ ap (λ (b : Bool). told_if b (listed d caller n)) (sym so.0)
-
-    none_listed : (n : ℕ) (b : Bool) → (if b then is_pending d n || list_any (lists_one d caller n) (submitted d) else is_among n made) ≡ false
-        → told_if (b || is_among n made) (listed d caller n) ≡ []
-    none_listed n true e = none_told n (pending d n) (landing d n) (ap (λ (x : Bool). is_pending d n || x) (listable_is n) ∙ e)
-    none_listed n false e = ap (λ (b : Bool). told_if b (listed d caller n)) e
-
-    numbers_told : (ns : List ℕ) → Falls ns → ((n : ℕ) → is_among n ns ≡ is_listed d caller all made n)
-        → flat_map (kept_told keeps) (numbers d) ≡ rows_asked d status user client ns
+    numbers_told : (ns : List ℕ) → Falls ns → ((n : ℕ) → is_among n ns ≡ is_among n made) → flat_map (kept_told keeps) (numbers d) ≡ rows_asked d status user client ns
     numbers_told ns falls are =
-        given_among (kept_told keeps) d ns falls (λ m e f. nothing_there (keeps m) m (pending d m) (landing d m) e f) (λ m e. none_listed m all (sym (are m) ∙ e))
-        ∙ sym (alike_among (λ n. option_to_list (asked_at d status user client n)) (kept_told keeps) ns (λ m e. given_listed m (sym (are m) ∙ e)))
+        given_among (kept_told keeps) d ns falls (λ m e f. nothing_there (keeps m) m (pending d m) (landing d m) e f)
+        (λ m e. ap (λ (b : Bool). told_if b (listed d caller m)) (sym (are m) ∙ e))
+        ∙ sym (alike_among (λ n. option_to_list (asked_at d status user client n)) (kept_told keeps) ns (λ m e. given_told m (sym (are m) ∙ e)))
 
   -- ---- a change that arguments give may be listed
 
@@ -223,24 +283,22 @@ module _ (d : List Deed) (caller : Caller) (status user client : Option (List �
       one_of true b f g h = f refl
       one_of false b f g h = g h
 
-  kept_is : (all : Bool) (made : List ℕ) (arguments : List FileArgument) → (all ≡ true → arguments ≡ []) → (arguments ≡ [] → all ≡ true) → made ≡ made_over d caller [] arguments
-      → (n : ℕ) → (all || is_among n made) ≡ is_made d caller arguments n
-  kept_is true made [] none none_back are n = refl
-  kept_is false made [] none none_back are n = absurd (true≢false (sym (none_back refl)))
-  kept_is true made (a ∷ arguments) none none_back are n = absurd (let e = none refl in cc)
-  kept_is false made (a ∷ arguments) none none_back are n = ap (λ (ms : List ℕ). list_any (λ m. m == n) ms) are
-
-  -- the rows of the numbers that are listed are the model's
-  pub rows_are : (most : Option ℕ) (all : Bool) (made : List ℕ) (arguments : List FileArgument) (ns : List ℕ) → (all ≡ true → arguments ≡ []) → (arguments ≡ [] → all ≡ true)
-      → made ≡ made_over d caller [] arguments → Falls ns → ((n : ℕ) → is_among n ns ≡ is_listed d caller all made n)
+  -- the rows of the numbers that arguments give are the model's, and so are those of all numbers where there are no arguments
+  pub rows_are : (most : Option ℕ) (made : List ℕ) (arguments : List FileArgument) (ns : List ℕ) → (arguments ≡ [] → ⊥) → made ≡ made_over d caller [] arguments → Falls ns
+      → ((n : ℕ) → is_among n ns ≡ is_among n made)
       → map change_row (changes_listed d caller most status user client arguments) ≡ at_most most (rows_asked d status user client ns)
-  rows_are most all made arguments ns none none_back are falls listed_are =
-      map_most change_row most (filter asked (filter_map (listed d caller) (filter (is_made d caller arguments) (numbers d))))
+  rows_are most made [] ns some are falls alike = absurd (some refl)
+  rows_are most made (a ∷ arguments) ns some are falls alike =
+      map_most change_row most (filter asked (filter_map (listed d caller) (filter (is_made d caller (a ∷ arguments)) (numbers d))))
       ∙ ap (λ (l : List Row). at_most most l)
-      (ap (λ (keep : ℕ → Bool). map change_row (filter asked (filter_map (listed d caller) (filter keep (numbers d)))))
-      (λ i n. sym (kept_is all made arguments none none_back are n) i)
-      ∙ all_told (λ n. all || is_among n made) (numbers d)
-      ∙ numbers_told all made (λ n e. given_over n [] arguments (ap (is_among n) (sym are) ∙ e)) ns falls listed_are)
+      (ap (λ (ms : List ℕ). map change_row (filter asked (filter_map (listed d caller) (filter (λ n. is_among n ms) (numbers d))))) (sym are)
+      ∙ all_told (λ n. is_among n made) (numbers d)
+      ∙ numbers_told made (λ n e. given_over n [] (a ∷ arguments) (ap (is_among n) (sym are) ∙ e)) ns falls alike)
+
+  pub all_are : (most : Option ℕ) → map change_row (changes_listed d caller most status user client []) ≡ at_most most (flat_map (listed_at d caller status user client) (numbers d))
+  all_are most =
+      map_most change_row most (filter asked (filter_map (listed d caller) (filter (λ n. true) (numbers d))))
+      ∙ ap (λ (l : List Row). at_most most l) (all_told (λ n. true) (numbers d))
 
 -- ---- rows one after another, as many as may come
 

@@ -1,11 +1,12 @@
--- The numbers of changes that rows tell are those of the depot's changes.
-use Rattle.std.proofs.Common.{◌≡◌, ◌⊎◌, inl, inr, ℕ, zero, suc, Bool, true, false, cond, List, [], ◌∷◌, Option, Some, None, Result, Ok, Err, refl, sym, ap, subst, ◌∙◌}
-use Rattle.std.specs.Prelude.{◌&&◌, ◌||◌, ◌==◌, codes, flat_map, if◌then◌else◌, is_some, option_map, slice_get}
-use Rattle.std.specs.List.{list_any}
+-- The rows of the revisions that a change made are those of its files, one each.
+use Rattle.std.proofs.Common.{◌≡◌, ℕ, zero, suc, Bool, true, false, cond, List, [], ◌∷◌, Option, Some, None, Result, Ok, Err, ◌⊎◌, inl, inr, refl, sym, ap, subst, ◌∙◌}
+use Rattle.std.specs.Prelude.{◌||◌, ◌==◌, filter, filter_map, if◌then◌else◌, is_some, map, option_and_then, option_map, slice_get}
+use Rattle.std.specs.List.{cons_option, list_any}
+use Rattle.std.specs.Ordering.{is_eq, ordering_reverse}
 use Rattle.std.specs.declared.cmp.Ordering.TheVariants.{Less, Greater}
 use Rattle.std.proofs.lemmas.Bool.{false≢true}
-use Rattle.std.proofs.lemmas.List.Folds.{list_any-append}
 use Rattle.depot_rows.specs.depot_path.Bytes.{same}
+use Rattle.depot_rows.specs.depot_path.Order.{path_cmp}
 use Rattle.depot_rows.specs.depot_path.Path.{is_path, path_of, printed}
 use Rattle.depot_rows.specs.depot_path.declared.fault.PathFault.{PathFault}
 use Rattle.depot_rows.proofs.depot_path.Paths.{prints_path}
@@ -16,10 +17,10 @@ use Rattle.depot_rows.specs.db_records.declared.key.Key.{Key}
 use Rattle.depot_rows.specs.db_records.declared.key.Key.TheVariants as keys
 use Rattle.depot_rows.specs.db_records.declared.record.Record.{Record}
 use Rattle.depot_rows.specs.db_records.declared.record.Record.TheVariants as records
-use Rattle.depot_rows.specs.db_records.declared.rows.RevRecord.{RevRecord}
+use Rattle.depot_rows.specs.db_records.declared.table.TableId.{TableId}
 use Rattle.depot_rows.specs.db_records.declared.table.TableId.TheVariants as tables
+use Rattle.depot_rows.specs.table_store.Marks.{is_of_change}
 use Rattle.depot_rows.specs.table_store.Rows.{AllAbove, AllOfTable, IsRising, is_at, row_at}
-use Rattle.depot_rows.proofs.table_store.Order.{turned_greater}
 use Rattle.depot_rows.specs.depot_model.declared.request.Caller.{Caller}
 use Rattle.depot_rows.specs.depot_model.Arguments.{submitted}
 use Rattle.depot_rows.specs.depot_model.Asking.{may_list}
@@ -28,38 +29,28 @@ use Rattle.depot_rows.specs.depot_model.Deeds.{Deed}
 use Rattle.depot_rows.specs.depot_model.Records.{record_of, rev_record, unplaced}
 use Rattle.depot_rows.specs.depot_model.Revisions.{Revision, revision, revisions}
 use Rattle.depot_rows.specs.depot_model.Rules.{IsSound}
-use Rattle.depot_rows.proofs.Keys.{at-is, left-true, number-is, number-self, right-true, same-is, same-self}
+use Rattle.depot_rows.specs.depot_model.Steps.Changes.{is_listable}
+use Rattle.depot_rows.specs.depot_model.Steps.History.{landed_files, made_in}
+use Rattle.depot_rows.specs.depot_model.Steps.Listing.{Numbered}
+use Rattle.depot_rows.proofs.Keys.{at-is, same-is, same-self}
 use Rattle.depot_rows.specs.Standing.{unplaced_at}
-use Rattle.row_reads.proofs.Alike.{behind, here, itself}
+use Rattle.row_reads.proofs.Alike.{here, itself, rows_alike}
+use Rattle.row_reads.proofs.GroupsListed.{kept_at, kept_of, kept_rise, pass}
 use Rattle.revision_reads.proofs.FileRows.{rev_row}
+use Rattle.revision_reads.specs.History.{numbered_record, seen}
 use Rattle.named_files.specs.Asked.{IsAsker}
 use Rattle.named_files.specs.declared.asker.Asker.{Asker}
 use Rattle.named_files.specs.declared.listing.Listing.TheVariants.{Submitted}
 use Rattle.named_files.specs.Listed.{path_in_text}
-use Rattle.named_files.proofs.Rising.{Rise}
+use Rattle.named_files.proofs.Rising.{Below, Rise, path_order}
 use Rattle.named_files.proofs.RowsListed.{each_row, in_listed, in_order, own_key, single_text}
 use Rattle.named_files.proofs.Told.{files_rise, files_told}
-use Rattle.change_lists.specs.Listed.{is_pending, is_pending_record, lists_one}
-use Rattle.change_lists.specs.Numbers.{is_among, may_in_text, number_listed, number_pending}
+use Rattle.change_lists.specs.Files.{is_listable_row, listable_in, may_in_text, rows_made}
+use Rattle.change_lists.proofs.MadeOnce.{made_found, made_once, some_is}
 use Rattle.change_lists.proofs.Shown.{may_is}
-
-both_ways : (a b : Bool) → (a ≡ true → b ≡ true) → (b ≡ true → a ≡ true) → a ≡ b
-both_ways true b to from = sym (to refl)
-both_ways false true to from = from refl
-both_ways false false to from = refl
-
--- ---- rows at their keys
 
 one_row : (r s : Record) → Some r ≡ Some s → r ≡ s
 one_row r s e = cc
-
-above_found : (k key : Key) (rows : List Record) (r : Record) → AllAbove k rows → row_at key rows ≡ Some r → key_cmp (key_of r) k ≡ Greater
-above_found k key [] r above e = absurd cc
-above_found k key (x ∷ xs) r above e = go (is_at key x) e (λ f. above_found k key xs r above.1 f)
-  where
-    go : (b : Bool) → cond b (Some x) (row_at key xs) ≡ Some r → (row_at key xs ≡ Some r → key_cmp (key_of r) k ≡ Greater) → key_cmp (key_of r) k ≡ Greater
-    go true f more = let one : x ≡ r = one_row x r f in subst (λ (y : Record). key_cmp (key_of y) k ≡ Greater) one above.0
-    go false f more = more f
 
 key_found : (key : Key) (rows : List Record) (r : Record) → row_at key rows ≡ Some r → key_of r ≡ key
 key_found key [] r e = absurd cc
@@ -69,75 +60,15 @@ key_found key (x ∷ xs) r e = go (is_at key x) refl e (λ f. key_found key xs r
     go true is f more = ap key_of (sym (one_row x r f)) ∙ at-is (key_of x) key is
     go false is f more = more f
 
--- a row that passes a test stands at its key
-at_own : (test : Record → Bool) (rows : List Record) → IsRising rows → list_any test rows ≡ true → (r : Record) × (row_at (key_of r) rows ≡ Some r) × (test r ≡ true)
-at_own test [] up e = absurd (false≢true e)
-at_own test (x ∷ xs) up e = go (test x) refl e (λ f. at_own test xs up.1 f)
-  where
-    go : (b : Bool) → test x ≡ b → (b || list_any test xs) ≡ true → (list_any test xs ≡ true → (r : Record) × (row_at (key_of r) xs ≡ Some r) × (test r ≡ true))
-        → (r : Record) × (row_at (key_of r) (x ∷ xs) ≡ Some r) × (test r ≡ true)
-    go true is f more = (x, here (key_of x) x xs (itself (key_of x)), is)
-    go false is f more =
-        let m = more f in
-        let r = m.0 in
-        let less = turned_greater (key_of r) (key_of x) (above_found (key_of x) (key_of r) xs r up.0 m.1) in
-        (r, behind (key_of r) x xs Less less refl ∙ m.1, m.2)
+some_mapped : {A B : Type 0} (f : A → B) (o : Option A) → is_some (option_map f o) ≡ is_some o
+some_mapped f None = refl
+some_mapped f (Some x) = refl
 
--- and one that is found passes it
-found_any : (test : Record → Bool) (key : Key) (rows : List Record) (r : Record) → row_at key rows ≡ Some r → test r ≡ true → list_any test rows ≡ true
-found_any test key [] r e is = absurd cc
-found_any test key (x ∷ xs) r e is = go (is_at key x) e (λ f. found_any test key xs r f is)
-  where
-    either : (a b : Bool) → b ≡ true → (a || b) ≡ true
-    either true b f = refl
-    either false b f = f
+some_if : {A : Type 0} (x : A) (b : Bool) → is_some (if b then Some x else None) ≡ b
+some_if x true = refl
+some_if x false = refl
 
-    go : (b : Bool) → cond b (Some x) (row_at key xs) ≡ Some r → (row_at key xs ≡ Some r → list_any test xs ≡ true) → (test x || list_any test xs) ≡ true
-    go true f more = ap (λ (b : Bool). b || list_any test xs) (ap test (one_row x r f) ∙ is)
-    go false f more = either (test x) (list_any test xs) (more f)
-
-any_given : (n : ℕ) (f : Record → List ℕ) (rows : List Record) → is_among n (flat_map f rows) ≡ list_any (λ row. is_among n (f row)) rows
-any_given n f [] = refl
-any_given n f (x ∷ xs) = list_any-append (λ (m : ℕ). m == n) (f x) (flat_map f xs) ∙ ap (λ (b : Bool). is_among n (f x) || b) (any_given n f xs)
-
-one_among : (n m : ℕ) (b : Bool) → is_among n (if b then m ∷ [] else []) ≡ true → (b ≡ true) × (m ≡ n)
-one_among n m true e = (refl, number-is m n (alone (m == n) e))
-  where
-    alone : (a : Bool) → (a || false) ≡ true → a ≡ true
-    alone true f = refl
-    alone false f = f
-one_among n m false e = absurd (false≢true e)
-
-among_one : (n m : ℕ) (b : Bool) → b ≡ true → m ≡ n → is_among n (if b then m ∷ [] else []) ≡ true
-among_one n m b is one =
-    ap (λ (a : Bool). is_among n (if a then m ∷ [] else [])) is ∙ ap (λ (k : ℕ). (k == n) || false) one ∙ ap (λ (a : Bool). a || false) (number-self n)
-
--- ---- lists of files and of revisions
-
-in_paths : (g : List ℕ → Bool) (p : List ℕ) (paths : List (List ℕ)) → list_any (same p) paths ≡ true → g p ≡ true → list_any g paths ≡ true
-in_paths g p [] e is = absurd (false≢true e)
-in_paths g p (q ∷ qs) e is = go (same p q) refl e (λ f. in_paths g p qs f is)
-  where
-    either : (a b : Bool) → b ≡ true → (a || b) ≡ true
-    either true b f = refl
-    either false b f = f
-
-    go : (b : Bool) → same p q ≡ b → (b || list_any (same p) qs) ≡ true → (list_any (same p) qs ≡ true → list_any g qs ≡ true) → (g q || list_any g qs) ≡ true
-    go true one f more = ap (λ (b : Bool). b || list_any g qs) (ap g (sym (same-is p q one)) ∙ is)
-    go false one f more = either (g q) (list_any g qs) (more f)
-
-one_path : (g : List ℕ → Bool) (paths : List (List ℕ)) → Rise paths → list_any g paths ≡ true → (p : List ℕ) × (is_path p ≡ true) × (list_any (same p) paths ≡ true) × (g p ≡ true)
-one_path g [] rise e = absurd (false≢true e)
-one_path g (q ∷ qs) rise e = go (g q) refl e (λ f. one_path g qs rise.2 f)
-  where
-    either : (a b : Bool) → b ≡ true → (a || b) ≡ true
-    either true b f = refl
-    either false b f = f
-
-    go : (b : Bool) → g q ≡ b → (b || list_any g qs) ≡ true → (list_any g qs ≡ true → (p : List ℕ) × (is_path p ≡ true) × (list_any (same p) qs ≡ true) × (g p ≡ true))
-        → (p : List ℕ) × (is_path p ≡ true) × (list_any (same p) (q ∷ qs) ≡ true) × (g p ≡ true)
-    go true is f more = (q, rise.0, ap (λ (b : Bool). b || list_any (same q) qs) (same-self q), is)
-    go false is f more = let m = more f in (m.0, m.1, either (same m.0 q) (list_any (same m.0) qs) m.2, m.3)
+-- ---- revisions by their numbers
 
 one_revision : (r s : Revision) → Some r ≡ Some s → r ≡ s
 one_revision r s e = cc
@@ -155,15 +86,6 @@ at_place g (x ∷ xs) (suc k) r e is = either (g x) (list_any g xs) (at_place g 
 pub made_at : (d : List Deed) (n : ℕ) (p : List ℕ) (rev : ℕ) (v : Revision) → revision d p rev ≡ Some v → (v.landing.change == n) ≡ true → list_any (made_by n) (revisions d p) ≡ true
 made_at d n p zero v e is = absurd cc
 made_at d n p (suc k) v e is = at_place (made_by n) (revisions d p) k v e is
-
-some_place : (g : Revision → Bool) (revs : List Revision) → list_any g revs ≡ true → (k : ℕ) × (r : Revision) × (slice_get revs k ≡ Some r) × (g r ≡ true)
-some_place g [] e = absurd (false≢true e)
-some_place g (x ∷ xs) e = go (g x) refl e (λ f. some_place g xs f)
-  where
-    go : (b : Bool) → g x ≡ b → (b || list_any g xs) ≡ true → (list_any g xs ≡ true → (k : ℕ) × (r : Revision) × (slice_get xs k ≡ Some r) × (g r ≡ true))
-        → (k : ℕ) × (r : Revision) × (slice_get (x ∷ xs) k ≡ Some r) × (g r ≡ true)
-    go true is f more = (zero, x, refl, is)
-    go false is f more = let m = more f in (suc m.0, m.1, m.2, m.3)
 
 first_there : (revs : List Revision) (k : ℕ) (r : Revision) → slice_get revs k ≡ Some r → is_some (slice_get revs 0) ≡ true
 first_there [] k r e = absurd cc
@@ -184,13 +106,44 @@ path_is text p read own = go (single_text text)
 may_read : (asker : Asker) (text p : List ℕ) → path_of text ≡ Ok p → may_in_text asker text ≡ may asker.protects asker.who p 1
 may_read asker text p read = λ i. elim (read i) as (λ _. Bool) [ Err fault ↦ false | Ok path ↦ may asker.protects asker.who path 1 ]
 
+-- ---- rows without the places of their contents
+
+flat_key : (r : Record) → key_of (unplaced r) ≡ key_of r
+flat_key (records.Rev r) = refl
+flat_key _ = refl
+
+flat_above : (k : Key) (rows : List Record) → AllAbove k rows → AllAbove k (map unplaced rows)
+flat_above k [] above = tt
+flat_above k (r ∷ rs) above = (ap (λ (q : Key). key_cmp q k) (flat_key r) ∙ above.0, flat_above k rs above.1)
+
+flat_rise : (rows : List Record) → IsRising rows → IsRising (map unplaced rows)
+flat_rise [] up = tt
+flat_rise (r ∷ rs) up = (subst (λ (q : Key). AllAbove q (map unplaced rs)) (sym (flat_key r)) (flat_above (key_of r) rs up.0), flat_rise rs up.1)
+
+flat_of : (t : TableId) (rows : List Record) → AllOfTable t rows → AllOfTable t (map unplaced rows)
+flat_of t [] of = tt
+flat_of t (r ∷ rs) of = (ap key_table (flat_key r) ∙ of.0, flat_of t rs of.1)
+
+flat_at : (key : Key) (rows : List Record) → row_at key (map unplaced rows) ≡ option_map unplaced (row_at key rows)
+flat_at key [] = refl
+flat_at key (r ∷ rs) = ap (λ (q : Key). cond (is_eq (key_cmp q key)) (Some (unplaced r)) (row_at key (map unplaced rs))) (flat_key r) ∙ go (is_at key r) (flat_at key rs)
+  where
+    go : (b : Bool) → row_at key (map unplaced rs) ≡ option_map unplaced (row_at key rs)
+        → cond b (Some (unplaced r)) (row_at key (map unplaced rs)) ≡ option_map unplaced (cond b (Some r) (row_at key rs))
+    go true more = refl
+    go false more = more
+
+-- a row is of the change that made its revision
 abbrev change_in : Record → ℕ
 change_in (records.Rev r) = r.change
 change_in _ = 0
 
-some_mapped : {A B : Type 0} (f : A → B) (o : Option A) → is_some (option_map f o) ≡ is_some o
-some_mapped f None = refl
-some_mapped f (Some x) = refl
+of_change : (n m : ℕ) (v : Revision) (r : Record) → unplaced r ≡ rev_record m v → is_of_change n r ≡ made_by n v
+of_change n m v (records.Rev r) e = let change : r.change ≡ v.landing.change = ap change_in e in ap (λ (k : ℕ). k == n) change
+of_change n m v _ e = absurd cc
+
+above_key : (p q : List ℕ) (m k : ℕ) → path_cmp p q ≡ Less → key_cmp (keys.Rev (printed q) k) (keys.Rev (printed p) m) ≡ Greater
+above_key p q m k e = let greater : path_cmp q p ≡ Greater = path_order.antisymm q p ∙ ap ordering_reverse e in rw greater refl
 
 module _ (d : List Deed) (sound : IsSound d) (rows : List Record) (up : IsRising rows) (of : AllOfTable tables.Rev rows)
     (has : (key : Key) → key_table key ≡ tables.Rev → unplaced_at rows key ≡ record_of d key) where
@@ -203,148 +156,232 @@ module _ (d : List Deed) (sound : IsSound d) (rows : List Record) (up : IsRising
       ∙ ap (λ (o : Option Record). is_some o) (has (keys.Rev (printed p) 1) refl ∙ rev_row d p (prints_path p is) 1)
       ∙ some_mapped (rev_record 1) (revision d p 1) ∙ first_there (revisions d p) k v e
 
-  module _ (caller : Caller) (asker : Asker) (asked : IsAsker d caller asker) (n : ℕ) where
-    abbrev tells : Record → Bool
-    tells row = is_among n (number_listed asker row)
+  module _ (n : ℕ) where
+    abbrev test : Record → Bool
+    test row = is_of_change n row
 
-    -- the file of a row
-    by_row : (x : RevRecord) → row_at (keys.Rev x.path x.rev) rows ≡ Some (records.Rev x) → may_in_text asker x.path ≡ true → x.change ≡ n
-        → list_any (lists_one d caller n) (submitted d) ≡ true
-    by_row x at may_it one = go (path_of x.path) refl (ap (option_map unplaced) (sym at) ∙ has (keys.Rev x.path x.rev) refl)
+    abbrev made : List Record
+    made = map unplaced (filter test rows)
+
+    abbrev told : List (List ℕ) → List Record
+    told ps = map numbered_record (filter_map (made_in d n) ps)
+
+    abbrev has_made : List ℕ → Bool
+    has_made path = list_any (made_by n) (revisions d path)
+
+    -- the key of the revision that the change made of a file
+    made_key : (p : List ℕ) → is_path p ≡ true → (m : ℕ) (v : Revision) → revision d p m ≡ Some v → key_of (rev_record m v) ≡ keys.Rev (printed p) m
+    made_key p is m v e =
+        go (row_at (keys.Rev (printed p) m) rows) refl (has (keys.Rev (printed p) m) refl ∙ rev_row d p (prints_path p is) m ∙ ap (option_map (rev_record m)) e)
       where
-        go : (read : Result (List ℕ) PathFault) → path_of x.path ≡ read
-            → Some (unplaced (records.Rev x)) ≡ (elim read as (λ _. Option Record) [ Err fault ↦ None | Ok p ↦ if same (printed p) x.path then option_map (rev_record x.rev) (revision d p x.rev) else None ])
-            → list_any (lists_one d caller n) (submitted d) ≡ true
-        go (Err fault) e is = absurd cc
-        go (Ok p) e is = own (same (printed p) x.path) refl is
+        go : (o : Option Record) → row_at (keys.Rev (printed p) m) rows ≡ o → option_map unplaced o ≡ Some (rev_record m v) → key_of (rev_record m v) ≡ keys.Rev (printed p) m
+        go None f k = absurd cc
+        go (Some r) f k = ap key_of (sym (one_row (unplaced r) (rev_record m v) k)) ∙ flat_key r ∙ key_found (keys.Rev (printed p) m) rows r f
+
+    key_is : (p : List ℕ) → is_path p ≡ true → (x : Numbered) → made_in d n p ≡ Some x → key_of (numbered_record x) ≡ keys.Rev (printed p) x.number
+    key_is p is x e = made_key p is x.number x.made (made_found d n p x e).0
+
+    -- what is told rises
+    told_above : (p : List ℕ) (m : ℕ) (ps : List (List ℕ)) → Below p ps → Rise ps → AllAbove (keys.Rev (printed p) m) (told ps)
+    told_above p m [] below rise = tt
+    told_above p m (q ∷ qs) below rise = go (made_in d n q) refl (told_above p m qs below.1 rise.2)
+      where
+        go : (o : Option Numbered) → made_in d n q ≡ o → AllAbove (keys.Rev (printed p) m) (told qs)
+            → AllAbove (keys.Rev (printed p) m) (map numbered_record (cons_option o (filter_map (made_in d n) qs)))
+        go None e more = more
+        go (Some x) e more = (ap (λ (k : Key). key_cmp k (keys.Rev (printed p) m)) (key_is q rise.0 x e) ∙ above_key p q m x.number below.0, more)
+
+    told_rise : (ps : List (List ℕ)) → Rise ps → IsRising (told ps)
+    told_rise [] rise = tt
+    told_rise (q ∷ qs) rise = go (made_in d n q) refl (told_rise qs rise.2)
+      where
+        go : (o : Option Numbered) → made_in d n q ≡ o → IsRising (told qs) → IsRising (map numbered_record (cons_option o (filter_map (made_in d n) qs)))
+        go None e more = more
+        go (Some x) e more = (subst (λ (k : Key). AllAbove k (told qs)) (sym (key_is q rise.0 x e)) (told_above q x.number qs rise.1 rise.2), more)
+
+    told_of : (xs : List Numbered) → AllOfTable tables.Rev (map numbered_record xs)
+    told_of [] = tt
+    told_of (x ∷ xs) = (refl, told_of xs)
+
+    -- what the change made of a file is told at its key
+    told_at : (p : List ℕ) → is_path p ≡ true → (x : Numbered) → made_in d n p ≡ Some x → (ps : List (List ℕ)) → Rise ps → list_any (same p) ps ≡ true
+        → row_at (keys.Rev (printed p) x.number) (told ps) ≡ Some (numbered_record x)
+    told_at p is x e [] rise there = absurd (false≢true there)
+    told_at p is x e (q ∷ qs) rise there = go (same p q) refl (made_in d n q) refl there (λ f. told_at p is x e qs rise.2 f)
+      where
+        go : (b : Bool) → same p q ≡ b → (o : Option Numbered) → made_in d n q ≡ o → (b || list_any (same p) qs) ≡ true
+            → (list_any (same p) qs ≡ true → row_at (keys.Rev (printed p) x.number) (told qs) ≡ Some (numbered_record x))
+            → row_at (keys.Rev (printed p) x.number) (map numbered_record (cons_option o (filter_map (made_in d n) qs))) ≡ Some (numbered_record x)
+        go true s o f h more =
+            let one : o ≡ Some x = sym f ∙ ap (made_in d n) (sym (same-is p q s)) ∙ e in
+            ap (λ (y : Option Numbered). row_at (keys.Rev (printed p) x.number) (map numbered_record (cons_option y (filter_map (made_in d n) qs)))) one
+            ∙ here (keys.Rev (printed p) x.number) (numbered_record x) (told qs)
+            (ap (λ (k : Key). key_cmp k (keys.Rev (printed p) x.number)) (key_is p is x e) ∙ itself (keys.Rev (printed p) x.number))
+        go false s None f h more = more h
+        go false s (Some y) f h more = skip (is_at (keys.Rev (printed p) x.number) (numbered_record y)) refl
           where
-            made : (rev : ℕ) (o : Option Revision) → revision d p rev ≡ o → Some (unplaced (records.Rev x)) ≡ option_map (rev_record rev) o → is_path p ≡ true
-                → list_any (lists_one d caller n) (submitted d) ≡ true
-            made rev None f k path = absurd cc
-            made zero (Some v) f k path = absurd cc
-            made (suc rev) (Some v) f k path =
-                let change : v.landing.change ≡ n = sym (ap change_in (one_row (unplaced (records.Rev x)) (rev_record (suc rev) v) k)) ∙ one in
-                let by : made_by n v ≡ true = ap (λ (m : ℕ). m == n) change ∙ number-self n in
-                let listed : may_list d caller p ≡ true = sym (may_is d caller asker asked p) ∙ sym (may_read asker x.path p e) ∙ may_it in
-                in_paths (lists_one d caller n) p (submitted d) (submitted_with p path rev v f) (λ i. listed i && at_place (made_by n) (revisions d p) rev v f by i)
+            skip : (b : Bool) → is_at (keys.Rev (printed p) x.number) (numbered_record y) ≡ b
+                → cond b (Some (numbered_record y)) (row_at (keys.Rev (printed p) x.number) (told qs)) ≡ Some (numbered_record x)
+            skip false k = more h
+            skip true k =
+                let keys_same : keys.Rev (printed q) y.number ≡ keys.Rev (printed p) x.number =
+                sym (key_is q rise.0 y f) ∙ at-is (key_of (numbered_record y)) (keys.Rev (printed p) x.number) k in
+                let text : printed q ≡ printed p = cc in
+                let read : Ok q ≡ Ok p = sym (prints_path q rise.0) ∙ ap path_of text ∙ prints_path p is in
+                let one : q ≡ p = cc in
+                absurd (false≢true (sym s ∙ ap (same p) one ∙ same-self p))
 
-            own : (b : Bool) → same (printed p) x.path ≡ b → Some (unplaced (records.Rev x)) ≡ (if b then option_map (rev_record x.rev) (revision d p x.rev) else None)
-                → list_any (lists_one d caller n) (submitted d) ≡ true
-            own true s k = made x.rev (revision d p x.rev) refl k (path_is x.path p e s)
-            own false s k = absurd cc
-
-    from_row : (r : Record) → row_at (key_of r) rows ≡ Some r → tells r ≡ true → list_any (lists_one d caller n) (submitted d) ≡ true
-    from_row (records.Rev x) at e = let both = one_among n x.change (may_in_text asker x.path) e in by_row x at both.0 both.1
-    from_row (records.Counter x) at e = absurd (false≢true e)
-    from_row (records.Group x) at e = absurd (false≢true e)
-    from_row (records.Protect x) at e = absurd (false≢true e)
-    from_row (records.Domain x) at e = absurd (false≢true e)
-    from_row (records.Have x) at e = absurd (false≢true e)
-    from_row (records.Label x) at e = absurd (false≢true e)
-    from_row (records.Integed x) at e = absurd (false≢true e)
-    from_row (records.Resolve x) at e = absurd (false≢true e)
-    from_row (records.Working x) at e = absurd (false≢true e)
-    from_row (records.Change x) at e = absurd (false≢true e)
-
-    -- the row of a file's revision
-    row_tells : (p : List ℕ) → is_path p ≡ true → may_list d caller p ≡ true → (rev : ℕ) (v : Revision) → revision d p rev ≡ Some v → made_by n v ≡ true
-        → list_any tells rows ≡ true
-    row_tells p is listed rev v f by = go (row_at (keys.Rev (printed p) rev) rows) refl (has (keys.Rev (printed p) rev) refl ∙ rev_row d p (prints_path p is) rev ∙ ap (option_map (rev_record rev)) f)
+    -- and so it is made
+    made_there : (p : List ℕ) → is_path p ≡ true → (x : Numbered) → made_in d n p ≡ Some x → row_at (keys.Rev (printed p) x.number) made ≡ Some (numbered_record x)
+    made_there p is x e =
+        let found = made_found d n p x e in
+        let key : Key = keys.Rev (printed p) x.number in
+        flat_at key (filter test rows) ∙ ap (option_map unplaced) (kept_at test key rows up)
+        ∙ go found.1 (row_at key rows) (has key refl ∙ rev_row d p (prints_path p is) x.number ∙ ap (option_map (rev_record x.number)) found.0)
       where
-        its : (r : Record) → key_of r ≡ keys.Rev (printed p) rev → unplaced r ≡ rev_record rev v → tells r ≡ true
-        its (records.Rev x) key one =
-            let text : x.path ≡ printed p = cc in
-            let change : x.change ≡ n = ap change_in one ∙ number-is v.landing.change n by in
-            let read : path_of x.path ≡ Ok p = ap path_of text ∙ prints_path p is in
-            among_one n x.change (may_in_text asker x.path) (may_read asker x.path p read ∙ may_is d caller asker asked p ∙ listed) change
-        its (records.Counter x) key one = absurd cc
-        its (records.Group x) key one = absurd cc
-        its (records.Protect x) key one = absurd cc
-        its (records.Domain x) key one = absurd cc
-        its (records.Have x) key one = absurd cc
-        its (records.Label x) key one = absurd cc
-        its (records.Integed x) key one = absurd cc
-        its (records.Resolve x) key one = absurd cc
-        its (records.Working x) key one = absurd cc
-        its (records.Change x) key one = absurd cc
+        go : made_by n x.made ≡ true → (o : Option Record) → option_map unplaced o ≡ Some (numbered_record x)
+            → option_map unplaced (option_and_then (λ r. pass test (test r) r) o) ≡ Some (numbered_record x)
+        go by None h = absurd cc
+        go by (Some r) h =
+            ap (λ (b : Bool). option_map unplaced (pass test b r)) (of_change n x.number x.made r (one_row (unplaced r) (numbered_record x) h) ∙ by) ∙ h
 
-        go : (o : Option Record) → row_at (keys.Rev (printed p) rev) rows ≡ o → option_map unplaced o ≡ Some (rev_record rev v) → list_any tells rows ≡ true
-        go None e k = absurd cc
-        go (Some r) e k =
-            found_any tells (keys.Rev (printed p) rev) rows r e (its r (key_found (keys.Rev (printed p) rev) rows r e) (one_row (unplaced r) (rev_record rev v) k))
+    to_told : (key : Key) → key_table key ≡ tables.Rev → (r : Record) → row_at key made ≡ Some r → row_at key (told (submitted d)) ≡ Some r
+    to_told (keys.Rev text m) k r e =
+        go (row_at (keys.Rev text m) rows) (has (keys.Rev text m) refl)
+        (sym (flat_at (keys.Rev text m) (filter test rows) ∙ ap (option_map unplaced) (kept_at test (keys.Rev text m) rows up)) ∙ e)
+      where
+        stands : (y : Record) → test y ≡ true → (read : Result (List ℕ) PathFault) → path_of text ≡ read
+            → Some (unplaced y) ≡ (elim read as (λ _. Option Record) [ Err fault ↦ None | Ok p ↦ if same (printed p) text then option_map (rev_record m) (revision d p m) else None ])
+            → row_at (keys.Rev text m) (told (submitted d)) ≡ Some (unplaced y)
+        stands y by (Err fault) f h = absurd cc
+        stands y by (Ok p) f h = own (same (printed p) text) refl h
+          where
+            at : (number : ℕ) → m ≡ number → (o : Option Revision) → revision d p number ≡ o → same (printed p) text ≡ true → Some (unplaced y) ≡ option_map (rev_record number) o
+                → row_at (keys.Rev text m) (told (submitted d)) ≡ Some (unplaced y)
+            at number u None g s i = absurd cc
+            at zero u (Some v) g s i = absurd cc
+            at (suc j) u (Some v) g s i =
+                let is : is_path p ≡ true = path_is text p f s in
+                let row : unplaced y ≡ rev_record (suc j) v = one_row (unplaced y) (rev_record (suc j) v) i in
+                let one = made_once d p (prints_path p is) sound n j v g (sym (of_change n (suc j) v y row) ∙ by) in
+                (λ z. row_at (keys.Rev (sym (same-is (printed p) text s) z) (u z)) (told (submitted d)))
+                ∙ told_at p is (record { number = suc j; made = v }) one (submitted d) (files_rise Submitted d sound) (submitted_with p is j v g) ∙ ap (λ (t : Record). Some t) (sym row)
 
-    to_row : list_any (lists_one d caller n) (submitted d) ≡ true → list_any tells rows ≡ true
-    to_row e =
-        let one = one_path (lists_one d caller n) (submitted d) (files_rise Submitted d sound) e in
-        let p = one.0 in
-        let there = some_place (made_by n) (revisions d p) (right-true (may_list d caller p) (list_any (made_by n) (revisions d p)) one.3) in
-        row_tells p one.1 (left-true (may_list d caller p) (list_any (made_by n) (revisions d p)) one.3) (suc there.0) there.1 there.2 there.3
+            own : (b : Bool) → same (printed p) text ≡ b → Some (unplaced y) ≡ (if b then option_map (rev_record m) (revision d p m) else None)
+                → row_at (keys.Rev text m) (told (submitted d)) ≡ Some (unplaced y)
+            own true s i = at m refl (revision d p m) refl s i
+            own false s i = absurd cc
 
-    pub listed_told : is_among n (flat_map (number_listed asker) rows) ≡ list_any (lists_one d caller n) (submitted d)
-    listed_told =
-        any_given n (number_listed asker) rows
-        ∙ both_ways (list_any tells rows) (list_any (lists_one d caller n) (submitted d)) (λ e. let r = at_own tells rows up e in from_row r.0 r.1 r.2) to_row
+        go : (o : Option Record) → option_map unplaced o ≡ record_of d (keys.Rev text m) → option_map unplaced (option_and_then (λ y. pass test (test y) y) o) ≡ Some r
+            → row_at (keys.Rev text m) (told (submitted d)) ≡ Some r
+        go None f h = absurd cc
+        go (Some y) f h = by (test y) refl h
+          where
+            by : (b : Bool) → test y ≡ b → option_map unplaced (pass test b y) ≡ Some r → row_at (keys.Rev text m) (told (submitted d)) ≡ Some r
+            by false g i = absurd cc
+            by true g i = stands y g (path_of text) refl f ∙ i
+    to_told _ k r e = absurd cc
 
--- ---- pending changes
+    from_told : (key : Key) (ps : List (List ℕ)) → Rise ps → (s : Record) → row_at key (told ps) ≡ Some s → row_at key made ≡ Some s
+    from_told key [] rise s e = absurd cc
+    from_told key (q ∷ qs) rise s e = go (made_in d n q) refl e (λ f. from_told key qs rise.2 s f)
+      where
+        go : (o : Option Numbered) → made_in d n q ≡ o → row_at key (map numbered_record (cons_option o (filter_map (made_in d n) qs))) ≡ Some s
+            → (row_at key (told qs) ≡ Some s → row_at key made ≡ Some s) → row_at key made ≡ Some s
+        go None f h more = more h
+        go (Some x) f h more = at (is_at key (numbered_record x)) refl h
+          where
+            at : (b : Bool) → is_at key (numbered_record x) ≡ b → cond b (Some (numbered_record x)) (row_at key (told qs)) ≡ Some s → row_at key made ≡ Some s
+            at false k i = more i
+            at true k i =
+                ap (λ (z : Key). row_at z made) (sym (at-is (key_of (numbered_record x)) key k) ∙ key_is q rise.0 x f) ∙ made_there q rise.0 x f ∙ i
 
-pending_placed : (row : Option Record) → is_pending_record (option_map unplaced row) ≡ is_pending_record row
-pending_placed None = refl
-pending_placed (Some (records.Change r)) = refl
-pending_placed (Some (records.Rev r)) = refl
-pending_placed (Some (records.Counter r)) = refl
-pending_placed (Some (records.Group r)) = refl
-pending_placed (Some (records.Protect r)) = refl
-pending_placed (Some (records.Domain r)) = refl
-pending_placed (Some (records.Have r)) = refl
-pending_placed (Some (records.Label r)) = refl
-pending_placed (Some (records.Integed r)) = refl
-pending_placed (Some (records.Resolve r)) = refl
-pending_placed (Some (records.Working r)) = refl
+    -- the rows that the change made are those that the depot tells
+    made_rows : made ≡ told (submitted d)
+    made_rows =
+        rows_alike tables.Rev made (told (submitted d)) (flat_rise (filter test rows) (kept_rise test rows up)) (told_rise (submitted d) (files_rise Submitted d sound))
+        (flat_of tables.Rev (filter test rows) (kept_of test tables.Rev rows of)) (told_of (filter_map (made_in d n) (submitted d)))
+        (λ key k. each key k (row_at key made) refl (row_at key (told (submitted d))) refl)
+      where
+        each : (key : Key) → key_table key ≡ tables.Rev → (a : Option Record) → row_at key made ≡ a → (b : Option Record) → row_at key (told (submitted d)) ≡ b → a ≡ b
+        each key k (Some r) e b f = sym (to_told key k r e) ∙ f
+        each key k None e None f = refl
+        each key k None e (Some s) f = absurd (let h : None ≡ Some s = sym e ∙ from_told key (submitted d) (files_rise Submitted d sound) s f in cc)
 
-module _ (n : ℕ) where
-  abbrev pends : Record → Bool
-  pends row = is_among n (number_pending row)
+    -- ---- those of files that the caller may list
 
-  pends_one : (r : Record) → pends r ≡ true → (key_of r ≡ keys.Change n) × (is_pending_record (Some r) ≡ true)
-  pends_one (records.Change x) e = let both = one_among n x.change (same x.status (codes "pending")) e in (ap keys.Change both.1, both.0)
-  pends_one (records.Rev x) e = absurd (false≢true e)
-  pends_one (records.Counter x) e = absurd (false≢true e)
-  pends_one (records.Group x) e = absurd (false≢true e)
-  pends_one (records.Protect x) e = absurd (false≢true e)
-  pends_one (records.Domain x) e = absurd (false≢true e)
-  pends_one (records.Have x) e = absurd (false≢true e)
-  pends_one (records.Label x) e = absurd (false≢true e)
-  pends_one (records.Integed x) e = absurd (false≢true e)
-  pends_one (records.Resolve x) e = absurd (false≢true e)
-  pends_one (records.Working x) e = absurd (false≢true e)
+    module _ (caller : Caller) (asker : Asker) (asked : IsAsker d caller asker) where
+      seen_rows : (xs : List Record) → map seen (filter_map (listable_in asker) xs) ≡ filter (is_listable_row asker) (map unplaced xs)
+      seen_rows [] = refl
+      seen_rows (records.Rev r ∷ xs) = go (may_in_text asker r.path) (seen_rows xs)
+        where
+          go : (b : Bool) → map seen (filter_map (listable_in asker) xs) ≡ filter (is_listable_row asker) (map unplaced xs)
+              → map seen (cons_option (if b then Some r else None) (filter_map (listable_in asker) xs))
+              ≡ cond (is_some (if b then Some (record r { at = 0 }) else None)) (unplaced (records.Rev r) ∷ filter (is_listable_row asker) (map unplaced xs)) (filter (is_listable_row asker) (map unplaced xs))
+          go true more = ap (λ (l : List Record). seen r ∷ l) more
+          go false more = more
+      seen_rows (_ ∷ xs) = seen_rows xs
 
-  one_pends : (r : Record) → key_of r ≡ keys.Change n → is_pending_record (Some r) ≡ true → pends r ≡ true
-  one_pends (records.Change x) key is = let number : x.change ≡ n = cc in among_one n x.change (same x.status (codes "pending")) is number
-  one_pends (records.Rev x) key is = absurd (false≢true is)
-  one_pends (records.Counter x) key is = absurd (false≢true is)
-  one_pends (records.Group x) key is = absurd (false≢true is)
-  one_pends (records.Protect x) key is = absurd (false≢true is)
-  one_pends (records.Domain x) key is = absurd (false≢true is)
-  one_pends (records.Have x) key is = absurd (false≢true is)
-  one_pends (records.Label x) key is = absurd (false≢true is)
-  one_pends (records.Integed x) key is = absurd (false≢true is)
-  one_pends (records.Resolve x) key is = absurd (false≢true is)
-  one_pends (records.Working x) key is = absurd (false≢true is)
+      any_seen : (xs : List Record) → list_any (is_listable_row asker) xs ≡ list_any (is_listable_row asker) (map unplaced xs)
+      any_seen [] = refl
+      any_seen (records.Rev r ∷ xs) = go (may_in_text asker r.path) (any_seen xs)
+        where
+          go : (b : Bool) → list_any (is_listable_row asker) xs ≡ list_any (is_listable_row asker) (map unplaced xs)
+              → (is_some (if b then Some r else None) || list_any (is_listable_row asker) xs)
+              ≡ (is_some (if b then Some (record r { at = 0 }) else None) || list_any (is_listable_row asker) (map unplaced xs))
+          go true more = refl
+          go false more = more
+      any_seen (_ ∷ xs) = any_seen xs
 
-  pending_at : (rows : List Record) → IsRising rows → list_any pends rows ≡ is_pending_record (row_at (keys.Change n) rows)
-  pending_at rows up = both_ways (list_any pends rows) (is_pending_record (row_at (keys.Change n) rows)) to (λ e. from (row_at (keys.Change n) rows) refl e)
-    where
-      to : list_any pends rows ≡ true → is_pending_record (row_at (keys.Change n) rows) ≡ true
-      to e =
-          let r = at_own pends rows up e in
-          let one = pends_one r.0 r.2 in
-          ap is_pending_record (ap (λ (key : Key). row_at key rows) (sym one.0) ∙ r.1) ∙ one.1
+      -- the row of a file is listable where the caller may list the file
+      listable_made : (p : List ℕ) → is_path p ≡ true → (x : Numbered) → made_in d n p ≡ Some x → is_listable_row asker (numbered_record x) ≡ may_list d caller p
+      listable_made p is x e =
+          let key = key_is p is x e in
+          let text : printed x.made.entry.path ≡ printed p = cc in
+          some_if _ (may_in_text asker (printed x.made.entry.path)) ∙ ap (may_in_text asker) text ∙ may_read asker (printed p) p (prints_path p is) ∙ may_is d caller asker asked p
 
-      from : (o : Option Record) → row_at (keys.Change n) rows ≡ o → is_pending_record o ≡ true → list_any pends rows ≡ true
-      from None e is = absurd (false≢true is)
-      from (Some r) e is = found_any pends (keys.Change n) rows r e (one_pends r (key_found (keys.Change n) rows r e) is)
+      abbrev kept : List (List ℕ) → List (List ℕ)
+      kept ps = filter (may_list d caller) (filter has_made ps)
 
-  pub pending_told : (d : List Deed) (rows : List Record) → IsRising rows → ((key : Key) → key_table key ≡ tables.Change → unplaced_at rows key ≡ record_of d key)
-      → is_among n (flat_map number_pending rows) ≡ is_pending d n
-  pending_told d rows up has =
-      any_given n number_pending rows ∙ pending_at rows up ∙ sym (pending_placed (row_at (keys.Change n) rows)) ∙ ap is_pending_record (has (keys.Change n) refl)
+      chosen : (ps : List (List ℕ)) → Rise ps → filter (is_listable_row asker) (told ps) ≡ map numbered_record (filter_map (made_in d n) (kept ps))
+      chosen [] rise = refl
+      chosen (q ∷ qs) rise = go (made_in d n q) refl (has_made q) (some_is n 1 (revisions d q)) (may_list d caller q) refl (chosen qs rise.2)
+        where
+          go : (o : Option Numbered) → made_in d n q ≡ o → (h : Bool) → is_some (made_in d n q) ≡ h → (m : Bool) → may_list d caller q ≡ m
+              → filter (is_listable_row asker) (told qs) ≡ map numbered_record (filter_map (made_in d n) (kept qs))
+              → filter (is_listable_row asker) (map numbered_record (cons_option o (filter_map (made_in d n) qs)))
+              ≡ map numbered_record (filter_map (made_in d n) (filter (may_list d caller) (cond h (q ∷ filter has_made qs) (filter has_made qs))))
+          go None f false e m g more = more
+          go None f true e m g more = absurd (false≢true (ap is_some (sym f) ∙ e))
+          go (Some x) f false e m g more = absurd (false≢true (sym e ∙ ap is_some f))
+          go (Some x) f true e m g more = by m g
+            where
+              by : (m : Bool) → may_list d caller q ≡ m
+                  → filter (is_listable_row asker) (numbered_record x ∷ told qs) ≡ map numbered_record (filter_map (made_in d n) (cond (may_list d caller q) (q ∷ kept qs) (kept qs)))
+              by true g =
+                  ap (λ (b : Bool). cond b (numbered_record x ∷ filter (is_listable_row asker) (told qs)) (filter (is_listable_row asker) (told qs))) (listable_made q rise.0 x f ∙ g)
+                  ∙ ap (λ (l : List Record). numbered_record x ∷ l) more
+                  ∙ sym (ap (λ (b : Bool). map numbered_record (filter_map (made_in d n) (cond b (q ∷ kept qs) (kept qs)))) g
+                  ∙ ap (λ (y : Option Numbered). map numbered_record (cons_option y (filter_map (made_in d n) (kept qs)))) f)
+              by false g =
+                  ap (λ (b : Bool). cond b (numbered_record x ∷ filter (is_listable_row asker) (told qs)) (filter (is_listable_row asker) (told qs))) (listable_made q rise.0 x f ∙ g)
+                  ∙ more ∙ sym (ap (λ (b : Bool). map numbered_record (filter_map (made_in d n) (cond b (q ∷ kept qs) (kept qs)))) g)
+
+      any_chosen : (ps : List (List ℕ)) → Rise ps → list_any (is_listable_row asker) (told ps) ≡ list_any (may_list d caller) (filter has_made ps)
+      any_chosen [] rise = refl
+      any_chosen (q ∷ qs) rise = go (made_in d n q) refl (has_made q) (some_is n 1 (revisions d q)) (any_chosen qs rise.2)
+        where
+          go : (o : Option Numbered) → made_in d n q ≡ o → (h : Bool) → is_some (made_in d n q) ≡ h
+              → list_any (is_listable_row asker) (told qs) ≡ list_any (may_list d caller) (filter has_made qs)
+              → list_any (is_listable_row asker) (map numbered_record (cons_option o (filter_map (made_in d n) qs)))
+              ≡ list_any (may_list d caller) (cond h (q ∷ filter has_made qs) (filter has_made qs))
+          go None f false e more = more
+          go None f true e more = absurd (false≢true (ap is_some (sym f) ∙ e))
+          go (Some x) f false e more = absurd (false≢true (sym e ∙ ap is_some f))
+          go (Some x) f true e more = λ i. listable_made q rise.0 x f i || more i
+
+      pub made_told : map seen (filter_map (listable_in asker) (rows_made n rows)) ≡ map numbered_record (landed_files d caller n)
+      made_told = seen_rows (filter test rows) ∙ ap (filter (is_listable_row asker)) made_rows ∙ chosen (submitted d) (files_rise Submitted d sound)
+
+      pub listed_told : list_any (is_listable_row asker) (rows_made n rows) ≡ is_listable d caller n
+      listed_told = any_seen (filter test rows) ∙ ap (list_any (is_listable_row asker)) made_rows ∙ any_chosen (submitted d) (files_rise Submitted d sound)

@@ -2,7 +2,6 @@
 -- reference, "db.change", "db.rev"). That a revision has a content exactly where its row has a digest is this project's own choice.
 use Rattle.std.specs.Prelude.{ℕ, List, [], ◌∷◌, ◌++◌, codes, decimal, flat_map, if◌then◌else◌, length, Option, Some, None, ◌==◌}
 use Rattle.std.specs.List.{enumerate_from}
-use Rattle.std.specs.Option.{option_to_list}
 use Rattle.depot_rows.specs.depot_path.Bytes.{same}
 use Rattle.depot_rows.specs.db_records.declared.rows.ChangeRecord.{ChangeRecord}
 use Rattle.depot_rows.specs.db_records.declared.rows.RevRecord.{RevRecord}
@@ -10,12 +9,10 @@ use Rattle.depot_rows.specs.depot_model.declared.refusal.Refusal.TheVariants.{No
 use Rattle.depot_rows.specs.depot_model.declared.reply.Field.{Field}
 use Rattle.depot_rows.specs.depot_model.declared.reply.Row.{Row}
 use Rattle.depot_rows.specs.depot_model.declared.request.Caller.{Caller}
-use Rattle.depot_rows.specs.depot_model.Asking.{may_list}
 use Rattle.depot_rows.specs.depot_model.Deeds.{Deed}
 use Rattle.depot_rows.specs.depot_model.Refusals.{refusal_row}
 use Rattle.depot_rows.specs.depot_model.Rows.{number_field, row, text_field}
-use Rattle.depot_rows.specs.depot_model.Steps.History.{change_fields, describe_fields, landed_files, made_in}
-use Rattle.depot_rows.specs.depot_model.Steps.Listing.{Numbered}
+use Rattle.depot_rows.specs.depot_model.Steps.History.{change_fields, describe_fields, landed_files}
 
 abbrev pub record_fields : ChangeRecord → List Field
 record_fields r = change_fields r.change r.user r.client r.moment r.status r.text
@@ -37,10 +34,6 @@ revision_fields k r =
 
 abbrev pub fields_at : ℕ × RevRecord → List Field
 fields_at item = revision_fields item.0 item.1
-
--- the revision of a file that the change made, where the caller may list the file
-abbrev pub described_in : List Deed → Caller → ℕ → List ℕ → List Numbered
-described_in d caller n path = if may_list d caller path then option_to_list (made_in d n path) else []
 
 -- what is told of a submitted change, by the records of its revisions
 abbrev pub landed_by : ChangeRecord → List RevRecord → Row

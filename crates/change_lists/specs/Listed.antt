@@ -1,5 +1,5 @@
 -- What is listed of changes, by their records (Command-Line Reference, "p4 changes"; Helix Core database schema reference, "db.change").
-use Rattle.std.specs.Prelude.{ℕ, Bool, false, ◌&&◌, ◌||◌, ◌==◌, ◌-◌, codes, filter, filter_map, flat_map, if◌then◌else◌, List, [], ◌∷◌, Option, Some, None}
+use Rattle.std.specs.Prelude.{ℕ, Bool, false, ◌&&◌, ◌-◌, codes, filter, filter_map, flat_map, if◌then◌else◌, map, List, [], ◌∷◌, Option, Some, None}
 use Rattle.std.specs.List.{list_any}
 use Rattle.std.specs.Option.{option_to_list}
 use Rattle.depot_rows.specs.depot_path.Bytes.{same}
@@ -9,7 +9,7 @@ use Rattle.depot_rows.specs.db_records.declared.rows.ChangeRecord.{ChangeRecord}
 use Rattle.depot_rows.specs.depot_model.declared.reply.Row.{Row}
 use Rattle.depot_rows.specs.depot_model.declared.request.Caller.{Caller}
 use Rattle.depot_rows.specs.depot_model.declared.command.FileArgument.{FileArgument}
-use Rattle.depot_rows.specs.depot_model.Arguments.{is_in, submitted}
+use Rattle.depot_rows.specs.depot_model.Arguments.{is_in}
 use Rattle.depot_rows.specs.depot_model.Asking.{may_list}
 use Rattle.depot_rows.specs.depot_model.Choice.{made_by}
 use Rattle.depot_rows.specs.depot_model.Deeds.{Deed}
@@ -17,7 +17,7 @@ use Rattle.depot_rows.specs.depot_model.Range.{in_range}
 use Rattle.depot_rows.specs.depot_model.Records.{change_record}
 use Rattle.depot_rows.specs.depot_model.Revisions.{revisions}
 use Rattle.depot_rows.specs.depot_model.Rows.{number_field, row, text_field}
-use Rattle.depot_rows.specs.depot_model.Steps.Changes.{Listed, at_most, change_at, is_made, listed, numbers, passes}
+use Rattle.depot_rows.specs.depot_model.Steps.Changes.{Listed, at_most, change_at, change_row, is_made, listed, numbers, passes}
 
 -- a change's row, by its record
 abbrev pub row_told : ChangeRecord → Row
@@ -56,10 +56,10 @@ is_pending_record _ = false
 abbrev pub is_pending : List Deed → ℕ → Bool
 is_pending d n = is_pending_record (change_record d n)
 
--- the change of a number is listed, beside what is asked for: without arguments where it is pending or the caller may list a file of it, and with
--- arguments where its number is among those that they gave
-abbrev pub is_listed : List Deed → Caller → Bool → List ℕ → ℕ → Bool
-is_listed d caller all made n = if all then is_pending d n || list_any (lists_one d caller n) (submitted d) else list_any (λ m. m == n) made
+-- the row of the change of a number, where it is listed and asked for
+abbrev pub listed_at : List Deed → Caller → Option (List ℕ) → Option (List ℕ) → Option (List ℕ) → ℕ → List Row
+listed_at d caller status user client n =
+    map change_row (filter (λ l. passes status l.status && passes user l.user && passes client l.client) (option_to_list (listed d caller n)))
 
 -- how many rows may still come
 abbrev pub less : Option ℕ → Option ℕ

@@ -5,6 +5,7 @@ ghost use Rattle.std.specs.List.{enumerate_from};
 ghost use Rattle.std.specs.Option.{option_copied};
 ghost use Rattle.depot_rows.specs.db_records.declared.table.TableId.TheVariants as table_ids;
 ghost use Rattle.depot_rows.specs.table_changes.Changed.{rows_of};
+ghost use Rattle.depot_rows.specs.depot_model.declared.request.Caller.{Caller as CallerValue};
 ghost use Rattle.depot_rows.specs.depot_model.Deeds.{Deed};
 ghost use Rattle.depot_rows.specs.depot_model.Rows.{number_field as field_of_number, row as row_with, text_field as field_of_text};
 ghost use Rattle.depot_rows.specs.depot_model.Rules.{IsSound};
@@ -12,13 +13,11 @@ ghost use Rattle.depot_rows.specs.depot_model.Steps.History as model;
 ghost use Rattle.depot_rows.specs.Standing.{HasRows};
 ghost use Rattle.reply_rows.specs.Made.{IsMade, told};
 ghost use Rattle.named_files.specs.Asked.{IsAsker};
-ghost use Rattle.revision_reads.specs.History.{numbered_record, seen};
-ghost use Rattle.change_lists.specs.Describing.{content_fields, described_in, described_told, fields_at, landed_by, landed_told, numbered_name as name_numbered, record_fields as fields_of_record, revision_fields};
+ghost use Rattle.change_lists.specs.Describing.{content_fields, described_told, fields_at, landed_by, landed_told, numbered_name as name_numbered, record_fields as fields_of_record, revision_fields};
 
-use crate::files::{files_of_change, revision_made};
+use crate::files::landed_rows;
 use depot_rows::model::{Caller, Field, Row};
-use depot_rows::paths::{DepotPath, Sequence, Text};
-use depot_rows::protections::Level;
+use depot_rows::paths::{Sequence, Text};
 use depot_rows::records::{ChangeRecord, RevRecord};
 use depot_rows::tables::Tables;
 use itoa::Buffer;
@@ -134,50 +133,6 @@ fn push_revisions(
     Ok(())
 }
 
-/// Adds the row of the revision of a file that the change made, where the asker may list the file.
-fn push_landed<'a>(
-    alloc: Global,
-    tables: &'a Tables,
-    caller: &Caller,
-    asker: &Asker,
-    rows: &mut Vec<&'a RevRecord>,
-    change: u32,
-    path: &DepotPath,
-) -> Result<(), AllocError>
-    ensures { OnOk result ((d : List Deed) → IsSound d → IsAsker d caller.now asker.now → HasRows (rows_of tables.now) d table_ids.Rev →
-        map (λ row. seen row.now) rows.new.items ≡ map (λ row. seen row.now) rows.old.items ++ map numbered_record (described_in d caller.now change path.now)) }
-{
-    if !asker.may(path, Level(1)) {
-        return Ok(());
-    }
-    let row = revision_made(alloc, tables, caller, path, change)?;
-    if let Some(row) = row {
-        rows.push(row)?;
-    }
-    Ok(())
-}
-
-/// The rows of the revisions of files that the change made, of those that the asker may list.
-fn landed_rows<'a>(
-    alloc: Global,
-    tables: &'a Tables,
-    caller: &Caller,
-    asker: &Asker,
-    change: u32,
-    paths: &[DepotPath],
-) -> Result<Vec<&'a RevRecord>, AllocError>
-    ensures { IfOk result (λ rows. (d : List Deed) → IsSound d → IsAsker d caller.now asker.now → HasRows (rows_of tables.now) d table_ids.Rev →
-        map (λ row. seen row.now) rows.items ≡ flat_map (λ path. map numbered_record (described_in d caller.now change path)) paths.now) }
-{
-    let mut rows = Vec::new(alloc);
-    let mut rest = paths;
-    while let [path, later @ ..] = rest {
-        push_landed(alloc, tables, caller, asker, &mut rows, change, path)?;
-        rest = later;
-    }
-    Ok(rows)
-}
-
 /// The row of a submitted change, by its row in the table, with the revisions of these rows.
 fn landed_row(alloc: Global, row: &ChangeRecord, rows: &[&RevRecord]) -> Result<Row, AllocError>
     ensures { IfOk result (λ told. told ≡ row_with (fields_of_record row.now ++ flat_map fields_at (enumerate_from 0 (map (λ row. row.now) rows.now)))) }
@@ -211,15 +166,13 @@ fn landed_or_missing(
 fn describe_landed(
     alloc: Global,
     tables: &Tables,
-    caller: &Caller,
     asker: &Asker,
     row: &ChangeRecord,
 ) -> Result<Step, AllocError>
-    ensures { IfOk result (λ step. (d : List Deed) → IsSound d → IsAsker d caller.now asker.now → HasRows (rows_of tables.now) d table_ids.Rev →
-        step ≡ told (landed_told d caller.now row.now ∷ [])) }
+    ensures { IfOk result (λ step. (d : List Deed) (caller : CallerValue) → IsSound d → IsAsker d caller asker.now → HasRows (rows_of tables.now) d table_ids.Rev →
+        step ≡ told (landed_told d caller row.now ∷ [])) }
 {
-    let paths = files_of_change(alloc, tables, caller, row.change)?;
-    let rows = landed_rows(alloc, tables, caller, asker, row.change, paths.as_slice())?;
+    let rows = landed_rows(alloc, tables, asker, row.change)?;
     let told = landed_or_missing(alloc, row, &rows)?;
     let step = Step::tells(alloc, told)?;
     Ok(step)
@@ -238,13 +191,12 @@ fn describe_pending(alloc: Global, row: &ChangeRecord) -> Result<Step, AllocErro
 fn describe_found(
     alloc: Global,
     tables: &Tables,
-    caller: &Caller,
     asker: &Asker,
     change: u32,
     row: Option<&ChangeRecord>,
 ) -> Result<Step, AllocError>
-    ensures { IfOk result (λ step. (d : List Deed) → IsSound d → IsAsker d caller.now asker.now → HasRows (rows_of tables.now) d table_ids.Rev →
-        step ≡ told (described_told d caller.now change (option_copied row.entry) ∷ [])) }
+    ensures { IfOk result (λ step. (d : List Deed) (caller : CallerValue) → IsSound d → IsAsker d caller asker.now → HasRows (rows_of tables.now) d table_ids.Rev →
+        step ≡ told (described_told d caller change (option_copied row.entry) ∷ [])) }
 {
     match row {
         Some(row) => {
@@ -252,7 +204,7 @@ fn describe_found(
                 let step = describe_pending(alloc, row)?;
                 Ok(step)
             } else {
-                let step = describe_landed(alloc, tables, caller, asker, row)?;
+                let step = describe_landed(alloc, tables, asker, row)?;
                 Ok(step)
             }
         }
@@ -268,20 +220,19 @@ fn describe_found(
 fn describe_asked(
     alloc: Global,
     tables: &Tables,
-    caller: &Caller,
     asker: &Asker,
     change: u32,
 ) -> Result<Step, AllocError>
-    ensures { IfOk result (λ step. (d : List Deed) → IsSound d → IsAsker d caller.now asker.now → HasRows (rows_of tables.now) d table_ids.Change →
-        HasRows (rows_of tables.now) d table_ids.Rev → IsMade (rows_of tables.now) d d (model.describe d caller.now change) step) }
+    ensures { IfOk result (λ step. (d : List Deed) (caller : CallerValue) → IsSound d → IsAsker d caller asker.now → HasRows (rows_of tables.now) d table_ids.Change →
+        HasRows (rows_of tables.now) d table_ids.Rev → IsMade (rows_of tables.now) d d (model.describe d caller change) step) }
 {
     let found = change_of(tables, change);
-    let step = describe_found(alloc, tables, caller, asker, change, found)?;
+    let step = describe_found(alloc, tables, asker, change, found)?;
     Ok(step)
 }
 
 /// `describe -s N`: a change, and of a submitted one the revisions that it made of files that the caller may list; one without such is as one that
-/// isn't there. It reads the tables of groups, protections, forms, changes and revisions alone, and walks over all revisions.
+/// isn't there. It reads the tables of groups, protections, forms, changes and revisions alone, and of the revisions those that the change made.
 pub fn describe(
     alloc: Global,
     tables: &Tables,
@@ -293,7 +244,7 @@ pub fn describe(
         IsMade (rows_of tables.now) d d (model.describe d caller.now change) step) }
 {
     let asker = Asker::of(alloc, tables, caller)?;
-    let done = describe_asked(alloc, tables, caller, &asker, change);
+    let done = describe_asked(alloc, tables, &asker, change);
     drop(asker);
     let step = done?;
     Ok(step)

@@ -1,7 +1,8 @@
 //! `changes` (Command-Line Reference, "p4 changes").
 
-ghost use Rattle.std.specs.Prelude.{◌≡◌, ◌&&◌, ◌++◌, ℕ, Some, true, false, List, IfOk, OnOk, flat_map, map};
+ghost use Rattle.std.specs.Prelude.{◌≡◌, ◌&&◌, ◌||◌, ◌++◌, Some, true, false, List, IfOk, OnOk, codes, flat_map, map};
 ghost use Rattle.std.specs.Option.{option_to_list};
+ghost use Rattle.depot_rows.specs.depot_path.Bytes.{same};
 ghost use Rattle.depot_rows.specs.db_records.declared.table.TableId.TheVariants as table_ids;
 ghost use Rattle.depot_rows.specs.table_changes.Changed.{rows_of};
 ghost use Rattle.depot_rows.specs.depot_model.declared.request.Caller.{Caller as CallerValue};
@@ -13,11 +14,11 @@ ghost use Rattle.reply_rows.specs.Made.{IsMade};
 ghost use Rattle.named_files.specs.Asked.{IsAsker};
 ghost use Rattle.named_files.specs.Sets.{ShownReads};
 ghost use Rattle.named_files.specs.declared.listing.Listing.TheVariants.{Submitted};
-ghost use Rattle.change_lists.specs.Listed.{asked_at, changes_listed, is_listed, less, less_by, record_asked, row_told, rows_asked};
-ghost use Rattle.change_lists.specs.Numbers.{Falls, is_among};
+ghost use Rattle.change_lists.specs.Listed.{asked_at, changes_listed, less, less_by, listed_at, record_asked, row_told, rows_asked};
 
+use crate::files::may_list_change;
 use crate::made::changes_made;
-use crate::numbers::{all_numbers, in_falling_order};
+use crate::numbers::{in_falling_order, newest_number};
 use depot_rows::model::{Caller, FileArgument, Row};
 use depot_rows::paths::{Name, Sequence, Text};
 use depot_rows::records::ChangeRecord;
@@ -172,27 +173,71 @@ fn tell_numbers(
     Ok(())
 }
 
-/// The numbers of the changes that are listed, beside the filter: where there are no arguments, of all that the asker sees something of, or else of
-/// those that the arguments gave.
-fn listed_numbers(
+/// Whether a change is pending, or the asker may list one of its files.
+fn is_listed(
     alloc: Global,
     tables: &Tables,
     asker: &Asker,
-    all: bool,
-    made: Vec<u32>,
-) -> Result<Vec<u32>, AllocError>
-    ensures falls { IfOk result (λ numbers. Falls numbers.items) }
-    ensures numbers { IfOk result (λ numbers. (d : List Deed) (caller : CallerValue) → IsSound d → IsAsker d caller asker.now → HasRows (rows_of tables.now) d table_ids.Change →
-        HasRows (rows_of tables.now) d table_ids.Rev → (n : ℕ) → is_among n numbers.items ≡ is_listed d caller all made.items n) }
+    change: u32,
+    row: &ChangeRecord,
+) -> Result<bool, AllocError>
+    ensures { IfOk result (λ listed. (d : List Deed) (caller : CallerValue) → IsSound d → IsAsker d caller asker.now → HasRows (rows_of tables.now) d table_ids.Rev →
+        listed ≡ (same row.now.status (codes "pending") || model.is_listable d caller change)) }
 {
-    if all {
-        drop(made);
-        let numbers = all_numbers(alloc, tables, asker)?;
-        let falling = in_falling_order(numbers);
-        return Ok(falling);
+    if row.status.as_bytes() == b"pending".as_slice() {
+        return Ok(true);
     }
-    let given = in_falling_order(made);
-    Ok(given)
+    let listed = may_list_change(alloc, tables, asker, change)?;
+    Ok(listed)
+}
+
+/// The row of the change of a number, where it is there and the filter passes it, and it is pending or the asker may list one of its files.
+fn tell_listed(
+    alloc: Global,
+    tables: &Tables,
+    asker: &Asker,
+    filter: &Filter,
+    change: u32,
+) -> Result<Option<Row>, AllocError>
+    ensures { IfOk result (λ told. (d : List Deed) (caller : CallerValue) → IsSound d → IsAsker d caller asker.now → HasRows (rows_of tables.now) d table_ids.Change →
+        HasRows (rows_of tables.now) d table_ids.Rev →
+        option_to_list told ≡ listed_at d caller filter.now.status.now filter.now.user.now filter.now.client.now change) }
+{
+    let Some(row) = change_of(tables, change) else {
+        return Ok(None);
+    };
+    if passes(filter, row) && is_listed(alloc, tables, asker, change, row)? {
+        let told = listed_row(alloc, row)?;
+        return Ok(Some(told));
+    }
+    Ok(None)
+}
+
+/// Adds the rows of the changes that the filter passes, of those that are pending or of which the asker may list a file, the greatest number first,
+/// and at most so many. It looks up each number from the greatest down until there are enough.
+fn tell_newest(
+    alloc: Global,
+    tables: &Tables,
+    asker: &Asker,
+    filter: &Filter,
+    rows: &mut Sequence<Row>,
+    most: Option<u32>,
+) -> Result<(), AllocError>
+    ensures { OnOk result ((d : List Deed) (caller : CallerValue) → IsSound d → IsAsker d caller asker.now → HasRows (rows_of tables.now) d table_ids.Change →
+        HasRows (rows_of tables.now) d table_ids.Rev →
+        rows.new ≡ rows.old ++ model.at_most most (flat_map (listed_at d caller filter.now.status.now filter.now.user.now filter.now.client.now) (model.numbers d))) }
+{
+    let mut left = most;
+    let mut next = Some(newest_number(tables));
+    while let Some(change) = next {
+        if is_full(left) {
+            return Ok(());
+        }
+        let told = tell_listed(alloc, tables, asker, filter, change)?;
+        left = push_told(rows, left, told)?;
+        next = change.checked_sub(1);
+    }
+    Ok(())
 }
 
 /// The rows of `changes` of an asker.
@@ -210,14 +255,18 @@ fn changes_told(
     ensures { IfOk result (λ rows. (d : List Deed) → ShownReads caller.now asker.now Submitted (rows_of tables.now) d →
         rows ≡ flat_map (model.missing d caller.now) files.now ++ map model.change_row (changes_listed d caller.now most status.now user.now client.now files.now)) }
 {
-    let mut rows = Sequence::new(alloc);
-    let made = changes_made(alloc, tables, caller, asker, &mut rows, files)?;
-    let numbers = listed_numbers(alloc, tables, asker, files.is_empty(), made)?;
     let filter = Filter {
         status,
         user,
         client,
     };
+    let mut rows = Sequence::new(alloc);
+    if files.is_empty() {
+        tell_newest(alloc, tables, asker, &filter, &mut rows, most)?;
+        return Ok(rows);
+    }
+    let made = changes_made(alloc, tables, caller, asker, &mut rows, files)?;
+    let numbers = in_falling_order(made);
     tell_numbers(alloc, tables, &filter, &mut rows, &numbers, most)?;
     Ok(rows)
 }
@@ -248,8 +297,9 @@ fn changes_asked(
 /// `changes`: the changes of a status, a user and a client, where they are given, and of these those that made a revision that an argument selects, if
 /// there are arguments; a submitted one where the caller may list one of its files. The greatest number is the first, and there are at most `most`. An
 /// argument that names no file is refused. It reads the tables of groups, protections, forms, have lists, labels, changes and revisions alone. With
-/// arguments it reads of the revisions those of the files that they name, and else it walks once over all revisions and all changes; the numbers that
-/// it finds so are sorted, and it looks up their changes from the greatest down, until there are enough.
+/// arguments it reads of the revisions those of the files that they name, sorts the numbers of their changes, and looks these up from the greatest
+/// down, until there are enough. Else it looks up each number from the greatest down, and of a submitted change that passes the revisions that it made,
+/// until there is one of a file that the caller may list.
 pub fn changes(
     alloc: Global,
     tables: &Tables,

@@ -8,10 +8,9 @@ use Rattle.change_lists.proofs.Described.{landed_by_is}
 use Rattle.change_lists.proofs.describing.describe_landed.Goals as goal
 
 pub returns : goal.returns
-returns c = λ d sound asked has.
+returns c = λ d caller sound asked has.
     let r = c.args.row.now in
     c.in_ok-step.ensures
     ∙ ap (λ (t : Row). told (t ∷ []))
     (c.in_ok-told.ensures ∙ ap (λ (l : List (Bor RevRecord)). landed_by r (map (λ x. x.now) l)) c.deref.ensures.value
-    ∙ landed_by_is d c.args.caller.now r c.in_ok-rows.rows.items c.as_slice.result.now (c.as_slice.ensures ∙ c.in_ok-paths.ensures d sound has)
-    (c.in_ok-rows.ensures d sound asked has))
+    ∙ landed_by_is d caller r c.in_ok-rows.rows.items (c.in_ok-rows.ensures d caller sound asked has))
