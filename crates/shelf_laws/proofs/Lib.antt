@@ -6,4 +6,5 @@ pub mod Choosing
 pub mod Telling
 pub mod Changes
 pub mod History
+pub mod Naming
 pub mod Unshelving

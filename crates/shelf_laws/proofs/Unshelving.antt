@@ -27,13 +27,10 @@ use Rattle.depot_model.specs.declared.request.Caller.{Caller}
 use Rattle.depot_model.specs.declared.request.Request.{Request}
 use Rattle.depot_model.specs.declared.request.WordFault.{WordFault}
 use Rattle.depot_runs.specs.Folds.{shelf_state}
-use Rattle.shelf_laws.specs.Unshelving.{IsOpenedSo, IsToldSo}
+use Rattle.shelf_laws.specs.Unshelving.{IsOpenedSo, IsToldSo, RefusesOrAnswersEach}
 use Rattle.shelf_laws.proofs.Keeping.{kept_as_shelved}
+use Rattle.shelf_laws.proofs.Naming.{all_joined, each_of_files, wholly}
 use Rattle.step_forms.proofs.Parts.{good_unless, good_within, good_over_all}
-
-all_joined : {A : Type 0} (P : A → Type 0) (xs ys : List A) → AllByRecursion P xs → AllByRecursion P ys → AllByRecursion P (xs ++ ys)
-all_joined P [] ys h k = k
-all_joined P (x ∷ xs) ys h k = (h.0, all_joined P xs ys h.1 k)
 
 module _ (shelved : List ℕ → Option FormValue) (d : List Deed) (caller : Caller) (n : ℕ) (change : Option ℕ)
     (known : (path : List ℕ) (form : FormValue) → kept d n path ≡ Some form → shelved path ≡ Some form) where
@@ -86,15 +83,18 @@ module _ (d : List Deed) (places : List Placed) (request : Request) (n : ℕ) (c
   before = taken step d places
 
   abbrev So : Step → Type 0
-  So one = Good (shelf_state step d places n) before request.caller n change (kept_as_shelved d places n) one
+  So one =
+      Good (shelf_state step d places n) before request.caller n change (kept_as_shelved d places n) one
+      × RefusesOrAnswersEach (shelf_state step d places n) before request.caller n (unwrap_or change 0) files one
 
   whole_so : So (whole_step before request (Unshelve n change files))
   whole_so =
       let known = kept_as_shelved d places n in
       let shelved = shelf_state step d places n in
-      good_unless So (refused shelved before request.caller n change known)
+      good_unless So (λ why. (refused shelved before request.caller n change known why, wholly shelved before request.caller n change files known why))
       (common_refusals before request.caller (about (Unshelve n change files)) ++ last_refusals before (Unshelve n change files))
-      (unshelve before request.caller n change files) (all_files shelved before request.caller n change known files)
+      (unshelve before request.caller n change files)
+      (all_files shelved before request.caller n change known files, each_of_files shelved before request.caller n change files known)
 
   step_so : request.command ≡ Ok (Unshelve n change files) → So (step before request)
   step_so is =
@@ -105,4 +105,5 @@ pub unshelves_so : (d : List Deed) (places : List Placed) (request : Request) (n
     → request.command ≡ Ok (Unshelve n change files)
     → AllByRecursion (IsOpenedSo (shelf_state step d places n) request.caller (unwrap_or change 0)) (step (taken step d places) request).deeds
     × AllByRecursion (IsToldSo (shelf_state step d places n) request.caller (unwrap_or change 0) (taken step d places)) (step (taken step d places) request).rows
-unshelves_so d places request n change files is = let so = step_so d places request n change files is in (so.deeds, so.rows)
+    × RefusesOrAnswersEach (shelf_state step d places n) (taken step d places) request.caller n (unwrap_or change 0) files (step (taken step d places) request)
+unshelves_so d places request n change files is = let so = step_so d places request n change files is in (so.0.deeds, so.0.rows, so.1)
