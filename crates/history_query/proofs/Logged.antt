@@ -14,14 +14,14 @@ use Rattle.depot_rows.specs.depot_model.Revisions.{revision}
 use Rattle.depot_rows.specs.depot_model.Rows.{if_any, number_field, path_field, row, text_field, action_word}
 use Rattle.depot_rows.specs.depot_model.Rules.{IsSound}
 use Rattle.depot_rows.specs.depot_model.Step.{nothing, tells}
-use Rattle.depot_rows.specs.depot_model.Steps.History.{log_fields, records_of, up_to}
+use Rattle.depot_rows.specs.depot_model.Steps.History.{log_fields, up_to}
 use Rattle.depot_rows.specs.depot_model.Steps.Listing.{Numbered}
 use Rattle.reply_rows.proofs.Bare.{AreBare}
 use Rattle.revision_reads.proofs.Downwards.{AreRevisions, made_up_to}
 use Rattle.revision_reads.proofs.Landed.{change_row}
 use Rattle.revision_reads.proofs.Seen.{one_seen, seen_field}
 use Rattle.revision_reads.specs.History.{numbered_record, seen}
-use Rattle.history_query.specs.Logging.{credit_fields, digest_fields, fields_by, into_revision, logged, logged_from, rows_logged, size_fields}
+use Rattle.history_query.specs.Logging.{credit_fields, credits_in, digest_fields, fields_by, logged, logged_from, rows_logged, size_fields}
 use Rattle.history_query.proofs.Printed.{digest_of, length_of, written}
 
 sized : (index : List ℕ) (content : Option (List ℕ)) → size_fields index (digest_of content) (length_of content)
@@ -35,8 +35,8 @@ summed index None = refl
 summed index (Some c) = written (λ t. digest_fields index t ≡ text_field (codes "digest" ++ index) t ∷ []) c (λ b bytes. refl)
 
 module _ (d : List Deed) (caller : Caller) (path : List ℕ) where
-  abbrev records : List IntegedRecord
-  records = records_of d caller path
+  abbrev credits : ℕ → List IntegedRecord
+  credits = credits_in d caller path
 
   -- the row of a revision, without the place of its content
   abbrev row_of : Numbered → RevRecord
@@ -53,19 +53,19 @@ module _ (d : List Deed) (caller : Caller) (path : List ℕ) where
   }
 
   one_logged : (n : ℕ) (r : Numbered) → IsSound d → IsTrue (is_path path) → revision d path r.number ≡ Some r.made
-      → logged d (decimal n) records (numbered_record r) ≡ log_fields d caller path (n, r)
+      → logged d (decimal n) credits (numbered_record r) ≡ log_fields d caller path (n, r)
   one_logged n r sound is e =
-      ap (fields_by (decimal n) records (row_of r)) (change_row d path (prints_path path is) sound r.number r.made e)
+      ap (fields_by (decimal n) credits (row_of r)) (change_row d path (prints_path path is) sound r.number r.made e)
       ∙ (λ i. ((number_field (codes "rev" ++ decimal n) r.number ∷ number_field (codes "change" ++ decimal n) r.made.landing.change
       ∷ text_field (codes "action" ++ decimal n) (action_word r.made.entry.action) ∷ text_field (codes "type" ++ decimal n) r.made.entry.file_type
       ∷ number_field (codes "time" ++ decimal n) r.made.landing.moment ∷ text_field (codes "user" ++ decimal n) r.made.landing.user
       ∷ text_field (codes "client" ++ decimal n) r.made.landing.client
       ∷ sized (decimal n) r.made.entry.content i)
       ++ summed (decimal n) r.made.entry.content i)
-      ++ (text_field (codes "desc" ++ decimal n) r.made.landing.text ∷ credit_fields (decimal n) (into_revision r.number records)))
+      ++ (text_field (codes "desc" ++ decimal n) r.made.landing.text ∷ credit_fields (decimal n) (credits r.number)))
 
   all_logged : IsSound d → IsTrue (is_path path) → (n : ℕ) (items : List Numbered) → AreRevisions d path items
-      → logged_from d n records (map numbered_record items) ≡ flat_map (log_fields d caller path) (enumerate_from n items)
+      → logged_from d n credits (map numbered_record items) ≡ flat_map (log_fields d caller path) (enumerate_from n items)
   all_logged sound is n [] are = refl
   all_logged sound is n (r ∷ items) are =
       (λ i. one_logged n r sound is are.0 i ++ all_logged sound is (n + 1) items are.1 i)

@@ -1,6 +1,8 @@
 -- The integration records of a file, as the rows of the table have them (Command-Line Reference, "p4 integrated"; Helix Core database schema
 -- reference, "db.integed").
-use Rattle.std.specs.Prelude.{ℕ, Bool, false, List, [], ◌∷◌, filter, flat_map, if◌then◌else◌, Option, Some, None, Ok, Err}
+use Rattle.std.specs.Prelude.{◌≡◌, ◌==◌, ◌++◌, ℕ, Bool, false, List, [], ◌∷◌, filter, flat_map, map, if◌then◌else◌, Option, Some, None, Ok, Err}
+use Rattle.std.specs.BTreeMap.{get}
+use Rattle.std.specs.Ordering.{nat_cmp}
 use Rattle.depot_rows.specs.depot_path.Path.{path_of}
 use Rattle.depot_rows.specs.db_records.declared.record.Record.{Record}
 use Rattle.depot_rows.specs.db_records.declared.record.Record.TheVariants.{Integed}
@@ -15,6 +17,7 @@ use Rattle.depot_rows.specs.depot_model.Steps.History.{integrated_row}
 use Rattle.depot_rows.specs.Standing.{HasRows}
 use Rattle.named_files.specs.Asked.{IsAsker}
 use Rattle.named_files.specs.declared.asker.Asker.{Asker}
+use Rattle.history_query.specs.declared.crediting.Credits.{Credits}
 
 -- the asker may list the file whose path a text spells
 abbrev pub may_list_in : Asker → List ℕ → Bool
@@ -52,6 +55,22 @@ listed_by asker (Some r) = if is_listed_in asker r then r ∷ [] else []
 
 abbrev pub records_listed_in : Asker → List Record → List IntegedRecord
 records_listed_in asker rows = flat_map (λ row. listed_by asker (integed_in row)) rows
+
+-- those of some records that are into a revision
+abbrev pub into_revision : ℕ → List IntegedRecord → List IntegedRecord
+into_revision rev records = filter (λ (i : IntegedRecord). i.end_to == rev) records
+
+-- the records into a revision, among those that are kept by it
+abbrev pub credited : Credits → ℕ → List IntegedRecord
+credited credits rev = elim (get nat_cmp credits.by_revision rev) [ None ↦ [] | Some records ↦ map (λ r. r.now) records.items ]
+
+-- these are the records, each by its revision
+abbrev pub AreCredited : Credits → List IntegedRecord → Type 0
+AreCredited credits records = (rev : ℕ) → credited credits rev ≡ into_revision rev records
+
+-- they were added
+abbrev pub AreAdded : Credits → Credits → List IntegedRecord → Type 0
+AreAdded before after records = (rev : ℕ) → credited after rev ≡ credited before rev ++ into_revision rev records
 
 -- the asker is that of the depot, and the integration records are the depot's
 pub record RecordReads (caller : Caller) (asker : Asker) (rows : AllRows) (d : List Deed) : Type 0 where

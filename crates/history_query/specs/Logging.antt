@@ -1,6 +1,6 @@
 -- The fields of a revision in the log of its file, as the rows of the tables have them (Command-Line Reference, "p4 filelog"; Helix Core database
 -- schema reference, "db.rev", "db.change", "db.integed").
-use Rattle.std.specs.Prelude.{ℕ, ◌==◌, ◌+◌, List, [], ◌∷◌, ◌++◌, codes, decimal, filter, flat_map, map, Option, Some, None}
+use Rattle.std.specs.Prelude.{ℕ, ◌+◌, List, [], ◌∷◌, ◌++◌, codes, decimal, flat_map, map, Option, Some, None}
 use Rattle.std.specs.List.{enumerate_from}
 use Rattle.depot_rows.specs.db_records.declared.record.Record.{Record}
 use Rattle.depot_rows.specs.db_records.declared.record.Record.TheVariants.{Change, Rev}
@@ -21,6 +21,7 @@ use Rattle.named_files.specs.Asked.{IsAsker}
 use Rattle.named_files.specs.declared.asker.Asker.{Asker}
 use Rattle.revision_reads.specs.History.{numbered_record}
 use Rattle.history_query.specs.Choosing.{ChoiceReads}
+use Rattle.history_query.specs.Crediting.{into_revision}
 
 -- what a revision and its change say
 abbrev pub revision_fields : List ℕ → RevRecord → ChangeRecord → List Field
@@ -38,38 +39,40 @@ abbrev pub digest_fields : List ℕ → List ℕ → List Field
 digest_fields index [] = []
 digest_fields index (b ∷ sum) = text_field (codes "digest" ++ index) (b ∷ sum) ∷ []
 
--- the integration records into a revision
-abbrev pub into_revision : ℕ → List IntegedRecord → List IntegedRecord
-into_revision rev records = filter (λ (i : IntegedRecord). i.end_to == rev) records
-
+-- the integration records of a revision
 abbrev pub credit_fields : List ℕ → List IntegedRecord → List Field
 credit_fields index records = flat_map (record_fields index) (enumerate_from 0 records)
 
-abbrev pub fields_of : List ℕ → List IntegedRecord → RevRecord → ChangeRecord → List Field
-fields_of index records r c =
+-- what is told of a revision, where each revision has its integration records
+abbrev pub fields_of : List ℕ → (ℕ → List IntegedRecord) → RevRecord → ChangeRecord → List Field
+fields_of index credits r c =
     ((revision_fields index r c ++ size_fields index r.digest r.length) ++ digest_fields index r.digest)
-    ++ (text_field (codes "desc" ++ index) c.text ∷ credit_fields index (into_revision r.rev records))
+    ++ (text_field (codes "desc" ++ index) c.text ∷ credit_fields index (credits r.rev))
 
-abbrev pub fields_by : List ℕ → List IntegedRecord → RevRecord → Option Record → List Field
-fields_by index records r (Some (Change c)) = fields_of index records r c
-fields_by index records r _ = []
+abbrev pub fields_by : List ℕ → (ℕ → List IntegedRecord) → RevRecord → Option Record → List Field
+fields_by index credits r (Some (Change c)) = fields_of index credits r c
+fields_by index credits r _ = []
 
 -- with the change that a depot has
-abbrev pub logged : List Deed → List ℕ → List IntegedRecord → Record → List Field
-logged d index records (Rev r) = fields_by index records r (change_record d r.change)
-logged d index records _ = []
+abbrev pub logged : List Deed → List ℕ → (ℕ → List IntegedRecord) → Record → List Field
+logged d index credits (Rev r) = fields_by index credits r (change_record d r.change)
+logged d index credits _ = []
 
 -- revisions one after another, with their indices
-abbrev pub logged_from : List Deed → ℕ → List IntegedRecord → List Record → List Field
-logged_from d n records [] = []
-logged_from d n records (r ∷ rows) = logged d (decimal n) records r ++ logged_from d (n + 1) records rows
+abbrev pub logged_from : List Deed → ℕ → (ℕ → List IntegedRecord) → List Record → List Field
+logged_from d n credits [] = []
+logged_from d n credits (r ∷ rows) = logged d (decimal n) credits r ++ logged_from d (n + 1) credits rows
 
-abbrev pub log_row : List Deed → List ℕ → List IntegedRecord → List Record → Row
-log_row d path records rows = row (path_field (codes "depotFile") path ∷ logged_from d 0 records rows)
+abbrev pub log_row : List Deed → List ℕ → (ℕ → List IntegedRecord) → List Record → Row
+log_row d path credits rows = row (path_field (codes "depotFile") path ∷ logged_from d 0 credits rows)
+
+-- the integration records of each revision of a file
+abbrev pub credits_in : List Deed → Caller → List ℕ → ℕ → List IntegedRecord
+credits_in d caller path rev = into_revision rev (records_of d caller path)
 
 abbrev pub rows_logged : List Deed → Caller → List ℕ → Option ℕ → List Row
 rows_logged d caller path None = []
-rows_logged d caller path (Some last) = log_row d path (records_of d caller path) (map numbered_record (up_to d path last)) ∷ []
+rows_logged d caller path (Some last) = log_row d path (credits_in d caller path) (map numbered_record (up_to d path last)) ∷ []
 
 -- the asker is that of the depot, and the integration records and those of a choice are the depot's
 pub record LogReads (caller : Caller) (asker : Asker) (rows : AllRows) (d : List Deed) : Type 0 where

@@ -12,7 +12,7 @@ ghost use Rattle.depot_rows.specs.depot_model.Steps.History.{records_of as recor
 ghost use Rattle.depot_rows.specs.Standing.{HasRows};
 ghost use Rattle.named_files.specs.Asked.{IsAsker};
 ghost use Rattle.named_files.specs.declared.asker.Asker.{Asker as Asks};
-ghost use Rattle.history_query.specs.Crediting.{integed_in, listed_by, listed_in, may_list_in, records_listed_in};
+ghost use Rattle.history_query.specs.Crediting.{AreAdded, AreCredited, integed_in, listed_by, listed_in, may_list_in, records_listed_in};
 
 use depot_rows::paths::{DepotPath, PathFault, Text};
 use depot_rows::protections::Level;
@@ -21,6 +21,35 @@ use depot_rows::tables::Tables;
 use named_files::Asker;
 use row_ranges::{KeyRange, rows_in};
 use std::alloc::{AllocError, Global};
+use std::collections::BTreeMap;
+
+/// Integration records into a file, by the revision into which each is, those of a revision in the order in which they were added.
+#[derive(Drop)]
+pub(crate) struct Credits<'a> {
+    pub by_revision: BTreeMap<u32, Vec<&'a IntegedRecord>>,
+}
+
+impl<'a> Credits<'a> {
+    /// None, which takes no memory.
+    fn new(alloc: Global) -> Credits<'a>
+        ensures { AreCredited result [] }
+    {
+        Credits {
+            by_revision: BTreeMap::new(alloc),
+        }
+    }
+
+    /// Adds a record behind the others of its revision.
+    fn add(&mut self, alloc: Global, integed: &'a IntegedRecord) -> Result<(), AllocError>
+        ensures { OnOk result (AreAdded self.old self.new (integed.now ∷ [])) }
+    {
+        let before = self.by_revision.remove(&integed.end_to);
+        let mut records = before.unwrap_or(Vec::new(alloc));
+        records.push(integed)?;
+        self.by_revision.insert(integed.end_to, records)?;
+        Ok(())
+    }
+}
 
 /// Whether the asker may list the file whose path a text spells.
 pub(crate) fn may_list(alloc: Global, asker: &Asker, text: &Text) -> Result<bool, AllocError>
@@ -48,14 +77,15 @@ pub(crate) fn as_integed(row: &Record) -> Option<&IntegedRecord>
 
 /// Adds a record, if it is to be listed.
 fn add_if<'a>(
-    records: &mut Vec<&'a IntegedRecord>,
+    alloc: Global,
+    credits: &mut Credits<'a>,
     listed: bool,
     integed: &'a IntegedRecord,
 ) -> Result<(), AllocError>
-    ensures { OnOk result (map (λ r. r.now) records.new.items ≡ map (λ r. r.now) records.old.items ++ (if listed then integed.now ∷ [] else [])) }
+    ensures { OnOk result (AreAdded credits.old credits.new (if listed then integed.now ∷ [] else [])) }
 {
     if listed {
-        records.push(integed)?;
+        credits.add(alloc, integed)?;
     }
     Ok(())
 }
@@ -63,30 +93,30 @@ fn add_if<'a>(
 /// Adds a record, if the asker may list its other file.
 fn add_listed<'a>(
     alloc: Global,
-    records: &mut Vec<&'a IntegedRecord>,
+    credits: &mut Credits<'a>,
     asker: &Asker,
     integed: &'a IntegedRecord,
 ) -> Result<(), AllocError>
-    ensures { OnOk result (map (λ r. r.now) records.new.items ≡ map (λ r. r.now) records.old.items ++ listed_by asker.now (Some integed.now)) }
+    ensures { OnOk result (AreAdded credits.old credits.new (listed_by asker.now (Some integed.now))) }
 {
     let may = may_list(alloc, asker, &integed.from_file)?;
-    add_if(records, may, integed)?;
+    add_if(alloc, credits, may, integed)?;
     Ok(())
 }
 
 /// Adds a record, if there is one and the asker may list its other file.
 fn add_found<'a>(
     alloc: Global,
-    records: &mut Vec<&'a IntegedRecord>,
+    credits: &mut Credits<'a>,
     asker: &Asker,
     found: Option<&'a IntegedRecord>,
 ) -> Result<(), AllocError>
-    ensures { OnOk result (map (λ r. r.now) records.new.items ≡ map (λ r. r.now) records.old.items ++ listed_by asker.now (option_copied found.entry)) }
+    ensures { OnOk result (AreAdded credits.old credits.new (listed_by asker.now (option_copied found.entry))) }
 {
     match found {
         None => Ok(()),
         Some(integed) => {
-            add_listed(alloc, records, asker, integed)?;
+            add_listed(alloc, credits, asker, integed)?;
             Ok(())
         }
     }
@@ -95,14 +125,14 @@ fn add_found<'a>(
 /// Adds the record that a row is, if the asker may list its other file.
 fn add_row<'a>(
     alloc: Global,
-    records: &mut Vec<&'a IntegedRecord>,
+    credits: &mut Credits<'a>,
     asker: &Asker,
     row: &'a Record,
 ) -> Result<(), AllocError>
-    ensures { OnOk result (map (λ r. r.now) records.new.items ≡ map (λ r. r.now) records.old.items ++ listed_by asker.now (integed_in row.now)) }
+    ensures { OnOk result (AreAdded credits.old credits.new (listed_by asker.now (integed_in row.now))) }
 {
     let found = as_integed(row);
-    add_found(alloc, records, asker, found)?;
+    add_found(alloc, credits, asker, found)?;
     Ok(())
 }
 
@@ -115,20 +145,20 @@ pub(crate) fn range_of(alloc: Global, path: &DepotPath) -> Result<KeyRange, Allo
     Ok(KeyRange::Integrations { to_file })
 }
 
-/// The integration records in a range whose other file the asker may list, in the order of their keys.
-pub(crate) fn records_of<'a>(
+/// The integration records in a range whose other file the asker may list, each revision's in the order of their keys.
+pub(crate) fn credits_of<'a>(
     alloc: Global,
     tables: &'a Tables,
     asker: &Asker,
     range: &'a KeyRange,
-) -> Result<Vec<&'a IntegedRecord>, AllocError>
-    ensures { IfOk result (λ records. map (λ r. r.now) records.items ≡ records_listed_in asker.now (filter (has_row range.now) (rows_of tables.now (range_table range.now)))) }
+) -> Result<Credits<'a>, AllocError>
+    ensures { IfOk result (λ credits. AreCredited credits (records_listed_in asker.now (filter (has_row range.now) (rows_of tables.now (range_table range.now))))) }
 {
-    let mut records = Vec::new(alloc);
+    let mut credits = Credits::new(alloc);
     for row in rows_in(alloc, tables, range)? {
-        add_row(alloc, &mut records, asker, row)?;
+        add_row(alloc, &mut credits, asker, row)?;
     }
-    Ok(records)
+    Ok(credits)
 }
 
 /// The records of a file in its range are those of the depot (Command-Line Reference, "p4 integrated"), from the table of integration records

@@ -15,10 +15,11 @@ ghost use Rattle.named_files.specs.Asked.{IsAsker};
 ghost use Rattle.reply_rows.specs.Made.{IsMade, told as told_rows};
 ghost use Rattle.revision_reads.specs.History.{numbered_record, seen};
 ghost use Rattle.history_query.specs.Choosing.{ChoiceReads};
-ghost use Rattle.history_query.specs.Logging.{LogReads, credit_fields, digest_fields, fields_by, fields_of, into_revision, log_row, logged, logged_from, revision_fields, rows_logged, size_fields};
+ghost use Rattle.history_query.specs.Crediting.{credited};
+ghost use Rattle.history_query.specs.Logging.{LogReads, credit_fields, credits_in, digest_fields, fields_by, fields_of, log_row, logged, logged_from, revision_fields, rows_logged, size_fields};
 
 use crate::choosing::over_chosen;
-use crate::crediting::{range_of, records_of, rows_are_records};
+use crate::crediting::{Credits, credits_of, range_of, rows_are_records};
 use depot_rows::model::{Caller, FileArgument, Row};
 use depot_rows::paths::{DepotPath, Text};
 use depot_rows::records::{ChangeRecord, IntegedRecord, RevRecord};
@@ -185,25 +186,6 @@ fn with_record(
     Ok(last)
 }
 
-/// Those of some integration records that are into a revision.
-fn records_into<'a>(
-    alloc: Global,
-    records: &[&'a IntegedRecord],
-    rev: u32,
-) -> Result<Vec<&'a IntegedRecord>, AllocError>
-    ensures { IfOk result (λ some. map (λ r. r.now) some.items ≡ into_revision rev (map (λ r. r.now) records.now)) }
-{
-    let mut some = Vec::new(alloc);
-    let mut rest = records;
-    while let [first, after @ ..] = rest {
-        if first.end_to == rev {
-            some.push(*first)?;
-        }
-        rest = after;
-    }
-    Ok(some)
-}
-
 /// With the integration records of a revision.
 fn with_records(
     alloc: Global,
@@ -224,19 +206,23 @@ fn with_records(
     Ok(more)
 }
 
-/// With those of some integration records that are into a revision.
+/// With the integration records that are into a revision.
 fn with_credits(
     alloc: Global,
     made: RowBuilder,
     index: &[u8],
+    credits: &Credits<'_>,
     rev: u32,
-    records: &[&IntegedRecord],
 ) -> Result<RowBuilder, AllocError>
-    ensures { IfOk result (λ more. more ≡ made ++ credit_fields index.now (into_revision rev (map (λ r. r.now) records.now))) }
+    ensures { IfOk result (λ more. more ≡ made ++ credit_fields index.now (credited credits.now rev)) }
 {
-    let some = records_into(alloc, records, rev)?;
-    let more = with_records(alloc, made, index, some.as_slice())?;
-    Ok(more)
+    match credits.by_revision.get(&rev) {
+        None => Ok(made),
+        Some(records) => {
+            let more = with_records(alloc, made, index, records.as_slice())?;
+            Ok(more)
+        }
+    }
 }
 
 /// With what is told of a revision.
@@ -244,17 +230,17 @@ fn with_log(
     alloc: Global,
     made: RowBuilder,
     index: &[u8],
-    records: &[&IntegedRecord],
+    credits: &Credits<'_>,
     row: &RevRecord,
     change: &ChangeRecord,
 ) -> Result<RowBuilder, AllocError>
-    ensures { IfOk result (λ more. more ≡ made ++ fields_of index.now (map (λ r. r.now) records.now) row.now change.now) }
+    ensures { IfOk result (λ more. more ≡ made ++ fields_of index.now (credited credits.now) row.now change.now) }
 {
     let told = with_revision(alloc, made, index, row, change)?;
     let sized = with_size(alloc, told, index, row)?;
     let summed = with_digest(alloc, sized, index, row)?;
     let described = with_text(alloc, summed, b"desc", index, change.text.as_bytes())?;
-    let more = with_credits(alloc, described, index, row.rev, records)?;
+    let more = with_credits(alloc, described, index, credits, row.rev)?;
     Ok(more)
 }
 
@@ -263,16 +249,16 @@ fn with_logged(
     alloc: Global,
     made: RowBuilder,
     index: &[u8],
-    records: &[&IntegedRecord],
+    credits: &Credits<'_>,
     row: &RevRecord,
     change: Option<&ChangeRecord>,
 ) -> Result<RowBuilder, AllocError>
-    ensures { IfOk result (λ more. more ≡ made ++ fields_by index.now (map (λ r. r.now) records.now) row.now (option_map (λ c. Change c) (option_copied change.entry))) }
+    ensures { IfOk result (λ more. more ≡ made ++ fields_by index.now (credited credits.now) row.now (option_map (λ c. Change c) (option_copied change.entry))) }
 {
     match change {
         None => Ok(made),
         Some(change) => {
-            let more = with_log(alloc, made, index, records, row, change)?;
+            let more = with_log(alloc, made, index, credits, row, change)?;
             Ok(more)
         }
     }
@@ -284,14 +270,14 @@ fn with_next(
     tables: &Tables,
     made: RowBuilder,
     index: usize,
-    records: &[&IntegedRecord],
+    credits: &Credits<'_>,
     row: &RevRecord,
 ) -> Result<RowBuilder, AllocError>
-    ensures { IfOk result (λ more. (d : List Deed) → HasRows (rows_of tables.now) d table_ids.Change → more ≡ made ++ logged d (decimal index) (map (λ r. r.now) records.now) (seen row.now)) }
+    ensures { IfOk result (λ more. (d : List Deed) → HasRows (rows_of tables.now) d table_ids.Change → more ≡ made ++ logged d (decimal index) (credited credits.now) (seen row.now)) }
 {
     let index = index_of(alloc, index)?;
     let change = change_of(tables, row.change);
-    let more = with_logged(alloc, made, index.as_bytes(), records, row, change)?;
+    let more = with_logged(alloc, made, index.as_bytes(), credits, row, change)?;
     Ok(more)
 }
 
@@ -300,17 +286,17 @@ fn with_all(
     alloc: Global,
     tables: &Tables,
     made: RowBuilder,
-    records: &[&IntegedRecord],
+    credits: &Credits<'_>,
     rows: &[&RevRecord],
 ) -> Result<RowBuilder, AllocError>
     ensures { IfOk result (λ more. (d : List Deed) → HasRows (rows_of tables.now) d table_ids.Change →
-        more ≡ made ++ logged_from d 0 (map (λ r. r.now) records.now) (map (λ r. seen r.now) rows.now)) }
+        more ≡ made ++ logged_from d 0 (credited credits.now) (map (λ r. seen r.now) rows.now)) }
 {
     let mut more = made;
     let mut rest = rows;
     let mut index = 0;
     while let [row, after @ ..] = rest {
-        more = with_next(alloc, tables, more, index, records, row)?;
+        more = with_next(alloc, tables, more, index, credits, row)?;
         rest = after;
         index += 1;
     }
@@ -322,15 +308,15 @@ fn log_of(
     alloc: Global,
     tables: &Tables,
     path: &DepotPath,
-    records: &[&IntegedRecord],
+    credits: &Credits<'_>,
     last: u32,
 ) -> Result<Row, AllocError>
     ensures { IfOk result (λ row. (d : List Deed) → IsSound d → HasRows (rows_of tables.now) d table_ids.Change → HasRows (rows_of tables.now) d table_ids.Rev →
-        row ≡ log_row d path.now (map (λ r. r.now) records.now) (map numbered_record (model.up_to d path.now last))) }
+        row ≡ log_row d path.now (credited credits.now) (map numbered_record (model.up_to d path.now last))) }
 {
     let rows = revisions_up_to(alloc, tables, path, last)?;
     let made = RowBuilder::new(alloc).path(b"depotFile", path)?;
-    let made = with_all(alloc, tables, made, records, rows.as_slice())?;
+    let made = with_all(alloc, tables, made, credits, rows.as_slice())?;
     Ok(made.row())
 }
 
@@ -343,12 +329,12 @@ fn tell_log(
     last: u32,
 ) -> Result<Step, AllocError>
     ensures { IfOk result (λ step. (d : List Deed) (caller : Asking) → LogReads caller asker.now (rows_of tables.now) d →
-        step ≡ told_rows (log_row d path.now (model.records_of d caller path.now) (map numbered_record (model.up_to d path.now last)) ∷ [])) }
+        step ≡ told_rows (log_row d path.now (credits_in d caller path.now) (map numbered_record (model.up_to d path.now last)) ∷ [])) }
 {
     rows_are_records(tables);
     let range = range_of(alloc, path)?;
-    let records = records_of(alloc, tables, asker, &range)?;
-    let row = log_of(alloc, tables, path, records.as_slice(), last)?;
+    let credits = credits_of(alloc, tables, asker, &range)?;
+    let row = log_of(alloc, tables, path, &credits, last)?;
     let step = Step::tells(alloc, row)?;
     Ok(step)
 }
@@ -419,8 +405,8 @@ fn filelog_asked(
 }
 
 /// `filelog FILE...`: the revisions of files up to those that arguments choose, the newest first, with their integration records, from the tables
-/// of groups, protections, forms, have lists, labels, integration records, changes and revisions alone. For each revision of a file it goes over the
-/// file's integration records. The one error is want of memory.
+/// of groups, protections, forms, have lists, labels, integration records, changes and revisions alone. It goes over a
+/// file's integration records once. The one error is want of memory.
 pub fn filelog(
     alloc: Global,
     tables: &Tables,
