@@ -1,5 +1,5 @@
 -- The directories above a path are its fronts before slashes, and those of files that a depot has are those that an argument asks for.
-use Rattle.std.proofs.Common.{◌≡◌, ℕ, suc, ◌+◌, ◌-◌, ◌<◌, ◌≤◌, Bool, true, false, cond, List, [], ◌∷◌, ◌++◌, Option, Some, None, refl, sym, ap, subst, ◌∙◌, map, append_assoc, append-nil, arith, drop-cons, get_or}
+use Rattle.std.proofs.Common.{◌≡◌, ℕ, suc, ◌+◌, ◌-◌, ◌<◌, ◌≤◌, Bool, true, false, cond, List, [], ◌∷◌, ◌++◌, Option, Some, None, refl, sym, ap, subst, ◌∙◌, append_assoc, append-nil, arith, drop-cons, get_or}
 use Rattle.std.specs.Prelude.{◌||◌, ◌&&◌, ◌==◌, codes, drop, filter, filter_map, flat_map, if◌then◌else◌, length, nat_eq, take}
 use Rattle.std.specs.List.{cons_option, list_all, list_any, onto_first, slice_split}
 use Rattle.std.specs.Option.{option_to_list}
@@ -120,7 +120,7 @@ pub two_slashes : (path : List ℕ) → is_path path ≡ true → take 2 path �
 two_slashes path is = sym (same-is (codes "//") (take 2 path) (slashes_of _ _ _ _ _ _ _ is))
 
 -- a path is its two slashes with what follows them
-whole : (path : List ℕ) → is_path path ≡ true → (0x2F ∷ 0x2F ∷ []) ++ drop 2 path ≡ path
+pub whole : (path : List ℕ) → is_path path ≡ true → (0x2F ∷ 0x2F ∷ []) ++ drop 2 path ≡ path
 whole path is = ap (λ (t : List ℕ). t ++ drop 2 path) (sym (two_slashes path is)) ∙ take-append-drop 2 path
 
 pub two_bytes : (path : List ℕ) → is_path path ≡ true → 2 ≤ length path

@@ -1,10 +1,8 @@
 -- Sets of directories by their printed texts: what is put into them one after another are the directories in path order.
 use Rattle.std.proofs.Common.{◌≡◌, ℕ, Bool, true, false, List, [], ◌∷◌, ◌++◌, refl, sym, ap, subst, ◌∙◌, map}
 use Rattle.std.specs.Prelude.{◌||◌, filter, flat_map, if◌then◌else◌}
-use Rattle.std.specs.BTreeSet.{insert_key}
-use Rattle.std.specs.Cmp.Lexicographic.{slice_cmp}
 use Rattle.std.specs.List.{list_any}
-use Rattle.std.specs.Ordering.{is_eq, is_lt, match_ordering, nat_cmp, ordering_reverse}
+use Rattle.std.specs.Ordering.{is_eq, is_lt, match_ordering, ordering_reverse}
 use Rattle.std.specs.declared.cmp.Ordering.{Ordering}
 use Rattle.std.specs.declared.cmp.Ordering.TheVariants.{Less, Equal, Greater}
 use Rattle.std.proofs.lemmas.Bool.{false≢true}
@@ -15,7 +13,7 @@ use Rattle.depot_rows.specs.depot_path.OrderLaws.{paths_ties, paths_total}
 use Rattle.depot_rows.specs.depot_path.Path.{printed}
 use Rattle.depot_rows.specs.depot_path.declared.piece.Piece.{Piece}
 use Rattle.depot_rows.specs.depot_model.Sorted.{all_inserted, path_inserted}
-use Rattle.depot_rows.proofs.Keys.{same-is, same-self}
+use Rattle.depot_rows.proofs.Keys.{same-is}
 use Rattle.history_query.specs.Directories.{all_fitting, fitting_inserted, text_inserted}
 
 -- where a path is inserted, by the order of the two

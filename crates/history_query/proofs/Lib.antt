@@ -7,3 +7,5 @@ pub mod Logged
 pub mod Fitting
 pub mod Above
 pub mod Taken
+pub mod Depths
+pub mod Leaps

@@ -6,3 +6,4 @@ pub mod Stating
 pub mod Crediting
 pub mod Logging
 pub mod Directories
+pub mod Leaping

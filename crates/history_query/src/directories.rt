@@ -7,7 +7,7 @@ ghost use Rattle.depot_rows.specs.depot_path.Path.{printed};
 ghost use Rattle.depot_rows.specs.table_changes.Changed.{rows_of};
 ghost use Rattle.depot_rows.specs.depot_path.declared.revision.Wanted.TheVariants.{Head};
 ghost use Rattle.depot_rows.specs.depot_model.declared.request.Caller.{Caller as Asking};
-ghost use Rattle.depot_rows.specs.depot_model.Arguments.{in_client_syntax as client_syntax};
+ghost use Rattle.depot_rows.specs.depot_model.Arguments.{in_client_syntax as client_syntax, submitted};
 ghost use Rattle.depot_rows.specs.depot_model.Asking.{may_list};
 ghost use Rattle.depot_rows.specs.depot_model.Choice.{shown};
 ghost use Rattle.depot_rows.specs.depot_model.Deeds.{Deed};
@@ -16,8 +16,9 @@ ghost use Rattle.depot_rows.specs.depot_model.Rules.{IsSound};
 ghost use Rattle.depot_rows.specs.depot_model.Steps.History as model;
 ghost use Rattle.depot_rows.specs.Standing.{HasRows};
 ghost use Rattle.named_files.specs.Asked.{IsAsker};
-ghost use Rattle.history_query.specs.Directories.{all_directories, all_fitting, begun_directories, fitting_inserted};
+ghost use Rattle.history_query.specs.Directories.{all_directories, all_fitting, begun_directories, directories_of, fitting_inserted};
 
+use crate::leaping::{by_leaps, depth_of};
 use crate::texts::TextSet;
 use depot_rows::model::Caller;
 use depot_rows::paths::{DepotPath, Pattern, Sequence, Text, Wanted, print_bytes};
@@ -103,7 +104,7 @@ fn seen_of(
 }
 
 /// Whether the asker may list a file, and it is live.
-fn is_seen(
+pub(crate) fn is_seen(
     alloc: Global,
     tables: &Tables,
     asker: &Asker,
@@ -178,8 +179,28 @@ fn directories_among(
     Ok(set)
 }
 
+/// The directories that an argument names, of all files that begin with its literal text.
+fn by_files(
+    alloc: Global,
+    tables: &Tables,
+    caller: &Caller,
+    asker: &Asker,
+    pattern: &Pattern,
+) -> Result<TextSet, AllocError>
+    ensures { IfOk result (λ set. (d : List Deed) → IsSound d → IsAsker d caller.now asker.now → HasRows (rows_of tables.now) d table_ids.Rev →
+        set ≡ all_fitting pattern.now (flat_map (directories_of d caller.now pattern.now) (submitted d)) []) }
+{
+    let listing = Listing::Submitted;
+    let found = begun_candidates(alloc, tables, asker, &listing, pattern);
+    drop(listing);
+    let paths = found?;
+    let set = directories_among(alloc, tables, caller, asker, pattern, paths)?;
+    Ok(set)
+}
+
 /// The directories that an argument names, as they are printed, in their order. It walks over the rows alone of files that begin with the literal
-/// text with which the argument begins. The one error is want of memory.
+/// text with which the argument begins, and where the argument is in depot syntax and without `...`, it leaps over all files below a directory once it
+/// is told, or doesn't fit. The one error is want of memory.
 pub(crate) fn directories(
     alloc: Global,
     tables: &Tables,
@@ -190,11 +211,14 @@ pub(crate) fn directories(
     ensures { IfOk result (λ texts. (d : List Deed) → IsSound d → IsAsker d caller.now asker.now → HasRows (rows_of tables.now) d table_ids.Rev →
         texts ≡ map printed (model.dirs_of d caller.now pattern.now)) }
 {
-    let listing = Listing::Submitted;
-    let found = begun_candidates(alloc, tables, asker, &listing, pattern);
-    drop(listing);
-    let paths = found?;
-    let set = directories_among(alloc, tables, caller, asker, pattern, paths)?;
+    if !in_client_syntax(&asker.client, pattern)
+        && let Some(depth) = depth_of(pattern)
+    {
+        let set = by_leaps(alloc, tables, asker, pattern, depth)?;
+        let texts = set.into_sequence(alloc)?;
+        return Ok(texts);
+    }
+    let set = by_files(alloc, tables, caller, asker, pattern)?;
     let texts = set.into_sequence(alloc)?;
     Ok(texts)
 }

@@ -8,6 +8,7 @@ mod crediting;
 mod dir_rows;
 mod directories;
 mod integrating;
+mod leaping;
 mod listing;
 mod logging;
 mod printing;

@@ -1,6 +1,4 @@
-use Rattle.std.proofs.Common.{List, ℕ, ap, refl, sym, ◌∙◌}
-use Rattle.depot_rows.specs.depot_path.Path.{is_path}
-use Rattle.history_query.proofs.Above.{at_end, at_two, one_step, two_bytes}
+use Rattle.history_query.proofs.Above.{at_two}
 use Rattle.history_query.proofs.directories.add_directories.Goals as goal
 
 pub returns : goal.returns

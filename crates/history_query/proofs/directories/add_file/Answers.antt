@@ -1,4 +1,4 @@
-use Rattle.std.proofs.Common.{◌≡◌, ℕ, Bool, Option, true, false, List, [], Some, None, sym, ap, ◌∙◌}
+use Rattle.std.proofs.Common.{◌≡◌, ℕ, Bool, Option, true, false, List, Some, None, sym, ap, ◌∙◌}
 use Rattle.std.specs.Prelude.{◌&&◌, flat_map, if◌then◌else◌}
 use Rattle.std.specs.Option.{option_to_list}
 use Rattle.depot_rows.specs.depot_path.Path.{is_path}

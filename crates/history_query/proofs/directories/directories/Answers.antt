@@ -1,25 +1,23 @@
-use Rattle.std.proofs.Common.{ℕ, List, [], sym, ap, ◌∙◌}
+use Rattle.std.proofs.Common.{◌≡◌, ℕ, List, [], ap, ◌∙◌, map}
 use Rattle.std.specs.Prelude.{flat_map}
+use Rattle.depot_rows.specs.depot_path.Path.{printed}
+use Rattle.depot_rows.specs.depot_path.declared.piece.Piece.{Piece}
 use Rattle.depot_rows.specs.depot_model.Arguments.{submitted}
-use Rattle.depot_rows.specs.depot_model.Steps.History.{directories as above, seen_paths}
-use Rattle.named_files.specs.Asked.{is_begun}
+use Rattle.depot_rows.specs.depot_model.declared.request.Caller.{Caller}
+use Rattle.depot_rows.specs.depot_model.Deeds.{Deed}
+use Rattle.depot_rows.specs.depot_model.Steps.History.{directories as above, dirs_of, seen_paths}
 use Rattle.history_query.specs.Directories.{all_fitting, directories_of}
-use Rattle.history_query.proofs.Above.{all_alone, begun_of, seen_directories, submitted_are_paths}
+use Rattle.history_query.proofs.Above.{seen_directories}
 use Rattle.history_query.proofs.Fitting.{all_fit}
 use Rattle.history_query.proofs.directories.directories.Goals as goal
 
+told : (d : List Deed) (caller : Caller) (pattern : List Piece) → all_fitting pattern (flat_map (directories_of d caller pattern) (submitted d)) [] ≡ map printed (dirs_of d caller pattern)
+told d caller pattern =
+    ap (λ (ds : List (List ℕ)). all_fitting pattern ds []) (seen_directories d caller pattern) ∙ all_fit pattern (flat_map above (seen_paths d caller pattern))
+
 pub returns : goal.returns
 returns c = λ d sound asked has.
-    let caller = c.args.caller.now in
-    let asker = c.args.asker.now in
-    let pattern = c.args.pattern.now in
-    let files : List (List ℕ) = c.in_ok-paths.paths in
-    c.in_ok-texts.ensures
-    ∙ c.in_ok-set.ensures d sound asked has
-    ∙ ap (λ (ds : List (List ℕ)). all_fitting pattern ds [])
-    (begun_of d caller asker asked pattern files
-    ∙ ap (flat_map (directories_of d caller pattern)) (c.in_ok-paths.ensures.depot d sound has (is_begun asker pattern) (λ path e. e))
-    ∙ sym (begun_of d caller asker asked pattern (submitted d)))
-    ∙ sym (all_alone d caller asker asked pattern (submitted d) (submitted_are_paths d sound))
-    ∙ ap (λ (ds : List (List ℕ)). all_fitting pattern ds []) (seen_directories d caller pattern)
-    ∙ all_fit pattern (flat_map above (seen_paths d caller pattern))
+    c.in_ok-texts.ensures ∙ c.in_ok-set.ensures d c.args.caller.now sound asked has ∙ told d c.args.caller.now c.args.pattern.now
+
+pub returns-2 : goal.returns-2
+returns-2 c = λ d sound asked has. c.in_ok-texts-2.ensures ∙ c.in_ok-set-2.ensures d sound asked has ∙ told d c.args.caller.now c.args.pattern.now
