@@ -1,5 +1,5 @@
 -- What `add` does with a file, by what was found of it, is what the model does.
-use Rattle.std.proofs.Common.{◌≡◌, ℕ, Bool, true, false, List, [], ◌∷◌, Option, Some, None, refl, sym, ap, ◌∙◌}
+use Rattle.std.proofs.Common.{◌≡◌, ℕ, Bool, true, false, List, [], ◌∷◌, Option, Some, None, refl, ap, ◌∙◌}
 use Rattle.std.specs.Prelude.{is_none, is_some, unwrap_or, if◌then◌else◌}
 use Rattle.std.specs.Option.{option_to_list}
 use Rattle.depot_rows.specs.depot_path.Path.{printed}

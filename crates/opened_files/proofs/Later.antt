@@ -25,7 +25,7 @@ use Rattle.depot_rows.specs.depot_model.WellFormed.{asks_head}
 use Rattle.named_files.specs.Asked.{IsAsker}
 use Rattle.named_files.specs.declared.asker.Asker.{Asker}
 use Rattle.named_files.proofs.Heads.{at_own_head}
-use Rattle.opening_reads.specs.OwnOpenings.{Came, is_of}
+use Rattle.opening_reads.specs.OwnOpenings.{Came}
 use Rattle.opening_reads.proofs.OwnDeeds.{kept, of_each}
 
 abbrev Left : {A : Type 0} → (List Deed → A) → List Deed → Deed → Type 0

@@ -1,6 +1,6 @@
 -- What `add` does with a file once it is known that the caller may open it, where the view shows it, and whether it is there; and what is read for it.
 -- This project's own choice.
-use Rattle.std.specs.Prelude.{ℕ, Bool, List, [], ◌∷◌, Option, Some, None, is_none, is_some, if◌then◌else◌}
+use Rattle.std.specs.Prelude.{ℕ, Bool, List, [], ◌∷◌, Option, Some, is_none, is_some, if◌then◌else◌}
 use Rattle.depot_rows.specs.depot_path.Path.{printed}
 use Rattle.depot_rows.specs.depot_path.declared.revision.Wanted.TheVariants.{Head}
 use Rattle.depot_rows.specs.db_records.declared.table.TableId.TheVariants as table_ids

@@ -1,4 +1,4 @@
-use Rattle.std.proofs.Common.{Option, List, ◌++◌, sym, ap, subst, append-nil}
+use Rattle.std.proofs.Common.{Option, List, ◌++◌, sym, subst, append-nil}
 use Rattle.std.specs.Prelude.{option_map}
 use Rattle.depot_rows.specs.depot_model.Deeds.{Deed}
 use Rattle.depot_rows.specs.depot_model.Steps.Moving.{renamed}

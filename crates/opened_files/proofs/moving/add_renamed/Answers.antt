@@ -1,6 +1,5 @@
 use Rattle.std.proofs.Common.{List, ◌++◌, Some, sym, ap, subst, ◌∙◌}
 use Rattle.depot_rows.specs.depot_path.Path.{is_path}
-use Rattle.depot_rows.specs.depot_model.Deeds.{Deed as ModelDeed}
 use Rattle.depot_rows.specs.depot_model.Steps.Moving.{renamed}
 use Rattle.depot_rows.specs.Deed.{opening_of}
 use Rattle.depot_rows.specs.Effects.{Follow}

@@ -1,4 +1,4 @@
-use Rattle.std.proofs.Common.{Bool, List, true, false, refl, sym, subst, ◌∙◌}
+use Rattle.std.proofs.Common.{List, true, false, refl, sym, subst, ◌∙◌}
 use Rattle.depot_rows.specs.depot_model.Deeds.{Deed}
 use Rattle.depot_rows.specs.Deed.{action_of}
 use Rattle.depot_rows.specs.Effects.{Follow}

@@ -1,4 +1,4 @@
-use Rattle.std.proofs.Common.{◌≡◌, Bool, [], ◌∷◌, Some, None, ap, ◌∙◌}
+use Rattle.std.proofs.Common.{◌≡◌, Bool, Some, None, ap, ◌∙◌}
 use Rattle.std.specs.Prelude.{is_some, option_map}
 use Rattle.depot_rows.specs.table_changes.Changed.{rows_of}
 use Rattle.depot_rows.specs.depot_model.Opened.{opened}

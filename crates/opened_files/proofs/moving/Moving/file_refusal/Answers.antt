@@ -1,4 +1,4 @@
-use Rattle.std.proofs.Common.{◌≡◌, Some, None, sym, ◌∙◌}
+use Rattle.std.proofs.Common.{◌≡◌, Some, None, ◌∙◌}
 use Rattle.depot_rows.specs.depot_model.Steps.Moving.{movable_refusal}
 use Rattle.depot_rows.specs.Deed.{opening_of}
 use Rattle.opened_files.specs.Moves.{place_refusal}

@@ -1,7 +1,6 @@
-use Rattle.std.proofs.Common.{◌≡◌, ℕ, List, Option, Some, None, sym, ap, subst, ◌∙◌}
+use Rattle.std.proofs.Common.{◌≡◌, ℕ, List, Option, sym, subst, ◌∙◌}
 use Rattle.depot_rows.specs.table_changes.Changed.{rows_of}
 use Rattle.depot_rows.specs.depot_path.declared.revision.Wanted.{Wanted}
-use Rattle.depot_rows.specs.depot_model.Step.{Step as ModelStep}
 use Rattle.depot_rows.specs.depot_model.Steps.Targets.{target_at, target_text}
 use Rattle.depot_rows.specs.Deed.{opening_of}
 use Rattle.reply_rows.specs.Made.{IsMade}

@@ -1,10 +1,6 @@
-use Rattle.std.proofs.Common.{Bool, Option, sym, ap, ◌∙◌}
-use Rattle.std.specs.Prelude.{is_some, option_map}
-use Rattle.depot_rows.specs.depot_model.declared.refusal.Refusal.{Refusal}
-use Rattle.depot_rows.specs.depot_model.Opened.{opened}
+use Rattle.std.proofs.Common.{sym, ◌∙◌}
+use Rattle.std.specs.Prelude.{option_map}
 use Rattle.depot_rows.specs.depot_model.Refusals.{refusal_row}
-use Rattle.depot_rows.specs.depot_model.Revisions.{is_live_head}
-use Rattle.depot_rows.specs.depot_model.Steps.Opening.{exclusive_refusal}
 use Rattle.opening_reads.proofs.OwnDeeds.{exclusive_still}
 use Rattle.opened_files.specs.Adds.{new_refusal}
 use Rattle.opened_files.proofs.Later.{live_later}
