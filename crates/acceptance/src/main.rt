@@ -5,115 +5,83 @@
 //! both and the program ends with status 1. Where there is no such file the answers themselves are printed.
 #![tactic(auto)]
 
-mod answers;
-mod cases;
-mod comparison;
-mod disks;
-mod fault;
-mod gate;
-mod running;
-mod step;
-mod trial;
-mod world;
-
-use crate::answers::Answers;
-use crate::cases::Cases;
-use crate::comparison::{first_difference, line_at, line_count};
-use crate::fault::CaseFault;
-use crate::world::World;
-use std::alloc::Global;
-use std::io::{ErrorKind, Write};
+use case_files::{CaseGate, Disks, Ran, Server, Setting, answer_files};
+use depot_path::Sequence;
+use memory_world::{FixedClock, MemorySink};
+use p4_server::{Ended, PartyEnd, p4_top};
+use std::alloc::{AllocError, Global};
+use std::io;
 use std::process::ExitCode;
-use std::rt::{Env, Files};
 use std::sync::Wait;
 use std::thread::Threads;
-use std::{env, fs, io};
 
-/// Answers the cases of a file up to its end or to the first line with a fault.
-fn answer_cases<R: Threads + Wait + Sync>(
-    rt: &R,
+/// What the clock says.
+const NOW: u64 = 1_700_000_000;
+
+/// The depot server, which runs its parties by this runtime.
+#[derive(Drop)]
+struct DepotServer<'r, R> {
+    rt: &'r R,
     alloc: Global,
-    cases: &[u8],
-    answers: &mut Answers,
-) -> Result<(), CaseFault> {
-    let mut world = World::new(alloc);
-    for line in Cases::new(cases) {
-        let followed = match line.step {
-            Ok(step) => world.follow(rt, step, answers),
-            Err(fault) => Err(fault),
-        };
-        if let Err(fault) = followed {
-            answers.add_fault(fault, line.number)?;
-            return Err(fault);
-        }
-    }
-    Ok(())
 }
 
-/// The answers that are expected of the cases of a file. Nothing where there is no file of them.
-fn expected_of<R: Files + AllocGlobal>(rt: &R, name: &str) -> io::Result<Option<Vec<u8>>> {
-    let stem = name.strip_suffix(".cases").unwrap_or(name);
-    let path = format!(in rt.alloc(); "{stem}.expected")?;
-    match fs::read(rt, path) {
-        Ok(expected) => Ok(Some(expected)),
-        Err(error) => {
-            if error.kind() == ErrorKind::NotFound {
-                Ok(None)
-            } else {
-                Err(error)
+/// What each of these parties got.
+fn sinks_of(
+    alloc: Global,
+    parties: Sequence<PartyEnd<MemorySink>>,
+) -> Result<Vec<MemorySink>, AllocError> {
+    let mut sinks = Vec::new(alloc);
+    for party in parties.into_vec() {
+        sinks.push(party.sink)?;
+    }
+    Ok(sinks)
+}
+
+impl<'r, R: Threads + Wait + Sync> Server for DepotServer<'r, R> {
+    fn run(&self, setting: Setting, disks: Disks, gate: &CaseGate) -> Result<Ran, AllocError> {
+        let Setting {
+            words,
+            mut doors,
+            mut out,
+        } = setting;
+        let Disks { journal, archive } = disks;
+        let clock = FixedClock::new(NOW);
+        let ended = p4_top(
+            self.rt, self.alloc, &words, &mut doors, journal, archive, &mut out, &clock, gate,
+        );
+        drop(doors);
+        let Ended {
+            status,
+            cause: _,
+            order,
+            parties,
+            sources,
+            journal,
+            archive,
+        } = ended;
+        drop(order);
+        drop(sources);
+        let disks = Disks { journal, archive };
+        match sinks_of(self.alloc, parties) {
+            Ok(sinks) => Ok(Ran {
+                status,
+                disks,
+                sinks,
+                out,
+            }),
+            Err(AllocError) => {
+                drop(disks);
+                drop(out);
+                Err(AllocError)
             }
         }
     }
 }
 
-/// Prints how the answers of the cases of a file compare with those that are expected, and returns whether they are the same.
-fn compare<R: Print>(rt: &R, name: &str, answered: &[u8], expected: &[u8]) -> io::Result<bool> {
-    match first_difference(answered, expected) {
-        None => {
-            println!(rt; "{name}: {} lines as expected", line_count(expected))?;
-            Ok(true)
-        }
-        Some(number) => {
-            println!(rt; "{name}: line {number} differs, expected and answered are")?;
-            io::writer(rt).write_all(line_at(expected, number))?;
-            io::writer(rt).write_all(b"\n")?;
-            io::writer(rt).write_all(line_at(answered, number))?;
-            io::writer(rt).write_all(b"\n")?;
-            Ok(false)
-        }
-    }
-}
-
-/// Answers the cases of a file, and returns whether no line has a fault and nothing differs from what is expected.
-fn answer_file<R: Files + AllocGlobal + Print + Threads + Wait + Sync>(
-    rt: &R,
-    name: &str,
-) -> io::Result<bool> {
-    let cases = fs::read(rt, name)?;
-    let mut answers = Answers::new(rt.alloc());
-    let followed = answer_cases(rt, rt.alloc(), &cases, &mut answers);
-    match expected_of(rt, name)? {
-        Some(expected) => compare(rt, name, answers.as_bytes(), &expected),
-        None => {
-            io::writer(rt).write_all(answers.as_bytes())?;
-            Ok(followed.is_ok())
-        }
-    }
-}
-
-/// Answers the cases of each file that the words of the command line name.
-fn answer_files<R: Env + Files + AllocGlobal + Print + Threads + Wait + Sync>(
-    rt: &R,
-) -> io::Result<ExitCode> {
-    let mut end = ExitCode::SUCCESS;
-    for name in env::args(rt)?.skip(1) {
-        if !answer_file(rt, &name)? {
-            end = ExitCode::FAILURE;
-        }
-    }
-    Ok(end)
-}
-
 fn main(rt: HostRuntime) -> io::Result<ExitCode> {
-    answer_files(&rt)
+    let server = DepotServer {
+        rt: &rt,
+        alloc: rt.alloc(),
+    };
+    answer_files(&rt, &server)
 }

@@ -1,7 +1,7 @@
 //! Disks of a case: changed by hand, and copied for runs in which calls fail.
 
 use crate::fault::{CaseFault, put};
-use crate::step::{Failure, Outside};
+use crate::step::{DiskName, Failure, Outside};
 use memory_world::MemoryDisk;
 use outside_api::{Disk, fill};
 use std::alloc::{AllocError, Global};
@@ -9,16 +9,74 @@ use std::alloc::{AllocError, Global};
 /// The number behind that of the last file that a disk may have: the journal of generation 4,095 and its checkpoint.
 const FILES: u32 = 8193;
 
+/// The disks of the server.
+#[derive(Drop)]
+pub struct Disks {
+    pub journal: MemoryDisk,
+    pub archive: MemoryDisk,
+}
+
 /// A disk that was copied, and how many calls that took.
 #[derive(Drop)]
-pub struct Copied {
-    pub disk: MemoryDisk,
-    pub calls: u64,
+struct Copied {
+    disk: MemoryDisk,
+    calls: u64,
 }
 
 /// A disk of empty files.
-pub fn empty_disk(alloc: Global) -> MemoryDisk {
+fn empty_disk(alloc: Global) -> MemoryDisk {
     MemoryDisk::new(Vec::new(alloc))
+}
+
+impl Disks {
+    /// Disks of empty files.
+    pub fn empty(alloc: Global) -> Self {
+        Disks {
+            journal: empty_disk(alloc),
+            archive: empty_disk(alloc),
+        }
+    }
+
+    /// The disk of a name.
+    pub fn named(&mut self, name: DiskName) -> &mut MemoryDisk {
+        match name {
+            DiskName::Journal => &mut self.journal,
+            DiskName::Archive => &mut self.archive,
+        }
+    }
+
+    /// Copies in which these calls behind their making fail, and the moment of the journal's disk at which they are made.
+    pub fn failing_copies(
+        &mut self,
+        alloc: Global,
+        failures: &[Failure],
+    ) -> Result<(Disks, u64), CaseFault> {
+        let archive = failing_copy(alloc, &mut self.archive, failures, Outside::Archive)?.disk;
+        match failing_copy(alloc, &mut self.journal, failures, Outside::Journal) {
+            Ok(
+                Copied {
+                    disk: journal,
+                    calls,
+                },
+            ) => Ok((Disks { journal, archive }, calls)),
+            Err(fault) => {
+                drop(archive);
+                Err(fault)
+            }
+        }
+    }
+
+    /// What a stop at a moment of the journal's disk leaves, with the archive's disk as it is now. The open bytes of each are those of a text and then 0.
+    pub fn stopped(&self, moment: u64, pick: &[u8]) -> Result<Disks, AllocError> {
+        let journal = self.journal.image(moment, pick)?;
+        match self.archive.image(u64::MAX, pick) {
+            Ok(archive) => Ok(Disks { journal, archive }),
+            Err(AllocError) => {
+                drop(journal);
+                Err(AllocError)
+            }
+        }
+    }
 }
 
 /// Changes a byte of a file.
@@ -50,25 +108,24 @@ pub fn put_file<D: Disk>(disk: &mut D, file: u32, bytes: &[u8]) -> Result<(), Ca
     disk.write_at(file, 0, bytes).or(Err(CaseFault::DiskFailed))
 }
 
-/// Adds the numbers of the calls of a failure, behind so many others.
-fn add_calls(calls: &mut Vec<u64>, failure: Failure, behind: u64) -> Result<(), AllocError> {
+/// Adds the numbers of the calls of a failure.
+fn add_calls(calls: &mut Vec<u64>, failure: Failure) -> Result<(), AllocError> {
     for call in failure.first..=failure.last {
-        calls.push(call.saturating_add(behind))?;
+        calls.push(call)?;
     }
     Ok(())
 }
 
-/// The numbers of the calls of an object that fail, behind so many others.
+/// The numbers of the calls of an object that fail.
 pub fn failing_calls(
     alloc: Global,
     failures: &[Failure],
     object: Outside,
-    behind: u64,
 ) -> Result<Vec<u64>, AllocError> {
     let mut calls = Vec::new(alloc);
     for failure in failures {
         if failure.object == object {
-            add_calls(&mut calls, *failure, behind)?;
+            add_calls(&mut calls, *failure)?;
         }
     }
     Ok(calls)
@@ -117,26 +174,24 @@ fn write_files(disk: &mut MemoryDisk, files: &[Vec<u8>]) -> Result<(), CaseFault
 }
 
 /// A copy of a disk in which calls behind its making fail, as one of these objects.
-pub fn failing_copy(
+fn failing_copy(
     alloc: Global,
     disk: &mut MemoryDisk,
     failures: &[Failure],
     object: Outside,
 ) -> Result<Copied, CaseFault> {
+    let fails = failing_calls(alloc, failures, object)?;
     let files = files_of(alloc, disk)?;
     let calls = (files.len() as u64).saturating_add(1);
-    let mut copy = MemoryDisk::new(failing_calls(alloc, failures, object, calls)?);
-    let written = write_files(&mut copy, &files);
-    match written {
-        Ok(()) => Ok(Copied { disk: copy, calls }),
+    let mut copy = empty_disk(alloc);
+    match write_files(&mut copy, &files) {
+        Ok(()) => Ok(Copied {
+            disk: copy.with_fails(fails),
+            calls,
+        }),
         Err(fault) => {
             drop(copy);
             Err(fault)
         }
     }
-}
-
-/// What a stop now leaves of a disk, whose open bytes are those of a text and then 0.
-pub fn stopped(disk: &MemoryDisk, pick: &[u8]) -> Result<MemoryDisk, AllocError> {
-    disk.image(u64::MAX, pick)
 }

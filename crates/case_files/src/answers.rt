@@ -2,10 +2,9 @@
 
 use crate::fault::CaseFault;
 use crate::gate::CaseGate;
-use crate::running::Ran;
+use crate::server::Ran;
 use depot_path::Text;
 use memory_world::MemorySink;
-use p4_server::PartyEnd;
 use std::alloc::{AllocError, Global};
 
 /// What is printed of the cases of a file.
@@ -45,9 +44,9 @@ fn lines_of<'a>(alloc: Global, out: &'a [u8], places: bool) -> Result<Vec<&'a [u
 }
 
 /// What the party at a place, counted from 0, got, if there is one.
-fn given_to(parties: &[PartyEnd<MemorySink>], place: usize) -> Option<&[u8]> {
-    match parties.get(place) {
-        Some(party) => Some(party.sink.given()),
+fn given_to(sinks: &[MemorySink], place: usize) -> Option<&[u8]> {
+    match sinks.get(place) {
+        Some(sink) => Some(sink.given()),
         None => None,
     }
 }
@@ -80,13 +79,9 @@ impl Answers {
     }
 
     /// Adds what each party got, in the order of their names, between which spaces stand.
-    fn add_parties(
-        &mut self,
-        names: &str,
-        parties: &[PartyEnd<MemorySink>],
-    ) -> Result<(), AllocError> {
+    fn add_parties(&mut self, names: &str, sinks: &[MemorySink]) -> Result<(), AllocError> {
         for (place, name) in names.split(' ').enumerate() {
-            let Some(given) = given_to(parties, place) else {
+            let Some(given) = given_to(sinks, place) else {
                 break;
             };
             self.add_line("[", name, "]")?;
@@ -128,8 +123,8 @@ impl Answers {
         } else {
             self.text.append(ran.out.given())?;
         }
-        self.add_line("status ", itoa::Buffer::new().format(ran.ended.status), "")?;
-        self.add_parties(names_of(words), ran.ended.parties.as_slice())?;
+        self.add_line("status ", itoa::Buffer::new().format(ran.status), "")?;
+        self.add_parties(names_of(words), &ran.sinks)?;
         self.add_gate(gate)
     }
 
@@ -185,11 +180,11 @@ impl Answers {
     pub fn add_end(&mut self, words: &str, ran: &Ran) -> Result<(), AllocError> {
         self.text.append(b"status ")?;
         self.text
-            .append(itoa::Buffer::new().format(ran.ended.status).as_bytes())?;
+            .append(itoa::Buffer::new().format(ran.status).as_bytes())?;
         self.text.append(b",")?;
         self.add_faults(ran.out.given())?;
         for (place, name) in names_of(words).split(' ').enumerate() {
-            let Some(given) = given_to(ran.ended.parties.as_slice(), place) else {
+            let Some(given) = given_to(&ran.sinks, place) else {
                 break;
             };
             self.add_word(name.as_bytes())?;

@@ -1,17 +1,11 @@
-//! A run of the server over disks in memory.
+//! A run of a server over disks in memory.
 
-use crate::disks::{empty_disk, failing_calls};
+use crate::disks::{Disks, failing_calls};
 use crate::gate::CaseGate;
 use crate::step::{Failure, Outside};
 use depot_path::Text;
-use memory_world::{Door, FixedClock, MemoryDisk, MemoryDoors, MemorySink, MemorySource};
-use p4_server::{Ended, p4_top};
+use memory_world::{Door, MemoryDoors, MemorySink, MemorySource};
 use std::alloc::{AllocError, Global};
-use std::sync::Wait;
-use std::thread::Threads;
-
-/// What the clock says.
-const NOW: u64 = 1_700_000_000;
 
 /// A script, and the name of the door that brings it.
 #[derive(Drop)]
@@ -36,28 +30,42 @@ impl<'a> Script<'a> {
     }
 }
 
-/// What a run is given beside its disks.
+/// What a run is given beside its disks and its gate.
 #[derive(Drop)]
 pub struct Setting<'a> {
-    alloc: Global,
-    words: Vec<&'a str>,
-    doors: MemoryDoors,
-    out: MemorySink,
+    /// The words of the command line.
+    pub words: Vec<&'a str>,
+    /// The doors of the scripts.
+    pub doors: MemoryDoors,
+    /// What the server gives out.
+    pub out: MemorySink,
 }
 
 /// What a run leaves.
 #[derive(Drop)]
 pub struct Ran {
-    pub ended: Ended<MemoryDisk, MemorySource, MemorySink>,
+    /// The status with which the program would end.
+    pub status: u8,
+    /// The disks.
+    pub disks: Disks,
+    /// What each party got, in the order of their names.
+    pub sinks: Vec<MemorySink>,
+    /// What the server gave out.
     pub out: MemorySink,
+}
+
+/// A server that cases run.
+pub trait Server {
+    /// Runs it in a setting over disks, with a gate. The only error is want of memory for what is told of the run.
+    fn run(&self, setting: Setting, disks: Disks, gate: &CaseGate) -> Result<Ran, AllocError>;
 }
 
 /// The door of a script.
 fn door(alloc: Global, script: &Script, failures: &[Failure]) -> Result<Door, AllocError> {
     let name = Text::from_bytes(alloc, script.name.as_bytes())?;
     let bytes = Text::from_bytes(alloc, script.text.as_bytes())?;
-    let reads = failing_calls(alloc, failures, Outside::Source(script.name), 0)?;
-    let writes = failing_calls(alloc, failures, Outside::Sink(script.name), 0)?;
+    let reads = failing_calls(alloc, failures, Outside::Source(script.name))?;
+    let writes = failing_calls(alloc, failures, Outside::Sink(script.name))?;
     let source = MemorySource::new(bytes, reads);
     Ok(Door::new(name, source, MemorySink::new(writes)))
 }
@@ -68,11 +76,11 @@ fn doors(
     scripts: &[Script],
     failures: &[Failure],
 ) -> Result<MemoryDoors, AllocError> {
+    let calls = failing_calls(alloc, failures, Outside::Doors)?;
     let mut doors = Vec::new(alloc);
     for script in scripts {
         doors.push(door(alloc, script, failures)?)?;
     }
-    let calls = failing_calls(alloc, failures, Outside::Doors, 0)?;
     Ok(MemoryDoors::new(doors, calls))
 }
 
@@ -95,53 +103,24 @@ impl<'a> Setting<'a> {
         scripts: &[Script],
         failures: &[Failure],
     ) -> Result<Self, AllocError> {
-        let out = MemorySink::new(failing_calls(alloc, failures, Outside::Out, 0)?);
         let words = words(alloc, text)?;
+        let fails = failing_calls(alloc, failures, Outside::Out)?;
         let doors = doors(alloc, scripts, failures)?;
         Ok(Setting {
-            alloc,
             words,
             doors,
-            out,
+            out: MemorySink::new(fails),
         })
-    }
-
-    /// Runs the server over these disks.
-    pub fn run<R: Threads + Wait + Sync>(
-        self,
-        rt: &R,
-        journal: MemoryDisk,
-        archive: MemoryDisk,
-        gate: &CaseGate,
-    ) -> Ran {
-        let Setting {
-            alloc,
-            words,
-            mut doors,
-            mut out,
-        } = self;
-        let clock = FixedClock::new(NOW);
-        let ended = p4_top(
-            rt, alloc, &words, &mut doors, journal, archive, &mut out, &clock, gate,
-        );
-        Ran { ended, out }
     }
 }
 
 /// Opens disks and prints the rows of their depot.
-pub fn dump<R: Threads + Wait + Sync>(
-    rt: &R,
-    alloc: Global,
-    journal: MemoryDisk,
-    archive: MemoryDisk,
-) -> Ran {
-    let mut words = Vec::new(alloc);
-    let _ = words.push("dump");
-    let setting = Setting {
-        alloc,
-        words,
-        doors: MemoryDoors::new(Vec::new(alloc), Vec::new(alloc)),
-        out: MemorySink::new(Vec::new(alloc)),
-    };
-    setting.run(rt, journal, archive, &CaseGate::open())
+pub fn dump<S: Server>(server: &S, alloc: Global, disks: Disks) -> Result<Ran, AllocError> {
+    match Setting::new(alloc, "dump", &[], &[]) {
+        Ok(setting) => server.run(setting, disks, &CaseGate::open()),
+        Err(AllocError) => {
+            drop(disks);
+            Err(AllocError)
+        }
+    }
 }

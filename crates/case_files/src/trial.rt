@@ -1,16 +1,11 @@
 //! Runs over copies of the disks of a case, and what stops leave of them.
 
 use crate::answers::Answers;
-use crate::disks::stopped;
 use crate::fault::CaseFault;
-use crate::running::{Ran, dump};
+use crate::server::{Ran, Server, dump};
 use depot_path::Text;
-use memory_world::{MemoryDisk, MemorySink, MemorySource};
 use outside_api::Disk;
-use p4_server::Ended;
 use std::alloc::{AllocError, Global};
-use std::sync::Wait;
-use std::thread::Threads;
 
 /// The greatest number of a call of a trial that may fail. No run of a case makes as many calls of an object.
 pub const MOST_CALLS: u64 = 4_000;
@@ -30,7 +25,7 @@ pub struct Trial {
 }
 
 /// How many lengths a disk gives before a call fails.
-fn calls_left(disk: &mut MemoryDisk) -> u64 {
+fn calls_left<D: Disk>(disk: &mut D) -> u64 {
     for asked in 0..MOST_CALLS {
         if disk.length(0).is_err() {
             return asked;
@@ -55,7 +50,7 @@ fn told_alone(alloc: Global, out: &[u8]) -> Result<Text, AllocError> {
 /// To which of the depots that are kept disks open: its number, from 0, or `?` where it is none of them. Of disks that don't open it is the line that says so.
 fn told(alloc: Global, kept: &[Text], dumped: &Ran) -> Result<Text, AllocError> {
     let rows = dumped.out.given();
-    if dumped.ended.status != 0 {
+    if dumped.status != 0 {
         return told_alone(alloc, rows);
     }
     match kept.iter().position(|depot| depot.as_bytes() == rows) {
@@ -71,63 +66,56 @@ fn picked(alloc: Global, byte: u8) -> Result<Vec<u8>, AllocError> {
     Ok(vec![in alloc; byte; PICKED]?)
 }
 
-/// The rows of the disks that a run leaves after a stop at a moment of the journal's disk.
-fn dump_stopped<R: Threads + Wait + Sync>(
-    rt: &R,
-    alloc: Global,
-    ended: &Ended<MemoryDisk, MemorySource, MemorySink>,
-    moment: u64,
-    pick: &[u8],
-) -> Result<Ran, AllocError> {
-    let journal = ended.journal.image(moment, pick)?;
-    match stopped(&ended.archive, pick) {
-        Ok(archive) => Ok(dump(rt, alloc, journal, archive)),
-        Err(AllocError) => {
-            drop(journal);
-            Err(AllocError)
-        }
-    }
-}
-
 impl Trial {
     /// The moment of the journal's disk at which the run ended, where the call of the number `MOST_CALLS` was to fail.
     pub fn end(&mut self) -> u64 {
-        let left = calls_left(&mut self.ran.ended.journal);
+        let left = calls_left(&mut self.ran.disks.journal);
         let calls = (MOST_CALLS - 1).saturating_sub(left);
         self.begin.saturating_add(calls)
     }
 
-    /// To what the disks open after a stop at a moment of the journal's disk, with open bytes of this one, and the archive's disk as it is at the end.
-    fn opened<R: Threads + Wait + Sync>(
+    /// What opening the disks that a stop at a moment of the journal's disk leaves gives out, the rows of their depot if there is one.
+    fn dumped<S: Server>(
         &self,
-        rt: &R,
+        server: &S,
+        alloc: Global,
+        moment: u64,
+        pick: &[u8],
+    ) -> Result<Ran, AllocError> {
+        dump(server, alloc, self.ran.disks.stopped(moment, pick)?)
+    }
+
+    /// To what the disks open after a stop at a moment of the journal's disk, with open bytes of this one, and the archive's disk as it is at the end.
+    fn opened<S: Server>(
+        &self,
+        server: &S,
         alloc: Global,
         kept: &[Text],
         moment: u64,
         byte: u8,
     ) -> Result<Text, AllocError> {
         let pick = picked(alloc, byte)?;
-        let dumped = dump_stopped(rt, alloc, &self.ran.ended, moment, &pick)?;
+        let dumped = self.dumped(server, alloc, moment, &pick)?;
         let opened = told(alloc, kept, &dumped);
         drop(dumped);
         opened
     }
 
     /// The rows of the depot that the run leaves, where it ended with status 0.
-    pub fn rows<R: Threads + Wait + Sync>(&self, rt: &R, alloc: Global) -> Result<Text, CaseFault> {
-        if self.ran.ended.status != 0 {
+    pub fn rows<S: Server>(&self, server: &S, alloc: Global) -> Result<Text, CaseFault> {
+        if self.ran.status != 0 {
             return Err(CaseFault::NotDone);
         }
-        let dumped = dump_stopped(rt, alloc, &self.ran.ended, u64::MAX, &[])?;
+        let dumped = self.dumped(server, alloc, u64::MAX, &[])?;
         let rows = Text::from_bytes(alloc, dumped.out.given());
         drop(dumped);
         rows.map_err(CaseFault::from)
     }
 
     /// To what the disks open after a stop at each moment of the run, in turn, each once where neighbours are alike.
-    fn stopped<R: Threads + Wait + Sync>(
+    fn stopped<S: Server>(
         &self,
-        rt: &R,
+        server: &S,
         alloc: Global,
         kept: &[Text],
         end: u64,
@@ -137,7 +125,7 @@ impl Trial {
         line.add_pick(byte)?;
         let mut last = Text::new(alloc);
         for moment in self.begin..=end {
-            let opened = self.opened(rt, alloc, kept, moment, byte)?;
+            let opened = self.opened(server, alloc, kept, moment, byte)?;
             if opened.as_bytes() != last.as_bytes() {
                 line.add_word(opened.as_bytes())?;
             }
@@ -148,25 +136,25 @@ impl Trial {
     }
 
     /// Adds what stops at the moments of the run leave, for each of the bytes that the open ones may be.
-    pub fn tell_stops<R: Threads + Wait + Sync>(
+    pub fn tell_stops<S: Server>(
         &self,
-        rt: &R,
+        server: &S,
         alloc: Global,
         kept: &[Text],
         end: u64,
         answers: &mut Answers,
     ) -> Result<(), AllocError> {
         for byte in PICKS {
-            let stopped = self.stopped(rt, alloc, kept, end, *byte)?;
+            let stopped = self.stopped(server, alloc, kept, end, *byte)?;
             answers.add_bytes(stopped.as_bytes())?;
         }
         Ok(())
     }
 
     /// How the run ended, which commands were refused, and to what a stop at its end leaves the disks.
-    pub fn outcome<R: Threads + Wait + Sync>(
+    pub fn outcome<S: Server>(
         &self,
-        rt: &R,
+        server: &S,
         alloc: Global,
         words: &str,
         kept: &[Text],
@@ -175,7 +163,7 @@ impl Trial {
         line.add_end(words, &self.ran)?;
         line.add_word(b"opens to")?;
         for byte in PICKS {
-            let opened = self.opened(rt, alloc, kept, u64::MAX, *byte)?;
+            let opened = self.opened(server, alloc, kept, u64::MAX, *byte)?;
             line.add_word(opened.as_bytes())?;
         }
         line.end_line()?;
