@@ -64,8 +64,10 @@ module _ {D S K : Type 0} (seen may_leave : D → Files → Type 0) (moment : D 
   inits_of made told is stand unmade there untouched others causes images any_moment reads = record {
     told = told;
     ends = ends_of made is stand unmade there untouched others causes;
-    journal_images = rw journal_is images;
-    any_moment = rw journal_is any_moment;
-    archive_looks = rw archive_is looks;
-    archive_reads = elim reads [ inl same ↦ inl (rw archive_is same) | inr failed ↦ inr (is ∙ ap cause_by failed.0, rw archive_is failed.1) ];
+    disks = record {
+      journal_images = rw journal_is images;
+      any_moment = rw journal_is any_moment;
+      archive_looks = rw archive_is looks;
+      archive_reads = elim reads [ inl same ↦ inl (rw archive_is same) | inr failed ↦ inr (is ∙ ap cause_by failed.0, rw archive_is failed.1) ];
+    };
   }

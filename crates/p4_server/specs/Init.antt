@@ -20,6 +20,15 @@ cause_by (Ok done) = causes.Done
 cause_by (Err Made) = causes.Made
 cause_by (Err DiskFault) = causes.Fault
 
+module _ {D : Type 0} (seen may_leave : D → Files → Type 0) (moment : D → ℕ) (left_since : D → ℕ → Files → Type 0) (disk_faults : D → ℕ) (old_journal journal old_archive archive : D) where
+  -- At every moment the other files of the journal's disk are as they were, and so is the root until the rest is that of an empty depot. Of the archive's disk
+  -- each image, at every moment, is one that it had, and it reads as before unless its sync failed.
+  pub record HasOnlyMade (failed : Type 0) : Type 0 where
+    pub journal_images : Follows IsMaking (may_leave old_journal) (may_leave journal)
+    pub any_moment : LeavesOnly moment left_since old_journal journal (After IsMaking (may_leave old_journal))
+    pub archive_looks : LooksOnly may_leave moment left_since old_archive archive
+    pub archive_reads : Same (seen old_archive) (seen archive) ⊎ (failed × HasRisen (disk_faults old_archive) (disk_faults archive))
+
 module _ {D S K : Type 0} (seen may_leave : D → Files → Type 0) (moment : D → ℕ) (left_since : D → ℕ → Files → Type 0) (disk_faults : D → ℕ) (given : K → Option (List ℕ)) (sink_faults : K → ℕ) (journal archive : D) (old_out new_out : K) (ended : Ended D S K) where
   -- The root was empty, and whatever a crash leaves stands for the empty depot, with the other files of the journal's disk as they were read.
   pub record IsInited : Type 0 where
@@ -39,12 +48,8 @@ module _ {D S K : Type 0} (seen may_leave : D → Files → Type 0) (moment : D 
     pub cause_is : ended.cause ≡ causes.Fault
     pub risen : DiskRose disk_faults journal ended.journal archive ended.archive
 
-  -- However it ends, at every moment the other files of the journal's disk are as they were, and so is the root until the rest is that of an empty
-  -- depot. Of the archive's disk each image, at every moment, is one that it had, and it reads as before unless its sync failed.
+  -- However it ends, the disks are as making leaves them.
   pub record Inits : Type 0 where
     pub told : IsToldAlone given sink_faults old_out new_out ended
     pub ends : IsInited ⊎ (IsThere ⊎ IsFailed)
-    pub journal_images : Follows IsMaking (may_leave journal) (may_leave ended.journal)
-    pub any_moment : LeavesOnly moment left_since journal ended.journal (After IsMaking (may_leave journal))
-    pub archive_looks : LooksOnly may_leave moment left_since archive ended.archive
-    pub archive_reads : Same (seen archive) (seen ended.archive) ⊎ ((ended.cause ≡ causes.Fault) × HasRisen (disk_faults archive) (disk_faults ended.archive))
+    pub disks : HasOnlyMade seen may_leave moment left_since disk_faults journal ended.journal archive ended.archive (ended.cause ≡ causes.Fault)

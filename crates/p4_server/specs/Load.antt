@@ -26,6 +26,7 @@ use Rattle.p4_server.specs.declared.ended.Cause.{Cause}
 use Rattle.p4_server.specs.declared.ended.Cause.TheVariants as causes
 use Rattle.p4_server.specs.Ends.{has_fault_place}
 use Rattle.p4_server.specs.Files.{IsStart, EachPair, HasOpened, PairIsKept, DiskRose, BothOnlyRead}
+use Rattle.p4_server.specs.Init.{HasOnlyMade}
 use Rattle.p4_server.specs.Lines.{cause_line}
 use Rattle.p4_server.specs.Opening.{IsUnopened}
 use Rattle.p4_server.specs.Telling.{IsToldAlone, OutGot}
@@ -132,11 +133,12 @@ module _ {D : Type 0} (seen may_leave : D → Files → Type 0) (moment : D → 
     pub empty : EachPair may_leave journal archive (StandFor [])
 
 module _ {D S K : Type 0} (seen may_leave : D → Files → Type 0) (moment : D → ℕ) (left_since : D → ℕ → Files → Type 0) (disk_faults : D → ℕ) (given : K → Option (List ℕ)) (sink_faults : K → ℕ) (may_give : ℕ → Type 0) (journal archive : D) (old_out new_out : K) (seed count : ℕ) (ended : Ended D S K) where
-  -- A disk failed before the files were there: nothing was run.
+  -- A disk failed before the files were there: nothing was run, and the disks are as making leaves them.
   pub record IsUnbegun : Type 0 where
     pub told : IsToldAlone given sink_faults old_out new_out ended
     pub cause_is : ended.cause ≡ causes.Fault
     pub risen : DiskRose disk_faults journal ended.journal archive ended.archive
+    pub disks : HasOnlyMade seen may_leave moment left_since disk_faults journal ended.journal archive ended.archive (ended.cause ≡ causes.Fault)
 
   -- The files were there or were made, and the script was run over them.
   pub record IsBegun : Type 0 where

@@ -32,4 +32,14 @@ returns-in-Err-DiskFault-clause-loads g c =
     let failed = c.in-Err-DiskFault.ensures in
     let fault : c.in-Err-DiskFault.field-0 ≡ DiskFault = c.in-Err-DiskFault.field-0-is in
     let end = c.end_alone.ensures in
-    loads_unbegun _ _ _ _ _ _ _ _ _ _ _ _ c.args.seed c.args.count _ (record { told = end.told; cause_is = end.cause; risen = rw (end.journal, end.archive) (failed.cause.risen (λ i. Err (fault i))) })
+    loads_unbegun _ _ _ _ _ _ _ _ _ _ _ _ c.args.seed c.args.count _ (record {
+      told = end.told;
+      cause_is = end.cause;
+      risen = rw (end.journal, end.archive) (failed.cause.risen (λ i. Err (fault i)));
+      disks = record {
+        journal_images = rw end.journal failed.images;
+        any_moment = rw end.journal failed.any_moment;
+        archive_looks = rw end.archive failed.archive_looks;
+        archive_reads = elim failed.archive_reads [ inl same ↦ inl (rw end.archive same) | inr sync ↦ inr (end.cause, rw end.archive sync.1) ];
+      };
+    })
