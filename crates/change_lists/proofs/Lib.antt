@@ -2,7 +2,6 @@ pub mod Deleted
 pub mod Described
 pub mod Falling
 pub mod ListedRows
-pub mod MadeOnce
 pub mod Moved
 pub mod Newest
 pub mod RowsTell

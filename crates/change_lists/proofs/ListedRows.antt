@@ -38,7 +38,7 @@ use Rattle.opening_reads.proofs.Onwards.{all_but_first}
 use Rattle.change_lists.specs.Listed.{asked_at, asked_of, changes_listed, is_asked, is_pending, is_pending_record, less_by, listed_at, lists_one, made_in_file, row_told, rows_asked}
 use Rattle.change_lists.specs.Numbers.{Falls, is_among}
 use Rattle.change_lists.proofs.Falling.{alike_among, down, given_among, given_numbers}
-use Rattle.change_lists.proofs.RowsTell.{made_at}
+use Rattle.named_files.proofs.RowsMade.{made_at}
 
 map_take : {A B : Type 0} (f : A → B) (n : ℕ) (xs : List A) → map f (take n xs) ≡ take n (map f xs)
 map_take f zero xs = refl

@@ -5,6 +5,9 @@ pub mod Joining
 pub mod Fronts
 pub mod RowsListed
 pub mod Told
+pub mod MadeOnce
+pub mod RowsMade
+pub mod ChosenMade
 pub mod Sifting
 pub mod Naming
 pub mod Selection

@@ -14,7 +14,7 @@ ghost use Rattle.named_files.specs.Listed.{listing_table, path_in_text};
 use crate::asker::Asker;
 use crate::beginning::beginnings_of;
 use crate::front::rows_in;
-use crate::listing::{Listing, read_path};
+use crate::listing::{Listing, add_path};
 use depot_rows::model::{Caller, FileArgument};
 use depot_rows::paths::{DepotPath, Name, Sequence, Text};
 use depot_rows::records::{Record, TableId};
@@ -38,16 +38,6 @@ fn is_last(last: Option<&Text>, text: &Text) -> bool
         Some(last) => last.as_bytes() == text.as_bytes(),
         None => false,
     }
-}
-
-/// Adds the path that a text spells, where it is that path as printed.
-fn add_path(alloc: Global, paths: &mut Sequence<DepotPath>, text: &Text) -> Result<(), AllocError>
-    ensures { OnOk result (paths.new ≡ paths.old ++ path_in_text text.now) }
-{
-    if let Some(path) = read_path(alloc, text)? {
-        paths.push(path)?;
-    }
-    Ok(())
 }
 
 /// Adds the path of a row, unless it is that of the row before, and gives its text.

@@ -7,9 +7,11 @@ use crate::asker::Asker;
 use crate::choosing::candidates;
 use crate::listed_files::missing_of;
 use crate::listing::Listing;
+use crate::looked_up::has_wildcard;
+use crate::made_files::files_made;
 use crate::shown_files::is_shown;
 use depot_rows::model::{Caller, FileArgument};
-use depot_rows::paths::{DepotPath, Sequence};
+use depot_rows::paths::{DepotPath, RevSpec, Sequence, Wanted};
 use depot_rows::records::RevRecord;
 use depot_rows::tables::Tables;
 use file_steps::FileSet;
@@ -55,6 +57,14 @@ impl<'a> FileSet for ChosenFiles<'a> {
         argument: &FileArgument,
     ) -> Result<Sequence<DepotPath>, AllocError> {
         let pattern = &argument.spec.pattern;
+        if let Listing::Submitted = self.listing
+            && let Wanted::One(end) = &argument.spec.wanted
+            && let RevSpec::Only(change) = end
+            && has_wildcard(pattern)
+        {
+            let made = files_made(alloc, tables, *change)?;
+            return Ok(made);
+        }
         let found = candidates(alloc, tables, self.asker, self.listing, pattern)?;
         Ok(found)
     }

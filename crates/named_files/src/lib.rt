@@ -18,6 +18,7 @@ mod head_rows;
 mod listed_files;
 mod listing;
 mod looked_up;
+mod made_files;
 mod selected_files;
 mod shown_files;
 mod spelling;

@@ -144,7 +144,7 @@ fn first(rev: u32, path: &Text) -> Option<&Text>
 }
 
 /// The path that a text spells, where it is that path as printed.
-pub(crate) fn read_path(alloc: Global, text: &Text) -> Result<Option<DepotPath>, AllocError>
+fn read_path(alloc: Global, text: &Text) -> Result<Option<DepotPath>, AllocError>
     ensures { IfOk result (λ path. option_to_list path ≡ path_in_text text.now) }
 {
     match DepotPath::read(alloc, text.as_bytes()) {
@@ -158,4 +158,18 @@ pub(crate) fn read_path(alloc: Global, text: &Text) -> Result<Option<DepotPath>,
         Err(PathFault::Memory) => Err(AllocError),
         Err(_) => Ok(None),
     }
+}
+
+/// Adds the path that a text spells, where it is that path as printed.
+pub(crate) fn add_path(
+    alloc: Global,
+    paths: &mut Sequence<DepotPath>,
+    text: &Text,
+) -> Result<(), AllocError>
+    ensures { OnOk result (paths.new ≡ paths.old ++ path_in_text text.now) }
+{
+    if let Some(path) = read_path(alloc, text)? {
+        paths.push(path)?;
+    }
+    Ok(())
 }
