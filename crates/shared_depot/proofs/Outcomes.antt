@@ -52,13 +52,6 @@ agree_of all rows request set = go request.command set
     go (Ok command) has = has
     go (Err fault) has = tt
 
-agree_alike : (rows : AllRows) (request : Request) → AgreeOnNeeded rows rows request
-agree_alike rows request = go request.command
-  where
-    go : (asked : Result Command WordFault) → AgreeOnNeededBy rows rows asked
-    go (Ok command) = λ table there. refl
-    go (Err fault) = tt
-
 module _ {N : Type 0} (rows : AllRows) (end : ℕ) (begins : ℕ → List Deed → Type 0) (order : List Taken) (g : Gathered N) (whole : Bool) (needs : List Need) (request : Request) (outcome : Outcome)
     (gathered : IsGatheredFor rows whole needs g) (set : map need_of needs ≡ needs_of request) (proper : (since : ℕ) (start : List Deed) → begins since start → IsProper request)
     (found : (d : List Deed) → IsSound d → IsFormedBy request → HasNeeded (rows_of g.tables) d request → IsOutcome (rows_of g.tables) g.tables.archive_end d request outcome)
@@ -81,19 +74,6 @@ module _ {N : Type 0} (rows : AllRows) (end : ℕ) (begins : ℕ → List Deed �
 
   stands_after : StandsAfter rows end begins order request outcome
   stands_after = λ since start at d stand. at_end d still.end_is (over_all d stand (formed_of request (proper since start at)))
-
--- an outcome that stores nothing, and was found over tables after the order, is the request's over these
-pub stands_after_all : (rows : AllRows) (end : ℕ) (begins : ℕ → List Deed → Type 0) (order : List Taken) (tables : Tables) → rows_of tables ≡ rows_after rows order → (request : Request) (outcome : Outcome)
-    → ((since : ℕ) (start : List Deed) → begins since start → IsProper request)
-    → ((d : List Deed) → IsSound d → IsFormedBy request → HasNeeded (rows_of tables) d request → IsOutcome (rows_of tables) tables.archive_end d request outcome)
-    → outcome.stores ≡ [] → StandsAfter rows end begins order request outcome
-stands_after_all rows end begins order tables same request outcome proper found none = λ since start at d stand.
-    let all : AllRows = rows_after rows order in
-    let formed = formed_of request (proper since start at) in
-    let here : Stand (rows_of tables) d = subst (λ (r : AllRows). Stand r d) (sym same) stand in
-    outcome_anywhere all tables.archive_end (end_after end order) d request outcome
-    (subst (λ (r : AllRows). IsOutcome r tables.archive_end d request outcome) same
-    (found d stand.sound formed (have_needed (rows_of tables) (rows_of tables) d request here (agree_alike (rows_of tables) request)))) none
 
 -- ---- the reply
 

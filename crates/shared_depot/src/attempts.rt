@@ -22,10 +22,11 @@ ghost use Rattle.table_locks.specs.declared.gathered.Gathered.{Gathered as AnyGa
 ghost use Rattle.shared_depot.specs.Ready.{IsFoundOver, IsGatheredFor, IsQuietFor, IsReadyFor, IsTakenFor, IsUnwritten, IsWritingFor};
 ghost use Rattle.shared_depot.specs.Room.{IsAtOrder, IsEndKnown, IsFailed, IsRoomFor, IsStillSo, IsToldAfter, StandsAfter};
 ghost use Rattle.shared_depot.specs.Stored.{stores_of};
+ghost use Rattle.shared_depot.specs.declared.ready.Attempt.TheVariants as attempts;
 
 use crate::common::CommonDepot;
 use crate::copying::copy_changes;
-use crate::ready::{Quiet, Ready, Writing};
+use crate::ready::{Attempt, Quiet, Ready, Writing};
 use crate::room::Room;
 use crate::serving::Serving;
 use crate::shared::SharedDepot;
@@ -41,6 +42,10 @@ use serial_depot::{Imaging, Told, tell};
 use std::alloc::{AllocError, Global};
 use std::sync::{MutexGuard, Wait};
 use table_locks::{Confirmed, Gathered, gather};
+
+/// How often a command that only reads looks at its tables again, where it was overtaken, before it holds
+/// its set.
+const LOOKS_AGAIN: u32 = 3;
 
 /// Whether a command with these needs may store contents: it then writes the table of revisions.
 fn may_store(needs: &[Need]) -> bool
@@ -130,15 +135,6 @@ impl<D: Disk, N: Naming + Imaging + Serving> CommonDepot<D, N> {
         ensures gathered { OnOk result (IsGatheredFor N.rows whole needs.now gathered.new) }
     {
         gathered.look(words, &mut self.order, &self.tables, needs, whole)
-    }
-
-    /// What the command of a request does over the tables after the whole order. The one error is want of
-    /// memory.
-    fn outcome(&self, alloc: Global, request: &Request) -> Result<Outcome, AllocError>
-        requires { (since : ℕ) (start : List Deed) → N.begins since start → IsProper request.now }
-        ensures { IfOk result (λ outcome. outcome.stores ≡ [] → StandsAfter N.rows N.end N.begins self.now request.now outcome) }
-    {
-        evaluate(alloc, &self.tables, request)
     }
 
     /// Where the lock of the archive is held, the archive's lane learns the whole order.
@@ -243,14 +239,6 @@ fn only_reads(needs: &[Need]) -> bool
     ensures { result ≡ list_all (λ (need : AnyNeed). not need.writes) needs.now }
 {
     needs.iter().all(|need| !need.writes)
-}
-
-/// Whether a command is done once its reply is printed: it changes and stores nothing, and its reply
-/// waits for no content.
-fn is_told_alone(outcome: &Outcome) -> bool
-    ensures { IsTrue result → (outcome.now.changes ≡ []) × ((outcome.now.stores ≡ []) × (outcome.now.reads ≡ [])) }
-{
-    outcome.changes.is_empty() && outcome.stores.is_empty() && outcome.reads.is_empty()
 }
 
 /// What the command of a request does over gathered tables. The one error is want of memory.
@@ -491,28 +479,29 @@ impl<D: Disk, N: Naming + Marking + Imaging + Serving> SharedDepot<D, N> {
         }
     }
 
-    /// One attempt to make a command ready; in a second one the whole set is held, and the gate isn't
-    /// passed again. The gate is passed before contents are read, so that a command that only reads the
-    /// archive doesn't hold its lock there. Answers nothing where a table was changed since it was looked
-    /// at, to which a second attempt doesn't come.
+    /// One attempt to make a command ready: with the tables that it only reads looked at, or with its whole
+    /// set held. The gate is passed before contents are read, so that a command that only reads the archive
+    /// doesn't hold its lock there. Answers nothing where a table was changed since it was looked at, to
+    /// which an attempt with the whole set doesn't come.
     fn attempt<'a, R: Wait, G: Gate>(
         &'a self,
         rt: &R,
         alloc: Global,
         gate: &G,
         needs: &[Need],
-        whole: bool,
+        attempt: Attempt,
         request: &Request,
     ) -> Result<Option<Ready<'a, D, N>>, AllocError>
         requires needs { map need_of needs.now ≡ needs_of request.now }
         requires proper { (since : ℕ) (start : List Deed) → N.begins since start → IsProper request.now }
         ensures ready { IfOk result (λ found. IfSome found (IsReadyFor N.rows N.end N.images N.begins request.now)) }
-        ensures always { IfOk result (λ found. IsTrue whole → IsSome found) }
+        ensures always { IfOk result (λ found. attempt ≡ attempts.Whole → IsSome found) }
     {
+        let whole = attempt.holds_set();
         let (gathered, archive) = self.reach(rt, alloc, needs, whole)?;
         let stores = archive.is_some();
         let outcome = outcome_over(alloc, &gathered, request)?;
-        if !whole {
+        if matches!(attempt, Attempt::First) {
             gate.pass(request.party, request.number);
         }
         let archive = self.archive_for(rt, archive, &outcome);
@@ -524,58 +513,8 @@ impl<D: Disk, N: Naming + Marking + Imaging + Serving> SharedDepot<D, N> {
         self.ready_for(rt, alloc, needs, whole, gathered, archive, request, told)
     }
 
-    /// Evaluates a command that only reads under the lock of the order, where nothing overtakes it. No
-    /// table's lock is taken, so that it waits for no disk. Answers nothing where its reply waits for
-    /// contents. The error is that of `tell`.
-    fn read_under_order<'a, R: Wait>(
-        &'a self,
-        rt: &R,
-        alloc: Global,
-        request: &Request,
-    ) -> Result<Option<Quiet<'a, D, N>>, AllocError>
-        requires { (since : ℕ) (start : List Deed) → N.begins since start → IsProper request.now }
-        ensures { IfOk result (λ found. IfSome found (IsQuietFor N.rows N.end N.images N.begins request.now)) }
-    {
-        let common = self.common.lock(rt);
-        let outcome = common.outcome(alloc, request)?;
-        if !is_told_alone(&outcome) {
-            drop(outcome);
-            return Ok(None);
-        }
-        let told = tell(alloc, outcome, request.number)?;
-        Ok(Some(Quiet {
-            common,
-            archive: None,
-            told,
-        }))
-    }
-
-    /// A second attempt to make a command ready, which nothing overtakes: a command that only reads is
-    /// evaluated under the lock of the order. Where it isn't done with that, and where a command writes,
-    /// the whole set is held.
-    fn attempt_again<'a, R: Wait, G: Gate>(
-        &'a self,
-        rt: &R,
-        alloc: Global,
-        gate: &G,
-        needs: &[Need],
-        request: &Request,
-    ) -> Result<Ready<'a, D, N>, AllocError>
-        requires needs { map need_of needs.now ≡ needs_of request.now }
-        requires proper { (since : ℕ) (start : List Deed) → N.begins since start → IsProper request.now }
-        ensures { IfOk result (IsReadyFor N.rows N.end N.images N.begins request.now) }
-    {
-        if only_reads(needs) {
-            if let Some(quiet) = self.read_under_order(rt, alloc, request)? {
-                return Ok(Ready::Quiet(quiet));
-            }
-        }
-        let whole = self.attempt(rt, alloc, gate, needs, true, request)?;
-        Ok(whole.unwrap())
-    }
-
-    /// Makes the command of a request ready for its place, in a second attempt where the first one was
-    /// overtaken.
+    /// Makes the command of a request ready for its place. One that only reads and was overtaken looks at its
+    /// tables again a few times; else, and in the end, the whole set is held.
     pub(crate) fn ready<'a, R: Wait, G: Gate>(
         &'a self,
         rt: &R,
@@ -587,9 +526,20 @@ impl<D: Disk, N: Naming + Marking + Imaging + Serving> SharedDepot<D, N> {
         ensures { IfOk result (IsReadyFor N.rows N.end N.images N.begins request.now) }
     {
         let needs = request_needs(alloc, request)?;
-        match self.attempt(rt, alloc, gate, needs.as_slice(), false, request)? {
-            Some(ready) => Ok(ready),
-            None => self.attempt_again(rt, alloc, gate, needs.as_slice(), request),
+        let needs = needs.as_slice();
+        let first = self.attempt(rt, alloc, gate, needs, Attempt::First, request)?;
+        if let Some(ready) = first {
+            return Ok(ready);
         }
+        if only_reads(needs) {
+            for _ in 0..LOOKS_AGAIN {
+                let again = self.attempt(rt, alloc, gate, needs, Attempt::Again, request)?;
+                if let Some(ready) = again {
+                    return Ok(ready);
+                }
+            }
+        }
+        let whole = self.attempt(rt, alloc, gate, needs, Attempt::Whole, request)?;
+        Ok(whole.unwrap())
     }
 }

@@ -16,9 +16,9 @@
 //!   doubt is settled, what the command stores is stored, and what it changes is committed. It takes the
 //!   lock of the order once more, and the command has the next place. Between the two only commands have
 //!   their places that write nothing, which is what the journal's lane says.
-//! - Where a table that it only looked at was changed since, it gives all locks back and makes a second
-//!   attempt, which nothing overtakes: a command that only reads finds what it does under the lock of the
-//!   order. Another one, and one whose reply waits for contents, holds its whole set.
+//! - Where a table that it only looked at was changed since, it gives all locks back. A command that only
+//!   reads then looks again, without the gate, three times at most. Else, and after these, the command holds
+//!   its whole set in a last attempt, which nothing overtakes.
 //!
 //! A replica's `pull` fetches of the journal under its lock, so that it follows the journal between two
 //! commits, and its `print` reads the archive under that of the archive; its other commands are answered

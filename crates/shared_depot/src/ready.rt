@@ -1,4 +1,7 @@
 //! A command whose place is at hand.
+ghost use Rattle.std.specs.Prelude.{◌≡◌, IsTrue};
+ghost use Rattle.shared_depot.specs.declared.ready.Attempt.TheVariants as attempts;
+
 use crate::common::CommonDepot;
 use crate::room::Room;
 use crate::serving::Serving;
@@ -25,6 +28,30 @@ pub(crate) struct Writing<'a, D: Disk, N: Naming + Marking + Imaging + Serving> 
     pub(crate) journal: MutexGuard<'a, WrittenJournal<D, N>>,
     pub(crate) room: Room<'a, D, N>,
     pub(crate) told: Told,
+}
+
+/// An attempt to make a command ready.
+#[derive(Clone, Copy)]
+pub(crate) enum Attempt {
+    /// The first one, which passes the gate.
+    First,
+    /// One more of a command that only reads, where a table was changed since it was looked at.
+    Again,
+    /// That with the whole set held.
+    Whole,
+}
+
+impl Attempt {
+    /// Whether the whole set is held.
+    pub(crate) fn holds_set(self) -> bool
+        ensures { self ≡ attempts.Whole → IsTrue result }
+    {
+        match self {
+            Attempt::First => false,
+            Attempt::Again => false,
+            Attempt::Whole => true,
+        }
+    }
 }
 
 /// A command that can be given its place: at once, or once it is committed.
