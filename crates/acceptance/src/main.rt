@@ -18,10 +18,9 @@ use std::thread::Threads;
 /// What the clock says.
 const NOW: u64 = 1_700_000_000;
 
-/// The depot server, which runs its parties by this runtime.
+/// The depot server.
 #[derive(Drop)]
-struct DepotServer<'r, R> {
-    rt: &'r R,
+struct DepotServer {
     alloc: Global,
 }
 
@@ -37,8 +36,14 @@ fn sinks_of(
     Ok(sinks)
 }
 
-impl<'r, R: Threads + Wait + Sync> Server for DepotServer<'r, R> {
-    fn run(&self, setting: Setting, disks: Disks, gate: &CaseGate) -> Result<Ran, AllocError> {
+impl Server for DepotServer {
+    fn run<R: Threads + Wait + Sync>(
+        &self,
+        rt: &R,
+        setting: Setting,
+        disks: Disks,
+        gate: &CaseGate,
+    ) -> Result<Ran, AllocError> {
         let Setting {
             words,
             mut doors,
@@ -47,7 +52,7 @@ impl<'r, R: Threads + Wait + Sync> Server for DepotServer<'r, R> {
         let Disks { journal, archive } = disks;
         let clock = FixedClock::new(NOW);
         let ended = p4_top(
-            self.rt, self.alloc, &words, &mut doors, journal, archive, &mut out, &clock, gate,
+            rt, self.alloc, &words, &mut doors, journal, archive, &mut out, &clock, gate,
         );
         drop(doors);
         let Ended {
@@ -79,9 +84,6 @@ impl<'r, R: Threads + Wait + Sync> Server for DepotServer<'r, R> {
 }
 
 fn main(rt: HostRuntime) -> io::Result<ExitCode> {
-    let server = DepotServer {
-        rt: &rt,
-        alloc: rt.alloc(),
-    };
+    let server = DepotServer { alloc: rt.alloc() };
     answer_files(&rt, &server)
 }

@@ -10,10 +10,13 @@ use std::alloc::Global;
 use std::io::{ErrorKind, Write};
 use std::process::ExitCode;
 use std::rt::{Env, Files};
+use std::sync::Wait;
+use std::thread::Threads;
 use std::{env, fs, io};
 
 /// Answers the cases of a file up to its end or to the first line with a fault.
-fn answer_cases<S: Server>(
+fn answer_cases<R: Threads + Wait + Sync, S: Server>(
+    rt: &R,
     server: &S,
     alloc: Global,
     cases: &[u8],
@@ -22,7 +25,7 @@ fn answer_cases<S: Server>(
     let mut world = World::new(alloc);
     for line in Cases::new(cases) {
         let followed = match line.step {
-            Ok(step) => world.follow(server, step, answers),
+            Ok(step) => world.follow(rt, server, step, answers),
             Err(fault) => Err(fault),
         };
         if let Err(fault) = followed {
@@ -68,14 +71,14 @@ fn compare<R: Print>(rt: &R, name: &str, answered: &[u8], expected: &[u8]) -> io
 }
 
 /// Answers the cases of a file, and returns whether no line has a fault and nothing differs from what is expected.
-fn answer_file<R: Files + AllocGlobal + Print, S: Server>(
+fn answer_file<R: Files + AllocGlobal + Print + Threads + Wait + Sync, S: Server>(
     rt: &R,
     server: &S,
     name: &str,
 ) -> io::Result<bool> {
     let cases = fs::read(rt, name)?;
     let mut answers = Answers::new(rt.alloc());
-    let followed = answer_cases(server, rt.alloc(), &cases, &mut answers);
+    let followed = answer_cases(rt, server, rt.alloc(), &cases, &mut answers);
     match expected_of(rt, name)? {
         Some(expected) => compare(rt, name, answers.as_bytes(), &expected),
         None => {
@@ -86,7 +89,7 @@ fn answer_file<R: Files + AllocGlobal + Print, S: Server>(
 }
 
 /// Answers the cases of each file that the words of the command line name.
-pub fn answer_files<R: Env + Files + AllocGlobal + Print, S: Server>(
+pub fn answer_files<R: Env + Files + AllocGlobal + Print + Threads + Wait + Sync, S: Server>(
     rt: &R,
     server: &S,
 ) -> io::Result<ExitCode> {

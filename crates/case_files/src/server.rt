@@ -6,6 +6,8 @@ use crate::step::{Failure, Outside};
 use depot_path::Text;
 use memory_world::{Door, MemoryDoors, MemorySink, MemorySource};
 use std::alloc::{AllocError, Global};
+use std::sync::Wait;
+use std::thread::Threads;
 
 /// A script, and the name of the door that brings it.
 #[derive(Drop)]
@@ -56,8 +58,14 @@ pub struct Ran {
 
 /// A server that cases run.
 pub trait Server {
-    /// Runs it in a setting over disks, with a gate. The only error is want of memory for what is told of the run.
-    fn run(&self, setting: Setting, disks: Disks, gate: &CaseGate) -> Result<Ran, AllocError>;
+    /// Runs it by a runtime in a setting over disks, with a gate. The only error is want of memory for what is told of the run.
+    fn run<R: Threads + Wait + Sync>(
+        &self,
+        rt: &R,
+        setting: Setting,
+        disks: Disks,
+        gate: &CaseGate,
+    ) -> Result<Ran, AllocError>;
 }
 
 /// The door of a script.
@@ -115,9 +123,14 @@ impl<'a> Setting<'a> {
 }
 
 /// Opens disks and prints the rows of their depot.
-pub fn dump<S: Server>(server: &S, alloc: Global, disks: Disks) -> Result<Ran, AllocError> {
+pub fn dump<R: Threads + Wait + Sync, S: Server>(
+    rt: &R,
+    server: &S,
+    alloc: Global,
+    disks: Disks,
+) -> Result<Ran, AllocError> {
     match Setting::new(alloc, "dump", &[], &[]) {
-        Ok(setting) => server.run(setting, disks, &CaseGate::open()),
+        Ok(setting) => server.run(rt, setting, disks, &CaseGate::open()),
         Err(AllocError) => {
             drop(disks);
             Err(AllocError)

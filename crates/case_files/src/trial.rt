@@ -6,6 +6,8 @@ use crate::server::{Ran, Server, dump};
 use depot_path::Text;
 use outside_api::Disk;
 use std::alloc::{AllocError, Global};
+use std::sync::Wait;
+use std::thread::Threads;
 
 /// The greatest number of a call of a trial that may fail. No run of a case makes as many calls of an object.
 pub const MOST_CALLS: u64 = 4_000;
@@ -75,19 +77,21 @@ impl Trial {
     }
 
     /// What opening the disks that a stop at a moment of the journal's disk leaves gives out, the rows of their depot if there is one.
-    fn dumped<S: Server>(
+    fn dumped<R: Threads + Wait + Sync, S: Server>(
         &self,
+        rt: &R,
         server: &S,
         alloc: Global,
         moment: u64,
         pick: &[u8],
     ) -> Result<Ran, AllocError> {
-        dump(server, alloc, self.ran.disks.stopped(moment, pick)?)
+        dump(rt, server, alloc, self.ran.disks.stopped(moment, pick)?)
     }
 
     /// To what the disks open after a stop at a moment of the journal's disk, with open bytes of this one, and the archive's disk as it is at the end.
-    fn opened<S: Server>(
+    fn opened<R: Threads + Wait + Sync, S: Server>(
         &self,
+        rt: &R,
         server: &S,
         alloc: Global,
         kept: &[Text],
@@ -95,26 +99,32 @@ impl Trial {
         byte: u8,
     ) -> Result<Text, AllocError> {
         let pick = picked(alloc, byte)?;
-        let dumped = self.dumped(server, alloc, moment, &pick)?;
+        let dumped = self.dumped(rt, server, alloc, moment, &pick)?;
         let opened = told(alloc, kept, &dumped);
         drop(dumped);
         opened
     }
 
     /// The rows of the depot that the run leaves, where it ended with status 0.
-    pub fn rows<S: Server>(&self, server: &S, alloc: Global) -> Result<Text, CaseFault> {
+    pub fn rows<R: Threads + Wait + Sync, S: Server>(
+        &self,
+        rt: &R,
+        server: &S,
+        alloc: Global,
+    ) -> Result<Text, CaseFault> {
         if self.ran.status != 0 {
             return Err(CaseFault::NotDone);
         }
-        let dumped = self.dumped(server, alloc, u64::MAX, &[])?;
+        let dumped = self.dumped(rt, server, alloc, u64::MAX, &[])?;
         let rows = Text::from_bytes(alloc, dumped.out.given());
         drop(dumped);
         rows.map_err(CaseFault::from)
     }
 
     /// To what the disks open after a stop at each moment of the run, in turn, each once where neighbours are alike.
-    fn stopped<S: Server>(
+    fn stopped<R: Threads + Wait + Sync, S: Server>(
         &self,
+        rt: &R,
         server: &S,
         alloc: Global,
         kept: &[Text],
@@ -125,7 +135,7 @@ impl Trial {
         line.add_pick(byte)?;
         let mut last = Text::new(alloc);
         for moment in self.begin..=end {
-            let opened = self.opened(server, alloc, kept, moment, byte)?;
+            let opened = self.opened(rt, server, alloc, kept, moment, byte)?;
             if opened.as_bytes() != last.as_bytes() {
                 line.add_word(opened.as_bytes())?;
             }
@@ -136,8 +146,9 @@ impl Trial {
     }
 
     /// Adds what stops at the moments of the run leave, for each of the bytes that the open ones may be.
-    pub fn tell_stops<S: Server>(
+    pub fn tell_stops<R: Threads + Wait + Sync, S: Server>(
         &self,
+        rt: &R,
         server: &S,
         alloc: Global,
         kept: &[Text],
@@ -145,15 +156,16 @@ impl Trial {
         answers: &mut Answers,
     ) -> Result<(), AllocError> {
         for byte in PICKS {
-            let stopped = self.stopped(server, alloc, kept, end, *byte)?;
+            let stopped = self.stopped(rt, server, alloc, kept, end, *byte)?;
             answers.add_bytes(stopped.as_bytes())?;
         }
         Ok(())
     }
 
     /// How the run ended, which commands were refused, and to what a stop at its end leaves the disks.
-    pub fn outcome<S: Server>(
+    pub fn outcome<R: Threads + Wait + Sync, S: Server>(
         &self,
+        rt: &R,
         server: &S,
         alloc: Global,
         words: &str,
@@ -163,7 +175,7 @@ impl Trial {
         line.add_end(words, &self.ran)?;
         line.add_word(b"opens to")?;
         for byte in PICKS {
-            let opened = self.opened(server, alloc, kept, u64::MAX, *byte)?;
+            let opened = self.opened(rt, server, alloc, kept, u64::MAX, *byte)?;
             line.add_word(opened.as_bytes())?;
         }
         line.end_line()?;
