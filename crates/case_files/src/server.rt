@@ -1,5 +1,7 @@
 //! A run of a server over disks in memory.
 
+ghost use Rattle.std.specs.Thread.{IsSync};
+
 use crate::disks::{Disks, failing_calls};
 use crate::gate::CaseGate;
 use crate::step::{Failure, Outside};
@@ -65,7 +67,8 @@ pub trait Server {
         setting: Setting,
         disks: Disks,
         gate: &CaseGate,
-    ) -> Result<Ran, AllocError>;
+    ) -> Result<Ran, AllocError>
+        requires { IsSync R.row };
 }
 
 /// The door of a script.
