@@ -2,6 +2,7 @@
 use Rattle.std.proofs.Common.{◌≡◌, ℕ, ◌+◌, ◌≤◌, List, [], length, take, drop, refl, sym, ap, ◌∙◌, arith}
 use Rattle.std.proofs.lemmas.List.{append-nil, length-drop, length-take-le}
 use Rattle.outside_api.specs.Disk.{Files, Same}
+use Rattle.outside_api.specs.Says.{DiskSays}
 use Rattle.db_records.specs.declared.change.Spot.{Spot}
 use Rattle.archive_file.specs.Archive.{Has, disk_of, end_of, used_of}
 use Rattle.archive_file.specs.Contents.{IsFront, IsTold}
@@ -19,8 +20,8 @@ front_same bytes = record { more = []; is = sym (append-nil bytes) }
 pub stays : (old new before : List ℕ) → new ≡ old → before ≡ old → (now : List ℕ) × (now ≡ new) × IsFront before now
 stays old new before same is = (new, refl, record { more = []; is = same ∙ sym is ∙ sym (append-nil before) })
 
-module _ {D : Type 0} (seen : D → Files → Type 0) (old new : Archive D) (same : Same (seen (disk_of old)) (seen (disk_of new))) (used : used_of new ≡ used_of old) where
-  told_on : (bytes : List ℕ) → IsTold seen old bytes → IsTold seen new bytes
+module _ {D : Type 0} (disk_says : DiskSays D) (old new : Archive D) (same : Same (disk_says.seen (disk_of old)) (disk_says.seen (disk_of new))) (used : used_of new ≡ used_of old) where
+  told_on : (bytes : List ℕ) → IsTold disk_says old bytes → IsTold disk_says new bytes
   told_on bytes told = record {
     files = told.files;
     sees = same.kept told.files told.sees;
@@ -29,11 +30,11 @@ module _ {D : Type 0} (seen : D → Files → Type 0) (old new : Archive D) (sam
   }
 
   -- what was only read tells what it told
-  pub told_same : (before : List ℕ) → IsTold seen old before → (now : List ℕ) × IsTold seen new now × IsFront before now
+  pub told_same : (before : List ℕ) → IsTold disk_says old before → (now : List ℕ) × IsTold disk_says new now × IsFront before now
   told_same before told = (before, told_on before told, front_same before)
 
   -- what is read of it stands in what it tells
-  pub told_has : (bytes text : List ℕ) (spot : Spot) → IsTold seen new bytes → end_of spot ≤ used_of old → ((files : Files) → seen (disk_of old) files → text ≡ take spot.length (drop spot.at (files 0))) → Has bytes spot text
+  pub told_has : (bytes text : List ℕ) (spot : Spot) → IsTold disk_says new bytes → end_of spot ≤ used_of old → ((files : Files) → disk_says.seen (disk_of old) files → text ≡ take spot.length (drop spot.at (files 0))) → Has bytes spot text
   told_has bytes text spot told within read =
       let file = told.files 0 in
       let le : spot.at + spot.length ≤ used_of new = omega (arith, within, used) in

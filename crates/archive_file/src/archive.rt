@@ -2,7 +2,8 @@
 
 ghost use Rattle.std.specs.Prelude.{◌≡◌, ◌+◌, ◌<◌, ◌≤◌, ◌^◌, List, ℕ, length, take, drop, max, IfOk, OnOk};
 ghost use Rattle.outside_api.specs.Count.{HasCause, counted};
-ghost use Rattle.outside_api.specs.Disk.{Files, LeavesOnly, NoMore, Same, StillTells};
+ghost use Rattle.outside_api.specs.Disk.{Files, NoMore, Same, StillTells};
+ghost use Rattle.outside_api.specs.Moments.{LeavesOnly};
 ghost use Rattle.db_records.specs.declared.change.Spot.{Spot};
 ghost use Rattle.archive_file.specs.Archive.{disk_of, used_of, end_of, Has, AllHave, HasMemoryOr};
 ghost use Rattle.md5.specs.Md5.{md5};
@@ -37,7 +38,7 @@ impl<D: Disk> Archive<D> {
     /// The archive of a disk whose contents end at `used`, at most the length of the file in bytes.
     /// Makes no call of the disk.
     pub fn adopt(disk: D, used: u64) -> Self
-        requires { (files : Files) → D.seen disk files → used ≤ length (files 0) }
+        requires { (files : Files) → D.says.seen disk files → used ≤ length (files 0) }
         ensures disk { disk_of result ≡ disk }
         ensures used { used_of result ≡ used }
     {
@@ -62,17 +63,17 @@ impl<D: Disk> Archive<D> {
     /// the spot that is answered. Contents that end at or before the place stay, whatever is answered.
     pub fn store(&mut self, at: u64, content: &[u8]) -> Result<Spot, DiskFault>
         requires above { used_of self.old ≤ at }
-        requires room { (files : Files) → D.seen (disk_of self.old) files → at ≤ length (files 0) }
+        requires room { (files : Files) → D.says.seen (disk_of self.old) files → at ≤ length (files 0) }
         ensures spot { IfOk result (λ spot. spot ≡ record { at = at; length = length content.now }) }
-        ensures stored { IfOk result (λ spot. AllHave (D.may_leave (disk_of self.new)) spot content.now) }
+        ensures stored { IfOk result (λ spot. AllHave (D.says.may_leave (disk_of self.new)) spot content.now) }
         ensures small { IfOk result (λ spot. end_of spot < 2 ^ 63) }
-        ensures kept { (spot : Spot) (bytes : List ℕ) → end_of spot ≤ at → AllHave (D.may_leave (disk_of self.old)) spot bytes → AllHave (D.may_leave (disk_of self.new)) spot bytes }
-        ensures any_moment { (spot : Spot) (bytes : List ℕ) → end_of spot ≤ at → AllHave (D.may_leave (disk_of self.old)) spot bytes → LeavesOnly D.moment D.left_since (disk_of self.old) (disk_of self.new) (λ c. Has (c 0) spot bytes) }
-        ensures told { StillTells (D.seen (disk_of self.old)) (D.seen (disk_of self.new)) }
+        ensures kept { (spot : Spot) (bytes : List ℕ) → end_of spot ≤ at → AllHave (D.says.may_leave (disk_of self.old)) spot bytes → AllHave (D.says.may_leave (disk_of self.new)) spot bytes }
+        ensures any_moment { (spot : Spot) (bytes : List ℕ) → end_of spot ≤ at → AllHave (D.says.may_leave (disk_of self.old)) spot bytes → LeavesOnly D.says (disk_of self.old) (disk_of self.new) (λ c. Has (c 0) spot bytes) }
+        ensures told { StillTells (D.says.seen (disk_of self.old)) (D.says.seen (disk_of self.new)) }
         ensures used { used_of self.new ≡ used_of self.old }
-        ensures asked { OnOk result (D.calls (disk_of self.new) ≡ counted 2 (D.calls (disk_of self.old))) }
-        ensures at_most { D.calls (disk_of self.new) ≤ counted 2 (D.calls (disk_of self.old)) }
-        ensures cause { HasCause (D.faults (disk_of self.old)) (D.faults (disk_of self.new)) result }
+        ensures asked { OnOk result (D.says.calls (disk_of self.new) ≡ counted 2 (D.says.calls (disk_of self.old))) }
+        ensures at_most { D.says.calls (disk_of self.new) ≤ counted 2 (D.says.calls (disk_of self.old)) }
+        ensures cause { HasCause (D.says.faults (disk_of self.old)) (D.says.faults (disk_of self.new)) result }
     {
         let spot = self.write(at, content)?;
         self.sync()?;
@@ -84,18 +85,18 @@ impl<D: Disk> Archive<D> {
     /// each image, whatever is answered.
     pub fn write(&mut self, at: u64, content: &[u8]) -> Result<Spot, DiskFault>
         requires above { used_of self.old ≤ at }
-        requires room { (files : Files) → D.seen (disk_of self.old) files → at ≤ length (files 0) }
+        requires room { (files : Files) → D.says.seen (disk_of self.old) files → at ≤ length (files 0) }
         ensures spot { IfOk result (λ spot. spot ≡ record { at = at; length = length content.now }) }
-        ensures written { IfOk result (λ spot. AllHave (D.seen (disk_of self.new)) spot content.now) }
+        ensures written { IfOk result (λ spot. AllHave (D.says.seen (disk_of self.new)) spot content.now) }
         ensures small { IfOk result (λ spot. end_of spot < 2 ^ 63) }
         // What a read gives before the place it still gives.
-        ensures read { OnOk result ((spot : Spot) (bytes : List ℕ) → end_of spot ≤ at → AllHave (D.seen (disk_of self.old)) spot bytes → AllHave (D.seen (disk_of self.new)) spot bytes) }
-        ensures kept { (spot : Spot) (bytes : List ℕ) → end_of spot ≤ at → AllHave (D.may_leave (disk_of self.old)) spot bytes → AllHave (D.may_leave (disk_of self.new)) spot bytes }
-        ensures any_moment { (spot : Spot) (bytes : List ℕ) → end_of spot ≤ at → AllHave (D.may_leave (disk_of self.old)) spot bytes → LeavesOnly D.moment D.left_since (disk_of self.old) (disk_of self.new) (λ c. Has (c 0) spot bytes) }
-        ensures told { StillTells (D.seen (disk_of self.old)) (D.seen (disk_of self.new)) }
+        ensures read { OnOk result ((spot : Spot) (bytes : List ℕ) → end_of spot ≤ at → AllHave (D.says.seen (disk_of self.old)) spot bytes → AllHave (D.says.seen (disk_of self.new)) spot bytes) }
+        ensures kept { (spot : Spot) (bytes : List ℕ) → end_of spot ≤ at → AllHave (D.says.may_leave (disk_of self.old)) spot bytes → AllHave (D.says.may_leave (disk_of self.new)) spot bytes }
+        ensures any_moment { (spot : Spot) (bytes : List ℕ) → end_of spot ≤ at → AllHave (D.says.may_leave (disk_of self.old)) spot bytes → LeavesOnly D.says (disk_of self.old) (disk_of self.new) (λ c. Has (c 0) spot bytes) }
+        ensures told { StillTells (D.says.seen (disk_of self.old)) (D.says.seen (disk_of self.new)) }
         ensures used { used_of self.new ≡ used_of self.old }
-        ensures asked { D.calls (disk_of self.new) ≡ counted 1 (D.calls (disk_of self.old)) }
-        ensures cause { HasCause (D.faults (disk_of self.old)) (D.faults (disk_of self.new)) result }
+        ensures asked { D.says.calls (disk_of self.new) ≡ counted 1 (D.says.calls (disk_of self.old)) }
+        ensures cause { HasCause (D.says.faults (disk_of self.old)) (D.says.faults (disk_of self.new)) result }
     {
         self.disk.write_at(FILE, at, content)?;
         Ok(Spot {
@@ -107,14 +108,14 @@ impl<D: Disk> Archive<D> {
     /// Syncs: after Ok each image is what a read gives. Whatever is answered, no image is one that
     /// wasn't one before.
     pub fn sync(&mut self) -> Result<(), DiskFault>
-        ensures durable { OnOk result (NoMore (D.seen (disk_of self.old)) (D.may_leave (disk_of self.new))) }
-        ensures same { OnOk result (Same (D.seen (disk_of self.old)) (D.seen (disk_of self.new))) }
-        ensures crash { NoMore (D.may_leave (disk_of self.old)) (D.may_leave (disk_of self.new)) }
-        ensures any_moment { LeavesOnly D.moment D.left_since (disk_of self.old) (disk_of self.new) (D.may_leave (disk_of self.old)) }
-        ensures told { StillTells (D.seen (disk_of self.old)) (D.seen (disk_of self.new)) }
+        ensures durable { OnOk result (NoMore (D.says.seen (disk_of self.old)) (D.says.may_leave (disk_of self.new))) }
+        ensures same { OnOk result (Same (D.says.seen (disk_of self.old)) (D.says.seen (disk_of self.new))) }
+        ensures crash { NoMore (D.says.may_leave (disk_of self.old)) (D.says.may_leave (disk_of self.new)) }
+        ensures any_moment { LeavesOnly D.says (disk_of self.old) (disk_of self.new) (D.says.may_leave (disk_of self.old)) }
+        ensures told { StillTells (D.says.seen (disk_of self.old)) (D.says.seen (disk_of self.new)) }
         ensures used { used_of self.new ≡ used_of self.old }
-        ensures asked { D.calls (disk_of self.new) ≡ counted 1 (D.calls (disk_of self.old)) }
-        ensures cause { HasCause (D.faults (disk_of self.old)) (D.faults (disk_of self.new)) result }
+        ensures asked { D.says.calls (disk_of self.new) ≡ counted 1 (D.says.calls (disk_of self.old)) }
+        ensures cause { HasCause (D.says.faults (disk_of self.old)) (D.says.faults (disk_of self.new)) result }
     {
         self.disk.sync()?;
         Ok(())
@@ -133,12 +134,12 @@ impl<D: Disk> Archive<D> {
     /// The content at a spot that ends at or before `used`.
     pub fn read(&mut self, alloc: Global, spot: Spot) -> Result<Text, ContentFault>
         requires { end_of spot ≤ used_of self.old }
-        ensures content { (files : Files) → D.seen (disk_of self.old) files → IfOk result (λ text. text ≡ take spot.length (drop spot.at (files 0))) }
-        ensures same { Same (D.seen (disk_of self.old)) (D.seen (disk_of self.new)) }
-        ensures crash { NoMore (D.may_leave (disk_of self.old)) (D.may_leave (disk_of self.new)) }
-        ensures any_moment { LeavesOnly D.moment D.left_since (disk_of self.old) (disk_of self.new) (D.may_leave (disk_of self.old)) }
+        ensures content { (files : Files) → D.says.seen (disk_of self.old) files → IfOk result (λ text. text ≡ take spot.length (drop spot.at (files 0))) }
+        ensures same { Same (D.says.seen (disk_of self.old)) (D.says.seen (disk_of self.new)) }
+        ensures crash { NoMore (D.says.may_leave (disk_of self.old)) (D.says.may_leave (disk_of self.new)) }
+        ensures any_moment { LeavesOnly D.says (disk_of self.old) (disk_of self.new) (D.says.may_leave (disk_of self.old)) }
         ensures used { used_of self.new ≡ used_of self.old }
-        ensures cause { HasMemoryOr (D.faults (disk_of self.old)) (D.faults (disk_of self.new)) result }
+        ensures cause { HasMemoryOr (D.says.faults (disk_of self.old)) (D.says.faults (disk_of self.new)) result }
     {
         prove!(spot.at <= self.used);
         let mut bytes = match vec![in alloc; 0u8; spot.length as usize] {
@@ -158,12 +159,12 @@ impl<D: Disk> Archive<D> {
     /// pieces. Where the file ends before the spot does, it is that of the bytes up to there.
     pub fn digest_at(&mut self, alloc: Global, spot: Spot) -> Result<Text, ContentFault>
         requires { end_of spot < 2 ^ 63 }
-        ensures digest { (files : Files) → D.seen (disk_of self.old) files → end_of spot ≤ length (files 0) → IfOk result (λ text. text ≡ digits_of (md5 (take spot.length (drop spot.at (files 0))))) }
-        ensures same { Same (D.seen (disk_of self.old)) (D.seen (disk_of self.new)) }
-        ensures crash { NoMore (D.may_leave (disk_of self.old)) (D.may_leave (disk_of self.new)) }
-        ensures any_moment { LeavesOnly D.moment D.left_since (disk_of self.old) (disk_of self.new) (D.may_leave (disk_of self.old)) }
+        ensures digest { (files : Files) → D.says.seen (disk_of self.old) files → end_of spot ≤ length (files 0) → IfOk result (λ text. text ≡ digits_of (md5 (take spot.length (drop spot.at (files 0))))) }
+        ensures same { Same (D.says.seen (disk_of self.old)) (D.says.seen (disk_of self.new)) }
+        ensures crash { NoMore (D.says.may_leave (disk_of self.old)) (D.says.may_leave (disk_of self.new)) }
+        ensures any_moment { LeavesOnly D.says (disk_of self.old) (disk_of self.new) (D.says.may_leave (disk_of self.old)) }
         ensures used { used_of self.new ≡ used_of self.old }
-        ensures cause { HasMemoryOr (D.faults (disk_of self.old)) (D.faults (disk_of self.new)) result }
+        ensures cause { HasMemoryOr (D.says.faults (disk_of self.old)) (D.says.faults (disk_of self.new)) result }
     {
         digest_on_disk(alloc, &mut self.disk, spot, &mut [0u8; 4096])
     }

@@ -55,9 +55,9 @@ pub(crate) fn is_within(spot: Spot, place: u64) -> bool
 impl<D: Disk> Contents for Archive<D> {
     ghost use Rattle.archive_file.specs.Archive.{disk_of};
 
-    ghost faults = { λ archive. D.faults (disk_of archive) };
+    ghost faults = { λ archive. D.says.faults (disk_of archive) };
 
-    ghost tells = { λ archive bytes. IsTold D.seen archive bytes };
+    ghost tells = { λ archive bytes. IsTold D.says archive bytes };
 
     /// Bytes that the disk doesn't have, though they are counted as used, are answered as want of memory.
     #[tactic(auto, using(crate::proofs::Fronts::told_same))]

@@ -2,6 +2,7 @@
 use Rattle.std.proofs.Common.{◌≡◌, ℕ, Bool, true, false, List, [], ◌∷◌, Some, Result, Ok, Err, refl, sym, ap, ◌∙◌}
 use Rattle.std.specs.Prelude.{◌||◌, ◌&&◌, IsTrue}
 use Rattle.std.specs.List.{list_any, list_all}
+use Rattle.depot_rows.specs.db_records.declared.table.TableId.{TableId}
 use Rattle.depot_rows.specs.db_records.declared.table.TableId.TheVariants.{Working}
 use Rattle.depot_rows.specs.table_changes.Changed.{AllRows}
 use Rattle.depot_rows.specs.depot_model.declared.command.Command.{Command}
@@ -11,7 +12,7 @@ use Rattle.depot_rows.specs.depot_model.Commands.{step, whole_step}
 use Rattle.depot_rows.specs.depot_model.Common.{word_refusal}
 use Rattle.depot_rows.specs.depot_model.Deeds as model
 use Rattle.depot_rows.specs.depot_model.Step.{Step as ModelStep, refuses}
-use Rattle.depot_rows.specs.depot_model.Tables.{is_in, own_tables, writes}
+use Rattle.depot_rows.specs.depot_model.Tables.{is_in, own_tables, reads, writes}
 use Rattle.depot_rows.specs.declared.deed.Deed.{Deed}
 use Rattle.depot_rows.specs.declared.deed.Deed.TheVariants.{Spec, Guard, Group, Count, Pend, Drop, Open, Shut, Hold, Free, Got, Tag, Owe, Paid, Land}
 use Rattle.depot_rows.specs.Deed.{IsDeed}
@@ -55,13 +56,13 @@ lock_alike d (done ∷ dones) [] follow = absurd follow
 lock_alike d (done ∷ dones) (deed ∷ deeds) follow = λ i. one_locks d done deed follow.0 i || lock_alike (deed ∷ d) dones deeds follow.2 i
 
 -- a deed that stays in tables without that of opened files locks none
-module _ (tables : List ℕ) (without : is_in tables 8 ≡ false) where
+module _ (tables : List TableId) (without : is_in tables Working ≡ false) where
   both_are : (a b : Bool) → (a && b) ≡ true → (a ≡ true) × (b ≡ true)
   both_are true b e = (refl, e)
   both_are false b e = absurd cc
 
   one_stays : (deed : model.Deed) → stays_in tables deed ≡ true → locks deed ≡ false
-  one_stays (model.Hold held) e = absurd (let here = (both_are (is_in tables 8) true e).0 in cc)
+  one_stays (model.Hold held) e = absurd (let here = (both_are (is_in tables Working) true e).0 in cc)
   one_stays (model.Spec kind name form) e = refl
   one_stays (model.Guard lines) e = refl
   one_stays (model.Group name users) e = refl
@@ -92,15 +93,15 @@ module _ (all : AllRows) (d : List model.Deed) (request : Request) where
   step_for asked = elim asked [ Err fault ↦ refuses (word_refusal fault) | Ok command ↦ whole_step d request command ]
 
   by_command : (command : Command) (dones : List Deed) → request.command ≡ Ok command → HasNeededBy all d (Ok command) → Follow d dones (step d request).deeds
-      → IsTrue (list_any is_hold dones) → (written : Bool) → writes command 8 ≡ written → HasRows all d Working
-  by_command command dones asked has follow held true e = has Working (or_true (is_in (1 ∷ 2 ∷ 3 ∷ (own_tables command).read) 8) (writes command 8) e)
+      → IsTrue (list_any is_hold dones) → (written : Bool) → writes command Working ≡ written → HasRows all d Working
+  by_command command dones asked has follow held true e = has Working (or_true (reads command Working) (writes command Working) e)
   by_command command dones asked has follow held false e =
       absurd (let one : true ≡ false = sym held ∙ lock_alike d dones (step d request).deeds follow
       ∙ none_locks (own_tables command).written e (step d request).deeds (step_stays d request command asked).each in cc)
 
   by_words : (asked : Result Command WordFault) (dones : List Deed) → request.command ≡ asked → HasNeededBy all d asked → Follow d dones (step d request).deeds
       → IsTrue (list_any is_hold dones) → HasRows all d Working
-  by_words (Ok command) dones asked has follow held = by_command command dones asked has follow held (writes command 8) refl
+  by_words (Ok command) dones asked has follow held = by_command command dones asked has follow held (writes command Working) refl
   by_words (Err fault) dones asked has follow held =
       absurd (let one : true ≡ false = sym held ∙ lock_alike d dones (step d request).deeds follow ∙ ap (λ k. list_any locks (step_for k).deeds) asked in cc)
 

@@ -2,6 +2,8 @@
 use Rattle.std.proofs.Common.{◌≡◌, ℕ, true, false, List, [], ◌∷◌, refl}
 use Rattle.std.specs.Prelude.{◌&&◌}
 use Rattle.std.specs.List.{list_all}
+use Rattle.depot_rows.specs.db_records.declared.table.TableId.{TableId}
+use Rattle.depot_rows.specs.db_records.declared.table.TableId.TheVariants as ids
 use Rattle.depot_rows.specs.table_changes.Changed.{AllRows}
 use Rattle.depot_rows.specs.depot_model.Commands.{own_step}
 use Rattle.depot_rows.specs.depot_model.Deeds as model
@@ -28,12 +30,12 @@ pub refuses_storing : (all : AllRows) (from : ℕ) (d : List model.Deed) (why : 
 refuses_storing all from d why = made_stores all from d (refuses why) (told (refusal_row why ∷ [])) (refuses_made all d d why) tt
 
 -- deeds that stay in tables without that of revisions land nothing
-module _ (tables : List ℕ) (without : is_in tables 10 ≡ false) where
+module _ (tables : List TableId) (without : is_in tables ids.Rev ≡ false) where
   lands_out : (l : model.Landing) → stays_in tables (model.Land l) ≡ true → ⊥
   lands_out l e =
-      let fourth = right-true (is_in tables 9) (is_in tables 10 && true)
-      (right-true (is_in tables 6) (is_in tables 9 && (is_in tables 10 && true)) (right-true (is_in tables 0) (is_in tables 6 && (is_in tables 9 && (is_in tables 10 && true))) e)) in
-      let last = left-true (is_in tables 10) true fourth in
+      let fourth = right-true (is_in tables ids.Change) (is_in tables ids.Rev && true)
+      (right-true (is_in tables ids.Integed) (is_in tables ids.Change && (is_in tables ids.Rev && true)) (right-true (is_in tables ids.Counter) (is_in tables ids.Integed && (is_in tables ids.Change && (is_in tables ids.Rev && true))) e)) in
+      let last = left-true (is_in tables ids.Rev) true fourth in
       absurd cc
 
   none_land : (deeds : List model.Deed) → list_all (stays_in tables) deeds ≡ true → NothingLands deeds
@@ -41,7 +43,7 @@ module _ (tables : List ℕ) (without : is_in tables 10 ≡ false) where
   none_land (model.Land l ∷ deeds) e = absurd (lands_out l (left-true (stays_in tables (model.Land l)) (list_all (stays_in tables) deeds) e))
   none_land (deed ∷ deeds) e = none_land deeds (right-true (stays_in tables deed) (list_all (stays_in tables) deeds) e)
 
-lands_nothing : (command : Command) → is_submit command ≡ false → writes command 10 ≡ false
+lands_nothing : (command : Command) → is_submit command ≡ false → writes command ids.Rev ≡ false
 lands_nothing (SubmitChange n) e = absurd cc
 lands_nothing (SubmitDefault text) e = absurd cc
 lands_nothing _ e = refl

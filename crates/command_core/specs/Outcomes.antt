@@ -1,7 +1,6 @@
 -- What a request does in the tables of a depot. This project's own choice.
 use Rattle.std.specs.Prelude.{◌≡◌, ℕ, IsTrue, List, [], map, Result, Ok, Err, IfOk}
 use Rattle.std.specs.List.{list_any}
-use Rattle.depot_rows.specs.db_records.Table.{table_number}
 use Rattle.depot_rows.specs.db_records.declared.table.TableId.{TableId}
 use Rattle.depot_rows.specs.db_records.declared.table.TableId.TheVariants.{Rev, Working}
 use Rattle.depot_rows.specs.table_changes.Changed.{AllRows}
@@ -24,7 +23,7 @@ use Rattle.command_core.specs.declared.outcome.Outcome.{Outcome}
 
 -- the tables that a command reads or writes have the rows of a depot
 abbrev pub HasTouched : AllRows → List Deed → Command → Type 0
-HasTouched rows d command = (table : TableId) → IsTrue (touches command (table_number table)) → HasRows rows d table
+HasTouched rows d command = (table : TableId) → IsTrue (touches command table) → HasRows rows d table
 
 -- so have those that a request needs; words that are no command need none
 abbrev pub HasNeededBy : AllRows → List Deed → Result Command WordFault → Type 0

@@ -1,6 +1,8 @@
-//! The tables that a command reads and writes: its set, in rising order.
+//! The tables that a command reads and writes: its set, told without memory.
 #![tactic(auto)]
 
-mod sets;
+mod needs;
+mod table_set;
 
-pub use sets::{Need, is_among, request_needs};
+pub use needs::{Needs, request_needs, tables_of};
+pub use table_set::TableSet;

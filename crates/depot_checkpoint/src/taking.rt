@@ -7,7 +7,8 @@ ghost use Rattle.depot_rows.specs.Standing.{Stand};
 ghost use Rattle.disk_journal.specs.Images.{Committed};
 ghost use Rattle.disk_journal.specs.Stands.{Stands, disk_of, generation_of_journal, nothing};
 ghost use Rattle.outside_api.specs.Count.{HasRisen};
-ghost use Rattle.outside_api.specs.Disk.{Files, LeavesOnly};
+ghost use Rattle.outside_api.specs.Disk.{Files};
+ghost use Rattle.outside_api.specs.Moments.{LeavesOnly};
 ghost use Rattle.recovery.specs.Holding.{HasAllRows};
 ghost use Rattle.recovery.specs.Standing.{StandFor};
 ghost use Rattle.row_changes.specs.Differences.{AreDifferences};
@@ -63,18 +64,18 @@ pub fn take_checkpoint<D: Disk>(
     tables: &Tables,
     journal: &mut Journal<D>,
 ) -> Result<Option<u32>, TakingFault>
-    requires rest { (was : Committed) × Stands D.may_leave journal.old was nothing }
+    requires rest { (was : Committed) × Stands D.says journal.old was nothing }
     ensures number { IfOk result (λ begun. begun ≡ next_generation (generation_of_journal journal.old)) }
     ensures none { result ≡ Ok None → journal.new ≡ journal.old }
     // The files then stand for the depot after the deeds of the checkpoint.
-    ensures taken { (was : Committed) (d : List Deed) (archive : Files) → Stands D.may_leave journal.old was nothing → IsOfDepot was (rows_of tables.now) d archive →
-        OnOk result ((image : Files) → D.may_leave (disk_of journal.new) image → StandFor (checkpointed d) image archive) }
+    ensures taken { (was : Committed) (d : List Deed) (archive : Files) → Stands D.says journal.old was nothing → IsOfDepot was (rows_of tables.now) d archive →
+        OnOk result ((image : Files) → D.says.may_leave (disk_of journal.new) image → StandFor (checkpointed d) image archive) }
     // At every moment they stand for the depot before or after these.
-    ensures any_moment { (was : Committed) (d : List Deed) (archive : Files) → Stands D.may_leave journal.old was nothing → IsOfDepot was (rows_of tables.now) d archive →
-        LeavesOnly D.moment D.left_since (disk_of journal.old) (disk_of journal.new) (StandsBeforeOrAfter d archive) }
+    ensures any_moment { (was : Committed) (d : List Deed) (archive : Files) → Stands D.says journal.old was nothing → IsOfDepot was (rows_of tables.now) d archive →
+        LeavesOnly D.says (disk_of journal.old) (disk_of journal.new) (StandsBeforeOrAfter d archive) }
     ensures untouched { result ≡ Err faults.Memory → journal.new ≡ journal.old }
-    ensures never_falls { D.faults (disk_of journal.old) ≤ D.faults (disk_of journal.new) }
-    ensures cause { result ≡ Err faults.DiskFault → HasRisen (D.faults (disk_of journal.old)) (D.faults (disk_of journal.new)) }
+    ensures never_falls { D.says.faults (disk_of journal.old) ≤ D.says.faults (disk_of journal.new) }
+    ensures cause { result ≡ Err faults.DiskFault → HasRisen (D.says.faults (disk_of journal.old)) (D.says.faults (disk_of journal.new)) }
 {
     let generation = journal.generation();
     if generation >= LAST {

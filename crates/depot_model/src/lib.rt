@@ -11,6 +11,7 @@ mod file_type;
 mod filter;
 mod laws;
 mod line;
+mod lock;
 mod order;
 mod refusal;
 mod reply;
@@ -25,6 +26,7 @@ pub use laws::{
     numbers_rise, same_rows_tell_same_counters,
 };
 pub use line::Line;
+pub use lock::LockId;
 pub use order::{Answer, Place};
 pub use refusal::{Limit, Refusal};
 pub use reply::{Field, Reply, Row};

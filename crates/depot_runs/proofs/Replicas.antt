@@ -4,6 +4,8 @@ use Rattle.depot_model.specs.spec_form.Shapes.{fields_of}
 use Rattle.std.proofs.Common.{◌≡◌, List, [], ◌∷◌, Some, None, refl, Ok, Err, true, false}
 use Rattle.std.specs.Prelude.{codes, decimal, map}
 use Rattle.hex.specs.Hex.{encode_with}
+use Rattle.depot_model.specs.db_records.declared.table.TableId.TheVariants as ids
+use Rattle.depot_model.specs.declared.lock.LockId.TheVariants.{Table}
 use Rattle.depot_model.specs.declared.request.Caller.{Caller}
 use Rattle.depot_model.specs.declared.reply.Row.{Row}
 use Rattle.depot_model.specs.declared.filter.FilterRule.{FilterRule}
@@ -70,7 +72,7 @@ is_cut : is_shelved (cut rules (after_all shelving)) 1 ≡ false
 unfolding encode_with fields_of digits
 is_cut = refl
 
--- the tables of `sync`, in rising order
-locks : map (λ (n : Need). n.lock) (needs_of (asked ann (Sync false false []) None [])) ≡ 1 ∷ 2 ∷ 3 ∷ 4 ∷ 5 ∷ 7 ∷ 8 ∷ 9 ∷ 10 ∷ []
+-- the tables of `sync`, in their order
+locks : map (λ (n : Need). n.lock) (needs_of (asked ann (Sync false false []) None [])) ≡ map Table (ids.Group ∷ ids.Protect ∷ ids.Domain ∷ ids.Have ∷ ids.Label ∷ ids.Resolve ∷ ids.Working ∷ ids.Change ∷ ids.Rev ∷ [])
 unfolding fields_of
 locks = refl

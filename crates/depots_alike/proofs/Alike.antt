@@ -7,6 +7,8 @@ use Rattle.std.specs.Option.{option_or, option_flatten}
 use Rattle.depot_rows.specs.depot_path.Bytes.{same}
 use Rattle.depot_rows.specs.depot_model.declared.request.Caller.{Caller}
 use Rattle.depot_rows.specs.depot_model.Asking.{may_at}
+use Rattle.depot_rows.specs.db_records.declared.table.TableId.{TableId}
+use Rattle.depot_rows.specs.db_records.declared.table.TableId.TheVariants as ids
 use Rattle.depot_rows.specs.depot_model.Deeds.{Deed, Opening, SpecKind, Spec, Guard, Group, Count, Pend, Drop, Open, Shut, Hold, Free, Got, Tag, Owe, Paid, Land}
 use Rattle.depot_rows.specs.depot_model.Latest.{have, have_said, labelled, latest, spec, when, is_held}
 use Rattle.depot_rows.specs.depot_model.Opened.{opened, opening_said}
@@ -43,8 +45,8 @@ alike_of d e twins = record {
 
 -- ---- after deeds on opened files, owed resolves and have lists
 
-abbrev pub file_tables : List ℕ
-file_tables = 4 ∷ 7 ∷ 8 ∷ []
+abbrev pub file_tables : List TableId
+file_tables = ids.Have ∷ ids.Resolve ∷ ids.Working ∷ []
 
 module _ (d e : List Deed) where
   said_opening : (b : Bool) (o : Option Opening) (client path : List ℕ) → opened d client path ≡ opened e client path

@@ -3,6 +3,7 @@ use Rattle.std.proofs.Common.{◌≡◌, ℕ, true, false, List, [], ◌∷◌, 
 use Rattle.std.specs.Prelude.{codes, if◌then◌else◌, filter, is_some, is_none, option_and_then, unwrap_or}
 use Rattle.std.specs.List.{list_all}
 use Rattle.std.specs.Cmp.Derive.{both_true}
+use Rattle.depot_rows.specs.db_records.declared.table.TableId.TheVariants as ids
 use Rattle.depot_rows.specs.depot_path.Bytes.{same}
 use Rattle.depot_rows.specs.depot_path.Path.{printed}
 use Rattle.depot_rows.specs.depot_path.declared.revision.Wanted.TheVariants.{Head}
@@ -55,7 +56,7 @@ pub turns_same : (act : List Deed → List ℕ → Step) → ((d e : List Deed) 
 turns_same act = turns_same_with act act
 
 -- deeds on opened files and owed resolves leave have lists too
-wider : (deed : Deed) → stays_in (7 ∷ 8 ∷ []) deed ≡ true → stays_in file_tables deed ≡ true
+wider : (deed : Deed) → stays_in (ids.Resolve ∷ ids.Working ∷ []) deed ≡ true → stays_in file_tables deed ≡ true
 wider (Open o) e = refl
 wider (Shut held) e = refl
 wider (Hold held) e = refl
@@ -72,11 +73,11 @@ wider (Pend p) e = absurd cc
 wider (Drop n) e = absurd cc
 wider (Land l) e = absurd cc
 
-all_wider : (deeds : List Deed) → list_all (stays_in (7 ∷ 8 ∷ [])) deeds ≡ true → list_all (stays_in file_tables) deeds ≡ true
+all_wider : (deeds : List Deed) → list_all (stays_in (ids.Resolve ∷ ids.Working ∷ [])) deeds ≡ true → list_all (stays_in file_tables) deeds ≡ true
 all_wider [] e = refl
 all_wider (deed ∷ deeds) e =
-    both_true (wider deed (left-true (stays_in (7 ∷ 8 ∷ []) deed) (list_all (stays_in (7 ∷ 8 ∷ [])) deeds) e))
-    (all_wider deeds (right-true (stays_in (7 ∷ 8 ∷ []) deed) (list_all (stays_in (7 ∷ 8 ∷ [])) deeds) e))
+    both_true (wider deed (left-true (stays_in (ids.Resolve ∷ ids.Working ∷ []) deed) (list_all (stays_in (ids.Resolve ∷ ids.Working ∷ [])) deeds) e))
+    (all_wider deeds (right-true (stays_in (ids.Resolve ∷ ids.Working ∷ []) deed) (list_all (stays_in (ids.Resolve ∷ ids.Working ∷ [])) deeds) e))
 
 -- ---- move
 

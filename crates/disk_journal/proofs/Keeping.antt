@@ -1,10 +1,11 @@
 -- The journals of older generations stay where a call leaves their files.
-use Rattle.std.proofs.Common.{◌≡◌, ◌⊎◌, ℕ, ◌+◌, ◌*◌, ◌<◌, ◌≤◌, List, [], ◌∷◌, ◌++◌, length, inl, inr, refl, sym, ap, subst, ◌∙◌, arith, length-append}
+use Rattle.std.proofs.Common.{◌≡◌, ◌⊎◌, ℕ, ◌+◌, ◌*◌, ◌<◌, ◌≤◌, List, [], ◌∷◌, ◌++◌, length, inl, inr, sym, ap, subst, ◌∙◌, arith, length-append}
 use Rattle.std.specs.Prelude.{get_or}
 use Rattle.std.proofs.Math.ListN.{get_or-append}
 use Rattle.std.proofs.Math.Nat.{eq-or-lt_of_le}
 use Rattle.std.proofs.Math.Seq.{get_or-append_seam}
 use Rattle.outside_api.specs.Disk.{Files, Follows, NoMore, Same, StillTells}
+use Rattle.outside_api.specs.Says.{DiskSays}
 use Rattle.disk_journal.specs.Images.{Committed}
 use Rattle.disk_journal.specs.Keeping.{KeepsOlder}
 use Rattle.disk_journal.specs.Older.{AreOlder, IsClosed, SameBefore}
@@ -23,10 +24,10 @@ older_in : (older : List (List (List ℕ))) (below : ℕ) (d c : Files) → 1 + 
 older_in older below d c far same are = λ g lt.
     closed_in (get_or older g []) (1 + 2 * g) d c (same (1 + 2 * g) (omega arith) (omega (arith, far, lt))) (are g lt)
 
-module _ {D : Type 0} (seen may_leave : D → Files → Type 0) (old new : Journal D) (older : List (List (List ℕ))) (keeps : KeepsOlder seen may_leave old older) where
+module _ {D : Type 0} (disk_says : DiskSays D) (old new : Journal D) (older : List (List (List ℕ))) (keeps : KeepsOlder disk_says old older) where
   -- the generation is the same
-  pub older_kept : (below : ℕ) → 1 + 2 * generation_of_journal old ≤ below → generation_of_journal new ≡ generation_of_journal old → StillTells (seen old.disk) (seen new.disk)
-      → Follows (SameBefore below) (may_leave old.disk) (may_leave new.disk) → KeepsOlder seen may_leave new older
+  pub older_kept : (below : ℕ) → 1 + 2 * generation_of_journal old ≤ below → generation_of_journal new ≡ generation_of_journal old → StillTells (disk_says.seen old.disk) (disk_says.seen new.disk)
+      → Follows (SameBefore below) (disk_says.may_leave old.disk) (disk_says.may_leave new.disk) → KeepsOlder disk_says new older
   older_kept below far generation told follows = record {
     tells = told keeps.tells.0 keeps.tells.1;
     count = keeps.count ∙ sym generation;
@@ -37,7 +38,7 @@ module _ {D : Type 0} (seen may_leave : D → Files → Type 0) (old new : Journ
   }
 
   -- the disk was only read
-  pub older_read : generation_of_journal new ≡ generation_of_journal old → Same (seen old.disk) (seen new.disk) → NoMore (may_leave old.disk) (may_leave new.disk) → KeepsOlder seen may_leave new older
+  pub older_read : generation_of_journal new ≡ generation_of_journal old → Same (disk_says.seen old.disk) (disk_says.seen new.disk) → NoMore (disk_says.may_leave old.disk) (disk_says.may_leave new.disk) → KeepsOlder disk_says new older
   older_read generation same more = record {
     tells = (keeps.tells.0, same.kept keeps.tells.0 keeps.tells.1);
     count = keeps.count ∙ sym generation;
@@ -45,8 +46,8 @@ module _ {D : Type 0} (seen may_leave : D → Files → Type 0) (old new : Journ
   }
 
   -- the next generation was begun
-  pub older_closed : (was : Committed) → Stands may_leave old was nothing → (below : ℕ) → 3 + 2 * generation_of_journal old ≤ below → generation_of_journal new ≡ generation_of_journal old + 1
-      → StillTells (seen old.disk) (seen new.disk) → Follows (SameBefore below) (may_leave old.disk) (may_leave new.disk) → KeepsOlder seen may_leave new (older ++ was.groups ∷ [])
+  pub older_closed : (was : Committed) → Stands disk_says old was nothing → (below : ℕ) → 3 + 2 * generation_of_journal old ≤ below → generation_of_journal new ≡ generation_of_journal old + 1
+      → StillTells (disk_says.seen old.disk) (disk_says.seen new.disk) → Follows (SameBefore below) (disk_says.may_leave old.disk) (disk_says.may_leave new.disk) → KeepsOlder disk_says new (older ++ was.groups ∷ [])
   older_closed was stands below far generation told follows = record {
     tells = told keeps.tells.0 keeps.tells.1;
     count = let long = length-append older (was.groups ∷ []) in let count = keeps.count in omega (arith, long, count, generation);

@@ -1,5 +1,5 @@
 -- The closed marks that are written. A reading takes any byte but `e` for a closed mark; that one with `m` is written is this project's own choice.
-use Rattle.std.specs.Prelude.{ℕ, ◌+◌, ◌*◌, ◌++◌, List}
+use Rattle.std.specs.Prelude.{◌+◌, ◌*◌, ◌++◌}
 use Rattle.outside_api.specs.Disk.{Files}
 use Rattle.disk_journal.specs.Text.{mark, blocks}
 use Rattle.disk_journal.specs.Images.{Committed, Begins, IsRootWith}

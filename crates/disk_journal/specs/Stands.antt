@@ -1,6 +1,8 @@
 -- What a journal's disk may leave, by what is committed and what is in doubt.
 use Rattle.std.specs.Prelude.{◌≡◌, ◌≤◌, ◌<◌, ◌+◌, ◌-◌, ◌^◌, ◌++◌, ℕ, List, length, take}
-use Rattle.outside_api.specs.Disk.{Files, LeavesOnly}
+use Rattle.outside_api.specs.Disk.{Files}
+use Rattle.outside_api.specs.Moments.{LeavesOnly}
+use Rattle.outside_api.specs.Says.{DiskSays}
 use Rattle.disk_journal.specs.Text.{AreGroups, IsGroup, blocks, mark}
 use Rattle.disk_journal.specs.Images.{Committed, HasCommitted, HasEither, with_group, with_generation, IsAtRest, IsReady, IsOpening}
 use Rattle.disk_journal.specs.declared.journal.Journal.{Journal}
@@ -54,28 +56,28 @@ HasWithOrWithout was (group g) image = HasEither was (with_group was g) image
 HasWithOrWithout was (opening checkpoint) image = HasEither was (with_generation was checkpoint) image
 
 -- The journal's disk has what is committed and what is in doubt, in each image.
-pub record Stands {D : Type 0} (may_leave : D → Files → Type 0) (journal : Journal D) (was : Committed) (doubt : Doubtful) : Type 0 where
+pub record Stands {D : Type 0} (disk_says : DiskSays D) (journal : Journal D) (was : Committed) (doubt : Doubtful) : Type 0 where
   pub generation : journal.end.generation ≡ was.generation
   pub are_groups : AreGroups was.groups
   pub count : journal.end.groups ≡ length was.groups
   pub length : journal.end.length ≡ length (blocks was.groups)
   pub known : Knows doubt (journal.end.groups + 1) journal.doubt
-  pub each : (image : Files) → may_leave journal.disk image → IsImage was doubt image
+  pub each : (image : Files) → disk_says.may_leave journal.disk image → IsImage was doubt image
   -- what the layers above need of it
-  pub holds : (image : Files) → may_leave journal.disk image → HasWithOrWithout was doubt image
+  pub holds : (image : Files) → disk_says.may_leave journal.disk image → HasWithOrWithout was doubt image
 
 -- Nothing is in doubt, and no image since has anything else.
-pub record IsStill {D : Type 0} (may_leave : D → Files → Type 0) (moment : D → ℕ) (left_since : D → ℕ → Files → Type 0) (old new : Journal D) (was : Committed) : Type 0 where
-  pub stands : Stands may_leave new was nothing
-  pub any_moment : LeavesOnly moment left_since old.disk new.disk (HasCommitted was)
+pub record IsStill {D : Type 0} (disk_says : DiskSays D) (old new : Journal D) (was : Committed) : Type 0 where
+  pub stands : Stands disk_says new was nothing
+  pub any_moment : LeavesOnly disk_says old.disk new.disk (HasCommitted was)
 
 -- What a journal is made of: each image has the root, the checkpoint and the committed text, and a mark that isn't
 -- open. The bound is that of a disk's files.
-pub record CanBeAdopted {D : Type 0} (may_leave : D → Files → Type 0) (disk : D) (generation groups length_of_text : ℕ) (was : Committed) : Type 0 where
+pub record CanBeAdopted {D : Type 0} (disk_says : DiskSays D) (disk : D) (generation groups length_of_text : ℕ) (was : Committed) : Type 0 where
   pub generation_is : generation ≡ was.generation
   pub last : was.generation ≤ 4095
   pub are_groups : AreGroups was.groups
   pub count : groups ≡ length was.groups
   pub length_is : length_of_text ≡ length (blocks was.groups)
   pub short : length_of_text + 5 < 2 ^ 63
-  pub each : (image : Files) → may_leave disk image → IsAtRest was image
+  pub each : (image : Files) → disk_says.may_leave disk image → IsAtRest was image

@@ -2,9 +2,9 @@
 
 ghost use Rattle.std.specs.Prelude.{◌≡◌, ◌≢◌, ◌⊎◌, ◌+◌, ◌*◌, ◌<◌, ◌≤◌, ◌^◌, ℕ, List, [], ◌∷◌, ◌++◌, length, OnOk, IfOk, IsErr, IsTrue, ◌↔◌};
 ghost use Rattle.outside_api.specs.Count.{HasCause, counted};
-ghost use Rattle.outside_api.specs.Disk.{Files, After, Follows, LeavesOnly};
-ghost use Rattle.journal_groups.specs.Groups.{group_text};
-ghost use Rattle.disk_journal.specs.Text.{IsGroup};
+ghost use Rattle.outside_api.specs.Disk.{Files, After, Follows};
+ghost use Rattle.outside_api.specs.Moments.{LeavesOnly};
+ghost use Rattle.journal_groups.specs.Groups.{AreRecords, IsGroup, group_text};
 ghost use Rattle.disk_journal.specs.Older.{SameBefore};
 
 use db_records::Change;
@@ -32,14 +32,16 @@ pub(crate) enum Doubt {
     Generation,
 }
 
-/// The text of a journal's next group and of the closed mark behind it.
+/// The text of a journal's next group and of the closed mark behind it, and how many bytes it has.
 pub struct Prepared {
     text: Text,
+    size: u64,
+    ghost size_is: { size ≡ length text },
 }
 
 impl Drop for Prepared {
     fn drop(self) {
-        let Prepared { text: _ } = self;
+        let Prepared { text: _, size: _ } = self;
     }
 }
 
@@ -79,8 +81,8 @@ impl<D: Disk> Journal<D> {
     /// The journal of a disk on which nothing is in doubt, with so many groups in a committed text of
     /// that length in bytes. Makes no call of the disk.
     pub fn adopt(disk: D, generation: u32, groups: u64, length: u64) -> Self
-        requires { (was : Committed) × CanBeAdopted D.may_leave disk generation groups length was }
-        ensures stands { (was : Committed) → CanBeAdopted D.may_leave disk generation groups length was → Stands D.may_leave result was nothing }
+        requires { (was : Committed) × CanBeAdopted D.says disk generation groups length was }
+        ensures stands { (was : Committed) → CanBeAdopted D.says disk generation groups length was → Stands D.says result was nothing }
         ensures disk { disk_of result ≡ disk }
     {
         Journal {
@@ -98,20 +100,13 @@ impl<D: Disk> Journal<D> {
     pub fn prepare(&self, alloc: Global, changes: &[Change]) -> Result<Prepared, AllocError>
         ensures group { IfOk result (λ prepared. group_of prepared ≡ group_text (next_number self.now) changes.now) }
         ensures prepared { IfOk result (λ prepared. IsPrepared (next_number self.now) prepared) }
+        // What memory holds is no longer than a group's head can say.
+        ensures fits { AreRecords changes.now → IfOk result (λ prepared. IsGroup changes.now) }
     {
-        let text = print_group(alloc, self.end.groups + 1, changes)?;
-        self.prepare_text(text)
-    }
-
-    /// The text of the next group, with a closed mark behind it.
-    pub fn prepare_text(&self, text: Text) -> Result<Prepared, AllocError>
-        requires { IsGroup (next_number self.now) text }
-        ensures group { IfOk result (λ prepared. group_of prepared ≡ text) }
-        ensures prepared { IfOk result (λ prepared. IsPrepared (next_number self.now) prepared) }
-    {
-        let mut text = text;
+        let mut text = print_group(alloc, self.end.groups + 1, changes)?;
         text.append(b"@mx@\n")?;
-        Ok(Prepared { text })
+        let size = text.len() as u64;
+        Ok(Prepared { text, size })
     }
 
     /// The generation.
@@ -131,33 +126,33 @@ impl<D: Disk> Journal<D> {
     /// Puts a prepared group on the disk, whole or not at all: a write and a sync of the text, and a
     /// write and a sync of the mark before it.
     pub fn commit(&mut self, prepared: Prepared) -> Result<Receipt, DiskFault>
-        requires rest { (was : Committed) × Stands D.may_leave self.old was nothing }
+        requires rest { (was : Committed) × Stands D.says self.old was nothing }
         requires prepared { IsPrepared (next_number self.old) prepared }
 
-        ensures ok { (was : Committed) → Stands D.may_leave self.old was nothing →
-            OnOk result (Stands D.may_leave self.new (with_group was (group_of prepared)) nothing) }
+        ensures ok { (was : Committed) → Stands D.says self.old was nothing →
+            OnOk result (Stands D.says self.new (with_group was (group_of prepared)) nothing) }
         // The closed mark behind the group is `@mx@` and a line end.
-        ensures closed { (was : Committed) → Stands D.may_leave self.old was nothing →
-            OnOk result ((image : Files) → D.may_leave (disk_of self.new) image → HasClosedMark (with_group was (group_of prepared)) image) }
-        ensures receipt { (was : Committed) → Stands D.may_leave self.old was nothing →
+        ensures closed { (was : Committed) → Stands D.says self.old was nothing →
+            OnOk result ((image : Files) → D.says.may_leave (disk_of self.new) image → HasClosedMark (with_group was (group_of prepared)) image) }
+        ensures receipt { (was : Committed) → Stands D.says self.old was nothing →
             IfOk result (λ receipt. (receipt.generation ≡ was.generation) × (receipt.group ≡ length was.groups + 1)) }
 
         // Where the mark's write wasn't begun, no image of the call has the group; else it is in doubt.
-        ensures err { (was : Committed) → Stands D.may_leave self.old was nothing → IsErr result →
-            IsStill D.may_leave D.moment D.left_since self.old self.new was
-            ⊎ Stands D.may_leave self.new was (group (group_of prepared)) }
+        ensures err { (was : Committed) → Stands D.says self.old was nothing → IsErr result →
+            IsStill D.says self.old self.new was
+            ⊎ Stands D.says self.new was (group (group_of prepared)) }
 
-        ensures any_moment { (was : Committed) → Stands D.may_leave self.old was nothing →
-            LeavesOnly D.moment D.left_since (disk_of self.old) (disk_of self.new) (HasEither was (with_group was (group_of prepared))) }
+        ensures any_moment { (was : Committed) → Stands D.says self.old was nothing →
+            LeavesOnly D.says (disk_of self.old) (disk_of self.new) (HasEither was (with_group was (group_of prepared))) }
 
         // The files of the generations before stay as they are, at every moment.
-        ensures older { Follows (SameBefore (1 + 2 * generation_of_journal self.old)) (D.may_leave (disk_of self.old)) (D.may_leave (disk_of self.new)) }
-        ensures any_older { LeavesOnly D.moment D.left_since (disk_of self.old) (disk_of self.new) (After (SameBefore (1 + 2 * generation_of_journal self.old)) (D.may_leave (disk_of self.old))) }
-        ensures keeps { (older : List (List (List ℕ))) → KeepsOlder D.seen D.may_leave self.old older → KeepsOlder D.seen D.may_leave self.new older }
+        ensures older { Follows (SameBefore (1 + 2 * generation_of_journal self.old)) (D.says.may_leave (disk_of self.old)) (D.says.may_leave (disk_of self.new)) }
+        ensures any_older { LeavesOnly D.says (disk_of self.old) (disk_of self.new) (After (SameBefore (1 + 2 * generation_of_journal self.old)) (D.says.may_leave (disk_of self.old))) }
+        ensures keeps { (older : List (List (List ℕ))) → KeepsOlder D.says self.old older → KeepsOlder D.says self.new older }
 
-        ensures asked { OnOk result (D.calls (disk_of self.new) ≡ counted 4 (D.calls (disk_of self.old))) }
-        ensures at_most { D.calls (disk_of self.new) ≤ counted 4 (D.calls (disk_of self.old)) }
-        ensures cause { HasCause (D.faults (disk_of self.old)) (D.faults (disk_of self.new)) result }
+        ensures asked { OnOk result (D.says.calls (disk_of self.new) ≡ counted 4 (D.says.calls (disk_of self.old))) }
+        ensures at_most { D.says.calls (disk_of self.new) ≤ counted 4 (D.says.calls (disk_of self.old)) }
+        ensures cause { HasCause (D.says.faults (disk_of self.old)) (D.says.faults (disk_of self.new)) result }
     {
         let file = journal_file(self.end.generation);
         let text = prepared.text.as_bytes();
@@ -168,7 +163,7 @@ impl<D: Disk> Journal<D> {
         self.end = End {
             generation: self.end.generation,
             groups: self.end.groups + 1,
-            length: self.end.length + text.len() as u64,
+            length: self.end.length + prepared.size,
         };
         Ok(Receipt {
             generation: self.end.generation,
@@ -178,34 +173,34 @@ impl<D: Disk> Journal<D> {
 
     /// Whether a group or a generation may or may not count.
     pub fn in_doubt(&self) -> bool
-        ensures { (was : Committed) (doubt : Doubtful) → Stands D.may_leave self.now was doubt → IsTrue result ↔ (doubt ≢ nothing) }
+        ensures { (was : Committed) (doubt : Doubtful) → Stands D.says self.now was doubt → IsTrue result ↔ (doubt ≢ nothing) }
     {
         self.doubt != Doubt::Nothing
     }
 
     /// Closes the mark that is in doubt. Makes no call of the disk where nothing is in doubt.
     pub fn settle(&mut self) -> Result<(), DiskFault>
-        requires { (was : Committed) × ((doubt : Doubtful) × Stands D.may_leave self.old was doubt) }
-        ensures ok { (was : Committed) (doubt : Doubtful) → Stands D.may_leave self.old was doubt →
-            OnOk result (Stands D.may_leave self.new was nothing) }
+        requires { (was : Committed) × ((doubt : Doubtful) × Stands D.says self.old was doubt) }
+        ensures ok { (was : Committed) (doubt : Doubtful) → Stands D.says self.old was doubt →
+            OnOk result (Stands D.says self.new was nothing) }
         // The mark is closed by `m`: a journal's is then `@mx@` and a line end.
-        ensures closed { (was : Committed) (doubt : Doubtful) → Stands D.may_leave self.old was doubt →
-            OnOk result ((image : Files) → D.may_leave (disk_of self.new) image → IsShut was doubt image) }
-        ensures err { (was : Committed) (doubt : Doubtful) → Stands D.may_leave self.old was doubt →
-            IsErr result → Stands D.may_leave self.new was doubt }
-        ensures any_moment { (was : Committed) (doubt : Doubtful) → Stands D.may_leave self.old was doubt →
-            LeavesOnly D.moment D.left_since (disk_of self.old) (disk_of self.new) (HasWithOrWithout was doubt) }
-        ensures no_call { (was : Committed) → Stands D.may_leave self.old was nothing → disk_of self.new ≡ disk_of self.old }
+        ensures closed { (was : Committed) (doubt : Doubtful) → Stands D.says self.old was doubt →
+            OnOk result ((image : Files) → D.says.may_leave (disk_of self.new) image → IsShut was doubt image) }
+        ensures err { (was : Committed) (doubt : Doubtful) → Stands D.says self.old was doubt →
+            IsErr result → Stands D.says self.new was doubt }
+        ensures any_moment { (was : Committed) (doubt : Doubtful) → Stands D.says self.old was doubt →
+            LeavesOnly D.says (disk_of self.old) (disk_of self.new) (HasWithOrWithout was doubt) }
+        ensures no_call { (was : Committed) → Stands D.says self.old was nothing → disk_of self.new ≡ disk_of self.old }
         ensures number { next_number self.new ≡ next_number self.old }
         // The files of the generations before stay as they are, at every moment.
-        ensures older { Follows (SameBefore (1 + 2 * generation_of_journal self.old)) (D.may_leave (disk_of self.old)) (D.may_leave (disk_of self.new)) }
-        ensures any_older { LeavesOnly D.moment D.left_since (disk_of self.old) (disk_of self.new) (After (SameBefore (1 + 2 * generation_of_journal self.old)) (D.may_leave (disk_of self.old))) }
-        ensures keeps { (older : List (List (List ℕ))) → KeepsOlder D.seen D.may_leave self.old older → KeepsOlder D.seen D.may_leave self.new older }
-        ensures asked { (was : Committed) (doubt : Doubtful) → Stands D.may_leave self.old was doubt → doubt ≢ nothing →
-            OnOk result (D.calls (disk_of self.new) ≡ counted 2 (D.calls (disk_of self.old))) }
-        ensures at_most { (was : Committed) (doubt : Doubtful) → Stands D.may_leave self.old was doubt → doubt ≢ nothing →
-            D.calls (disk_of self.new) ≤ counted 2 (D.calls (disk_of self.old)) }
-        ensures cause { HasCause (D.faults (disk_of self.old)) (D.faults (disk_of self.new)) result }
+        ensures older { Follows (SameBefore (1 + 2 * generation_of_journal self.old)) (D.says.may_leave (disk_of self.old)) (D.says.may_leave (disk_of self.new)) }
+        ensures any_older { LeavesOnly D.says (disk_of self.old) (disk_of self.new) (After (SameBefore (1 + 2 * generation_of_journal self.old)) (D.says.may_leave (disk_of self.old))) }
+        ensures keeps { (older : List (List (List ℕ))) → KeepsOlder D.says self.old older → KeepsOlder D.says self.new older }
+        ensures asked { (was : Committed) (doubt : Doubtful) → Stands D.says self.old was doubt → doubt ≢ nothing →
+            OnOk result (D.says.calls (disk_of self.new) ≡ counted 2 (D.says.calls (disk_of self.old))) }
+        ensures at_most { (was : Committed) (doubt : Doubtful) → Stands D.says self.old was doubt → doubt ≢ nothing →
+            D.says.calls (disk_of self.new) ≤ counted 2 (D.says.calls (disk_of self.old)) }
+        ensures cause { HasCause (D.says.faults (disk_of self.old)) (D.says.faults (disk_of self.new)) result }
     {
         match self.doubt {
             Doubt::Nothing => Ok(()),
@@ -226,35 +221,35 @@ impl<D: Disk> Journal<D> {
     /// Opens the next generation, whole or not at all: writes its checkpoint and an empty journal,
     /// syncs, opens the root's mark and syncs.
     pub fn begin_generation(&mut self, checkpoint: &[u8]) -> Result<u32, DiskFault>
-        requires rest { (was : Committed) × Stands D.may_leave self.old was nothing }
+        requires rest { (was : Committed) × Stands D.says self.old was nothing }
         requires below { generation_of_journal self.old < 4095 }
 
-        ensures ok { (was : Committed) → Stands D.may_leave self.old was nothing →
-            OnOk result (Stands D.may_leave self.new (with_generation was checkpoint.now) nothing) }
+        ensures ok { (was : Committed) → Stands D.says self.old was nothing →
+            OnOk result (Stands D.says self.new (with_generation was checkpoint.now) nothing) }
         // The next generation's journal begins with the closed mark `@mx@` and a line end.
-        ensures closed { (was : Committed) → Stands D.may_leave self.old was nothing →
-            OnOk result ((image : Files) → D.may_leave (disk_of self.new) image → HasClosedMark (with_generation was checkpoint.now) image) }
+        ensures closed { (was : Committed) → Stands D.says self.old was nothing →
+            OnOk result ((image : Files) → D.says.may_leave (disk_of self.new) image → HasClosedMark (with_generation was checkpoint.now) image) }
         ensures number { IfOk result (λ n. n ≡ generation_of_journal self.old + 1) }
 
         // Where the root mark's write wasn't begun, no image of the call is of the next generation; else it is in doubt.
-        ensures err { (was : Committed) → Stands D.may_leave self.old was nothing → IsErr result →
-            IsStill D.may_leave D.moment D.left_since self.old self.new was
-            ⊎ Stands D.may_leave self.new was (opening checkpoint.now) }
+        ensures err { (was : Committed) → Stands D.says self.old was nothing → IsErr result →
+            IsStill D.says self.old self.new was
+            ⊎ Stands D.says self.new was (opening checkpoint.now) }
 
-        ensures any_moment { (was : Committed) → Stands D.may_leave self.old was nothing →
-            LeavesOnly D.moment D.left_since (disk_of self.old) (disk_of self.new) (HasEither was (with_generation was checkpoint.now)) }
+        ensures any_moment { (was : Committed) → Stands D.says self.old was nothing →
+            LeavesOnly D.says (disk_of self.old) (disk_of self.new) (HasEither was (with_generation was checkpoint.now)) }
 
         // The files of the generations before stay as they are, and so do this one's, at every moment.
-        ensures older { Follows (SameBefore (3 + 2 * generation_of_journal self.old)) (D.may_leave (disk_of self.old)) (D.may_leave (disk_of self.new)) }
-        ensures any_older { LeavesOnly D.moment D.left_since (disk_of self.old) (disk_of self.new) (After (SameBefore (3 + 2 * generation_of_journal self.old)) (D.may_leave (disk_of self.old))) }
-        ensures keeps { (older : List (List (List ℕ))) → KeepsOlder D.seen D.may_leave self.old older → IsErr result → KeepsOlder D.seen D.may_leave self.new older }
+        ensures older { Follows (SameBefore (3 + 2 * generation_of_journal self.old)) (D.says.may_leave (disk_of self.old)) (D.says.may_leave (disk_of self.new)) }
+        ensures any_older { LeavesOnly D.says (disk_of self.old) (disk_of self.new) (After (SameBefore (3 + 2 * generation_of_journal self.old)) (D.says.may_leave (disk_of self.old))) }
+        ensures keeps { (older : List (List (List ℕ))) → KeepsOlder D.says self.old older → IsErr result → KeepsOlder D.says self.new older }
         // The journal that was the newest is one of them then.
-        ensures closes { (was : Committed) (older : List (List (List ℕ))) → Stands D.may_leave self.old was nothing → KeepsOlder D.seen D.may_leave self.old older →
-            OnOk result (KeepsOlder D.seen D.may_leave self.new (older ++ was.groups ∷ [])) }
+        ensures closes { (was : Committed) (older : List (List (List ℕ))) → Stands D.says self.old was nothing → KeepsOlder D.says self.old older →
+            OnOk result (KeepsOlder D.says self.new (older ++ was.groups ∷ [])) }
 
-        ensures asked { OnOk result (D.calls (disk_of self.new) ≡ counted 5 (D.calls (disk_of self.old))) }
-        ensures at_most { D.calls (disk_of self.new) ≤ counted 5 (D.calls (disk_of self.old)) }
-        ensures cause { HasCause (D.faults (disk_of self.old)) (D.faults (disk_of self.new)) result }
+        ensures asked { OnOk result (D.says.calls (disk_of self.new) ≡ counted 5 (D.says.calls (disk_of self.old))) }
+        ensures at_most { D.says.calls (disk_of self.new) ≤ counted 5 (D.says.calls (disk_of self.old)) }
+        ensures cause { HasCause (D.says.faults (disk_of self.old)) (D.says.faults (disk_of self.new)) result }
     {
         let next = self.end.generation + 1;
         self.disk.write_at(checkpoint_file(next), 0, checkpoint)?;

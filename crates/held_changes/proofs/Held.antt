@@ -1,7 +1,7 @@
--- A change is shelved, or fixes jobs, exactly where one of the forms holds it.
+-- A change is shelved exactly where one of the forms holds it.
 use Rattle.std.proofs.Common.{◌≡◌, ℕ, Bool, true, false, List, [], ◌∷◌, ◌++◌, length, Option, Some, None, inl, inr, refl, sym, ap, ◌∙◌}
-use Rattle.std.specs.Prelude.{◌&&◌, ◌||◌, codes, decimal, filter, filter_map, if◌then◌else◌, is_some, nat_lt, option_and_then}
-use Rattle.std.specs.List.{cons_option, list_all, list_any}
+use Rattle.std.specs.Prelude.{◌&&◌, ◌||◌, codes, decimal, filter, if◌then◌else◌, is_some, nat_lt, option_and_then}
+use Rattle.std.specs.List.{list_all, list_any}
 use Rattle.std.specs.Option.{option_map_or}
 use Rattle.std.proofs.lemmas.Bool.{true≢false}
 use Rattle.depot_rows.specs.depot_path.Bytes.{begins_with, same}
@@ -10,53 +10,21 @@ use Rattle.depot_rows.specs.depot_path.Path.{printed, is_path}
 use Rattle.depot_rows.specs.spec_form.Form.{FormValue}
 use Rattle.depot_rows.specs.spec_form.declared.shape.Shape.TheVariants.{Shelf as ShelfShape}
 use Rattle.depot_rows.specs.depot_model.Arguments.{paths_of}
-use Rattle.depot_rows.specs.depot_model.Deeds.{Deed, ShelfForm, FixForm}
-use Rattle.depot_rows.specs.depot_model.Fixes.{is_on, is_fixing}
+use Rattle.depot_rows.specs.depot_model.Deeds.{Deed, ShelfForm}
 use Rattle.depot_rows.specs.depot_model.Latest.{keys_of, spec, spec_name, spec_said, when}
 use Rattle.depot_rows.specs.depot_model.Numerals.{is_numeral}
 use Rattle.depot_rows.specs.depot_model.Rules.{IsSound}
-use Rattle.depot_rows.specs.depot_model.Shelves.{is_kept, is_of_change, is_shelved, kept, kept_paths, shelf_name, shelf_paths}
+use Rattle.depot_rows.specs.depot_model.Shelves.{is_kept, is_of_change, is_shelved, kept, shelf_name, shelf_paths}
 use Rattle.depot_rows.specs.depot_model.Values.{value_of}
 use Rattle.depot_rows.proofs.Keys.{same-is, same-self, left-true, right-true}
 use Rattle.sound_deeds.proofs.Decimals.{decimal_digits}
 use Rattle.sound_deeds.proofs.Read.{spelled_reads, value_is}
 use Rattle.sound_form_steps.proofs.Found.{saved_shelf, shelf_there, spec_names, spelled}
-use Rattle.sound_form_steps.proofs.Members.{In, in_some, key_in}
+use Rattle.sound_form_steps.proofs.Members.{In, key_in}
 use Rattle.sound_form_steps.proofs.Shelving.{kept_are}
 use Rattle.depots_alike.proofs.Kept.{parts_are}
 use Rattle.named_forms.proofs.Texts.{begins_front}
 use Rattle.held_changes.specs.Holding.{holds, is_held}
-
--- ---- fixes
-
-module _ (f : List ℕ → Option FormValue) (p q : FormValue → Bool) where
-  some_counted : (names : List (List ℕ))
-      → list_any (λ name. option_map_or (λ form. p form && q form) (f name) false) names ≡ nat_lt 0 (length (filter q (filter p (filter_map f names))))
-  some_counted [] = refl
-  some_counted (name ∷ names) = go (f name) (some_counted names)
-    where
-      rest : List FormValue
-      rest = filter_map f names
-
-      later : Bool
-      later = list_any (λ x. option_map_or (λ form. p form && q form) (f x) false) names
-
-      go : (o : Option FormValue) → later ≡ nat_lt 0 (length (filter q (filter p rest)))
-          → (option_map_or (λ form. p form && q form) o false || later) ≡ nat_lt 0 (length (filter q (filter p (cons_option o rest))))
-      go None h = h
-      go (Some form) h = by_first (p form)
-        where
-          by_second : (b : Bool)
-              → (b || later) ≡ nat_lt 0 (length (if b then form ∷ filter q (filter p rest) else filter q (filter p rest)))
-          by_second true = sym (in_some (form ∷ filter q (filter p rest)) form (inl refl))
-          by_second false = h
-
-          by_first : (b : Bool) → ((b && q form) || later) ≡ nat_lt 0 (length (filter q (if b then form ∷ filter p rest else filter p rest)))
-          by_first true = by_second (q form)
-          by_first false = h
-
-pub fixing_held : (d : List Deed) (n : ℕ) → list_any (is_held FixForm d (codes "on") (decimal n)) (keys_of (spec_name FixForm) d) ≡ is_fixing d n
-fixing_held d n = some_counted (spec d FixForm) is_on (is_of_change n) (keys_of (spec_name FixForm) d)
 
 -- ---- shelved files
 

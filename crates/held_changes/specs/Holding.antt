@@ -1,5 +1,5 @@
 -- The forms that hold a change: they are of it, and in a state. This project's own choice.
-use Rattle.std.specs.Prelude.{ℕ, Bool, false, ◌&&◌, List, codes, decimal}
+use Rattle.std.specs.Prelude.{ℕ, Bool, false, ◌&&◌, List, codes}
 use Rattle.std.specs.Option.{option_map_or}
 use Rattle.depot_rows.specs.depot_path.Bytes.{same}
 use Rattle.depot_rows.specs.spec_form.Form.{FormValue}

@@ -7,7 +7,7 @@ ghost use Rattle.depot_rows.specs.db_records.declared.table.TableId.TheVariants 
 ghost use Rattle.depot_rows.specs.table_changes.Changed.{rows_of};
 ghost use Rattle.depot_rows.specs.depot_model.Deeds.{Deed};
 ghost use Rattle.depot_rows.specs.depot_model.Fixes.{is_fixing as is_fixing_in};
-ghost use Rattle.depot_rows.specs.depot_model.Latest.{keys_of, spec, spec_name};
+ghost use Rattle.depot_rows.specs.depot_model.Latest.{spec};
 ghost use Rattle.depot_rows.specs.depot_model.Rules.{IsSound};
 ghost use Rattle.depot_rows.specs.depot_model.Shelves.{is_shelved as is_shelved_in};
 ghost use Rattle.depot_rows.specs.Deed.{kind_of};
@@ -18,9 +18,9 @@ use depot_rows::SpecKind;
 use depot_rows::forms::Form;
 use depot_rows::paths::Text;
 use depot_rows::tables::Tables;
-use itoa::Buffer;
+use job_fixes::{digits, fixes_of};
 use named_forms::names_with;
-use row_reads::{form_names, form_value, saved_form};
+use row_reads::{form_value, saved_form};
 use std::alloc::{AllocError, Global};
 
 /// Whether a form is in a state and of a change.
@@ -79,34 +79,11 @@ fn some_is_held(
     Ok(false)
 }
 
-/// Whether a form of a kind is in a state and of a change.
-fn any_is_held(
-    alloc: Global,
-    tables: &Tables,
-    kind: SpecKind,
-    state: &[u8],
-    change: &[u8],
-) -> Result<bool, AllocError>
-    ensures { IfOk result (λ held. (d : List Deed) → IsSound d → HasRows (rows_of tables.now) d table_ids.Domain →
-        held ≡ list_any (is_held (kind_of kind) d state.now change.now) (keys_of (spec_name (kind_of kind)) d)) }
-{
-    let names = form_names(alloc, tables, kind)?;
-    let held = some_is_held(alloc, tables, kind, state, change, names.as_slice())?;
-    Ok(held)
-}
-
-/// The digits of a number.
-fn number_text(alloc: Global, number: u32) -> Result<Text, AllocError>
-    ensures { IfOk result (λ text. text ≡ decimal number) }
-{
-    Text::from_bytes(alloc, Buffer::new().format(number).as_bytes())
-}
-
 /// What the names of the forms of the files that are shelved in a change begin with: its number and a space.
 fn shelf_beginning(alloc: Global, number: u32) -> Result<Text, AllocError>
     ensures { IfOk result (λ start. start ≡ decimal number ++ 0x20 ∷ []) }
 {
-    let mut start = number_text(alloc, number)?;
+    let mut start = digits(alloc, number)?;
     start.append(b" ")?;
     Ok(start)
 }
@@ -116,7 +93,7 @@ fn shelf_beginning(alloc: Global, number: u32) -> Result<Text, AllocError>
 pub fn is_shelved(alloc: Global, tables: &Tables, change: u32) -> Result<bool, AllocError>
     ensures { IfOk result (λ shelved. (d : List Deed) → IsSound d → HasRows (rows_of tables.now) d table_ids.Domain → shelved ≡ is_shelved_in d change) }
 {
-    let number = number_text(alloc, change)?;
+    let number = digits(alloc, change)?;
     let start = shelf_beginning(alloc, change)?;
     let names = names_with(alloc, tables, b"shelf", start.as_bytes())?;
     let shelved = some_is_held(
@@ -130,11 +107,10 @@ pub fn is_shelved(alloc: Global, tables: &Tables, change: u32) -> Result<bool, A
     Ok(shelved)
 }
 
-/// Whether a change fixes jobs (Command-Line Reference, "p4 fix"), from the table of forms alone. It looks at every fix.
+/// Whether a change fixes jobs (Command-Line Reference, "p4 fix"), from the table of forms alone. It reads the fixes by the change.
 pub fn is_fixing(alloc: Global, tables: &Tables, change: u32) -> Result<bool, AllocError>
     ensures { IfOk result (λ fixing. (d : List Deed) → IsSound d → HasRows (rows_of tables.now) d table_ids.Domain → fixing ≡ is_fixing_in d change) }
 {
-    let number = number_text(alloc, change)?;
-    let fixing = any_is_held(alloc, tables, SpecKind::Fix, b"on", number.as_bytes())?;
-    Ok(fixing)
+    let fixes = fixes_of(alloc, tables, change)?;
+    Ok(!fixes.as_slice().is_empty())
 }

@@ -1,4 +1,3 @@
-mod FixRows
 mod JobRows
 mod Numbering
 mod Refusing
@@ -7,4 +6,3 @@ mod ChangeRows
 mod Distinct
 mod Stepping
 pub mod Telling
-pub mod FixNames

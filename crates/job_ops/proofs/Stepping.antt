@@ -21,17 +21,8 @@ use Rattle.reply_rows.specs.declared.step.Step.{Step}
 use Rattle.reply_rows.specs.Made.{IsMade, told}
 use Rattle.reply_rows.proofs.Bare.{made_of}
 use Rattle.reply_rows.proofs.Joined.{both_assoc, both_nothing, made_on, then_on}
-use Rattle.job_ops.specs.Telling.{Tells}
+use Rattle.job_fixes.specs.Telling.{Tells}
 use Rattle.job_ops.proofs.Telling.{AreSpecs, closes_specs, specs_follow}
-
--- ---- one item more of a list
-
-module _ {A : Type 0} (xs : List A) (i : ℕ) (x : A) (within : i < length xs) (is : x ≡ get_or xs i x) where
-  pub front : take (i + 1) xs ≡ take i xs ++ x ∷ []
-  front = take_more xs i x within ∙ ap (λ (y : A). take i xs ++ y ∷ []) (sym is)
-
-  pub back : drop i xs ≡ x ∷ drop (i + 1) xs
-  back = drop-cons xs i x within ∙ (λ j. sym is j ∷ drop (sym (add-one i) j) xs)
 
 -- ---- one step more
 

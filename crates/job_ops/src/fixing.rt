@@ -10,10 +10,9 @@ ghost use Rattle.depot_rows.specs.depot_model.Rules.{IsSound};
 ghost use Rattle.depot_rows.specs.depot_model.Step.{all_of};
 ghost use Rattle.depot_rows.specs.depot_model.Steps.Jobs as model;
 ghost use Rattle.depot_rows.specs.Standing.{HasRows};
-ghost use Rattle.job_ops.specs.Telling.{Tells};
+ghost use Rattle.job_fixes.specs.Telling.{Tells};
 ghost use Rattle.reply_rows.specs.Made.{IsMade};
 
-use crate::closing::{close, digits, fix_name, with};
 use crate::refusals::{distinct, fix_refusal, is_landed};
 use deed_list::Deeds;
 use depot_rows::SpecKind;
@@ -21,6 +20,7 @@ use depot_rows::forms::{Form, Shape};
 use depot_rows::model::{Caller, Row};
 use depot_rows::paths::Text;
 use depot_rows::tables::Tables;
+use job_fixes::{close, digits, fix_name, with};
 use reply_rows::{RowBuilder, Step};
 use std::alloc::{AllocError, Global};
 
@@ -148,7 +148,7 @@ fn fix_each(
 
 /// `fix -c N JOB...`, from the tables of forms and changes: each job is one that the change fixes, and is closed where the change is submitted. It
 /// is refused first where there is no such change, then the first job that isn't saved, and that the change would have more than 100 fixes. It
-/// reads all fixes.
+/// reads the fixes by the change.
 pub fn fix(
     alloc: Global,
     tables: &Tables,

@@ -4,7 +4,6 @@
 //! error is want of memory.
 #![tactic(auto)]
 
-mod closing;
 mod fixes;
 mod fixing;
 mod jobs;
@@ -12,8 +11,7 @@ mod refusals;
 mod saving;
 mod unfixing;
 
-pub use closing::{close, fix_name, with};
-pub use fixes::{fix_list, fixes_of};
+pub use fixes::fix_list;
 pub use fixing::fix;
 pub use jobs::{job_list, job_show};
 pub use saving::job_save;

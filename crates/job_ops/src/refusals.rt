@@ -21,8 +21,6 @@ ghost use Rattle.reply_rows.specs.Refusing.{first_of};
 ghost use Rattle.job_ops.specs.Distinct.{once};
 ghost use Rattle.job_ops.specs.Refusals as refusals;
 
-use crate::closing::fix_name;
-use crate::fixes::{fixes_of, is_on};
 use crate::saving::is_job;
 use depot_rows::SpecKind;
 use depot_rows::forms::Form;
@@ -30,6 +28,7 @@ use depot_rows::model::{Limit, Row};
 use depot_rows::paths::{Sequence, Text};
 use depot_rows::records::{ChangeRecord, Record};
 use depot_rows::tables::Tables;
+use job_fixes::{fix_name, fixes_of, is_on};
 use reply_rows::{limit_row, no_such_change_row, no_such_job_row};
 use revision_reads::change_of;
 use row_reads::saved_form;

@@ -15,7 +15,6 @@ ghost use Rattle.reply_rows.specs.Made.{IsMade};
 ghost use Rattle.reply_rows.specs.Refusing.{first_of};
 ghost use Rattle.job_ops.specs.Refusals as refusals;
 
-use crate::closing::with;
 use command_parts::unread;
 use depot_rows::SpecKind;
 use depot_rows::forms::{Form, Shape, field_place};
@@ -23,6 +22,7 @@ use depot_rows::model::{Limit, Row};
 use depot_rows::paths::{Text, value_up_to};
 use depot_rows::tables::Tables;
 use itoa::Buffer;
+use job_fixes::with;
 use reply_rows::{RowBuilder, Step, bad_form_row, limit_row, no_such_job_row};
 use row_reads::{form_names, form_value, saved_form};
 use std::alloc::{AllocError, Global};

@@ -11,14 +11,13 @@ ghost use Rattle.depot_rows.specs.depot_model.Steps.Jobs as model;
 ghost use Rattle.depot_rows.specs.Standing.{HasRows};
 ghost use Rattle.reply_rows.specs.Made.{IsMade};
 
-use crate::closing::{fix_name, with};
-use crate::fixes::is_on;
 use crate::fixing::fixed_row;
 use crate::refusals::{distinct, named_refusal};
 use depot_rows::SpecKind;
 use depot_rows::forms::Form;
 use depot_rows::paths::Text;
 use depot_rows::tables::Tables;
+use job_fixes::{fix_name, is_on, with};
 use reply_rows::Step;
 use row_reads::saved_form;
 use std::alloc::{AllocError, Global};

@@ -2,8 +2,9 @@
 use Rattle.std.proofs.Common.{◌≡◌, ◌≢◌, ◌⊎◌, inl, inr, ⊎_elim, ℕ, zero, suc, ◌+◌, ◌<◌, ◌≤◌, List, [], ◌∷◌, ◌++◌, length, take, get_or, set, refl, sym, ◌∙◌, ap, subst, arith, length-append, get_or-set_other, get_or-set_same, below_more}
 use Rattle.std.proofs.lemmas.List.{take-append-le, take_all}
 use Rattle.outside_api.specs.Count.{HasRisen}
-use Rattle.outside_api.specs.Disk.{Files, LeavesOnly}
-use Rattle.outside_api.specs.Moments.{weaker, then}
+use Rattle.outside_api.specs.Disk.{Files}
+use Rattle.outside_api.specs.Moments.{LeavesOnly, weaker, then}
+use Rattle.outside_api.specs.Says.{DiskSays}
 use Rattle.db_records.specs.declared.change.Change.{Change}
 use Rattle.disk_journal.specs.Images.{Committed, HasCommitted, with_group}
 use Rattle.disk_journal.specs.Stands.{Doubtful, nothing, group, HasWithOrWithout, Stands}
@@ -86,47 +87,47 @@ module _ (was : Committed) (batch : List (List Change)) (landings : List Landing
   }
 
 -- how far a run has come
-pub record Progress {D : Type 0} (may_leave : D → Files → Type 0) (moment : D → ℕ) (left_since : D → ℕ → Files → Type 0) (old now : Journal D) (batch : List (List Change)) (landings : List Landing) (was : Committed) : Type 0 where
+pub record Progress {D : Type 0} (disk_says : DiskSays D) (old now : Journal D) (batch : List (List Change)) (landings : List Landing) (was : Committed) : Type 0 where
   pub doubt : Doubtful
-  pub stands : Stands may_leave now (after was batch landings) doubt
+  pub stands : Stands disk_says now (after was batch landings) doubt
   pub so_far : (c : Files) → HasWithOrWithout (after was batch landings) doubt c → IsPrefix was batch landings c
-  pub any_moment : LeavesOnly moment left_since old.disk now.disk (IsPrefix was batch landings)
+  pub any_moment : LeavesOnly disk_says old.disk now.disk (IsPrefix was batch landings)
 
-module _ {D : Type 0} (may_leave : D → Files → Type 0) (moment : D → ℕ) (left_since : D → ℕ → Files → Type 0) where
+module _ {D : Type 0} (disk_says : DiskSays D) where
   -- before the first commit
-  pub started_run : (journal : Journal D) (was : Committed) → Stands may_leave journal was nothing → LeavesOnly moment left_since journal.disk journal.disk (HasCommitted was) → Progress may_leave moment left_since journal journal [] [] was
+  pub started_run : (journal : Journal D) (was : Committed) → Stands disk_says journal was nothing → LeavesOnly disk_says journal.disk journal.disk (HasCommitted was) → Progress disk_says journal journal [] [] was
   started_run journal was stands run =
       let here : (c : Files) → HasCommitted was c → IsPrefix was [] [] c = λ c has. record { count = 0; within = omega arith; has = inl has } in
-      record { doubt = nothing; stands = stands; so_far = here; any_moment = weaker moment left_since journal.disk journal.disk (HasCommitted was) (IsPrefix was [] []) here run }
+      record { doubt = nothing; stands = stands; so_far = here; any_moment = weaker disk_says journal.disk journal.disk (HasCommitted was) (IsPrefix was [] []) here run }
 
-  module _ (old mid new : Journal D) (batch : List (List Change)) (landings : List Landing) (was : Committed) (changes : List Change) (landing : Landing) (long : length batch ≡ length landings) (so_far : Progress may_leave moment left_since old mid batch landings was)
-      (run : LeavesOnly moment left_since mid.disk new.disk (λ c. HasWithOrWithout (after was batch landings) so_far.doubt c ⊎ HasWithOrWithout (after was batch landings) (group (next_group (after was batch landings) changes)) c)) where
+  module _ (old mid new : Journal D) (batch : List (List Change)) (landings : List Landing) (was : Committed) (changes : List Change) (landing : Landing) (long : length batch ≡ length landings) (so_far : Progress disk_says old mid batch landings was)
+      (run : LeavesOnly disk_says mid.disk new.disk (λ c. HasWithOrWithout (after was batch landings) so_far.doubt c ⊎ HasWithOrWithout (after was batch landings) (group (next_group (after was batch landings) changes)) c)) where
     was_kept : (c : Files) → HasWithOrWithout (after was batch landings) so_far.doubt c → IsPrefix was (batch ++ changes ∷ []) (landings ++ landing ∷ []) c
     was_kept c has = keeps was batch landings changes landing long c (so_far.so_far c has)
 
     either : (c : Files) → HasWithOrWithout (after was batch landings) (group (next_group (after was batch landings) changes)) c → IsPrefix was (batch ++ changes ∷ []) (landings ++ landing ∷ []) c
     either c has = ⊎_elim (whole was batch landings changes landing long c) (newest was batch landings changes landing long c) has
 
-    pub moments : LeavesOnly moment left_since old.disk new.disk (IsPrefix was (batch ++ changes ∷ []) (landings ++ landing ∷ []))
+    pub moments : LeavesOnly disk_says old.disk new.disk (IsPrefix was (batch ++ changes ∷ []) (landings ++ landing ∷ []))
     moments =
-        then moment left_since old.disk mid.disk new.disk (IsPrefix was (batch ++ changes ∷ []) (landings ++ landing ∷ []))
-        (weaker moment left_since old.disk mid.disk (IsPrefix was batch landings) (IsPrefix was (batch ++ changes ∷ []) (landings ++ landing ∷ [])) (keeps was batch landings changes landing long) so_far.any_moment)
-        (weaker moment left_since mid.disk new.disk _ (IsPrefix was (batch ++ changes ∷ []) (landings ++ landing ∷ [])) (λ c has. ⊎_elim (was_kept c) (either c) has) run)
+        then disk_says old.disk mid.disk new.disk (IsPrefix was (batch ++ changes ∷ []) (landings ++ landing ∷ []))
+        (weaker disk_says old.disk mid.disk (IsPrefix was batch landings) (IsPrefix was (batch ++ changes ∷ []) (landings ++ landing ∷ [])) (keeps was batch landings changes landing long) so_far.any_moment)
+        (weaker disk_says mid.disk new.disk _ (IsPrefix was (batch ++ changes ∷ []) (landings ++ landing ∷ [])) (λ c has. ⊎_elim (was_kept c) (either c) has) run)
 
     pub in_doubt_then : (now : Doubtful) → IsAfterFault so_far.doubt (next_group (after was batch landings) changes) now → (c : Files) → HasWithOrWithout (after was batch landings) now c → IsPrefix was (batch ++ changes ∷ []) (landings ++ landing ∷ []) c
     in_doubt_then now (inl same) c has = was_kept c (subst (λ d. HasWithOrWithout (after was batch landings) d c) same has)
     in_doubt_then now (inr (inl none)) c has = whole was batch landings changes landing long c (subst (λ d. HasWithOrWithout (after was batch landings) d c) none has)
     in_doubt_then now (inr (inr one)) c has = either c (subst (λ d. HasWithOrWithout (after was batch landings) d c) one has)
 
-  pub one_more : (old mid new : Journal D) (batch : List (List Change)) (landings : List Landing) (was : Committed) (changes : List Change) (landing : Landing) (long : length batch ≡ length landings) (so_far : Progress may_leave moment left_since old mid batch landings was)
-      → StandsAfter may_leave new (after was batch landings) so_far.doubt changes landing
-      → LeavesOnly moment left_since mid.disk new.disk (λ c. HasWithOrWithout (after was batch landings) so_far.doubt c ⊎ HasWithOrWithout (after was batch landings) (group (next_group (after was batch landings) changes)) c)
-      → Progress may_leave moment left_since old new (batch ++ changes ∷ []) (landings ++ landing ∷ []) was
+  pub one_more : (old mid new : Journal D) (batch : List (List Change)) (landings : List Landing) (was : Committed) (changes : List Change) (landing : Landing) (long : length batch ≡ length landings) (so_far : Progress disk_says old mid batch landings was)
+      → StandsAfter disk_says new (after was batch landings) so_far.doubt changes landing
+      → LeavesOnly disk_says mid.disk new.disk (λ c. HasWithOrWithout (after was batch landings) so_far.doubt c ⊎ HasWithOrWithout (after was batch landings) (group (next_group (after was batch landings) changes)) c)
+      → Progress disk_says old new (batch ++ changes ∷ []) (landings ++ landing ∷ []) was
   one_more old mid new batch landings was changes Landed long so_far stands run =
       let grown = after-push was batch landings changes Landed long in
       record {
         doubt = nothing;
-        stands = subst (λ w. Stands may_leave new w nothing) (sym grown) stands;
+        stands = subst (λ w. Stands disk_says new w nothing) (sym grown) stands;
         so_far = λ c has. newest was batch landings changes Landed long c (subst (λ w. HasCommitted w c) grown has);
         any_moment = moments old mid new batch landings was changes Landed long so_far run;
       }
@@ -134,7 +135,7 @@ module _ {D : Type 0} (may_leave : D → Files → Type 0) (moment : D → ℕ) 
       let same = after-push was batch landings changes Faulted long in
       record {
         doubt = stands.0;
-        stands = subst (λ w. Stands may_leave new w stands.0) (sym same) stands.2;
+        stands = subst (λ w. Stands disk_says new w stands.0) (sym same) stands.2;
         so_far = λ c has. in_doubt_then old mid new batch landings was changes Faulted long so_far run stands.0 stands.1 c (subst (λ w. HasWithOrWithout w stands.0 c) same has);
         any_moment = moments old mid new batch landings was changes Faulted long so_far run;
       }
@@ -142,7 +143,7 @@ module _ {D : Type 0} (may_leave : D → Files → Type 0) (moment : D → ℕ) 
       let same = after-push was batch landings changes NoMemory long in
       record {
         doubt = so_far.doubt;
-        stands = subst (λ w. Stands may_leave new w so_far.doubt) (sym same) stands;
+        stands = subst (λ w. Stands disk_says new w so_far.doubt) (sym same) stands;
         so_far = λ c has. was_kept old mid new batch landings was changes NoMemory long so_far run c (subst (λ w. HasWithOrWithout w so_far.doubt c) same has);
         any_moment = moments old mid new batch landings was changes NoMemory long so_far run;
       }
@@ -168,8 +169,8 @@ caused_more before mid now landings i landing first second within below here =
     (subst (λ (l : Landing). IsCaused before now l) (sym (get_or-set_same landings i landing NoMemory within)) (caused_since before mid now landing first here))
 
 -- a run that has come to its end
-pub all_of : {D : Type 0} (may_leave : D → Files → Type 0) (moment : D → ℕ) (left_since : D → ℕ → Files → Type 0) (old now : Journal D) (i : ℕ) (batch : List (List Change)) (landings : List Landing) (was : Committed) → length batch ≤ i → length landings ≤ i
-    → Progress may_leave moment left_since old now (take i batch) (take i landings) was → Progress may_leave moment left_since old now batch landings was
-all_of may_leave moment left_since old now i batch landings was one two so_far =
-    subst (λ (b : List (List Change)). Progress may_leave moment left_since old now b landings was) (take_all i batch one)
-    (subst (λ (l : List Landing). Progress may_leave moment left_since old now (take i batch) l was) (take_all i landings two) so_far)
+pub all_of : {D : Type 0} (disk_says : DiskSays D) (old now : Journal D) (i : ℕ) (batch : List (List Change)) (landings : List Landing) (was : Committed) → length batch ≤ i → length landings ≤ i
+    → Progress disk_says old now (take i batch) (take i landings) was → Progress disk_says old now batch landings was
+all_of disk_says old now i batch landings was one two so_far =
+    subst (λ (b : List (List Change)). Progress disk_says old now b landings was) (take_all i batch one)
+    (subst (λ (l : List Landing). Progress disk_says old now (take i batch) l was) (take_all i landings two) so_far)

@@ -2,6 +2,7 @@
 use Rattle.std.specs.Prelude.{◌≡◌, ◌⊎◌, ◌≤◌, ◌<◌, ◌+◌, ℕ, List, [], ◌∷◌, length, take, get_or}
 use Rattle.outside_api.specs.Count.{HasRisen}
 use Rattle.outside_api.specs.Disk.{Files}
+use Rattle.outside_api.specs.Says.{DiskSays}
 use Rattle.db_records.specs.declared.change.Change.{Change}
 use Rattle.journal_groups.specs.Groups.{group_text}
 use Rattle.disk_journal.specs.declared.journal.Journal.{Journal}
@@ -22,10 +23,10 @@ abbrev pub with_changes : Committed → List Change → Committed
 with_changes was changes = with_group was (next_group was changes)
 
 -- how a journal stands after the commit of these changes
-abbrev pub StandsAfter : {D : Type 0} → (D → Files → Type 0) → Journal D → Committed → Doubtful → List Change → Landing → Type 0
-StandsAfter may_leave journal was doubt changes Landed = Stands may_leave journal (with_changes was changes) nothing
-StandsAfter may_leave journal was doubt changes Faulted = (now : Doubtful) × IsAfterFault doubt (next_group was changes) now × Stands may_leave journal was now
-StandsAfter may_leave journal was doubt changes NoMemory = Stands may_leave journal was doubt
+abbrev pub StandsAfter : {D : Type 0} → DiskSays D → Journal D → Committed → Doubtful → List Change → Landing → Type 0
+StandsAfter disk_says journal was doubt changes Landed = Stands disk_says journal (with_changes was changes) nothing
+StandsAfter disk_says journal was doubt changes Faulted = (now : Doubtful) × IsAfterFault doubt (next_group was changes) now × Stands disk_says journal was now
+StandsAfter disk_says journal was doubt changes NoMemory = Stands disk_says journal was doubt
 
 -- a fault has its cause
 abbrev pub IsCaused : ℕ → ℕ → Landing → Type 0

@@ -54,7 +54,7 @@ fn run_read<T: Taker, C: Clock, G: Gate>(
     ensures can { T.can_take taker.new }
     ensures commands { result ≡ length (commands_of session) }
     ensures loaded { (since : ℕ) (start : List Deed) → AreWellFormed (commands_of session) → T.has_run taker.old since start [] →
-        IsLoaded (C.may_give clock.now) (T.has_run taker.new since) start session order.new.items }
+        IsLoaded (C.says.may_give clock.now) (T.has_run taker.new since) start session order.new.items }
     ensures faults { AreCaused (T.faults taker.old) (T.faults taker.new) (T.content_faults taker.old) (T.content_faults taker.new) [] order.new.items }
 {
     match session {
@@ -82,7 +82,7 @@ pub fn run_load<T: Taker, C: Clock, G: Gate>(
     ensures read { IfOk result (λ run. IsAskedBy (script_of seed count) (session_of seed count) run.end) }
     ensures commands { IfOk result (λ run. run.commands ≡ length (commands_of (session_of seed count))) }
     ensures loaded { (since : ℕ) (start : List Deed) → T.has_run taker.old since start [] → IfOk result (λ run.
-        IsLoaded (C.may_give clock.now) (T.has_run taker.new since) start (session_of seed count) run.order) }
+        IsLoaded (C.says.may_give clock.now) (T.has_run taker.new since) start (session_of seed count) run.order) }
     ensures faults { IfOk result (λ run. AreCaused (T.faults taker.old) (T.faults taker.new) (T.content_faults taker.old) (T.content_faults taker.new) [] run.order) }
 {
     let script = load_script(alloc, seed, count)?;

@@ -11,9 +11,7 @@ pub(crate) struct ScriptBytes<'a> {
 }
 
 impl Source for ScriptBytes<'_> {
-    ghost faults = { λ source. 0 };
-
-    ghost left = { λ source. Some source.rest.now };
+    ghost says = { record { left = λ source. Some source.rest.now; faults = λ source. 0 } };
 
     fn take(&mut self, buffer: &mut [u8]) -> Result<usize, Failed> {
         let count = self.rest.len().min(buffer.len());
@@ -28,9 +26,7 @@ impl Source for ScriptBytes<'_> {
 pub(crate) struct NoReplies;
 
 impl Sink for NoReplies {
-    ghost faults = { λ sink. 0 };
-
-    ghost given = { λ sink. None };
+    ghost says = { record { given = λ sink. None; faults = λ sink. 0 } };
 
     fn give(&mut self, piece: &[u8]) -> Result<usize, Failed> {
         Ok(piece.len())

@@ -1,21 +1,23 @@
 -- The parties of the code are those of the machine: what they own, for what they wait, and what they become.
-use Rattle.std.proofs.Common.{◌≡◌, ℕ, zero, suc, Bool, true, false, not, eqb, List, [], ◌∷◌, ◌++◌, map, reverse, take, set, Option, Some, None, refl, sym, ap, subst, ◌∙◌, length, arith}
-use Rattle.std.specs.Prelude.{slice_get, ◌&&◌, ◌||◌}
+use Rattle.std.proofs.Common.{◌≡◌, ℕ, zero, suc, Bool, true, false, not, List, [], ◌∷◌, ◌++◌, map, reverse, take, drop, set, Option, Some, None, refl, sym, ap, subst, ◌∙◌, length, arith}
+use Rattle.std.specs.Prelude.{slice_get, unwrap_or, ◌&&◌, ◌||◌}
 use Rattle.std.specs.List.{list_any}
 use Rattle.std.proofs.lemmas.Bool.{lt-ltb}
 use Rattle.std.proofs.lemmas.List.{reverse-append, map-append}
 use Rattle.depot_rows.specs.depot_model.Deeds.{Deed}
 use Rattle.depot_rows.specs.depot_model.Tables as model_need
+use Rattle.depot_rows.specs.depot_model.declared.lock.LockId.{LockId}
+use Rattle.depot_rows.specs.depot_model.declared.lock.LockId.TheVariants.{Journal}
 use Rattle.depot_rows.specs.depot_model.declared.request.Request.{Request}
 use Rattle.lock_core.specs.Core.{wait_in, wait_at, may_wait, is_waiting, is_working, AreShown, Shows}
-use Rattle.lock_machine.specs.Machine.{journal, Seen, Commit, State, owns_seen, has_judged, owns_at, owns_by, owns, next_lock, may_work, may_go, may_party, is_enabled, is_unfinished}
+use Rattle.lock_machine.specs.Machine.{is_lock, Seen, Commit, State, owns_seen, has_judged, owns_at, owns_by, owns, next_lock, may_work, may_go, may_party, is_enabled, is_unfinished}
 use Rattle.lock_machine.specs.Machine as model
 use Rattle.lock_core.specs.Parties.{IsShownBy, IsShownAs, IsShown, holds, holds_by, waits_by, wait_of}
-use Rattle.command_needs.specs.Sets.{need_of}
-use Rattle.lock_core.specs.Works.{IsWorkShown, holds_need, holds_lock, waits_for, waits_at, first_lock, rest_of}
+use Rattle.command_needs.specs.Sets.{locks_in, need_in}
+use Rattle.lock_core.specs.Works.{IsWorkShown, holds_taken, holds_lock, waits_for, waits_at, next_of}
 use Rattle.lock_core.specs.declared.machine.LockCore.{LockCore}
 use Rattle.lock_core.specs.declared.party.Party.{Party}
-use Rattle.command_needs.specs.declared.sets.Need.{Need}
+use Rattle.command_needs.specs.declared.needs.Needs.{Needs}
 use Rattle.lock_machine.specs.declared.stage.Stage.{Stage}
 use Rattle.lock_machine.specs.declared.stage.Stage.TheVariants.{Gathering, Judged, Committed}
 use Rattle.lock_core.specs.declared.work.Work.{Work}
@@ -23,16 +25,16 @@ use Rattle.lock_machine.proofs.Places.{some_is}
 
 -- ---- locks
 
-abbrev owned_need : Bool → ℕ → model_need.Need → Bool
-owned_need second lock n = (second || n.writes) && eqb n.lock lock
+abbrev owned_need : Bool → LockId → model_need.Need → Bool
+owned_need second lock n = (second || n.writes) && is_lock n.lock lock
 
-any_seen : (second : Bool) (lock : ℕ) (seen : List Seen) → list_any (owns_seen second lock) seen ≡ list_any (owned_need second lock) (map (λ (s : Seen). s.need) seen)
+any_seen : (second : Bool) (lock : LockId) (seen : List Seen) → list_any (owns_seen second lock) seen ≡ list_any (owned_need second lock) (map (λ (s : Seen). s.need) seen)
 any_seen second lock [] = refl
 any_seen second lock (s ∷ seen) = ap (λ b. owned_need second lock s.need || b) (any_seen second lock seen)
 
-any_need : (second : Bool) (lock : ℕ) (xs : List Need) → list_any (holds_need second lock) xs ≡ list_any (owned_need second lock) (map need_of xs)
-any_need second lock [] = refl
-any_need second lock (x ∷ xs) = ap (λ b. holds_need second lock x || b) (any_need second lock xs)
+any_need : (needs : Needs) (second : Bool) (lock : LockId) (xs : List LockId) → list_any (holds_taken needs second lock) xs ≡ list_any (owned_need second lock) (map (need_in needs) xs)
+any_need needs second lock [] = refl
+any_need needs second lock (x ∷ xs) = ap (λ b. holds_taken needs second lock x || b) (any_need needs second lock xs)
 
 no_end : (xs : List Request) (r : Request) → xs ++ r ∷ [] ≡ [] → ⊥
 no_end [] r e = cc
@@ -45,20 +47,20 @@ or_turned false true = refl
 or_turned false false = refl
 
 module _ (order : List Commit) where
-  work_holds : (lock : ℕ) (w : Work) (v : model.Work) → IsWorkShown order w v → holds_lock lock w ≡ owns_at lock v
+  work_holds : (lock : LockId) (w : Work) (v : model.Work) → IsWorkShown order w v → holds_lock lock w ≡ owns_at lock v
   work_holds lock w v h =
-      let taken : list_any (holds_need w.second lock) (take w.done w.needs.items) ≡ list_any (owns_seen v.second lock) v.seen =
-      any_need w.second lock (take w.done w.needs.items)
+      let taken : list_any (holds_taken w.needs w.second lock) (take w.done (locks_in w.needs)) ≡ list_any (owns_seen v.second lock) v.seen =
+      any_need w.needs w.second lock (take w.done (locks_in w.needs))
       ∙ ((λ i. list_any (owned_need (h.second i) lock) (sym h.seen i)) ∙ sym (any_seen v.second lock v.seen)) in
-      (λ i. taken i || (has_judged (h.stage i) && eqb lock journal)) ∙ or_turned (list_any (owns_seen v.second lock) v.seen) (has_judged v.stage && eqb lock journal)
+      (λ i. taken i || (has_judged (h.stage i) && is_lock lock Journal)) ∙ or_turned (list_any (owns_seen v.second lock) v.seen) (has_judged v.stage && is_lock lock Journal)
 
-  holds_as : (lock : ℕ) (work : Option Work) (its : Option model.Work) → IsShownBy order work its → holds_by lock work ≡ owns_by lock its
+  holds_as : (lock : LockId) (work : Option Work) (its : Option model.Work) → IsShownBy order work its → holds_by lock work ≡ owns_by lock its
   holds_as lock None None h = refl
   holds_as lock None (Some v) h = absurd h
   holds_as lock (Some w) None h = absurd h
   holds_as lock (Some w) (Some v) h = work_holds lock w v h
 
-  any_same : (lock : ℕ) (ps : List Party) (qs : List model.Party) → AreShown order ps qs → list_any (holds lock) ps ≡ list_any (owns lock) qs
+  any_same : (lock : LockId) (ps : List Party) (qs : List model.Party) → AreShown order ps qs → list_any (holds lock) ps ≡ list_any (owns lock) qs
   any_same lock [] [] all = refl
   any_same lock [] (q ∷ qs) all = absurd all
   any_same lock (p ∷ ps) [] all = absurd all
@@ -73,15 +75,17 @@ module _ (order : List Commit) where
 
   -- ---- for what they wait
 
-  first_same : (xs : List Need) → first_lock xs ≡ next_lock (map need_of xs)
-  first_same [] = refl
-  first_same (x ∷ xs) = refl
+  first_same : (needs : Needs) (xs : List LockId) (n : ℕ) → unwrap_or (slice_get xs n) Journal ≡ next_lock (map (need_in needs) (drop n xs))
+  first_same needs [] zero = refl
+  first_same needs [] (suc n) = refl
+  first_same needs (x ∷ xs) zero = refl
+  first_same needs (x ∷ xs) (suc n) = first_same needs xs n
 
   module _ (ps : List Party) (qs : List model.Party) (all : AreShown order ps qs) where
-    work_may : (w : Work) (v : model.Work) (stage : Stage) → w.stage ≡ stage → IsWorkShown order w v → may_wait ps (wait_of (waits_at stage (rest_of w))) ≡ may_work qs stage v.rest
+    work_may : (w : Work) (v : model.Work) (stage : Stage) → w.stage ≡ stage → IsWorkShown order w v → may_wait ps (wait_of (waits_at stage (next_of w))) ≡ may_work qs stage v.rest
     work_may w v Gathering is h =
-        ap not (any_same (first_lock (rest_of w)) ps qs all)
-        ∙ ap (λ lock. not (list_any (owns lock) qs)) (first_same (rest_of w) ∙ ap next_lock (sym h.rest))
+        ap not (any_same (unwrap_or (next_of w) Journal) ps qs all)
+        ∙ ap (λ lock. not (list_any (owns lock) qs)) (first_same w.needs (locks_in w.needs) w.done ∙ ap next_lock (sym h.rest))
     work_may w v Judged is h = refl
     work_may w v Committed is h = refl
 
@@ -157,7 +161,7 @@ enabled_same start core s i shows = go (slice_get core.parties.items i) refl
 working_as : (order : List Commit) (left : List Work) (work : Option Work) (q : model.Party) → IsShownAs order left work q → is_waiting (waits_by left work) ≡ is_unfinished q
 working_as order left work q h = go left work q.left q.work h.left_is h.work_is
   where
-    waits_for_some : (wait : Option ℕ) → is_waiting (wait_of wait) ≡ true
+    waits_for_some : (wait : Option LockId) → is_waiting (wait_of wait) ≡ true
     waits_for_some None = refl
     waits_for_some (Some lock) = refl
 

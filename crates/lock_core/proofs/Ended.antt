@@ -17,21 +17,25 @@ use Rattle.depot_rows.specs.depot_model.Tables.{needs_of}
 use Rattle.depot_rows.specs.depot_model.declared.request.Request.{Request}
 use Rattle.depot_rows.specs.Standing.{HasRows, Stand}
 use Rattle.command_core.specs.declared.outcome.Outcome.{Outcome}
-use Rattle.lock_machine.specs.Machine.{Commit, State, Finish, Done, may_go, placed, added, added_at, moved, worked, acted, acts, event}
+use Rattle.depot_rows.specs.depot_model.declared.lock.LockId.{LockId}
+use Rattle.lock_machine.specs.Machine.{guards, Commit, State, Finish, Done, may_go, placed, added, added_at, moved, worked, acted, acts, event}
 use Rattle.lock_machine.specs.Machine as model
 use Rattle.lock_machine.specs.Runs.{AreChanged, depot_after, Tells, TellsBy, TellsAt, IsRun}
 use Rattle.lock_machine.specs.declared.stage.Stage.TheVariants.{Committed}
+use Rattle.lock_machine.proofs.Orderly.{guards_none}
 use Rattle.lock_machine.proofs.Places.{some_is}
 use Rattle.lock_machine.proofs.Runs.{after_more, run_event}
 use Rattle.lock_core.specs.Core.{request_by, request_in, AreShown, Shows, IsAt, IsCommit, IsReady}
 use Rattle.lock_core.specs.Finished.{Finishes, IsDone, IsUndone, IsPut, PutsIn, room_in, marked_party, marked_parties, committed_work, committed_party}
 use Rattle.lock_core.specs.Parties.{IsShownBy, IsShown}
-use Rattle.lock_core.specs.Works.{IsWorkShown, looked_at, looked_at_need, marked}
+use Rattle.lock_core.specs.Works.{IsWorkShown, looked_at, looked_behind, marked}
 use Rattle.lock_core.specs.declared.machine.LockCore.{LockCore}
 use Rattle.lock_core.specs.declared.party.Party.{Party}
 use Rattle.lock_core.specs.declared.turn.Finish as code_finish
 use Rattle.lock_core.specs.declared.turn.Finish.TheVariants as code
-use Rattle.command_needs.specs.declared.sets.Need.{Need}
+use Rattle.command_needs.specs.Sets.{locks_in, tables_in, writes_behind}
+use Rattle.command_needs.specs.declared.needs.Needs.{Needs}
+use Rattle.command_needs.proofs.Listed.{in_tables}
 use Rattle.lock_core.specs.declared.work.Room.{Room}
 use Rattle.lock_core.specs.declared.work.Work.{Work}
 use Rattle.lock_core.proofs.Counterparts.{shown_of, set_shown}
@@ -40,13 +44,14 @@ use Rattle.lock_core.proofs.Telling.{tells}
 
 -- ---- nothing is stale for no change
 
-looked_none : (second : Bool) (xs : List Need) → list_any (looked_at_need second []) xs ≡ false
-looked_none second [] = refl
-looked_none second (x ∷ xs) = go (not (second || x.writes)) (looked_none second xs)
+looked_none : (needs : Needs) (second : Bool) (xs : List LockId) → list_any (looked_behind needs second []) xs ≡ false
+looked_none needs second [] = refl
+looked_none needs second (x ∷ xs) = go (not (second || writes_behind needs x)) (guards [] x) (guards_none x) (looked_none needs second xs)
   where
-    go : (b : Bool) → list_any (looked_at_need second []) xs ≡ false → ((b && false) || list_any (looked_at_need second []) xs) ≡ false
-    go true rest = rest
-    go false rest = rest
+    go : (a b : Bool) → b ≡ false → list_any (looked_behind needs second []) xs ≡ false → ((a && b) || list_any (looked_behind needs second []) xs) ≡ false
+    go a true never rest = absurd cc
+    go true false never rest = rest
+    go false false never rest = rest
 
 unmarked : (ps : List Party) → marked_parties [] ps ≡ ps
 unmarked [] = refl
@@ -58,7 +63,7 @@ unmarked (p ∷ ps) = λ i. record p { work = one p.work i } ∷ unmarked ps i
 
     one : (work : Option Work) → option_map (marked []) work ≡ work
     one None = refl
-    one (Some w) = ap (λ b. Some (record w { stale = b })) (or_false w.stale (looked_at [] w) (looked_none w.second (take w.done w.needs.items)))
+    one (Some w) = ap (λ b. Some (record w { stale = b })) (or_false w.stale (looked_at [] w) (looked_none w.needs w.second (take w.done (locks_in w.needs))))
 
 -- ---- the commit that is at hand
 
@@ -105,10 +110,10 @@ module _ (start : List Deed) (s : State) (old : LockCore) (i : ℕ) (request : R
   committed = committed_party its_party.0
 
   -- who has its place needs to know nothing more
-  placed_shown : (order : List Commit) (changed : List ℕ) (w : Work) (v : model.Work) → IsWorkShown s.order w v → IsWorkShown order (marked changed (committed_work w)) (record v { stage = Committed })
+  placed_shown : (order : List Commit) (changed : List TableId) (w : Work) (v : model.Work) → IsWorkShown s.order w v → IsWorkShown order (marked changed (committed_work w)) (record v { stage = Committed })
   placed_shown order changed w v h = record { request = h.request; stage = refl; second = h.second; set = h.set; seen = h.seen; rest = h.rest; stale = λ g. absurd cc }
 
-  party_shown : (order : List Commit) (changed : List ℕ) → IsShown order (marked_party changed committed) after_party
+  party_shown : (order : List Commit) (changed : List TableId) → IsShown order (marked_party changed committed) after_party
   party_shown order changed =
       let h = its_party.2 in
       record { fresh = h.fresh; left_is = h.left_is; work_is = go its_party.0.work at.party.work at.has h.work_is }
@@ -129,13 +134,13 @@ module _ (start : List Deed) (s : State) (old : LockCore) (i : ℕ) (request : R
   -- ---- one that is done
 
   module _ (outcome : Outcome) (ready : IsReady start s old i request outcome) where
-    abbrev changed : List ℕ
-    changed = ready.room.room.changed.items
+    abbrev changed : List TableId
+    changed = tables_in ready.room.room.changed
 
     told : AreChanged d (after d (step d at.work.request).deeds) changed
     told =
         let P : Request → Type 0 = λ r. AreChanged d (after d (step d r).deeds) changed in
-        subst P (sym at.asks) (tells (rows_of old.tables) d (after d (step d request).deeds) outcome.changes changed commit.shows.stand (ready.outcome_is d commit.shows.stand).changes ready.room.is.changed)
+        subst P (sym at.asks) (tells (rows_of old.tables) d (after d (step d request).deeds) outcome.changes changed commit.shows.stand (ready.outcome_is d commit.shows.stand).changes (λ table. in_tables ready.room.room.changed table ∙ ready.room.is.changed table))
 
     abbrev place : Commit
     place = record { place = record { request = Some at.work.request; fault = false }; changed = changed }
@@ -228,7 +233,7 @@ module _ (start : List Deed) (s : State) (old new : LockCore) (i : ℕ) (request
       let is_put : IsPut ready.room.room (set old.parties.items i p') put = subst P its puts in
       done start s old i request commit outcome ready new
       (same_versions put.tables new.tables same ∙ (ap rows_of is_put.tables ∙ ready.room.is.after))
-      (parties_are ∙ (is_put.marked ∙ ap (marked_parties ready.room.room.changed.items) set_is))
+      (parties_are ∙ (is_put.marked ∙ ap (marked_parties (tables_in ready.room.room.changed)) set_is))
 
   pub finished_fault : ((table : TableId) → version_of new.tables table ≡ version_of old.tables table) → new.parties.items ≡ set old.parties.items i p' → IsUndone start s old new i model.Fault
   finished_fault same parties_are = failed start s old i request commit new (same_versions old.tables new.tables same) (parties_are ∙ set_is)

@@ -1,3 +1,5 @@
+pub mod Ranges
+pub mod Passing
 pub mod Working
 pub mod Turning
 pub mod Counterparts

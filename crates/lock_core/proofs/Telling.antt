@@ -2,6 +2,7 @@
 use Rattle.std.proofs.Common.{◌≡◌, ◌⊎◌, ℕ, Bool, true, false, cond, eqb, List, [], ◌∷◌, Option, Some, None, refl, sym, ap, subst, ◌∙◌, inl, inr}
 use Rattle.std.specs.Prelude.{option_map}
 use Rattle.std.specs.Ordering.{is_eq}
+use Rattle.std.proofs.lemmas.Bool.Decides.{Decides-eqb}
 use Rattle.std.specs.declared.cmp.Ordering.{Ordering}
 use Rattle.std.specs.declared.cmp.Ordering.TheVariants.{Less, Equal, Greater}
 use Rattle.depot_rows.specs.db_records.Key.{key_cmp, key_table}
@@ -18,24 +19,38 @@ use Rattle.depot_rows.specs.table_store.Rows.{changed_once}
 use Rattle.depot_rows.specs.depot_model.Deeds.{Deed}
 use Rattle.depot_rows.specs.depot_model.Records.{record_of, unplaced, is_at}
 use Rattle.depot_rows.specs.depot_model.Tables.{is_in}
+use Rattle.depot_rows.specs.depot_model.declared.lock.LockId.TheVariants.{Table}
 use Rattle.depot_rows.specs.Standing.{Stand, row_in}
 use Rattle.row_changes.specs.Differences.{AreDifferences, LeadsTo, change_at, changed_key}
 use Rattle.lock_machine.specs.Runs.{AreChanged}
 use Rattle.lock_core.specs.Works.{is_changed}
 use Rattle.lock_machine.proofs.Places.{some_is, either_true, neither, true_or_false}
-use Rattle.lock_machine.proofs.Orderly.{same_lock, itself}
+use Rattle.lock_machine.proofs.Orderly.{same_lock}
+
+same : (a b : ℕ) → eqb a b ≡ true → a ≡ b
+same a b e = (Decides-eqb a b).0 e
+
+itself : (a : ℕ) → eqb a a ≡ true
+itself a = (Decides-eqb a a).1 refl
+
+-- tables with one number are one
+same_table : (a b : TableId) → eqb (table_number a) (table_number b) ≡ true → a ≡ b
+same_table a b e = own (same_lock (Table a) (Table b) e)
+  where
+    own : {a b : TableId} → Table a ≡ Table b → a ≡ b
+    own e = cc
 
 turned : (a b : ℕ) → eqb a b ≡ false → eqb b a ≡ false
 turned a b apart = elim (true_or_false (eqb b a)) [
-  | inl e ↦ absurd (let is : a ≡ b = sym (same_lock b a e) in let both : true ≡ false = sym (ap (eqb a) (sym is) ∙ itself a) ∙ apart in cc)
+  | inl e ↦ absurd (let is : a ≡ b = sym (same b a e) in let both : true ≡ false = sym (ap (eqb a) (sym is) ∙ itself a) ∙ apart in cc)
   | inr e ↦ e
 ]
 
 -- the rows of a table stay of which there is no change
-pub stays_in : (rows : AllRows) (changes : List Change) (table : TableId) → is_changed changes (table_number table) ≡ false → changed_by rows changes table ≡ rows table
+pub stays_in : (rows : AllRows) (changes : List Change) (table : TableId) → is_changed changes table ≡ false → changed_by rows changes table ≡ rows table
 stays_in rows [] table none = refl
 stays_in rows (change ∷ changes) table none =
-    let parts = neither (eqb (table_number (table_of change.row)) (table_number table)) (is_changed changes (table_number table)) none in
+    let parts = neither (eqb (table_number (table_of change.row)) (table_number table)) (is_changed changes table) none in
     stays_in (changed_in rows change) changes table parts.1
     ∙ ap (λ b. cond b (changed_once (rows table) change) (rows table)) (turned (table_number (table_of change.row)) (table_number table) parts.0)
 
@@ -64,10 +79,10 @@ itself_at : (key : Key) → is_at key key ≡ true
 itself_at key = ap is_eq ((keys_equal key key).1 refl)
 
 -- no change is at a key of a table of which there is none
-none_at : (changes : List Change) (key : Key) → is_changed changes (table_number (key_table key)) ≡ false → change_at changes key ≡ None
+none_at : (changes : List Change) (key : Key) → is_changed changes (key_table key) ≡ false → change_at changes key ≡ None
 none_at [] key none = refl
 none_at (change ∷ changes) key none =
-    let parts = neither (eqb (table_number (table_of change.row)) (table_number (key_table key))) (is_changed changes (table_number (key_table key))) none in
+    let parts = neither (eqb (table_number (table_of change.row)) (table_number (key_table key))) (is_changed changes (key_table key)) none in
     go (is_at key (changed_key change)) refl parts.0 (none_at changes key parts.1)
   where
     go : (b : Bool) → is_at key (changed_key change) ≡ b → eqb (table_number (table_of change.row)) (table_number (key_table key)) ≡ false → change_at changes key ≡ None
@@ -78,17 +93,19 @@ none_at (change ∷ changes) key none =
     go false at apart rest = ap (λ b. cond b (Some change) (change_at changes key)) at ∙ rest
 
 -- a change is at its own key
-one_at : (changes : List Change) (n : ℕ) → is_changed changes n ≡ true → (key : Key) × (change : Change) × (table_number (key_table key) ≡ n) × (change_at changes key ≡ Some change)
-one_at [] n has = absurd cc
-one_at (change ∷ changes) n has = by (eqb (table_number (table_of change.row)) n) refl (either_true (eqb (table_number (table_of change.row)) n) (is_changed changes n) has) (one_at changes n)
+one_at : (changes : List Change) (table : TableId) → is_changed changes table ≡ true → (key : Key) × (change : Change) × (key_table key ≡ table) × (change_at changes key ≡ Some change)
+one_at [] table has = absurd cc
+one_at (change ∷ changes) table has =
+    by (eqb (table_number (table_of change.row)) (table_number table)) refl (either_true (eqb (table_number (table_of change.row)) (table_number table)) (is_changed changes table) has) (one_at changes table)
   where
-    by : (b : Bool) → eqb (table_number (table_of change.row)) n ≡ b → (eqb (table_number (table_of change.row)) n ≡ true) ⊎ (is_changed changes n ≡ true)
-        → (is_changed changes n ≡ true → (key : Key) × (found : Change) × (table_number (key_table key) ≡ n) × (change_at changes key ≡ Some found))
-        → (key : Key) × (found : Change) × (table_number (key_table key) ≡ n) × (change_at (change ∷ changes) key ≡ Some found)
+    by : (b : Bool) → eqb (table_number (table_of change.row)) (table_number table) ≡ b
+        → (eqb (table_number (table_of change.row)) (table_number table) ≡ true) ⊎ (is_changed changes table ≡ true)
+        → (is_changed changes table ≡ true → (key : Key) × (found : Change) × (key_table key ≡ table) × (change_at changes key ≡ Some found))
+        → (key : Key) × (found : Change) × (key_table key ≡ table) × (change_at (change ∷ changes) key ≡ Some found)
     by b is (inl here) rest = (
       changed_key change,
       change,
-      ap table_number (of_table change.row) ∙ same_lock (table_number (table_of change.row)) n here,
+      of_table change.row ∙ same_table (table_of change.row) table here,
       ap (λ c. cond c (Some change) (change_at changes (changed_key change))) (itself_at (changed_key change)),
     )
     by b is (inr later) rest =
@@ -111,15 +128,15 @@ lead_some (Some old) None change leads same = cc
 lead_some (Some old) (Some new) change leads same = leads.0 (some_is same)
 
 -- the tables of the changes are those of which some row differs
-pub tells : (all : AllRows) (d e : List Deed) (changes : List Change) (changed : List ℕ) → Stand all d → AreDifferences all d e changes → ((n : ℕ) → is_in changed n ≡ is_changed changes n)
+pub tells : (all : AllRows) (d e : List Deed) (changes : List Change) (changed : List TableId) → Stand all d → AreDifferences all d e changes → ((table : TableId) → is_in changed table ≡ is_changed changes table)
     → AreChanged d e changed
 tells all d e changes changed stand differences numbers = record {
   same = λ key is.
-      let none = none_at changes key (sym (numbers (table_number (key_table key))) ∙ is) in
+      let none = none_at changes key (sym (numbers (key_table key)) ∙ is) in
       let P : Option Change → Type 0 = LeadsTo (row_in all key) (record_of e key) in
       sym (stand.each (key_table key) key refl) ∙ lead_none (row_in all key) (record_of e key) (subst P none (differences.each key (stand.each (key_table key))));
-  differ = λ n has.
-      let one = one_at changes n (sym (numbers n) ∙ has) in
+  differ = λ table has.
+      let one = one_at changes table (sym (numbers table) ∙ has) in
       let P : Option Change → Type 0 = LeadsTo (row_in all one.0) (record_of e one.0) in
       (one.0, one.2, λ same. lead_some (row_in all one.0) (record_of e one.0) one.1 (subst P one.3 (differences.each one.0 (stand.each (key_table one.0)))) (stand.each (key_table one.0) one.0 refl ∙ same));
 }

@@ -12,7 +12,7 @@ use Rattle.lock_core.specs.Core.{AllProper, AllProperIn, all_items}
 use Rattle.lock_core.specs.Parties.{IsFresh, AllFresh, AllTypedIn, AreTyped, IsShownBy, IsShownAs}
 use Rattle.sound_requests.specs.Asked.{is_typed}
 use Rattle.lock_machine.specs.Runs.{AllServed, AllServedIn}
-use Rattle.command_needs.specs.Sets.{need_of}
+use Rattle.command_needs.specs.Sets.{locks_in, need_in}
 use Rattle.lock_core.specs.Works.{IsWorkShown, gathered}
 use Rattle.lock_machine.specs.declared.stage.Stage.{Stage}
 use Rattle.lock_machine.specs.declared.stage.Stage.TheVariants.{Gathering, Committed}
@@ -49,8 +49,8 @@ begins order w fresh = record {
   stage = fresh.stage;
   second = fresh.second;
   set = fresh.set;
-  seen = ap (λ n. map need_of (take n w.needs.items)) (sym fresh.done);
-  rest = sym fresh.set ∙ ap (λ n. map need_of (drop n w.needs.items)) (sym fresh.done);
+  seen = ap (λ n. map (need_in w.needs) (take n (locks_in w.needs))) (sym fresh.done);
+  rest = sym fresh.set ∙ ap (λ n. map (need_in w.needs) (drop n (locks_in w.needs))) (sym fresh.done);
   stale = λ g. fresh.stale;
 }
 

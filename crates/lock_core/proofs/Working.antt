@@ -1,36 +1,35 @@
 -- How the code's command at hand stays one of the machine's as it goes through its set.
-use Rattle.std.proofs.Common.{◌≡◌, ◌⊎◌, ℕ, zero, suc, ◌+◌, ◌≤◌, Bool, true, false, cond, not, List, [], ◌∷◌, ◌++◌, length, map, take, drop, Some, None, refl, sym, ap, subst, ◌∙◌, inl, inr, arith}
-use Rattle.std.specs.Prelude.{◌&&◌, ◌||◌, nat_lt, slice_get}
+use Rattle.std.proofs.Common.{◌≡◌, ℕ, zero, suc, ◌+◌, Bool, true, false, cond, not, List, [], ◌∷◌, ◌++◌, length, map, take, drop, Some, None, refl, sym, ap, subst, ◌∙◌, inl, inr, arith}
+use Rattle.std.specs.Prelude.{◌&&◌, ◌||◌, is_some, slice_get}
 use Rattle.std.specs.List.{list_any}
-use Rattle.std.proofs.lemmas.Bool.{lt-ltb, ltb-true}
 use Rattle.std.proofs.lemmas.List.{drop_all, map-append}
 use Rattle.std.proofs.lemmas.List.Folds.{list_any-append}
 use Rattle.std.proofs.lemmas.Option.{slice_get_cases}
 use Rattle.depot_rows.specs.depot_model.Tables as sets
 use Rattle.depot_rows.specs.depot_model.Tables.{needs_of}
+use Rattle.depot_rows.specs.depot_model.declared.lock.LockId.{LockId}
 use Rattle.lock_machine.specs.Machine.{Seen, Commit, is_owned, is_touched, is_stale}
 use Rattle.lock_machine.specs.Machine as model
 use Rattle.lock_machine.specs.declared.stage.Stage.TheVariants.{Gathering, Judged}
 use Rattle.lock_machine.proofs.Orderly.{changes_lock}
 use Rattle.lock_machine.proofs.Places.{some_is}
-use Rattle.command_needs.specs.Sets.{need_of}
+use Rattle.command_needs.specs.Sets.{locks_in, need_in}
 use Rattle.lock_core.specs.Works.{IsWorkShown, gathered}
-use Rattle.command_needs.specs.declared.sets.Need.{Need}
 use Rattle.lock_core.specs.declared.work.Work.{Work}
 
 -- ---- the place of a set at which it is
 
-drop_at : (xs : List Need) (n : ℕ) (x : Need) → slice_get xs n ≡ Some x → drop n xs ≡ x ∷ drop (suc n) xs
+drop_at : (xs : List LockId) (n : ℕ) (x : LockId) → slice_get xs n ≡ Some x → drop n xs ≡ x ∷ drop (suc n) xs
 drop_at [] n x e = absurd cc
-drop_at (y ∷ xs) zero x e = ap (λ (z : Need). z ∷ xs) (some_is e)
+drop_at (y ∷ xs) zero x e = ap (λ (z : LockId). z ∷ xs) (some_is e)
 drop_at (y ∷ xs) (suc n) x e = drop_at xs n x e
 
-take_at : (xs : List Need) (n : ℕ) (x : Need) → slice_get xs n ≡ Some x → take (suc n) xs ≡ take n xs ++ x ∷ []
+take_at : (xs : List LockId) (n : ℕ) (x : LockId) → slice_get xs n ≡ Some x → take (suc n) xs ≡ take n xs ++ x ∷ []
 take_at [] n x e = absurd cc
-take_at (y ∷ xs) zero x e = ap (λ (z : Need). z ∷ []) (some_is e)
-take_at (y ∷ xs) (suc n) x e = ap (λ (zs : List Need). y ∷ zs) (take_at xs n x e)
+take_at (y ∷ xs) zero x e = ap (λ (z : LockId). z ∷ []) (some_is e)
+take_at (y ∷ xs) (suc n) x e = ap (λ (zs : List LockId). y ∷ zs) (take_at xs n x e)
 
-drop_past : (xs : List Need) (n : ℕ) → slice_get xs n ≡ None → drop n xs ≡ []
+drop_past : (xs : List LockId) (n : ℕ) → slice_get xs n ≡ None → drop n xs ≡ []
 drop_past [] zero e = refl
 drop_past [] (suc n) e = refl
 drop_past (y ∷ xs) zero e = absurd cc
@@ -38,16 +37,6 @@ drop_past (y ∷ xs) (suc n) e = drop_past xs n e
 
 next_is : (n : ℕ) → n + 1 ≡ suc n
 next_is n = omega arith
-
-true_or_not : (b : Bool) → (b ≡ true) ⊎ (b ≡ false)
-true_or_not true = inl refl
-true_or_not false = inr refl
-
-not_below : (m n : ℕ) → n ≤ m → nat_lt m n ≡ false
-not_below m n h = elim (true_or_not (nat_lt m n)) [
-  | inl e ↦ absurd (let below = ltb-true m n e in omega arith)
-  | inr e ↦ e
-]
 
 -- what is seen just now isn't stale
 new_fresh : (order : List Commit) (second : Bool) (need : sets.Need) → is_stale order second (record { need = need; places = length order }) ≡ false
@@ -58,27 +47,30 @@ new_fresh order second need = go (not (is_owned second (record { need = need; pl
     go false = refl
 
 module _ (order : List Commit) (w : Work) (v : model.Work) (h : IsWorkShown order w v) (gathers : v.stage ≡ Gathering) where
-  abbrev xs : List Need
-  xs = w.needs.items
+  abbrev xs : List LockId
+  xs = locks_in w.needs
 
-  -- ---- one more table
+  abbrev need_of : LockId → sets.Need
+  need_of = need_in w.needs
 
-  took_seen : (need : Need) (rest : List sets.Need) → slice_get xs w.done ≡ Some need → v.rest ≡ need_of need ∷ rest
-      → IsWorkShown order (record w { done = suc w.done }) (model.gathered needs_of order v (need_of need ∷ rest))
-  took_seen need rest at is = record {
+  -- ---- one more lock
+
+  took_seen : (lock : LockId) (rest : List sets.Need) → slice_get xs w.done ≡ Some lock → v.rest ≡ need_of lock ∷ rest
+      → IsWorkShown order (record w { done = suc w.done }) (model.gathered needs_of order v (need_of lock ∷ rest))
+  took_seen lock rest at is = record {
     request = h.request;
     stage = h.stage;
     second = h.second;
     set = h.set;
     seen =
-        map-append (λ (s : Seen). s.need) v.seen (record { need = need_of need; places = length order } ∷ [])
-        ∙ (ap (λ (ns : List sets.Need). ns ++ need_of need ∷ []) h.seen
-        ∙ (sym (map-append need_of (take w.done xs) (need ∷ [])) ∙ ap (map need_of) (sym (take_at xs w.done need at))));
-    rest = let whole : need_of need ∷ rest ≡ need_of need ∷ map need_of (drop (suc w.done) xs) = sym is ∙ (h.rest ∙ ap (map need_of) (drop_at xs w.done need at)) in tail_is whole;
+        map-append (λ (s : Seen). s.need) v.seen (record { need = need_of lock; places = length order } ∷ [])
+        ∙ (ap (λ (ns : List sets.Need). ns ++ need_of lock ∷ []) h.seen
+        ∙ (sym (map-append need_of (take w.done xs) (lock ∷ [])) ∙ ap (map need_of) (sym (take_at xs w.done lock at))));
+    rest = let whole : need_of lock ∷ rest ≡ need_of lock ∷ map need_of (drop (suc w.done) xs) = sym is ∙ (h.rest ∙ ap (map need_of) (drop_at xs w.done lock at)) in tail_is whole;
     stale = λ g.
         h.stale gathers
-        ∙ sym (list_any-append (is_stale order v.second) v.seen (record { need = need_of need; places = length order } ∷ [])
-        ∙ (ap (λ b. list_any (is_stale order v.second) v.seen || (b || false)) (new_fresh order v.second (need_of need)) ∙ nothing_more (list_any (is_stale order v.second) v.seen)));
+        ∙ sym (list_any-append (is_stale order v.second) v.seen (record { need = need_of lock; places = length order } ∷ [])
+        ∙ (ap (λ b. list_any (is_stale order v.second) v.seen || (b || false)) (new_fresh order v.second (need_of lock)) ∙ nothing_more (list_any (is_stale order v.second) v.seen)));
   }
     where
       tail_is : {x y : sets.Need} {ys zs : List sets.Need} → x ∷ ys ≡ y ∷ zs → ys ≡ zs
@@ -88,12 +80,12 @@ module _ (order : List Commit) (w : Work) (v : model.Work) (h : IsWorkShown orde
       nothing_more true = refl
       nothing_more false = refl
 
-  took : (need : Need) → slice_get xs w.done ≡ Some need → IsWorkShown order (record w { done = w.done + 1 }) (model.gathered needs_of order v v.rest)
-  took need at =
-      let rest_is : v.rest ≡ need_of need ∷ map need_of (drop (suc w.done) xs) = h.rest ∙ ap (map need_of) (drop_at xs w.done need at) in
+  took : (lock : LockId) → slice_get xs w.done ≡ Some lock → IsWorkShown order (record w { done = w.done + 1 }) (model.gathered needs_of order v v.rest)
+  took lock at =
+      let rest_is : v.rest ≡ need_of lock ∷ map need_of (drop (suc w.done) xs) = h.rest ∙ ap (map need_of) (drop_at xs w.done lock at) in
       let P : List sets.Need → Type 0 = λ r. IsWorkShown order (record w { done = w.done + 1 }) (model.gathered needs_of order v r) in
-      let Q : ℕ → Type 0 = λ n. IsWorkShown order (record w { done = n }) (model.gathered needs_of order v (need_of need ∷ map need_of (drop (suc w.done) xs))) in
-      subst P (sym rest_is) (subst Q (sym (next_is w.done)) (took_seen need (map need_of (drop (suc w.done) xs)) at rest_is))
+      let Q : ℕ → Type 0 = λ n. IsWorkShown order (record w { done = n }) (model.gathered needs_of order v (need_of lock ∷ map need_of (drop (suc w.done) xs))) in
+      subst P (sym rest_is) (subst Q (sym (next_is w.done)) (took_seen lock (map need_of (drop (suc w.done) xs)) at rest_is))
 
   -- ---- or else it judges
 
@@ -119,6 +111,6 @@ module _ (order : List Commit) (w : Work) (v : model.Work) (h : IsWorkShown orde
   gathered_shown =
       let P : Bool → Type 0 = λ b. IsWorkShown order (cond b (record w { done = w.done + 1 }) (judged w.stale)) (model.gathered needs_of order v v.rest) in
       elim (slice_get_cases xs w.done).1 [
-        | inl there ↦ subst P (sym (lt-ltb w.done (length xs) there.1)) (took there.0 there.2)
-        | inr past ↦ subst P (sym (not_below w.done (length xs) past.0)) (judged_so past.1)
+        | inl there ↦ subst P (sym (ap is_some there.2)) (took there.0 there.2)
+        | inr past ↦ subst P (sym (ap is_some past.1)) (judged_so past.1)
       ]

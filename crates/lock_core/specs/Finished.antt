@@ -1,5 +1,7 @@
 -- What the end of a commit leaves. This project's own choice.
 use Rattle.std.specs.Prelude.{◌≡◌, ℕ, List, map, Option, Some, None, option_map}
+use Rattle.command_needs.specs.Sets.{tables_in}
+use Rattle.depot_rows.specs.db_records.declared.table.TableId.{TableId}
 use Rattle.depot_rows.specs.table_changes.Changed.{changed_by, rows_of}
 use Rattle.depot_rows.specs.depot_model.Deeds.{Deed}
 use Rattle.depot_rows.specs.depot_model.Tables.{needs_of}
@@ -20,16 +22,16 @@ use Rattle.lock_core.specs.declared.work.Work.{Work}
 -- ---- the parties
 
 -- a party whose command is stale where it looked at one of these tables
-abbrev pub marked_party : List ℕ → Party → Party
+abbrev pub marked_party : List TableId → Party → Party
 marked_party changed p = record p { work = option_map (marked changed) p.work }
 
-abbrev pub marked_parties : List ℕ → List Party → List Party
+abbrev pub marked_parties : List TableId → List Party → List Party
 marked_parties changed parties = map (marked_party changed) parties
 
 -- what a commit that is done puts in, over these parties
 pub record IsPut (room : Room) (parties : List Party) (new : LockCore) : Type 0 where
   pub tables : new.tables ≡ room.tables
-  pub marked : new.parties.items ≡ marked_parties room.changed.items parties
+  pub marked : new.parties.items ≡ marked_parties (tables_in room.changed) parties
 
 abbrev pub PutsIn : Option Room → List Party → LockCore → Type 0
 PutsIn None parties new = Unit {0}
@@ -55,7 +57,7 @@ room_at (Some p) = room_in p.work
 
 -- It has taken a commit that is done: the tables of the changes are those that the order tells, and the rows are those after the changes.
 pub record IsDone (start : List Deed) (s : State) (old new : LockCore) (i : ℕ) (outcome : Outcome) : Type 0 where
-  pub changed : List ℕ
+  pub changed : List TableId
   pub shows : Shows start new (event needs_of s i (model.Done changed))
   pub rows : rows_of new.tables ≡ changed_by (rows_of old.tables) outcome.changes
 

@@ -4,6 +4,7 @@ use Rattle.depot_rows.specs.table_changes.Changed.{AllRows}
 use Rattle.depot_rows.specs.depot_model.Deeds.{Deed}
 use Rattle.depot_rows.specs.depot_model.Rules.{IsSound}
 use Rattle.depot_rows.specs.depot_model.Tables.{needs_of}
+use Rattle.depot_rows.specs.depot_model.declared.lock.LockId.{LockId}
 use Rattle.depot_rows.specs.depot_model.declared.request.Request.{Request}
 use Rattle.sound_requests.specs.Asked.{is_typed}
 use Rattle.command_core.specs.Outcomes.{HasNeeded, IsFormedBy, IsOutcome}
@@ -12,7 +13,7 @@ use Rattle.lock_machine.specs.Machine.{Commit, moved}
 use Rattle.lock_machine.specs.Machine as model
 use Rattle.lock_machine.specs.declared.stage.Stage.{Stage}
 use Rattle.lock_machine.specs.declared.stage.Stage.TheVariants.{Gathering, Judged}
-use Rattle.command_needs.specs.Sets.{need_of}
+use Rattle.command_needs.specs.Sets.{locks_in, need_in}
 use Rattle.lock_core.specs.Works.{IsRoomOf, IsWorkShown, holds_lock, waits_for}
 use Rattle.lock_core.specs.declared.party.Party.{Party}
 use Rattle.lock_core.specs.declared.party.Wait.{Wait}
@@ -22,15 +23,15 @@ use Rattle.lock_core.specs.declared.turn.Turn.TheVariants.{Idle, Moved, Ready}
 use Rattle.lock_core.specs.declared.work.Room.{Room}
 use Rattle.lock_core.specs.declared.work.Work.{Work}
 
-abbrev pub holds_by : ℕ → Option Work → Bool
+abbrev pub holds_by : LockId → Option Work → Bool
 holds_by lock None = false
 holds_by lock (Some w) = holds_lock lock w
 
 -- it owns a lock
-abbrev pub holds : ℕ → Party → Bool
+abbrev pub holds : LockId → Party → Bool
 holds lock p = holds_by lock p.work
 
-abbrev pub wait_of : Option ℕ → Wait
+abbrev pub wait_of : Option LockId → Wait
 wait_of None = Now
 wait_of (Some lock) = For lock
 
@@ -51,7 +52,7 @@ pub record IsFresh (w : Work) : Type 0 where
   pub second : w.second ≡ false
   pub done : w.done ≡ 0
   pub stale : w.stale ≡ false
-  pub set : map need_of w.needs.items ≡ needs_of w.request
+  pub set : map (need_in w.needs) (locks_in w.needs) ≡ needs_of w.request
 
 abbrev pub AllFresh : List Work → Type 0
 AllFresh [] = Unit {0}

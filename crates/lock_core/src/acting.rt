@@ -8,6 +8,7 @@ ghost use Rattle.lock_core.specs.Parties.{IsShown, IsTurnOf, holds, is_judged, w
 
 use crate::party::{Party, Wait};
 use crate::turn::Turn;
+use depot_rows::model::LockId;
 use depot_rows::tables::Tables;
 use lock_machine::Stage;
 use std::alloc::{AllocError, Global};
@@ -15,7 +16,7 @@ use std::mem::replace;
 
 impl Party {
     /// Whether it owns a lock.
-    pub(crate) fn owns(&self, lock: u32) -> bool
+    pub(crate) fn owns(&self, lock: LockId) -> bool
         ensures { result ≡ holds lock self.now }
     {
         match &self.work {

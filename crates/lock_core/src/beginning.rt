@@ -21,26 +21,21 @@ use sound_requests::requests_are_typed;
 use std::alloc::{AllocError, Global};
 
 /// A command that isn't begun.
-fn fresh_work(alloc: Global, request: Request) -> Result<Work, AllocError>
-    ensures fresh { IfOk result IsFresh }
-    ensures request { IfOk result (λ work. work.request ≡ request) }
-    ensures typed { IfOk result (λ work. IsTrue (is_typed request)) }
+fn fresh_work(request: Request) -> Work
+    ensures fresh { IsFresh result }
+    ensures request { result.request ≡ request }
+    ensures typed { IsTrue (is_typed request) }
 {
     requests_are_typed(&request);
-    match request_needs(alloc, &request) {
-        Ok(needs) => Ok(Work {
-            request,
-            needs,
-            done: 0,
-            stage: Stage::Gathering,
-            second: false,
-            stale: false,
-            room: None,
-        }),
-        Err(error) => {
-            drop(request);
-            Err(error)
-        }
+    let needs = request_needs(&request);
+    Work {
+        request,
+        needs,
+        done: 0,
+        stage: Stage::Gathering,
+        second: false,
+        stale: false,
+        room: None,
     }
 }
 
@@ -51,7 +46,7 @@ fn idle_party(alloc: Global, requests: Vec<Request>) -> Result<Party, AllocError
 {
     let mut left = Vec::new(alloc);
     for request in requests {
-        left.push(fresh_work(alloc, request)?)?;
+        left.push(fresh_work(request))?;
     }
     left.reverse();
     Ok(Party { left, work: None })

@@ -17,7 +17,7 @@ impl LockCore {
         match room {
             None => {}
             Some(room) => {
-                mark_all(&mut self.parties, &room.changed);
+                mark_all(&mut self.parties, room.changed);
                 drop(replace(&mut self.tables, room.tables));
             }
         }

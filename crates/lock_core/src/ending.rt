@@ -1,16 +1,18 @@
 //! The end of a commit.
 
 ghost use Rattle.std.specs.Prelude.{◌≡◌};
+ghost use Rattle.command_needs.specs.Sets.{tables_in};
 ghost use Rattle.lock_core.specs.Finished.{committed_party, marked_parties, marked_party, room_in};
 
 use crate::party::Party;
 use crate::work::Room;
+use command_needs::TableSet;
 use lock_machine::Stage;
 
 impl Party {
     /// Marks its command as stale where it looked at one of these tables.
-    fn mark(&mut self, changed: &[u32])
-        ensures { self.new ≡ marked_party changed.now self.old }
+    fn mark(&mut self, changed: TableSet)
+        ensures { self.new ≡ marked_party (tables_in changed) self.old }
     {
         if let Some(work) = &mut self.work {
             work.mark(changed);
@@ -33,8 +35,8 @@ impl Party {
 }
 
 /// Marks as stale what looked at one of these tables.
-pub(crate) fn mark_all(parties: &mut [Party], changed: &[u32])
-    ensures { parties.new ≡ marked_parties changed.now parties.old }
+pub(crate) fn mark_all(parties: &mut [Party], changed: TableSet)
+    ensures { parties.new ≡ marked_parties (tables_in changed) parties.old }
 {
     for party in parties.iter_mut() {
         party.mark(changed);

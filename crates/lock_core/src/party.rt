@@ -1,6 +1,7 @@
 //! A party of a run.
 
 use crate::work::Work;
+use depot_rows::model::LockId;
 
 /// A party of a run.
 #[derive(Drop)]
@@ -19,5 +20,5 @@ pub enum Wait {
     /// Nothing.
     Now,
     /// This lock.
-    For(u32),
+    For(LockId),
 }

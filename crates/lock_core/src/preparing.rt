@@ -1,34 +1,32 @@
 //! What a command is answered, and the room for its commit.
 
-ghost use Rattle.std.specs.Prelude.{◌≡◌, ℕ, List, Some, IfOk, IsSomeAnd, OnOk, OnErr};
+ghost use Rattle.std.specs.Prelude.{◌≡◌, List, Some, IfOk, IsSomeAnd, OnOk, OnErr};
+ghost use Rattle.command_needs.specs.Sets.{has_table};
+ghost use Rattle.depot_rows.specs.db_records.declared.table.TableId.{TableId};
 ghost use Rattle.depot_rows.specs.table_changes.Changed.{AllFitIn, rows_of};
 ghost use Rattle.depot_rows.specs.depot_model.Deeds.{Deed};
 ghost use Rattle.depot_rows.specs.depot_model.Rules.{IsSound};
-ghost use Rattle.depot_rows.specs.depot_model.Tables.{is_in};
 ghost use Rattle.command_core.specs.Outcomes.{HasNeeded, IsFormedBy, IsOutcome};
 ghost use Rattle.lock_core.specs.Works.{IsRoomOf, is_changed};
 ghost use Rattle.lock_core.specs.declared.work.Room.{Room as AnyRoom};
 
 use crate::work::{Room, Work};
 use command_core::{Outcome, evaluate};
-use command_needs::is_among;
+use command_needs::TableSet;
 use depot_rows::changes::change_tables;
 use depot_rows::records::Change;
 use depot_rows::tables::Tables;
 use std::alloc::{AllocError, Global};
 
-/// The numbers of the tables of which some row changes.
-fn changed_tables(alloc: Global, changes: &[Change]) -> Result<Vec<u32>, AllocError>
-    ensures { IfOk result (λ numbers. (n : ℕ) → is_in numbers.items n ≡ is_changed changes.now n) }
+/// The tables of which some row changes.
+fn changed_tables(changes: &[Change]) -> TableSet
+    ensures { (table : TableId) → has_table result table ≡ is_changed changes.now table }
 {
-    let mut numbers = Vec::new(alloc);
+    let mut tables = TableSet::none();
     for change in changes {
-        let number = change.row.table().number() as u32;
-        if !is_among(numbers.as_slice(), number) {
-            numbers.push(number)?;
-        }
+        tables = tables.with(change.row.table());
     }
-    Ok(numbers)
+    tables
 }
 
 /// The room for changes of these tables.
@@ -36,11 +34,9 @@ fn make_room(alloc: Global, tables: &Tables, changes: &[Change]) -> Result<Room,
     requires { AllFitIn (rows_of tables.now) changes.now }
     ensures { IfOk result (IsRoomOf (rows_of tables.now) changes.now) }
 {
-    let after = change_tables(alloc, tables, changes)?;
-    let changed = changed_tables(alloc, changes)?;
     Ok(Room {
-        tables: after,
-        changed,
+        tables: change_tables(alloc, tables, changes)?,
+        changed: changed_tables(changes),
     })
 }
 

@@ -11,11 +11,12 @@ ghost use Rattle.lock_core.specs.Parties.{holds};
 use crate::machine::LockCore;
 use crate::party::{Party, Wait};
 use crate::turn::Turn;
+use depot_rows::model::LockId;
 use depot_rows::tables::Tables;
 use std::alloc::{AllocError, Global};
 
 /// Whether one of these parties owns a lock.
-fn any_owns(parties: &[Party], lock: u32) -> bool
+fn any_owns(parties: &[Party], lock: LockId) -> bool
     ensures { result ≡ list_any (holds lock) parties.now }
 {
     for party in parties {
@@ -59,7 +60,7 @@ impl LockCore {
     }
 
     /// Whether no party owns a lock.
-    fn is_free(&self, lock: u32) -> bool
+    fn is_free(&self, lock: LockId) -> bool
         ensures { result ≡ not (list_any (holds lock) self.now.parties.items) }
     {
         !any_owns(&self.parties, lock)

@@ -1,6 +1,6 @@
 //! The command that a party has at hand.
 
-use command_needs::Need;
+use command_needs::{Needs, TableSet};
 use depot_rows::model::Request;
 use depot_rows::tables::Tables;
 use lock_machine::Stage;
@@ -10,17 +10,17 @@ use lock_machine::Stage;
 pub struct Room {
     /// The tables after it.
     pub(crate) tables: Tables,
-    /// The numbers of the tables that it changes.
-    pub(crate) changed: Vec<u32>,
+    /// The tables that it changes.
+    pub(crate) changed: TableSet,
 }
 
 /// The command that a party has at hand.
 #[derive(Drop)]
 pub struct Work {
     pub(crate) request: Request,
-    /// Its set, the numbers rising.
-    pub(crate) needs: Vec<Need>,
-    /// How many of these it has taken.
+    /// Its set.
+    pub(crate) needs: Needs,
+    /// How many locks of its set it has taken, in their order.
     pub(crate) done: usize,
     pub(crate) stage: Stage,
     /// Whether this is its second attempt, which locks all of its set.

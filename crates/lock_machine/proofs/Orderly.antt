@@ -1,25 +1,47 @@
 -- Each event keeps the machine orderly.
-use Rattle.std.proofs.Common.{◌≡◌, ◌≢◌, ◌⊎◌, ℕ, ◌≤◌, Bool, true, false, cond, not, eqb, List, [], ◌∷◌, ◌++◌, length, map, drop, set, Option, Some, None, refl, sym, ap, subst, ◌∙◌, inl, inr, arith, append_assoc, append-nil, length-append}
+use Rattle.std.proofs.Common.{◌≡◌, ◌≢◌, ◌⊎◌, ℕ, ◌≤◌, Bool, true, false, cond, not, List, [], ◌∷◌, ◌++◌, length, map, drop, get_or, set, Option, Some, None, refl, sym, ap, subst, ◌∙◌, inl, inr, arith, append_assoc, append-nil, length-append}
 use Rattle.std.specs.Prelude.{slice_get, ◌&&◌, ◌||◌}
 use Rattle.std.specs.List.{list_any}
 use Rattle.std.proofs.lemmas.Bool.Decides.{Decides-eqb}
 use Rattle.std.proofs.lemmas.List.{drop-append-le, drop_all, map-append}
 use Rattle.std.proofs.lemmas.List.Folds.{list_any-append}
+use Rattle.depot_model.specs.db_records.declared.table.TableId.TheVariants as ids
+use Rattle.depot_model.specs.declared.lock.LockId.{LockId}
+use Rattle.depot_model.specs.declared.lock.LockId.TheVariants.{Table, Archive, Journal}
 use Rattle.depot_model.specs.declared.request.Request.{Request}
-use Rattle.lock_machine.specs.Machine.{journal, Seen, Work, Party, Commit, State, Finish, Done, Fault, NoMemory, is_owned, owns_seen, has_judged, owns_at, owns_by, owns, is_free, may_go, is_touched, is_stale, begun, judged, gathered, worked, moved, placed, added, added_at, acted}
+use Rattle.lock_machine.specs.Machine.{lock_number, is_lock, guards, Seen, Work, Party, Commit, State, Finish, Done, Fault, NoMemory, is_owned, owns_seen, has_judged, owns_at, owns_by, owns, is_free, may_go, is_touched, is_stale, begun, judged, gathered, worked, moved, placed, added, added_at, acted}
 use Rattle.lock_machine.specs.declared.stage.Stage.{Stage}
 use Rattle.lock_machine.specs.declared.stage.Stage.TheVariants.{Gathering, Judged, Committed}
-use Rattle.depot_model.specs.Tables.{Need, is_in}
+use Rattle.depot_model.specs.Tables.{Need, set_locks}
 use Rattle.lock_machine.specs.Orderly.{is_written, AllLast, IsAtHand, AtHand, IsOrderly, ChangesWritten, MayFinish}
 use Rattle.lock_machine.proofs.Places.{set_here, set_there, one_or_apart, some_is, either_true, both_true, neither, true_or_false, not_true, none_found}
 
 -- ---- tests on locks
 
-pub same_lock : (a b : ℕ) → eqb a b ≡ true → a ≡ b
-same_lock a b e = (Decides-eqb a b).0 e
+-- the lock at a place of their order
+abbrev lock_at : ℕ → LockId
+lock_at n = get_or set_locks n Journal
 
-pub itself : (a : ℕ) → eqb a a ≡ true
-itself a = (Decides-eqb a a).1 refl
+at_number : (lock : LockId) → lock_at (lock_number lock) ≡ lock
+at_number (Table ids.Counter) = refl
+at_number (Table ids.Group) = refl
+at_number (Table ids.Protect) = refl
+at_number (Table ids.Domain) = refl
+at_number (Table ids.Have) = refl
+at_number (Table ids.Label) = refl
+at_number (Table ids.Integed) = refl
+at_number (Table ids.Resolve) = refl
+at_number (Table ids.Working) = refl
+at_number (Table ids.Change) = refl
+at_number (Table ids.Rev) = refl
+at_number Archive = refl
+at_number Journal = refl
+
+pub same_lock : (a b : LockId) → is_lock a b ≡ true → a ≡ b
+same_lock a b e = sym (at_number a) ∙ (ap lock_at ((Decides-eqb (lock_number a) (lock_number b)).0 e) ∙ at_number b)
+
+pub itself : (a : LockId) → is_lock a a ≡ true
+itself a = (Decides-eqb (lock_number a) (lock_number a)).1 refl
 
 pub left_of : (a b : Bool) → a ≡ true → (a || b) ≡ true
 left_of a b e = rw e refl
@@ -30,8 +52,14 @@ right_of false b e = e
 
 -- ---- what lasts
 
-abbrev pub changes_lock : ℕ → Commit → Bool
-changes_lock lock c = is_in c.changed lock
+-- no tables have no lock
+pub guards_none : (lock : LockId) → guards [] lock ≡ false
+guards_none (Table table) = refl
+guards_none Archive = refl
+guards_none Journal = refl
+
+abbrev pub changes_lock : LockId → Commit → Bool
+changes_lock lock c = guards c.changed lock
 
 module _ (order more : List Commit) where
   longer : (n : ℕ) → n ≤ length order → n ≤ length (order ++ more)
@@ -45,14 +73,14 @@ module _ (order more : List Commit) where
       ∙ (list_any-append (changes_lock s.need.lock) (drop s.places order) more ∙ (ap (λ b. b || list_any (changes_lock s.need.lock) more) before ∙ none))
 
   -- a party that gathers: of what it owns, nothing was changed
-  owned_last : (second : Bool) (seen : List Seen) → ((lock : ℕ) → list_any (owns_seen second lock) seen ≡ true → list_any (changes_lock lock) more ≡ false)
+  owned_last : (second : Bool) (seen : List Seen) → ((lock : LockId) → list_any (owns_seen second lock) seen ≡ true → list_any (changes_lock lock) more ≡ false)
       → AllLast order Gathering second seen → AllLast (order ++ more) Gathering second seen
   owned_last second [] none all = tt
   owned_last second (s ∷ seen) none all = (
     record {
       within = longer s.places all.0.within;
       untouched = λ owned.
-          let here : owns_seen second s.need.lock s ≡ true = ap (λ b. b && eqb s.need.lock s.need.lock) owned ∙ itself s.need.lock in
+          let here : owns_seen second s.need.lock s ≡ true = ap (λ b. b && is_lock s.need.lock s.need.lock) owned ∙ itself s.need.lock in
           touched_more s all.0.within (none s.need.lock (left_of (owns_seen second s.need.lock s) (list_any (owns_seen second s.need.lock) seen) here)) (all.0.untouched owned);
     },
     owned_last second seen (λ lock has. none lock (right_of (owns_seen second lock s) (list_any (owns_seen second lock) seen) has)) all.1,
@@ -99,7 +127,7 @@ all_last order second (s ∷ seen) fresh all =
 
 -- ---- locks that are taken
 
-module _ (needs : Request → List Need) (parties : List Party) (order : List Commit) (lock : ℕ) where
+module _ (needs : Request → List Need) (parties : List Party) (order : List Commit) (lock : LockId) where
   abbrev at : Request → Stage → Bool → List Seen → List Need → Work
   at request stage second seen rest = record { request = request; stage = stage; second = second; seen = seen; rest = rest }
 
@@ -110,13 +138,13 @@ module _ (needs : Request → List Need) (parties : List Party) (order : List Co
   abbrev on_stale : Request → Bool → List Seen → Bool → Work
   on_stale request second seen stale = cond stale (at request Gathering true [] (needs request)) (at request Judged second seen [])
 
-  judged_owns : (request : Request) (second : Bool) (seen : List Seen) (stale : Bool) → list_any (is_stale order second) seen ≡ stale → is_free parties journal ≡ true
+  judged_owns : (request : Request) (second : Bool) (seen : List Seen) (stale : Bool) → list_any (is_stale order second) seen ≡ stale → is_free parties Journal ≡ true
       → owns_at lock (judged needs order (at request Gathering second seen [])) ≡ true → (list_any (owns_seen second lock) seen ≡ true) ⊎ (is_free parties lock ≡ true)
   judged_owns request second seen true is free has = absurd (let gone : owns_at lock (on_stale request second seen true) ≡ true = (let P : Bool → Type 0 = λ b. owns_at lock (on_stale request second seen b) ≡ true in subst P is has) in cc)
-  judged_owns request second seen false is free has = pick (either_true (eqb lock journal) (list_any (owns_seen second lock) seen) (let P : Bool → Type 0 = λ b. owns_at lock (on_stale request second seen b) ≡ true in subst P is has))
+  judged_owns request second seen false is free has = pick (either_true (is_lock lock Journal) (list_any (owns_seen second lock) seen) (let P : Bool → Type 0 = λ b. owns_at lock (on_stale request second seen b) ≡ true in subst P is has))
     where
-      pick : (eqb lock journal ≡ true) ⊎ (list_any (owns_seen second lock) seen ≡ true) → (list_any (owns_seen second lock) seen ≡ true) ⊎ (is_free parties lock ≡ true)
-      pick (inl e) = inr (let P : ℕ → Type 0 = λ l. is_free parties l ≡ true in subst P (sym (same_lock lock journal e)) free)
+      pick : (is_lock lock Journal ≡ true) ⊎ (list_any (owns_seen second lock) seen ≡ true) → (list_any (owns_seen second lock) seen ≡ true) ⊎ (is_free parties lock ≡ true)
+      pick (inl e) = inr (let P : LockId → Type 0 = λ l. is_free parties l ≡ true in subst P (sym (same_lock lock Journal e)) free)
       pick (inr has) = inl has
 
   -- a party owns after its event what it owned before, or what was free
@@ -132,8 +160,8 @@ module _ (needs : Request → List Need) (parties : List Party) (order : List Co
       pick (inl before) = inl before
       pick (inr new) =
           let parts : owns_seen second lock (record { need = need; places = length order }) ≡ true = elim (either_true (owns_seen second lock (record { need = need; places = length order })) false new) [ inl here ↦ here | inr never ↦ absurd (cc) ] in
-          let taken = both_true (is_owned second (record { need = need; places = length order })) (eqb need.lock lock) parts in
-          inr (let P : ℕ → Type 0 = λ l. is_free parties l ≡ true in subst P (same_lock need.lock lock taken.1) may)
+          let taken = both_true (is_owned second (record { need = need; places = length order })) (is_lock need.lock lock) parts in
+          inr (let P : LockId → Type 0 = λ l. is_free parties l ≡ true in subst P (same_lock need.lock lock taken.1) may)
   gained_at request Judged second seen rest may has = inl has
   gained_at request Committed second seen rest may has = absurd cc
 
@@ -150,16 +178,16 @@ module _ (needs : Request → List Need) (order : List Commit) where
   begins request second = record { set = refl; whole = λ never. absurd cc; last = tt }
 
   judges : (request : Request) (second : Bool) (seen : List Seen) (stale : Bool) → list_any (is_stale order second) seen ≡ stale
-      → IsAtHand needs order (at needs [] order 0 request Gathering second seen [])
-      → IsAtHand needs order (judged needs order (at needs [] order 0 request Gathering second seen []))
+      → IsAtHand needs order (at needs [] order Journal request Gathering second seen [])
+      → IsAtHand needs order (judged needs order (at needs [] order Journal request Gathering second seen []))
   judges request second seen true is h =
-      let P : Bool → Type 0 = λ b. IsAtHand needs order (on_stale needs [] order 0 request second seen b) in subst P (sym is) (begins request true)
+      let P : Bool → Type 0 = λ b. IsAtHand needs order (on_stale needs [] order Journal request second seen b) in subst P (sym is) (begins request true)
   judges request second seen false is h =
-      let P : Bool → Type 0 = λ b. IsAtHand needs order (on_stale needs [] order 0 request second seen b) in
+      let P : Bool → Type 0 = λ b. IsAtHand needs order (on_stale needs [] order Journal request second seen b) in
       subst P (sym is) (record { set = h.set; whole = λ passed. refl; last = all_last order second seen is h.last })
 
-  gathers : (request : Request) (second : Bool) (seen : List Seen) (rest : List Need) → IsAtHand needs order (at needs [] order 0 request Gathering second seen rest)
-      → IsAtHand needs order (gathered needs order (at needs [] order 0 request Gathering second seen rest) rest)
+  gathers : (request : Request) (second : Bool) (seen : List Seen) (rest : List Need) → IsAtHand needs order (at needs [] order Journal request Gathering second seen rest)
+      → IsAtHand needs order (gathered needs order (at needs [] order Journal request Gathering second seen rest) rest)
   gathers request second seen [] h = judges request second seen (list_any (is_stale order second) seen) refl h
   gathers request second seen (need ∷ rest) h = record {
     set =
@@ -173,10 +201,10 @@ module _ (needs : Request → List Need) (order : List Commit) where
   same_order work h = let P : List Commit → Type 0 = λ o. AtHand needs o work in subst P (sym (append-nil order)) h
 
   worked_at_hand : (how : Finish) (request : Request) (stage : Stage) (second : Bool) (seen : List Seen) (rest : List Need)
-      → IsAtHand needs order (at needs [] order 0 request stage second seen rest)
-      → AtHand needs (order ++ added_at request stage how) (worked needs order (at needs [] order 0 request stage second seen rest) stage)
+      → IsAtHand needs order (at needs [] order Journal request stage second seen rest)
+      → AtHand needs (order ++ added_at request stage how) (worked needs order (at needs [] order Journal request stage second seen rest) stage)
   worked_at_hand how request Gathering second seen rest h =
-      same_order (Some (gathered needs order (at needs [] order 0 request Gathering second seen rest) rest)) (gathers request second seen rest h)
+      same_order (Some (gathered needs order (at needs [] order Journal request Gathering second seen rest) rest)) (gathers request second seen rest h)
   worked_at_hand how request Judged second seen rest h = record {
     set = h.set;
     whole = h.whole;
@@ -194,45 +222,45 @@ module _ (needs : Request → List Need) (order : List Commit) where
 
 module _ (needs : Request → List Need) where
   -- the tables that a command writes are owned once all of its set is seen
-  written_owned : (second : Bool) (lock : ℕ) (seen : List Seen) → is_written (map (λ (s : Seen). s.need) seen) lock ≡ true → list_any (owns_seen second lock) seen ≡ true
+  written_owned : (second : Bool) (lock : LockId) (seen : List Seen) → is_written (map (λ (s : Seen). s.need) seen) lock ≡ true → list_any (owns_seen second lock) seen ≡ true
   written_owned second lock [] e = absurd cc
   written_owned second lock (s ∷ seen) e =
-      elim (either_true (s.need.writes && eqb s.need.lock lock) (is_written (map (λ (s : Seen). s.need) seen) lock) e) [
+      elim (either_true (s.need.writes && is_lock s.need.lock lock) (is_written (map (λ (s : Seen). s.need) seen) lock) e) [
         | inl here ↦
-            let parts = both_true s.need.writes (eqb s.need.lock lock) here in
+            let parts = both_true s.need.writes (is_lock s.need.lock lock) here in
             let owned : is_owned second s ≡ true = right_of second s.need.writes parts.0 in
-            left_of (owns_seen second lock s) (list_any (owns_seen second lock) seen) (ap (λ b. b && eqb s.need.lock lock) owned ∙ parts.1)
+            left_of (owns_seen second lock s) (list_any (owns_seen second lock) seen) (ap (λ b. b && is_lock s.need.lock lock) owned ∙ parts.1)
         | inr later ↦ right_of (owns_seen second lock s) (list_any (owns_seen second lock) seen) (written_owned second lock seen later)
       ]
 
   -- who judged owns all that it writes
-  judged_writes : (order : List Commit) (lock : ℕ) (w : Work) → w.stage ≡ Judged → IsAtHand needs order w → is_written (needs w.request) lock ≡ true → owns_at lock w ≡ true
+  judged_writes : (order : List Commit) (lock : LockId) (w : Work) → w.stage ≡ Judged → IsAtHand needs order w → is_written (needs w.request) lock ≡ true → owns_at lock w ≡ true
   judged_writes order lock w stage h written =
       let judged_so : has_judged w.stage ≡ true = ap has_judged stage in
       let all : map (λ (s : Seen). s.need) w.seen ≡ needs w.request = sym (append-nil (map (λ (s : Seen). s.need) w.seen)) ∙ (ap (λ (r : List Need). map (λ (s : Seen). s.need) w.seen ++ r) (sym (h.whole judged_so)) ∙ h.set) in
-      right_of (has_judged w.stage && eqb lock journal) (list_any (owns_seen w.second lock) w.seen)
+      right_of (has_judged w.stage && is_lock lock Journal) (list_any (owns_seen w.second lock) w.seen)
       (written_owned w.second lock w.seen (ap (λ (ns : List Need). is_written ns lock) all ∙ written))
 
-  owns_journal : (w : Work) → w.stage ≡ Judged → owns_at journal w ≡ true
-  owns_journal w stage = left_of (has_judged w.stage && eqb journal journal) (list_any (owns_seen w.second journal) w.seen) (ap (λ st. has_judged st && true) stage)
+  owns_journal : (w : Work) → w.stage ≡ Judged → owns_at Journal w ≡ true
+  owns_journal w stage = left_of (has_judged w.stage && is_lock Journal Journal) (list_any (owns_seen w.second Journal) w.seen) (ap (λ st. has_judged st && true) stage)
 
   -- no lock of one is a lock of the other
   abbrev pub AreApart : Work → Work → Type 0
-  AreApart v w = (lock : ℕ) → owns_at lock v ≡ true → owns_at lock w ≡ true → ⊥
+  AreApart v w = (lock : LockId) → owns_at lock v ≡ true → owns_at lock w ≡ true → ⊥
 
   module _ (order : List Commit) (how : Finish) (v : Work) (judged_v : v.stage ≡ Judged) (hand : IsAtHand needs order v) (may : ChangesWritten needs v.request how) where
     -- a commit changes only what its party owns
-    changes_own : (lock : ℕ) → list_any (changes_lock lock) (placed v.request how) ≡ true → owns_at lock v ≡ true
+    changes_own : (lock : LockId) → list_any (changes_lock lock) (placed v.request how) ≡ true → owns_at lock v ≡ true
     changes_own lock e = go how may e
       where
         go : (how : Finish) → ChangesWritten needs v.request how → list_any (changes_lock lock) (placed v.request how) ≡ true → owns_at lock v ≡ true
         go (Done changed) may e =
-            judged_writes order lock v judged_v hand (may lock (elim (either_true (is_in changed lock) false e) [ inl here ↦ here | inr never ↦ absurd (cc) ]))
-        go Fault may e = absurd cc
+            judged_writes order lock v judged_v hand (may lock (elim (either_true (guards changed lock) false e) [ inl here ↦ here | inr never ↦ absurd (cc) ]))
+        go Fault may e = absurd (let both : true ≡ false = sym e ∙ ap (λ b. b || false) (guards_none lock) in cc)
         go NoMemory may e = absurd cc
 
-    other_last : (request : Request) (stage : Stage) (second : Bool) (seen : List Seen) (rest : List Need) → AreApart v (at needs [] order 0 request stage second seen rest)
-        → IsAtHand needs order (at needs [] order 0 request stage second seen rest) → IsAtHand needs (order ++ placed v.request how) (at needs [] order 0 request stage second seen rest)
+    other_last : (request : Request) (stage : Stage) (second : Bool) (seen : List Seen) (rest : List Need) → AreApart v (at needs [] order Journal request stage second seen rest)
+        → IsAtHand needs order (at needs [] order Journal request stage second seen rest) → IsAtHand needs (order ++ placed v.request how) (at needs [] order Journal request stage second seen rest)
     other_last request Gathering second seen rest apart h = record {
       set = h.set;
       whole = h.whole;
@@ -242,7 +270,7 @@ module _ (needs : Request → List Need) where
             | inr clear ↦ clear
           ]) h.last;
     }
-    other_last request Judged second seen rest apart h = absurd (apart journal (owns_journal v judged_v) refl)
+    other_last request Judged second seen rest apart h = absurd (apart Journal (owns_journal v judged_v) refl)
     other_last request Committed second seen rest apart h = record {
       set = h.set;
       whole = h.whole;
@@ -250,7 +278,7 @@ module _ (needs : Request → List Need) where
     }
 
   abbrev pub Apart : Option Work → Option Work → Type 0
-  Apart v w = (lock : ℕ) → owns_by lock v ≡ true → owns_by lock w ≡ true → ⊥
+  Apart v w = (lock : LockId) → owns_by lock v ≡ true → owns_by lock w ≡ true → ⊥
 
   others_at_hand : (order : List Commit) (how : Finish) (work other : Option Work) → Apart work other → MayFinish needs work how → AtHand needs order work → AtHand needs order other
       → AtHand needs (order ++ added work how) other
@@ -302,7 +330,7 @@ module _ (needs : Request → List Need) (s : State) (how : Finish) (orderly : I
       there j q other at_j =
           others_at_hand needs s.order how p.work q.work (λ lock mine its. other (orderly.alone lock i j p q at_i at_j mine its)) mine (orderly.each i p at_i) (orderly.each j q at_j)
 
-      lone : (lock j k : ℕ) (q r : Party) → i ≡ j → i ≢ k → slice_get (set s.parties i after) j ≡ Some q → slice_get (set s.parties i after) k ≡ Some r
+      lone : (lock : LockId) (j k : ℕ) (q r : Party) → i ≡ j → i ≢ k → slice_get (set s.parties i after) j ≡ Some q → slice_get (set s.parties i after) k ≡ Some r
           → owns lock q ≡ true → owns lock r ≡ true → ⊥
       lone lock j k q r e other at_j at_k owns_q owns_r =
           let its : slice_get s.parties k ≡ Some r = sym (set_there s.parties i k after other) ∙ at_k in

@@ -1,10 +1,12 @@
 -- Some party may always go on.
-use Rattle.std.proofs.Common.{◌≡◌, ℕ, zero, suc, ◌+◌, ◌<◌, ◌≤◌, Bool, true, not, eqb, List, [], ◌∷◌, ◌++◌, map, Option, Some, None, refl, sym, ap, subst, ◌∙◌, inl, inr, arith}
+use Rattle.std.proofs.Common.{◌≡◌, ℕ, zero, suc, ◌+◌, ◌<◌, ◌≤◌, Bool, true, not, List, [], ◌∷◌, ◌++◌, map, Option, Some, None, refl, sym, ap, subst, ◌∙◌, inl, inr, arith}
 use Rattle.std.specs.Prelude.{slice_get, ◌&&◌, ◌||◌}
 use Rattle.std.specs.List.{list_any}
 use Rattle.depot_model.specs.Tables.{Need}
+use Rattle.depot_model.specs.declared.lock.LockId.{LockId}
+use Rattle.depot_model.specs.declared.lock.LockId.TheVariants.{Journal}
 use Rattle.depot_model.specs.declared.request.Request.{Request}
-use Rattle.lock_machine.specs.Machine.{journal, Seen, Work, Party, State, is_owned, owns_seen, has_judged, owns_at, owns_by, owns, next_lock, may_go, may_work, may_party, is_enabled, is_unfinished}
+use Rattle.lock_machine.specs.Machine.{lock_number, is_lock, Seen, Work, Party, State, is_owned, owns_seen, has_judged, owns_at, owns_by, owns, next_lock, may_go, may_work, may_party, is_enabled, is_unfinished}
 use Rattle.lock_machine.specs.declared.stage.Stage.{Stage}
 use Rattle.lock_machine.specs.declared.stage.Stage.TheVariants.{Gathering, Judged, Committed}
 use Rattle.lock_machine.specs.Orderly.{Rises, IsAtHand, AtHand, IsOrderly}
@@ -13,39 +15,39 @@ use Rattle.lock_machine.proofs.Orderly.{same_lock}
 
 -- ---- locks that rise
 
-least : (n : ℕ) (needs : List Need) → Rises n needs → n ≤ next_lock needs
+least : (n : ℕ) (needs : List Need) → Rises n needs → n ≤ lock_number (next_lock needs)
 least n [] rises = rises
 least n (need ∷ needs) rises = rises.0
 
-below_journal : (n : ℕ) (needs : List Need) → Rises n needs → n ≤ journal
+below_journal : (n : ℕ) (needs : List Need) → Rises n needs → n ≤ lock_number Journal
 below_journal n [] rises = rises
-below_journal n (need ∷ needs) rises = let here = rises.0 in let more = below_journal (suc need.lock) needs rises.1 in omega arith
+below_journal n (need ∷ needs) rises = let here = rises.0 in let more = below_journal (suc (lock_number need.lock)) needs rises.1 in omega arith
 
-pub next_below : (n : ℕ) (needs : List Need) → Rises n needs → next_lock needs ≤ journal
+pub next_below : (n : ℕ) (needs : List Need) → Rises n needs → lock_number (next_lock needs) ≤ lock_number Journal
 next_below n [] rises = omega arith
-next_below n (need ∷ needs) rises = let more = below_journal (suc need.lock) needs rises.1 in omega arith
+next_below n (need ∷ needs) rises = let more = below_journal (suc (lock_number need.lock)) needs rises.1 in omega arith
 
 rest_rises : (n : ℕ) (front rest : List Need) → Rises n (front ++ rest) → (m : ℕ) × (n ≤ m) × Rises m rest
 rest_rises n [] rest rises = (n, omega arith, rises)
 rest_rises n (need ∷ front) rest rises =
-    let more = rest_rises (suc need.lock) front rest rises.1 in
+    let more = rest_rises (suc (lock_number need.lock)) front rest rises.1 in
     let here = rises.0 in
     let up = more.1 in
     (more.0, omega arith, more.2)
 
 -- what is owned is below what comes next
-owned_below : (second : Bool) (lock n : ℕ) (seen : List Seen) (rest : List Need) → Rises n (map (λ (s : Seen). s.need) seen ++ rest) → list_any (owns_seen second lock) seen ≡ true
-    → lock < next_lock rest
+owned_below : (second : Bool) (lock : LockId) (n : ℕ) (seen : List Seen) (rest : List Need) → Rises n (map (λ (s : Seen). s.need) seen ++ rest) → list_any (owns_seen second lock) seen ≡ true
+    → lock_number lock < lock_number (next_lock rest)
 owned_below second lock n [] rest rises has = absurd cc
 owned_below second lock n (s ∷ seen) rest rises has =
     elim (either_true (owns_seen second lock s) (list_any (owns_seen second lock) seen) has) [
       | inl here ↦
-          let is = same_lock s.need.lock lock (both_true (is_owned second s) (eqb s.need.lock lock) here).1 in
-          let more = rest_rises (suc s.need.lock) (map (λ (s : Seen). s.need) seen) rest rises.1 in
+          let is = ap lock_number (same_lock s.need.lock lock (both_true (is_owned second s) (is_lock s.need.lock lock) here).1) in
+          let more = rest_rises (suc (lock_number s.need.lock)) (map (λ (s : Seen). s.need) seen) rest rises.1 in
           let up = more.1 in
           let low = least more.0 rest more.2 in
           omega arith
-      | inr later ↦ owned_below second lock (suc s.need.lock) seen rest rises.1 later
+      | inr later ↦ owned_below second lock (suc (lock_number s.need.lock)) seen rest rises.1 later
     ]
 
 -- ---- some party that has a command at hand may go on
@@ -70,25 +72,25 @@ module _ (needs : Request → List Need) (rise : (request : Request) → Rises 0
   passed i p w at_i has may = record { place = i; party = p; work = w; stands = at_i; has = has; may = ap (may_go s.parties p.left) has ∙ may }
 
   abbrev Onward : ℕ → Type 0
-  Onward fuel = (j : ℕ) (q : Party) (v : Work) → slice_get s.parties j ≡ Some q → q.work ≡ Some v → v.stage ≡ Gathering → 13 ≤ fuel + next_lock v.rest → Goes
+  Onward fuel = (j : ℕ) (q : Party) (v : Work) → slice_get s.parties j ≡ Some q → q.work ≡ Some v → v.stage ≡ Gathering → 13 ≤ fuel + lock_number (next_lock v.rest) → Goes
 
-  at_stage : (lock fuel : ℕ) → 13 ≤ suc fuel + lock → Onward fuel → (j : ℕ) (q : Party) (v : Work) (stage : Stage) → slice_get s.parties j ≡ Some q → q.work ≡ Some v → v.stage ≡ stage
+  at_stage : (lock : LockId) (fuel : ℕ) → 13 ≤ suc fuel + lock_number lock → Onward fuel → (j : ℕ) (q : Party) (v : Work) (stage : Stage) → slice_get s.parties j ≡ Some q → q.work ≡ Some v → v.stage ≡ stage
       → owns_at lock v ≡ true → Goes
   at_stage lock fuel enough on j q v Judged at_j its is owned = passed j q v at_j its (ap (λ st. may_work s.parties st v.rest) is)
   at_stage lock fuel enough on j q v Committed at_j its is owned = passed j q v at_j its (ap (λ st. may_work s.parties st v.rest) is)
   at_stage lock fuel enough on j q v Gathering at_j its is owned =
       let h = hand_of j q v at_j its in
-      let P : Stage → Type 0 = λ st. ((has_judged st && eqb lock journal) || list_any (owns_seen v.second lock) v.seen) ≡ true in
+      let P : Stage → Type 0 = λ st. ((has_judged st && is_lock lock Journal) || list_any (owns_seen v.second lock) v.seen) ≡ true in
       let owned_seen : list_any (owns_seen v.second lock) v.seen ≡ true = subst P is owned in
       let Q : List Need → Type 0 = Rises 0 in
       let low = owned_below v.second lock 0 v.seen v.rest (subst Q (sym h.set) (rise v.request)) owned_seen in
       on j q v at_j its is (omega arith)
 
-  by_owner : (lock fuel : ℕ) → 13 ≤ suc fuel + lock → Onward fuel → (j : ℕ) (q : Party) (work : Option Work) → slice_get s.parties j ≡ Some q → q.work ≡ work → owns_by lock work ≡ true → Goes
+  by_owner : (lock : LockId) (fuel : ℕ) → 13 ≤ suc fuel + lock_number lock → Onward fuel → (j : ℕ) (q : Party) (work : Option Work) → slice_get s.parties j ≡ Some q → q.work ≡ work → owns_by lock work ≡ true → Goes
   by_owner lock fuel enough on j q None at_j its owned = absurd cc
   by_owner lock fuel enough on j q (Some v) at_j its owned = at_stage lock fuel enough on j q v v.stage at_j its refl owned
 
-  goes : (fuel i : ℕ) (p : Party) (w : Work) → slice_get s.parties i ≡ Some p → p.work ≡ Some w → w.stage ≡ Gathering → 13 ≤ fuel + next_lock w.rest → Goes
+  goes : (fuel i : ℕ) (p : Party) (w : Work) → slice_get s.parties i ≡ Some p → p.work ≡ Some w → w.stage ≡ Gathering → 13 ≤ fuel + lock_number (next_lock w.rest) → Goes
   goes zero i p w at_i has is enough =
       let h = rest_of w (hand_of i p w at_i has) in
       let low = next_below h.0 w.rest h.2 in

@@ -4,8 +4,8 @@ use Rattle.std.specs.Prelude.{slice_get}
 use Rattle.std.specs.List.{list_any}
 use Rattle.std.proofs.lemmas.List.{map-append}
 use Rattle.depot_model.specs.db_records.Key.{key_table}
-use Rattle.depot_model.specs.db_records.Table.{table_number}
 use Rattle.depot_model.specs.db_records.declared.key.Key.{Key}
+use Rattle.depot_model.specs.db_records.declared.table.TableId.{TableId}
 use Rattle.depot_model.specs.Commands.{step}
 use Rattle.depot_model.specs.Deeds.{Deed}
 use Rattle.depot_model.specs.Places.{Placed, done_at, taken}
@@ -13,11 +13,12 @@ use Rattle.depot_model.specs.Records.{record_of}
 use Rattle.depot_model.specs.Rules.{IsSound}
 use Rattle.depot_model.specs.Step.{after}
 use Rattle.depot_model.specs.Tables.{Need, needs_of}
+use Rattle.depot_model.specs.declared.lock.LockId.{LockId}
+use Rattle.depot_model.specs.declared.lock.LockId.TheVariants.{Table, Archive, Journal}
 use Rattle.depot_model.specs.declared.request.Request.{Request}
-use Rattle.lock_machine.specs.Machine.{Seen, Work, Party, Commit, State, Finish, Done, Fault, NoMemory, has_judged, is_stale, owns_by, judged, gathered, worked, may_go, moved, placed, added, added_at, acted, acts, event}
+use Rattle.lock_machine.specs.Machine.{guards, Seen, Work, Party, Commit, State, Finish, Done, Fault, NoMemory, has_judged, is_stale, owns_by, judged, gathered, worked, may_go, moved, placed, added, added_at, acted, acts, event}
 use Rattle.lock_machine.specs.declared.stage.Stage.{Stage}
 use Rattle.lock_machine.specs.declared.stage.Stage.TheVariants.{Gathering, Judged, Committed}
-use Rattle.depot_model.specs.Tables.{is_in}
 use Rattle.lock_machine.specs.Orderly.{is_written, AllLast, IsAtHand, AtHand, ChangesWritten, MayFinish}
 use Rattle.lock_machine.specs.Runs.{depot_after, IsTold, Tells, TellsBy, TellsAt, Event, events, AllTell, AllServedIn, idle, beginning, AreSights, SawAll, AllServed, IsServedBy, AreServed, IsRun}
 use Rattle.lock_machine.proofs.Places.{some_is, neither, true_or_false}
@@ -40,14 +41,14 @@ told_more d [] more told next = next
 told_more d (c ∷ order) more told next = (told.0, told_more (after d (done_at step d c.place)) order more told.1 next)
 
 -- a table that no place changed stays
-stays : (d : List Deed) (order : List Commit) (lock : ℕ) → IsTold d order → list_any (changes_lock lock) order ≡ false → (key : Key) → table_number (key_table key) ≡ lock
+stays : (d : List Deed) (order : List Commit) (lock : LockId) → IsTold d order → list_any (changes_lock lock) order ≡ false → (key : Key) → Table (key_table key) ≡ lock
     → record_of d key ≡ record_of (depot_after d order) key
 stays d [] lock told none key at = refl
 stays d (c ∷ order) lock told none key at =
-    let parts = neither (is_in c.changed lock) (list_any (changes_lock lock) order) none in
-    told.0.same key (ap (is_in c.changed) at ∙ parts.0) ∙ stays (after d (done_at step d c.place)) order lock told.1 parts.1 key at
+    let parts = neither (guards c.changed lock) (list_any (changes_lock lock) order) none in
+    told.0.same key (ap (guards c.changed) at ∙ parts.0) ∙ stays (after d (done_at step d c.place)) order lock told.1 parts.1 key at
 
-stays_from : (d : List Deed) (order : List Commit) (n lock : ℕ) → IsTold d order → list_any (changes_lock lock) (drop n order) ≡ false → (key : Key) → table_number (key_table key) ≡ lock
+stays_from : (d : List Deed) (order : List Commit) (n : ℕ) (lock : LockId) → IsTold d order → list_any (changes_lock lock) (drop n order) ≡ false → (key : Key) → Table (key_table key) ≡ lock
     → record_of (depot_after d (take n order)) key ≡ record_of (depot_after d order) key
 stays_from d order zero lock told none key at = stays d order lock told none key at
 stays_from d [] (suc n) lock told none key at = refl
@@ -77,12 +78,17 @@ stays_sound : (d : List Deed) (request : Request) → IsSound d → IsServed req
 stays_sound d request sound served = asked_sound d request sound served.proper.asked served.typed
 
 changes_written : (d : List Deed) (request : Request) (how : Finish) → IsSound d → IsServed request → Tells d request how → ChangesWritten needs_of request how
-changes_written d request (Done changed) sound served tells = λ lock has.
-    let different = tells.differ lock has in
-    elim (true_or_false (is_written (needs_of request) lock)) [
-      | inl written ↦ written
-      | inr alone ↦ absurd (different.2 (sym (writes_alone d request different.0 (ap (is_written (needs_of request)) different.1 ∙ alone))))
-    ]
+changes_written d request (Done changed) sound served tells = by
+  where
+    by : (lock : LockId) → guards changed lock ≡ true → is_written (needs_of request) lock ≡ true
+    by Archive has = absurd cc
+    by Journal has = absurd cc
+    by (Table table) has =
+        let different = tells.differ table has in
+        elim (true_or_false (is_written (needs_of request) (Table table))) [
+          | inl written ↦ written
+          | inr alone ↦ absurd (different.2 (sym (writes_alone d request different.0 (ap (λ (t : TableId). is_written (needs_of request) (Table t)) different.1 ∙ alone))))
+        ]
 changes_written d request Fault sound served tells = tt
 changes_written d request NoMemory sound served tells = tt
 
@@ -111,7 +117,7 @@ module _ (start : List Deed) (s : State) (run : IsRun start s) (how : Finish) wh
 
   next_placed : (request : Request) (how : Finish) → IsServed request → Tells now request how → IsNext (placed request how)
   next_placed request (Done changed) served tells = ((tells, tt), stays_sound now request run.sound served)
-  next_placed request Fault served tells = ((record { same = λ key is. refl; differ = λ n has. absurd (cc) }, tt), run.sound)
+  next_placed request Fault served tells = ((record { same = λ key is. refl; differ = λ table has. absurd (cc) }, tt), run.sound)
   next_placed request NoMemory served tells = (tt, run.sound)
 
   next_added : (work : Option Work) → IsServedBy work → TellsBy now work how → IsNext (added work how)

@@ -1,18 +1,33 @@
 -- The machine of locks: which event a party may take next, and what it does. A party begins its next command and goes through the command's set in
--- rising order: it locks each table that the command writes, and looks at each that the command only reads. With the journal it judges: where a
+-- order: it locks each table that the command writes, and looks at each that the command only reads. With the journal it judges: where a
 -- table that it looked at was changed since, it gives all back and locks its whole set in a second attempt. Then it commits, and gives all back.
 -- This project's own choice.
 use Rattle.std.specs.Prelude.{ℕ, ◌==◌, nat_lt, Bool, true, false, not, ◌&&◌, ◌||◌, List, [], ◌∷◌, ◌++◌, length, drop, slice_get, slice_set, if◌then◌else◌, Option, Some, None}
 use Rattle.std.specs.List.{list_any}
+use Rattle.depot_model.specs.db_records.Table.{table_number}
+use Rattle.depot_model.specs.db_records.declared.table.TableId.{TableId}
 use Rattle.depot_model.specs.Tables.{Need, is_in}
 use Rattle.depot_model.specs.Places.{Placed}
+use Rattle.depot_model.specs.declared.lock.LockId.{LockId}
+use Rattle.depot_model.specs.declared.lock.LockId.TheVariants.{Table, Archive, Journal}
 use Rattle.depot_model.specs.declared.request.Request.{Request}
 use Rattle.lock_machine.specs.declared.stage.Stage.{Stage}
 use Rattle.lock_machine.specs.declared.stage.Stage.TheVariants.{Gathering, Judged, Committed}
 
--- the lock of the journal, above those of the tables and of the archive
-abbrev pub journal : ℕ
-journal = 12
+-- the place of a lock in the order in which locks are taken: the tables, the archive, the journal
+abbrev pub lock_number : LockId → ℕ
+lock_number (Table table) = table_number table
+lock_number Archive = 11
+lock_number Journal = 12
+
+abbrev pub is_lock : LockId → LockId → Bool
+is_lock lock other = lock_number lock == lock_number other
+
+-- a lock is that of one of some tables
+abbrev pub guards : List TableId → LockId → Bool
+guards tables (Table table) = is_in tables table
+guards tables Archive = false
+guards tables Journal = false
 
 -- a table of the set of a command, as of so many places of the order
 pub record Seen : Type 0 where
@@ -32,10 +47,10 @@ pub record Party : Type 0 where
   pub left : List Request
   pub work : Option Work
 
--- a place of the order, and the numbers of the tables that it changed
+-- a place of the order, and the tables that it changed
 pub record Commit : Type 0 where
   pub place : Placed
-  pub changed : List ℕ
+  pub changed : List TableId
 
 pub record State : Type 0 where
   pub parties : List Party
@@ -43,7 +58,7 @@ pub record State : Type 0 where
 
 -- how a commit ends: done, with the tables that it changed; failed at a disk; or without memory, and then without a place
 pub data Finish : Type 0 where
-  Done : List ℕ → Finish
+  Done : List TableId → Finish
   Fault : Finish
   NoMemory : Finish
 
@@ -53,32 +68,32 @@ pub data Finish : Type 0 where
 abbrev pub is_owned : Bool → Seen → Bool
 is_owned second s = second || s.need.writes
 
-abbrev pub owns_seen : Bool → ℕ → Seen → Bool
-owns_seen second lock s = is_owned second s && (s.need.lock == lock)
+abbrev pub owns_seen : Bool → LockId → Seen → Bool
+owns_seen second lock s = is_owned second s && is_lock s.need.lock lock
 
 abbrev pub has_judged : Stage → Bool
 has_judged Gathering = false
 has_judged Judged = true
 has_judged Committed = true
 
-abbrev pub owns_at : ℕ → Work → Bool
-owns_at lock w = (has_judged w.stage && (lock == journal)) || list_any (owns_seen w.second lock) w.seen
+abbrev pub owns_at : LockId → Work → Bool
+owns_at lock w = (has_judged w.stage && is_lock lock Journal) || list_any (owns_seen w.second lock) w.seen
 
-abbrev pub owns_by : ℕ → Option Work → Bool
+abbrev pub owns_by : LockId → Option Work → Bool
 owns_by lock None = false
 owns_by lock (Some w) = owns_at lock w
 
-abbrev pub owns : ℕ → Party → Bool
+abbrev pub owns : LockId → Party → Bool
 owns lock p = owns_by lock p.work
 
-abbrev pub is_free : List Party → ℕ → Bool
+abbrev pub is_free : List Party → LockId → Bool
 is_free parties lock = not (list_any (owns lock) parties)
 
 -- ---- which event is next
 
 -- the lock that a party that gathers takes next
-abbrev pub next_lock : List Need → ℕ
-next_lock [] = journal
+abbrev pub next_lock : List Need → LockId
+next_lock [] = Journal
 next_lock (need ∷ rest) = need.lock
 
 abbrev pub may_work : List Party → Stage → List Need → Bool
@@ -107,7 +122,7 @@ is_unfinished p = elim p.work [ Some w ↦ true | None ↦ nat_lt 0 (length p.le
 
 -- a table was changed by a place after it was seen
 abbrev pub is_touched : List Commit → Seen → Bool
-is_touched order s = list_any (λ (c : Commit). is_in c.changed s.need.lock) (drop s.places order)
+is_touched order s = list_any (λ (c : Commit). guards c.changed s.need.lock) (drop s.places order)
 
 abbrev pub is_stale : List Commit → Bool → Seen → Bool
 is_stale order second s = not (is_owned second s) && is_touched order s

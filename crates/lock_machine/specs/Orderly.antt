@@ -1,19 +1,21 @@
 -- What holds of the machine after every list of events. This project's own choice.
-use Rattle.std.specs.Prelude.{◌≡◌, ℕ, suc, ◌≤◌, Bool, true, false, ◌==◌, ◌&&◌, List, [], ◌∷◌, ◌++◌, length, map, slice_get, Option, Some, None}
+use Rattle.std.specs.Prelude.{◌≡◌, ℕ, suc, ◌≤◌, Bool, true, false, ◌&&◌, List, [], ◌∷◌, ◌++◌, length, map, slice_get, Option, Some, None}
 use Rattle.std.specs.List.{list_any}
+use Rattle.depot_model.specs.declared.lock.LockId.{LockId}
+use Rattle.depot_model.specs.declared.lock.LockId.TheVariants.{Journal}
 use Rattle.depot_model.specs.declared.request.Request.{Request}
-use Rattle.lock_machine.specs.Machine.{journal, Seen, Work, Party, Commit, State, Finish, Done, Fault, NoMemory, is_owned, has_judged, owns, is_touched}
+use Rattle.lock_machine.specs.Machine.{lock_number, is_lock, guards, Seen, Work, Party, Commit, State, Finish, Done, Fault, NoMemory, is_owned, has_judged, owns, is_touched}
 use Rattle.lock_machine.specs.declared.stage.Stage.{Stage}
 use Rattle.lock_machine.specs.declared.stage.Stage.TheVariants.{Gathering, Judged, Committed}
-use Rattle.depot_model.specs.Tables.{Need, is_in}
+use Rattle.depot_model.specs.Tables.{Need}
 
--- the locks of a set rise, from a number on, and are below the journal's
+-- the locks of a set rise in their order, from a place on, and are below the journal's
 abbrev pub Rises : ℕ → List Need → Type 0
-Rises n [] = n ≤ journal
-Rises n (need ∷ needs) = (n ≤ need.lock) × Rises (suc need.lock) needs
+Rises n [] = n ≤ lock_number Journal
+Rises n (need ∷ needs) = (n ≤ lock_number need.lock) × Rises (suc (lock_number need.lock)) needs
 
-abbrev pub is_written : List Need → ℕ → Bool
-is_written needs lock = list_any (λ (n : Need). n.writes && (n.lock == lock)) needs
+abbrev pub is_written : List Need → LockId → Bool
+is_written needs lock = list_any (λ (n : Need). n.writes && is_lock n.lock lock) needs
 
 -- What a party saw of a table must still be what is there: of those that it owns, and once it has judged, of all. Its own commit ends that.
 abbrev pub must_last : Stage → Bool → Seen → Bool
@@ -42,7 +44,7 @@ module _ (needs : Request → List Need) where
 
   -- no lock has two owners
   abbrev pub AreAlone : List Party → Type 0
-  AreAlone parties = (lock i j : ℕ) (p q : Party) → slice_get parties i ≡ Some p → slice_get parties j ≡ Some q → owns lock p ≡ true → owns lock q ≡ true → i ≡ j
+  AreAlone parties = (lock : LockId) (i j : ℕ) (p q : Party) → slice_get parties i ≡ Some p → slice_get parties j ≡ Some q → owns lock p ≡ true → owns lock q ≡ true → i ≡ j
 
   pub record IsOrderly (s : State) : Type 0 where
     pub each : (i : ℕ) (p : Party) → slice_get s.parties i ≡ Some p → AtHand s.order p.work
@@ -50,7 +52,7 @@ module _ (needs : Request → List Need) where
 
   -- a commit changes no other tables than those that its command writes
   abbrev pub ChangesWritten : Request → Finish → Type 0
-  ChangesWritten request (Done changed) = (lock : ℕ) → is_in changed lock ≡ true → is_written (needs request) lock ≡ true
+  ChangesWritten request (Done changed) = (lock : LockId) → guards changed lock ≡ true → is_written (needs request) lock ≡ true
   ChangesWritten request Fault = Unit {0}
   ChangesWritten request NoMemory = Unit {0}
 

@@ -1,19 +1,19 @@
 -- The depot behind the places of the machine's order, and what a party sees of it. This project's own choice.
 use Rattle.std.specs.Prelude.{◌≡◌, ◌≢◌, ℕ, true, false, List, [], ◌∷◌, map, take, slice_get, Option, Some, None}
 use Rattle.depot_model.specs.db_records.Key.{key_table}
-use Rattle.depot_model.specs.db_records.Table.{table_number}
 use Rattle.depot_model.specs.db_records.declared.key.Key.{Key}
+use Rattle.depot_model.specs.db_records.declared.table.TableId.{TableId}
 use Rattle.depot_model.specs.Commands.{step}
 use Rattle.depot_model.specs.Deeds.{Deed}
 use Rattle.depot_model.specs.Places.{done_at, taken}
 use Rattle.depot_model.specs.Records.{record_of}
 use Rattle.depot_model.specs.Rules.{IsSound}
 use Rattle.depot_model.specs.Step.{after}
-use Rattle.depot_model.specs.Tables.{needs_of}
+use Rattle.depot_model.specs.Tables.{is_in, needs_of}
+use Rattle.depot_model.specs.declared.lock.LockId.TheVariants.{Table}
 use Rattle.depot_model.specs.declared.request.Request.{Request}
 use Rattle.lock_machine.specs.Machine.{Seen, Work, Party, Commit, State, Finish, Done, Fault, NoMemory, event}
 use Rattle.lock_machine.specs.declared.stage.Stage.TheVariants.{Judged}
-use Rattle.depot_model.specs.Tables.{is_in}
 use Rattle.lock_machine.specs.Orderly.{IsOrderly}
 use Rattle.lock_machine.specs.Proper.{IsServed}
 
@@ -22,9 +22,9 @@ abbrev pub depot_after : List Deed → List Commit → List Deed
 depot_after start order = taken step start (map (λ (c : Commit). c.place) order)
 
 -- these are the tables of which some row differs between two depots
-pub record AreChanged (d e : List Deed) (changed : List ℕ) : Type 0 where
-  pub same : (key : Key) → is_in changed (table_number (key_table key)) ≡ false → record_of d key ≡ record_of e key
-  pub differ : (n : ℕ) → is_in changed n ≡ true → (key : Key) × (table_number (key_table key) ≡ n) × (record_of d key ≢ record_of e key)
+pub record AreChanged (d e : List Deed) (changed : List TableId) : Type 0 where
+  pub same : (key : Key) → is_in changed (key_table key) ≡ false → record_of d key ≡ record_of e key
+  pub differ : (table : TableId) → is_in changed table ≡ true → (key : Key) × (key_table key ≡ table) × (record_of d key ≢ record_of e key)
 
 -- the order tells of each place the tables that it changed
 abbrev pub IsTold : List Deed → List Commit → Type 0
@@ -73,7 +73,7 @@ beginning requests = record { parties = map idle requests; order = [] }
 -- what was seen of a table is what the depot has of it
 abbrev pub IsSight : List Deed → List Commit → Seen → Type 0
 IsSight start order s =
-    (key : Key) → table_number (key_table key) ≡ s.need.lock → record_of (depot_after start (take s.places order)) key ≡ record_of (depot_after start order) key
+    (key : Key) → Table (key_table key) ≡ s.need.lock → record_of (depot_after start (take s.places order)) key ≡ record_of (depot_after start order) key
 
 abbrev pub AreSights : List Deed → List Commit → List Seen → Type 0
 AreSights start order [] = Unit {0}

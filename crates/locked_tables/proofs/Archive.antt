@@ -1,5 +1,5 @@
 -- How much of the archive is used after the entries that touch its lane.
-use Rattle.std.proofs.Common.{◌≡◌, ℕ, Bool, true, false, List, [], ◌∷◌, ◌++◌, if◌then◌else◌, refl, sym, ap, ◌∙◌}
+use Rattle.std.proofs.Common.{◌≡◌, ℕ, Bool, false, List, [], ◌∷◌, ◌++◌, if◌then◌else◌, refl, sym, ap, ◌∙◌}
 use Rattle.std.specs.List.{AllByRecursion}
 use Rattle.order_words.specs.Lanes.{has_lane, last_touch}
 use Rattle.locked_tables.specs.Known.{GoesOnWithout, KnowsLane}
@@ -31,14 +31,6 @@ module _ (end : ℕ) where
   end_kept known order knows =
       ap (end_after end) (sym knows.begins.1) ∙ (end_append known knows.begins.0 end ∙ end_untouched knows.begins.0 (end_after end known) (past_known archive_lane known order knows))
 
-  end_with : (order : List Taken) (taken : Taken) (b : Bool) → has_lane taken.lanes archive_lane ≡ b → end_after end (order ++ taken ∷ []) ≡ (if b then taken.end else end_after end order)
-  end_with order taken b is = end_append order (taken ∷ []) end ∙ ap (λ (c : Bool). if c then taken.end else end_after end order) is
-
-  module _ (order after : List Taken) (entry : Taken) (last : after ≡ order ++ entry ∷ []) where
-    -- a place that doesn't touch the archive's lane leaves it
-    pub end_same : has_lane entry.lanes archive_lane ≡ false → end_after end after ≡ end_after end order
-    end_same spares = ap (end_after end) last ∙ end_with order entry false spares
-
-    -- one that touches it says it
-    pub end_said : has_lane entry.lanes archive_lane ≡ true → end_after end after ≡ entry.end
-    end_said touches = ap (end_after end) last ∙ end_with order entry true touches
+  -- so much is used after one place more
+  pub end_placed : (order after : List Taken) (entry : Taken) (touched : Bool) → after ≡ order ++ entry ∷ [] → has_lane entry.lanes archive_lane ≡ touched → end_after end after ≡ (if touched then entry.end else end_after end order)
+  end_placed order after entry touched last is = ap (end_after end) last ∙ (end_append order (entry ∷ []) end ∙ ap (λ (b : Bool). if b then entry.end else end_after end order) is)

@@ -1,9 +1,9 @@
 -- The lanes of an entry.
-use Rattle.std.proofs.Common.{◌≡◌, ◌≢◌, ◌≤◌, ◌<◌, ◌==◌, ◌||◌, ℕ, Bool, true, false, List, [], ◌∷◌, ◌++◌, Option, Some, None, refl, sym, ap, ◌∙◌, arith}
+use Rattle.std.proofs.Common.{◌≡◌, ◌≢◌, ◌≤◌, ◌<◌, ◌==◌, ◌||◌, ℕ, Bool, true, false, List, [], ◌∷◌, ◌++◌, Option, Some, None, refl, sym, ap, subst, ◌∙◌, arith}
 use Rattle.std.specs.List.{AllByRecursion}
 use mathlib.Core.Logic.{dite}
 use native.Mathlib.Decide.{ℕ_discrete}
-use Rattle.std.proofs.lemmas.Bool.{eq-eqb, ne_eqb}
+use Rattle.std.proofs.lemmas.Bool.{eq-eqb, ne_eqb, true≢false}
 use Rattle.std.proofs.lemmas.Nat.Bits.{bit_at-zero}
 use Rattle.depot_model.specs.db_records.Table.{table_number}
 use Rattle.depot_model.specs.db_records.declared.table.TableId.{TableId}
@@ -11,7 +11,8 @@ use Rattle.depot_model.specs.db_records.declared.table.TableId.TheVariants.{Coun
 use Rattle.order_words.specs.Lanes.{has_lane, is_among}
 use Rattle.table_changes.specs.table_store.Rows.{TableRows}
 use Rattle.locked_tables.specs.Held.{AreAmong, lane_next, lanes_next, table_held}
-use Rattle.locked_tables.specs.Taken.{party_lane}
+use Rattle.locked_tables.specs.Placing.{lanes_held}
+use Rattle.locked_tables.specs.Taken.{archive_lane, journal_lane, party_lane}
 use Rattle.locked_tables.specs.declared.held_table.HeldTable.{HeldTable}
 
 pub or_first : (a b : Bool) → a ≡ true → (a || b) ≡ true
@@ -28,10 +29,6 @@ pub or_no_second : (a b : Bool) → b ≡ false → (a || b) ≡ a
 or_no_second true b e = refl
 or_no_second false b e = e
 
-neither_first : (a b : Bool) → (a || b) ≡ false → a ≡ false
-neither_first true b e = e
-neither_first false b e = refl
-
 neither_second : (a b : Bool) → (a || b) ≡ false → b ≡ false
 neither_second true b e = absurd (cc e)
 neither_second false b e = e
@@ -42,35 +39,45 @@ module _ (lane : ℕ) where
   not_last [] rest e = e
   not_last (first ∷ front) rest e = not_last front rest (neither_second (lane == first) (is_among lane (front ++ rest)) e)
 
-  -- what is among neither the first nor the last isn't among the lanes
-  not_both : (front rest : List ℕ) → is_among lane front ≡ false → is_among lane rest ≡ false → is_among lane (front ++ rest) ≡ false
-  not_both [] rest none e = e
-  not_both (first ∷ front) rest none e = or_no_first (lane == first) (is_among lane (front ++ rest)) (neither_first (lane == first) (is_among lane front) none)
-      ∙ not_both front rest (neither_second (lane == first) (is_among lane front) none) e
-
 -- no bit of zero is set
 pub no_lane : (lane : ℕ) → has_lane 0 lane ≡ false
 no_lane lane = ap (λ (b : ℕ). b == 1) (bit_at-zero lane)
 
-module _ (lanes more n : ℕ) (one : has_lane more n ≡ true) (others : (i : ℕ) → i ≢ n → has_lane more i ≡ has_lane lanes i) where
+-- no lane of none is among any
+pub none_among : (checked : List ℕ) → AreAmong 0 checked
+none_among checked = λ lane has. absurd (true≢false (sym has ∙ no_lane lane))
+
+-- a seat's lane n is this lane
+module _ (lanes more n lane : ℕ) (is : n ≡ lane) (one : has_lane more n ≡ true) (others : (i : ℕ) → i ≢ n → has_lane more i ≡ has_lane lanes i) where
+  this : has_lane more lane ≡ true
+  this = subst (λ (m : ℕ). has_lane more m ≡ true) is one
+
+  rest_same : (i : ℕ) → i ≢ lane → has_lane more i ≡ has_lane lanes i
+  rest_same = subst (λ (m : ℕ). (i : ℕ) → i ≢ m → has_lane more i ≡ has_lane lanes i) is others
+
   -- the bits of lanes that are checked, and of one more
-  pub among_more : (checked : List ℕ) → AreAmong lanes checked → AreAmong more (n ∷ checked)
-  among_more checked all lane h = dite (ℕ_discrete lane n)
-      (λ e. or_first (lane == n) (is_among lane checked) (eq-eqb lane n e))
-      (λ ne. or_second (lane == n) (is_among lane checked) (all lane (sym (others lane ne) ∙ h)))
+  pub among_more : (checked : List ℕ) → AreAmong lanes checked → AreAmong more (lane ∷ checked)
+  among_more checked all i h = dite (ℕ_discrete i lane)
+      (λ e. or_first (i == lane) (is_among i checked) (eq-eqb i lane e))
+      (λ ne. or_second (i == lane) (is_among i checked) (all i (sym (rest_same i ne) ∙ h)))
 
-  or_same : (lane : ℕ) (rest : List ℕ) (b : Bool) → (lane == n) ≡ b → (has_lane more lane || is_among lane rest) ≡ (has_lane lanes lane || ((lane == n) || is_among lane rest))
-  or_same lane rest true e = let is : lane ≡ n = grind (arith, e) in or_first (has_lane more lane) (is_among lane rest) (ap (has_lane more) is ∙ one) ∙ sym (or_second (has_lane lanes lane) ((lane == n) || is_among lane rest) (or_first (lane == n) (is_among lane rest) e))
-  or_same lane rest false e = let ne : lane ≢ n = λ same. absurd (cc (e, eq-eqb lane n same)) in
-      ap (λ (b : Bool). b || is_among lane rest) (others lane ne) ∙ sym (ap (λ (b : Bool). has_lane lanes lane || (b || is_among lane rest)) e)
+  or_same : (i : ℕ) (rest : List ℕ) (b : Bool) → (i == lane) ≡ b → (has_lane more i || is_among i rest) ≡ (has_lane lanes i || ((i == lane) || is_among i rest))
+  or_same i rest true e = let same : i ≡ lane = grind (arith, e) in or_first (has_lane more i) (is_among i rest) (ap (has_lane more) same ∙ this) ∙ sym (or_second (has_lane lanes i) ((i == lane) || is_among i rest) (or_first (i == lane) (is_among i rest) e))
+  or_same i rest false e = let ne : i ≢ lane = λ same. absurd (cc (e, eq-eqb i lane same)) in
+      ap (λ (b : Bool). b || is_among i rest) (rest_same i ne) ∙ sym (ap (λ (b : Bool). has_lane lanes i || (b || is_among i rest)) e)
 
-  -- the bits of the lanes with one more, and of the rest
-  pub lanes_or : (result : ℕ) (rest : List ℕ) → ((i : ℕ) → has_lane result i ≡ (has_lane more i || is_among i rest)) → (i : ℕ) → has_lane result i ≡ (has_lane lanes i || is_among i (n ∷ rest))
-  lanes_or result rest all i = all i ∙ or_same i rest (i == n) refl
+  module _ (result : ℕ) (rest : List ℕ) (all : (i : ℕ) → has_lane result i ≡ (has_lane more i || is_among i rest)) where
+    -- the bits of the lanes with one more, and of the rest
+    pub lanes_or : (i : ℕ) → has_lane result i ≡ (has_lane lanes i || is_among i (lane ∷ rest))
+    lanes_or i = all i ∙ or_same i rest (i == lane) refl
+
+    -- this lane is one of them
+    pub has_this : has_lane result lane ≡ true
+    has_this = all lane ∙ or_first (has_lane more lane) (is_among lane rest) this
 
 -- ---- lanes of tables, of the archive and of parties
 
-small : (table : TableId) → table_number table < 11
+small : (table : TableId) → table_number table < archive_lane
 small Counter = omega arith
 small Group = omega arith
 small Protect = omega arith
@@ -84,15 +91,15 @@ small Change = omega arith
 small Rev = omega arith
 
 -- a lane behind those of the tables is that of none
-not_of_table : (lane : ℕ) (table : TableId) → 11 ≤ lane → (lane == table_number table) ≡ false
+not_of_table : (lane : ℕ) (table : TableId) → archive_lane ≤ lane → (lane == table_number table) ≡ false
 not_of_table lane table past = let less = small table in ne_eqb lane (table_number table) (λ e. absurd (omega arith))
 
 -- no lane behind those of the tables is among these
 abbrev pub AreOfTables : List ℕ → Type 0
-AreOfTables lanes = (lane : ℕ) → 11 ≤ lane → is_among lane lanes ≡ false
+AreOfTables lanes = (lane : ℕ) → archive_lane ≤ lane → is_among lane lanes ≡ false
 
 module _ {N : Type 0} where
-  not_next : (lane : ℕ) (held : List (HeldTable N)) → 11 ≤ lane → is_among lane (lanes_next held) ≡ false
+  not_next : (lane : ℕ) (held : List (HeldTable N)) → archive_lane ≤ lane → is_among lane (lanes_next held) ≡ false
   not_next lane [] past = refl
   not_next lane (h ∷ held) past = go h.next (not_next lane held past)
     where
@@ -116,7 +123,7 @@ lane_of_party party other lanes none = or_no_second (party_lane party == party_l
 
 -- lanes behind those of the tables and before those of the parties: that of the archive and that of the journal
 abbrev pub IsBetween : ℕ → Type 0
-IsBetween lane = (11 ≤ lane) × (lane ≤ 12)
+IsBetween lane = (archive_lane ≤ lane) × (lane ≤ journal_lane)
 
 -- of such lanes and of others, a party's lane is among the others
 pub past_between : (front rest : List ℕ) (party : ℕ) → AllByRecursion IsBetween front → 1 ≤ party → is_among (party_lane party) (front ++ rest) ≡ is_among (party_lane party) rest
@@ -124,10 +131,30 @@ past_between [] rest party all low = refl
 past_between (lane ∷ front) rest party all low = let high = all.0.1 in
     or_no_first (party_lane party == lane) (is_among (party_lane party) (front ++ rest)) (ne_eqb (party_lane party) lane (λ e. absurd (omega arith))) ∙ past_between front rest party all.1 low
 
--- such a lane is not among others, a party's and those of tables
-pub not_among : (lane : ℕ) (front : List ℕ) (party : ℕ) (tables : List ℕ) → IsBetween lane → 1 ≤ party → AreOfTables tables → is_among lane front ≡ false → is_among lane (front ++ party_lane party ∷ tables) ≡ false
-not_among lane front party tables between low are none =
+-- of such lanes, a party's and those of tables, such a lane is among the first
+pub among_front : (lane : ℕ) (front : List ℕ) (party : ℕ) (tables : List ℕ) → IsBetween lane → 1 ≤ party → AreOfTables tables → is_among lane (front ++ party_lane party ∷ tables) ≡ is_among lane front
+among_front lane [] party tables between low are =
     let past = between.0 in
     let high = between.1 in
-    not_both lane front (party_lane party ∷ tables) none
-    (or_no_first (lane == party_lane party) (is_among lane tables) (ne_eqb lane (party_lane party) (λ e. absurd (omega arith))) ∙ are lane past)
+    or_no_first (lane == party_lane party) (is_among lane tables) (ne_eqb lane (party_lane party) (λ e. absurd (omega arith))) ∙ are lane past
+among_front lane (first ∷ front) party tables between low are = ap (λ (b : Bool). (lane == first) || b) (among_front lane front party tables between low are)
+
+-- those of the archive and of the journal that are held are such
+pub between_held : (archive journal : Bool) → AllByRecursion IsBetween (lanes_held archive journal)
+between_held true true = ((omega arith, omega arith), ((omega arith, omega arith), tt))
+between_held true false = ((omega arith, omega arith), tt)
+between_held false true = ((omega arith, omega arith), tt)
+between_held false false = tt
+
+-- the archive's is among them just where it is held
+pub archive_among : (archive journal : Bool) → is_among archive_lane (lanes_held archive journal) ≡ archive
+archive_among true journal = refl
+archive_among false true = refl
+archive_among false false = refl
+
+-- so is the journal's
+pub journal_among : (archive journal : Bool) → is_among journal_lane (lanes_held archive journal) ≡ journal
+journal_among true true = refl
+journal_among true false = refl
+journal_among false true = refl
+journal_among false false = refl

@@ -94,6 +94,11 @@ module _ (table : TableId) where
   behind_changed true taken rows e only = ap (λ (c : Bool). if c then changed_by rows taken.changes table else rows table) e
   behind_changed false taken rows e only = ap (λ (c : Bool). if c then changed_by rows taken.changes table else rows table) e ∙ sym (only table e rows)
 
+  -- one more entry that touches the tables that it changes leaves what its changes do
+  pub rows_behind_all : (rows : AllRows) (xs : List Taken) (taken : Taken) → TouchesItsTables taken → rows_after rows (xs ++ taken ∷ []) table ≡ changed_by (rows_after rows xs) taken.changes table
+  rows_behind_all rows xs taken only =
+      ap (λ (r : AllRows). r table) (after_append xs (taken ∷ []) rows) ∙ behind_changed (has_lane taken.lanes (table_number table)) taken (rows_after rows xs) refl only
+
   -- the rows after entries that touch the tables that they change are those after all changes
   pub rows_changed : (order : List Taken) (rows : AllRows) → AllByRecursion TouchesItsTables order → rows_after rows order table ≡ changed_by rows (changes_of order) table
   rows_changed [] rows all = refl

@@ -6,7 +6,7 @@ use Rattle.depot_model.specs.db_records.declared.table.TableId.{TableId}
 use Rattle.order_words.specs.Lanes.{has_lane, last_touch}
 use Rattle.order_words.specs.Seats.{Run, LaneState, fresh_lane}
 use Rattle.table_changes.specs.Changed.{AllRows}
-use Rattle.locked_tables.specs.Taken.{lanes_of, of_party, rows_after}
+use Rattle.locked_tables.specs.Taken.{archive_lane, lanes_of, of_party, rows_after}
 use Rattle.locked_tables.specs.declared.taken.Taken.{Taken}
 
 -- the seat of a lane at rest: the lane's word is the last place of its list that touches the lane
@@ -15,7 +15,7 @@ at_rest run lane list = record { run = run; lane = lane; list = list; word = las
 
 -- the seat of the lane of a table, where no place is yet
 abbrev pub IsSeatOfTable : Run → LaneState Taken → Type 0
-IsSeatOfTable run seat = (seat.lane < 11) × (seat ≡ fresh_lane run seat.lane)
+IsSeatOfTable run seat = (seat.lane < archive_lane) × (seat ≡ fresh_lane run seat.lane)
 
 -- a table, and a beginning of the order
 pub record TableKnown : Type 0 where
@@ -46,6 +46,11 @@ pub record GoesOnWithout (lane : ℕ) (known order : List Taken) : Type 0 where
   pub behind : List Taken
   pub parts : order ≡ known ++ behind
   pub untouched : AllByRecursion (λ taken. has_lane taken.lanes lane ≡ false) behind
+
+-- what was known of a lane begins the order before a place, of which none behind it touches the lane, and all places after it are known now
+pub record LearnsPlace (lane : ℕ) (before after old new : List Taken) : Type 0 where
+  pub behind : GoesOnWithout lane old before
+  pub learnt : new ≡ after
 
 -- a table is after all entries as it was after those of a list
 abbrev pub IsStill : AllRows → List Taken → TableKnown → Type 0

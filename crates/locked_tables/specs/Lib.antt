@@ -1,3 +1,4 @@
 pub mod Taken
 pub mod Known
 pub mod Held
+pub mod Placing

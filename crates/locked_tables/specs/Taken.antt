@@ -20,7 +20,11 @@ abbrev pub journal_lane : ℕ
 journal_lane = 12
 
 abbrev pub party_lane : ℕ → ℕ
-party_lane party = party + 12
+party_lane party = party + journal_lane
+
+-- how many lanes there are beside those of the parties
+abbrev pub depot_lanes : ℕ
+depot_lanes = journal_lane + 1
 
 -- the lanes that an entry touches
 abbrev pub lanes_of : Taken → ℕ

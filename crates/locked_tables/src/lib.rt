@@ -24,6 +24,7 @@
 //!   places, and the order was made with room for all.
 #![tactic(auto)]
 
+mod held_lanes;
 mod held_table;
 mod locked_archive;
 mod locked_journal;
@@ -37,6 +38,7 @@ mod table_locks;
 mod taken;
 mod words;
 
+pub use held_lanes::{ArchiveLane, JournalLane, NoLane};
 pub use held_table::HeldTable;
 pub use locked_archive::LockedArchive;
 pub use locked_journal::LockedJournal;

@@ -1,5 +1,5 @@
 //! What lies behind the lock of the order.
-ghost use Rattle.std.specs.Prelude.{◌≡◌, ◌≤◌, ◌-◌, ◌^◌, ℕ, [], ◌∷◌, ◌++◌, map, true, false, IfOk, IsTrue};
+ghost use Rattle.std.specs.Prelude.{◌≡◌, ◌≤◌, ◌-◌, ◌^◌, ℕ, [], ◌∷◌, ◌++◌, map, if◌then◌else◌, true, IfOk, IsTrue};
 ghost use Rattle.std.specs.List.{AllByRecursion};
 ghost use mathlib.Core.List.{IsPrefix};
 ghost use Rattle.depot_model.specs.db_records.declared.table.TableId.{TableId};
@@ -7,8 +7,10 @@ ghost use Rattle.table_changes.specs.Changed.{changed_by};
 ghost use Rattle.order_words.specs.Lanes.{has_lane, is_among};
 ghost use Rattle.locked_tables.specs.Held.{AllHaveLearnt, AllNext, AllStill, OnlyChange, lanes_next};
 ghost use Rattle.locked_tables.specs.Known.{GoesOnWithout, HasPlaceLeft, IsStill, all_places};
+ghost use Rattle.locked_tables.specs.Placing.{lanes_held};
 ghost use Rattle.locked_tables.specs.Taken.{archive_lane, changes_of, end_after, journal_lane, of_party, party_lane, place_of, rows_after, IsOwn, IsParty};
 
+use crate::held_lanes::{ArchiveLane, JournalLane};
 use crate::held_table::HeldTable;
 use crate::locked_archive::LockedArchive;
 use crate::locked_journal::LockedJournal;
@@ -16,9 +18,7 @@ use crate::locked_table::LockedTable;
 use crate::naming::Naming;
 use crate::party_pass::PartyPass;
 use crate::peek::Peek;
-use crate::placing::{
-    learn_tables, place_stored_at, place_touching, place_unread_at, place_written,
-};
+use crate::placing::learn_tables;
 use crate::taken::Taken;
 use crate::words::OrderWords;
 use depot_model::Place;
@@ -163,118 +163,37 @@ impl<N: Naming> PlacedOrder<N> {
         words.orders.learn(&mut self.seat, &mut journal.seat);
     }
 
-    /// Gives a command of the party that changes nothing the next place of the order. Answers the
-    /// lanes that it touches: the party's alone.
-    pub fn place_read<'a>(
-        &mut self,
-        words: &'a OrderWords<N>,
-        pass: &mut PartyPass<N>,
-        taken: Taken,
-    ) -> u32
-        requires room { HasPlaceLeft N.places pass.old }
-        requires party { taken.request.party ≡ pass.old.party }
-        requires unchanged { taken.changes ≡ [] }
-        ensures placed { self.new ≡ self.old ++ record taken { lanes = result } ∷ [] }
-        ensures lanes { (lane : ℕ) → has_lane result lane ≡ is_among lane (party_lane pass.old.party ∷ []) }
-        ensures spares { has_lane result archive_lane ≡ false }
-        ensures silent { has_lane result journal_lane ≡ false }
-        ensures pass { pass.new ≡ record pass.old { list = self.new } }
-        ensures own { IsOwn pass.old.party pass.old.list self.old self.new }
-        ensures end { end_after N.end self.new ≡ end_after N.end self.old }
-    {
-        let place = taken.place();
-        let mut none: [HeldTable<'a, N>; 0] = [];
-        let lanes = place_touching(words, &mut self.seat, &mut none, pass, 0, taken);
-        self.places.push_reserved(place);
-        lanes
-    }
-
-    /// The same for a command that touches the archive's lane too: one for which the archive's disk
-    /// failed before anything was written. As much of the archive is used then as it says.
-    pub fn place_unread(
-        &mut self,
-        words: &OrderWords<N>,
-        archive: &mut LockedArchive<N>,
-        pass: &mut PartyPass<N>,
-        taken: Taken,
-    ) -> u32
-        requires room { HasPlaceLeft N.places pass.old }
-        requires party { taken.request.party ≡ pass.old.party }
-        requires unchanged { taken.changes ≡ [] }
-        requires fits { taken.end ≤ 2 ^ 63 - 1 }
-        ensures placed { self.new ≡ self.old ++ record taken { lanes = result } ∷ [] }
-        ensures lanes { (lane : ℕ) → has_lane result lane ≡ is_among lane (archive_lane ∷ party_lane pass.old.party ∷ []) }
-        ensures touches { has_lane result archive_lane ≡ true }
-        ensures silent { has_lane result journal_lane ≡ false }
-        ensures archive { archive.new ≡ self.new }
-        ensures pass { pass.new ≡ record pass.old { list = self.new } }
-        ensures own { IsOwn pass.old.party pass.old.list self.old self.new }
-        ensures end { end_after N.end self.new ≡ taken.end }
-    {
-        let place = taken.place();
-        let lanes = place_unread_at(words, &mut self.seat, archive, pass, taken);
-        self.places.push_reserved(place);
-        lanes
-    }
-
     /// Gives a command of the party the next place of the order, and puts the prepared versions in
-    /// the place of those that it changes. Answers the lanes that it touches: the journal's, the
-    /// party's, and those of the tables that are changed.
-    pub fn place(
+    /// the place of those that it changes. Where the archive's lane is held, as much of the archive is
+    /// used then as it says. Answers the lanes that it touches: those of the archive and of the journal
+    /// that are held, the party's, and those of the tables that are changed.
+    pub fn place<A: ArchiveLane<N>, J: JournalLane<N>>(
         &mut self,
         words: &OrderWords<N>,
         held: &mut [HeldTable<'_, N>],
-        journal: &mut LockedJournal<N>,
+        archive: &mut A,
+        journal: &mut J,
         pass: &mut PartyPass<N>,
         taken: Taken,
     ) -> u32
         requires room { HasPlaceLeft N.places pass.old }
         requires party { taken.request.party ≡ pass.old.party }
+        requires fits { A.is_held ≡ true → taken.end ≤ 2 ^ 63 - 1 }
         requires next { AllNext N.rows taken.changes held.old }
         requires only { OnlyChange taken.changes (lanes_next held.old) }
         ensures placed { self.new ≡ self.old ++ record taken { lanes = result } ∷ [] }
-        ensures lanes { (lane : ℕ) → has_lane result lane ≡ is_among lane (journal_lane ∷ party_lane pass.old.party ∷ lanes_next held.old) }
-        ensures spares { has_lane result archive_lane ≡ false }
-        ensures writes { has_lane result journal_lane ≡ true }
-        ensures journal { journal.new ≡ self.new }
+        ensures lanes { (lane : ℕ) → has_lane result lane ≡ is_among lane (lanes_held A.is_held J.is_held ++ party_lane pass.old.party ∷ lanes_next held.old) }
+        ensures of_archive { has_lane result archive_lane ≡ A.is_held }
+        ensures of_journal { has_lane result journal_lane ≡ J.is_held }
+        ensures archive { A.Learns self.old self.new archive.old archive.new }
+        ensures journal { J.Learns self.old self.new journal.old journal.new }
+        ensures rows { (table : TableId) → rows_after N.rows self.new table ≡ changed_by (rows_after N.rows self.old) taken.changes table }
         ensures pass { pass.new ≡ record pass.old { list = self.new } }
         ensures own { IsOwn pass.old.party pass.old.list self.old self.new }
-        ensures end { end_after N.end self.new ≡ end_after N.end self.old }
+        ensures end { end_after N.end self.new ≡ (if A.is_held then taken.end else end_after N.end self.old) }
     {
         let place = taken.place();
-        let lanes = place_written(words, &mut self.seat, held, journal, pass, 0, taken);
-        self.places.push_reserved(place);
-        lanes
-    }
-
-    /// The same for a command that stored contents, which touches the archive's lane too: as much
-    /// of the archive is used then as it says.
-    pub fn place_stored(
-        &mut self,
-        words: &OrderWords<N>,
-        held: &mut [HeldTable<'_, N>],
-        archive: &mut LockedArchive<N>,
-        journal: &mut LockedJournal<N>,
-        pass: &mut PartyPass<N>,
-        taken: Taken,
-    ) -> u32
-        requires room { HasPlaceLeft N.places pass.old }
-        requires party { taken.request.party ≡ pass.old.party }
-        requires fits { taken.end ≤ 2 ^ 63 - 1 }
-        requires next { AllNext N.rows taken.changes held.old }
-        requires only { OnlyChange taken.changes (lanes_next held.old) }
-        ensures placed { self.new ≡ self.old ++ record taken { lanes = result } ∷ [] }
-        ensures lanes { (lane : ℕ) → has_lane result lane ≡ is_among lane (archive_lane ∷ journal_lane ∷ party_lane pass.old.party ∷ lanes_next held.old) }
-        ensures touches { has_lane result archive_lane ≡ true }
-        ensures writes { has_lane result journal_lane ≡ true }
-        ensures archive { archive.new ≡ self.new }
-        ensures journal { journal.new ≡ self.new }
-        ensures pass { pass.new ≡ record pass.old { list = self.new } }
-        ensures own { IsOwn pass.old.party pass.old.list self.old self.new }
-        ensures end { end_after N.end self.new ≡ taken.end }
-    {
-        let place = taken.place();
-        let lanes = place_stored_at(words, &mut self.seat, held, archive, journal, pass, taken);
+        let lanes = archive.place(words, &mut self.seat, held, journal, pass, taken);
         self.places.push_reserved(place);
         lanes
     }

@@ -2,15 +2,11 @@
 ghost use Rattle.std.specs.Prelude.{◌≡◌, ◌+◌, ◌-◌, ◌^◌, ◌<◌, ◌≤◌, ℕ, [], ◌∷◌, ◌++◌, ◌||◌, length, drop};
 ghost use Rattle.std.specs.List.{AllByRecursion};
 ghost use Rattle.order_words.specs.Lanes.{has_lane, is_among};
-ghost use Rattle.locked_tables.specs.Taken.{IsOwn, IsParty, TouchesItsParty, archive_lane, journal_lane, party_lane};
-ghost use Rattle.locked_tables.specs.Known.{HasPlaceLeft, IsStill};
+ghost use Rattle.locked_tables.specs.Known.{IsStill};
 ghost use Rattle.locked_tables.specs.Held.{AllHaveLearnt, AllNext, AllStill, AreAmong, HasLearnt, HaveLearntFrom, known_of, lanes_next};
 
 use crate::held_table::HeldTable;
-use crate::locked_archive::LockedArchive;
-use crate::locked_journal::LockedJournal;
 use crate::naming::Naming;
-use crate::party_pass::PartyPass;
 use crate::taken::Taken;
 use crate::words::OrderWords;
 use order_words::{OrderSeat, with_lane};
@@ -65,7 +61,7 @@ pub(crate) fn learn_tables<N: Naming>(
 /// Gives a command the next place, which touches the lanes that it has already, each of which is
 /// checked, and the lane of each held table that is changed; the next version takes the place of
 /// that table's. Answers all these lanes.
-fn place_tables<N: Naming>(
+pub(crate) fn place_tables<N: Naming>(
     words: &OrderWords<N>,
     order: &mut OrderSeat<Taken>,
     held: &mut [HeldTable<'_, N>],
@@ -97,132 +93,4 @@ fn place_tables<N: Naming>(
             }
         },
     }
-}
-
-/// The same for a command of a party, whose lane it touches too. The party then knows the whole
-/// order, and may have one place less.
-pub(crate) fn place_touching<N: Naming>(
-    words: &OrderWords<N>,
-    order: &mut OrderSeat<Taken>,
-    held: &mut [HeldTable<'_, N>],
-    pass: &mut PartyPass<N>,
-    lanes: u32,
-    taken: Taken,
-) -> u32
-    requires run { order.old.run ≡ N.run }
-    requires room { length order.old.list < 2 ^ 64 - 1 }
-    requires parties { AllByRecursion (TouchesItsParty N.run) order.old.list }
-    requires left { HasPlaceLeft N.places pass.old }
-    requires party { taken.request.party ≡ pass.old.party }
-    requires checked { AreAmong lanes order.old.checked }
-    requires next { AllNext N.rows taken.changes held.old }
-    ensures order { order.new ≡ record order.old { list = order.old.list ++ record taken { lanes = result } ∷ []; checked = [] } }
-    ensures lanes { (lane : ℕ) → has_lane result lane ≡ (has_lane lanes lane || is_among lane (party_lane pass.old.party ∷ lanes_next held.old)) }
-    ensures pass { pass.new ≡ record pass.old { list = order.new.list } }
-    ensures own { IsOwn pass.old.party pass.old.list order.old.list order.new.list }
-    ensures party { IsParty N.run pass.old.party }
-{
-    words.orders.announce_next(order, &mut pass.seat);
-    let more = with_lane(lanes, pass.party + 12);
-    let all = place_tables(words, order, held, more, taken);
-    words.orders.settle(order, &mut pass.seat);
-    pass.left -= 1;
-    all
-}
-
-/// The same for a command that touches the journal's lane too, which then knows the whole order.
-pub(crate) fn place_written<N: Naming>(
-    words: &OrderWords<N>,
-    order: &mut OrderSeat<Taken>,
-    held: &mut [HeldTable<'_, N>],
-    journal: &mut LockedJournal<N>,
-    pass: &mut PartyPass<N>,
-    lanes: u32,
-    taken: Taken,
-) -> u32
-    requires run { order.old.run ≡ N.run }
-    requires room { length order.old.list < 2 ^ 64 - 1 }
-    requires parties { AllByRecursion (TouchesItsParty N.run) order.old.list }
-    requires left { HasPlaceLeft N.places pass.old }
-    requires party { taken.request.party ≡ pass.old.party }
-    requires checked { AreAmong lanes order.old.checked }
-    requires next { AllNext N.rows taken.changes held.old }
-    ensures order { order.new ≡ record order.old { list = order.old.list ++ record taken { lanes = result } ∷ []; checked = [] } }
-    ensures lanes { (lane : ℕ) → has_lane result lane ≡ (has_lane lanes lane || is_among lane (journal_lane ∷ party_lane pass.old.party ∷ lanes_next held.old)) }
-    ensures journal { journal.new ≡ order.new.list }
-    ensures pass { pass.new ≡ record pass.old { list = order.new.list } }
-    ensures own { IsOwn pass.old.party pass.old.list order.old.list order.new.list }
-    ensures party { IsParty N.run pass.old.party }
-{
-    words.orders.announce_next(order, &mut journal.seat);
-    let more = with_lane(lanes, 12);
-    let all = place_touching(words, order, held, pass, more, taken);
-    words.orders.settle(order, &mut journal.seat);
-    all
-}
-
-/// The same for a command that touches the archive's lane and changes no table. The archive's lane
-/// then knows the whole order, and as much of the archive is used as the command says.
-pub(crate) fn place_unread_at<'a, N: Naming>(
-    words: &'a OrderWords<N>,
-    order: &mut OrderSeat<Taken>,
-    archive: &mut LockedArchive<N>,
-    pass: &mut PartyPass<N>,
-    taken: Taken,
-) -> u32
-    requires run { order.old.run ≡ N.run }
-    requires room { length order.old.list < 2 ^ 64 - 1 }
-    requires parties { AllByRecursion (TouchesItsParty N.run) order.old.list }
-    requires left { HasPlaceLeft N.places pass.old }
-    requires party { taken.request.party ≡ pass.old.party }
-    requires fits { taken.end ≤ 2 ^ 63 - 1 }
-    ensures order { order.new ≡ record order.old { list = order.old.list ++ record taken { lanes = result } ∷ []; checked = [] } }
-    ensures lanes { (lane : ℕ) → has_lane result lane ≡ is_among lane (archive_lane ∷ party_lane pass.old.party ∷ []) }
-    ensures archive { archive.new ≡ order.new.list }
-    ensures pass { pass.new ≡ record pass.old { list = order.new.list } }
-    ensures own { IsOwn pass.old.party pass.old.list order.old.list order.new.list }
-    ensures party { IsParty N.run pass.old.party }
-{
-    let end = taken.end;
-    words.orders.announce_next(order, &mut archive.seat);
-    let lanes = with_lane(0, 11);
-    let mut none: [HeldTable<'a, N>; 0] = [];
-    let all = place_touching(words, order, &mut none, pass, lanes, taken);
-    words.orders.settle(order, &mut archive.seat);
-    archive.end = end;
-    all
-}
-
-/// The same for a command that stored contents, which touches the archive's lane and the journal's.
-pub(crate) fn place_stored_at<N: Naming>(
-    words: &OrderWords<N>,
-    order: &mut OrderSeat<Taken>,
-    held: &mut [HeldTable<'_, N>],
-    archive: &mut LockedArchive<N>,
-    journal: &mut LockedJournal<N>,
-    pass: &mut PartyPass<N>,
-    taken: Taken,
-) -> u32
-    requires run { order.old.run ≡ N.run }
-    requires room { length order.old.list < 2 ^ 64 - 1 }
-    requires parties { AllByRecursion (TouchesItsParty N.run) order.old.list }
-    requires left { HasPlaceLeft N.places pass.old }
-    requires party { taken.request.party ≡ pass.old.party }
-    requires fits { taken.end ≤ 2 ^ 63 - 1 }
-    requires next { AllNext N.rows taken.changes held.old }
-    ensures order { order.new ≡ record order.old { list = order.old.list ++ record taken { lanes = result } ∷ []; checked = [] } }
-    ensures lanes { (lane : ℕ) → has_lane result lane ≡ is_among lane (archive_lane ∷ journal_lane ∷ party_lane pass.old.party ∷ lanes_next held.old) }
-    ensures archive { archive.new ≡ order.new.list }
-    ensures journal { journal.new ≡ order.new.list }
-    ensures pass { pass.new ≡ record pass.old { list = order.new.list } }
-    ensures own { IsOwn pass.old.party pass.old.list order.old.list order.new.list }
-    ensures party { IsParty N.run pass.old.party }
-{
-    let end = taken.end;
-    words.orders.announce_next(order, &mut archive.seat);
-    let lanes = with_lane(0, 11);
-    let all = place_written(words, order, held, journal, pass, lanes, taken);
-    words.orders.settle(order, &mut archive.seat);
-    archive.end = end;
-    all
 }

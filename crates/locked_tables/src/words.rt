@@ -1,6 +1,7 @@
 //! The words of the order, which all threads share.
 ghost use Rattle.std.specs.Prelude.{◌≡◌, ◌≤◌};
 ghost use Rattle.order_words.specs.Seats.{lane_count};
+ghost use Rattle.locked_tables.specs.Taken.{depot_lanes};
 
 use crate::naming::Naming;
 use crate::taken::Taken;
@@ -14,13 +15,13 @@ pub struct OrderWords<N: Naming> {
     pub(crate) orders: Orders<Taken>,
     of: PhantomData<N>,
     ghost named: { orders ≡ N.run },
-    ghost wide: { 13 ≤ lane_count N.run },
+    ghost wide: { depot_lanes ≤ lane_count N.run },
 }
 
 impl<N: Naming> OrderWords<N> {
     /// These words.
     pub fn new(orders: Orders<Taken>) -> OrderWords<N>
-        requires { (orders ≡ N.run) × (13 ≤ lane_count N.run) }
+        requires { (orders ≡ N.run) × (depot_lanes ≤ lane_count N.run) }
     {
         OrderWords {
             orders,

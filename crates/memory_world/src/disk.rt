@@ -156,17 +156,14 @@ impl Disk for MemoryDisk {
     ghost use Rattle.memory_world.specs.Disk.{is_read, may_be_left, moment_of, left_since, disk_faults, disk_calls};
     ghost use Rattle.memory_world.specs.Laws.{read_now, read_alike, short, image_now, only_now};
 
-    ghost seen = { is_read };
-
-    ghost may_leave = { may_be_left };
-
-    ghost moment = { moment_of };
-
-    ghost left_since = { left_since };
-
-    ghost faults = { disk_faults };
-
-    ghost calls = { λ d. (disk_calls d).count };
+    ghost says = { record {
+      seen = is_read;
+      may_leave = may_be_left;
+      moment = moment_of;
+      left_since = left_since;
+      faults = disk_faults;
+      calls = λ d. (disk_calls d).count;
+    } };
 
     ghost reads_an_image = { λ d c read. read_now (contents d.start.items) d.log.items (contents d.files.items) d.sound c read };
 

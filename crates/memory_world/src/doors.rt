@@ -69,11 +69,7 @@ impl Doors for MemoryDoors {
 
     type Out = MemorySink;
 
-    ghost faults = { doors_faults };
-
-    ghost input = { doors_input };
-
-    ghost output = { doors_output };
+    ghost says = { record { input = doors_input; output = doors_output; faults = doors_faults } };
 
     fn come(&mut self, name: &str) -> Result<(MemorySource, MemorySink), Failed>
         ensures source { IfOk result (λ pair. source_left pair.0 ≡ doors_input self.old name.now) }

@@ -152,9 +152,7 @@ impl MemoryLink {
 impl Link for MemoryLink {
     ghost use Rattle.memory_world.specs.Link.{link_journal, link_faults, link_calls};
 
-    ghost faults = { link_faults };
-
-    ghost tells = { λ link now. now ≡ link_journal link };
+    ghost says = { record { tells = λ link now. now ≡ link_journal link; faults = link_faults } };
 
     fn fetch(&mut self, generation: u32, at: u64, buffer: &mut [u8]) -> Result<Fetched, Failed>
         requires { 0 < length buffer.old }

@@ -64,9 +64,7 @@ impl LossyLink {
 impl Link for LossyLink {
     ghost use Rattle.memory_world.specs.Lossy.{lossy_journal, lossy_faults, lossy_calls, losses_left, begins_with_fail, Passes};
 
-    ghost faults = { lossy_faults };
-
-    ghost tells = { λ link now. now ≡ lossy_journal link };
+    ghost says = { record { tells = λ link now. now ≡ lossy_journal link; faults = lossy_faults } };
 
     fn fetch(&mut self, generation: u32, at: u64, buffer: &mut [u8]) -> Result<Fetched, Failed>
         requires { 0 < length buffer.old }

@@ -38,9 +38,7 @@ impl MemorySource {
 impl Source for MemorySource {
     ghost use Rattle.memory_world.specs.Stream.{source_left, source_faults, source_calls};
 
-    ghost faults = { source_faults };
-
-    ghost left = { source_left };
+    ghost says = { record { left = source_left; faults = source_faults } };
 
     fn take(&mut self, buffer: &mut [u8]) -> Result<usize, Failed>
         ensures fits { IfOk result (λ n. n ≤ length buffer.new) }
@@ -95,9 +93,7 @@ impl MemorySink {
 impl Sink for MemorySink {
     ghost use Rattle.memory_world.specs.Stream.{sink_given, sink_faults, sink_calls};
 
-    ghost faults = { sink_faults };
-
-    ghost given = { sink_given };
+    ghost says = { record { given = sink_given; faults = sink_faults } };
 
     /// Without memory for the piece the sink has failed as well.
     fn give(&mut self, piece: &[u8]) -> Result<usize, Failed>

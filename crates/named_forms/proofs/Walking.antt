@@ -1,6 +1,6 @@
 -- The rows of forms whose names begin with a text stand together among rows in order, and their names are those of the depot that begin so.
 use Rattle.std.proofs.Common.{◌≡◌, ℕ, Bool, true, false, not, cond, List, [], ◌∷◌, refl, sym, ap, subst, ◌∙◌}
-use Rattle.std.specs.Prelude.{◌&&◌, filter, if◌then◌else◌}
+use Rattle.std.specs.Prelude.{◌&&◌, codes, drop, filter, if◌then◌else◌}
 use Rattle.std.specs.Ordering.{ordering_then, is_lt, is_gt}
 use Rattle.std.specs.declared.cmp.Ordering.{Ordering}
 use Rattle.std.specs.declared.cmp.Ordering.TheVariants.{Less, Equal, Greater}
@@ -15,10 +15,11 @@ use Rattle.depot_rows.specs.db_records.declared.table.TableId.{TableId}
 use Rattle.depot_rows.specs.db_records.declared.table.TableId.TheVariants as tables
 use Rattle.depot_rows.specs.db_records.Key.{key_cmp, key_table}
 use Rattle.depot_rows.specs.db_records.Record.{key_of, table_of}
-use Rattle.depot_rows.specs.depot_model.Deeds.{Deed, SpecKind}
+use Rattle.depot_rows.specs.depot_model.Deeds.{Deed, FixForm, SpecKind}
 use Rattle.depot_rows.specs.depot_model.Latest.{keys_of, kind_word, spec_name}
 use Rattle.depot_rows.specs.depot_model.Records.{record_of}
 use Rattle.depot_rows.specs.Standing.{unplaced_at}
+use Rattle.depot_rows.specs.table_store.Marks.{is_fix_of}
 use Rattle.depot_rows.specs.table_store.Rows.{is_below, AllAbove, AllOfTable, IsRising, TableRows, rows_from}
 use Rattle.depot_rows.proofs.table_store.Order.{turned_greater}
 use Rattle.depot_rows.proofs.Keys.{left-true, right-true, same-is, same-self}
@@ -203,3 +204,35 @@ names_begin word start version rows are is of up d kind e has =
     ∙ named word start version.rows
     ∙ (λ i. filter (λ name. begins_with name start) (names_in (filter (has_row (Forms (e i))) (are i))))
     ∙ ap (filter (λ name. begins_with name start)) (names_told kind version rows are is of up d has)
+
+-- ---- fixes
+
+module _ (change : List ℕ) where
+  abbrev by_change : List (List ℕ) → List (List ℕ)
+  by_change names = filter (λ name. same (drop 10 name) change) names
+
+  -- the names of those by a change
+  fixes_named : (rows : List Record) → names_in (filter (is_fix_of change) rows) ≡ by_change (names_in (filter (has_row (Forms (codes "fix"))) rows))
+  fixes_named [] = refl
+  fixes_named (records.Domain r ∷ rs) = go (same (codes "fix") r.kind) (fixes_named rs)
+    where
+      forms : List Record
+      forms = filter (has_row (Forms (codes "fix"))) rs
+
+      go : (s : Bool) → names_in (filter (is_fix_of change) rs) ≡ by_change (names_in forms)
+          → names_in (if s && same (drop 10 r.name) change then records.Domain r ∷ filter (is_fix_of change) rs else filter (is_fix_of change) rs)
+          ≡ by_change (names_in (if s && true then records.Domain r ∷ forms else forms))
+      go true more = by (same (drop 10 r.name) change)
+        where
+          by : (b : Bool) → names_in (if b then records.Domain r ∷ filter (is_fix_of change) rs else filter (is_fix_of change) rs) ≡ (if b then r.name ∷ by_change (names_in forms) else by_change (names_in forms))
+          by true = ap (λ (l : List (List ℕ)). r.name ∷ l) more
+          by false = more
+      go false more = more
+  fixes_named (_ ∷ rs) = fixes_named rs
+
+-- the names that a walk over the fixes by a change passes are those of the depot's
+pub fixes_told : (change : List ℕ) (version : TableRows) (rows : List Record) → version.rows ≡ rows → version.table ≡ tables.Domain → AllOfTable version.table version.rows
+    → IsRising version.rows → (d : List Deed) → ((key : Key) → key_table key ≡ tables.Domain → unplaced_at rows key ≡ record_of d key)
+    → names_in (filter (is_fix_of change) rows) ≡ filter (λ name. same (drop 10 name) change) (keys_of (spec_name FixForm) d)
+fixes_told change version rows are is of up d has =
+    fixes_named change rows ∙ ap (filter (λ name. same (drop 10 name) change)) (names_told FixForm version rows are is of up d has)

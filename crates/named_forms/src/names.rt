@@ -1,10 +1,10 @@
 //! Walks over the names of forms.
 
-ghost use Rattle.std.specs.Prelude.{◌≡◌, ◌++◌, List, IfOk, OnOk, filter};
+ghost use Rattle.std.specs.Prelude.{◌≡◌, ◌++◌, List, IfOk, OnOk, drop, filter};
 ghost use Rattle.depot_rows.specs.db_records.declared.key.Key.TheVariants as keys;
 ghost use Rattle.depot_rows.specs.db_records.declared.table.TableId.TheVariants as table_ids;
-ghost use Rattle.depot_rows.specs.depot_path.Bytes.{begins_with};
-ghost use Rattle.depot_rows.specs.depot_model.Deeds.{Deed, SpecKind};
+ghost use Rattle.depot_rows.specs.depot_path.Bytes.{begins_with, same};
+ghost use Rattle.depot_rows.specs.depot_model.Deeds.{Deed, FixForm, SpecKind};
 ghost use Rattle.depot_rows.specs.depot_model.Latest.{keys_of, kind_word, spec_name};
 ghost use Rattle.depot_rows.specs.Standing.{HasRows};
 ghost use Rattle.depot_rows.specs.table_changes.Changed.{rows_of};
@@ -81,5 +81,24 @@ pub fn names_with(
     let _table = version.table();
     let first = first_key(alloc, word, start)?;
     let names = leading_names(alloc, word, start, version.from_key(&first))?;
+    Ok(names)
+}
+
+/// The names of the fixes by a change, which is given by its digits, in the order of bytes, from the table of forms alone: behind the name of a job and
+/// a space a fix's name has the digits of its change. It walks over these names alone, and reads no form. The one error is want of memory.
+pub fn fix_names(
+    alloc: Global,
+    tables: &Tables,
+    change: &[u8],
+) -> Result<Sequence<Text>, AllocError>
+    ensures { IfOk result (λ names. (d : List Deed) → HasRows (rows_of tables.now) d table_ids.Domain →
+        names ≡ filter (λ name. same (drop 10 name) change.now) (keys_of (spec_name FixForm) d)) }
+{
+    let version = tables.version(TableId::Domain);
+    let _table = version.table();
+    let mut names = Sequence::new(alloc);
+    for row in version.fixes_of(change) {
+        push_name(alloc, &mut names, row)?;
+    }
     Ok(names)
 }

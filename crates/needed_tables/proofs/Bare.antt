@@ -8,6 +8,7 @@ use Rattle.depot_rows.specs.spec_form.Reading.{form_of}
 use Rattle.depot_rows.specs.spec_form.declared.shape.Shape.TheVariants as shapes
 use Rattle.depot_rows.specs.view_map.Reading.{view_of}
 use Rattle.depot_rows.specs.depot_path.Name.{is_name}
+use Rattle.depot_rows.specs.db_records.declared.table.TableId.TheVariants.{Rev}
 use Rattle.depot_rows.specs.depot_model.About.{about}
 use Rattle.depot_rows.specs.depot_model.Arguments.{changed_paths, each_or, everything, is_in as is_taken, named as named_files, no_file, not_in, over, over_all, paths_of, within_files}
 use Rattle.depot_rows.specs.depot_model.Asking.{to_open, to_write}
@@ -255,7 +256,7 @@ module _ (d : List Deed) (request : Request) where
   input = unwrap_or request.input []
 
   -- a command that writes, or one that a replica answers too
-  command_bare : (command : Command) → touches command 10 ≡ false → AreBare (answered d request command) → IsBare (whole_step d request command)
+  command_bare : (command : Command) → touches command Rev ≡ false → AreBare (answered d request command) → IsBare (whole_step d request command)
   command_bare (commands.CounterSet name value) away told = whole (commands.CounterSet name value) (done _ _ refl)
   command_bare (commands.CounterDelete name) away told = whole (commands.CounterDelete name) (done _ _ refl)
   command_bare commands.ClientSave away told = whole commands.ClientSave (client_save_bare input)
@@ -289,7 +290,7 @@ module _ (d : List Deed) (request : Request) where
   command_bare commands.Checkpoint away told = absurd cc
   command_bare _ away told = record { rows = told }
 
-  prints_not : (command : Command) → touches command 10 ≡ false → is_print command ≡ false
+  prints_not : (command : Command) → touches command Rev ≡ false → is_print command ≡ false
   prints_not (commands.Print files) away = absurd cc
   prints_not _ away = refl
 
@@ -300,7 +301,7 @@ module _ (d : List Deed) (request : Request) where
   abbrev rows_by : Result Command WordFault → List Row
   rows_by asked = (elim asked as (λ _. Step) [ Err fault ↦ refuses (word_refusal fault) | Ok command ↦ whole_step d request command ]).rows
 
-  pub nothing_read : (command : Command) → request.command ≡ Ok command → touches command 10 ≡ false → contents_of (step d request).rows ≡ []
+  pub nothing_read : (command : Command) → request.command ≡ Ok command → touches command Rev ≡ false → contents_of (step d request).rows ≡ []
   nothing_read command is away =
       let told : AreBare (replica_reply d request) = reply_bare d request (ap prints is ∙ prints_not command away) in
       let bare = command_bare command away (subst AreBare (ap reply_by is) told) in

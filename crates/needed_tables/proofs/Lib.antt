@@ -3,5 +3,4 @@ pub mod Fitting
 mod Differing
 mod Standing
 pub mod Storing
-pub mod Sets
 pub mod Whole

@@ -1,10 +1,9 @@
 -- What a request does depends on the tables alone that it needs.
-use Rattle.std.proofs.Common.{◌≡◌, ℕ, Bool, true, false, List, [], ◌∷◌, Result, Ok, Err, refl, sym, ap, subst, ◌∙◌}
+use Rattle.std.proofs.Common.{◌≡◌, ℕ, Bool, true, false, List, [], Result, Ok, Err, refl, ap, ◌∙◌}
 use Rattle.std.specs.Prelude.{◌||◌}
 use Rattle.std.specs.List.{AllByRecursion}
 use Rattle.depot_rows.specs.db_records.Key.{key_table}
 use Rattle.depot_rows.specs.db_records.Record.{table_of}
-use Rattle.depot_rows.specs.db_records.Table.{table_number}
 use Rattle.depot_rows.specs.db_records.declared.change.Change.{Change}
 use Rattle.depot_rows.specs.db_records.declared.key.Key.{Key}
 use Rattle.depot_rows.specs.db_records.declared.key.Key.TheVariants as keys
@@ -17,7 +16,8 @@ use Rattle.depot_rows.specs.depot_model.Deeds.{Deed}
 use Rattle.depot_rows.specs.depot_model.Records.{record_of}
 use Rattle.depot_rows.specs.depot_model.Step.{Step, after, refuses}
 use Rattle.depot_rows.specs.depot_model.Steps.Submitting.{content_at}
-use Rattle.depot_rows.specs.depot_model.Tables.{is_in, own_tables, touches, writes}
+use Rattle.depot_rows.specs.depot_model.Tables.{needs_table, own_tables, touches, writes}
+use Rattle.depot_rows.specs.depot_model.Tables as model
 use Rattle.depot_rows.specs.depot_model.declared.command.Command.{Command}
 use Rattle.depot_rows.specs.depot_model.declared.request.Request.{Request}
 use Rattle.depot_rows.specs.depot_model.declared.request.WordFault.{WordFault}
@@ -29,7 +29,7 @@ use Rattle.step_tables.proofs.Whole.{step_stays}
 use Rattle.stored_contents.specs.Placed.{StandAfter}
 use Rattle.command_core.specs.Outcomes.{HasNeeded, HasNeededBy, IsOutcome}
 use Rattle.command_core.specs.declared.outcome.Outcome.{Outcome}
-use Rattle.needed_tables.specs.Needed.{AgreeOnNeeded, AgreeOnNeededBy, AreNeeded, AreNeededBy}
+use Rattle.needed_tables.specs.Needed.{AgreeOnNeeded, AreNeeded}
 use Rattle.needed_tables.proofs.Bare.{nothing_read}
 use Rattle.needed_tables.proofs.Differing.{differ_alike, same_row, same_rows}
 use Rattle.needed_tables.proofs.Standing.{no_reads, reads_alike, stand_alike, stand_anywhere, stand_apart}
@@ -85,20 +85,19 @@ pub outcome_alike : (rows all : AllRows) (from : ℕ) (d : List Deed) (request :
     → AreNeeded request outcome.changes → IsOutcome rows from d request outcome → IsOutcome all from d request outcome
 outcome_alike rows all from d request outcome stand agree own is = go request.command refl agree own
   where
-    none_written : (command : Command) (n : ℕ) → touches command n ≡ false → writes command n ≡ false
-    none_written command n away = unwritten (is_in (1 ∷ 2 ∷ 3 ∷ (own_tables command).read) n) (writes command n) away
+    none_written : (command : Command) (table : TableId) → touches command table ≡ false → writes command table ≡ false
+    none_written command table away = unwritten (model.reads command table) (writes command table) away
 
-    go : (asked : Result Command WordFault) → request.command ≡ asked → AgreeOnNeededBy rows all asked → AreNeededBy asked outcome.changes
-        → IsOutcome all from d request outcome
+    go : (asked : Result Command WordFault) → request.command ≡ asked → ((table : TableId) → needs_table asked table ≡ true → rows table ≡ all table)
+        → AllByRecursion (λ (change : Change). needs_table asked (table_of change.row) ≡ true) outcome.changes → IsOutcome all from d request outcome
     go (Ok command) asks agree own =
         let each = (step_stays d request command asks).each in
-        alike rows all from d request outcome stand (λ table. touches command (table_number table)) agree own
-        (λ key away. rows_stay (own_tables command).written key (none_written command (table_number (key_table key)) away) d (step d request).deeds each)
-        (λ away. contents_stay (own_tables command).written (none_written command 10 away) d (step d request).deeds each)
+        alike rows all from d request outcome stand (touches command) agree own
+        (λ key away. rows_stay (own_tables command).written key (none_written command (key_table key) away) d (step d request).deeds each)
+        (λ away. contents_stay (own_tables command).written (none_written command Rev away) d (step d request).deeds each)
         (λ away. nothing_read d request command asks away) is
     go (Err fault) asks agree own =
-        alike rows all from d request outcome stand (λ table. false) (λ table there. absurd cc)
-        (subst (AllByRecursion (λ (change : Change). false ≡ true)) (sym own) tt)
+        alike rows all from d request outcome stand (λ table. false) agree own
         (λ key away. ap (λ (deeds : List Deed). record_of (after d deeds) key) (deeds_none d request fault asks))
         (λ away path n. ap (λ (deeds : List Deed). content_at (after d deeds) path n) (deeds_none d request fault asks))
         (λ away. ap (λ (asked : Result Command WordFault). contents_of (step_by d request asked).rows) asks
@@ -119,6 +118,6 @@ outcome_anywhere all from anywhere d request outcome is none = record {
 pub have_needed : (rows all : AllRows) (d : List Deed) (request : Request) → Stand all d → AgreeOnNeeded rows all request → HasNeeded rows d request
 have_needed rows all d request stand agree = go request.command agree
   where
-    go : (asked : Result Command WordFault) → AgreeOnNeededBy rows all asked → HasNeededBy rows d asked
-    go (Ok command) agree = λ table there. same_rows rows all (λ t. touches command (table_number t)) agree d table there (stand.each table)
+    go : (asked : Result Command WordFault) → ((table : TableId) → needs_table asked table ≡ true → rows table ≡ all table) → HasNeededBy rows d asked
+    go (Ok command) agree = λ table there. same_rows rows all (touches command) agree d table there (stand.each table)
     go (Err fault) agree = tt

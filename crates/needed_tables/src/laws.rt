@@ -4,10 +4,12 @@ ghost use Rattle.std.specs.Prelude.{◌≡◌, ℕ, List, [], IsFalse};
 ghost use Rattle.command_core.specs.Outcomes.{HasNeeded, IsOutcome};
 ghost use Rattle.command_core.specs.declared.outcome.Outcome.{Outcome};
 ghost use Rattle.depot_rows.specs.db_records.declared.change.Change.{Change};
+ghost use Rattle.depot_rows.specs.db_records.declared.table.TableId.TheVariants.{Rev};
 ghost use Rattle.depot_rows.specs.depot_model.Deeds.{Deed};
+ghost use Rattle.depot_rows.specs.depot_model.Tables.{writes_table};
 ghost use Rattle.depot_rows.specs.depot_model.declared.request.Request.{Request};
 ghost use Rattle.depot_rows.specs.Standing.{Stand};
-ghost use Rattle.needed_tables.specs.Needed.{AgreeOnChanged, AgreeOnNeeded, AreInSet, AreNeeded, writes_revisions};
+ghost use Rattle.needed_tables.specs.Needed.{AgreeOnChanged, AgreeOnNeeded, AreNeeded};
 ghost use Rattle.depot_rows.specs.table_changes.Changed.{AllFitIn, AllRows};
 
 /// Where tables agree with those of a depot on all that a request needs, what is found over them is its outcome over all tables of
@@ -33,13 +35,8 @@ pub fn changes_fit_alike()
     ensures { (rows all : AllRows) (changes : List Change) → AgreeOnChanged rows all changes → AllFitIn rows changes → AllFitIn all changes }
 {}
 
-/// A request whose set doesn't have the table of revisions as one that is written stores nothing.
+/// A request that doesn't write the table of revisions stores nothing.
 pub fn commands_that_write_no_revisions_store_nothing()
-    ensures { (all : AllRows) (from : ℕ) (d : List Deed) (request : Request) (outcome : Outcome) → IsFalse (writes_revisions request) →
+    ensures { (all : AllRows) (from : ℕ) (d : List Deed) (request : Request) (outcome : Outcome) → IsFalse (writes_table request.command Rev) →
         IsOutcome all from d request outcome → outcome.stores ≡ [] }
-{}
-
-/// Changes of tables of a request's set are of tables that it needs.
-pub fn changes_of_the_set_are_needed()
-    ensures { (request : Request) (changes : List Change) → AreInSet request changes → AreNeeded request changes }
 {}

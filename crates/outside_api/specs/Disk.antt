@@ -60,13 +60,6 @@ pub record Elapses (before now : ℕ) (past since : ℕ → Files → Type 0) (m
   pub nothing_else : (t : ℕ) (c : Files) → t ≤ before → since t c → past t c ⊎ may_leave c
   pub keeps : (t : ℕ) (c : Files) → t ≤ before → past t c → since t c
 
--- A crash at any moment since old leaves files that have P.
-pub record LeavesOnly {D : Type 0} (moment : D → ℕ) (left_since : D → ℕ → Files → Type 0) (old new : D) (P : Files → Type 0) : Type 0 where
-  pub later : moment old ≤ moment new
-  pub each : (c : Files) → left_since new (moment old) c → P c
-  -- for a run that began earlier
-  pub before : (t : ℕ) (c : Files) → t ≤ moment old → left_since new t c → left_since old t c ⊎ P c
-
 -- what a read of n bytes gives: the bytes of the file from `at`, at the front of the buffer
 pub record Reads (file : List ℕ) (at : ℕ) (old : List ℕ) (n : ℕ) (new : List ℕ) : Type 0 where
   pub fits : n ≤ length old

@@ -1,7 +1,9 @@
 //! A disk of files by number: what a read gives, what a crash may leave, and how often it has failed.
 
 ghost use Rattle.std.specs.Prelude.{◌≡◌, ◌+◌, ◌<◌, ◌≤◌, ◌^◌, ℕ, length, take, IfOk, OnOk};
-ghost use Rattle.outside_api.specs.Disk.{Files, Follows, OnFile, Torn, Cut, Holds, Elapses, NoMore, Same, Leads, StillTells, Reads};
+ghost use Rattle.outside_api.specs.Disk.{Files, Follows, OnFile, Torn, Cut, Holds, NoMore, Same, Leads, StillTells, Reads};
+ghost use Rattle.outside_api.specs.Says.{DiskSays};
+ghost use Rattle.outside_api.specs.Moments.{Passes};
 ghost use Rattle.outside_api.specs.Count.{HasCause, counted};
 
 use crate::stream::Failed;
@@ -15,88 +17,73 @@ use crate::stream::Failed;
 /// so may all bytes past the least length that the file had; the length may be any that the file had
 /// or passed through. A failed call leaves its range in doubt.
 pub trait Disk {
-    /// The files as a read gives them: none where the disk doesn't tell, and one else.
-    ghost seen: { Self → Files → Type 0 };
-
-    /// What a crash at this moment may leave: the images.
-    ghost may_leave: { Self → Files → Type 0 };
-
-    /// The moment, as a number that doesn't fall.
-    ghost moment: { Self → ℕ };
-
-    /// What a crash at some moment from that one on may have left, during a call or between two.
-    ghost left_since: { Self → ℕ → Files → Type 0 };
-
-    /// How often a call failed.
-    ghost faults: { Self → ℕ };
-
-    /// How many calls it was asked, of the five below. The count stays at its last value, 2^64 - 1.
-    ghost calls: { Self → ℕ };
+    /// What it says.
+    ghost says: { DiskSays Self };
 
     /// The length of a file in bytes.
     fn length(&mut self, file: u32) -> Result<u64, Failed>
-        ensures length { (files : Files) → seen self.old files → IfOk result (λ n. n ≡ length (files file)) }
+        ensures length { (files : Files) → says.seen self.old files → IfOk result (λ n. n ≡ length (files file)) }
         ensures small { IfOk result (λ n. n < 2 ^ 63) }
-        ensures same { Same (seen self.old) (seen self.new) }
-        ensures crash { NoMore (may_leave self.old) (may_leave self.new) }
-        ensures time { Elapses (moment self.old) (moment self.new) (left_since self.old) (left_since self.new) (may_leave self.new) }
-        ensures asked { calls self.new ≡ counted 1 (calls self.old) }
-        ensures cause { HasCause (faults self.old) (faults self.new) result };
+        ensures same { Same (says.seen self.old) (says.seen self.new) }
+        ensures crash { NoMore (says.may_leave self.old) (says.may_leave self.new) }
+        ensures time { Passes says self.old self.new }
+        ensures asked { says.calls self.new ≡ counted 1 (says.calls self.old) }
+        ensures cause { HasCause (says.faults self.old) (says.faults self.new) result };
 
     /// Puts bytes of a file from a place on at the front of the buffer, and answers how many: at
     /// least 1 where the buffer isn't empty and the place is below the length, and 0 else.
     fn read(&mut self, file: u32, at: u64, buffer: &mut [u8]) -> Result<usize, Failed>
-        ensures bytes { (files : Files) → seen self.old files → IfOk result (λ n. Reads (files file) at buffer.old n buffer.new) }
+        ensures bytes { (files : Files) → says.seen self.old files → IfOk result (λ n. Reads (files file) at buffer.old n buffer.new) }
         ensures fits { IfOk result (λ n. n ≤ length buffer.old) }
-        ensures same { Same (seen self.old) (seen self.new) }
-        ensures crash { NoMore (may_leave self.old) (may_leave self.new) }
-        ensures time { Elapses (moment self.old) (moment self.new) (left_since self.old) (left_since self.new) (may_leave self.new) }
-        ensures asked { calls self.new ≡ counted 1 (calls self.old) }
-        ensures cause { HasCause (faults self.old) (faults self.new) result };
+        ensures same { Same (says.seen self.old) (says.seen self.new) }
+        ensures crash { NoMore (says.may_leave self.old) (says.may_leave self.new) }
+        ensures time { Passes says self.old self.new }
+        ensures asked { says.calls self.new ≡ counted 1 (says.calls self.old) }
+        ensures cause { HasCause (says.faults self.old) (says.faults self.new) result };
 
     /// Writes over what is there, and past the end. Until a sync, a crash may leave any bytes in the range.
     fn write_at(&mut self, file: u32, at: u64, piece: &[u8]) -> Result<(), Failed>
-        requires { (files : Files) → seen self.old files → at ≤ length (files file) }
-        ensures written { OnOk result (Leads (OnFile file (Holds at piece.now)) (seen self.old) (seen self.new)) }
+        requires { (files : Files) → says.seen self.old files → at ≤ length (files file) }
+        ensures written { OnOk result (Leads (OnFile file (Holds at piece.now)) (says.seen self.old) (says.seen self.new)) }
         ensures small { OnOk result (at + length piece.now < 2 ^ 63) }
-        ensures told { StillTells (seen self.old) (seen self.new) }
-        ensures crash { Follows (OnFile file (Torn at (length piece.now))) (may_leave self.old) (may_leave self.new) }
-        ensures time { Elapses (moment self.old) (moment self.new) (left_since self.old) (left_since self.new) (may_leave self.new) }
-        ensures asked { calls self.new ≡ counted 1 (calls self.old) }
-        ensures cause { HasCause (faults self.old) (faults self.new) result };
+        ensures told { StillTells (says.seen self.old) (says.seen self.new) }
+        ensures crash { Follows (OnFile file (Torn at (length piece.now))) (says.may_leave self.old) (says.may_leave self.new) }
+        ensures time { Passes says self.old self.new }
+        ensures asked { says.calls self.new ≡ counted 1 (says.calls self.old) }
+        ensures cause { HasCause (says.faults self.old) (says.faults self.new) result };
 
     /// Cuts a file to a length. Until a sync, a crash may leave a longer file.
     fn cut(&mut self, file: u32, length: u64) -> Result<(), Failed>
-        requires { (files : Files) → seen self.old files → length ≤ Rattle.std.specs.Prelude.length (files file) }
-        ensures cut { OnOk result (Leads (OnFile file (λ old new. new ≡ take length old)) (seen self.old) (seen self.new)) }
-        ensures told { StillTells (seen self.old) (seen self.new) }
-        ensures crash { Follows (OnFile file (Cut length)) (may_leave self.old) (may_leave self.new) }
-        ensures time { Elapses (moment self.old) (moment self.new) (left_since self.old) (left_since self.new) (may_leave self.new) }
-        ensures asked { calls self.new ≡ counted 1 (calls self.old) }
-        ensures cause { HasCause (faults self.old) (faults self.new) result };
+        requires { (files : Files) → says.seen self.old files → length ≤ Rattle.std.specs.Prelude.length (files file) }
+        ensures cut { OnOk result (Leads (OnFile file (λ old new. new ≡ take length old)) (says.seen self.old) (says.seen self.new)) }
+        ensures told { StillTells (says.seen self.old) (says.seen self.new) }
+        ensures crash { Follows (OnFile file (Cut length)) (says.may_leave self.old) (says.may_leave self.new) }
+        ensures time { Passes says self.old self.new }
+        ensures asked { says.calls self.new ≡ counted 1 (says.calls self.old) }
+        ensures cause { HasCause (says.faults self.old) (says.faults self.new) result };
 
     /// After it, a crash leaves what a read gives.
     fn sync(&mut self) -> Result<(), Failed>
-        ensures durable { OnOk result (NoMore (seen self.new) (may_leave self.new)) }
-        ensures same { OnOk result (Same (seen self.old) (seen self.new)) }
-        ensures told { StillTells (seen self.old) (seen self.new) }
-        ensures crash { NoMore (may_leave self.old) (may_leave self.new) }
-        ensures time { Elapses (moment self.old) (moment self.new) (left_since self.old) (left_since self.new) (may_leave self.new) }
-        ensures asked { calls self.new ≡ counted 1 (calls self.old) }
-        ensures cause { HasCause (faults self.old) (faults self.new) result };
+        ensures durable { OnOk result (NoMore (says.seen self.new) (says.may_leave self.new)) }
+        ensures same { OnOk result (Same (says.seen self.old) (says.seen self.new)) }
+        ensures told { StillTells (says.seen self.old) (says.seen self.new) }
+        ensures crash { NoMore (says.may_leave self.old) (says.may_leave self.new) }
+        ensures time { Passes says self.old self.new }
+        ensures asked { says.calls self.new ≡ counted 1 (says.calls self.old) }
+        ensures cause { HasCause (says.faults self.old) (says.faults self.new) result };
 
     /// What the disk reads is one of its images.
-    ghost reads_an_image: { (disk : Self) (c : Files) → seen disk c → may_leave disk c };
+    ghost reads_an_image: { (disk : Self) (c : Files) → says.seen disk c → says.may_leave disk c };
 
     /// The disk reads as no other files.
-    ghost reads_one: { (disk : Self) (c d : Files) → seen disk c → seen disk d → (file : ℕ) → c file ≡ d file };
+    ghost reads_one: { (disk : Self) (c d : Files) → says.seen disk c → says.seen disk d → (file : ℕ) → c file ≡ d file };
 
     /// No file that is read is longer.
-    ghost within: { (disk : Self) (c : Files) (file : ℕ) → seen disk c → length (c file) < 2 ^ 63 };
+    ghost within: { (disk : Self) (c : Files) (file : ℕ) → says.seen disk c → length (c file) < 2 ^ 63 };
 
     /// This moment is one of those since an earlier one.
-    ghost counts_now: { (disk : Self) (t : ℕ) (c : Files) → t ≤ moment disk → may_leave disk c → left_since disk t c };
+    ghost counts_now: { (disk : Self) (t : ℕ) (c : Files) → t ≤ says.moment disk → says.may_leave disk c → says.left_since disk t c };
 
     /// Since this moment there is no other.
-    ghost only_now: { (disk : Self) (c : Files) → left_since disk (moment disk) c → may_leave disk c };
+    ghost only_now: { (disk : Self) (c : Files) → says.left_since disk (says.moment disk) c → says.may_leave disk c };
 }

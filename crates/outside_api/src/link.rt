@@ -2,6 +2,7 @@
 
 ghost use Rattle.std.specs.Prelude.{◌<◌, ◌≤◌, ℕ, List, length, IfOk};
 ghost use Rattle.outside_api.specs.Count.{HasCause};
+ghost use Rattle.outside_api.specs.Says.{LinkSays};
 ghost use Rattle.outside_api.specs.Link.{IsEarlier, Answers, Fits};
 
 use crate::stream::Failed;
@@ -20,18 +21,14 @@ pub enum Fetched {
 /// What brings the committed text of a journal, generation by generation. It may answer for the
 /// journal as it was at an earlier moment.
 pub trait Link {
-    /// How often it has failed.
-    ghost faults: { Self → ℕ };
-
-    /// That its master's journal has these committed texts by now, one for each generation from 0
-    /// on. A link that doesn't tell its master has none.
-    ghost tells: { Self → List (List ℕ) → Type 0 };
+    /// What it says.
+    ghost says: { LinkSays Self };
 
     /// Brings committed bytes of the journal of a generation from a place on.
     fn fetch(&mut self, generation: u32, at: u64, buffer: &mut [u8]) -> Result<Fetched, Failed>
         requires { 0 < length buffer.old }
-        ensures answer { (now : List (List ℕ)) → tells self.new now → IfOk result (λ fetched. (earlier : List (List ℕ)) × IsEarlier earlier now × Answers earlier generation at fetched buffer.new) }
+        ensures answer { (now : List (List ℕ)) → says.tells self.new now → IfOk result (λ fetched. (earlier : List (List ℕ)) × IsEarlier earlier now × Answers earlier generation at fetched buffer.new) }
         ensures fits { IfOk result (λ fetched. Fits fetched (length buffer.old)) }
-        ensures grows { (before : List (List ℕ)) → tells self.old before → (now : List (List ℕ)) × tells self.new now × IsEarlier before now }
-        ensures cause { HasCause (faults self.old) (faults self.new) result };
+        ensures grows { (before : List (List ℕ)) → says.tells self.old before → (now : List (List ℕ)) × says.tells self.new now × IsEarlier before now }
+        ensures cause { HasCause (says.faults self.old) (says.faults self.new) result };
 }

@@ -1,15 +1,15 @@
 //! The time, and the gate between a command's evaluation and its place.
 
-ghost use Rattle.std.specs.Prelude.{ℕ};
+ghost use Rattle.outside_api.specs.Says.{ClockSays};
 
 /// What tells the time.
 pub trait Clock {
-    /// Whether it may give this moment.
-    ghost may_give: { Self → ℕ → Type 0 };
+    /// What it says.
+    ghost says: { ClockSays Self };
 
     /// The seconds since 1970.
     fn now(&self) -> u64
-        ensures { may_give self.now result };
+        ensures { says.may_give self.now result };
 }
 
 /// Where a command may be held back, to try an interleaving of threads.

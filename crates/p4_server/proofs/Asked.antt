@@ -2,11 +2,10 @@
 use Rattle.std.proofs.Common.{◌≡◌, ◌≢◌, ℕ, Bool, true, false, cond, ◌||◌, List, Option, Some, None, refl, sym, ap, subst, ◌∙◌, inl, inr, ◌⊎◌}
 use Rattle.std.specs.Prelude.{IfSome, IfNone}
 use Rattle.std.proofs.lemmas.Bool.{true≢false}
-use Rattle.outside_api.specs.Disk.{Files}
+use Rattle.outside_api.specs.Says.{DiskSays, SinkSays}
 use Rattle.depot_rows.specs.depot_model.declared.order.Place.{Place}
 use Rattle.party_threads.specs.replica_turns.Master.{Past}
 use Rattle.session_turns.specs.Drawn.{IsDrawn}
-use Rattle.p4_server.specs.declared.ended.Ended.{Ended}
 use Rattle.p4_server.specs.declared.ended.PartyEnd.{PartyEnd}
 use Rattle.p4_server.specs.declared.ended.Cause.{Cause}
 use Rattle.p4_server.specs.declared.ended.Cause.TheVariants as causes
@@ -16,6 +15,7 @@ use Rattle.p4_server.specs.Ends.{status_of, ends_cause, has_fault_place, has_fai
 use Rattle.p4_server.specs.Headline.{Ordering}
 use Rattle.p4_server.specs.Init.{Inits, IsInited, IsThere, IsFailed}
 use Rattle.p4_server.specs.Opening.{IsUnopened, IsUnmade, IsDamaged, IsUnread}
+use Rattle.p4_server.specs.Outside.{After, Before, Outside}
 use Rattle.p4_server.specs.Promise.{IsRefused, Keeps, KeepsPromise}
 use Rattle.p4_server.specs.Runs.{RunsParties, IsClosed, IsShut, IsRun}
 use Rattle.p4_server.specs.Serve.{AnyOrder, NotSaid}
@@ -45,121 +45,121 @@ leads false false = refl
 leads_elsewhere : {K : Type 0} (order : List Place) (parties : List (PartyEnd K)) (lost : Bool) → is_usage (ends_cause order parties lost) ≡ false
 leads_elsewhere order parties lost = leads (lost || (has_fault_place order || has_failed_party parties)) (has_faulty_party parties)
 
-module _ {D S K : Type 0} (seen may_leave : D → Files → Type 0) (moment : D → ℕ) (left_since : D → ℕ → Files → Type 0) (disk_faults : D → ℕ) (given : K → Option (List ℕ)) (sink_faults : K → ℕ) (journal archive : D) (old_out new_out : K) (ended : Ended D S K) where
-  unopened : IsUnopened seen may_leave moment left_since disk_faults given sink_faults journal archive old_out new_out ended → ended.cause ≢ causes.Usage
+module _ {D S K : Type 0} (disk_says : DiskSays D) (sink_says : SinkSays K) (before : Before D K) (after : After D S K) where
+  unopened : IsUnopened disk_says sink_says before after → after.ended.cause ≢ causes.Usage
   unopened u = go u.why
     where
-      go : IsUnmade seen may_leave moment left_since disk_faults given sink_faults journal archive old_out new_out ended
-          ⊎ (IsDamaged seen may_leave moment left_since disk_faults given sink_faults journal archive old_out new_out ended
-          ⊎ (IsUnread seen may_leave moment left_since disk_faults given sink_faults journal archive old_out new_out ended ⊎ (ended.cause ≡ causes.Memory))) → ended.cause ≢ causes.Usage
-      go (inl it) = other ended.cause causes.Unmade it.cause_is refl
-      go (inr (inl it)) = other ended.cause (causes.Damaged it.disk it.file it.place) it.cause_is refl
-      go (inr (inr (inl it))) = other ended.cause causes.Fault it.cause_is refl
-      go (inr (inr (inr is))) = other ended.cause causes.Memory is refl
+      go : IsUnmade disk_says sink_says before after
+          ⊎ (IsDamaged disk_says sink_says before after
+          ⊎ (IsUnread disk_says sink_says before after ⊎ (after.ended.cause ≡ causes.Memory))) → after.ended.cause ≢ causes.Usage
+      go (inl it) = other after.ended.cause causes.Unmade it.cause_is refl
+      go (inr (inl it)) = other after.ended.cause (causes.Damaged it.disk it.file it.place) it.cause_is refl
+      go (inr (inr (inl it))) = other after.ended.cause causes.Fault it.cause_is refl
+      go (inr (inr (inr is))) = other after.ended.cause causes.Memory is refl
 
-  inits : Inits seen may_leave moment left_since disk_faults given sink_faults journal archive old_out new_out ended → ended.cause ≢ causes.Usage
+  inits : Inits disk_says sink_says before after → after.ended.cause ≢ causes.Usage
   inits it = go it.ends
     where
-      go : IsInited seen may_leave moment left_since disk_faults given sink_faults journal archive old_out new_out ended
-          ⊎ (IsThere seen may_leave moment left_since disk_faults given sink_faults journal archive old_out new_out ended
-          ⊎ IsFailed seen may_leave moment left_since disk_faults given sink_faults journal archive old_out new_out ended) → ended.cause ≢ causes.Usage
-      go (inl is) = other ended.cause causes.Done is.cause_is refl
-      go (inr (inl is)) = other ended.cause causes.Made is.cause_is refl
-      go (inr (inr is)) = other ended.cause causes.Fault is.cause_is refl
+      go : IsInited disk_says sink_says before after
+          ⊎ (IsThere disk_says sink_says before after
+          ⊎ IsFailed disk_says sink_says before after) → after.ended.cause ≢ causes.Usage
+      go (inl is) = other after.ended.cause causes.Done is.cause_is refl
+      go (inr (inl is)) = other after.ended.cause causes.Made is.cause_is refl
+      go (inr (inr is)) = other after.ended.cause causes.Fault is.cause_is refl
 
-  dumps : Dumps seen may_leave moment left_since disk_faults given sink_faults journal archive old_out new_out ended → ended.cause ≢ causes.Usage
+  dumps : Dumps disk_says sink_says before after → after.ended.cause ≢ causes.Usage
   dumps it = go it.ends
     where
-      printed : (is : IsDumped seen may_leave moment left_since disk_faults given sink_faults journal archive old_out new_out ended) → ended.cause ≢ causes.Usage
+      printed : (is : IsDumped disk_says sink_says before after) → after.ended.cause ≢ causes.Usage
       printed is = elim is.printed [
-        | inl whole ↦ other ended.cause causes.Done whole.0 refl
-        | inr (inl front) ↦ other ended.cause causes.Fault front.0 refl
-        | inr (inr memory) ↦ other ended.cause causes.Memory memory refl
+        | inl whole ↦ other after.ended.cause causes.Done whole.0 refl
+        | inr (inl front) ↦ other after.ended.cause causes.Fault front.0 refl
+        | inr (inr memory) ↦ other after.ended.cause causes.Memory memory refl
       ]
 
-      go : IsUnopened seen may_leave moment left_since disk_faults given sink_faults journal archive old_out new_out ended
-          ⊎ IsDumped seen may_leave moment left_since disk_faults given sink_faults journal archive old_out new_out ended → ended.cause ≢ causes.Usage
+      go : IsUnopened disk_says sink_says before after
+          ⊎ IsDumped disk_says sink_says before after → after.ended.cause ≢ causes.Usage
       go (inl is) = unopened is
       go (inr is) = printed is
 
-  checkpoints : (may_give : ℕ → Type 0) → Checkpoints seen may_leave moment left_since disk_faults given sink_faults may_give journal archive old_out new_out ended → ended.cause ≢ causes.Usage
+  checkpoints : (may_give : ℕ → Type 0) → Checkpoints disk_says sink_says may_give before after → after.ended.cause ≢ causes.Usage
   checkpoints may_give it = go it.ends
     where
-      taken : (is : IsTaken seen may_leave moment left_since disk_faults given sink_faults may_give journal archive old_out new_out ended) → ended.cause ≢ causes.Usage
+      taken : (is : IsTaken disk_says sink_says may_give before after) → after.ended.cause ≢ causes.Usage
       taken is = elim is.line [
-        | inl whole ↦ other ended.cause causes.Done whole.0 refl
-        | inr front ↦ other ended.cause causes.Fault front.0 refl
+        | inl whole ↦ other after.ended.cause causes.Done whole.0 refl
+        | inr front ↦ other after.ended.cause causes.Fault front.0 refl
       ]
 
-      go : IsUnopened seen may_leave moment left_since disk_faults given sink_faults journal archive old_out new_out ended
-          ⊎ (IsUntaken seen may_leave moment left_since disk_faults given sink_faults may_give journal archive old_out new_out ended
-          ⊎ (IsTaken seen may_leave moment left_since disk_faults given sink_faults may_give journal archive old_out new_out ended
-          ⊎ IsInDoubt seen may_leave moment left_since disk_faults given sink_faults may_give journal archive old_out new_out ended)) → ended.cause ≢ causes.Usage
+      go : IsUnopened disk_says sink_says before after
+          ⊎ (IsUntaken disk_says sink_says may_give before after
+          ⊎ (IsTaken disk_says sink_says may_give before after
+          ⊎ IsInDoubt disk_says sink_says may_give before after)) → after.ended.cause ≢ causes.Usage
       go (inl is) = unopened is
-      go (inr (inl is)) = other ended.cause causes.Memory is.cause_is refl
+      go (inr (inl is)) = other after.ended.cause causes.Memory is.cause_is refl
       go (inr (inr (inl is))) = taken is
-      go (inr (inr (inr is))) = other ended.cause causes.Fault is.cause_is refl
+      go (inr (inr (inr is))) = other after.ended.cause causes.Fault is.cause_is refl
 
-module _ {D S K H : Type 0} (seen may_leave : D → Files → Type 0) (moment : D → ℕ) (left_since : D → ℕ → Files → Type 0) (disk_faults : D → ℕ) (left : S → Option (List ℕ)) (source_faults : S → ℕ) (given : K → Option (List ℕ)) (sink_faults : K → ℕ) (may_give : ℕ → Type 0) (input output : H → List ℕ → Option (List ℕ)) (door_faults : H → ℕ) (old_doors new_doors : H) (journal archive : D) (old_out new_out : K) (ended : Ended D S K) where
+module _ {D S K H : Type 0} (outside : Outside D S K H) (old_doors new_doors : H) (before : Before D K) (after : After D S K) where
   runs_parties : (IsOrdered : Ordering) (began : Past → Type 0) (names : List (List ℕ))
-      → RunsParties seen may_leave moment left_since disk_faults left source_faults given sink_faults may_give input output door_faults old_doors new_doors journal archive old_out new_out IsOrdered began names ended → ended.cause ≢ causes.Usage
+      → RunsParties outside old_doors new_doors before after IsOrdered began names → after.ended.cause ≢ causes.Usage
   runs_parties IsOrdered began names it = go it.ends
     where
-      shut : (is : IsShut seen may_leave moment left_since disk_faults left source_faults given sink_faults may_give input output door_faults old_doors new_doors journal archive old_out new_out IsOrdered began names ended) → ended.cause ≢ causes.Usage
+      shut : (is : IsShut outside old_doors new_doors before after IsOrdered began names) → after.ended.cause ≢ causes.Usage
       shut is = elim is.why [
-        | inl fault ↦ other ended.cause causes.Fault fault.0 refl
-        | inr memory ↦ other ended.cause causes.Memory memory refl
+        | inl fault ↦ other after.ended.cause causes.Fault fault.0 refl
+        | inr memory ↦ other after.ended.cause causes.Memory memory refl
       ]
 
-      told : (lost : Bool) → IsTold given sink_faults old_out new_out ended lost → ended.cause ≢ causes.Usage
+      told : (lost : Bool) → IsTold outside.sink before.out after.out after.ended lost → after.ended.cause ≢ causes.Usage
       told lost is = elim is.is [
-        | inl whole ↦ other ended.cause (ends_cause ended.order ended.parties lost) whole.0 (leads_elsewhere ended.order ended.parties lost)
-        | inr front ↦ other ended.cause causes.Fault front.0 refl
+        | inl whole ↦ other after.ended.cause (ends_cause after.ended.order after.ended.parties lost) whole.0 (leads_elsewhere after.ended.order after.ended.parties lost)
+        | inr front ↦ other after.ended.cause causes.Fault front.0 refl
       ]
 
-      ran : (is : IsRun seen may_leave moment left_since disk_faults left source_faults given sink_faults may_give input output door_faults old_doors new_doors journal archive old_out new_out IsOrdered began names ended) → ended.cause ≢ causes.Usage
+      ran : (is : IsRun outside old_doors new_doors before after IsOrdered began names) → after.ended.cause ≢ causes.Usage
       ran is = elim is.told [
         | inl parties ↦ told is.lost parties.2
-        | inr untold ↦ other ended.cause causes.Memory untold.cause_is refl
+        | inr untold ↦ other after.ended.cause causes.Memory untold.cause_is refl
       ]
 
-      go : IsClosed seen may_leave moment left_since disk_faults left source_faults given sink_faults may_give input output door_faults old_doors new_doors journal archive old_out new_out IsOrdered began names ended
-          ⊎ (IsShut seen may_leave moment left_since disk_faults left source_faults given sink_faults may_give input output door_faults old_doors new_doors journal archive old_out new_out IsOrdered began names ended
-          ⊎ IsRun seen may_leave moment left_since disk_faults left source_faults given sink_faults may_give input output door_faults old_doors new_doors journal archive old_out new_out IsOrdered began names ended) → ended.cause ≢ causes.Usage
-      go (inl is) = unopened seen may_leave moment left_since disk_faults given sink_faults journal archive old_out new_out ended is.unopened
+      go : IsClosed outside old_doors new_doors before after IsOrdered began names
+          ⊎ (IsShut outside old_doors new_doors before after IsOrdered began names
+          ⊎ IsRun outside old_doors new_doors before after IsOrdered began names) → after.ended.cause ≢ causes.Usage
+      go (inl is) = unopened outside.disk outside.sink before after is.unopened
       go (inr (inl is)) = shut is
       go (inr (inr is)) = ran is
 
   keeps : (job : Job) (words : List (List ℕ))
-      → Keeps seen may_leave moment left_since disk_faults left source_faults given sink_faults may_give input output door_faults old_doors new_doors words journal archive old_out new_out ended job → ended.cause ≢ causes.Usage
-  keeps init words it = inits seen may_leave moment left_since disk_faults given sink_faults journal archive old_out new_out ended it.0
-  keeps dump words it = dumps seen may_leave moment left_since disk_faults given sink_faults journal archive old_out new_out ended it.0
-  keeps checkpoint words it = checkpoints seen may_leave moment left_since disk_faults given sink_faults journal archive old_out new_out ended may_give it.0
+      → Keeps outside old_doors new_doors words before after job → after.ended.cause ≢ causes.Usage
+  keeps init words it = inits outside.disk outside.sink before after it.0
+  keeps dump words it = dumps outside.disk outside.sink before after it.0
+  keeps checkpoint words it = checkpoints outside.disk outside.sink before after outside.may_give it.0
   keeps (load seed count) words it = it.0.no_usage
-  keeps (schedule seed names) words it = runs_parties (IsDrawn may_give seed) (AreWritten seen journal archive) names it
+  keeps (schedule seed names) words it = runs_parties (IsDrawn outside.may_give seed) (AreWritten outside.disk before.journal before.archive) names it
   keeps (serve names) words it = runs_parties AnyOrder NotSaid names it
 
   -- ---- the promise
 
   -- where the words ask for a mode
   pub kept : (words : List (List ℕ)) (job : Job) → asked words ≡ Some job
-      → Keeps seen may_leave moment left_since disk_faults left source_faults given sink_faults may_give input output door_faults old_doors new_doors words journal archive old_out new_out ended job
-      → ended.status ≡ status_of ended.cause
-      → KeepsPromise seen may_leave moment left_since disk_faults left source_faults given sink_faults may_give input output door_faults old_doors new_doors words journal archive old_out new_out ended
+      → Keeps outside old_doors new_doors words before after job
+      → after.ended.status ≡ status_of after.ended.cause
+      → KeepsPromise outside old_doors new_doors words before after
   kept words job asks it status = record {
     kept = inl (record { job = job; asks = asks; keeps = it });
     usage = λ usage. absurd (keeps job words it usage);
     status = status;
   }
 
-  refused : (cause : Cause) → IsToldAlone given sink_faults old_out new_out ended → ended.cause ≡ cause → ended.journal ≡ journal → ended.archive ≡ archive → new_doors ≡ old_doors
-      → IsRefused given sink_faults old_doors new_doors journal archive old_out new_out ended cause
+  refused : (cause : Cause) → IsToldAlone outside.sink before.out after.out after.ended → after.ended.cause ≡ cause → after.ended.journal ≡ before.journal → after.ended.archive ≡ before.archive → new_doors ≡ old_doors
+      → IsRefused outside.sink old_doors new_doors before after cause
   refused cause told is journal_is archive_is doors_stay = record { cause_is = is; told = told; journal_is = journal_is; archive_is = archive_is; doors_stay = doors_stay }
 
   -- where they ask for none
-  pub unasked : (words : List (List ℕ)) → asked words ≡ None → IsToldAlone given sink_faults old_out new_out ended → ended.cause ≡ causes.Usage → ended.status ≡ status_of causes.Usage
-      → ended.journal ≡ journal → ended.archive ≡ archive → new_doors ≡ old_doors
-      → KeepsPromise seen may_leave moment left_since disk_faults left source_faults given sink_faults may_give input output door_faults old_doors new_doors words journal archive old_out new_out ended
+  pub unasked : (words : List (List ℕ)) → asked words ≡ None → IsToldAlone outside.sink before.out after.out after.ended → after.ended.cause ≡ causes.Usage → after.ended.status ≡ status_of causes.Usage
+      → after.ended.journal ≡ before.journal → after.ended.archive ≡ before.archive → new_doors ≡ old_doors
+      → KeepsPromise outside old_doors new_doors words before after
   unasked words asks told is status journal_is archive_is doors_stay = record {
     kept = inr (inl (record { asks = asks; refused = refused causes.Usage told is journal_is archive_is doors_stay }));
     usage = λ usage. asks;
@@ -167,12 +167,12 @@ module _ {D S K H : Type 0} (seen may_leave : D → Files → Type 0) (moment : 
   }
 
   -- where there was no memory to read them
-  pub unread : (words : List (List ℕ)) → IsToldAlone given sink_faults old_out new_out ended → ended.cause ≡ causes.Memory → ended.status ≡ status_of causes.Memory
-      → ended.journal ≡ journal → ended.archive ≡ archive → new_doors ≡ old_doors
-      → KeepsPromise seen may_leave moment left_since disk_faults left source_faults given sink_faults may_give input output door_faults old_doors new_doors words journal archive old_out new_out ended
+  pub unread : (words : List (List ℕ)) → IsToldAlone outside.sink before.out after.out after.ended → after.ended.cause ≡ causes.Memory → after.ended.status ≡ status_of causes.Memory
+      → after.ended.journal ≡ before.journal → after.ended.archive ≡ before.archive → new_doors ≡ old_doors
+      → KeepsPromise outside old_doors new_doors words before after
   unread words told is status journal_is archive_is doors_stay = record {
     kept = inr (inr (refused causes.Memory told is journal_is archive_is doors_stay));
-    usage = λ usage. absurd (other ended.cause causes.Memory is refl usage);
+    usage = λ usage. absurd (other after.ended.cause causes.Memory is refl usage);
     status = status ∙ ap status_of (sym is);
   }
 

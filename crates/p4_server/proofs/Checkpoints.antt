@@ -1,7 +1,9 @@
 -- What the mode `checkpoint` promises, by how it ends.
 use Rattle.std.proofs.Common.{◌≡◌, ◌≢◌, ◌≤◌, ℕ, true, false, List, length, Option, refl, sym, ◌∙◌, inl, inr}
 use Rattle.archive_file.specs.Archive as archives
-use Rattle.outside_api.specs.Disk.{Files, LeavesOnly}
+use Rattle.outside_api.specs.Disk.{Files}
+use Rattle.outside_api.specs.Moments.{LeavesOnly}
+use Rattle.outside_api.specs.Says.{DiskSays, SinkSays}
 use Rattle.checkpoint_file.specs.Generations.{IsOfDepot}
 use Rattle.depot_checkpoint.specs.Taking.{StandsBeforeOrAfter, checkpointed, next_generation}
 use Rattle.depot_checkpoint.specs.declared.fault.TakingFault.{TakingFault}
@@ -17,12 +19,12 @@ use Rattle.recovery.specs.Opening.{IsOpen, HasSynced, LooksOnly}
 use Rattle.recovery.specs.Standing.{StandFor}
 use Rattle.recovery.specs.declared.open.Opened.{Opened}
 use Rattle.depot_rows.specs.table_changes.Changed.{rows_of}
-use Rattle.p4_server.specs.declared.ended.Ended.{Ended}
 use Rattle.p4_server.specs.declared.ended.Cause.TheVariants as causes
 use Rattle.p4_server.specs.Checkpoint.{Checkpoints, IsInDoubt, IsLine, IsPlaced, IsTaken, IsUntaken}
 use Rattle.p4_server.specs.Files.{IsStart, DiskRose, HasOpened}
 use Rattle.p4_server.specs.Lines.{cause_line, generation_line}
 use Rattle.p4_server.specs.Opening.{IsUnopened}
+use Rattle.p4_server.specs.Outside.{After, Before}
 use Rattle.p4_server.specs.Telling.{IsUnrun, OutGot}
 use Rattle.p4_server.proofs.Contents.{contents_opened, deletes_opened}
 use Rattle.p4_server.proofs.Openings.{fault_of_unopened, complete_of_unopened, opened_of, read_at_start}
@@ -34,25 +36,25 @@ pub by_fault : {A : Type 0} → (fault : TakingFault) → (fault ≡ taking_faul
 by_fault taking_faults.DiskFault disk memory = disk refl
 by_fault taking_faults.Memory disk memory = memory refl
 
-module _ {D S K : Type 0} (seen may_leave : D → Files → Type 0) (moment : D → ℕ) (left_since : D → ℕ → Files → Type 0) (disk_faults : D → ℕ) (given : K → Option (List ℕ)) (sink_faults : K → ℕ) (may_give : ℕ → Type 0) (journal archive : D) (old_out new_out : K) (ended : Ended D S K) where
+module _ {D S K : Type 0} (disk_says : DiskSays D) (sink_says : SinkSays K) (may_give : ℕ → Type 0) (before : Before D K) (after : After D S K) where
   abbrev pub Promised : Type 0
-  Promised = Checkpoints seen may_leave moment left_since disk_faults given sink_faults may_give journal archive old_out new_out ended
+  Promised = Checkpoints disk_says sink_says may_give before after
 
-  pub checkpoints_unopened : IsUnopened seen may_leave moment left_since disk_faults given sink_faults journal archive old_out new_out ended → Promised
+  pub checkpoints_unopened : IsUnopened disk_says sink_says before after → Promised
   checkpoints_unopened unopened = record {
     ends = inl unopened;
-    fault = λ is. inl (fault_of_unopened seen may_leave moment left_since disk_faults given sink_faults journal archive old_out new_out ended unopened.why is);
-    complete = λ d start quiet. inr (complete_of_unopened seen may_leave moment left_since disk_faults given sink_faults journal archive old_out new_out ended unopened.why d start (λ rose. quiet (inl rose)));
+    fault = λ is. inl (fault_of_unopened disk_says sink_says before after unopened.why is);
+    complete = λ d start quiet. inr (complete_of_unopened disk_says sink_says before after unopened.why d start (λ rose. quiet (inl rose)));
   }
 
-  pub checkpoints_untaken : IsUntaken seen may_leave moment left_since disk_faults given sink_faults may_give journal archive old_out new_out ended → Promised
+  pub checkpoints_untaken : IsUntaken disk_says sink_says may_give before after → Promised
   checkpoints_untaken untaken = record {
     ends = inr (inl untaken);
     fault = λ is. (let clash : causes.Memory ≡ causes.Fault = sym untaken.cause_is ∙ is in absurd cc);
     complete = λ d start quiet. inr untaken.cause_is;
   }
 
-  pub checkpoints_taken : IsTaken seen may_leave moment left_since disk_faults given sink_faults may_give journal archive old_out new_out ended → Promised
+  pub checkpoints_taken : IsTaken disk_says sink_says may_give before after → Promised
   checkpoints_taken taken = record {
     ends = inr (inr (inl taken));
     fault = λ is. elim taken.line [
@@ -62,7 +64,7 @@ module _ {D S K : Type 0} (seen may_leave : D → Files → Type 0) (moment : D 
     complete = λ d start quiet. elim taken.line [ inl done ↦ inl done.0 | inr failed ↦ absurd (quiet (inr failed.1)) ];
   }
 
-  pub checkpoints_in_doubt : IsInDoubt seen may_leave moment left_since disk_faults given sink_faults may_give journal archive old_out new_out ended → Promised
+  pub checkpoints_in_doubt : IsInDoubt disk_says sink_says may_give before after → Promised
   checkpoints_in_doubt doubt = record {
     ends = inr (inr (inr doubt));
     fault = λ is. inl doubt.risen;
@@ -71,28 +73,28 @@ module _ {D S K : Type 0} (seen may_leave : D → Files → Type 0) (moment : D 
 
 -- ---- files that are opened
 
-module _ {D S K : Type 0} (seen may_leave : D → Files → Type 0) (moment : D → ℕ) (left_since : D → ℕ → Files → Type 0) (disk_faults : D → ℕ) (given : K → Option (List ℕ)) (sink_faults : K → ℕ) (may_give : ℕ → Type 0) (journal archive : D) (old_out new_out : K) (ended : Ended D S K)
-    (opened : Opened D) (opening : (was : Committed) × IsOpen may_leave was opened)
-    (synced : HasSynced seen may_leave journal (disk_of opened.journal)) (archive_synced : HasSynced seen may_leave archive (archives.disk_of opened.archive))
-    (reads : (disk : D) (files : Files) → seen disk files → may_leave disk files) (now : (disk : D) (files : Files) → left_since disk (moment disk) files → may_leave disk files)
-    (one : (disk : D) (a b : Files) → seen disk a → seen disk b → (file : ℕ) → a file ≡ b file)
-    (there : (files : Files) → seen journal files → length (files 0) ≢ 0) (whole : (j a : Files) → seen journal j → seen archive a → HoldWhole j a (rows_of opened.tables)) (looks : LooksOnly may_leave moment left_since journal (disk_of opened.journal))
-    (held : (j : Files) → seen journal j → Hold j (rows_of opened.tables)) (stands : (j a : Files) (d : List Deed) → seen journal j → seen archive a → StandFor d j a → Stand (rows_of opened.tables) d)
-    (archive_is : ended.archive ≡ archives.disk_of opened.archive) where
-  image_at_start : (files : Files) → seen journal files → may_leave (disk_of opened.journal) files
+module _ {D S K : Type 0} (disk_says : DiskSays D) (sink_says : SinkSays K) (may_give : ℕ → Type 0) (before : Before D K) (after : After D S K)
+    (opened : Opened D) (opening : (was : Committed) × IsOpen disk_says was opened)
+    (synced : HasSynced disk_says before.journal (disk_of opened.journal)) (archive_synced : HasSynced disk_says before.archive (archives.disk_of opened.archive))
+    (reads : (disk : D) (files : Files) → disk_says.seen disk files → disk_says.may_leave disk files) (now : (disk : D) (files : Files) → disk_says.left_since disk (disk_says.moment disk) files → disk_says.may_leave disk files)
+    (one : (disk : D) (a b : Files) → disk_says.seen disk a → disk_says.seen disk b → (file : ℕ) → a file ≡ b file)
+    (there : (files : Files) → disk_says.seen before.journal files → length (files 0) ≢ 0) (whole : (j a : Files) → disk_says.seen before.journal j → disk_says.seen before.archive a → HoldWhole j a (rows_of opened.tables)) (looks : LooksOnly disk_says before.journal (disk_of opened.journal))
+    (held : (j : Files) → disk_says.seen before.journal j → Hold j (rows_of opened.tables)) (stands : (j a : Files) (d : List Deed) → disk_says.seen before.journal j → disk_says.seen before.archive a → StandFor d j a → Stand (rows_of opened.tables) d)
+    (archive_is : after.ended.archive ≡ archives.disk_of opened.archive) where
+  image_at_start : (files : Files) → disk_says.seen before.journal files → disk_says.may_leave (disk_of opened.journal) files
   image_at_start files read = reads (disk_of opened.journal) files (synced.same.kept files read)
 
   -- the root tells the generation of the journal
-  of_root : (files : Files) → seen journal files → generation_of (files 0) ≡ generation_of_journal opened.journal
+  of_root : (files : Files) → disk_says.seen before.journal files → generation_of (files 0) ≡ generation_of_journal opened.journal
   of_root files read = (opening.1.stands.holds files (image_at_start files read)).root ∙ sym opening.1.stands.generation
 
-  is_opened : HasOpened seen may_leave moment left_since journal archive (disk_of opened.journal)
-  is_opened = opened_of seen may_leave moment left_since journal archive opened there whole looks synced
+  is_opened : HasOpened disk_says before.journal before.archive (disk_of opened.journal)
+  is_opened = opened_of disk_says before.journal before.archive opened there whole looks synced
 
   -- each image of the archive's disk has the contents of the depot
-  of_depot : (d : List Deed) → IsStart seen journal archive d → (image : Files) → may_leave ended.archive image → IsOfDepot opening.0 (rows_of opened.tables) d image
+  of_depot : (d : List Deed) → IsStart disk_says before.journal before.archive d → (image : Files) → disk_says.may_leave after.ended.archive image → IsOfDepot opening.0 (rows_of opened.tables) d image
   of_depot d start image left =
-      let same : image 0 ≡ start.archive_files 0 = one archive image start.archive_files (read_at_start seen may_leave archive (archives.disk_of opened.archive) archive_synced image (rw archive_is at left)) start.archive_reads 0 in
+      let same : image 0 ≡ start.archive_files 0 = one before.archive image start.archive_files (read_at_start disk_says before.archive (archives.disk_of opened.archive) archive_synced image (rw archive_is at left)) start.archive_reads 0 in
       let contents = contents_opened start.journal_files start.archive_files image (rows_of opened.tables) d start.stand (held start.journal_files start.journal_reads) same in
       record {
         has = opening.1.rows;
@@ -105,8 +107,8 @@ module _ {D S K : Type 0} (seen may_leave : D → Files → Type 0) (moment : D 
 
   -- ---- nothing was done
 
-  pub untaken_of : ended.cause ≡ causes.Memory → IsUnrun ended → ended.journal ≡ disk_of opened.journal
-      → IsUntaken seen may_leave moment left_since disk_faults given sink_faults may_give journal archive old_out new_out ended
+  pub untaken_of : after.ended.cause ≡ causes.Memory → IsUnrun after.ended → after.ended.journal ≡ disk_of opened.journal
+      → IsUntaken disk_says sink_says may_give before after
   untaken_of cause_is unrun journal_is = record {
     cause_is = cause_is;
     unrun = unrun;
@@ -118,20 +120,20 @@ module _ {D S K : Type 0} (seen may_leave : D → Files → Type 0) (moment : D 
     };
   }
     where
-      at_start : (d : List Deed) → IsStart seen journal archive d → (j a : Files) → may_leave (disk_of opened.journal) j → may_leave ended.archive a → StandFor d j a
+      at_start : (d : List Deed) → IsStart disk_says before.journal before.archive d → (j a : Files) → disk_says.may_leave (disk_of opened.journal) j → disk_says.may_leave after.ended.archive a → StandFor d j a
       at_start d start j a j_left a_left = stands_before opening.0 (rows_of opened.tables) d a (of_depot d start a a_left) j (opening.1.stands.holds j j_left)
 
   -- ---- the checkpoint was taken, or a disk failed meanwhile
 
-  module _ (after : D) (journal_is : ended.journal ≡ after)
-      (any_moment : (d : List Deed) (image : Files) → IsOfDepot opening.0 (rows_of opened.tables) d image → LeavesOnly moment left_since (disk_of opened.journal) after (StandsBeforeOrAfter d image)) where
-    since : (d : List Deed) → IsStart seen journal archive d → (j a : Files) → left_since ended.journal (moment (disk_of opened.journal)) j → may_leave ended.archive a → StandsBeforeOrAfter d a j
+  module _ (left : D) (journal_is : after.ended.journal ≡ left)
+      (any_moment : (d : List Deed) (image : Files) → IsOfDepot opening.0 (rows_of opened.tables) d image → LeavesOnly disk_says (disk_of opened.journal) left (StandsBeforeOrAfter d image)) where
+    since : (d : List Deed) → IsStart disk_says before.journal before.archive d → (j a : Files) → disk_says.left_since after.ended.journal (disk_says.moment (disk_of opened.journal)) j → disk_says.may_leave after.ended.archive a → StandsBeforeOrAfter d a j
     since d start j a j_left a_left = (any_moment d a (of_depot d start a a_left)).each j (rw journal_is at j_left)
 
-    pub taken_of : IsPlaced may_give ended false → (begun : Option ℕ) → begun ≡ next_generation (generation_of_journal opened.journal)
-        → IsLine given sink_faults old_out new_out ended (generation_line begun)
-        → ((d : List Deed) (image : Files) → IsOfDepot opening.0 (rows_of opened.tables) d image → (j : Files) → may_leave after j → StandFor (checkpointed d) j image)
-        → IsTaken seen may_leave moment left_since disk_faults given sink_faults may_give journal archive old_out new_out ended
+    pub taken_of : IsPlaced may_give after.ended false → (begun : Option ℕ) → begun ≡ next_generation (generation_of_journal opened.journal)
+        → IsLine sink_says before.out after.out after.ended (generation_line begun)
+        → ((d : List Deed) (image : Files) → IsOfDepot opening.0 (rows_of opened.tables) d image → (j : Files) → disk_says.may_leave left j → StandFor (checkpointed d) j image)
+        → IsTaken disk_says sink_says may_give before after
     taken_of placed begun number line taken = record {
       placed = placed;
       generation = generation_of_journal opened.journal;
@@ -145,10 +147,10 @@ module _ {D S K : Type 0} (seen may_leave : D → Files → Type 0) (moment : D 
       };
     }
 
-    pub in_doubt_of : ((disk : D) (t : ℕ) (files : Files) → t ≤ moment disk → may_leave disk files → left_since disk t files) → IsPlaced may_give ended true → ended.cause ≡ causes.Fault
-        → DiskRose disk_faults journal ended.journal archive ended.archive
-        → OutGot (given old_out) (given new_out) (sink_faults old_out) (sink_faults new_out) (cause_line causes.Fault)
-        → IsInDoubt seen may_leave moment left_since disk_faults given sink_faults may_give journal archive old_out new_out ended
+    pub in_doubt_of : ((disk : D) (t : ℕ) (files : Files) → t ≤ disk_says.moment disk → disk_says.may_leave disk files → disk_says.left_since disk t files) → IsPlaced may_give after.ended true → after.ended.cause ≡ causes.Fault
+        → DiskRose disk_says before after
+        → OutGot (sink_says.given before.out) (sink_says.given after.out) (sink_says.faults before.out) (sink_says.faults after.out) (cause_line causes.Fault)
+        → IsInDoubt disk_says sink_says may_give before after
     in_doubt_of counts_now placed cause_is risen line = record {
       placed = placed;
       cause_is = cause_is;
@@ -159,7 +161,7 @@ module _ {D S K : Type 0} (seen may_leave : D → Files → Type 0) (moment : D 
       kept = λ d start. record {
         exit = λ j a j_left a_left.
             let later = (any_moment d a (of_depot d start a a_left)).later in
-            since d start j a (counts_now ended.journal (moment (disk_of opened.journal)) j (rw journal_is later) j_left) a_left;
+            since d start j a (counts_now after.ended.journal (disk_says.moment (disk_of opened.journal)) j (rw journal_is later) j_left) a_left;
         any_moment = since d start;
       };
     }

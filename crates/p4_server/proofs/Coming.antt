@@ -3,6 +3,7 @@ use Rattle.std.proofs.Common.{◌≡◌, ◌≢◌, ℕ, ◌+◌, ◌<◌, ◌�
 use Rattle.std.specs.Prelude.{slice_get}
 use Rattle.std.proofs.lemmas.List.{length_push}
 use Rattle.std.proofs.lemmas.Option.{slice_get_within, get_or_from_slice_get}
+use Rattle.outside_api.specs.Says.{SourceSays, SinkSays}
 use Rattle.p4_server.specs.Parties.{AreDifferent, HaveCome, IsPair, OnlyTheseCome}
 use Rattle.p4_server.proofs.Together.{at_pushed, pushed_before, pushed_last, at_once, all_at}
 
@@ -21,13 +22,13 @@ only_more inputs outputs names inputs_mid outputs_mid inputs_now outputs_now k n
   outputs = λ other apart. other_outputs other (all_at (λ n. other ≢ n) names apart k name at) ∙ only.outputs other apart;
 }
 
-module _ {S K : Type 0} (left : S → Option (List ℕ)) (source_faults : S → ℕ) (given : K → Option (List ℕ)) (sink_faults : K → ℕ) (inputs outputs : List ℕ → Option (List ℕ)) (names : List (List ℕ)) where
+module _ {S K : Type 0} (source_says : SourceSays S) (sink_says : SinkSays K) (inputs outputs : List ℕ → Option (List ℕ)) (names : List (List ℕ)) where
   -- The first k names have come: each has its source and its sink, and no name that is yet to come has changed.
   pub record FirstsCome (inputs_now outputs_now : List ℕ → Option (List ℕ)) (k : ℕ) (sources : List S) (sinks : List K) : Type 0 where
     pub sources_count : length sources ≡ k
     pub sinks_count : length sinks ≡ k
     pub each : (i : ℕ) (name : List ℕ) (source : S) (sink : K) → slice_get names i ≡ Some name → slice_get sources i ≡ Some source → slice_get sinks i ≡ Some sink
-        → IsPair left source_faults given sink_faults (inputs name) (outputs name) source sink
+        → IsPair source_says sink_says (inputs name) (outputs name) source sink
     pub to_come : (i : ℕ) (name : List ℕ) → k ≤ i → slice_get names i ≡ Some name → (inputs_now name ≡ inputs name) × (outputs_now name ≡ outputs name)
     pub only : OnlyTheseCome inputs outputs inputs_now outputs_now names
 
@@ -44,11 +45,11 @@ module _ {S K : Type 0} (left : S → Option (List ℕ)) (source_faults : S → 
   module _ (inputs_mid outputs_mid inputs_now outputs_now : List ℕ → Option (List ℕ)) (k : ℕ) (name : List ℕ) (at : slice_get names k ≡ Some name)
       (other_inputs : (other : List ℕ) → other ≢ name → inputs_now other ≡ inputs_mid other) (other_outputs : (other : List ℕ) → other ≢ name → outputs_now other ≡ outputs_mid other) where
     pub firsts_more : (sources : List S) (sinks : List K) (source : S) (sink : K) → AreDifferent names → FirstsCome inputs_mid outputs_mid k sources sinks
-        → left source ≡ inputs_mid name → given sink ≡ outputs_mid name → source_faults source ≡ 0 → sink_faults sink ≡ 0
+        → source_says.left source ≡ inputs_mid name → sink_says.given sink ≡ outputs_mid name → source_says.faults source ≡ 0 → sink_says.faults sink ≡ 0
         → FirstsCome inputs_now outputs_now (k + 1) (sources ++ source ∷ []) (sinks ++ sink ∷ [])
     firsts_more sources sinks source sink different before reads gives new_source new_sink =
         let came = before.to_come k name (omega arith) at in
-        let pair : IsPair left source_faults given sink_faults (inputs name) (outputs name) source sink = record { reads = reads ∙ came.0; gives = gives ∙ came.1; new_source = new_source; new_sink = new_sink } in
+        let pair : IsPair source_says sink_says (inputs name) (outputs name) source sink = record { reads = reads ∙ came.0; gives = gives ∙ came.1; new_source = new_source; new_sink = new_sink } in
         record {
           sources_count = length_push sources source ∙ ap (λ (n : ℕ). n + 1) before.sources_count;
           sinks_count = length_push sinks sink ∙ ap (λ (n : ℕ). n + 1) before.sinks_count;
@@ -72,5 +73,5 @@ module _ {S K : Type 0} (left : S → Option (List ℕ)) (source_faults : S → 
 
   -- all have come
   pub have_come : (inputs_now outputs_now : List ℕ → Option (List ℕ)) (k : ℕ) (sources : List S) (sinks : List K) → k ≡ length names → FirstsCome inputs_now outputs_now k sources sinks
-      → HaveCome left source_faults given sink_faults inputs outputs names sources sinks
+      → HaveCome source_says sink_says inputs outputs names sources sinks
   have_come inputs_now outputs_now k sources sinks all firsts = record { sources_count = firsts.sources_count ∙ all; sinks_count = firsts.sinks_count ∙ all; each = firsts.each }

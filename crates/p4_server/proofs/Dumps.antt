@@ -1,46 +1,47 @@
 -- What a dump promises, by how it ends.
-use Rattle.std.proofs.Common.{◌≡◌, ◌⊎◌, ℕ, List, Option, sym, ◌∙◌, inl, inr}
-use Rattle.outside_api.specs.Count.{HasRisen}
-use Rattle.outside_api.specs.Disk.{Files, LeavesOnly, NoMore}
+use Rattle.std.proofs.Common.{◌≡◌, ◌⊎◌, List, sym, ◌∙◌, inl, inr}
+use Rattle.outside_api.specs.Disk.{Files, NoMore}
+use Rattle.outside_api.specs.Moments.{LeavesOnly}
+use Rattle.outside_api.specs.Says.{DiskSays, SinkSays}
 use Rattle.depot_rows.specs.depot_model.Deeds.{Deed}
 use Rattle.depot_rows.specs.Standing.{Stand}
 use Rattle.recovery.specs.Contents.{HoldWhole}
 use Rattle.recovery.specs.Holding.{Hold}
 use Rattle.depot_rows.specs.table_changes.Changed.{AllRows}
-use Rattle.p4_server.specs.declared.ended.Ended.{Ended}
 use Rattle.p4_server.specs.declared.ended.Cause.TheVariants as causes
 use Rattle.p4_server.specs.Dump.{IsPrinted, Dumps}
-use Rattle.p4_server.specs.Files.{IsStart, DiskRose, BothSynced}
+use Rattle.p4_server.specs.Files.{IsStart, DiskOrOutRose, BothSynced}
 use Rattle.p4_server.specs.Opening.{IsUnopened}
+use Rattle.p4_server.specs.Outside.{After, Before}
 use Rattle.p4_server.specs.Telling.{IsUnrun}
 use Rattle.p4_server.proofs.Openings.{fault_of_unopened, complete_of_unopened}
 
-module _ {D S K : Type 0} (seen may_leave : D → Files → Type 0) (moment : D → ℕ) (left_since : D → ℕ → Files → Type 0) (disk_faults : D → ℕ) (given : K → Option (List ℕ)) (sink_faults : K → ℕ) (journal archive : D) (old_out new_out : K) (ended : Ended D S K) where
+module _ {D S K : Type 0} (disk_says : DiskSays D) (sink_says : SinkSays K) (before : Before D K) (after : After D S K) where
   abbrev Rose : Type 0
-  Rose = DiskRose disk_faults journal ended.journal archive ended.archive ⊎ HasRisen (sink_faults old_out) (sink_faults new_out)
+  Rose = DiskOrOutRose disk_says sink_says before after
 
-  pub dumps_unopened : IsUnopened seen may_leave moment left_since disk_faults given sink_faults journal archive old_out new_out ended
-      → Dumps seen may_leave moment left_since disk_faults given sink_faults journal archive old_out new_out ended
+  pub dumps_unopened : IsUnopened disk_says sink_says before after
+      → Dumps disk_says sink_says before after
   dumps_unopened unopened = record {
     ends = inl unopened;
-    fault = λ is. inl (fault_of_unopened seen may_leave moment left_since disk_faults given sink_faults journal archive old_out new_out ended unopened.why is);
-    complete = λ d start quiet. inr (complete_of_unopened seen may_leave moment left_since disk_faults given sink_faults journal archive old_out new_out ended unopened.why d start (λ rose. quiet (inl rose)));
+    fault = λ is. inl (fault_of_unopened disk_says sink_says before after unopened.why is);
+    complete = λ d start quiet. inr (complete_of_unopened disk_says sink_says before after unopened.why d start (λ rose. quiet (inl rose)));
   }
 
-  fault_of_printed : (rows : AllRows) → IsPrinted given sink_faults old_out new_out ended rows → ended.cause ≡ causes.Fault → Rose
+  fault_of_printed : (rows : AllRows) → IsPrinted sink_says before.out after.out after.ended rows → after.ended.cause ≡ causes.Fault → Rose
   fault_of_printed rows (inl done) is = let clash : causes.Done ≡ causes.Fault = sym done.0 ∙ is in absurd cc
   fault_of_printed rows (inr (inl failed)) is = inr failed.1
   fault_of_printed rows (inr (inr memory)) is = let clash : causes.Memory ≡ causes.Fault = sym memory ∙ is in absurd cc
 
-  complete_of_printed : (rows : AllRows) → IsPrinted given sink_faults old_out new_out ended rows → ¬ Rose → (ended.cause ≡ causes.Done) ⊎ (ended.cause ≡ causes.Memory)
+  complete_of_printed : (rows : AllRows) → IsPrinted sink_says before.out after.out after.ended rows → ¬ Rose → (after.ended.cause ≡ causes.Done) ⊎ (after.ended.cause ≡ causes.Memory)
   complete_of_printed rows (inl done) quiet = inl done.0
   complete_of_printed rows (inr (inl failed)) quiet = absurd (quiet (inr failed.1))
   complete_of_printed rows (inr (inr memory)) quiet = inr memory
 
-  pub dumps_opened : (rows : AllRows) → IsUnrun ended → IsPrinted given sink_faults old_out new_out ended rows
-      → ((files : Files) → seen journal files → Hold files rows) → ((j a : Files) → seen journal j → seen archive a → HoldWhole j a rows) → ((d : List Deed) → IsStart seen journal archive d → Stand rows d)
-      → BothSynced seen may_leave journal ended.journal archive ended.archive → NoMore (seen journal) (may_leave ended.journal) → NoMore (seen archive) (may_leave ended.archive) → LeavesOnly moment left_since journal ended.journal (may_leave journal) → LeavesOnly moment left_since archive ended.archive (may_leave archive)
-      → Dumps seen may_leave moment left_since disk_faults given sink_faults journal archive old_out new_out ended
+  pub dumps_opened : (rows : AllRows) → IsUnrun after.ended → IsPrinted sink_says before.out after.out after.ended rows
+      → ((files : Files) → disk_says.seen before.journal files → Hold files rows) → ((j a : Files) → disk_says.seen before.journal j → disk_says.seen before.archive a → HoldWhole j a rows) → ((d : List Deed) → IsStart disk_says before.journal before.archive d → Stand rows d)
+      → BothSynced disk_says before after → NoMore (disk_says.seen before.journal) (disk_says.may_leave after.ended.journal) → NoMore (disk_says.seen before.archive) (disk_says.may_leave after.ended.archive) → LeavesOnly disk_says before.journal after.ended.journal (disk_says.may_leave before.journal) → LeavesOnly disk_says before.archive after.ended.archive (disk_says.may_leave before.archive)
+      → Dumps disk_says sink_says before after
   dumps_opened rows unrun printed held whole stand synced journal_images archive_images any_moment archive_any_moment = record {
     ends = inr (record {
       unrun = unrun;

@@ -2,7 +2,7 @@
 use Rattle.std.proofs.Common.{◌≡◌, ◌≢◌, ◌⊎◌, ◌≤◌, ℕ, Bool, true, false, eqb, cond, List, [], ◌∷◌, length, map, Option, Some, None, refl, sym, subst, ◌∙◌, inl, inr, arith}
 use Rattle.std.proofs.lemmas.Bool.Decides.{Decides-eqb}
 use Rattle.outside_api.specs.Count.{HasRisen}
-use Rattle.outside_api.specs.Disk.{Files}
+use Rattle.outside_api.specs.Says.{DiskSays, SinkSays}
 use Rattle.archive_file.specs.Archive as archives
 use Rattle.depot_rows.specs.depot_model.Deeds.{Deed}
 use Rattle.depot_rows.specs.depot_model.Places.{Placed}
@@ -21,17 +21,17 @@ use Rattle.depot_rows.specs.table_changes.Changed.{AllRows, rows_of}
 use Rattle.depot_rows.specs.Standing.{Stand}
 use Rattle.wire_text.specs.declared.script.ScriptEnd.{ScriptEnd}
 use Rattle.wire_text.specs.declared.script.ScriptEnd.TheVariants.{Whole, Fault, ReadFault}
-use Rattle.p4_server.specs.declared.ended.Ended.{Ended}
 use Rattle.p4_server.specs.declared.ended.Cause.{Cause}
 use Rattle.p4_server.specs.declared.ended.Cause.TheVariants as causes
 use Rattle.p4_server.specs.Ends.{has_fault_place}
-use Rattle.p4_server.specs.Files.{IsStart, DiskRose, HasOpened}
+use Rattle.p4_server.specs.Files.{IsStart, DiskOrOutRose, DiskRose, HasOpened}
 use Rattle.p4_server.specs.Lines.{cause_line}
 use Rattle.p4_server.specs.Opening.{IsUnopened}
 use Rattle.p4_server.specs.Telling.{OutGot}
-use Rattle.p4_server.specs.Load.{AreKept, IsBegun, IsLoadRun, IsUnbegun, IsLoadTold, IsUnloaded, Loads, LoadsFiles, SomeRose, WereMade, WereThere, depot_after, end_cause, figures_in, load_cause, load_commands}
+use Rattle.p4_server.specs.Load.{AreKept, IsBegun, IsLoadRun, IsUnbegun, IsLoadTold, IsUnloaded, Loads, LoadsFiles, WereMade, WereThere, depot_after, end_cause, figures_in, load_cause, load_commands}
+use Rattle.p4_server.specs.Outside.{After, Before}
 use Rattle.p4_server.proofs.Openings.{fault_of_unopened, complete_of_unopened}
-use Rattle.p4_server.proofs.FaultPlaces.{caused_since, place_rose}
+use Rattle.p4_server.proofs.FaultPlaces.{caused_since, place_rose, rose_since}
 use Rattle.p4_server.proofs.Scheduled.{kept_at, kept_since}
 
 -- ---- what is told
@@ -114,17 +114,17 @@ whole_again bytes session ReadFault asked whole = absurd asked
 
 -- ---- the promise
 
-module _ {D S K : Type 0} (seen may_leave : D → Files → Type 0) (moment : D → ℕ) (left_since : D → ℕ → Files → Type 0) (disk_faults : D → ℕ) (given : K → Option (List ℕ)) (sink_faults : K → ℕ) (may_give : ℕ → Type 0) (journal archive : D) (old_out new_out : K) (seed count : ℕ) (ended : Ended D S K) where
+module _ {D S K : Type 0} (disk_says : DiskSays D) (sink_says : SinkSays K) (may_give : ℕ → Type 0) (before : Before D K) (after : After D S K) (seed count : ℕ) where
   abbrev pub Promised : Type 0
-  Promised = LoadsFiles seen may_leave moment left_since disk_faults given sink_faults may_give journal archive old_out new_out seed count ended
+  Promised = LoadsFiles disk_says sink_says may_give before after seed count
 
   abbrev Rose : Type 0
-  Rose = SomeRose seen may_leave moment left_since disk_faults given sink_faults may_give journal archive old_out new_out seed count ended
+  Rose = DiskOrOutRose disk_says sink_says before after
 
   abbrev pub Ran : Type 0
-  Ran = IsLoadRun seen may_leave moment left_since disk_faults given sink_faults may_give journal archive old_out new_out seed count ended
+  Ran = IsLoadRun disk_says sink_says may_give before after seed count
 
-  pub unopened_usage : IsUnopened seen may_leave moment left_since disk_faults given sink_faults journal archive old_out new_out ended → ended.cause ≢ causes.Usage
+  pub unopened_usage : IsUnopened disk_says sink_says before after → after.ended.cause ≢ causes.Usage
   unopened_usage unopened is = elim unopened.why [
     | inl unmade ↦ let clash : causes.Unmade ≡ causes.Usage = sym unmade.cause_is ∙ is in absurd cc
     | inr other ↦ elim other [
@@ -136,16 +136,16 @@ module _ {D S K : Type 0} (seen may_leave : D → Files → Type 0) (moment : D 
     ]
   ]
 
-  pub loads_unopened : IsUnopened seen may_leave moment left_since disk_faults given sink_faults journal archive old_out new_out ended → Promised
+  pub loads_unopened : IsUnopened disk_says sink_says before after → Promised
   loads_unopened unopened = record {
     ends = inl unopened;
     no_parties = (unopened.told.unrun.parties_are, unopened.told.unrun.sources_are);
     no_usage = unopened_usage unopened;
-    fault = λ is. inl (fault_of_unopened seen may_leave moment left_since disk_faults given sink_faults journal archive old_out new_out ended unopened.why is);
-    complete = λ d start few quiet. inr (complete_of_unopened seen may_leave moment left_since disk_faults given sink_faults journal archive old_out new_out ended unopened.why d start (λ rose. quiet (inl rose)));
+    fault = λ is. inl (fault_of_unopened disk_says sink_says before after unopened.why is);
+    complete = λ d start few quiet. inr (complete_of_unopened disk_says sink_says before after unopened.why d start (λ rose. quiet (inl rose)));
   }
 
-  pub loads_unloaded : IsUnloaded seen may_leave moment left_since disk_faults given sink_faults may_give journal archive old_out new_out seed count ended → Promised
+  pub loads_unloaded : IsUnloaded disk_says sink_says may_give before after seed count → Promised
   loads_unloaded unloaded = record {
     ends = inr (inl unloaded);
     no_parties = (unloaded.told.unrun.parties_are, unloaded.told.unrun.sources_are);
@@ -154,54 +154,54 @@ module _ {D S K : Type 0} (seen may_leave : D → Files → Type 0) (moment : D 
     complete = λ d start few quiet. inr unloaded.cause_is;
   }
 
-  rose : Ran → has_fault_place ended.order ≡ true → DiskRose disk_faults journal ended.journal archive ended.archive
-  rose run place = place_rose ended.order (disk_faults journal) (disk_faults ended.journal) (disk_faults archive) (disk_faults ended.archive) run.fault_places place
+  rose : Ran → has_fault_place after.ended.order ≡ true → DiskRose disk_says before after
+  rose run place = place_rose after.ended.order (disk_says.faults before.journal) (disk_says.faults after.ended.journal) (disk_says.faults before.archive) (disk_says.faults after.ended.archive) run.fault_places place
 
-  pub loads_run : Ran → (ended.parties ≡ []) × (ended.sources ≡ []) → Promised
+  pub loads_run : Ran → (after.ended.parties ≡ []) × (after.ended.sources ≡ []) → Promised
   loads_run run no_parties =
-      let each = eqb (length ended.order) (load_commands seed count) in
-      let fault = has_fault_place ended.order in
+      let each = eqb (length after.ended.order) (load_commands seed count) in
+      let fault = has_fault_place after.ended.order in
       record {
         ends = inr (inr run);
         no_parties = no_parties;
-        no_usage = not_usage (given old_out) (given new_out) (sink_faults old_out) (sink_faults new_out) _ ended.cause each fault run.end run.told;
-        fault = λ is. elim (blamed (given old_out) (given new_out) (sink_faults old_out) (sink_faults new_out) _ ended.cause each fault run.end (no_read_fault (script_of seed count) (load_session seed count) run.end run.read) run.told is) [
+        no_usage = not_usage (sink_says.given before.out) (sink_says.given after.out) (sink_says.faults before.out) (sink_says.faults after.out) _ after.ended.cause each fault run.end run.told;
+        fault = λ is. elim (blamed (sink_says.given before.out) (sink_says.given after.out) (sink_says.faults before.out) (sink_says.faults after.out) _ after.ended.cause each fault run.end (no_read_fault (script_of seed count) (load_session seed count) run.end run.read) run.told is) [
           | inl place ↦ inl (rose run place)
           | inr risen ↦ inr risen
         ];
-        complete = λ d start few quiet. completed (given old_out) (given new_out) (sink_faults old_out) (sink_faults new_out) _ ended.cause each fault run.end
+        complete = λ d start few quiet. completed (sink_says.given before.out) (sink_says.given after.out) (sink_says.faults before.out) (sink_says.faults after.out) _ after.ended.cause each fault run.end
             (whole_again (script_of seed count) (load_session seed count) run.end run.read (load_scripts_whole seed count few).0) run.told (λ place. quiet (inl (rose run place))) (λ risen. quiet (inr risen));
       }
 
   -- each command has its place
   pub each_placed : (end : ScriptEnd) (order : List Place) (are : LoadFigures → Type 0) → (length order ≡ load_commands seed count → map (λ (place : Place). place.number) order ≡ numbers_from 1 (load_commands seed count))
-      → IsLoadTold (given old_out) (given new_out) (sink_faults old_out) (sink_faults new_out) are ended.cause (load_cause (load_commands seed count) end order) → ended.cause ≢ causes.Memory
+      → IsLoadTold (sink_says.given before.out) (sink_says.given after.out) (sink_says.faults before.out) (sink_says.faults after.out) are after.ended.cause (load_cause (load_commands seed count) end order) → after.ended.cause ≢ causes.Memory
       → map (λ (place : Place). place.number) order ≡ numbers_from 1 (load_commands seed count)
   each_placed end order are each told other =
-      each ((Decides-eqb (length order) (load_commands seed count)).0 (all_placed (given old_out) (given new_out) (sink_faults old_out) (sink_faults new_out) are ended.cause (eqb (length order) (load_commands seed count)) (has_fault_place order) end told other))
+      each ((Decides-eqb (length order) (load_commands seed count)).0 (all_placed (sink_says.given before.out) (sink_says.given after.out) (sink_says.faults before.out) (sink_says.faults after.out) are after.ended.cause (eqb (length order) (load_commands seed count)) (has_fault_place order) end told other))
 
   abbrev Kept : D → List Deed → List Placed → Type 0
-  Kept opened d places = AreKept seen may_leave moment left_since disk_faults given sink_faults may_give journal archive old_out new_out seed count ended opened d places
+  Kept opened d places = AreKept disk_says sink_says may_give before after seed count opened d places
 
   -- what a depot that has run leaves, once it is closed
-  pub load_kept : (depot : SerialDepot D) (opened : D) → ended.journal ≡ disk_of depot.journal → ended.archive ≡ archives.disk_of depot.archive → (d : List Deed) (places : List Placed) → HasRun seen may_leave moment left_since depot (moment opened) d places → Kept opened d places
+  pub load_kept : (depot : SerialDepot D) (opened : D) → after.ended.journal ≡ disk_of depot.journal → after.ended.archive ≡ archives.disk_of depot.archive → (d : List Deed) (places : List Placed) → HasRun disk_says depot (disk_says.moment opened) d places → Kept opened d places
   load_kept depot opened is archive_is d places ran = record {
-    exit = λ j a j_left a_left. kept_at seen may_leave moment left_since depot (moment opened) d places ran j a (rw is at j_left) (rw archive_is at a_left);
-    any_moment = λ j a j_left a_left. kept_since seen may_leave moment left_since depot (moment opened) d places ran j a (rw is at j_left) (rw archive_is at a_left);
+    exit = λ j a j_left a_left. kept_at disk_says depot (disk_says.moment opened) d places ran j a (rw is at j_left) (rw archive_is at a_left);
+    any_moment = λ j a j_left a_left. kept_since disk_says depot (disk_says.moment opened) d places ran j a (rw is at j_left) (rw archive_is at a_left);
   }
 
   -- the script was run over the depot
   pub load_of : (depot : SerialDepot D) (opened : D) (opened_faults opened_contents : ℕ) (rows : AllRows) (order : List Place) (commands : ℕ) (end : ScriptEnd)
-      → ended.journal ≡ disk_of depot.journal → ended.archive ≡ archives.disk_of depot.archive → rows ≡ rows_of depot.tables → ended.order ≡ order → commands ≡ load_commands seed count
+      → after.ended.journal ≡ disk_of depot.journal → after.ended.archive ≡ archives.disk_of depot.archive → rows ≡ rows_of depot.tables → after.ended.order ≡ order → commands ≡ load_commands seed count
       → IsAskedBy (script_of seed count) (load_session seed count) end
-      → HasOpened seen may_leave moment left_since journal archive opened
-      → ((d : List Deed) → IsStart seen journal archive d → IsLoaded may_give (HasRun seen may_leave moment left_since depot (moment opened)) d (load_session seed count) order)
-      → disk_faults journal ≤ opened_faults → disk_faults archive ≤ opened_contents
-      → AreCaused opened_faults (disk_faults (disk_of depot.journal)) opened_contents (disk_faults (archives.disk_of depot.archive)) [] order
-      → IsLoadTold (given old_out) (given new_out) (sink_faults old_out) (sink_faults new_out) (λ figures. (d : List Deed) → Stand rows d → figures ≡ figures_in commands d) ended.cause (load_cause commands end order)
+      → HasOpened disk_says before.journal before.archive opened
+      → ((d : List Deed) → IsStart disk_says before.journal before.archive d → IsLoaded may_give (HasRun disk_says depot (disk_says.moment opened)) d (load_session seed count) order)
+      → disk_says.faults before.journal ≤ opened_faults → disk_says.faults before.archive ≤ opened_contents
+      → AreCaused opened_faults (disk_says.faults (disk_of depot.journal)) opened_contents (disk_says.faults (archives.disk_of depot.archive)) [] order
+      → IsLoadTold (sink_says.given before.out) (sink_says.given after.out) (sink_says.faults before.out) (sink_says.faults after.out) (λ figures. (d : List Deed) → Stand rows d → figures ≡ figures_in commands d) after.ended.cause (load_cause commands end order)
       → Ran
-  load_of depot opened opened_faults opened_contents rows order commands end journal_is archive_is rows_are order_is commands_are read opens loaded before contents_before counts told =
-      let Of : ℕ → Type 0 = λ n. IsLoadTold (given old_out) (given new_out) (sink_faults old_out) (sink_faults new_out) (λ figures. (d : List Deed) → Stand rows d → figures ≡ figures_in n d) ended.cause (load_cause n end order) in
+  load_of depot opened opened_faults opened_contents rows order commands end journal_is archive_is rows_are order_is commands_are read opens loaded no_fewer contents_no_fewer counts told =
+      let Of : ℕ → Type 0 = λ n. IsLoadTold (sink_says.given before.out) (sink_says.given after.out) (sink_says.faults before.out) (sink_says.faults after.out) (λ figures. (d : List Deed) → Stand rows d → figures ≡ figures_in n d) after.ended.cause (load_cause n end order) in
       let here : Of (load_commands seed count) = subst Of commands_are told in
       record {
         end = end;
@@ -217,28 +217,22 @@ module _ {D S K : Type 0} (seen may_leave : D → Files → Type 0) (moment : D 
                   (load_kept depot opened journal_is archive_is d (map (placed (load_session seed count ∷ [])) order) ran.ran);
             };
         fault_places = rw (journal_is, archive_is, order_is)
-            (caused_since (disk_faults journal) opened_faults (disk_faults (disk_of depot.journal)) (disk_faults archive) opened_contents (disk_faults (archives.disk_of depot.archive)) order before contents_before counts);
-        told = rw order_is (told_more (given old_out) (given new_out) (sink_faults old_out) (sink_faults new_out) _ _
-            (λ figures known. λ d start. known (depot_after seed count d order) (rw rows_are (loaded d start).ran.over.stand)) ended.cause (load_cause (load_commands seed count) end order) here);
+            (caused_since (disk_says.faults before.journal) opened_faults (disk_says.faults (disk_of depot.journal)) (disk_says.faults before.archive) opened_contents (disk_says.faults (archives.disk_of depot.archive)) order no_fewer contents_no_fewer counts);
+        told = rw order_is (told_more (sink_says.given before.out) (sink_says.given after.out) (sink_says.faults before.out) (sink_says.faults after.out) _ _
+            (λ figures known. λ d start. known (depot_after seed count d order) (rw rows_are (loaded d start).ran.over.stand)) after.ended.cause (load_cause (load_commands seed count) end order) here);
       }
 
--- a count that rose later has risen
-pub rose_before : {D : Type 0} (faults : D → ℕ) (journal made_journal now_journal archive made_archive now_archive : D) → faults journal ≤ faults made_journal → faults archive ≤ faults made_archive
-    → DiskRose faults made_journal now_journal made_archive now_archive → DiskRose faults journal now_journal archive now_archive
-rose_before faults journal made_journal now_journal archive made_archive now_archive le archive_le (inl risen) = inl (omega (arith, le, risen))
-rose_before faults journal made_journal now_journal archive made_archive now_archive le archive_le (inr risen) = inr (omega (arith, archive_le, risen))
-
-module _ {D S K : Type 0} (seen may_leave : D → Files → Type 0) (moment : D → ℕ) (left_since : D → ℕ → Files → Type 0) (disk_faults : D → ℕ) (given : K → Option (List ℕ)) (sink_faults : K → ℕ) (may_give : ℕ → Type 0) (journal archive : D) (old_out new_out : K) (seed count : ℕ) (ended : Ended D S K) where
+module _ {D S K : Type 0} (disk_says : DiskSays D) (sink_says : SinkSays K) (may_give : ℕ → Type 0) (before : Before D K) (after : After D S K) (seed count : ℕ) where
   abbrev Load : Type 0
-  Load = Loads seen may_leave moment left_since disk_faults given sink_faults may_give journal archive old_out new_out seed count ended
+  Load = Loads disk_says sink_says may_give before after seed count
 
   abbrev RoseSince : D → D → Type 0
-  RoseSince from from_archive = SomeRose seen may_leave moment left_since disk_faults given sink_faults may_give from from_archive old_out new_out seed count ended
+  RoseSince from from_archive = DiskOrOutRose disk_says sink_says (record { journal = from; archive = from_archive; out = before.out }) after
 
   -- files that a depot stands in are opened as they are
-  begun_there : (begun : IsBegun seen may_leave moment left_since disk_faults given sink_faults may_give journal archive old_out new_out seed count ended)
-      → WereThere seen may_leave moment left_since journal archive begun.made_journal begun.made_archive ⊎ WereMade seen may_leave moment left_since journal archive begun.made_journal begun.made_archive
-      → (d : List Deed) → IsStart seen journal archive d → IsStart seen begun.made_journal begun.made_archive d
+  begun_there : (begun : IsBegun disk_says sink_says may_give before after seed count)
+      → WereThere disk_says before.journal before.archive begun.made_journal begun.made_archive ⊎ WereMade disk_says before.journal before.archive begun.made_journal begun.made_archive
+      → (d : List Deed) → IsStart disk_says before.journal before.archive d → IsStart disk_says begun.made_journal begun.made_archive d
   begun_there begun (inl there) d start = record {
     journal_files = start.journal_files;
     archive_files = start.archive_files;
@@ -251,11 +245,11 @@ module _ {D S K : Type 0} (seen may_leave : D → Files → Type 0) (moment : D 
       let short = made.was_empty start.journal_files start.journal_reads in
       absurd (omega (arith, long, short))
 
-  since_begun : (begun : IsBegun seen may_leave moment left_since disk_faults given sink_faults may_give journal archive old_out new_out seed count ended) → RoseSince begun.made_journal begun.made_archive → RoseSince journal archive
-  since_begun begun (inl rose) = inl (rose_before disk_faults journal begun.made_journal ended.journal archive begun.made_archive ended.archive begun.counts.0 begun.counts.1 rose)
+  since_begun : (begun : IsBegun disk_says sink_says may_give before after seed count) → RoseSince begun.made_journal begun.made_archive → RoseSince before.journal before.archive
+  since_begun begun (inl rose) = inl (rose_since (disk_says.faults before.journal) (disk_says.faults begun.made_journal) (disk_says.faults after.ended.journal) (disk_says.faults before.archive) (disk_says.faults begun.made_archive) (disk_says.faults after.ended.archive) begun.counts.0 begun.counts.1 rose)
   since_begun begun (inr risen) = inr risen
 
-  pub loads_begun : IsBegun seen may_leave moment left_since disk_faults given sink_faults may_give journal archive old_out new_out seed count ended → Load
+  pub loads_begun : IsBegun disk_says sink_says may_give before after seed count → Load
   loads_begun begun = record {
     ends = inr begun;
     no_usage = begun.loads.no_usage;
@@ -263,7 +257,7 @@ module _ {D S K : Type 0} (seen may_leave : D → Files → Type 0) (moment : D 
     complete = λ d start few quiet. begun.loads.complete d (begun_there begun begun.files d start) few (λ rose. quiet (since_begun begun rose));
   }
 
-  pub loads_unbegun : IsUnbegun seen may_leave moment left_since disk_faults given sink_faults may_give journal archive old_out new_out seed count ended → Load
+  pub loads_unbegun : IsUnbegun disk_says sink_says may_give before after seed count → Load
   loads_unbegun unbegun = record {
     ends = inl unbegun;
     no_usage = λ is. let clash : causes.Fault ≡ causes.Usage = sym unbegun.cause_is ∙ is in absurd cc;

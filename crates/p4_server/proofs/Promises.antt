@@ -5,7 +5,7 @@ use Rattle.std.proofs.lemmas.List.{append-nil}
 use Rattle.std.proofs.lemmas.List.Folds.{Any-from_list_any, list_any_none}
 use Rattle.std.proofs.lemmas.Option.{slice_get_within, slice_get_read}
 use Rattle.outside_api.specs.Count.{HasRisen}
-use Rattle.outside_api.specs.Disk.{Files}
+use Rattle.outside_api.specs.Says.{SinkSays}
 use Rattle.outside_api.specs.Told.{extended}
 use Rattle.depot_rows.specs.depot_model.declared.order.Place.{Place}
 use Rattle.depot_rows.specs.depot_model.declared.request.Session.{Session}
@@ -25,6 +25,7 @@ use Rattle.p4_server.specs.Ends.{ends_cause, is_failed, is_faulty, party_end, ha
 use Rattle.p4_server.specs.Headline.{IsPartyEnd, Ordering}
 use Rattle.p4_server.specs.Lines.{run_lines, place_lines, end_lines, fault_line}
 use Rattle.p4_server.specs.Opening.{IsUnopened}
+use Rattle.p4_server.specs.Outside.{After, Before, Outside}
 use Rattle.p4_server.specs.Parties.{OnlyTheseCome}
 use Rattle.p4_server.specs.Runs.{IsShut, IsRun, IsWhole, RunsParties, SomeRose}
 use Rattle.p4_server.proofs.FaultPlaces.{place_rose}
@@ -48,13 +49,13 @@ got_fault before now order parties causes.Script got = more_lines before now (pl
 got_fault before now order parties causes.Fault got = got
 got_fault before now order parties causes.Memory got = more_lines before now (place_lines order ++ end_lines parties) got
 
-pub told_of : {D S K : Type 0} (given : K → Option (List ℕ)) (sink_faults : K → ℕ) (old_out new_out : K) (text : List ℕ) (cause : Cause) (lost : Bool) (ended : Ended D S K) → text ≡ run_lines ended.order ended.parties cause → cause ≡ ends_cause ended.order ended.parties lost
-    → ((ended.cause ≡ cause) × (given new_out ≡ extended (given old_out) text)) ⊎ ((ended.cause ≡ causes.Fault) × HasRisen (sink_faults old_out) (sink_faults new_out) × GotFront (given old_out) (given new_out) text)
-    → IsTold given sink_faults old_out new_out ended lost
-told_of given sink_faults old_out new_out text cause lost ended is leads (inl whole) =
-    record { is = inl (whole.0 ∙ leads, whole.1 ∙ ap (extended (given old_out)) (is ∙ ap (run_lines ended.order ended.parties) (sym whole.0))) }
-told_of given sink_faults old_out new_out text cause lost ended is leads (inr front) =
-    record { is = inr (front.0, front.1, got_fault (given old_out) (given new_out) ended.order ended.parties cause (rw is at front.2)) }
+pub told_of : {D S K : Type 0} (sink_says : SinkSays K) (old_out new_out : K) (text : List ℕ) (cause : Cause) (lost : Bool) (ended : Ended D S K) → text ≡ run_lines ended.order ended.parties cause → cause ≡ ends_cause ended.order ended.parties lost
+    → ((ended.cause ≡ cause) × (sink_says.given new_out ≡ extended (sink_says.given old_out) text)) ⊎ ((ended.cause ≡ causes.Fault) × HasRisen (sink_says.faults old_out) (sink_says.faults new_out) × GotFront (sink_says.given old_out) (sink_says.given new_out) text)
+    → IsTold sink_says old_out new_out ended lost
+told_of sink_says old_out new_out text cause lost ended is leads (inl whole) =
+    record { is = inl (whole.0 ∙ leads, whole.1 ∙ ap (extended (sink_says.given old_out)) (is ∙ ap (run_lines ended.order ended.parties) (sym whole.0))) }
+told_of sink_says old_out new_out text cause lost ended is leads (inr front) =
+    record { is = inr (front.0, front.1, got_fault (sink_says.given old_out) (sink_says.given new_out) ended.order ended.parties cause (rw is at front.2)) }
 
 -- ---- causes
 
@@ -92,30 +93,30 @@ not_true : (b : Bool) → ¬ (b ≡ true) → b ≡ false
 not_true true h = absurd (h refl)
 not_true false h = refl
 
-module _ {D S K H : Type 0} (seen may_leave : D → Files → Type 0) (moment : D → ℕ) (left_since : D → ℕ → Files → Type 0) (disk_faults : D → ℕ) (left : S → Option (List ℕ)) (source_faults : S → ℕ) (given : K → Option (List ℕ)) (sink_faults : K → ℕ) (may_give : ℕ → Type 0) (input output : H → List ℕ → Option (List ℕ)) (door_faults : H → ℕ) (old_doors new_doors : H) (journal archive : D) (old_out new_out : K) (IsOrdered : Ordering) (began : Past → Type 0) (names : List (List ℕ)) (ended : Ended D S K) where
+module _ {D S K H : Type 0} (outside : Outside D S K H) (old_doors new_doors : H) (before : Before D K) (after : After D S K) (IsOrdered : Ordering) (began : Past → Type 0) (names : List (List ℕ)) where
   abbrev pub Promised : Type 0
-  Promised = RunsParties seen may_leave moment left_since disk_faults left source_faults given sink_faults may_give input output door_faults old_doors new_doors journal archive old_out new_out IsOrdered began names ended
+  Promised = RunsParties outside old_doors new_doors before after IsOrdered began names
 
   abbrev pub Ran : Type 0
-  Ran = IsRun seen may_leave moment left_since disk_faults left source_faults given sink_faults may_give input output door_faults old_doors new_doors journal archive old_out new_out IsOrdered began names ended
+  Ran = IsRun outside old_doors new_doors before after IsOrdered began names
 
   abbrev Rose : Type 0
-  Rose = SomeRose seen may_leave moment left_since disk_faults left source_faults given sink_faults may_give input output door_faults old_doors new_doors journal archive old_out new_out IsOrdered began names ended
+  Rose = SomeRose outside old_doors new_doors before after IsOrdered began names
 
   abbrev pub Only : Type 0
-  Only = OnlyTheseCome (input old_doors) (output old_doors) (input new_doors) (output new_doors) names
+  Only = OnlyTheseCome (outside.doors.input old_doors) (outside.doors.output old_doors) (outside.doors.input new_doors) (outside.doors.output new_doors) names
 
-  disk_rose : Ran → has_fault_place ended.order ≡ true → Rose
-  disk_rose run e = inr (inr (inl (place_rose ended.order (disk_faults journal) (disk_faults ended.journal) (disk_faults archive) (disk_faults ended.archive) run.fault_places e)))
+  disk_rose : Ran → has_fault_place after.ended.order ≡ true → Rose
+  disk_rose run e = inr (inr (inl (place_rose after.ended.order (outside.disk.faults before.journal) (outside.disk.faults after.ended.journal) (outside.disk.faults before.archive) (outside.disk.faults after.ended.archive) run.fault_places e)))
 
   lost_rose : (run : Ran) → run.lost ≡ true → Rose
   lost_rose run e = inr (inr (inl (run.lost_rose e)))
 
-  sink_rose : (run : Ran) → ended.parties ≡ run.parties → (i : ℕ) (party : PartyEnd K) → slice_get run.parties i ≡ Some party → HasRisen 0 (sink_faults party.sink) → Rose
-  sink_rose run are i party at risen = inr (inr (inr (inr (rw are (any_of (λ (p : PartyEnd K). HasRisen 0 (sink_faults p.sink)) run.parties i party at risen)))))
+  sink_rose : (run : Ran) → after.ended.parties ≡ run.parties → (i : ℕ) (party : PartyEnd K) → slice_get run.parties i ≡ Some party → HasRisen 0 (outside.sink.faults party.sink) → Rose
+  sink_rose run are i party at risen = inr (inr (inr (inr (rw are (any_of (λ (p : PartyEnd K). HasRisen 0 (outside.sink.faults p.sink)) run.parties i party at risen)))))
 
-  source_rose : (run : Ran) → ended.sources ≡ run.sources → (i : ℕ) (source : S) → slice_get run.sources i ≡ Some source → HasRisen 0 (source_faults source) → Rose
-  source_rose run are i source at risen = inr (inr (inr (inl (rw are (any_of (λ (x : S). HasRisen 0 (source_faults x)) run.sources i source at risen)))))
+  source_rose : (run : Ran) → after.ended.sources ≡ run.sources → (i : ℕ) (source : S) → slice_get run.sources i ≡ Some source → HasRisen 0 (outside.source.faults source) → Rose
+  source_rose run are i source at risen = inr (inr (inr (inl (rw are (any_of (λ (x : S). HasRisen 0 (outside.source.faults x)) run.sources i source at risen)))))
 
   -- the party at a place, with its name and its source
   record IsOne (run : Ran) (i : ℕ) (party : PartyEnd K) : Type 0 where
@@ -123,7 +124,7 @@ module _ {D S K H : Type 0} (seen may_leave : D → Files → Type 0) (moment : 
     source : S
     name_at : slice_get names i ≡ Some name
     source_at : slice_get run.sources i ≡ Some source
-    end : IsPartyEnd left source_faults sink_faults (input old_doors name) (i + 1) source party
+    end : IsPartyEnd outside.source outside.sink (outside.doors.input old_doors name) (i + 1) source party
 
   one_at : (run : Ran) (i : ℕ) (party : PartyEnd K) → slice_get run.parties i ≡ Some party → IsOne run i party
   one_at run i party at =
@@ -132,27 +133,27 @@ module _ {D S K H : Type 0} (seen may_leave : D → Files → Type 0) (moment : 
       let source = there run.sources i (omega (arith, lt, run.ends.parties_count, run.ends.sources_count)) in
       record { name = name.0; source = source.0; name_at = name.1; source_at = source.1; end = run.ends.each i name.0 source.0 party name.1 source.1 at }
 
-  failed_rose : (run : Ran) → ended.parties ≡ run.parties → ended.sources ≡ run.sources → (i : ℕ) (party : PartyEnd K) → slice_get run.parties i ≡ Some party → is_failed party.end ≡ true → Rose
+  failed_rose : (run : Ran) → after.ended.parties ≡ run.parties → after.ended.sources ≡ run.sources → (i : ℕ) (party : PartyEnd K) → slice_get run.parties i ≡ Some party → is_failed party.end ≡ true → Rose
   failed_rose run are sources_are i party at failed =
       let one = one_at run i party at in
       let end = one.end in
-      let why = of_failed end.failed end.read.end (input old_doors one.name) (left one.source) 0 (source_faults one.source) end.read.session end.read.replica (ap is_failed (sym end.end) ∙ failed) end.read_is in
+      let why = of_failed end.failed end.read.end (outside.doors.input old_doors one.name) (outside.source.left one.source) 0 (outside.source.faults one.source) end.read.session end.read.replica (ap is_failed (sym end.end) ∙ failed) end.read_is in
       elim why [ inl sink ↦ sink_rose run are i party at (end.cause sink) | inr risen ↦ source_rose run sources_are i one.source one.source_at risen ]
 
-  any_failed_rose : (run : Ran) → ended.parties ≡ run.parties → ended.sources ≡ run.sources → has_failed_party run.parties ≡ true → Rose
+  any_failed_rose : (run : Ran) → after.ended.parties ≡ run.parties → after.ended.sources ≡ run.sources → has_failed_party run.parties ≡ true → Rose
   any_failed_rose run are sources_are e =
       let some = Any-from_list_any (λ (p : PartyEnd K). is_failed p.end) run.parties e in
       failed_rose run are sources_are some.0 some.1 (slice_get_read run.parties (length run.parties) some.0 some.1 refl some.2 (sym some.3)) some.4
 
   -- the cause to which the places and the parties lead
-  leads : (run : Ran) → ended.parties ≡ run.parties → ended.cause ≡ ends_cause ended.order ended.parties run.lost → ended.cause ≡ ends_cause ended.order run.parties run.lost
-  leads run are e = e ∙ ap (λ (ps : List (PartyEnd K)). ends_cause ended.order ps run.lost) are
+  leads : (run : Ran) → after.ended.parties ≡ run.parties → after.ended.cause ≡ ends_cause after.ended.order after.ended.parties run.lost → after.ended.cause ≡ ends_cause after.ended.order run.parties run.lost
+  leads run are e = e ∙ ap (λ (ps : List (PartyEnd K)). ends_cause after.ended.order ps run.lost) are
 
-  fault_of : Ran → ended.cause ≡ causes.Fault → Rose
+  fault_of : Ran → after.ended.cause ≡ causes.Fault → Rose
   fault_of run is = elim run.told [
     | inl told ↦ elim told.2.is [
       | inl whole ↦
-          let why = of_fault run.lost (has_fault_place ended.order) (has_failed_party run.parties) (has_faulty_party run.parties) (sym (leads run told.0 whole.0) ∙ is) in
+          let why = of_fault run.lost (has_fault_place after.ended.order) (has_failed_party run.parties) (has_faulty_party run.parties) (sym (leads run told.0 whole.0) ∙ is) in
           elim why [
             | inl lost ↦ lost_rose run lost
             | inr other ↦ elim other [ inl place ↦ disk_rose run place | inr failed ↦ any_failed_rose run told.0 told.1 failed ]
@@ -162,25 +163,25 @@ module _ {D S K H : Type 0} (seen may_leave : D → Files → Type 0) (moment : 
     | inr untold ↦ let clash : causes.Memory ≡ causes.Fault = sym untold.cause_is ∙ is in absurd cc
   ]
 
-  whole_party : (run : Ran) → ended.parties ≡ run.parties → ended.sources ≡ run.sources → All (λ name. IsWhole (input old_doors name)) names → ¬ Rose → (i : ℕ) (party : PartyEnd K) → slice_get run.parties i ≡ Some party
+  whole_party : (run : Ran) → after.ended.parties ≡ run.parties → after.ended.sources ≡ run.sources → All (λ name. IsWhole (outside.doors.input old_doors name)) names → ¬ Rose → (i : ℕ) (party : PartyEnd K) → slice_get run.parties i ≡ Some party
       → (is_failed party.end ≡ false) × (is_faulty party.end ≡ false)
   whole_party run are sources_are whole none i party at =
       let one = one_at run i party at in
       let end = one.end in
-      let is = of_whole end.failed end.read.end (input old_doors one.name) (left one.source) 0 (source_faults one.source) end.read.session end.read.replica end.read_is
-      (all_at (λ (name : List ℕ). IsWhole (input old_doors name)) names whole i one.name one.name_at) (λ failed. none (sink_rose run are i party at (end.cause failed))) (λ risen. none (source_rose run sources_are i one.source one.source_at risen)) in
+      let is = of_whole end.failed end.read.end (outside.doors.input old_doors one.name) (outside.source.left one.source) 0 (outside.source.faults one.source) end.read.session end.read.replica end.read_is
+      (all_at (λ (name : List ℕ). IsWhole (outside.doors.input old_doors name)) names whole i one.name one.name_at) (λ failed. none (sink_rose run are i party at (end.cause failed))) (λ risen. none (source_rose run sources_are i one.source one.source_at risen)) in
       (ap is_failed end.end ∙ is.0, ap is_faulty end.end ∙ is.1)
 
-  complete_of : Ran → All (λ name. IsWhole (input old_doors name)) names → ¬ Rose → (ended.cause ≡ causes.Done) ⊎ (ended.cause ≡ causes.Memory)
+  complete_of : Ran → All (λ name. IsWhole (outside.doors.input old_doors name)) names → ¬ Rose → (after.ended.cause ≡ causes.Done) ⊎ (after.ended.cause ≡ causes.Memory)
   complete_of run whole none = elim run.told [
     | inl told ↦ elim told.2.is [
       | inl all ↦
           let each = whole_party run told.0 told.1 whole none in
           let not_lost = not_true run.lost (λ lost. none (lost_rose run lost)) in
-          let no_place = not_true (has_fault_place ended.order) (λ place. none (disk_rose run place)) in
+          let no_place = not_true (has_fault_place after.ended.order) (λ place. none (disk_rose run place)) in
           let no_failed = list_any_none (λ (p : PartyEnd K). is_failed p.end) run.parties (all_of (λ (p : PartyEnd K). is_failed p.end ≡ false) run.parties (λ i party at. (each i party at).0)) in
           let no_faulty = list_any_none (λ (p : PartyEnd K). is_faulty p.end) run.parties (all_of (λ (p : PartyEnd K). is_faulty p.end ≡ false) run.parties (λ i party at. (each i party at).1)) in
-          inl (leads run told.0 all.0 ∙ all_done run.lost (has_fault_place ended.order) (has_failed_party run.parties) (has_faulty_party run.parties) not_lost no_place no_failed no_faulty)
+          inl (leads run told.0 all.0 ∙ all_done run.lost (has_fault_place after.ended.order) (has_failed_party run.parties) (has_faulty_party run.parties) not_lost no_place no_failed no_faulty)
       | inr front ↦ absurd (none (inr (inl front.1)))
     ]
     | inr untold ↦ inr untold.cause_is
@@ -195,15 +196,15 @@ module _ {D S K H : Type 0} (seen may_leave : D → Files → Type 0) (moment : 
   }
 
   abbrev pub Shut : Type 0
-  Shut = IsShut seen may_leave moment left_since disk_faults left source_faults given sink_faults may_give input output door_faults old_doors new_doors journal archive old_out new_out IsOrdered began names ended
+  Shut = IsShut outside old_doors new_doors before after IsOrdered began names
 
-  fault_of_shut : Shut → ended.cause ≡ causes.Fault → Rose
+  fault_of_shut : Shut → after.ended.cause ≡ causes.Fault → Rose
   fault_of_shut shut is = elim shut.why [
     | inl fault ↦ inl fault.1
     | inr memory ↦ let clash : causes.Memory ≡ causes.Fault = sym memory ∙ is in absurd cc
   ]
 
-  complete_of_shut : Shut → ¬ Rose → (ended.cause ≡ causes.Done) ⊎ (ended.cause ≡ causes.Memory)
+  complete_of_shut : Shut → ¬ Rose → (after.ended.cause ≡ causes.Done) ⊎ (after.ended.cause ≡ causes.Memory)
   complete_of_shut shut none = elim shut.why [ inl fault ↦ absurd (none (inl fault.1)) | inr memory ↦ inr memory ]
 
   pub parties_shut : Only → Shut → Promised
@@ -214,10 +215,10 @@ module _ {D S K H : Type 0} (seen may_leave : D → Files → Type 0) (moment : 
     complete = λ d start whole none. complete_of_shut shut none;
   }
 
-  pub parties_unopened : new_doors ≡ old_doors → IsUnopened seen may_leave moment left_since disk_faults given sink_faults journal archive old_out new_out ended → Promised
+  pub parties_unopened : new_doors ≡ old_doors → IsUnopened outside.disk outside.sink before after → Promised
   parties_unopened stay unopened = record {
     ends = inl (record { unopened = unopened; doors_stay = stay });
     doors = rw stay (record { inputs = λ other apart. refl; outputs = λ other apart. refl });
-    fault = λ is. inr (inr (inl (fault_of_unopened seen may_leave moment left_since disk_faults given sink_faults journal archive old_out new_out ended unopened.why is)));
-    complete = λ d start whole none. inr (complete_of_unopened seen may_leave moment left_since disk_faults given sink_faults journal archive old_out new_out ended unopened.why d start (λ rose. none (inr (inr (inl rose)))));
+    fault = λ is. inr (inr (inl (fault_of_unopened outside.disk outside.sink before after unopened.why is)));
+    complete = λ d start whole none. inr (complete_of_unopened outside.disk outside.sink before after unopened.why d start (λ rose. none (inr (inr (inl rose)))));
   }

@@ -3,7 +3,7 @@ use Rattle.std.proofs.Common.{◌≡◌, ℕ, ◌+◌, Bool, false, List, get_or
 use Rattle.std.specs.Prelude.{slice_get, option_map}
 use Rattle.std.proofs.lemmas.Option.{slice_get_within, slice_get-map}
 use Rattle.outside_api.specs.Count.{HasRisen}
-use Rattle.outside_api.specs.Disk.{Files}
+use Rattle.outside_api.specs.Says.{DiskSays, SourceSays, SinkSays}
 use Rattle.depot_rows.specs.depot_model.Deeds.{Deed}
 use Rattle.depot_rows.specs.depot_model.Order.{IsOrder}
 use Rattle.depot_rows.specs.depot_model.Places.{Placed}
@@ -25,15 +25,15 @@ use Rattle.p4_server.specs.Parties.{AreRead, HaveCome, IsPair, IsRead}
 use Rattle.p4_server.proofs.Ending.{ended_at, ended_length, run_is, runs_are}
 use Rattle.p4_server.proofs.Together.{at_once, there}
 
-module _ {S K : Type 0} (left : S → Option (List ℕ)) (source_faults : S → ℕ) (given : K → Option (List ℕ)) (sink_faults : K → ℕ) where
+module _ {S K : Type 0} (source_says : SourceSays S) (sink_says : SinkSays K) where
   -- the end of one party
   abbrev pub end_of : (i place : ℕ) → place ≡ i + 1 → (input output : Option (List ℕ)) (was source : S) (first sink : K) (session : Option Session) (replica : Option ReplicaScript) (run : SessionRun) (end : ScriptEnd)
-      → IsPair left source_faults given sink_faults input output was first → IsRead left source_faults was source session replica end → IsEnd sink_faults (total_of session replica) run first sink
-      → IsPartyEnd left source_faults sink_faults input (i + 1) source (ended_party place run end sink)
+      → IsPair source_says sink_says input output was first → IsRead source_says was source session replica end → IsEnd sink_says (total_of session replica) run first sink
+      → IsPartyEnd source_says sink_says input (i + 1) source (ended_party place run end sink)
   end_of i place is input output was source first sink session replica run end pair read ended =
-      let P : Option (List ℕ) → Type 0 = λ o. IsAsked o (left source) (source_faults was) (source_faults source) session replica end in
-      let Q : ℕ → Type 0 = λ n. IsAsked input (left source) n (source_faults source) session replica end in
-      let R : ℕ → Type 0 = λ n. HasRisen n (sink_faults sink) in
+      let P : Option (List ℕ) → Type 0 = λ o. IsAsked o (source_says.left source) (source_says.faults was) (source_says.faults source) session replica end in
+      let Q : ℕ → Type 0 = λ n. IsAsked input (source_says.left source) n (source_says.faults source) session replica end in
+      let R : ℕ → Type 0 = λ n. HasRisen n (sink_says.faults sink) in
       record {
         read = record { session = session; replica = replica; end = end };
         failed = run.failed;
@@ -47,7 +47,7 @@ module _ {S K : Type 0} (left : S → Option (List ℕ)) (source_faults : S → 
       }
 
   module _ (inputs outputs : List ℕ → Option (List ℕ)) (names : List (List ℕ)) (before sources : List S) (sessions : List (Option Session)) (replicas : List (Option ReplicaScript)) (ends : List ScriptEnd) (firsts sinks : List K) (runs : List SessionRun)
-      (come : HaveCome left source_faults given sink_faults inputs outputs names before firsts) (read : AreRead left source_faults before sources sessions replicas ends) (turns : TurnsEnd sink_faults sessions replicas runs firsts sinks) where
+      (come : HaveCome source_says sink_says inputs outputs names before firsts) (read : AreRead source_says before sources sessions replicas ends) (turns : TurnsEnd sink_says sessions replicas runs firsts sinks) where
     pub runs_count : length runs ≡ length sinks
     runs_count = omega (arith, turns.runs_count, turns.sinks_count, read.sessions_count, come.sources_count, come.sinks_count)
 
@@ -74,9 +74,9 @@ module _ {S K : Type 0} (left : S → Option (List ℕ)) (source_faults : S → 
       session_at : slice_get sessions i ≡ Some session
       replica_at : slice_get replicas i ≡ Some replica
       is : party ≡ ended_party place run end sink
-      pair : IsPair left source_faults given sink_faults (inputs name) (outputs name) was first
-      one : IsRead left source_faults was source session replica end
-      ended : IsEnd sink_faults (total_of session replica) run first sink
+      pair : IsPair source_says sink_says (inputs name) (outputs name) was first
+      one : IsRead source_says was source session replica end
+      ended : IsEnd sink_says (total_of session replica) run first sink
 
     found : (i : ℕ) (name : List ℕ) (source : S) (party : PartyEnd K) → slice_get names i ≡ Some name → slice_get sources i ≡ Some source → slice_get (ended_parties 1 runs ends sinks) i ≡ Some party → IsFound i name source party
     found i name source party name_at source_at party_at =
@@ -107,7 +107,7 @@ module _ {S K : Type 0} (left : S → Option (List ℕ)) (source_faults : S → 
           ended = turns.each i session.0 replica.0 e.run first.0 e.sink session.1 replica.1 e.run_at first.1 e.sink_at;
         }
 
-    pub ends_of : AreEnds left source_faults sink_faults inputs names (ended_parties 1 runs ends sinks) sources
+    pub ends_of : AreEnds source_says sink_says inputs names (ended_parties 1 runs ends sinks) sources
     ends_of = record {
       parties_count = ended_length 1 runs ends sinks runs_count ends_count ∙ sinks_count;
       sources_count = read.sources_count ∙ come.sources_count;
@@ -116,23 +116,23 @@ module _ {S K : Type 0} (left : S → Option (List ℕ)) (source_faults : S → 
           rw f.is (end_of i f.place f.place_is (inputs name) (outputs name) f.was source f.first f.sink f.session f.replica f.run f.end f.pair f.one f.ended);
     }
 
-    module _ {D : Type 0} (seen may_leave : D → Files → Type 0) (moment : D → ℕ) (left_since : D → ℕ → Files → Type 0) (may_give : ℕ → Type 0) (since : ℕ) (start : List Deed) (order : List Place) (lost : Bool)
-        (served : AreServed may_give sessions replicas start runs (map given firsts) (map given sinks) order)
-        (copies : AreReplicasServed seen may_leave moment left_since may_give sessions replicas since start order runs lost (map given firsts) (map given sinks)) where
+    module _ {D : Type 0} (disk_says : DiskSays D) (may_give : ℕ → Type 0) (since : ℕ) (start : List Deed) (order : List Place) (lost : Bool)
+        (served : AreServed may_give sessions replicas start runs (map sink_says.given firsts) (map sink_says.given sinks) order)
+        (copies : AreReplicasServed disk_says may_give sessions replicas since start order runs lost (map sink_says.given firsts) (map sink_says.given sinks)) where
       abbrev Replies : Bool → ℕ → Option ReplicaScript → ℕ → Bool → Option (List ℕ) → Option (List ℕ) → Type 0
-      Replies flag number replica commands failed was now = AreReplies seen may_leave moment left_since left source_faults given sink_faults may_give since start sessions order flag number replica commands failed was now
+      Replies flag number replica commands failed was now = AreReplies disk_says source_says sink_says may_give since start sessions order flag number replica commands failed was now
 
       abbrev Party : Bool → Option (List ℕ) → Option (List ℕ) → ℕ → Option Session → Option ReplicaScript → S → PartyEnd K → Type 0
-      Party flag input output number session replica source party = IsPartyOf seen may_leave moment left_since left source_faults given sink_faults may_give since start sessions order flag input output number session replica source party
+      Party flag input output number session replica source party = IsPartyOf disk_says source_says sink_says may_give since start sessions order flag input output number session replica source party
 
-      given_at : (ks : List K) (i : ℕ) (k : K) → slice_get ks i ≡ Some k → slice_get (map given ks) i ≡ Some (given k)
-      given_at ks i k at = slice_get-map given ks i ∙ ap (option_map given) at
+      given_at : (ks : List K) (i : ℕ) (k : K) → slice_get ks i ≡ Some k → slice_get (map sink_says.given ks) i ≡ Some (sink_says.given k)
+      given_at ks i k at = slice_get-map sink_says.given ks i ∙ ap (option_map sink_says.given) at
 
       replies_at : (i : ℕ) (replica : Option ReplicaScript) (run : SessionRun) (first sink : K) → slice_get replicas i ≡ Some replica → slice_get runs i ≡ Some run → slice_get firsts i ≡ Some first → slice_get sinks i ≡ Some sink
-          → Replies (get_or copies.flags i false) (i + 1) replica run.commands run.failed (given first) (given sink)
-      replies_at i None run first sink replica_at run_at first_at sink_at = served.each i run (given first) (given sink) replica_at run_at (given_at firsts i first first_at) (given_at sinks i sink sink_at)
+          → Replies (get_or copies.flags i false) (i + 1) replica run.commands run.failed (sink_says.given first) (sink_says.given sink)
+      replies_at i None run first sink replica_at run_at first_at sink_at = served.each i run (sink_says.given first) (sink_says.given sink) replica_at run_at (given_at firsts i first first_at) (given_at sinks i sink sink_at)
       replies_at i (Some script) run first sink replica_at run_at first_at sink_at =
-          record { output = copies.each i script run (given first) (given sink) replica_at run_at (given_at firsts i first first_at) (given_at sinks i sink sink_at) }
+          record { output = copies.each i script run (sink_says.given first) (sink_says.given sink) replica_at run_at (given_at firsts i first first_at) (given_at sinks i sink sink_at) }
 
       party_of : (i : ℕ) (name : List ℕ) (session : Option Session) (replica : Option ReplicaScript) (source : S) (party : PartyEnd K) → slice_get names i ≡ Some name → slice_get sessions i ≡ Some session → slice_get replicas i ≡ Some replica
           → slice_get sources i ≡ Some source → slice_get (ended_parties 1 runs ends sinks) i ≡ Some party → Party (get_or copies.flags i false) (inputs name) (outputs name) (i + 1) session replica source party
@@ -141,7 +141,7 @@ module _ {S K : Type 0} (left : S → Option (List ℕ)) (source_faults : S → 
           let flag = get_or copies.flags i false in
           let same : session ≡ f.session = at_once sessions i f.session session f.session_at session_at in
           let same_replica : replica ≡ f.replica = at_once replicas i f.replica replica f.replica_at replica_at in
-          let P : Option (List ℕ) → Type 0 = λ o. Replies flag (i + 1) f.replica f.run.commands f.run.failed o (given f.sink) in
+          let P : Option (List ℕ) → Type 0 = λ o. Replies flag (i + 1) f.replica f.run.commands f.run.failed o (sink_says.given f.sink) in
           let own : Party flag (inputs name) (outputs name) (i + 1) f.session f.replica source (ended_party f.place f.run f.end f.sink) = record {
             ends = end_of i f.place f.place_is (inputs name) (outputs name) f.was source f.first f.sink f.session f.replica f.run f.end f.pair f.one f.ended;
             session_is = refl;
@@ -153,22 +153,22 @@ module _ {S K : Type 0} (left : S → Option (List ℕ)) (source_faults : S → 
           let with_party : PartyEnd K → Type 0 = λ p. Party flag (inputs name) (outputs name) (i + 1) session replica source p in
           subst with_party (sym f.is) (subst with_replica (sym same_replica) (subst with_session (sym same) own))
 
-      module _ (began : Past → Type 0) (copies_told : (past : Past) → began past → AreReplicasTold past start sessions replicas may_give order runs (map given firsts) (map given sinks)) where
+      module _ (began : Past → Type 0) (copies_told : (past : Past) → began past → AreReplicasTold past start sessions replicas may_give order runs (map sink_says.given firsts) (map sink_says.given sinks)) where
         told_at : (past : Past) → began past
-            → AreRepliesTold seen may_leave moment left_since left source_faults given sink_faults may_give since start past outputs names sessions replicas order (ended_parties 1 runs ends sinks)
+            → AreRepliesTold disk_says source_says sink_says may_give since start past outputs names sessions replicas order (ended_parties 1 runs ends sinks)
         told_at past b i name script party name_at script_at party_at =
             let lt = slice_get_within names i name name_at in
             let source = there sources i (omega (arith, lt, read.sources_count, come.sources_count)) in
             let f = found i name source.0 party name_at source.1 party_at in
             let its_run : run_of party ≡ f.run = ap (λ (p : PartyEnd K). run_of p) f.is ∙ run_is f.place f.run f.end f.sink in
-            let sink_is : given party.sink ≡ given f.sink = ap (λ (p : PartyEnd K). given p.sink) f.is in
+            let sink_is : sink_says.given party.sink ≡ sink_says.given f.sink = ap (λ (p : PartyEnd K). sink_says.given p.sink) f.is in
             let T : SessionRun → Option (List ℕ) → Option (List ℕ) → Type 0 = λ r was now. IsToldOutput (IsNth past start (map (placed sessions) order)) may_give (i + 1) script r.commands r.failed was now in
-            let own : T f.run (given f.first) (given f.sink) = copies_told past b i script f.run (given f.first) (given f.sink) script_at f.run_at (given_at firsts i f.first f.first_at) (given_at sinks i f.sink f.sink_at) in
-            subst (λ (r : SessionRun). T r (outputs name) (given party.sink)) (sym its_run)
-            (subst (λ (o : Option (List ℕ)). T f.run (outputs name) o) (sym sink_is) (subst (λ (o : Option (List ℕ)). T f.run o (given f.sink)) f.pair.gives own))
+            let own : T f.run (sink_says.given f.first) (sink_says.given f.sink) = copies_told past b i script f.run (sink_says.given f.first) (sink_says.given f.sink) script_at f.run_at (given_at firsts i f.first f.first_at) (given_at sinks i f.sink f.sink_at) in
+            subst (λ (r : SessionRun). T r (outputs name) (sink_says.given party.sink)) (sym its_run)
+            (subst (λ (o : Option (List ℕ)). T f.run (outputs name) o) (sym sink_is) (subst (λ (o : Option (List ℕ)). T f.run o (sink_says.given f.sink)) f.pair.gives own))
 
         pub run_from : (has_run : List Deed → List Placed → Type 0) (IsOrdered : Ordering) → has_run start (map (placed sessions) order) → IsOrdered sessions replicas start order runs
-            → IsRunFrom seen may_leave moment left_since left source_faults given sink_faults may_give since start has_run IsOrdered began inputs outputs names order lost (ended_parties 1 runs ends sinks) sources
+            → IsRunFrom disk_says source_says sink_says may_give since start has_run IsOrdered began inputs outputs names order lost (ended_parties 1 runs ends sinks) sources
         run_from has_run IsOrdered ran ordered =
             let P : List SessionRun → Type 0 = λ rs. IsOrder may_give (session_counts replicas rs) order in
             let Q : List SessionRun → Type 0 = λ rs. IsOrdered sessions replicas start order rs in
@@ -191,10 +191,10 @@ module _ {S K : Type 0} (left : S → Option (List ℕ)) (source_faults : S → 
             }
 
 -- where a run began is said by less
-module _ {D S K : Type 0} (seen may_leave : D → Files → Type 0) (moment : D → ℕ) (left_since : D → ℕ → Files → Type 0) (left : S → Option (List ℕ)) (source_faults : S → ℕ) (given : K → Option (List ℕ)) (sink_faults : K → ℕ) (may_give : ℕ → Type 0) (since : ℕ) (start : List Deed) where
+module _ {D S K : Type 0} (disk_says : DiskSays D) (source_says : SourceSays S) (sink_says : SinkSays K) (may_give : ℕ → Type 0) (since : ℕ) (start : List Deed) where
   pub began_from : (has_run : List Deed → List Placed → Type 0) (IsOrdered : Ordering) (began other : Past → Type 0) (inputs outputs : List ℕ → Option (List ℕ)) (names : List (List ℕ)) (order : List Place) (lost : Bool) (parties : List (PartyEnd K)) (sources : List S)
       → ((past : Past) → other past → began past)
-      → IsRunFrom seen may_leave moment left_since left source_faults given sink_faults may_give since start has_run IsOrdered began inputs outputs names order lost parties sources
-      → IsRunFrom seen may_leave moment left_since left source_faults given sink_faults may_give since start has_run IsOrdered other inputs outputs names order lost parties sources
+      → IsRunFrom disk_says source_says sink_says may_give since start has_run IsOrdered began inputs outputs names order lost parties sources
+      → IsRunFrom disk_says source_says sink_says may_give since start has_run IsOrdered other inputs outputs names order lost parties sources
   began_from has_run IsOrdered began other inputs outputs names order lost parties sources leads r =
       record { headline = r.headline; ran = r.ran; ordered = r.ordered; told = λ past b. r.told past (leads past b) }

@@ -2,6 +2,7 @@
 use Rattle.std.proofs.Common.{◌≡◌, ℕ, ◌+◌, List, [], ◌∷◌, ◌++◌, Option, Some, refl, sym, ap, ◌∙◌, inl, inr, arith}
 use Rattle.std.proofs.lemmas.List.{length_push}
 use Rattle.std.proofs.lemmas.Option.{slice_get_within}
+use Rattle.outside_api.specs.Says.{SourceSays}
 use Rattle.depot_rows.specs.depot_model.declared.request.Session.{Session}
 use Rattle.party_threads.specs.run_parties.Served.{AreApart}
 use Rattle.session_loop.specs.declared.reading.ReplicaScript.{ReplicaScript}
@@ -9,13 +10,13 @@ use Rattle.wire_text.specs.declared.script.ScriptEnd.{ScriptEnd}
 use Rattle.p4_server.specs.Parties.{AreRead, IsRead}
 use Rattle.p4_server.proofs.Together.{at_pushed, pushed_before, pushed_last, there}
 
-module _ {S : Type 0} (left : S → Option (List ℕ)) (faults : S → ℕ) where
-  pub read_none : AreRead left faults [] [] [] [] []
+module _ {S : Type 0} (source_says : SourceSays S) where
+  pub read_none : AreRead source_says [] [] [] [] []
   read_none = record { sources_count = refl; sessions_count = refl; replicas_count = refl; ends_count = refl; each = λ i was is session replica end a b c d e. absurd cc }
 
   pub read_more : (before now : List S) (sessions : List (Option Session)) (replicas : List (Option ReplicaScript)) (ends : List ScriptEnd) (was is : S) (session : Option Session) (replica : Option ReplicaScript) (end : ScriptEnd)
-      → AreRead left faults before now sessions replicas ends → IsRead left faults was is session replica end
-      → AreRead left faults (before ++ was ∷ []) (now ++ is ∷ []) (sessions ++ session ∷ []) (replicas ++ replica ∷ []) (ends ++ end ∷ [])
+      → AreRead source_says before now sessions replicas ends → IsRead source_says was is session replica end
+      → AreRead source_says (before ++ was ∷ []) (now ++ is ∷ []) (sessions ++ session ∷ []) (replicas ++ replica ∷ []) (ends ++ end ∷ [])
   read_more before now sessions replicas ends was is session replica end so_far read =
       let longer = length_push before was in
       record {
@@ -39,7 +40,7 @@ module _ {S : Type 0} (left : S → Option (List ℕ)) (faults : S → ℕ) wher
       }
 
   -- none of them is both a session's and a replica's
-  pub are_apart : (before now : List S) (sessions : List (Option Session)) (replicas : List (Option ReplicaScript)) (ends : List ScriptEnd) → AreRead left faults before now sessions replicas ends → AreApart sessions replicas
+  pub are_apart : (before now : List S) (sessions : List (Option Session)) (replicas : List (Option ReplicaScript)) (ends : List ScriptEnd) → AreRead source_says before now sessions replicas ends → AreApart sessions replicas
   are_apart before now sessions replicas ends read i script at =
       let lt = slice_get_within replicas i (Some script) at in
       let was = there before i (omega (arith, lt, read.replicas_count)) in

@@ -1,9 +1,10 @@
 -- Files that stand as they were written are opened as a depot that replicas follow.
-use Rattle.std.proofs.Common.{◌≡◌, ◌⊎◌, ◌≤◌, ◌<◌, ◌+◌, ℕ, List, [], length, take, map, inl, inr, refl, sym, ap, subst, ◌∙◌, arith}
+use Rattle.std.proofs.Common.{◌≡◌, ◌⊎◌, ◌<◌, ◌+◌, ℕ, List, [], length, take, inl, inr, refl, sym, ap, subst, ◌∙◌, arith}
 use Rattle.std.proofs.Math.Nat.{eq-or-lt_of_le}
 use Rattle.std.proofs.Math.Seq.{take-length}
 use Rattle.std.proofs.lemmas.List.{length-map}
 use Rattle.outside_api.specs.Disk.{Files}
+use Rattle.outside_api.specs.Says.{DiskSays}
 use Rattle.archive_file.specs.Archive as archives
 use Rattle.depot_rows.specs.db_records.declared.change.Change.{Change}
 use Rattle.depot_rows.specs.db_records.declared.table.TableId.TheVariants.{Rev}
@@ -15,7 +16,7 @@ use Rattle.recovery.specs.Holding.{Hold, group_texts, joined, spots_end}
 use Rattle.recovery.specs.Opening.{HasSynced, IsOpen}
 use Rattle.recovery.specs.declared.open.Opened.{Opened}
 use Rattle.party_threads.specs.replica_turns.Master.{HasNth, IsMaster, IsNth, Past, all_changes, first_of}
-use Rattle.party_threads.specs.serial_depot.Holding.{HasItsContents, KeepContents}
+use Rattle.party_threads.specs.serial_depot.Holding.{KeepContents}
 use Rattle.party_threads.specs.serial_depot.Running.{HasRun}
 use Rattle.party_threads.specs.serial_depot.declared.depot.SerialDepot.{SerialDepot}
 use Rattle.depot_rows.specs.table_changes.Changed.{AllRows, changed_by, no_rows, rows_of}
@@ -24,12 +25,12 @@ use Rattle.p4_server.specs.Written.{AreWritten}
 use Rattle.p4_server.proofs.Openings.{read_at_start}
 use Rattle.p4_server.proofs.Scheduled.{depot_of}
 
-module _ {D : Type 0} (seen may_leave : D → Files → Type 0) (moment : D → ℕ) (left_since : D → ℕ → Files → Type 0) (journal archive : D) (opened : Opened D) (was : Committed) (is : IsOpen may_leave was opened)
-    (synced : HasSynced seen may_leave journal (disk_of opened.journal)) (archive_synced : HasSynced seen may_leave archive (archives.disk_of opened.archive))
-    (reads : (disk : D) (files : Files) → seen disk files → may_leave disk files) (held : (j : Files) → seen journal j → Hold j (rows_of opened.tables)) (d : List Deed) (start : IsStart seen journal archive d)
-    (h : HasRun seen may_leave moment left_since (depot_of seen may_leave moment left_since opened) (moment (disk_of opened.journal)) d []) (past : Past) (w : AreWritten seen journal archive past) where
+module _ {D : Type 0} (disk_says : DiskSays D) (journal archive : D) (opened : Opened D) (was : Committed) (is : IsOpen disk_says was opened)
+    (synced : HasSynced disk_says journal (disk_of opened.journal)) (archive_synced : HasSynced disk_says archive (archives.disk_of opened.archive))
+    (reads : (disk : D) (files : Files) → disk_says.seen disk files → disk_says.may_leave disk files) (held : (j : Files) → disk_says.seen journal j → Hold j (rows_of opened.tables)) (d : List Deed) (start : IsStart disk_says journal archive d)
+    (h : HasRun disk_says (depot_of disk_says opened) (disk_says.moment (disk_of opened.journal)) d []) (past : Past) (w : AreWritten disk_says journal archive past) where
   abbrev depot : SerialDepot D
-  depot = depot_of seen may_leave moment left_since opened
+  depot = depot_of disk_says opened
 
   committed : HasCommitted was start.journal_files
   committed = is.stands.holds start.journal_files (reads (disk_of opened.journal) start.journal_files (synced.same.kept start.journal_files start.journal_reads))
@@ -37,7 +38,7 @@ module _ {D : Type 0} (seen may_leave : D → Files → Type 0) (moment : D → 
   rows_are : rows_of opened.tables ≡ changed_by no_rows (joined (all_changes w.all))
   rows_are = w.rows start.journal_files (rows_of opened.tables) start.journal_reads (held start.journal_files start.journal_reads)
 
-  nth : (n : ℕ) → (n ≡ length (all_changes w.all)) ⊎ (n < length (all_changes w.all)) → HasNth may_leave depot.archive (IsNth past d [] n) w.all n
+  nth : (n : ℕ) → (n ≡ length (all_changes w.all)) ⊎ (n < length (all_changes w.all)) → HasNth disk_says depot.archive (IsNth past d [] n) w.all n
   nth n (inl last) =
       let whole : take n (all_changes w.all) ≡ all_changes w.all = ap (λ (k : ℕ). take k (all_changes w.all)) last ∙ take-length (all_changes w.all) in
       let same : first_of n w.all ≡ rows_of opened.tables = ap (λ (l : List (List Change)). changed_by no_rows (joined l)) whole ∙ sym rows_are in
@@ -46,7 +47,7 @@ module _ {D : Type 0} (seen may_leave : D → Files → Type 0) (moment : D → 
         depot = d;
         is = inr (0, count, (refl, refl));
         stand = subst (λ (r : AllRows). Stand r d) (sym same) h.over.stand;
-        kept = subst (λ (r : AllRows). KeepContents (may_leave (archives.disk_of opened.archive)) (archives.used_of opened.archive) r d) (sym same) h.over.kept;
+        kept = subst (λ (r : AllRows). KeepContents (disk_says.may_leave (archives.disk_of opened.archive)) (archives.used_of opened.archive) r d) (sym same) h.over.kept;
       }
   nth n (inr less) =
       let low : n < past.count = (let all = w.count in omega (arith, less, all)) in
@@ -61,11 +62,11 @@ module _ {D : Type 0} (seen may_leave : D → Files → Type 0) (moment : D → 
         kept = record {
           ends = omega (arith, within, ends, used);
           deletes = then.deletes;
-          contents = λ image left. then.contents image (read_at_start seen may_leave archive (archives.disk_of opened.archive) archive_synced image left);
+          contents = λ image left. then.contents image (read_at_start disk_says archive (archives.disk_of opened.archive) archive_synced image left);
         };
       }
 
-  pub written_master : IsMaster seen may_leave past d [] depot w.all
+  pub written_master : IsMaster disk_says past d [] depot w.all
   written_master =
       let newest = w.newest start.journal_files was start.journal_reads committed in
       let generation = is.stands.generation in
@@ -79,7 +80,7 @@ module _ {D : Type 0} (seen may_leave : D → Files → Type 0) (moment : D → 
           keeps = record {
             tells = (start.journal_files, synced.same.kept start.journal_files start.journal_reads);
             count = omega (arith, generation, same, closed);
-            each = λ image left. w.closed image (read_at_start seen may_leave journal (disk_of opened.journal) synced image left);
+            each = λ image left. w.closed image (read_at_start disk_says journal (disk_of opened.journal) synced image left);
           };
           are = newest.1;
           are_groups = w.groups;

@@ -1,7 +1,7 @@
 -- The headline: one order of the commands of all parties explains every party's output.
 use Rattle.std.specs.Prelude.{◌≡◌, ◌≤◌, ℕ, ◌+◌, Bool, true, false, List, length, map, get_or, slice_get, Option, Some, None, IfSome}
 use Rattle.outside_api.specs.Count.{HasRisen}
-use Rattle.outside_api.specs.Disk.{Files}
+use Rattle.outside_api.specs.Says.{DiskSays, SourceSays, SinkSays}
 use Rattle.depot_rows.specs.depot_model.Deeds.{Deed}
 use Rattle.depot_rows.specs.depot_model.Places.{Placed}
 use Rattle.depot_runs.specs.Run.{placed}
@@ -31,29 +31,29 @@ IsApart session replica = IfSome replica (λ script. session ≡ None)
 
 -- The end of one party, by its number from 1, whatever the depot at the start. A session or a replica was read of its source; it was answered its
 -- first `commands` commands, all of them unless its sink failed.
-pub record IsPartyEnd {S K : Type 0} (left : S → Option (List ℕ)) (source_faults : S → ℕ) (sink_faults : K → ℕ) (input : Option (List ℕ)) (number : ℕ) (source : S) (party : PartyEnd K) : Type 0 where
+pub record IsPartyEnd {S K : Type 0} (source_says : SourceSays S) (sink_says : SinkSays K) (input : Option (List ℕ)) (number : ℕ) (source : S) (party : PartyEnd K) : Type 0 where
   pub read : ReadSession
   pub failed : Bool
-  pub read_is : IsReadSession input (left source) 0 (source_faults source) read
+  pub read_is : IsReadSession input (source_says.left source) 0 (source_says.faults source) read
   pub number_is : party.party ≡ number
   pub apart : IsApart read.session read.replica
   pub end : party.end ≡ party_end failed read.end
   pub within : party.commands ≤ total_of read.session read.replica
   pub all : failed ≡ false → party.commands ≡ total_of read.session read.replica
-  pub cause : failed ≡ true → HasRisen 0 (sink_faults party.sink)
+  pub cause : failed ≡ true → HasRisen 0 (sink_says.faults party.sink)
 
 -- Each name has its party and its source, and each party ends as that of its name does.
-pub record AreEnds {S K : Type 0} (left : S → Option (List ℕ)) (source_faults : S → ℕ) (sink_faults : K → ℕ) (inputs : List ℕ → Option (List ℕ)) (names : List (List ℕ)) (parties : List (PartyEnd K)) (sources : List S) : Type 0 where
+pub record AreEnds {S K : Type 0} (source_says : SourceSays S) (sink_says : SinkSays K) (inputs : List ℕ → Option (List ℕ)) (names : List (List ℕ)) (parties : List (PartyEnd K)) (sources : List S) : Type 0 where
   pub parties_count : length parties ≡ length names
   pub sources_count : length sources ≡ length names
   pub each : (i : ℕ) (name : List ℕ) (source : S) (party : PartyEnd K) → slice_get names i ≡ Some name → slice_get sources i ≡ Some source → slice_get parties i ≡ Some party
-      → IsPartyEnd left source_faults sink_faults (inputs name) (i + 1) source party
+      → IsPartyEnd source_says sink_says (inputs name) (i + 1) source party
 
-module _ {D S K : Type 0} (seen may_leave : D → Files → Type 0) (moment : D → ℕ) (left_since : D → ℕ → Files → Type 0) (left : S → Option (List ℕ)) (source_faults : S → ℕ) (given : K → Option (List ℕ)) (sink_faults : K → ℕ) (may_give : ℕ → Type 0) (since : ℕ) (start : List Deed) where
+module _ {D S K : Type 0} (disk_says : DiskSays D) (source_says : SourceSays S) (sink_says : SinkSays K) (may_give : ℕ → Type 0) (since : ℕ) (start : List Deed) where
   -- What the sink of a replica got: the replies to its first commands, in order, where each `pull` took what the journal answered of a depot in files that had
   -- run a beginning of the order, and each other reply is that of the rows which it had then. Whether a reply says that a disk failed is told.
   pub record IsReplicaPart (sessions : List (Option Session)) (order : List Place) (lost : Bool) (number : ℕ) (script : ReplicaScript) (commands : ℕ) (failed : Bool) (before now : Option (List ℕ)) : Type 0 where
-    pub output : IsReplicaOutput (HasBeenAt seen may_leave moment left_since sessions since start order) seen may_leave may_give number script commands failed lost before now
+    pub output : IsReplicaOutput (HasBeenAt disk_says sessions since start order) disk_says may_give number script commands failed lost before now
 
   -- What a party's sink got. A session's has what one thread answers to its commands, in order, when it takes the commands of all sessions in the order, from
   -- the depot `start` on. So has that of a script without a head, which has no commands.
@@ -63,10 +63,10 @@ module _ {D S K : Type 0} (seen may_leave : D → Files → Type 0) (moment : D 
 
   -- One party: its session or its replica is the one that was read, and its sink got the replies.
   pub record IsPartyOf (sessions : List (Option Session)) (order : List Place) (lost : Bool) (input output : Option (List ℕ)) (number : ℕ) (session : Option Session) (replica : Option ReplicaScript) (source : S) (party : PartyEnd K) : Type 0 where
-    pub ends : IsPartyEnd left source_faults sink_faults input number source party
+    pub ends : IsPartyEnd source_says sink_says input number source party
     pub session_is : session ≡ ends.read.session
     pub replica_is : replica ≡ ends.read.replica
-    pub replies : AreReplies sessions order lost number replica party.commands ends.failed output (given party.sink)
+    pub replies : AreReplies sessions order lost number replica party.commands ends.failed output (sink_says.given party.sink)
 
   -- Each name has its party, and there is one order of the commands of all sessions, each up to its party's `commands` at most
   -- once, by which every session's output is that of one thread. The commands of replicas have no place in it. That a disk failed for one of them is told
@@ -89,7 +89,7 @@ module _ {D S K : Type 0} (seen may_leave : D → Files → Type 0) (moment : D 
   abbrev pub AreRepliesTold : Past → (List ℕ → Option (List ℕ)) → List (List ℕ) → List (Option Session) → List (Option ReplicaScript) → List Place → List (PartyEnd K) → Type 0
   AreRepliesTold past outputs names sessions replicas order parties =
       (i : ℕ) (name : List ℕ) (script : ReplicaScript) (party : PartyEnd K) → slice_get names i ≡ Some name → slice_get replicas i ≡ Some (Some script) → slice_get parties i ≡ Some party
-      → IsToldOutput (IsNth past start (map (placed sessions) order)) may_give (i + 1) script (run_of party).commands (run_of party).failed (outputs name) (given party.sink)
+      → IsToldOutput (IsNth past start (map (placed sessions) order)) may_give (i + 1) script (run_of party).commands (run_of party).failed (outputs name) (sink_says.given party.sink)
 
   -- The headline, who took the commands has run their places, and the order came about so. Where the run began over a depot with such changes before it, the
   -- replies of replicas are those for numbers of changes.

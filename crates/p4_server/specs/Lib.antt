@@ -1,4 +1,5 @@
 pub mod Ends
+pub mod Outside
 pub mod Lines
 pub mod Telling
 pub mod Files

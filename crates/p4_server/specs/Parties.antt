@@ -1,5 +1,6 @@
 -- The parties of a run before their first turns: what came by the doors of their names, and what was read of their scripts.
 use Rattle.std.specs.Prelude.{◌≡◌, ◌≢◌, ◌≤◌, ℕ, List, length, slice_get, All, AllPairs, Option, Some}
+use Rattle.outside_api.specs.Says.{SourceSays, SinkSays}
 use Rattle.depot_rows.specs.depot_model.declared.request.Session.{Session}
 use Rattle.session_loop.specs.Asking.{AreWellFormed, commands_of, replica_commands}
 use Rattle.session_loop.specs.Reading.{IsAsked}
@@ -27,13 +28,13 @@ pub record OnlyTheseCome (inputs_before outputs_before inputs_now outputs_now : 
 
 -- ---- doors
 
-module _ {S K : Type 0} (left : S → Option (List ℕ)) (source_faults : S → ℕ) (given : K → Option (List ℕ)) (sink_faults : K → ℕ) where
+module _ {S K : Type 0} (source_says : SourceSays S) (sink_says : SinkSays K) where
   -- the source and the sink of a name, neither of which has failed
   pub record IsPair (input output : Option (List ℕ)) (source : S) (sink : K) : Type 0 where
-    pub reads : left source ≡ input
-    pub gives : given sink ≡ output
-    pub new_source : source_faults source ≡ 0
-    pub new_sink : sink_faults sink ≡ 0
+    pub reads : source_says.left source ≡ input
+    pub gives : sink_says.given sink ≡ output
+    pub new_source : source_says.faults source ≡ 0
+    pub new_sink : sink_says.faults sink ≡ 0
 
   -- each name has its source and its sink
   pub record HaveCome (inputs outputs : List ℕ → Option (List ℕ)) (names : List (List ℕ)) (sources : List S) (sinks : List K) : Type 0 where
@@ -45,18 +46,18 @@ module _ {S K : Type 0} (left : S → Option (List ℕ)) (source_faults : S → 
 -- ---- scripts
 
 -- of a source the session or the replica and the end of its script were read
-pub record IsRead {S : Type 0} (left : S → Option (List ℕ)) (faults : S → ℕ) (was is : S) (session : Option Session) (replica : Option ReplicaScript) (end : ScriptEnd) : Type 0 where
-  pub asked : IsAsked (left was) (left is) (faults was) (faults is) session replica end
+pub record IsRead {S : Type 0} (source_says : SourceSays S) (was is : S) (session : Option Session) (replica : Option ReplicaScript) (end : ScriptEnd) : Type 0 where
+  pub asked : IsAsked (source_says.left was) (source_says.left is) (source_says.faults was) (source_says.faults is) session replica end
   pub apart : IsApart session replica
 
 -- so it is of each source
-pub record AreRead {S : Type 0} (left : S → Option (List ℕ)) (faults : S → ℕ) (before now : List S) (sessions : List (Option Session)) (replicas : List (Option ReplicaScript)) (ends : List ScriptEnd) : Type 0 where
+pub record AreRead {S : Type 0} (source_says : SourceSays S) (before now : List S) (sessions : List (Option Session)) (replicas : List (Option ReplicaScript)) (ends : List ScriptEnd) : Type 0 where
   pub sources_count : length now ≡ length before
   pub sessions_count : length sessions ≡ length before
   pub replicas_count : length replicas ≡ length before
   pub ends_count : length ends ≡ length before
   pub each : (i : ℕ) (was is : S) (session : Option Session) (replica : Option ReplicaScript) (end : ScriptEnd) → slice_get before i ≡ Some was → slice_get now i ≡ Some is → slice_get sessions i ≡ Some session → slice_get replicas i ≡ Some replica
-      → slice_get ends i ≡ Some end → IsRead left faults was is session replica end
+      → slice_get ends i ≡ Some end → IsRead source_says was is session replica end
 
 -- what a session or a replica asks is well-formed, and not more than a script can ask
 pub record AreFormed (sessions : List (Option Session)) (replicas : List (Option ReplicaScript)) : Type 0 where

@@ -1,7 +1,7 @@
 -- When the files of a depot stand as they were written, from the first change on: then the replicas of a run reply for a number of changes.
 use Rattle.std.specs.Prelude.{◌≡◌, ◌≤◌, ◌<◌, ℕ, List, length, map}
-use Rattle.std.specs.List.{AllByRecursion}
 use Rattle.outside_api.specs.Disk.{Files}
+use Rattle.outside_api.specs.Says.{DiskSays}
 use Rattle.depot_rows.specs.db_records.declared.table.TableId.TheVariants.{Rev}
 use Rattle.depot_rows.specs.depot_model.Deeds.{Deed}
 use Rattle.depot_rows.specs.Standing.{Stand}
@@ -15,19 +15,19 @@ use Rattle.party_threads.specs.serial_depot.Holding.{HasItsContents}
 use Rattle.depot_rows.specs.table_changes.Changed.{AllRows, changed_by, no_rows}
 
 -- The rows after so many changes stand for a depot, and the archive has its contents at their spots, none of which ends behind those of other rows.
-pub record IsDepotThen {D : Type 0} (seen : D → Files → Type 0) (archive : D) (rows now : AllRows) (d : List Deed) : Type 0 where
+pub record IsDepotThen {D : Type 0} (disk_says : DiskSays D) (archive : D) (rows now : AllRows) (d : List Deed) : Type 0 where
   pub stand : Stand rows d
   pub deletes : DeletesAreUnplaced (rows Rev)
   pub within : spots_end (rows Rev) ≤ spots_end (now Rev)
-  pub contents : (a : Files) → seen archive a → HasItsContents rows d a
+  pub contents : (a : Files) → disk_says.seen archive a → HasItsContents rows d a
 
 -- The journal's files have groups for each generation and no others; their changes, from the first on, make the rows that the files hold; and before the last of
 -- them there was a depot after each number of them.
-pub record AreWritten {D : Type 0} (seen : D → Files → Type 0) (journal archive : D) (past : Past) : Type 0 where
+pub record AreWritten {D : Type 0} (disk_says : DiskSays D) (journal archive : D) (past : Past) : Type 0 where
   pub all : Chronicle
   pub groups : AreGroupsOf all
-  pub closed : (j : Files) → seen journal j → AreOlder (map (group_texts 1) all.closed) j
-  pub newest : (j : Files) (was : Committed) → seen journal j → HasCommitted was j → (was.generation ≡ length all.closed) × (was.groups ≡ group_texts 1 all.newest)
-  pub rows : (j : Files) (rows : AllRows) → seen journal j → Hold j rows → rows ≡ changed_by no_rows (joined (all_changes all))
+  pub closed : (j : Files) → disk_says.seen journal j → AreOlder (map (group_texts 1) all.closed) j
+  pub newest : (j : Files) (was : Committed) → disk_says.seen journal j → HasCommitted was j → (was.generation ≡ length all.closed) × (was.groups ≡ group_texts 1 all.newest)
+  pub rows : (j : Files) (rows : AllRows) → disk_says.seen journal j → Hold j rows → rows ≡ changed_by no_rows (joined (all_changes all))
   pub count : length (all_changes all) ≡ past.count
-  pub each : (n : ℕ) → n < past.count → IsDepotThen seen archive (first_of n all) (changed_by no_rows (joined (all_changes all))) (past.after n)
+  pub each : (n : ℕ) → n < past.count → IsDepotThen disk_says archive (first_of n all) (changed_by no_rows (joined (all_changes all))) (past.after n)

@@ -74,7 +74,7 @@ fn end_taken<D, S, K: Sink>(
     ensures order { result.order ≡ order }
     ensures parties { result.parties ≡ [] }
     ensures sources { result.sources ≡ [] }
-    ensures line { IsLine K.given K.faults out.old out.new result (generation_line begun) }
+    ensures line { IsLine K.says out.old out.new result (generation_line begun) }
     ensures status { result.status ≡ status_of result.cause }
     ensures journal { result.journal ≡ journal }
     ensures archive { result.archive ≡ archive }
@@ -99,7 +99,7 @@ fn end_untaken<D, S, K: Sink>(
     ensures parties { result.parties ≡ [] }
     ensures sources { result.sources ≡ [] }
     ensures cause { fault ≡ faults.DiskFault → result.cause ≡ Cause.Fault }
-    ensures line { fault ≡ faults.DiskFault → OutGot (K.given out.old) (K.given out.new) (K.faults out.old) (K.faults out.new) (cause_line Cause.Fault) }
+    ensures line { fault ≡ faults.DiskFault → OutGot (K.says.given out.old) (K.says.given out.new) (K.says.faults out.old) (K.says.faults out.new) (cause_line Cause.Fault) }
     ensures memory { fault ≡ faults.Memory → result.cause ≡ Cause.Memory }
     ensures unrun { fault ≡ faults.Memory → IsUnrun result }
     ensures status { result.status ≡ status_of result.cause }
@@ -127,7 +127,7 @@ pub fn checkpoint<D: Disk, S, K: Sink, C: Clock>(
     out: &mut K,
     clock: &C,
 ) -> Ended<D, S, K>
-    ensures checkpoints { Checkpoints D.seen D.may_leave D.moment D.left_since D.faults K.given K.faults (C.may_give clock.now) journal archive out.old out.new result }
+    ensures checkpoints { Checkpoints D.says K.says (C.says.may_give clock.now) (record { journal = journal; archive = archive; out = out.old }) (record { out = out.new; ended = result }) }
     ensures status { result.status ≡ status_of result.cause }
 {
     let Opened {

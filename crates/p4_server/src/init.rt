@@ -28,7 +28,7 @@ pub fn init<D: Disk, S, K: Sink>(
     archive: D,
     out: &mut K,
 ) -> Ended<D, S, K>
-    ensures inits { Inits D.seen D.may_leave D.moment D.left_since D.faults K.given K.faults journal archive out.old out.new result }
+    ensures inits { Inits D.says K.says (record { journal = journal; archive = archive; out = out.old }) (record { out = out.new; ended = result }) }
     ensures status { result.status ≡ status_of result.cause }
 {
     let mut journal = journal;

@@ -29,7 +29,7 @@ pub fn end_unopened<D: Disk, S, K: Sink>(
     found: NotOpened<D>,
     out: &mut K,
 ) -> Ended<D, S, K>
-    ensures told { IsToldAlone K.given K.faults out.old out.new result }
+    ensures told { IsToldAlone K.says out.old out.new result }
     ensures cause { result.cause ≡ cause_by found.fault }
     ensures status { result.status ≡ status_of result.cause }
     ensures journal { result.journal ≡ found.journal }

@@ -20,7 +20,7 @@ use depot_rows::paths::Sequence;
 use outside_api::{Clock, Disk, Doors, Gate, Sink, Source};
 use serial_depot::SerialDepot;
 use session_loop::{ReadSession, ReplicaScript, SessionRun, read_session};
-use session_turns::{Ran, run_sessions};
+use session_turns::{Ran, Unrun, run_sessions};
 use std::alloc::{AllocError, Global};
 use wire_text::ScriptEnd;
 
@@ -59,9 +59,9 @@ pub fn open_doors<H: Doors>(
     doors: &mut H,
 ) -> Result<Came<H::In, H::Out>, NotRun>
     requires different { AreDifferent (words_of names.now) }
-    ensures came { IfOk result (λ came. HaveCome H.In.left H.In.faults H.Out.given H.Out.faults (H.input doors.old) (H.output doors.old) (words_of names.now) came.sources.items came.sinks.items) }
-    ensures only { OnlyTheseCome (H.input doors.old) (H.output doors.old) (H.input doors.new) (H.output doors.new) (words_of names.now) }
-    ensures cause { result ≡ Err NotRun.Doors → HasRisen (H.faults doors.old) (H.faults doors.new) }
+    ensures came { IfOk result (λ came. HaveCome H.In.says H.Out.says (H.says.input doors.old) (H.says.output doors.old) (words_of names.now) came.sources.items came.sinks.items) }
+    ensures only { OnlyTheseCome (H.says.input doors.old) (H.says.output doors.old) (H.says.input doors.new) (H.says.output doors.new) (words_of names.now) }
+    ensures cause { result ≡ Err NotRun.Doors → HasRisen (H.says.faults doors.old) (H.says.faults doors.new) }
 {
     let mut came = Came {
         sources: Vec::new(alloc),
@@ -122,8 +122,8 @@ fn read_one<S: Source + Drop>(
     source: S,
     scripts: &mut Scripts<S>,
 ) -> Result<(), AllocError>
-    ensures read { OnOk result ((before : List S) → AreRead S.left S.faults before scripts.old.sources.items scripts.old.sessions.items scripts.old.replicas.items scripts.old.ends.items →
-        AreRead S.left S.faults (before ++ source ∷ []) scripts.new.sources.items scripts.new.sessions.items scripts.new.replicas.items scripts.new.ends.items) }
+    ensures read { OnOk result ((before : List S) → AreRead S.says before scripts.old.sources.items scripts.old.sessions.items scripts.old.replicas.items scripts.old.ends.items →
+        AreRead S.says (before ++ source ∷ []) scripts.new.sources.items scripts.new.sessions.items scripts.new.replicas.items scripts.new.ends.items) }
     ensures formed { OnOk result (AreFormed scripts.old.sessions.items scripts.old.replicas.items → AreFormed scripts.new.sessions.items scripts.new.replicas.items) }
     ensures few { OnOk result (AreFew scripts.old.sessions.items scripts.old.replicas.items → AreFew scripts.new.sessions.items scripts.new.replicas.items) }
 {
@@ -138,7 +138,7 @@ pub fn read_scripts<S: Source + Drop>(
     alloc: Global,
     sources: Vec<S>,
 ) -> Result<Scripts<S>, AllocError>
-    ensures read { IfOk result (λ scripts. AreRead S.left S.faults sources.items scripts.sources.items scripts.sessions.items scripts.replicas.items scripts.ends.items) }
+    ensures read { IfOk result (λ scripts. AreRead S.says sources.items scripts.sources.items scripts.sessions.items scripts.replicas.items scripts.ends.items) }
     ensures formed { IfOk result (λ scripts. AreFormed scripts.sessions.items scripts.replicas.items) }
     ensures few { IfOk result (λ scripts. AreFew scripts.sessions.items scripts.replicas.items) }
 {
@@ -171,6 +171,15 @@ pub struct PartiesRun<S, K> {
     pub order: Sequence<Place>,
 }
 
+/// What became of the parties, with the depot.
+#[derive(Drop)]
+pub struct Served<D: Disk, S, K> {
+    /// The depot, as the parties left it.
+    pub depot: SerialDepot<D>,
+    /// The parties, or why they weren't run.
+    pub run: Result<PartiesRun<S, K>, NotRun>,
+}
+
 /// Opens the doors of the names, reads all scripts and takes their commands, by turns that the seed draws. Where the parties aren't run, nothing is taken.
 pub fn run_parties<H: Doors, D: Disk, C: Clock, G: Gate>(
     alloc: Global,
@@ -179,24 +188,27 @@ pub fn run_parties<H: Doors, D: Disk, C: Clock, G: Gate>(
     doors: &mut H,
     clock: &C,
     gate: &G,
-    depot: &mut SerialDepot<D>,
-) -> Result<PartiesRun<H::In, H::Out>, NotRun>
-    requires can { CanTake D.may_leave depot.old }
+    depot: SerialDepot<D>,
+) -> Served<D, H::In, H::Out>
+    requires can { CanTake D.says depot }
     requires different { AreDifferent (words_of names.now) }
     requires few { length names.now ≤ 16 }
-    ensures told { IfOk result CanBeTold }
-    ensures ends { IfOk result (λ run. AreEnds H.In.left H.In.faults H.Out.faults (H.input doors.old) (words_of names.now) (parties_of run) run.sources.items) }
-    ensures run { (since : ℕ) (start : List Deed) → HasRun D.seen D.may_leave D.moment D.left_since depot.old since start [] → IfOk result (λ run.
-        IsRunFrom D.seen D.may_leave D.moment D.left_since H.In.left H.In.faults H.Out.given H.Out.faults (C.may_give clock.now) since start (HasRun D.seen D.may_leave D.moment D.left_since depot.new since) (IsDrawn (C.may_give clock.now) seed) (λ past. (c : Chronicle) × IsMaster D.seen D.may_leave past start [] depot.old c) (H.input doors.old) (H.output doors.old) (words_of names.now) run.order run.lost (parties_of run) run.sources.items) }
-    ensures lost { IfOk result (λ run. run.lost ≡ true → HasRisen (D.faults (disk_of depot.old.journal)) (D.faults (disk_of depot.new.journal)) ⊎ HasRisen (D.faults (archive_disk_of depot.old.archive)) (D.faults (archive_disk_of depot.new.archive))) }
-    ensures faults { IfOk result (λ run. AreCaused (D.faults (disk_of depot.old.journal)) (D.faults (disk_of depot.new.journal)) (D.faults (archive_disk_of depot.old.archive)) (D.faults (archive_disk_of depot.new.archive)) [] run.order) }
-    ensures unrun { (why : NotRun) → result ≡ Err why → depot.new ≡ depot.old }
-    ensures only { OnlyTheseCome (H.input doors.old) (H.output doors.old) (H.input doors.new) (H.output doors.new) (words_of names.now) }
-    ensures doors { result ≡ Err NotRun.Doors → HasRisen (H.faults doors.old) (H.faults doors.new) }
+    ensures told { IfOk result.run CanBeTold }
+    ensures ends { IfOk result.run (λ run. AreEnds H.In.says H.Out.says (H.says.input doors.old) (words_of names.now) (parties_of run) run.sources.items) }
+    ensures run { (since : ℕ) (start : List Deed) → HasRun D.says depot since start [] → IfOk result.run (λ run.
+        IsRunFrom D.says H.In.says H.Out.says (C.says.may_give clock.now) since start (HasRun D.says result.depot since) (IsDrawn (C.says.may_give clock.now) seed) (λ past. (c : Chronicle) × IsMaster D.says past start [] depot c) (H.says.input doors.old) (H.says.output doors.old) (words_of names.now) run.order run.lost (parties_of run) run.sources.items) }
+    ensures lost { IfOk result.run (λ run. run.lost ≡ true → HasRisen (D.says.faults (disk_of depot.journal)) (D.says.faults (disk_of result.depot.journal)) ⊎ HasRisen (D.says.faults (archive_disk_of depot.archive)) (D.says.faults (archive_disk_of result.depot.archive))) }
+    ensures faults { IfOk result.run (λ run. AreCaused (D.says.faults (disk_of depot.journal)) (D.says.faults (disk_of result.depot.journal)) (D.says.faults (archive_disk_of depot.archive)) (D.says.faults (archive_disk_of result.depot.archive)) [] run.order) }
+    ensures unrun { (why : NotRun) → result.run ≡ Err why → result.depot ≡ depot }
+    ensures only { OnlyTheseCome (H.says.input doors.old) (H.says.output doors.old) (H.says.input doors.new) (H.says.output doors.new) (words_of names.now) }
+    ensures doors { result.run ≡ Err NotRun.Doors → HasRisen (H.says.faults doors.old) (H.says.faults doors.new) }
 {
     let Came { sources, sinks } = match open_doors(alloc, names, doors) {
         Ok(came) => came,
-        Err(why) => return Err(why),
+        Err(why) => return Served {
+            depot,
+            run: Err(why),
+        },
     };
     let Scripts {
         sources,
@@ -205,21 +217,37 @@ pub fn run_parties<H: Doors, D: Disk, C: Clock, G: Gate>(
         ends,
     } = match read_scripts(alloc, sources) {
         Ok(scripts) => scripts,
-        Err(_) => return Err(NotRun::Memory),
+        Err(_) => return Served {
+            depot,
+            run: Err(NotRun::Memory),
+        },
     };
-    let mut sinks = sinks;
-    let mut order = Vec::new(alloc);
-    match run_sessions(
-        alloc, seed, sessions, replicas, clock, gate, &mut sinks, depot, &mut order,
-    ) {
-        Ok(Ran { runs, lost }) => Ok(PartiesRun {
-            sources,
-            sinks,
-            runs,
-            ends,
-            lost,
-            order: Sequence::from_vec(order),
-        }),
-        Err(_) => Err(NotRun::Memory),
+    match run_sessions(alloc, seed, sessions, replicas, clock, gate, sinks, depot) {
+        Ok(
+            Ran {
+                runs,
+                sinks,
+                order,
+                lost,
+                depot,
+            },
+        ) => Served {
+            depot,
+            run: Ok(PartiesRun {
+                sources,
+                sinks,
+                runs,
+                ends,
+                lost,
+                order: Sequence::from_vec(order),
+            }),
+        },
+        Err(Unrun { depot, sinks }) => {
+            drop(sinks);
+            Served {
+                depot,
+                run: Err(NotRun::Memory),
+            }
+        }
     }
 }

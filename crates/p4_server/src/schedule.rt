@@ -8,7 +8,7 @@ ghost use Rattle.program_words.specs.Words.{words_of};
 
 use crate::ended::Ended;
 use crate::opening::end_unopened;
-use crate::party::run_parties;
+use crate::party::{Served, run_parties};
 use crate::reporting::{cause_of_unrun, told};
 use crate::telling::end_alone;
 use outside_api::{Clock, Disk, Doors, Gate};
@@ -31,7 +31,7 @@ pub fn schedule<H: Doors, D: Disk, C: Clock, G: Gate>(
 ) -> Ended<D, H::In, H::Out>
     requires different { AreDifferent (words_of names.now) }
     requires few { length names.now ≤ 16 }
-    ensures schedules { Schedules D.seen D.may_leave D.moment D.left_since D.faults H.In.left H.In.faults H.Out.given H.Out.faults (C.may_give clock.now) H.input H.output H.faults doors.old doors.new journal archive out.old out.new seed (words_of names.now) result }
+    ensures schedules { Schedules (record { disk = D.says; source = H.In.says; sink = H.Out.says; doors = H.says; may_give = C.says.may_give clock.now }) doors.old doors.new (record { journal = journal; archive = archive; out = out.old }) (record { out = out.new; ended = result }) seed (words_of names.now) }
     ensures status { result.status ≡ status_of result.cause }
 {
     let Opened {
@@ -42,8 +42,8 @@ pub fn schedule<H: Doors, D: Disk, C: Clock, G: Gate>(
         Ok(opened) => opened,
         Err(found) => return end_unopened(alloc, found, out),
     };
-    let mut depot = SerialDepot::new(tables, journal, archive);
-    let run = run_parties(alloc, seed, names, doors, clock, gate, &mut depot);
+    let depot = SerialDepot::new(tables, journal, archive);
+    let Served { depot, run } = run_parties(alloc, seed, names, doors, clock, gate, depot);
     let Closed {
         journal,
         archive,

@@ -8,8 +8,9 @@ ghost use Rattle.program_words.specs.Words.{words_of};
 
 use crate::ended::Ended;
 use crate::opening::end_unopened;
+use crate::party::Served;
 use crate::reporting::{cause_of_unrun, told};
-use crate::serving::{Served, serve_parties};
+use crate::serving::serve_parties;
 use crate::telling::end_alone;
 use outside_api::{Clock, Disk, Doors, Gate};
 use recovery::{Opened, open_files};
@@ -35,7 +36,7 @@ where
     H::Out: Send,
     requires different { AreDifferent (words_of names.now) }
     requires few { length names.now ≤ 16 }
-    ensures serves { Serves D.seen D.may_leave D.moment D.left_since D.faults H.In.left H.In.faults H.Out.given H.Out.faults (C.may_give clock.now) H.input H.output H.faults doors.old doors.new journal archive out.old out.new (words_of names.now) result }
+    ensures serves { Serves (record { disk = D.says; source = H.In.says; sink = H.Out.says; doors = H.says; may_give = C.says.may_give clock.now }) doors.old doors.new (record { journal = journal; archive = archive; out = out.old }) (record { out = out.new; ended = result }) (words_of names.now) }
     ensures status { result.status ≡ status_of result.cause }
 {
     let Opened {

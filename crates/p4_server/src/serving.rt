@@ -13,7 +13,7 @@ ghost use Rattle.p4_server.specs.Parties.{AreDifferent, CanBeTold, OnlyTheseCome
 ghost use Rattle.p4_server.specs.Serve.{AnyOrder, NotSaid};
 ghost use Rattle.program_words.specs.Words.{words_of};
 
-use crate::party::{Came, NotRun, PartiesRun, Scripts, open_doors, read_scripts};
+use crate::party::{Came, NotRun, PartiesRun, Scripts, Served, open_doors, read_scripts};
 use depot_rows::paths::Sequence;
 use outside_api::{Clock, Disk, Doors, Gate};
 use party_threads::{ThreadsRun, run_on_threads};
@@ -21,15 +21,6 @@ use serial_depot::SerialDepot;
 use std::alloc::Global;
 use std::sync::Wait;
 use std::thread::Threads;
-
-/// What became of the parties, with the depot.
-#[derive(Drop)]
-pub struct Served<D: Disk, S, K> {
-    /// The depot, as the parties left it.
-    pub depot: SerialDepot<D>,
-    /// The parties, or why they weren't run.
-    pub run: Result<PartiesRun<S, K>, NotRun>,
-}
 
 /// Opens the doors of the names, reads all scripts and has their commands taken or answered, those of each party on a thread of its own. Where the parties
 /// aren't run, nothing is taken.
@@ -50,18 +41,18 @@ pub fn serve_parties<
 ) -> Served<D, H::In, H::Out>
 where
     H::Out: Send,
-    requires can { CanTake D.may_leave depot }
+    requires can { CanTake D.says depot }
     requires different { AreDifferent (words_of names.now) }
     requires few { length names.now ≤ 16 }
     ensures told { IfOk result.run CanBeTold }
-    ensures ends { IfOk result.run (λ run. AreEnds H.In.left H.In.faults H.Out.faults (H.input doors.old) (words_of names.now) (parties_of run) run.sources.items) }
-    ensures run { (since : ℕ) (start : List Deed) → HasRun D.seen D.may_leave D.moment D.left_since depot since start [] → IfOk result.run (λ run.
-        IsRunFrom D.seen D.may_leave D.moment D.left_since H.In.left H.In.faults H.Out.given H.Out.faults (C.may_give clock.now) since start (HasRun D.seen D.may_leave D.moment D.left_since result.depot since) AnyOrder NotSaid (H.input doors.old) (H.output doors.old) (words_of names.now) run.order run.lost (parties_of run) run.sources.items) }
-    ensures lost { IfOk result.run (λ run. run.lost ≡ true → HasRisen (D.faults (disk_of depot.journal)) (D.faults (disk_of result.depot.journal)) ⊎ HasRisen (D.faults (archive_disk_of depot.archive)) (D.faults (archive_disk_of result.depot.archive))) }
-    ensures faults { IfOk result.run (λ run. AreCaused (D.faults (disk_of depot.journal)) (D.faults (disk_of result.depot.journal)) (D.faults (archive_disk_of depot.archive)) (D.faults (archive_disk_of result.depot.archive)) [] run.order) }
+    ensures ends { IfOk result.run (λ run. AreEnds H.In.says H.Out.says (H.says.input doors.old) (words_of names.now) (parties_of run) run.sources.items) }
+    ensures run { (since : ℕ) (start : List Deed) → HasRun D.says depot since start [] → IfOk result.run (λ run.
+        IsRunFrom D.says H.In.says H.Out.says (C.says.may_give clock.now) since start (HasRun D.says result.depot since) AnyOrder NotSaid (H.says.input doors.old) (H.says.output doors.old) (words_of names.now) run.order run.lost (parties_of run) run.sources.items) }
+    ensures lost { IfOk result.run (λ run. run.lost ≡ true → HasRisen (D.says.faults (disk_of depot.journal)) (D.says.faults (disk_of result.depot.journal)) ⊎ HasRisen (D.says.faults (archive_disk_of depot.archive)) (D.says.faults (archive_disk_of result.depot.archive))) }
+    ensures faults { IfOk result.run (λ run. AreCaused (D.says.faults (disk_of depot.journal)) (D.says.faults (disk_of result.depot.journal)) (D.says.faults (archive_disk_of depot.archive)) (D.says.faults (archive_disk_of result.depot.archive)) [] run.order) }
     ensures unrun { (why : NotRun) → result.run ≡ Err why → result.depot ≡ depot }
-    ensures only { OnlyTheseCome (H.input doors.old) (H.output doors.old) (H.input doors.new) (H.output doors.new) (words_of names.now) }
-    ensures doors { result.run ≡ Err NotRun.Doors → HasRisen (H.faults doors.old) (H.faults doors.new) }
+    ensures only { OnlyTheseCome (H.says.input doors.old) (H.says.output doors.old) (H.says.input doors.new) (H.says.output doors.new) (words_of names.now) }
+    ensures doors { result.run ≡ Err NotRun.Doors → HasRisen (H.says.faults doors.old) (H.says.faults doors.new) }
 {
     let Came { sources, sinks } = match open_doors(alloc, names, doors) {
         Ok(came) => came,

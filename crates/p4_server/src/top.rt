@@ -31,7 +31,7 @@ pub fn p4_alone<H: Doors, D: Disk, C: Clock, G: Gate>(
     gate: &G,
 ) -> Ended<D, H::In, H::Out>
     requires alone { asks_alone (words_of words.now) ≡ true }
-    ensures promise { KeepsPromise D.seen D.may_leave D.moment D.left_since D.faults H.In.left H.In.faults H.Out.given H.Out.faults (C.may_give clock.now) H.input H.output H.faults doors.old doors.new (words_of words.now) journal archive out.old out.new result }
+    ensures promise { KeepsPromise (record { disk = D.says; source = H.In.says; sink = H.Out.says; doors = H.says; may_give = C.says.may_give clock.now }) doors.old doors.new (words_of words.now) (record { journal = journal; archive = archive; out = out.old }) (record { out = out.new; ended = result }) }
 {
     let mode = match mode_of(alloc, words) {
         Ok(mode) => mode,
@@ -76,7 +76,7 @@ pub fn p4_top<R: Threads + Wait + Sync, H: Doors, D: Disk + Send, C: Clock + Syn
 ) -> Ended<D, H::In, H::Out>
 where
     H::Out: Send,
-    ensures promise { KeepsPromise D.seen D.may_leave D.moment D.left_since D.faults H.In.left H.In.faults H.Out.given H.Out.faults (C.may_give clock.now) H.input H.output H.faults doors.old doors.new (words_of words.now) journal archive out.old out.new result }
+    ensures promise { KeepsPromise (record { disk = D.says; source = H.In.says; sink = H.Out.says; doors = H.says; may_give = C.says.may_give clock.now }) doors.old doors.new (words_of words.now) (record { journal = journal; archive = archive; out = out.old }) (record { out = out.new; ended = result }) }
 {
     match served_names(alloc, words) {
         Err(_) => end_alone(alloc, Cause::Memory, out, journal, archive),

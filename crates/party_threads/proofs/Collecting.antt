@@ -15,6 +15,7 @@ use Rattle.locked_tables.specs.Taken.{IsParty, of_party}
 use Rattle.locked_tables.specs.declared.taken.Taken.{Taken}
 use Rattle.order_words.specs.Seats.{Run, lane_count}
 use Rattle.outside_api.specs.Disk.{Files}
+use Rattle.outside_api.specs.Says.{DiskSays, SinkSays}
 use Rattle.party_marks.specs.Known.{PassKnown}
 use Rattle.party_marks.specs.Marks.{is_empty}
 use Rattle.run_parties.proofs.Slots.{all_at}
@@ -118,19 +119,19 @@ among_of run n lanes (entry ∷ order) parties =
     let lane = parties.0.lane in
     ((low, omega (arith, lane, lanes)), among_of run n lanes order parties.1)
 
-module _ {D K : Type 0} (seen may_leave : D → Files → Type 0) (moment : D → ℕ) (left_since : D → ℕ → Files → Type 0) (end : ℕ) (images : Files → Type 0) (may_give : ℕ → Type 0) (given : K → Option (List ℕ)) (faults : K → ℕ) (begins : ℕ → List Deed → Type 0) where
+module _ {D K : Type 0} (disk_says : DiskSays D) (end : ℕ) (images : Files → Type 0) (may_give : ℕ → Type 0) (sink_says : SinkSays K) (begins : ℕ → List Deed → Type 0) where
   abbrev Served : ℕ → List Request → Option ReplicaParty → SessionRun → Bool → K → K → List Taken → Type 0
-  Served = IsPartyServed seen may_leave moment left_since end images may_give given faults begins
+  Served = IsPartyServed disk_says end images may_give sink_says begins
 
   -- what a party was answered is the same over all of an order that its entries begin, if it has no more entries of its own
   served_heard : (party : ℕ) (requests : List Request) (replica : Option ReplicaParty) (run : SessionRun) (lost : Bool) (old new : K) (known order : List Taken) → IsPrefix known order → of_party party order ≡ of_party party known
       → Served party requests replica run lost old new known → Served party requests replica run lost old new order
-  served_heard party requests None run lost old new known order first own s = (record { taken = heard begins party requests run (given old) (given new) known order s.0.taken first own; end = s.0.end }, s.1)
+  served_heard party requests None run lost old new known order first own s = (record { taken = heard begins party requests run (sink_says.given old) (sink_says.given new) known order s.0.taken first own; end = s.0.end }, s.1)
   served_heard party requests (Some p) run lost old new known order first own s = record {
     gave = λ archive all since start script begun fresh well.
-        let before = stored_front seen may_leave moment left_since end images begins known order archive first all in
-        output_wider (HasRunFront seen may_leave moment left_since since start known) (HasRunFront seen may_leave moment left_since since start order) seen may_leave may_give party script
-        (front_longer seen may_leave moment left_since end images begins given faults may_give party p old since start known order first) run.commands run.failed lost (given old) (given new)
+        let before = stored_front disk_says end images begins known order archive first all in
+        output_wider (HasRunFront disk_says since start known) (HasRunFront disk_says since start order) disk_says may_give party script
+        (front_longer disk_says end images begins sink_says may_give party p old since start known order first) run.commands run.failed lost (sink_says.given old) (sink_says.given new)
         (s.gave archive before since start script begun fresh well);
     end = s.end;
     none = own ∙ s.none;
@@ -166,7 +167,7 @@ module _ {D K : Type 0} (seen may_leave : D → Files → Type 0) (moment : D �
     as_many = sym (length-map olds (λ (q : ThreadParty K N). q.requests)) ∙ ap (length {A = Vec Request Global}) fresh.asks
 
     -- behind the last
-    module _ (news : List (ThreadParty K N)) (run : HaveRun seen may_leave moment left_since end images may_give given faults begins olds news) (known : OpenedKnown) (runs : List SessionRun) (left : List K) (lost : Bool) (collected : AreCollected known news runs left lost) where
+    module _ (news : List (ThreadParty K N)) (run : HaveRun disk_says end images may_give sink_says begins olds news) (known : OpenedKnown) (runs : List SessionRun) (left : List K) (lost : Bool) (collected : AreCollected known news runs left lost) where
       one_served : (p q : ThreadParty K N) (i : ℕ) → slice_get olds i ≡ Some p → slice_get news i ≡ Some q → Served (i + 1) p.requests.items p.replica q.run (is_marked q) p.sink q.sink known.order
       one_served p q i at_p at_q =
           let one = run i p q at_p at_q in
@@ -176,7 +177,7 @@ module _ {D K : Type 0} (seen may_leave : D → Files → Type 0) (moment : D �
           let Whole : ℕ → Type 0 = λ k. Served k p.requests.items p.replica q.run (is_marked q) p.sink q.sink known.order in
           subst Whole party (served_heard p.pass.party p.requests.items p.replica q.run (is_marked q) p.sink q.sink q.pass.list known.order hears.begins own one.served)
 
-      pub served_all : AreAllServed seen may_leave moment left_since end images may_give given faults begins (map items_of requests) replicas runs (map (λ (r : ThreadParty K N). is_marked r) news) sinks left known.order
+      pub served_all : AreAllServed disk_says end images may_give sink_says begins (map items_of requests) replicas runs (map (λ (r : ThreadParty K N). is_marked r) news) sinks left known.order
       served_all i own replica ran old new at_own at_replica at_run at_old at_new =
           let asks = from_map items_of requests i own at_own in
           let p = from_map (λ (r : ThreadParty K N). r.requests) olds i asks.0 (ap (λ (rs : List (Vec Request Global)). slice_get rs i) fresh.asks ∙ asks.1) in

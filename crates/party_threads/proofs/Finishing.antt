@@ -7,6 +7,7 @@ use Rattle.std.proofs.lemmas.List.{length-map, map-append}
 use Rattle.std.proofs.lemmas.List.Elements.{recursion_from_All}
 use Rattle.std.proofs.lemmas.Option.{same_Some}
 use Rattle.outside_api.specs.Disk.{Files}
+use Rattle.outside_api.specs.Says.{DiskSays, SinkSays}
 use Rattle.depot_model.specs.Deeds.{Deed}
 use Rattle.depot_model.specs.Places.{Placed}
 use Rattle.depot_model.specs.declared.order.Place.{Place}
@@ -73,10 +74,10 @@ front_taken f xs ys =
     ap (λ (n : ℕ). take n (map f (xs ++ ys))) (sym (length-map xs f))
     ∙ (ap (take (length (map f xs))) (map-append f xs ys) ∙ take-append_seam (map f xs) (map f ys))
 
-module _ {D K : Type 0} (seen may_leave : D → Files → Type 0) (moment : D → ℕ) (left_since : D → ℕ → Files → Type 0) (end : ℕ) (images : Files → Type 0) (disk_faults : D → ℕ) (given : K → Option (List ℕ)) (faults : K → ℕ) (may_give : ℕ → Type 0)
+module _ {D K : Type 0} (disk_says : DiskSays D) (end : ℕ) (images : Files → Type 0) (sink_says : SinkSays K) (may_give : ℕ → Type 0)
     (sessions : List (Option Session)) (scripts : List (Option ReplicaScript)) (requests : List (List Request)) (asked : AreRequestsOfAll may_give 1 sessions requests) (as_many : length scripts ≡ length sessions) (apart : AreApart sessions scripts)
     (parties : List (Option ReplicaParty)) (first : AreFresh may_give 1 scripts parties) (begins : ℕ → List Deed → Type 0) (faults_then contents_then : ℕ) (sinks : List K) (sinks_as_many : length sinks ≡ length sessions) (ran : ThreadsRun D K)
-    (s : HaveRunAll seen may_leave moment left_since end images disk_faults may_give given faults begins faults_then contents_then requests parties sinks ran) where
+    (s : HaveRunAll disk_says end images may_give sink_says begins faults_then contents_then requests parties sinks ran) where
   count : length requests ≡ length sessions
   count = asked_count may_give 1 sessions requests asked
 
@@ -90,7 +91,7 @@ module _ {D K : Type 0} (seen may_leave : D → Files → Type 0) (moment : D �
   among = let Among : ℕ → Type 0 = λ n. AllByRecursion (IsAmong n) s.order in subst Among count s.among
 
   abbrev Served : ℕ → List Request → Option ReplicaParty → SessionRun → Bool → K → K → Type 0
-  Served party own replica run lost old new = IsPartyServed seen may_leave moment left_since end images may_give given faults begins party own replica run lost old new s.order
+  Served party own replica run lost old new = IsPartyServed disk_says end images may_give sink_says begins party own replica run lost old new s.order
 
   -- a party that is known to have a script, or none
   record IsThere (i : ℕ) (replica : Option ReplicaParty) : Type 0 where
@@ -110,43 +111,43 @@ module _ {D K : Type 0} (seen may_leave : D → Files → Type 0) (moment : D �
 
   -- ---- the sessions
 
-  all_taken : AllHaveTaken begins scripts requests ran.runs.items (map given sinks) (map given ran.sinks.items) s.order
+  all_taken : AllHaveTaken begins scripts requests ran.runs.items (map sink_says.given sinks) (map sink_says.given ran.sinks.items) s.order
   all_taken i own run had got at_script at_own at_run at_had at_got =
-      let old = from_map given sinks i had at_had in
-      let new = from_map given ran.sinks.items i got at_got in
+      let old = from_map sink_says.given sinks i had at_had in
+      let new = from_map sink_says.given ran.sinks.items i got at_got in
       let one = s.served i own None run old.0 new.0 at_own (none_at may_give 1 scripts parties first i at_script) at_run old.1 new.1 in
       let Taken : Option (List ℕ) → Option (List ℕ) → Type 0 = λ x y. HasTaken begins (i + 1) own run x y s.order in
-      subst (λ (y : Option (List ℕ)). Taken had y) new.2 (subst (λ (x : Option (List ℕ)). Taken x (given new.0)) old.2 one.0.taken)
+      subst (λ (y : Option (List ℕ)). Taken had y) new.2 (subst (λ (x : Option (List ℕ)). Taken x (sink_says.given new.0)) old.2 one.0.taken)
 
   none_placed : NoneHasPlace scripts s.order
   none_placed i script at = let p = party_at may_give 1 scripts parties first i script at in (there i (Some script) at (Some p.0) p.1).is.none
 
-  before_count : length (map given sinks) ≡ length sessions
-  before_count = length-map sinks given ∙ sinks_as_many
+  before_count : length (map sink_says.given sinks) ≡ length sessions
+  before_count = length-map sinks sink_says.given ∙ sinks_as_many
 
-  now_count : length (map given ran.sinks.items) ≡ length sessions
-  now_count = length-map ran.sinks.items given ∙ left_count
+  now_count : length (map sink_says.given ran.sinks.items) ≡ length sessions
+  now_count = length-map ran.sinks.items sink_says.given ∙ left_count
 
   names_all : AllByRecursion (Names sessions) s.order
-  names_all = names may_give begins sessions scripts requests asked as_many apart ran.runs.items (map given sinks) (map given ran.sinks.items) s.order count runs_count before_count now_count all_taken none_placed among
+  names_all = names may_give begins sessions scripts requests asked as_many apart ran.runs.items (map sink_says.given sinks) (map sink_says.given ran.sinks.items) s.order count runs_count before_count now_count all_taken none_placed among
 
   places_are : map (placed sessions) ran.order.items ≡ map placed_of s.order
   places_are = ap (map (placed sessions)) s.places ∙ names_are sessions s.order names_all
 
   -- the depot has run the places of the order
-  pub depot_ran : (since : ℕ) (start : List Deed) → begins since start → HasRun seen may_leave moment left_since ran.depot since start (map (placed sessions) ran.order.items)
-  depot_ran since start begun = subst (λ (places : List Placed). HasRun seen may_leave moment left_since ran.depot since start places) (sym places_are) (s.ran_by since start begun)
+  pub depot_ran : (since : ℕ) (start : List Deed) → begins since start → HasRun disk_says ran.depot since start (map (placed sessions) ran.order.items)
+  depot_ran since start begun = subst (λ (places : List Placed). HasRun disk_says ran.depot since start places) (sym places_are) (s.ran_by since start begun)
 
-  pub all_served : (since : ℕ) (start : List Deed) → begins since start → AreServed may_give sessions scripts start ran.runs.items (map given sinks) (map given ran.sinks.items) ran.order.items
+  pub all_served : (since : ℕ) (start : List Deed) → begins since start → AreServed may_give sessions scripts start ran.runs.items (map sink_says.given sinks) (map sink_says.given ran.sinks.items) ran.order.items
   all_served since start begun =
-      let All : List Place → Type 0 = λ order. AreServed may_give sessions scripts start ran.runs.items (map given sinks) (map given ran.sinks.items) order in
+      let All : List Place → Type 0 = λ order. AreServed may_give sessions scripts start ran.runs.items (map sink_says.given sinks) (map sink_says.given ran.sinks.items) order in
       subst All (sym s.places)
-      (served may_give begins sessions scripts requests asked as_many apart ran.runs.items (map given sinks) (map given ran.sinks.items) s.order count runs_count before_count now_count all_taken none_placed among since start begun)
+      (served may_give begins sessions scripts requests asked as_many apart ran.runs.items (map sink_says.given sinks) (map sink_says.given ran.sinks.items) s.order count runs_count before_count now_count all_taken none_placed among since start begun)
 
   -- ---- the replicas
 
   -- what had run a beginning of the order had run the first places
-  front_been : (since : ℕ) (start : List Deed) (depot : SerialDepot D) → HasRunFront seen may_leave moment left_since since start s.order depot → HasBeenAt seen may_leave moment left_since sessions since start ran.order.items depot
+  front_been : (since : ℕ) (start : List Deed) (depot : SerialDepot D) → HasRunFront disk_says since start s.order depot → HasBeenAt disk_says sessions since start ran.order.items depot
   front_been since start depot f =
       let few = prefix_length f.front s.order f.begins in
       let many = length-map s.order place_of in
@@ -156,11 +157,11 @@ module _ {D K : Type 0} (seen may_leave : D → Files → Type 0) (moment : D �
       record {
         count = length f.front;
         within = omega (arith, few, many, all);
-        ran = subst (λ (places : List Placed). HasRun seen may_leave moment left_since depot since start places) taken f.ran;
+        ran = subst (λ (places : List Placed). HasRun disk_says depot since start places) taken f.ran;
       }
 
   pub all_replicas_served : All (λ (script : Option ReplicaScript). AreWellFormed (replica_commands script)) scripts → (since : ℕ) (start : List Deed) → begins since start
-      → AreReplicasServed seen may_leave moment left_since may_give sessions scripts since start ran.order.items ran.runs.items ran.lost (map given sinks) (map given ran.sinks.items)
+      → AreReplicasServed disk_says may_give sessions scripts since start ran.order.items ran.runs.items ran.lost (map sink_says.given sinks) (map sink_says.given ran.sinks.items)
   all_replicas_served formed since start begun = record {
     flags = s.flags;
     told = record {
@@ -170,25 +171,25 @@ module _ {D K : Type 0} (seen may_leave : D → Files → Type 0) (moment : D �
     };
     each = λ i script run had got at_script at_run at_had at_got.
         let p = party_at may_give 1 scripts parties first i script at_script in
-        let old = from_map given sinks i had at_had in
-        let new = from_map given ran.sinks.items i got at_got in
+        let old = from_map sink_says.given sinks i had at_had in
+        let new = from_map sink_says.given ran.sinks.items i got at_got in
         let own = also_at scripts requests i (Some script) (as_many ∙ sym count) at_script in
         let number : 1 + i ≡ i + 1 = omega arith in
         let one : IsFresh may_give (i + 1) script p.0 = subst (λ (n : ℕ). IsFresh may_give n script p.0) number p.2.0 in
         let Well : Option ReplicaScript → Type 0 = λ x. AreWellFormed (replica_commands x) in
         let well = all_at Well scripts i (Some script) (recursion_from_All Well scripts formed) at_script in
-        let Front : SerialDepot D → Type 0 = HasRunFront seen may_leave moment left_since since start s.order in
-        let Been : SerialDepot D → Type 0 = HasBeenAt seen may_leave moment left_since sessions since start ran.order.items in
+        let Front : SerialDepot D → Type 0 = HasRunFront disk_says since start s.order in
+        let Been : SerialDepot D → Type 0 = HasBeenAt disk_says sessions since start ran.order.items in
         let flag = get_or s.flags i false in
         let gave = (s.served i own.0 (Some p.0) run old.0 new.0 own.1 p.1 at_run old.1 new.1).gave ran.depot.archive s.stored since start script begun one well in
-        let Output : Option (List ℕ) → Option (List ℕ) → Type 0 = λ x y. IsReplicaOutput Been seen may_leave may_give (i + 1) script run.commands run.failed flag x y in
-        subst (λ (y : Option (List ℕ)). Output had y) new.2 (subst (λ (x : Option (List ℕ)). Output x (given new.0)) old.2
-        (output_wider Front Been seen may_leave may_give (i + 1) script (front_been since start) run.commands run.failed flag (given old.0) (given new.0) gave));
+        let Output : Option (List ℕ) → Option (List ℕ) → Type 0 = λ x y. IsReplicaOutput Been disk_says may_give (i + 1) script run.commands run.failed flag x y in
+        subst (λ (y : Option (List ℕ)). Output had y) new.2 (subst (λ (x : Option (List ℕ)). Output x (sink_says.given new.0)) old.2
+        (output_wider Front Been disk_says may_give (i + 1) script (front_been since start) run.commands run.failed flag (sink_says.given old.0) (sink_says.given new.0) gave));
   }
 
   -- ---- the ends
 
-  pub all_ends : AreEnds faults sessions scripts ran.runs.items sinks ran.sinks.items
+  pub all_ends : AreEnds sink_says sessions scripts ran.runs.items sinks ran.sinks.items
   all_ends = record {
     runs_count = runs_count;
     sinks_count = left_count ∙ sym sinks_as_many;
@@ -196,15 +197,15 @@ module _ {D K : Type 0} (seen may_leave : D → Files → Type 0) (moment : D �
   }
     where
       end_at : (i : ℕ) (session : Option Session) (script : Option ReplicaScript) (run : SessionRun) (old new : K) → slice_get sessions i ≡ Some session → slice_get scripts i ≡ Some script → slice_get ran.runs.items i ≡ Some run
-          → slice_get sinks i ≡ Some old → slice_get ran.sinks.items i ≡ Some new → IsEnd faults (total_of session script) run old new
+          → slice_get sinks i ≡ Some old → slice_get ran.sinks.items i ≡ Some new → IsEnd sink_says (total_of session script) run old new
       end_at i session None run old new at_session at_script at_run at_old at_new =
           let own = also_at sinks requests i old (sinks_as_many ∙ sym count) at_old in
           let are = own_at may_give 1 sessions requests asked i session own.0 at_session own.1 in
           let one = s.served i own.0 None run old new own.1 (none_at may_give 1 scripts parties first i at_script) at_run at_old at_new in
-          let End : ℕ → Type 0 = λ total. IsEnd faults total run old new in
+          let End : ℕ → Type 0 = λ total. IsEnd sink_says total run old new in
           subst End (many_of may_give are.0 session own.0 are.1) one.0.end
       end_at i session (Some script) run old new at_session at_script at_run at_old at_new =
           let p = party_at may_give 1 scripts parties first i script at_script in
           let own = also_at sinks requests i old (sinks_as_many ∙ sym count) at_old in
-          let End : ℕ → Type 0 = λ total. IsEnd faults total run old new in
+          let End : ℕ → Type 0 = λ total. IsEnd sink_says total run old new in
           subst End p.2.1 (s.served i own.0 (Some p.0) run old new own.1 p.1 at_run at_old at_new).end

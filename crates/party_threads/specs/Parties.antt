@@ -11,6 +11,7 @@ use Rattle.locked_tables.specs.Known.{PartyKnown}
 use Rattle.locked_tables.specs.Taken.{of_party, place_of, placed_of}
 use Rattle.locked_tables.specs.declared.taken.Taken.{Taken}
 use Rattle.outside_api.specs.Disk.{Files}
+use Rattle.outside_api.specs.Says.{DiskSays, SinkSays}
 use Rattle.party_marks.specs.Known.{PassKnown}
 use Rattle.party_marks.specs.Marks.{has_marks, is_empty}
 use Rattle.run_parties.specs.Asking.{left_in}
@@ -30,9 +31,9 @@ use Rattle.party_threads.specs.declared.run.ThreadsRun.{ThreadsRun}
 -- ---- one party
 
 -- its commands were taken, and so it ended
-pub record IsServedAlone {K : Type 0} (given : K → Option (List ℕ)) (faults : K → ℕ) (begins : ℕ → List Deed → Type 0) (party : ℕ) (requests : List Request) (run : SessionRun) (old new : K) (entries : List Taken) : Type 0 where
-  pub taken : HasTaken begins party requests run (given old) (given new) entries
-  pub end : IsEnd faults (length requests) run old new
+pub record IsServedAlone {K : Type 0} (sink_says : SinkSays K) (begins : ℕ → List Deed → Type 0) (party : ℕ) (requests : List Request) (run : SessionRun) (old new : K) (entries : List Taken) : Type 0 where
+  pub taken : HasTaken begins party requests run (sink_says.given old) (sink_says.given new) entries
+  pub end : IsEnd sink_says (length requests) run old new
 
 -- requests are those of one party, in order
 pub record IsAsked (begins : ℕ → List Deed → Type 0) (party : ℕ) (requests : List Request) : Type 0 where
@@ -61,11 +62,11 @@ pub record IsHeard (order : List Taken) (known : PartyKnown) : Type 0 where
   pub begins : IsPrefix known.list order
   pub own : of_party known.party order ≡ of_party known.party known.list
 
-module _ {D K : Type 0} (seen may_leave : D → Files → Type 0) (moment : D → ℕ) (left_since : D → ℕ → Files → Type 0) (end : ℕ) (images : Files → Type 0) (may_give : ℕ → Type 0) (given : K → Option (List ℕ)) (faults : K → ℕ) (begins : ℕ → List Deed → Type 0) where
+module _ {D K : Type 0} (disk_says : DiskSays D) (end : ℕ) (images : Files → Type 0) (may_give : ℕ → Type 0) (sink_says : SinkSays K) (begins : ℕ → List Deed → Type 0) where
   -- its session's commands were taken, or its replica's answered; only a replica may have been told that a disk failed
   abbrev pub IsPartyServed : ℕ → List Request → Option ReplicaParty → SessionRun → Bool → K → K → List Taken → Type 0
-  IsPartyServed party requests None run lost old new entries = IsServedAlone given faults begins party requests run old new entries × (lost ≡ false)
-  IsPartyServed party requests (Some p) run lost old new entries = IsReplicaServed seen may_leave moment left_since end images begins given faults may_give party p run lost old new entries
+  IsPartyServed party requests None run lost old new entries = IsServedAlone sink_says begins party requests run old new entries × (lost ≡ false)
+  IsPartyServed party requests (Some p) run lost old new entries = IsReplicaServed disk_says end images begins sink_says may_give party p run lost old new entries
 
   -- it ran on its thread
   pub record HasRunParty {N : Type 0} (old new : ThreadParty K N) : Type 0 where
@@ -105,7 +106,7 @@ module _ {K N : Type 0} where
 abbrev pub IsAmong : ℕ → Taken → Type 0
 IsAmong n entry = (1 ≤ entry.request.party) × (entry.request.party ≤ n)
 
-module _ {D K : Type 0} (seen may_leave : D → Files → Type 0) (moment : D → ℕ) (left_since : D → ℕ → Files → Type 0) (end : ℕ) (images : Files → Type 0) (disk_faults : D → ℕ) (may_give : ℕ → Type 0) (given : K → Option (List ℕ)) (faults : K → ℕ) where
+module _ {D K : Type 0} (disk_says : DiskSays D) (end : ℕ) (images : Files → Type 0) (may_give : ℕ → Type 0) (sink_says : SinkSays K) where
   -- All parties ran on their threads: there is one order, in which each was served, and which the depot has run. The run is told of a failed disk exactly
   -- where a replica was, and then a count of one of the two disks rose.
   pub record HaveRunAll (begins : ℕ → List Deed → Type 0) (faults_then contents_then : ℕ) (requests : List (List Request)) (replicas : List (Option ReplicaParty)) (sinks : List K) (ran : ThreadsRun D K) : Type 0 where
@@ -116,10 +117,10 @@ module _ {D K : Type 0} (seen may_leave : D → Files → Type 0) (moment : D �
     pub flags : List Bool
     pub flags_count : length flags ≡ length requests
     pub told : ran.lost ≡ list_any (λ flag. flag) flags
-    pub served : AreAllServed seen may_leave moment left_since end images may_give given faults begins requests replicas ran.runs.items flags sinks ran.sinks.items order
+    pub served : AreAllServed disk_says end images may_give sink_says begins requests replicas ran.runs.items flags sinks ran.sinks.items order
     pub among : AllByRecursion (IsAmong (length requests)) order
-    pub can : CanTake may_leave ran.depot
-    pub stored : HasAllStored seen may_leave moment left_since end images begins order ran.depot.archive
-    pub ran_by : (since : ℕ) (start : List Deed) → begins since start → HasRun seen may_leave moment left_since ran.depot since start (map placed_of order)
-    pub caused : AreCaused faults_then (disk_faults (disk_of ran.depot.journal)) contents_then (disk_faults (archives.disk_of ran.depot.archive)) [] ran.order.items
-    pub lost : ran.lost ≡ true → OneHasRisen faults_then (disk_faults (disk_of ran.depot.journal)) contents_then (disk_faults (archives.disk_of ran.depot.archive))
+    pub can : CanTake disk_says ran.depot
+    pub stored : HasAllStored disk_says end images begins order ran.depot.archive
+    pub ran_by : (since : ℕ) (start : List Deed) → begins since start → HasRun disk_says ran.depot since start (map placed_of order)
+    pub caused : AreCaused faults_then (disk_says.faults (disk_of ran.depot.journal)) contents_then (disk_says.faults (archives.disk_of ran.depot.archive)) [] ran.order.items
+    pub lost : ran.lost ≡ true → OneHasRisen faults_then (disk_says.faults (disk_of ran.depot.journal)) contents_then (disk_says.faults (archives.disk_of ran.depot.archive))

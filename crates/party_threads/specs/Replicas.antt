@@ -1,5 +1,5 @@
 -- What a replica on a thread of its own is answered, beside the sessions. This project's own choice.
-use Rattle.std.specs.Prelude.{◌≡◌, ◌≤◌, ℕ, Bool, true, List, [], length, map, Option, Result}
+use Rattle.std.specs.Prelude.{◌≡◌, ◌≤◌, ℕ, Bool, true, List, [], length, map, Result}
 use mathlib.Core.List.{IsPrefix}
 use Rattle.archive_file.specs.declared.archive.Archive.{Archive}
 use Rattle.depot_model.specs.Deeds.{Deed}
@@ -8,6 +8,7 @@ use Rattle.locked_tables.specs.Taken.{of_party, placed_of}
 use Rattle.locked_tables.specs.declared.taken.Taken.{Taken}
 use Rattle.outside_api.specs.Count.{HasRisen}
 use Rattle.outside_api.specs.Disk.{Files}
+use Rattle.outside_api.specs.Says.{DiskSays, SinkSays}
 use Rattle.party_marks.specs.Known.{PassKnown}
 use Rattle.run_parties.specs.Giving.{Got}
 use Rattle.run_parties.specs.Served.{IsEnd}
@@ -22,26 +23,26 @@ use Rattle.session_loop.specs.declared.session.SessionRun.{SessionRun}
 use Rattle.shared_depot.specs.Common.{HasAllStored}
 use Rattle.shared_depot.specs.Replicas.{IsReplicaTurn}
 
-module _ {D : Type 0} (seen may_leave : D → Files → Type 0) (moment : D → ℕ) (left_since : D → ℕ → Files → Type 0) where
+module _ {D : Type 0} (disk_says : DiskSays D) where
   -- a depot as it was between two places of an order: it had run those of a beginning
   pub record HasRunFront (since : ℕ) (start : List Deed) (order : List Taken) (depot : SerialDepot D) : Type 0 where
     pub front : List Taken
     pub begins : IsPrefix front order
-    pub ran : HasRun seen may_leave moment left_since depot since start (map placed_of front)
+    pub ran : HasRun disk_says depot since start (map placed_of front)
 
-  module _ {K : Type 0} (archive_end : ℕ) (images : Files → Type 0) (begins : ℕ → List Deed → Type 0) (given : K → Option (List ℕ)) (faults : K → ℕ) where
+  module _ {K : Type 0} (archive_end : ℕ) (images : Files → Type 0) (begins : ℕ → List Deed → Type 0) (sink_says : SinkSays K) where
     -- A replica answered its next command, which has this number, and its sink got the reply.
     pub record IsStep (number : ℕ) (old new : PartyKnown) (old_marks new_marks : PassKnown) (p q : ReplicaParty) (before now : K) (failed : Bool) : Type 0 where
       pub result : Result Answered (Unit {0})
-      pub turn : IsReplicaTurn seen may_leave moment left_since archive_end images begins old new old_marks new_marks p q result
-      pub got : Got failed (reply_text result number) (given before) (given now)
-      pub counts : faults before ≤ faults now
-      pub cause : failed ≡ true → HasRisen (faults before) (faults now)
+      pub turn : IsReplicaTurn disk_says archive_end images begins old new old_marks new_marks p q result
+      pub got : Got failed (reply_text result number) (sink_says.given before) (sink_says.given now)
+      pub counts : sink_says.faults before ≤ sink_says.faults now
+      pub cause : failed ≡ true → HasRisen (sink_says.faults before) (sink_says.faults now)
 
     -- A replica that had answered nothing answered its commands over such depots, and its sink got the replies. None of the entries is of its party. Where no
     -- archive was asked, it is any in which the contents of the entries were stored.
     pub record IsReplicaServed (may_give : ℕ → Type 0) (party : ℕ) (p : ReplicaParty) (run : SessionRun) (lost : Bool) (old new : K) (entries : List Taken) : Type 0 where
-      pub gave : (archive : Archive D) → HasAllStored seen may_leave moment left_since archive_end images begins entries archive → (since : ℕ) (start : List Deed) (script : ReplicaScript) → begins since start → IsFresh may_give party script p → AreWellFormed script.session.commands
-          → IsReplicaOutput (HasRunFront since start entries) seen may_leave may_give party script run.commands run.failed lost (given old) (given new)
-      pub end : IsEnd faults (length p.left.items) run old new
+      pub gave : (archive : Archive D) → HasAllStored disk_says archive_end images begins entries archive → (since : ℕ) (start : List Deed) (script : ReplicaScript) → begins since start → IsFresh may_give party script p → AreWellFormed script.session.commands
+          → IsReplicaOutput (HasRunFront since start entries) disk_says may_give party script run.commands run.failed lost (sink_says.given old) (sink_says.given new)
+      pub end : IsEnd sink_says (length p.left.items) run old new
       pub none : of_party party entries ≡ []

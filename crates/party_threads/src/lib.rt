@@ -14,5 +14,6 @@ mod replicas;
 mod run;
 mod session;
 mod threads;
+mod words;
 
 pub use run::{ThreadsRun, run_on_threads};

@@ -45,7 +45,7 @@ impl<K: Sink, N: Naming + Marking + Imaging + Serving> ThreadParty<K, N> {
         gate: &G,
     )
         requires { IsReady N.begins self.old }
-        ensures { HasRunParty D.seen D.may_leave D.moment D.left_since N.end N.images (C.may_give clock.now) K.given K.faults N.begins self.old self.new }
+        ensures { HasRunParty D.says N.end N.images (C.says.may_give clock.now) K.says N.begins self.old self.new }
     {
         match self.replica.take() {
             Some(replica) => {

@@ -1,11 +1,10 @@
 //! The run of all parties.
 
-ghost use Rattle.std.specs.Prelude.{◌≡◌, ◌≤◌, ◌+◌, ℕ, List, [], true, length, map, All, IfErr, IfOk};
+ghost use Rattle.std.specs.Prelude.{◌≡◌, ◌≤◌, ℕ, List, [], true, length, map, All, IfErr, IfOk};
 ghost use Rattle.archive_file.specs.Archive.{disk_of as archive_disk_of};
 ghost use Rattle.depot_model.specs.Deeds.{Deed};
 ghost use Rattle.depot_runs.specs.Run.{placed};
 ghost use Rattle.disk_journal.specs.Stands.{disk_of};
-ghost use Rattle.order_words.specs.Seats.{fresh_lanes, fresh_order, lane_count};
 ghost use Rattle.run_parties.specs.Asking.{AreFresh};
 ghost use Rattle.run_parties.specs.Replicas.{AreReplicasServed, OneHasRisen};
 ghost use Rattle.run_parties.specs.Served.{AreApart, AreEnds, AreServed};
@@ -13,13 +12,12 @@ ghost use Rattle.run_parties.specs.serial_depot.Running.{CanTake, HasRun};
 ghost use Rattle.session_loop.specs.Asking.{AreWellFormed, commands_of, replica_commands};
 ghost use Rattle.session_loop.specs.Requests.{AreRequestsOfAll};
 ghost use Rattle.session_loop.specs.Served.{AreCaused};
+ghost use Rattle.party_threads.specs.Words.{AreFreshWords};
 
 use crate::threads::run_named;
+use crate::words::RunWords;
 use depot_model::{Place, Request, Session};
-use locked_tables::Taken;
-use order_words::{LaneSeat, OrderSeat, Orders};
 use outside_api::{Clock, Disk, Gate, Sink};
-use party_marks::Mark;
 use replica_turns::ReplicaParty;
 use run_parties::{all_requests, replica_parties};
 use serial_depot::SerialDepot;
@@ -44,44 +42,17 @@ pub struct ThreadsRun<D: Disk, K> {
     pub depot: SerialDepot<D>,
 }
 
-/// What all parties ask, how many places each may have, and the words of the order of their places and of their marks.
+/// What all parties ask, how many places each may have, and the words of their order.
 #[derive(Drop)]
-struct Brought {
-    requests: Vec<Vec<Request>>,
-    replicas: Vec<Option<ReplicaParty>>,
-    places: Vec<u64>,
-    words: (Orders<Taken>, OrderSeat<Taken>, Vec<LaneSeat<Taken>>),
-    mark_words: (Orders<Mark>, OrderSeat<Mark>, Vec<LaneSeat<Mark>>),
-    content_words: (Orders<Mark>, OrderSeat<Mark>, Vec<LaneSeat<Mark>>),
-}
-
-/// The words of the order of so many parties' places, and those of their marks. The one error is want of memory.
-fn words_for(
-    alloc: Global,
-    parties: u32,
-) -> Result<
-    (
-        (Orders<Taken>, OrderSeat<Taken>, Vec<LaneSeat<Taken>>),
-        (Orders<Mark>, OrderSeat<Mark>, Vec<LaneSeat<Mark>>),
-        (Orders<Mark>, OrderSeat<Mark>, Vec<LaneSeat<Mark>>),
-    ),
-    AllocError,
->
-    requires { parties ≤ 16 }
-    ensures lanes { IfOk result (λ r. lane_count r.0.0 ≡ 13 + parties) }
-    ensures order { IfOk result (λ r. r.0.1 ≡ fresh_order r.0.0 (13 + parties)) }
-    ensures seats { IfOk result (λ r. r.0.2.items ≡ fresh_lanes r.0.0 (13 + parties)) }
-    ensures mark_lanes { IfOk result (λ r. lane_count r.1.0 ≡ 1 + parties) }
-    ensures mark_order { IfOk result (λ r. r.1.1 ≡ fresh_order r.1.0 (1 + parties)) }
-    ensures mark_seats { IfOk result (λ r. r.1.2.items ≡ fresh_lanes r.1.0 (1 + parties)) }
-    ensures content_lanes { IfOk result (λ r. lane_count r.2.0 ≡ 1 + parties) }
-    ensures content_order { IfOk result (λ r. r.2.1 ≡ fresh_order r.2.0 (1 + parties)) }
-    ensures content_seats { IfOk result (λ r. r.2.2.items ≡ fresh_lanes r.2.0 (1 + parties)) }
-{
-    let words = Orders::new(alloc, 13 + parties)?;
-    let mark_words = Orders::new(alloc, 1 + parties)?;
-    let content_words = Orders::new(alloc, 1 + parties)?;
-    Ok((words, mark_words, content_words))
+pub(crate) struct Brought {
+    /// The requests of each party's session.
+    pub(crate) requests: Vec<Vec<Request>>,
+    /// The replica of each party that is one.
+    pub(crate) replicas: Vec<Option<ReplicaParty>>,
+    /// How many places each party may have.
+    pub(crate) places: Vec<u64>,
+    /// The words.
+    pub(crate) words: RunWords,
 }
 
 /// How many places each party may have: as many as its session has requests, each of which gets at most one. The one error is want of memory.
@@ -107,21 +78,13 @@ fn bring<C: Clock>(
     requires as_many { length scripts.items ≡ length sessions.items }
     requires few { All (λ session. length (commands_of session) ≤ 67108864) sessions.items }
     requires few_replicas { All (λ script. length (replica_commands script) ≤ 67108864) scripts.items }
-    ensures requests { IfOk result (λ brought. AreRequestsOfAll (C.may_give clock.now) 1 sessions.items (map (λ own. own.items) brought.requests.items)) }
-    ensures replicas { IfOk result (λ brought. AreFresh (C.may_give clock.now) 1 scripts.items brought.replicas.items) }
+    ensures requests { IfOk result (λ brought. AreRequestsOfAll (C.says.may_give clock.now) 1 sessions.items (map (λ own. own.items) brought.requests.items)) }
+    ensures replicas { IfOk result (λ brought. AreFresh (C.says.may_give clock.now) 1 scripts.items brought.replicas.items) }
     ensures places { IfOk result (λ brought. brought.places.items ≡ map (λ own. length own.items) brought.requests.items) }
-    ensures lanes { IfOk result (λ brought. lane_count brought.words.0 ≡ 13 + length sessions.items) }
-    ensures order { IfOk result (λ brought. brought.words.1 ≡ fresh_order brought.words.0 (13 + length sessions.items)) }
-    ensures seats { IfOk result (λ brought. brought.words.2.items ≡ fresh_lanes brought.words.0 (13 + length sessions.items)) }
-    ensures mark_lanes { IfOk result (λ brought. lane_count brought.mark_words.0 ≡ 1 + length sessions.items) }
-    ensures mark_order { IfOk result (λ brought. brought.mark_words.1 ≡ fresh_order brought.mark_words.0 (1 + length sessions.items)) }
-    ensures mark_seats { IfOk result (λ brought. brought.mark_words.2.items ≡ fresh_lanes brought.mark_words.0 (1 + length sessions.items)) }
-    ensures content_lanes { IfOk result (λ brought. lane_count brought.content_words.0 ≡ 1 + length sessions.items) }
-    ensures content_order { IfOk result (λ brought. brought.content_words.1 ≡ fresh_order brought.content_words.0 (1 + length sessions.items)) }
-    ensures content_seats { IfOk result (λ brought. brought.content_words.2.items ≡ fresh_lanes brought.content_words.0 (1 + length sessions.items)) }
+    ensures words { IfOk result (λ brought. AreFreshWords (length sessions.items) brought.words) }
 {
     let parties = sessions.len() as u32;
-    let Ok((words, mark_words, content_words)) = words_for(alloc, parties) else {
+    let Ok(words) = RunWords::new(alloc, parties) else {
         drop(sessions);
         drop(scripts);
         return Err(AllocError);
@@ -140,8 +103,6 @@ fn bring<C: Clock>(
             replicas,
             places,
             words,
-            mark_words,
-            content_words,
         }),
         Err(error) => {
             drop(requests);
@@ -173,54 +134,34 @@ pub fn run_on_threads<
     sinks: Vec<K>,
     depot: SerialDepot<D>,
 ) -> Result<ThreadsRun<D, K>, SerialDepot<D>>
-    requires can { CanTake D.may_leave depot }
+    requires can { CanTake D.says depot }
     requires as_many { length sinks.items ≡ length sessions.items }
     requires as_many_replicas { length replicas.items ≡ length sessions.items }
     requires apart { AreApart sessions.items replicas.items }
     requires few_parties { length sessions.items ≤ 16 }
     requires few { All (λ session. length (commands_of session) ≤ 67108864) sessions.items }
     requires few_replicas { All (λ script. length (replica_commands script) ≤ 67108864) replicas.items }
-    ensures can { IfOk result (λ ran. CanTake D.may_leave ran.depot) }
+    ensures can { IfOk result (λ ran. CanTake D.says ran.depot) }
     ensures unrun { IfErr result (λ kept. kept ≡ depot) }
 
     // From each depot from which the depot in files begins, where the commands are well-formed.
-    ensures served { (since : ℕ) (start : List Deed) → All (λ session. AreWellFormed (commands_of session)) sessions.items → HasRun D.seen D.may_leave D.moment D.left_since depot since start [] →
-        IfOk result (λ ran. AreServed (C.may_give clock.now) sessions.items replicas.items start ran.runs.items (map K.given sinks.items) (map K.given ran.sinks.items) ran.order.items) }
-    ensures replicas { (since : ℕ) (start : List Deed) → All (λ session. AreWellFormed (commands_of session)) sessions.items → All (λ script. AreWellFormed (replica_commands script)) replicas.items → HasRun D.seen D.may_leave D.moment D.left_since depot since start [] →
-        IfOk result (λ ran. AreReplicasServed D.seen D.may_leave D.moment D.left_since (C.may_give clock.now) sessions.items replicas.items since start ran.order.items ran.runs.items ran.lost (map K.given sinks.items) (map K.given ran.sinks.items)) }
-    ensures ran { (since : ℕ) (start : List Deed) → All (λ session. AreWellFormed (commands_of session)) sessions.items → HasRun D.seen D.may_leave D.moment D.left_since depot since start [] →
-        IfOk result (λ ran. HasRun D.seen D.may_leave D.moment D.left_since ran.depot since start (map (placed sessions.items) ran.order.items)) }
+    ensures served { (since : ℕ) (start : List Deed) → All (λ session. AreWellFormed (commands_of session)) sessions.items → HasRun D.says depot since start [] →
+        IfOk result (λ ran. AreServed (C.says.may_give clock.now) sessions.items replicas.items start ran.runs.items (map K.says.given sinks.items) (map K.says.given ran.sinks.items) ran.order.items) }
+    ensures replicas { (since : ℕ) (start : List Deed) → All (λ session. AreWellFormed (commands_of session)) sessions.items → All (λ script. AreWellFormed (replica_commands script)) replicas.items → HasRun D.says depot since start [] →
+        IfOk result (λ ran. AreReplicasServed D.says (C.says.may_give clock.now) sessions.items replicas.items since start ran.order.items ran.runs.items ran.lost (map K.says.given sinks.items) (map K.says.given ran.sinks.items)) }
+    ensures ran { (since : ℕ) (start : List Deed) → All (λ session. AreWellFormed (commands_of session)) sessions.items → HasRun D.says depot since start [] →
+        IfOk result (λ ran. HasRun D.says ran.depot since start (map (placed sessions.items) ran.order.items)) }
 
-    ensures ends { IfOk result (λ ran. AreEnds K.faults sessions.items replicas.items ran.runs.items sinks.items ran.sinks.items) }
+    ensures ends { IfOk result (λ ran. AreEnds K.says sessions.items replicas.items ran.runs.items sinks.items ran.sinks.items) }
 
     // There are at most as many fault places as the counts of the two disks rose, and a replica was answered that a disk failed only where one of them rose.
-    ensures faults { IfOk result (λ ran. AreCaused (D.faults (disk_of depot.journal)) (D.faults (disk_of ran.depot.journal)) (D.faults (archive_disk_of depot.archive)) (D.faults (archive_disk_of ran.depot.archive)) [] ran.order.items) }
-    ensures lost { IfOk result (λ ran. ran.lost ≡ true → OneHasRisen (D.faults (disk_of depot.journal)) (D.faults (disk_of ran.depot.journal)) (D.faults (archive_disk_of depot.archive)) (D.faults (archive_disk_of ran.depot.archive))) }
+    ensures faults { IfOk result (λ ran. AreCaused (D.says.faults (disk_of depot.journal)) (D.says.faults (disk_of ran.depot.journal)) (D.says.faults (archive_disk_of depot.archive)) (D.says.faults (archive_disk_of ran.depot.archive)) [] ran.order.items) }
+    ensures lost { IfOk result (λ ran. ran.lost ≡ true → OneHasRisen (D.says.faults (disk_of depot.journal)) (D.says.faults (disk_of ran.depot.journal)) (D.says.faults (archive_disk_of depot.archive)) (D.says.faults (archive_disk_of ran.depot.archive))) }
 {
     match bring(alloc, sessions, replicas, clock) {
         Err(_) => Err(depot),
-        Ok(
-            Brought {
-                requests,
-                replicas,
-                places,
-                words,
-                mark_words,
-                content_words,
-            },
-        ) => run_named::<R, D, K, C, G, Brand>(
-            rt,
-            alloc,
-            words,
-            mark_words,
-            content_words,
-            places,
-            requests,
-            replicas,
-            clock,
-            gate,
-            sinks,
-            depot,
+        Ok(brought) => run_named::<R, D, K, C, G, Brand>(
+            rt, alloc, brought, clock, gate, sinks, depot,
         ),
     }
 }

@@ -32,9 +32,9 @@ fn take_command<R: Wait, D: Disk, K: Sink, G: Gate, N: Naming + Marking + Imagin
 ) -> bool
     requires party { request.party ≡ pass.old.party }
     requires proper { (since : ℕ) (start : List Deed) → N.begins since start → IsProper request }
-    ensures answered { IsAnswered N.begins pass.old pass.new request (K.given sink.old) (K.given sink.new) result }
-    ensures counts { K.faults sink.old ≤ K.faults sink.new }
-    ensures cause { result ≡ true → HasRisen (K.faults sink.old) (K.faults sink.new) }
+    ensures answered { IsAnswered N.begins pass.old pass.new request (K.says.given sink.old) (K.says.given sink.new) result }
+    ensures counts { K.says.faults sink.old ≤ K.says.faults sink.new }
+    ensures cause { result ≡ true → HasRisen (K.says.faults sink.old) (K.says.faults sink.new) }
 {
     let number = request.number;
     match depot.take(rt, alloc, gate, pass, request) {
@@ -65,8 +65,8 @@ pub(crate) fn take_commands<
     requires numbered { AreNumbered pass.old.party requests.items }
     requires proper { (since : ℕ) (start : List Deed) → N.begins since start → AllByRecursion IsProper requests.items }
     ensures party { pass.new.party ≡ pass.old.party }
-    ensures taken { HasTaken N.begins pass.old.party requests.items result (K.given sink.old) (K.given sink.new) pass.new.list }
-    ensures end { IsEnd K.faults (length requests.items) result sink.old sink.new }
+    ensures taken { HasTaken N.begins pass.old.party requests.items result (K.says.given sink.old) (K.says.given sink.new) pass.new.list }
+    ensures end { IsEnd K.says (length requests.items) result sink.old sink.new }
 {
     let mut commands = 0;
     for request in requests {

@@ -6,22 +6,23 @@ ghost use Rattle.depot_model.specs.db_records.declared.table.TableId.{TableId};
 ghost use Rattle.depot_model.specs.Deeds.{Deed};
 ghost use Rattle.disk_journal.specs.Stands.{disk_of};
 ghost use Rattle.outside_api.specs.Disk.{Files};
-ghost use Rattle.order_words.specs.Seats.{fresh_lanes, fresh_order, lane_count};
+ghost use Rattle.order_words.specs.Seats.{lane_count};
 ghost use Rattle.party_marks.specs.Marks.{is_empty};
 ghost use Rattle.party_threads.specs.Parties.{AreAsked, AreCollected, HasRunParty, HaveRun, HaveRunAll, IsHeard, IsReady, is_marked};
 ghost use Rattle.party_threads.specs.Rooms.{IsRoom};
+ghost use Rattle.party_threads.specs.Words.{AreFreshWords};
 ghost use Rattle.run_parties.specs.Asking.{left_in};
 ghost use Rattle.run_parties.specs.serial_depot.Running.{CanTake, HasRun};
 ghost use Rattle.shared_depot.specs.Sharing.{fresh_marks, fresh_passes, places_in};
 ghost use Rattle.table_changes.specs.Changed.{rows_of};
 
 use crate::party::{ThreadParty, put_parties};
-use crate::run::ThreadsRun;
+use crate::run::{Brought, ThreadsRun};
+use crate::words::RunWords;
 use depot_model::Request;
-use locked_tables::{Naming, Taken};
-use order_words::{LaneSeat, OrderSeat, Orders};
+use locked_tables::Naming;
 use outside_api::{Clock, Disk, Gate, Sink};
-use party_marks::{Mark, Marking};
+use party_marks::Marking;
 use replica_turns::ReplicaParty;
 use serial_depot::{Imaging, SerialDepot};
 use session_loop::SessionRun;
@@ -47,7 +48,7 @@ fn run_parties<
     parties: &mut [ThreadParty<K, N>],
 )
     requires { All (IsReady N.begins) parties.old }
-    ensures run { HaveRun D.seen D.may_leave D.moment D.left_since N.end N.images (C.may_give clock.now) K.given K.faults N.begins parties.old parties.new }
+    ensures run { HaveRun D.says N.end N.images (C.says.may_give clock.now) K.says N.begins parties.old parties.new }
     ensures count { length parties.new ≡ length parties.old }
 {
     let threads = parties.len().max(1);
@@ -57,7 +58,7 @@ fn run_parties<
         threads,
         &|_, party: &mut ThreadParty<K, N>|
             requires { IsReady N.begins party.now }
-            ensures { HasRunParty D.seen D.may_leave D.moment D.left_since N.end N.images (C.may_give clock.entry.now) K.given K.faults N.begins party.entry.now party.exit.now }
+            ensures { HasRunParty D.says N.end N.images (C.says.may_give clock.entry.now) K.says N.begins party.entry.now party.exit.now }
         { party.run(rt, alloc, depot, clock, gate) },
     );
 }
@@ -176,7 +177,7 @@ fn run_and_close<
     requires asked { AreAsked N.begins (map (λ own. own.items) requests.items) }
     requires few { All (λ replica. length (left_in replica) ≤ 67108864) replicas.items }
     requires room { IsRoom (length requests.items) room }
-    ensures { HaveRunAll D.seen D.may_leave D.moment D.left_since N.end N.images D.faults (C.may_give clock.now) K.given K.faults N.begins N.faults N.content_faults (map (λ own. own.items) requests.items) replicas.items sinks.items result }
+    ensures { HaveRunAll D.says N.end N.images (C.says.may_give clock.now) K.says N.begins N.faults N.content_faults (map (λ own. own.items) requests.items) replicas.items sinks.items result }
 {
     let Room {
         mut parties,
@@ -202,8 +203,8 @@ fn run_and_close<
     }
 }
 
-/// Runs all parties, numbered from 1, over a depot, with words for their places and marks, where each may have so many places. The one error is want of
-/// memory before the first thread; it gives back the depot, with which nothing was done.
+/// Runs all parties, numbered from 1, over a depot. The one error is want of memory before the first thread; it gives back the depot, with which nothing was
+/// done.
 pub(crate) fn run_named<
     R: Threads + Wait + Sync,
     D: Disk + Send,
@@ -214,53 +215,55 @@ pub(crate) fn run_named<
 >(
     rt: &R,
     alloc: Global,
-    words: (Orders<Taken>, OrderSeat<Taken>, Vec<LaneSeat<Taken>>),
-    mark_words: (Orders<Mark>, OrderSeat<Mark>, Vec<LaneSeat<Mark>>),
-    content_words: (Orders<Mark>, OrderSeat<Mark>, Vec<LaneSeat<Mark>>),
-    places: Vec<u64>,
-    requests: Vec<Vec<Request>>,
-    replicas: Vec<Option<ReplicaParty>>,
+    brought: Brought,
     clock: &C,
     gate: &G,
     sinks: Vec<K>,
     depot: SerialDepot<D>,
 ) -> Result<ThreadsRun<D, K>, SerialDepot<D>>
-    requires run { words.0 ≡ N.run }
-    requires few_parties { length requests.items ≤ 16 }
-    requires lanes { lane_count N.run ≡ 13 + length requests.items }
-    requires order { words.1 ≡ fresh_order N.run (13 + length requests.items) }
-    requires seats { words.2.items ≡ fresh_lanes N.run (13 + length requests.items) }
-    requires marks { mark_words.0 ≡ N.marks }
-    requires mark_lanes { lane_count N.marks ≡ 1 + length requests.items }
-    requires mark_order { mark_words.1 ≡ fresh_order N.marks (1 + length requests.items) }
-    requires mark_seats { mark_words.2.items ≡ fresh_lanes N.marks (1 + length requests.items) }
-    requires content_marks { content_words.0 ≡ N.content_marks }
-    requires content_lanes { lane_count N.content_marks ≡ 1 + length requests.items }
-    requires content_order { content_words.1 ≡ fresh_order N.content_marks (1 + length requests.items) }
-    requires content_seats { content_words.2.items ≡ fresh_lanes N.content_marks (1 + length requests.items) }
-    requires as_many_places { length places.items ≡ length requests.items }
-    requires places { (party : ℕ) → N.places party ≡ places_in places.items party }
+    requires run { brought.words.places.orders ≡ N.run }
+    requires marks { brought.words.marks.orders ≡ N.marks }
+    requires content_marks { brought.words.content_marks.orders ≡ N.content_marks }
+    requires words { AreFreshWords (length brought.requests.items) brought.words }
+    requires few_parties { length brought.requests.items ≤ 16 }
+    requires as_many_places { length brought.places.items ≡ length brought.requests.items }
+    requires places { (party : ℕ) → N.places party ≡ places_in brought.places.items party }
     requires rows { (table : TableId) → rows_of depot.tables table ≡ N.rows table }
     requires end { depot.tables.archive_end ≡ N.end }
-    requires images { (files : Files) → N.images files ↔ D.may_leave (archive_disk_of depot.archive) files }
-    requires can { CanTake D.may_leave depot }
-    requires begins { (since : ℕ) (start : List Deed) → N.begins since start → HasRun D.seen D.may_leave D.moment D.left_since depot since start [] }
-    requires faults { N.faults ≡ D.faults (disk_of depot.journal) }
-    requires content_faults { N.content_faults ≡ D.faults (archive_disk_of depot.archive) }
-    requires as_many { length sinks.items ≡ length requests.items }
-    requires as_many_replicas { length replicas.items ≡ length requests.items }
-    requires asked { AreAsked N.begins (map (λ own. own.items) requests.items) }
-    requires few { All (λ replica. length (left_in replica) ≤ 67108864) replicas.items }
-    ensures run { IfOk result (HaveRunAll D.seen D.may_leave D.moment D.left_since N.end N.images D.faults (C.may_give clock.now) K.given K.faults N.begins N.faults N.content_faults (map (λ own. own.items) requests.items) replicas.items sinks.items) }
+    requires images { (files : Files) → N.images files ↔ D.says.may_leave (archive_disk_of depot.archive) files }
+    requires can { CanTake D.says depot }
+    requires begins { (since : ℕ) (start : List Deed) → N.begins since start → HasRun D.says depot since start [] }
+    requires faults { N.faults ≡ D.says.faults (disk_of depot.journal) }
+    requires content_faults { N.content_faults ≡ D.says.faults (archive_disk_of depot.archive) }
+    requires as_many { length sinks.items ≡ length brought.requests.items }
+    requires as_many_replicas { length brought.replicas.items ≡ length brought.requests.items }
+    requires asked { AreAsked N.begins (map (λ own. own.items) brought.requests.items) }
+    requires few { All (λ replica. length (left_in replica) ≤ 67108864) brought.replicas.items }
+    ensures run { IfOk result (HaveRunAll D.says N.end N.images (C.says.may_give clock.now) K.says N.begins N.faults N.content_faults (map (λ own. own.items) brought.requests.items) brought.replicas.items sinks.items) }
     ensures kept { IfErr result (λ kept. kept ≡ depot) }
 {
+    let Brought {
+        requests,
+        replicas,
+        places,
+        words,
+    } = brought;
+    let RunWords {
+        places: words,
+        marks,
+        content_marks,
+    } = words;
     match Room::new(alloc, requests.len()) {
         Err(_) => Err(depot),
         Ok(room) => match SharedDepot::<D, N>::new(
             alloc,
-            words,
-            mark_words,
-            content_words,
+            (words.orders, words.order, words.lanes),
+            (marks.orders, marks.order, marks.lanes),
+            (
+                content_marks.orders,
+                content_marks.order,
+                content_marks.lanes,
+            ),
             places.as_slice(),
             depot,
         ) {

@@ -18,7 +18,7 @@ impl<'a, R: rt::Clock> SystemClock<'a, R> {
 }
 
 impl<R: rt::Clock> Clock for SystemClock<'_, R> {
-    ghost may_give = { λ clock moment. Unit {0} };
+    ghost says = { record { may_give = λ clock moment. Unit {0} } };
 
     fn now(&self) -> u64 {
         match SystemTime::now(self.rt) {

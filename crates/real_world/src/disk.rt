@@ -69,17 +69,14 @@ fn counted<T: Drop>(faults: &mut Faults<io::Error>, answer: io::Result<T>) -> Re
 impl<R: Files<File = File>> Disk for FolderDisk<'_, R> {
     ghost use Rattle.real_world.specs.Untold.{no_files};
 
-    ghost seen = { λ disk. no_files };
-
-    ghost may_leave = { λ disk. no_files };
-
-    ghost moment = { λ disk. 0 };
-
-    ghost left_since = { λ disk t. no_files };
-
-    ghost faults = { λ disk. disk.faults.count };
-
-    ghost calls = { λ disk. disk.calls };
+    ghost says = { record {
+      seen = λ disk. no_files;
+      may_leave = λ disk. no_files;
+      moment = λ disk. 0;
+      left_since = λ disk t. no_files;
+      faults = λ disk. disk.faults.count;
+      calls = λ disk. disk.calls;
+    } };
 
     ghost reads_an_image = { λ disk c seen. absurd seen };
 

@@ -218,11 +218,7 @@ impl<R: Files<File = File>> Doors for FolderDoors<'_, R> {
 
     type Out = FileSink;
 
-    ghost faults = { λ doors. doors.faults.count };
-
-    ghost input = { λ doors name. None };
-
-    ghost output = { λ doors name. None };
+    ghost says = { record { input = λ doors name. None; output = λ doors name. None; faults = λ doors. doors.faults.count } };
 
     fn come(&mut self, name: &str) -> Result<(FileSource, FileSink), Failed> {
         if !self.are_open {

@@ -37,9 +37,7 @@ impl FileSource {
 impl Source for FileSource {
     ghost use Rattle.std.specs.Prelude.{None};
 
-    ghost faults = { λ source. source.faults.count };
-
-    ghost left = { λ source. None };
+    ghost says = { record { left = λ source. None; faults = λ source. source.faults.count } };
 
     fn take(&mut self, buffer: &mut [u8]) -> Result<usize, Failed> {
         match read(&mut self.file, buffer) {
@@ -95,9 +93,7 @@ impl FileSink {
 impl Sink for FileSink {
     ghost use Rattle.std.specs.Prelude.{None};
 
-    ghost faults = { λ sink. sink.faults.count };
-
-    ghost given = { λ sink. None };
+    ghost says = { record { given = λ sink. None; faults = λ sink. sink.faults.count } };
 
     fn give(&mut self, piece: &[u8]) -> Result<usize, Failed> {
         let written = match &mut self.target {

@@ -2,19 +2,19 @@
 use Rattle.std.proofs.Common.{◌≡◌, ℕ, ◌≤◌, Result, Ok, Err, sym, ◌∙◌, subst, arith}
 use Rattle.std.specs.Result.{IsErrAnd}
 use Rattle.outside_api.specs.Count.{HasRisen}
-use Rattle.outside_api.specs.Disk.{Files}
 use Rattle.outside_api.specs.Moments.{then, weaker}
+use Rattle.outside_api.specs.Says.{DiskSays}
 use Rattle.recovery.specs.declared.fault.OpenFault.{OpenFault}
 use Rattle.recovery.specs.declared.fault.OpenFault.TheVariants.{DiskFault, Memory}
 use Rattle.recovery.specs.Faults.{SaysNothing, IsReadOrSaysNothing}
 use Rattle.recovery.specs.Looking.{OnlyReads, IsCause}
 
-module _ {D : Type 0} (seen may_leave : D → Files → Type 0) (moment : D → ℕ) (left_since : D → ℕ → Files → Type 0) where
-  pub reads_on : (old mid new : D) → OnlyReads seen may_leave moment left_since old mid → OnlyReads seen may_leave moment left_since mid new → OnlyReads seen may_leave moment left_since old new
+module _ {D : Type 0} (disk_says : DiskSays D) where
+  pub reads_on : (old mid new : D) → OnlyReads disk_says old mid → OnlyReads disk_says mid new → OnlyReads disk_says old new
   reads_on old mid new first second = record {
     same = record { kept = λ f read. second.same.kept f (first.same.kept f read); no_more = λ f read. first.same.no_more f (second.same.no_more f read) };
     no_more = λ f left. first.no_more f (second.no_more f left);
-    any_moment = then moment left_since old mid new (may_leave old) first.any_moment (weaker moment left_since mid new (may_leave mid) (may_leave old) first.no_more second.any_moment);
+    any_moment = then disk_says old mid new (disk_says.may_leave old) first.any_moment (weaker disk_says mid new (disk_says.may_leave mid) (disk_says.may_leave old) first.no_more second.any_moment);
   }
 
 pub rises_on : (before mid now : ℕ) → before ≤ mid → HasRisen mid now → HasRisen before now

@@ -1,8 +1,9 @@
 -- The making of the first files, after looks at the journal's disk.
 use Rattle.std.proofs.Common.{◌≡◌, inl, inr, ℕ, zero, suc, ◌+◌, ◌*◌, ◌<◌, List, [], ◌∷◌, length, Result, Ok, Err, refl, sym, ◌∙◌, ap, subst, arith}
 use Rattle.std.specs.Result.{IsErrAnd}
-use Rattle.outside_api.specs.Disk.{Files, After, Elapses, Follows, LeavesOnly, NoMore, Same}
-use Rattle.outside_api.specs.Moments.{started, goes_on, then, weaker}
+use Rattle.outside_api.specs.Disk.{Files, After, Follows, NoMore, Same}
+use Rattle.outside_api.specs.Moments.{Passes, LeavesOnly, started, goes_on, then, weaker}
+use Rattle.outside_api.specs.Says.{DiskSays}
 use Rattle.depot_rows.specs.db_records.declared.change.Change.{Change}
 use Rattle.journal_groups.specs.Groups.{group_text}
 use Rattle.disk_journal.specs.Images.{Begins, IsAtRest, IsRoot}
@@ -69,38 +70,38 @@ making sound old new is = record {
   bare = bare_holds_none old new is;
 }
 
-module _ {D : Type 0} (moment : D → ℕ) (left_since : D → ℕ → Files → Type 0) (may_leave : D → Files → Type 0) (old mid new : D) where
-  stays : (c : Files) → may_leave old c → After IsMaking (may_leave old) c
+module _ {D : Type 0} (disk_says : DiskSays D) (old mid new : D) where
+  stays : (c : Files) → disk_says.may_leave old c → After IsMaking (disk_says.may_leave old) c
   stays c left = (c, left, record { others = λ f behind. refl; root_last = inl refl; bare = λ bare. no_root c bare.root })
 
   -- a disk of which nothing was asked, and one that was looked at
-  pub always_here : ((c : Files) → left_since old (moment old) c → may_leave old c) → LeavesOnly moment left_since old old (may_leave old)
-  always_here only_now = started moment left_since old (may_leave old) only_now
+  pub always_here : ((c : Files) → disk_says.left_since old (disk_says.moment old) c → disk_says.may_leave old c) → LeavesOnly disk_says old old (disk_says.may_leave old)
+  always_here only_now = started disk_says old (disk_says.may_leave old) only_now
 
-  pub looks_at_none : ((c : Files) → left_since old (moment old) c → may_leave old c) → LooksOnly may_leave moment left_since old old
+  pub looks_at_none : ((c : Files) → disk_says.left_since old (disk_says.moment old) c → disk_says.may_leave old c) → LooksOnly disk_says old old
   looks_at_none only_now = record { no_more = λ c left. left; any_moment = always_here only_now }
 
-  pub looked : ((c : Files) → left_since old (moment old) c → may_leave old c) → NoMore (may_leave old) (may_leave mid) → Elapses (moment old) (moment mid) (left_since old) (left_since mid) (may_leave mid)
-      → LooksOnly may_leave moment left_since old mid
-  looked only_now crash time = record { no_more = crash; any_moment = goes_on moment left_since old old mid (may_leave old) (may_leave mid) (always_here only_now) time crash }
+  pub looked : ((c : Files) → disk_says.left_since old (disk_says.moment old) c → disk_says.may_leave old c) → NoMore (disk_says.may_leave old) (disk_says.may_leave mid) → Passes disk_says old mid
+      → LooksOnly disk_says old mid
+  looked only_now crash time = record { no_more = crash; any_moment = goes_on disk_says old old mid (disk_says.may_leave old) (always_here only_now) time crash }
 
   -- the journal's disk that was looked at
-  pub looked_images : LooksOnly may_leave moment left_since old mid → Follows IsMaking (may_leave old) (may_leave mid)
+  pub looked_images : LooksOnly disk_says old mid → Follows IsMaking (disk_says.may_leave old) (disk_says.may_leave mid)
   looked_images looks c left = stays c (looks.no_more c left)
 
-  pub looked_moments : LooksOnly may_leave moment left_since old mid → LeavesOnly moment left_since old mid (After IsMaking (may_leave old))
-  looked_moments looks = weaker moment left_since old mid (may_leave old) (After IsMaking (may_leave old)) stays looks.any_moment
+  pub looked_moments : LooksOnly disk_says old mid → LeavesOnly disk_says old mid (After IsMaking (disk_says.may_leave old))
+  looked_moments looks = weaker disk_says old mid (disk_says.may_leave old) (After IsMaking (disk_says.may_leave old)) stays looks.any_moment
 
   -- and then made
-  module _ (sound : IsSound []) (looks : LooksOnly may_leave moment left_since old mid) where
-    made_after : (c : Files) → After IsBeingMade (may_leave mid) c → After IsMaking (may_leave old) c
+  module _ (sound : IsSound []) (looks : LooksOnly disk_says old mid) where
+    made_after : (c : Files) → After IsBeingMade (disk_says.may_leave mid) c → After IsMaking (disk_says.may_leave old) c
     made_after c after = (after.0, looks.no_more after.0 after.1, making sound after.0 c after.2)
 
-    pub made_images : Follows IsBeingMade (may_leave mid) (may_leave new) → Follows IsMaking (may_leave old) (may_leave new)
+    pub made_images : Follows IsBeingMade (disk_says.may_leave mid) (disk_says.may_leave new) → Follows IsMaking (disk_says.may_leave old) (disk_says.may_leave new)
     made_images follows c left = made_after c (follows c left)
 
-    pub made_moments : LeavesOnly moment left_since mid new (After IsBeingMade (may_leave mid)) → LeavesOnly moment left_since old new (After IsMaking (may_leave old))
-    made_moments run = then moment left_since old mid new (After IsMaking (may_leave old)) (looked_moments looks) (weaker moment left_since mid new (After IsBeingMade (may_leave mid)) (After IsMaking (may_leave old)) made_after run)
+    pub made_moments : LeavesOnly disk_says mid new (After IsBeingMade (disk_says.may_leave mid)) → LeavesOnly disk_says old new (After IsMaking (disk_says.may_leave old))
+    made_moments run = then disk_says old mid new (After IsMaking (disk_says.may_leave old)) (looked_moments looks) (weaker disk_says mid new (After IsBeingMade (disk_says.may_leave mid)) (After IsMaking (disk_says.may_leave old)) made_after run)
 
 -- the other files are as they were read before the look
 pub others_read : (before seen may_leave : Files → Type 0) → Same before seen → Follows SameOthers seen may_leave → Follows SameOthers before may_leave

@@ -1,7 +1,8 @@
 -- A disk that was synced and then only read.
-use Rattle.std.proofs.Common.{◌≡◌, ℕ, ◌∙◌, ap}
-use Rattle.outside_api.specs.Disk.{Files, Elapses, NoMore, Same}
-use Rattle.outside_api.specs.Moments.{started, goes_on, then, weaker}
+use Rattle.std.proofs.Common.{◌≡◌, ◌∙◌, ap}
+use Rattle.outside_api.specs.Disk.{Files, NoMore, Same}
+use Rattle.outside_api.specs.Moments.{Passes, started, goes_on, then, weaker}
+use Rattle.outside_api.specs.Says.{DiskSays}
 use Rattle.depot_rows.specs.db_records.declared.table.TableId.{TableId}
 use Rattle.depot_rows.specs.db_records.declared.table.TableId.TheVariants.{Rev}
 use Rattle.disk_journal.specs.Images.{Committed}
@@ -10,20 +11,20 @@ use Rattle.recovery.specs.Holding.{HasAllRows, spots_end}
 use Rattle.recovery.specs.Looking.{OnlyReads}
 use Rattle.recovery.specs.Opening.{HasSynced, LooksOnly}
 
-module _ {D : Type 0} (seen may_leave : D → Files → Type 0) (moment : D → ℕ) (left_since : D → ℕ → Files → Type 0) (old mid new : D) where
-  pub synced_then : Same (seen old) (seen mid) → NoMore (seen mid) (may_leave mid) → OnlyReads seen may_leave moment left_since mid new → HasSynced seen may_leave old new
+module _ {D : Type 0} (disk_says : DiskSays D) (old mid new : D) where
+  pub synced_then : Same (disk_says.seen old) (disk_says.seen mid) → NoMore (disk_says.seen mid) (disk_says.may_leave mid) → OnlyReads disk_says mid new → HasSynced disk_says old new
   synced_then same durable reads = record {
     same = record { kept = λ f read. reads.same.kept f (same.kept f read); no_more = λ f read. same.no_more f (reads.same.no_more f read) };
     durable = λ f left. reads.same.kept f (durable f (reads.no_more f left));
   }
 
-  pub looks_then : ((c : Files) → left_since old (moment old) c → may_leave old c) → NoMore (may_leave old) (may_leave mid) → Elapses (moment old) (moment mid) (left_since old) (left_since mid) (may_leave mid)
-      → OnlyReads seen may_leave moment left_since mid new → LooksOnly may_leave moment left_since old new
+  pub looks_then : ((c : Files) → disk_says.left_since old (disk_says.moment old) c → disk_says.may_leave old c) → NoMore (disk_says.may_leave old) (disk_says.may_leave mid) → Passes disk_says old mid
+      → OnlyReads disk_says mid new → LooksOnly disk_says old new
   looks_then only_now crash time reads = record {
     no_more = λ f left. crash f (reads.no_more f left);
     any_moment =
-        then moment left_since old mid new (may_leave old) (goes_on moment left_since old old mid (may_leave old) (may_leave mid) (started moment left_since old (may_leave old) only_now) time crash)
-        (weaker moment left_since mid new (may_leave mid) (may_leave old) crash reads.any_moment);
+        then disk_says old mid new (disk_says.may_leave old) (goes_on disk_says old old mid (disk_says.may_leave old) (started disk_says old (disk_says.may_leave old) only_now) time crash)
+        (weaker disk_says mid new (disk_says.may_leave mid) (disk_says.may_leave old) crash reads.any_moment);
   }
 
 -- the same rows

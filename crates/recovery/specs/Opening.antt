@@ -1,6 +1,8 @@
 -- What opening answers (System Administrator Guide, "Backup and recovery"; what is checked is this project's own choice).
-use Rattle.std.specs.Prelude.{◌≡◌, ◌⊎◌, ℕ, Result, Ok, Err}
-use Rattle.outside_api.specs.Disk.{Files, LeavesOnly, NoMore, Same}
+use Rattle.std.specs.Prelude.{◌≡◌, ◌⊎◌, Result, Ok, Err}
+use Rattle.outside_api.specs.Disk.{Files, NoMore, Same}
+use Rattle.outside_api.specs.Moments.{LeavesOnly}
+use Rattle.outside_api.specs.Says.{DiskSays}
 use Rattle.depot_rows.specs.db_records.declared.table.TableId.TheVariants.{Rev}
 use Rattle.disk_journal.specs.Images.{Committed}
 use Rattle.disk_journal.specs.Stands.{Stands, nothing, disk_of}
@@ -25,22 +27,22 @@ archive_disk (Err found) = found.archive
 
 -- What is committed has the rows of the tables, in each image and with nothing in doubt; the archive is used up to the last end of a spot, and each
 -- image of it has the contents.
-pub record IsOpen {D : Type 0} (may_leave : D → Files → Type 0) (was : Committed) (opened : Opened D) : Type 0 where
+pub record IsOpen {D : Type 0} (disk_says : DiskSays D) (was : Committed) (opened : Opened D) : Type 0 where
   pub rows : HasAllRows was (rows_of opened.tables)
-  pub stands : Stands may_leave opened.journal was nothing
+  pub stands : Stands disk_says opened.journal was nothing
   pub archive_end : opened.tables.archive_end ≡ spots_end (rows_of opened.tables Rev)
   pub used : used_of opened.archive ≡ opened.tables.archive_end
-  pub contents : (image : Files) → may_leave (archives.disk_of opened.archive) image → AreWhole (image 0) (rows_of opened.tables Rev)
+  pub contents : (image : Files) → disk_says.may_leave (archives.disk_of opened.archive) image → AreWhole (image 0) (rows_of opened.tables Rev)
 
 -- the disk reads as before, and a crash leaves what it reads
-pub record HasSynced {D : Type 0} (seen may_leave : D → Files → Type 0) (old new : D) : Type 0 where
-  pub same : Same (seen old) (seen new)
-  pub durable : NoMore (seen new) (may_leave new)
+pub record HasSynced {D : Type 0} (disk_says : DiskSays D) (old new : D) : Type 0 where
+  pub same : Same (disk_says.seen old) (disk_says.seen new)
+  pub durable : NoMore (disk_says.seen new) (disk_says.may_leave new)
 
 -- each image is one that the disk had, at every moment
-pub record LooksOnly {D : Type 0} (may_leave : D → Files → Type 0) (moment : D → ℕ) (left_since : D → ℕ → Files → Type 0) (old new : D) : Type 0 where
-  pub no_more : NoMore (may_leave old) (may_leave new)
-  pub any_moment : LeavesOnly moment left_since old new (may_leave old)
+pub record LooksOnly {D : Type 0} (disk_says : DiskSays D) (old new : D) : Type 0 where
+  pub no_more : NoMore (disk_says.may_leave old) (disk_says.may_leave new)
+  pub any_moment : LeavesOnly disk_says old new (disk_says.may_leave old)
 
 -- the fault is that a disk has failed
 abbrev pub IsDiskFault : {D : Type 0} → Result (Opened D) (NotOpened D) → Type 0

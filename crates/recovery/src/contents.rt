@@ -47,11 +47,11 @@ fn check_content<D: Disk>(
 ) -> Result<(), OpenFault>
     requires room { 0 < length piece.old }
     requires small { revision.now.at + revision.now.length < 2 ^ 63 }
-    ensures content { (files : Files) → D.seen disk.old files → revision.now.at + revision.now.length ≤ length (files 0) → OnOk result (HasDigested (files 0) revision.now) }
-    ensures damaged { (files : Files) → D.seen disk.old files → revision.now.at + revision.now.length ≤ length (files 0) → IfDamaged result (λ place. (place ≡ revision.now.at) × (revision.now.digest ≢ digest (bytes_at (files 0) revision.now))) }
+    ensures content { (files : Files) → D.says.seen disk.old files → revision.now.at + revision.now.length ≤ length (files 0) → OnOk result (HasDigested (files 0) revision.now) }
+    ensures damaged { (files : Files) → D.says.seen disk.old files → revision.now.at + revision.now.length ≤ length (files 0) → IfDamaged result (λ place. (place ≡ revision.now.at) × (revision.now.digest ≢ digest (bytes_at (files 0) revision.now))) }
     ensures fault { IfErr result IsOfArchive }
-    ensures reads { OnlyReads D.seen D.may_leave D.moment D.left_since disk.old disk.new }
-    ensures cause { IsCause (D.faults disk.old) (D.faults disk.new) (result ≡ Err DiskFault) }
+    ensures reads { OnlyReads D.says disk.old disk.new }
+    ensures cause { IsCause (D.says.faults disk.old) (D.says.faults disk.new) (result ≡ Err DiskFault) }
 {
     let spot = Spot {
         at: revision.at,
@@ -76,11 +76,11 @@ fn check_row<D: Disk>(
     requires room { 0 < length piece.old }
     requires small { limit < 2 ^ 63 }
     ensures end { IfOk result (λ end. (end ≡ spot_end row.now) × (end ≤ limit)) }
-    ensures whole { (files : Files) → D.seen disk.old files → limit ≡ length (files 0) → IfOk result (λ end. IsWhole (files 0) row.now) }
-    ensures damaged { (files : Files) → D.seen disk.old files → limit ≡ length (files 0) → IfDamaged result (IsBadAt (files 0) row.now) }
+    ensures whole { (files : Files) → D.says.seen disk.old files → limit ≡ length (files 0) → IfOk result (λ end. IsWhole (files 0) row.now) }
+    ensures damaged { (files : Files) → D.says.seen disk.old files → limit ≡ length (files 0) → IfDamaged result (IsBadAt (files 0) row.now) }
     ensures fault { IfErr result IsOfArchive }
-    ensures reads { OnlyReads D.seen D.may_leave D.moment D.left_since disk.old disk.new }
-    ensures cause { IsCause (D.faults disk.old) (D.faults disk.new) (result ≡ Err DiskFault) }
+    ensures reads { OnlyReads D.says disk.old disk.new }
+    ensures cause { IsCause (D.says.faults disk.old) (D.says.faults disk.new) (result ≡ Err DiskFault) }
 {
     let live = row.live();
     let Record::Rev(revision) = row else {
@@ -106,11 +106,11 @@ fn check_rows<D: Disk>(
     requires room { 0 < length piece.old }
     requires small { limit < 2 ^ 63 }
     ensures end { IfOk result (λ end. (end ≡ spots_end (rows_of tables.now Rev)) × (end ≤ limit)) }
-    ensures whole { (files : Files) → D.seen disk.old files → limit ≡ length (files 0) → IfOk result (λ end. AreWhole (files 0) (rows_of tables.now Rev)) }
-    ensures damaged { (files : Files) → D.seen disk.old files → limit ≡ length (files 0) → IfDamaged result (IsSpotDamage (files 0) (rows_of tables.now Rev)) }
+    ensures whole { (files : Files) → D.says.seen disk.old files → limit ≡ length (files 0) → IfOk result (λ end. AreWhole (files 0) (rows_of tables.now Rev)) }
+    ensures damaged { (files : Files) → D.says.seen disk.old files → limit ≡ length (files 0) → IfDamaged result (IsSpotDamage (files 0) (rows_of tables.now Rev)) }
     ensures fault { IfErr result IsOfArchive }
-    ensures reads { OnlyReads D.seen D.may_leave D.moment D.left_since disk.old disk.new }
-    ensures cause { IsCause (D.faults disk.old) (D.faults disk.new) (result ≡ Err DiskFault) }
+    ensures reads { OnlyReads D.says disk.old disk.new }
+    ensures cause { IsCause (D.says.faults disk.old) (D.says.faults disk.new) (result ≡ Err DiskFault) }
 {
     let mut end = 0;
     for row in revisions(tables) {
@@ -126,13 +126,13 @@ pub(crate) fn read_contents<D: Disk>(
     tables: &Tables,
 ) -> Result<u64, OpenFault>
     ensures end { IfOk result (λ end. end ≡ spots_end (rows_of tables.now Rev)) }
-    ensures within { (files : Files) → D.seen disk.old files → IfOk result (λ end. end ≤ length (files 0)) }
+    ensures within { (files : Files) → D.says.seen disk.old files → IfOk result (λ end. end ≤ length (files 0)) }
     ensures small { IfOk result (λ end. end < 2 ^ 63) }
-    ensures whole { (files : Files) → D.seen disk.old files → IfOk result (λ end. AreWhole (files 0) (rows_of tables.now Rev)) }
-    ensures damaged { (files : Files) → D.seen disk.old files → IfDamaged result (IsSpotDamage (files 0) (rows_of tables.now Rev)) }
+    ensures whole { (files : Files) → D.says.seen disk.old files → IfOk result (λ end. AreWhole (files 0) (rows_of tables.now Rev)) }
+    ensures damaged { (files : Files) → D.says.seen disk.old files → IfDamaged result (IsSpotDamage (files 0) (rows_of tables.now Rev)) }
     ensures fault { IfErr result IsOfArchive }
-    ensures reads { OnlyReads D.seen D.may_leave D.moment D.left_since disk.old disk.new }
-    ensures cause { IsCause (D.faults disk.old) (D.faults disk.new) (result ≡ Err DiskFault) }
+    ensures reads { OnlyReads D.says disk.old disk.new }
+    ensures cause { IsCause (D.says.faults disk.old) (D.says.faults disk.new) (result ≡ Err DiskFault) }
 {
     let limit = disk.length(CONTENTS)?;
     let mut piece = vec![in alloc; 0u8; PIECE]?;

@@ -2,7 +2,8 @@
 
 ghost use Rattle.std.specs.Prelude.{◌≡◌, ◌≢◌, ◌⊎◌, [], length, OnOk, Err};
 ghost use Rattle.outside_api.specs.Count.{HasRisen};
-ghost use Rattle.outside_api.specs.Disk.{Files, After, Follows, LeavesOnly, Same};
+ghost use Rattle.outside_api.specs.Disk.{Files, After, Follows, Same};
+ghost use Rattle.outside_api.specs.Moments.{LeavesOnly};
 ghost use Rattle.disk_journal.specs.Images.{HasCommitted};
 ghost use Rattle.disk_journal.specs.Made.{made, SameOthers};
 ghost use Rattle.recovery.specs.Standing.{StandFor};
@@ -21,21 +22,21 @@ const ROOT: u32 = 0;
 /// that there are no files before the rest stands whole. Takes no memory. Where the root isn't empty it
 /// makes nothing.
 pub fn make_files<D: Disk>(journal: &mut D, archive: &mut D) -> Result<(), MakeFault>
-    ensures made { OnOk result ((image : Files) → D.may_leave journal.new image → HasCommitted made image) }
-    ensures empty_depot { OnOk result ((image contents : Files) → D.may_leave journal.new image → StandFor [] image contents) }
+    ensures made { OnOk result ((image : Files) → D.says.may_leave journal.new image → HasCommitted made image) }
+    ensures empty_depot { OnOk result ((image contents : Files) → D.says.may_leave journal.new image → StandFor [] image contents) }
     // The journal's other files are as they were read.
-    ensures others { OnOk result (Follows SameOthers (D.seen journal.old) (D.may_leave journal.new)) }
+    ensures others { OnOk result (Follows SameOthers (D.says.seen journal.old) (D.says.may_leave journal.new)) }
     // Whatever is answered, at every moment they stay as they were, and so does the root until the rest is that of an empty depot.
-    ensures images { Follows IsMaking (D.may_leave journal.old) (D.may_leave journal.new) }
-    ensures any_moment { LeavesOnly D.moment D.left_since journal.old journal.new (After IsMaking (D.may_leave journal.old)) }
+    ensures images { Follows IsMaking (D.says.may_leave journal.old) (D.says.may_leave journal.new) }
+    ensures any_moment { LeavesOnly D.says journal.old journal.new (After IsMaking (D.says.may_leave journal.old)) }
     // Whatever is answered, each image of the archive, at every moment, is one that it had, and it reads as before unless its sync failed.
-    ensures archive_looks { LooksOnly D.may_leave D.moment D.left_since archive.old archive.new }
-    ensures archive_reads { Same (D.seen archive.old) (D.seen archive.new) ⊎ ((result ≡ Err DiskFault) × HasRisen (D.faults archive.old) (D.faults archive.new)) }
-    ensures unmade { (files : Files) → D.seen journal.old files → OnOk result (length (files 0) ≡ 0) }
-    ensures there { (files : Files) → D.seen journal.old files → result ≡ Err Made → length (files 0) ≢ 0 }
-    ensures exactly { (files : Files) → D.seen journal.old files → length (files 0) ≢ 0 → (result ≡ Err Made) ⊎ (result ≡ Err DiskFault) }
-    ensures untouched { result ≡ Err Made → OnlyReads D.seen D.may_leave D.moment D.left_since journal.old journal.new × (archive.new ≡ archive.old) }
-    ensures cause { AreCauses (D.faults journal.old) (D.faults journal.new) (D.faults archive.old) (D.faults archive.new) (result ≡ Err DiskFault) }
+    ensures archive_looks { LooksOnly D.says archive.old archive.new }
+    ensures archive_reads { Same (D.says.seen archive.old) (D.says.seen archive.new) ⊎ ((result ≡ Err DiskFault) × HasRisen (D.says.faults archive.old) (D.says.faults archive.new)) }
+    ensures unmade { (files : Files) → D.says.seen journal.old files → OnOk result (length (files 0) ≡ 0) }
+    ensures there { (files : Files) → D.says.seen journal.old files → result ≡ Err Made → length (files 0) ≢ 0 }
+    ensures exactly { (files : Files) → D.says.seen journal.old files → length (files 0) ≢ 0 → (result ≡ Err Made) ⊎ (result ≡ Err DiskFault) }
+    ensures untouched { result ≡ Err Made → OnlyReads D.says journal.old journal.new × (archive.new ≡ archive.old) }
+    ensures cause { AreCauses (D.says.faults journal.old) (D.says.faults journal.new) (D.says.faults archive.old) (D.says.faults archive.new) (result ≡ Err DiskFault) }
 {
     let length = journal.length(ROOT)?;
     if length != 0 {

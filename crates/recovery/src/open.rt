@@ -2,7 +2,7 @@
 
 ghost use Rattle.std.specs.Prelude.{◌≡◌, ◌≢◌, ◌≤◌, length, List, IfOk, Err};
 ghost use Rattle.std.specs.Result.{IfErr};
-ghost use Rattle.outside_api.specs.Disk.{Files, LeavesOnly, NoMore, Same};
+ghost use Rattle.outside_api.specs.Disk.{Files, NoMore, Same};
 ghost use Rattle.depot_rows.specs.db_records.declared.table.TableId.{TableId};
 ghost use Rattle.depot_rows.specs.db_records.declared.table.TableId.TheVariants.{Rev};
 ghost use Rattle.disk_journal.specs.Images.{Committed};
@@ -53,20 +53,20 @@ pub struct NotOpened<D: Disk> {
 
 /// Syncs both disks, reads the rows of the one, which suit the files, and then their contents in the other.
 fn read_depot<D: Disk>(alloc: Global, journal: &mut D, archive: &mut D) -> Result<Found, OpenFault>
-    ensures found { IfOk result (HasFound (D.seen journal.old)) }
+    ensures found { IfOk result (HasFound (D.says.seen journal.old)) }
     ensures end { IfOk result (λ found. found.tables.archive_end ≡ spots_end (rows_of found.tables Rev)) }
-    ensures within { (contents : Files) → D.seen archive.old contents → IfOk result (λ found. found.tables.archive_end ≤ length (contents 0)) }
-    ensures contents { (contents : Files) → D.seen archive.old contents → IfOk result (λ found. AreWhole (contents 0) (rows_of found.tables Rev)) }
+    ensures within { (contents : Files) → D.says.seen archive.old contents → IfOk result (λ found. found.tables.archive_end ≤ length (contents 0)) }
+    ensures contents { (contents : Files) → D.says.seen archive.old contents → IfOk result (λ found. AreWhole (contents 0) (rows_of found.tables Rev)) }
     ensures suit { IfOk result (λ found. SuitFiles found.generation (rows_of found.tables)) }
-    ensures synced { IfOk result (λ found. HasSynced D.seen D.may_leave journal.old journal.new × HasSynced D.seen D.may_leave archive.old archive.new) }
-    ensures only { (files contents : Files) (rows : AllRows) → D.seen journal.old files → D.seen archive.old contents → HoldWhole files contents rows → IsReadOrSaysNothing result (λ found. (table : TableId) → rows_of found.tables table ≡ rows table) }
-    ensures damaged { (files contents : Files) → D.seen journal.old files → D.seen archive.old contents → IfErr result (Tells (IsDamage files contents)) }
-    ensures unmade { (files : Files) → D.seen journal.old files → result ≡ Err Unmade → length (files 0) ≡ 0 }
-    ensures exactly { (files : Files) → D.seen journal.old files → length (files 0) ≡ 0 → IsUnmadeOrSaysNothing result }
-    ensures read { IfErr result (λ fault. fault ≢ DiskFault → HasSynced D.seen D.may_leave journal.old journal.new × HasSynced D.seen D.may_leave archive.old archive.new) }
-    ensures journal_looks { LooksOnly D.may_leave D.moment D.left_since journal.old journal.new }
-    ensures archive_looks { LooksOnly D.may_leave D.moment D.left_since archive.old archive.new }
-    ensures cause { AreCauses (D.faults journal.old) (D.faults journal.new) (D.faults archive.old) (D.faults archive.new) (result ≡ Err DiskFault) }
+    ensures synced { IfOk result (λ found. HasSynced D.says journal.old journal.new × HasSynced D.says archive.old archive.new) }
+    ensures only { (files contents : Files) (rows : AllRows) → D.says.seen journal.old files → D.says.seen archive.old contents → HoldWhole files contents rows → IsReadOrSaysNothing result (λ found. (table : TableId) → rows_of found.tables table ≡ rows table) }
+    ensures damaged { (files contents : Files) → D.says.seen journal.old files → D.says.seen archive.old contents → IfErr result (Tells (IsDamage files contents)) }
+    ensures unmade { (files : Files) → D.says.seen journal.old files → result ≡ Err Unmade → length (files 0) ≡ 0 }
+    ensures exactly { (files : Files) → D.says.seen journal.old files → length (files 0) ≡ 0 → IsUnmadeOrSaysNothing result }
+    ensures read { IfErr result (λ fault. fault ≢ DiskFault → HasSynced D.says journal.old journal.new × HasSynced D.says archive.old archive.new) }
+    ensures journal_looks { LooksOnly D.says journal.old journal.new }
+    ensures archive_looks { LooksOnly D.says archive.old archive.new }
+    ensures cause { AreCauses (D.says.faults journal.old) (D.says.faults journal.new) (D.says.faults archive.old) (D.says.faults archive.new) (result ≡ Err DiskFault) }
 {
     journal.sync()?;
     archive.sync()?;
@@ -84,30 +84,30 @@ fn read_depot<D: Disk>(alloc: Global, journal: &mut D, archive: &mut D) -> Resul
 /// the archive, and that each content has its digest.
 pub fn open_files<D: Disk>(alloc: Global, journal: D, archive: D) -> Result<Opened<D>, NotOpened<D>>
     // What is committed has the rows of the tables.
-    ensures open { IfOk result (λ opened. (was : Committed) × IsOpen D.may_leave was opened) }
+    ensures open { IfOk result (λ opened. (was : Committed) × IsOpen D.says was opened) }
     // These are the rows that the files hold.
-    ensures held { (files : Files) → D.seen journal files → IfOk result (λ opened. Hold files (rows_of opened.tables)) }
-    ensures within { (contents : Files) → D.seen archive contents → IfOk result (λ opened. opened.tables.archive_end ≤ length (contents 0)) }
+    ensures held { (files : Files) → D.says.seen journal files → IfOk result (λ opened. Hold files (rows_of opened.tables)) }
+    ensures within { (contents : Files) → D.says.seen archive contents → IfOk result (λ opened. opened.tables.archive_end ≤ length (contents 0)) }
     // The archive has the content of each live revision.
-    ensures contents { (contents : Files) → D.seen archive contents → IfOk result (λ opened. AreWhole (contents 0) (rows_of opened.tables Rev)) }
+    ensures contents { (contents : Files) → D.says.seen archive contents → IfOk result (λ opened. AreWhole (contents 0) (rows_of opened.tables Rev)) }
     // The rows keep their rules, deleted revisions having no place, and tell the generation of the files.
     ensures suit { IfOk result (λ opened. SuitFiles (generation_of_journal opened.journal) (rows_of opened.tables)) }
     // So the files hold them whole.
-    ensures whole { (files contents : Files) → D.seen journal files → D.seen archive contents → IfOk result (λ opened. HoldWhole files contents (rows_of opened.tables)) }
+    ensures whole { (files contents : Files) → D.says.seen journal files → D.says.seen archive contents → IfOk result (λ opened. HoldWhole files contents (rows_of opened.tables)) }
     // Files that hold rows that suit them, and their contents, are opened, and so those are that stand for a depot: the rows then stand for it.
-    ensures opens { (files contents : Files) (rows : AllRows) → D.seen journal files → D.seen archive contents → HoldWhole files contents rows → OpensOrSaysNothing result }
-    ensures stands { (files contents : Files) (d : List Deed) → D.seen journal files → D.seen archive contents → StandFor d files contents →
+    ensures opens { (files contents : Files) (rows : AllRows) → D.says.seen journal files → D.says.seen archive contents → HoldWhole files contents rows → OpensOrSaysNothing result }
+    ensures stands { (files contents : Files) (d : List Deed) → D.says.seen journal files → D.says.seen archive contents → StandFor d files contents →
         OpensOrSaysNothing result × IfOk result (λ opened. Stand (rows_of opened.tables) d) }
-    ensures damaged { (files contents : Files) → D.seen journal files → D.seen archive contents → IfErr result (λ found. Tells (IsDamage files contents) found.fault) }
-    ensures unmade { (files : Files) → D.seen journal files → IsUnmade result → length (files 0) ≡ 0 }
-    ensures exactly { (files : Files) → D.seen journal files → length (files 0) ≡ 0 → UnmadeOrSaysNothing result }
+    ensures damaged { (files contents : Files) → D.says.seen journal files → D.says.seen archive contents → IfErr result (λ found. Tells (IsDamage files contents) found.fault) }
+    ensures unmade { (files : Files) → D.says.seen journal files → IsUnmade result → length (files 0) ≡ 0 }
+    ensures exactly { (files : Files) → D.says.seen journal files → length (files 0) ≡ 0 → UnmadeOrSaysNothing result }
     // Files that aren't opened, where no disk failed, read as before, and a crash leaves what they read.
-    ensures unopened { IfErr result (λ found. found.fault ≢ DiskFault → HasSynced D.seen D.may_leave journal found.journal × HasSynced D.seen D.may_leave archive found.archive) }
-    ensures journal_synced { IfOk result (λ opened. HasSynced D.seen D.may_leave journal (disk_of opened.journal)) }
-    ensures archive_synced { IfOk result (λ opened. HasSynced D.seen D.may_leave archive (archive_of opened.archive)) }
-    ensures journal_looks { LooksOnly D.may_leave D.moment D.left_since journal (journal_disk result) }
-    ensures archive_looks { LooksOnly D.may_leave D.moment D.left_since archive (archive_disk result) }
-    ensures cause { AreCauses (D.faults journal) (D.faults (journal_disk result)) (D.faults archive) (D.faults (archive_disk result)) (IsDiskFault result) }
+    ensures unopened { IfErr result (λ found. found.fault ≢ DiskFault → HasSynced D.says journal found.journal × HasSynced D.says archive found.archive) }
+    ensures journal_synced { IfOk result (λ opened. HasSynced D.says journal (disk_of opened.journal)) }
+    ensures archive_synced { IfOk result (λ opened. HasSynced D.says archive (archive_of opened.archive)) }
+    ensures journal_looks { LooksOnly D.says journal (journal_disk result) }
+    ensures archive_looks { LooksOnly D.says archive (archive_disk result) }
+    ensures cause { AreCauses (D.says.faults journal) (D.says.faults (journal_disk result)) (D.says.faults archive) (D.says.faults (archive_disk result)) (IsDiskFault result) }
 {
     let mut journal = journal;
     let mut archive = archive;

@@ -54,11 +54,11 @@ impl FileGroups {
     ) -> Result<FileGroups, OpenFault>
         requires short { length front ≤ 5 }
         requires number { number < 2 ^ 63 }
-        ensures text { (files : Files) → D.seen disk.old files → IfOk result (λ groups. (text_left groups files ≡ front ++ files file) × KnowsEnd groups files) }
+        ensures text { (files : Files) → D.says.seen disk.old files → IfOk result (λ groups. (text_left groups files ≡ front ++ files file) × KnowsEnd groups files) }
         ensures at { IfOk result (λ groups. (groups.file ≡ file) × (groups.front ≡ length front) × (groups.reader.at ≡ 0) × (groups.reader.number ≡ number)) }
         ensures fault { IfErr result SaysNothing }
-        ensures reads { OnlyReads D.seen D.may_leave D.moment D.left_since disk.old disk.new }
-        ensures cause { IsCause (D.faults disk.old) (D.faults disk.new) (result ≡ Err DiskFault) }
+        ensures reads { OnlyReads D.says disk.old disk.new }
+        ensures cause { IsCause (D.says.faults disk.old) (D.says.faults disk.new) (result ≡ Err DiskFault) }
     {
         let length = disk.length(file)?;
         if length > LONGEST {
@@ -90,12 +90,12 @@ impl FileGroups {
     ) -> Result<(), OpenFault>
         requires room { 0 < length piece.old }
         requires before_end { self.old.read < self.old.length }
-        ensures text { (files : Files) → D.seen disk.old files → KnowsEnd self.old files → OnOk result ((text_left self.new files ≡ text_left self.old files) × KnowsEnd self.new files) }
+        ensures text { (files : Files) → D.says.seen disk.old files → KnowsEnd self.old files → OnOk result ((text_left self.new files ≡ text_left self.old files) × KnowsEnd self.new files) }
         ensures goes_on { OnOk result (self.new.length - self.new.read < self.old.length - self.old.read) }
         ensures reader { (self.new.file ≡ self.old.file) × (self.new.front ≡ self.old.front) × (self.new.reader.at ≡ self.old.reader.at) × (self.new.reader.number ≡ self.old.reader.number) }
         ensures fault { IfErr result SaysNothing }
-        ensures reads { OnlyReads D.seen D.may_leave D.moment D.left_since disk.old disk.new }
-        ensures cause { IsCause (D.faults disk.old) (D.faults disk.new) (result ≡ Err DiskFault) }
+        ensures reads { OnlyReads D.says disk.old disk.new }
+        ensures cause { IsCause (D.says.faults disk.old) (D.says.faults disk.new) (result ≡ Err DiskFault) }
     {
         let room = (self.length - self.read).min(piece.len() as u64) as usize;
         let count = fill(disk, self.file, self.read, &mut piece[..room])?;
@@ -118,13 +118,13 @@ impl FileGroups {
     ) -> Result<(), OpenFault>
         requires room { 0 < length piece.old }
         requires before_end { self.old.read < self.old.length }
-        ensures text { (files : Files) → D.seen disk.old files → KnowsEnd self.old files → OnOk result ((text_left self.new files ≡ text_left self.old files) × KnowsEnd self.new files) }
+        ensures text { (files : Files) → D.says.seen disk.old files → KnowsEnd self.old files → OnOk result ((text_left self.new files ≡ text_left self.old files) × KnowsEnd self.new files) }
         ensures goes_on { OnOk result (self.new.length - self.new.read < self.old.length - self.old.read) }
         ensures enough { OnOk result ((self.old.read + wanted ≤ self.new.read) ⊎ (self.new.read ≡ self.new.length)) }
         ensures reader { (self.new.file ≡ self.old.file) × (self.new.front ≡ self.old.front) × (self.new.reader.at ≡ self.old.reader.at) × (self.new.reader.number ≡ self.old.reader.number) }
         ensures fault { IfErr result SaysNothing }
-        ensures reads { OnlyReads D.seen D.may_leave D.moment D.left_since disk.old disk.new }
-        ensures cause { IsCause (D.faults disk.old) (D.faults disk.new) (result ≡ Err DiskFault) }
+        ensures reads { OnlyReads D.says disk.old disk.new }
+        ensures cause { IsCause (D.says.faults disk.old) (D.says.faults disk.new) (result ≡ Err DiskFault) }
     {
         let target = self.read.saturating_add(wanted);
         loop {
@@ -182,13 +182,13 @@ impl FileGroups {
         piece: &mut [u8],
     ) -> Result<GroupRead, OpenFault>
         requires room { 0 < length piece.old }
-        ensures text { (files : Files) → D.seen disk.old files → KnowsEnd self.old files → IfOk result (λ read. IfOk read (λ found. KnowsEnd self.new files × IsFirst self.old.reader.number (text_left self.old files) (text_left self.new files) found)) }
+        ensures text { (files : Files) → D.says.seen disk.old files → KnowsEnd self.old files → IfOk result (λ read. IfOk read (λ found. KnowsEnd self.new files × IsFirst self.old.reader.number (text_left self.old files) (text_left self.new files) found)) }
         ensures come { IfOk result (λ read. IfOk read (HasCome self.old self.new)) }
         ensures file { (self.new.file ≡ self.old.file) × (self.new.front ≡ self.old.front) }
-        ensures stopped { (files : Files) → D.seen disk.old files → KnowsEnd self.old files → IfOk result (λ read. IfErr read (HasStopped self.old.reader.number self.old.reader.at (text_left self.old files) self.new.reader)) }
+        ensures stopped { (files : Files) → D.says.seen disk.old files → KnowsEnd self.old files → IfOk result (λ read. IfErr read (HasStopped self.old.reader.number self.old.reader.at (text_left self.old files) self.new.reader)) }
         ensures fault { IfErr result SaysNothing }
-        ensures reads { OnlyReads D.seen D.may_leave D.moment D.left_since disk.old disk.new }
-        ensures cause { IsCause (D.faults disk.old) (D.faults disk.new) (result ≡ Err DiskFault) }
+        ensures reads { OnlyReads D.says disk.old disk.new }
+        ensures cause { IsCause (D.says.faults disk.old) (D.says.faults disk.new) (result ≡ Err DiskFault) }
     {
         loop {
             match self.reader.next(alloc) {

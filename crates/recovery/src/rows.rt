@@ -110,14 +110,14 @@ fn next_puts<D: Disk>(
     piece: &mut [u8],
 ) -> Result<Option<Sequence<Change>>, OpenFault>
     requires room { 0 < length piece.old }
-    ensures text { (files : Files) → D.seen disk.old files → KnowsEnd groups.old files → IfOk result (λ found. KnowsEnd groups.new files × IsFirst groups.old.reader.number (text_left groups.old files) (text_left groups.new files) found) }
+    ensures text { (files : Files) → D.says.seen disk.old files → KnowsEnd groups.old files → IfOk result (λ found. KnowsEnd groups.new files × IsFirst groups.old.reader.number (text_left groups.old files) (text_left groups.new files) found) }
     ensures come { IfOk result (HasCome groups.old groups.new) }
     ensures file { (groups.new.file ≡ groups.old.file) × (groups.new.front ≡ groups.old.front) }
-    ensures only { (files : Files) → D.seen disk.old files → KnowsEnd groups.old files → groups.old.reader.number < 2 ^ 64 → BeginsWanted groups.old.reader.number (text_left groups.old files) → IfErr result SaysNothing }
-    ensures damaged { (files : Files) → D.seen disk.old files → KnowsEnd groups.old files → IfDamaged result (λ place. (found : ℕ) × ((place ≡ found - groups.old.front) × IsTextDamage ArePuts groups.old.reader.number groups.old.reader.at (text_left groups.old files) found)) }
+    ensures only { (files : Files) → D.says.seen disk.old files → KnowsEnd groups.old files → groups.old.reader.number < 2 ^ 64 → BeginsWanted groups.old.reader.number (text_left groups.old files) → IfErr result SaysNothing }
+    ensures damaged { (files : Files) → D.says.seen disk.old files → KnowsEnd groups.old files → IfDamaged result (λ place. (found : ℕ) × ((place ≡ found - groups.old.front) × IsTextDamage ArePuts groups.old.reader.number groups.old.reader.at (text_left groups.old files) found)) }
     ensures fault { IfErr result (IsOfFile groups.old.file) }
-    ensures reads { OnlyReads D.seen D.may_leave D.moment D.left_since disk.old disk.new }
-    ensures cause { IsCause (D.faults disk.old) (D.faults disk.new) (result ≡ Err DiskFault) }
+    ensures reads { OnlyReads D.says disk.old disk.new }
+    ensures cause { IsCause (D.says.faults disk.old) (D.says.faults disk.new) (result ≡ Err DiskFault) }
 {
     match groups.next(alloc, disk, piece)? {
         Ok(found) => Ok(found),
@@ -138,15 +138,15 @@ fn next_changes<D: Disk>(
     draft: &mut TablesDraft,
 ) -> Result<Option<Sequence<Change>>, OpenFault>
     requires room { 0 < length piece.old }
-    ensures text { (files : Files) → D.seen disk.old files → KnowsEnd groups.old files → IfOk result (λ found. KnowsEnd groups.new files × IsFirst groups.old.reader.number (text_left groups.old files) (text_left groups.new files) found) }
+    ensures text { (files : Files) → D.says.seen disk.old files → KnowsEnd groups.old files → IfOk result (λ found. KnowsEnd groups.new files × IsFirst groups.old.reader.number (text_left groups.old files) (text_left groups.new files) found) }
     ensures come { IfOk result (HasCome groups.old groups.new) }
     ensures file { (groups.new.file ≡ groups.old.file) × (groups.new.front ≡ groups.old.front) }
     ensures draft { IfOk result (λ found. rows_of_draft draft.new ≡ rows_of_draft draft.old) }
-    ensures only { (files : Files) → D.seen disk.old files → KnowsEnd groups.old files → groups.old.reader.number < 2 ^ 64 → BeginsWanted groups.old.reader.number (text_left groups.old files) → IfErr result SaysNothing }
-    ensures damaged { (files : Files) → D.seen disk.old files → KnowsEnd groups.old files → IfDamaged result (λ place. (found : ℕ) × ((place ≡ found - groups.old.front) × IsTextDamage (AllFitIn (rows_of_draft draft.old)) groups.old.reader.number groups.old.reader.at (text_left groups.old files) found)) }
+    ensures only { (files : Files) → D.says.seen disk.old files → KnowsEnd groups.old files → groups.old.reader.number < 2 ^ 64 → BeginsWanted groups.old.reader.number (text_left groups.old files) → IfErr result SaysNothing }
+    ensures damaged { (files : Files) → D.says.seen disk.old files → KnowsEnd groups.old files → IfDamaged result (λ place. (found : ℕ) × ((place ≡ found - groups.old.front) × IsTextDamage (AllFitIn (rows_of_draft draft.old)) groups.old.reader.number groups.old.reader.at (text_left groups.old files) found)) }
     ensures fault { IfErr result (IsOfFile groups.old.file) }
-    ensures reads { OnlyReads D.seen D.may_leave D.moment D.left_since disk.old disk.new }
-    ensures cause { IsCause (D.faults disk.old) (D.faults disk.new) (result ≡ Err DiskFault) }
+    ensures reads { OnlyReads D.says disk.old disk.new }
+    ensures cause { IsCause (D.says.faults disk.old) (D.says.faults disk.new) (result ≡ Err DiskFault) }
 {
     match groups.next(alloc, disk, piece)? {
         Ok(found) => Ok(found),
@@ -166,12 +166,12 @@ pub(crate) fn read_checkpoint<D: Disk>(
 ) -> Result<TablesDraft, OpenFault>
     requires room { 0 < length piece.old }
     requires last { generation ≤ 4095 }
-    ensures rows { IfOk result (λ draft. HasCheckpoint (D.seen disk.old) generation (rows_of_draft draft)) }
-    ensures only { (files : Files) (puts : List Change) → D.seen disk.old files → Begins (group_text generation puts) (files (2 + 2 * generation)) → IsCheckpoint puts → IfErr result SaysNothing }
-    ensures damaged { (files : Files) → D.seen disk.old files → IfDamaged result (IsCheckpointDamage generation (files (2 + 2 * generation))) }
+    ensures rows { IfOk result (λ draft. HasCheckpoint (D.says.seen disk.old) generation (rows_of_draft draft)) }
+    ensures only { (files : Files) (puts : List Change) → D.says.seen disk.old files → Begins (group_text generation puts) (files (2 + 2 * generation)) → IsCheckpoint puts → IfErr result SaysNothing }
+    ensures damaged { (files : Files) → D.says.seen disk.old files → IfDamaged result (IsCheckpointDamage generation (files (2 + 2 * generation))) }
     ensures fault { IfErr result (IsOfFile (2 + 2 * generation)) }
-    ensures reads { OnlyReads D.seen D.may_leave D.moment D.left_since disk.old disk.new }
-    ensures cause { IsCause (D.faults disk.old) (D.faults disk.new) (result ≡ Err DiskFault) }
+    ensures reads { OnlyReads D.says disk.old disk.new }
+    ensures cause { IsCause (D.says.faults disk.old) (D.says.faults disk.new) (result ≡ Err DiskFault) }
 {
     let front = Text::from_bytes(alloc, b"@ex@\n")?;
     let mut groups = FileGroups::open(disk, 2 + 2 * generation, front, generation as u64)?;
@@ -194,12 +194,12 @@ pub(crate) fn read_journal<D: Disk>(
 ) -> Result<JournalEnd, OpenFault>
     requires room { 0 < length piece.old }
     requires last { generation ≤ 4095 }
-    ensures rows { IfOk result (λ end. HasJournal (D.seen disk.old) (1 + 2 * generation) end (rows_of_draft draft.old) (rows_of_draft draft.new)) }
-    ensures only { (files : Files) (groups : List (List Change)) → D.seen disk.old files → HasGroups 1 (files (1 + 2 * generation)) groups → AllFitIn (rows_of_draft draft.old) (joined groups) → IfErr result SaysNothing }
-    ensures damaged { (files : Files) → D.seen disk.old files → IfDamaged result (IsJournalDamage (rows_of_draft draft.old) (files (1 + 2 * generation))) }
+    ensures rows { IfOk result (λ end. HasJournal (D.says.seen disk.old) (1 + 2 * generation) end (rows_of_draft draft.old) (rows_of_draft draft.new)) }
+    ensures only { (files : Files) (groups : List (List Change)) → D.says.seen disk.old files → HasGroups 1 (files (1 + 2 * generation)) groups → AllFitIn (rows_of_draft draft.old) (joined groups) → IfErr result SaysNothing }
+    ensures damaged { (files : Files) → D.says.seen disk.old files → IfDamaged result (IsJournalDamage (rows_of_draft draft.old) (files (1 + 2 * generation))) }
     ensures fault { IfErr result (IsOfFile (1 + 2 * generation)) }
-    ensures reads { OnlyReads D.seen D.may_leave D.moment D.left_since disk.old disk.new }
-    ensures cause { IsCause (D.faults disk.old) (D.faults disk.new) (result ≡ Err DiskFault) }
+    ensures reads { OnlyReads D.says disk.old disk.new }
+    ensures cause { IsCause (D.says.faults disk.old) (D.says.faults disk.new) (result ≡ Err DiskFault) }
 {
     let mut groups = FileGroups::open(disk, 1 + 2 * generation, Text::new(alloc), 1)?;
     let mut count = 0u64;

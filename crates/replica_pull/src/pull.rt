@@ -254,14 +254,14 @@ impl Replica {
         requires most { length buffer.old ≤ 65536 }
         // What was done is what the link answered, of the journal as its master had it then.
         ensures moved { IfOk result (λ moved. (fetched : Fetched) × ((piece : List ℕ) × (HasMoved self.old self.new fetched piece moved × (Fits fetched 65536 ×
-            ((now : List (List ℕ)) → L.tells link.new now → (earlier : List (List ℕ)) × (IsEarlier earlier now × Answers earlier self.old.generation self.old.at fetched piece)))))) }
+            ((now : List (List ℕ)) → L.says.tells link.new now → (earlier : List (List ℕ)) × (IsEarlier earlier now × Answers earlier self.old.generation self.old.at fetched piece)))))) }
         ensures kept { OnErr result (self.new ≡ self.old) }
         ensures never_falls { self.old.changes ≤ self.new.changes }
         // Why nothing was done.
         ensures stopped { IfErr result (λ fault. IsUnread fault ⊎ ((fetched : Fetched) × ((piece : List ℕ) × (IsStopped self.old fetched piece fault ×
-            ((now : List (List ℕ)) → L.tells link.new now → (earlier : List (List ℕ)) × (IsEarlier earlier now × Answers earlier self.old.generation self.old.at fetched piece)))))) }
-        ensures cause { IsCause (L.faults link.old) (L.faults link.new) (result ≡ Err faults.LinkFault) }
-        ensures grows { (before : List (List ℕ)) → L.tells link.old before → (now : List (List ℕ)) × (L.tells link.new now × ((now ≡ before) ⊎ IsEarlier before now)) }
+            ((now : List (List ℕ)) → L.says.tells link.new now → (earlier : List (List ℕ)) × (IsEarlier earlier now × Answers earlier self.old.generation self.old.at fetched piece)))))) }
+        ensures cause { IsCause (L.says.faults link.old) (L.says.faults link.new) (result ≡ Err faults.LinkFault) }
+        ensures grows { (before : List (List ℕ)) → L.says.tells link.old before → (now : List (List ℕ)) × (L.says.tells link.new now × ((now ≡ before) ⊎ IsEarlier before now)) }
     {
         let fetched = link.fetch(self.generation, self.at, buffer)?;
         let moved = self.follow(alloc, fetched, buffer);
@@ -274,17 +274,17 @@ impl Replica {
     pub fn pull<L: Link>(&mut self, alloc: Global, link: &mut L) -> Result<Moved, PullFault>
         // What was done is what the link answered, of the journal as its master had it then.
         ensures moved { IfOk result (λ moved. (fetched : Fetched) × ((piece : List ℕ) × (HasMoved self.old self.new fetched piece moved × (Fits fetched 65536 ×
-            ((now : List (List ℕ)) → L.tells link.new now → (earlier : List (List ℕ)) × (IsEarlier earlier now × Answers earlier self.old.generation self.old.at fetched piece)))))) }
+            ((now : List (List ℕ)) → L.says.tells link.new now → (earlier : List (List ℕ)) × (IsEarlier earlier now × Answers earlier self.old.generation self.old.at fetched piece)))))) }
         ensures kept { OnErr result (self.new ≡ self.old) }
         ensures never_falls { self.old.changes ≤ self.new.changes }
         // Why nothing was done.
         ensures stopped { IfErr result (λ fault. IsUnread fault ⊎ ((fetched : Fetched) × ((piece : List ℕ) × (IsStopped self.old fetched piece fault ×
-            ((now : List (List ℕ)) → L.tells link.new now → (earlier : List (List ℕ)) × (IsEarlier earlier now × Answers earlier self.old.generation self.old.at fetched piece)))))) }
-        ensures cause { IsCause (L.faults link.old) (L.faults link.new) (result ≡ Err faults.LinkFault) }
+            ((now : List (List ℕ)) → L.says.tells link.new now → (earlier : List (List ℕ)) × (IsEarlier earlier now × Answers earlier self.old.generation self.old.at fetched piece)))))) }
+        ensures cause { IsCause (L.says.faults link.old) (L.says.faults link.new) (result ≡ Err faults.LinkFault) }
         // A master's journal is never a bad feed to a replica that has followed it.
-        ensures good { (rules : List FilterRule) (before : List (List ℕ)) → L.tells link.old before → HasPrefix rules before self.old →
-            ((now : List (List ℕ)) → L.tells link.new now → (generations : List (List (List Change))) × IsGoodJournal now generations) → IfBadFeed result (λ place. ⊥) }
-        ensures grows { (before : List (List ℕ)) → L.tells link.old before → (now : List (List ℕ)) × (L.tells link.new now × ((now ≡ before) ⊎ IsEarlier before now)) }
+        ensures good { (rules : List FilterRule) (before : List (List ℕ)) → L.says.tells link.old before → HasPrefix rules before self.old →
+            ((now : List (List ℕ)) → L.says.tells link.new now → (generations : List (List (List Change))) × IsGoodJournal now generations) → IfBadFeed result (λ place. ⊥) }
+        ensures grows { (before : List (List ℕ)) → L.says.tells link.old before → (now : List (List ℕ)) × (L.says.tells link.new now × ((now ≡ before) ⊎ IsEarlier before now)) }
     {
         let mut piece = vec![in alloc; 0u8; PIECE]?;
         let moved = self.pull_into(alloc, link, piece.as_mut_slice());

@@ -4,6 +4,7 @@ use Rattle.std.specs.Prelude.{map, reverse}
 use Rattle.std.proofs.lemmas.List.{map-append, reverse-append}
 use Rattle.std.proofs.lemmas.List.Elements.{recursion_from_All}
 use Rattle.outside_api.specs.Disk.{Files}
+use Rattle.outside_api.specs.Says.{DiskSays}
 use Rattle.archive_file.specs.Archive as archives
 use Rattle.depot_rows.specs.db_records.declared.change.Change.{Change}
 use Rattle.depot_rows.specs.depot_model.Cut.{cut}
@@ -44,9 +45,9 @@ texts_of_all [] = refl
 texts_of_all (groups ∷ generations) = λ i. sym (blocks_of 1 groups) i ∷ texts_of_all generations i
 
 -- a journal has the texts of its groups
-pub has_texts : {D : Type 0} (seen may_leave : D → Files → Type 0) (reads : (disk : D) (files : Files) → seen disk files → may_leave disk files) (depot : SerialDepot D) (c : Chronicle)
-    → HasGroups seen may_leave depot.journal c → HasTexts seen may_leave depot (texts_in c)
-has_texts seen may_leave reads depot c g =
+pub has_texts : {D : Type 0} (disk_says : DiskSays D) (reads : (disk : D) (files : Files) → disk_says.seen disk files → disk_says.may_leave disk files) (depot : SerialDepot D) (c : Chronicle)
+    → HasGroups disk_says depot.journal c → HasTexts disk_says depot (texts_in c)
+has_texts disk_says reads depot c g =
     let count = g.keeps.count in
     let generation = g.stands.generation in
     record {
@@ -64,8 +65,8 @@ has_texts seen may_leave reads depot c g =
 
 -- ---- one turn over a depot that replicas follow
 
-module _ {D : Type 0} (seen may_leave : D → Files → Type 0) (reads : (disk : D) (files : Files) → seen disk files → may_leave disk files) (past : Past) (start : List Deed) (places : List Placed)
-    (depot : SerialDepot D) (c : Chronicle) (master : IsMaster seen may_leave past start places depot c) (tells : (files : Files) × seen (archives.disk_of depot.archive) files) where
+module _ {D : Type 0} (disk_says : DiskSays D) (reads : (disk : D) (files : Files) → disk_says.seen disk files → disk_says.may_leave disk files) (past : Past) (start : List Deed) (places : List Placed)
+    (depot : SerialDepot D) (c : Chronicle) (master : IsMaster disk_says past start places depot c) (tells : (files : Files) × disk_says.seen (archives.disk_of depot.archive) files) where
   journal_of : IsJournalOf (texts_in c) (generations_of c)
   journal_of = (refl, master.groups.are_groups)
 
@@ -87,28 +88,28 @@ module _ {D : Type 0} (seen may_leave : D → Files → Type 0) (reads : (disk :
     found : HasFirst rules (generations_of c) old
     found = first_changes rules (texts_in c) (generations_of c) old (has_prefix rules (texts_in c) old moments followed) journal_of
 
-    nth : HasNth may_leave depot.archive (Known old.changes) c old.changes
+    nth : HasNth disk_says depot.archive (Known old.changes) c old.changes
     nth = master.each old.changes found.within
 
-    no_fewer : (pull : IsPulled (λ been. been ≡ depot) seen may_leave old new request.number text) → old.changes ≤ new.changes
+    no_fewer : (pull : IsPulled (λ been. been ≡ depot) disk_says old new request.number text) → old.changes ≤ new.changes
     no_fewer pull = go pull.follows
       where
         go : Follows old new pull.fetched pull.piece → old.changes ≤ new.changes
         go (inl did) = never_falls old new pull.piece pull.fetched (Ok did.0) did.1 tt
         go (inr stopped) = let same = same_changes stopped.0 in omega (arith, same)
 
-    pub turn_told : (pull lost : Bool) → IsAnsweredAs (λ been. been ≡ depot) seen may_leave old new request text lost pull ⊎ IsWithoutMemory old new request text lost → Turned pull
+    pub turn_told : (pull lost : Bool) → IsAnsweredAs (λ been. been ≡ depot) disk_says old new request text lost pull ⊎ IsWithoutMemory old new request text lost → Turned pull
     turn_told true lost (inr none) = (moments, same_followed none.same, inr (same_changes none.same, inr none.reply))
     turn_told false lost (inr none) = (moments, same_followed none.same, (same_changes none.same, inr (inr none.reply)))
     turn_told true true (inl is) = (moments, same_followed is.0, inr (same_changes is.0, inl is.1))
     turn_told true false (inl is) =
-        let P : SerialDepot D → Type 0 = λ been. HasTexts seen may_leave been (texts_in c) in
-        let pulled = follows_journal (λ been. been ≡ depot) seen may_leave old new request.number text is (texts_in c) (subst P (sym is.been) (has_texts seen may_leave reads depot c master.groups)) in
+        let P : SerialDepot D → Type 0 = λ been. HasTexts disk_says been (texts_in c) in
+        let pulled = follows_journal (λ been. been ≡ depot) disk_says old new request.number text is (texts_in c) (subst P (sym is.been) (has_texts disk_says reads depot c master.groups)) in
         (record { journal = texts_in c; replica = old } ∷ moments, (inl refl, pulled, followed), inl (new.generation, no_fewer is, is.reply))
     turn_told false true (inl is) = (moments, same_followed is.0, (same_changes is.0, inr (inl is.1)))
     turn_told false false (inl is) =
         let files = tells.0 in
-        let P : SerialDepot D → Type 0 = λ been. seen (archives.disk_of been.archive) files in
+        let P : SerialDepot D → Type 0 = λ been. disk_says.seen (archives.disk_of been.archive) files in
         let has = (nth.kept.contents files (reads (archives.disk_of depot.archive) files tells.1)).contents in
         let contents = cut_contents rules nth.depot nth.stand.sound (first_rows old.changes (generations_of c)) (rows_of old.tables) (files 0) found.rows has in
         (moments, same_followed is.0, (same_changes is.0, inl (nth.depot, nth.is, is.1.reply (cut rules nth.depot) files (stands_cut rules (generations_of c) old nth.depot found nth.stand) (subst P (sym is.1.been) tells.1) contents)))
@@ -162,11 +163,11 @@ along_grown Known More more may_give party script p c now grown texts along = re
   told = all_wider Known More script.filter more 0 along.answered texts p.replica.changes along.told;
 }
 
-module _ {D E : Type 0} (seen may_leave : D → Files → Type 0) (reads : (disk : D) (files : Files) → seen disk files → may_leave disk files) (past : Past) (start : List Deed) (places : List Placed)
-    (depot : SerialDepot D) (c : Chronicle) (master : IsMaster seen may_leave past start places depot c) (tells : (files : Files) × seen (archives.disk_of depot.archive) files)
+module _ {D E : Type 0} (disk_says : DiskSays D) (reads : (disk : D) (files : Files) → disk_says.seen disk files → disk_says.may_leave disk files) (past : Past) (start : List Deed) (places : List Placed)
+    (depot : SerialDepot D) (c : Chronicle) (master : IsMaster disk_says past start places depot c) (tells : (files : Files) × disk_says.seen (archives.disk_of depot.archive) files)
     (may_give : ℕ → Type 0) (party : ℕ) (script : ReplicaScript) where
   -- it took its turn
-  pub along_turned : (old new : ReplicaParty) (texts : List (List ℕ)) (result : Result Answered E) → IsAlong (IsNth past start places) may_give party script old c texts → IsTurned seen may_leave depot old new result
+  pub along_turned : (old new : ReplicaParty) (texts : List (List ℕ)) (result : Result Answered E) → IsAlong (IsNth past start places) may_give party script old c texts → IsTurned disk_says depot old new result
       → IsAlong (IsNth past start places) may_give party script new c (texts ++ reply_text result (length texts + 1) ∷ [])
   along_turned old new texts result along turn =
       let request = turn.request in
@@ -177,7 +178,7 @@ module _ {D E : Type 0} (seen may_leave : D → Files → Type 0) (reads : (disk
       (recursion_from_All IsAskedWell script.session.commands along.formed) in
       let many = told_many (IsNth past start places) script.filter 0 along.answered texts old.replica.changes along.told in
       let number : request.number ≡ length texts + 1 = let is = here.0 in omega (arith, is, many) in
-      let told = turn_told seen may_leave reads past start places depot c master tells script.filter old.replica new.replica along.moments along.followed request (reply_text result request.number)
+      let told = turn_told disk_says reads past start places depot c master tells script.filter old.replica new.replica along.moments along.followed request (reply_text result request.number)
       (pulls request.command) (is_lost result) (turn.answered (formed_of request here.1)) in
       let P : ℕ → Type 0 = λ n. IsToldAs (IsNth past start places) script.filter old.replica.changes new.replica.changes request (reply_text result n) (pulls request.command) in
       record {

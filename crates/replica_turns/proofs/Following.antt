@@ -3,8 +3,8 @@ use Rattle.std.proofs.Common.{◌≡◌, ◌+◌, ◌++◌, ◌∷◌, [], ℕ, 
 use Rattle.std.specs.Prelude.{map, take}
 use Rattle.std.proofs.Math.Seq.{get_or-append_seam, take-append_seam, take-length}
 use Rattle.std.proofs.lemmas.List.{length-append, map-append}
-use Rattle.outside_api.specs.Disk.{Files}
 use Rattle.outside_api.specs.Link.{IsEarlier, text_of}
+use Rattle.outside_api.specs.Says.{DiskSays}
 use Rattle.disk_journal.specs.Text.{blocks}
 use Rattle.replica_pull.specs.Prefix.{HasPulled}
 use Rattle.replica_pull.specs.declared.replica.Replica.{Replica}
@@ -27,9 +27,9 @@ earlier_self front last =
       is = λ i. sym front_is i ++ sym whole i ∷ [];
     }
 
-pub follows_journal : {D : Type 0} (HasBeen : SerialDepot D → Type 0) (seen may_leave : D → Files → Type 0) (old new : Replica) (number : ℕ) (text : List ℕ)
-    → (pull : IsPulled HasBeen seen may_leave old new number text) (texts : List (List ℕ)) → HasTexts seen may_leave pull.depot texts → HasPulled texts old new
-follows_journal HasBeen seen may_leave old new number text pull texts has = go pull.follows
+pub follows_journal : {D : Type 0} (HasBeen : SerialDepot D → Type 0) (disk_says : DiskSays D) (old new : Replica) (number : ℕ) (text : List ℕ)
+    → (pull : IsPulled HasBeen disk_says old new number text) (texts : List (List ℕ)) → HasTexts disk_says pull.depot texts → HasPulled texts old new
+follows_journal HasBeen disk_says old new number text pull texts has = go pull.follows
   where
     go : Follows old new pull.fetched pull.piece → HasPulled texts old new
     go (inl did) = inr (record {

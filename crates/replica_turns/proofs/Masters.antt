@@ -4,8 +4,8 @@ use Rattle.std.specs.Prelude.{map}
 use Rattle.std.proofs.Math.Nat.{eq-or-lt_of_le}
 use Rattle.std.proofs.Math.Seq.{get_or-append_seam, take-append_seam, take-length}
 use Rattle.std.proofs.lemmas.List.{length-map, map-append, take-append-le}
-use Rattle.outside_api.specs.Disk.{Files}
 use Rattle.outside_api.specs.Link.{IsEarlier, text_of}
+use Rattle.outside_api.specs.Says.{DiskSays}
 use Rattle.archive_file.specs.Archive as archives
 use Rattle.serial_depot.specs.command_core.Outcomes.{IsOutcome}
 use Rattle.serial_depot.specs.command_core.declared.outcome.Outcome.{Outcome}
@@ -118,15 +118,15 @@ texts_grow opens false (change ∷ changes) c = inr (changes_grow opens (change 
 
 -- ---- what stays
 
-module _ {D : Type 0} (seen may_leave : D → Files → Type 0) (past : Past) (start : List Deed) (places : List Placed) (old new : SerialDepot D) (c : Chronicle) (master : IsMaster seen may_leave past start places old c)
-    (stored : KeepsStored may_leave old.archive new.archive) where
+module _ {D : Type 0} (disk_says : DiskSays D) (past : Past) (start : List Deed) (places : List Placed) (old new : SerialDepot D) (c : Chronicle) (master : IsMaster disk_says past start places old c)
+    (stored : KeepsStored disk_says old.archive new.archive) where
   -- what the archive has it keeps
   nth_kept : (Known : ℕ → List Deed → Type 0) → ((n : ℕ) (d : List Deed) → IsNth past start places n d → Known n d) → (now : Chronicle) (n : ℕ) → first_rows n (generations_of now) ≡ first_rows n (generations_of c)
-      → n ≤ length (all_changes c) → HasNth may_leave new.archive (Known n) now n
+      → n ≤ length (all_changes c) → HasNth disk_says new.archive (Known n) now n
   nth_kept Known more now n same within =
       let was = master.each n within in
-      let old_images = may_leave (archives.disk_of old.archive) in
-      let new_images = may_leave (archives.disk_of new.archive) in
+      let old_images = disk_says.may_leave (archives.disk_of old.archive) in
+      let new_images = disk_says.may_leave (archives.disk_of new.archive) in
       let kept = contents_kept old_images new_images (archives.used_of old.archive) (archives.used_of new.archive) (first_rows n (generations_of c)) was.depot stored.more stored.below was.stand was.kept in
       record {
         depot = was.depot;
@@ -136,7 +136,7 @@ module _ {D : Type 0} (seen may_leave : D → Files → Type 0) (past : Past) (s
       }
 
   -- no command was taken
-  pub unmoved_master : rows_of new.tables ≡ rows_of old.tables → HasGroups seen may_leave new.journal c → IsMaster seen may_leave past start places new c
+  pub unmoved_master : rows_of new.tables ≡ rows_of old.tables → HasGroups disk_says new.journal c → IsMaster disk_says past start places new c
   unmoved_master same groups = record {
     groups = groups;
     rows = same ∙ master.rows;
@@ -148,24 +148,24 @@ module _ {D : Type 0} (seen may_leave : D → Files → Type 0) (past : Past) (s
 
 -- ---- a place
 
-module _ {D : Type 0} (seen may_leave : D → Files → Type 0) (moment : D → ℕ) (left_since : D → ℕ → Files → Type 0) (past : Past) (start : List Deed) (places : List Placed) (old new : SerialDepot D) (c : Chronicle)
-    (master : IsMaster seen may_leave past start places old c) (since : ℕ) (h : HasRun seen may_leave moment left_since old since start places) (stored : KeepsStored may_leave old.archive new.archive) where
+module _ {D : Type 0} (disk_says : DiskSays D) (past : Past) (start : List Deed) (places : List Placed) (old new : SerialDepot D) (c : Chronicle)
+    (master : IsMaster disk_says past start places old c) (since : ℕ) (h : HasRun disk_says old since start places) (stored : KeepsStored disk_says old.archive new.archive) where
   abbrev current : List Deed
   current = taken step start places
 
   -- nothing was written
-  quiet_place : (p : Placed) → (IsChange current p → ⊥) → rows_of new.tables ≡ rows_of old.tables → HasGroups seen may_leave new.journal c → IsMaster seen may_leave past start (places ++ p ∷ []) new c
+  quiet_place : (p : Placed) → (IsChange current p → ⊥) → rows_of new.tables ≡ rows_of old.tables → HasGroups disk_says new.journal c → IsMaster disk_says past start (places ++ p ∷ []) new c
   quiet_place p idle same groups = record {
     groups = groups;
     rows = same ∙ master.rows;
     changes = master.changes;
     count = master.count;
     are_changes = changes_idle master.changes start places p master.are_changes idle;
-    each = λ n within. nth_kept seen may_leave past start places old new c master stored (IsNth past start (places ++ p ∷ [])) (nth_longer past start places (p ∷ [])) c n refl within;
+    each = λ n within. nth_kept disk_says past start places old new c master stored (IsNth past start (places ++ p ∷ [])) (nth_longer past start places (p ∷ [])) c n refl within;
   }
 
   -- one change more
-  module _ (p : Placed) (is : IsChange current p) (now : Chronicle) (groups : HasGroups seen may_leave new.journal now) (ran : HasRun seen may_leave moment left_since new since start (places ++ p ∷ []))
+  module _ (p : Placed) (is : IsChange current p) (now : Chronicle) (groups : HasGroups disk_says new.journal now) (ran : HasRun disk_says new since start (places ++ p ∷ []))
       (extra : List (List Change)) (more : all_changes now ≡ all_changes c ++ extra) (one : length extra ≡ 1) (rows : changed_by (rows_of old.tables) (joined extra) ≡ rows_of new.tables) where
     rows_now : rows_of new.tables ≡ changed_by no_rows (joined (all_changes now))
     rows_now =
@@ -183,11 +183,11 @@ module _ {D : Type 0} (seen may_leave : D → Files → Type 0) (moment : D → 
     counted : length (all_changes now) ≡ past.count + (master.changes + 1)
     counted = let was = master.count in let all = long in omega (arith, was, all)
 
-    nth_now : (n : ℕ) → (n ≡ length (all_changes now)) ⊎ (n < length (all_changes now)) → HasNth may_leave new.archive (IsNth past start (places ++ p ∷ []) n) now n
+    nth_now : (n : ℕ) → (n ≡ length (all_changes now)) ⊎ (n < length (all_changes now)) → HasNth disk_says new.archive (IsNth past start (places ++ p ∷ []) n) now n
     nth_now n (inl last) =
         let whole : take n (all_changes now) ≡ all_changes now = ap (λ (k : ℕ). take k (all_changes now)) last ∙ take-length (all_changes now) in
         let same : first_rows n (generations_of now) ≡ rows_of new.tables = ap (λ (l : List (List Change)). changed_by no_rows (joined l)) whole ∙ sym rows_now in
-        let images = may_leave (archives.disk_of new.archive) in
+        let images = disk_says.may_leave (archives.disk_of new.archive) in
         record {
           depot = taken step start (places ++ p ∷ []);
           is = inr (master.changes + 1, last ∙ counted, after_all (master.changes + 1) start (places ++ p ∷ []) now_changes);
@@ -197,9 +197,9 @@ module _ {D : Type 0} (seen may_leave : D → Files → Type 0) (moment : D → 
     nth_now n (inr less) =
         let within : n ≤ length (all_changes c) = (let all = long in omega (arith, less, all)) in
         let first : take n (all_changes now) ≡ take n (all_changes c) = ap (take n) more ∙ take-append-le n (all_changes c) extra within in
-        nth_kept seen may_leave past start places old new c master stored (IsNth past start (places ++ p ∷ [])) (nth_longer past start places (p ∷ [])) now n (ap (λ (l : List (List Change)). changed_by no_rows (joined l)) first) within
+        nth_kept disk_says past start places old new c master stored (IsNth past start (places ++ p ∷ [])) (nth_longer past start places (p ∷ [])) now n (ap (λ (l : List (List Change)). changed_by no_rows (joined l)) first) within
 
-    changed_place : IsMaster seen may_leave past start (places ++ p ∷ []) new now
+    changed_place : IsMaster disk_says past start (places ++ p ∷ []) new now
     changed_place = record {
       groups = groups;
       rows = rows_now;
@@ -221,9 +221,9 @@ module _ {D : Type 0} (seen may_leave : D → Files → Type 0) (moment : D → 
         let same = length-map c.closed (group_texts 1) in
         omega (arith, told, stands, count, same)
 
-    written : (opens : Bool) → opens_generation request ≡ opens → outcome.changes ≢ [] → HasRun seen may_leave moment left_since new since start (places ++ placed_by request false ∷ [])
-        → rows_of new.tables ≡ changed_by (rows_of old.tables) outcome.changes → HasGroups seen may_leave new.journal (with_changes opens outcome.changes c)
-        → IsMaster seen may_leave past start (places ++ placed_by request false ∷ []) new (with_changes opens outcome.changes c)
+    written : (opens : Bool) → opens_generation request ≡ opens → outcome.changes ≢ [] → HasRun disk_says new since start (places ++ placed_by request false ∷ [])
+        → rows_of new.tables ≡ changed_by (rows_of old.tables) outcome.changes → HasGroups disk_says new.journal (with_changes opens outcome.changes c)
+        → IsMaster disk_says past start (places ++ placed_by request false ∷ []) new (with_changes opens outcome.changes c)
     written false opening some ran rows groups =
         changed_place (placed_by request false) (refl, some_differ (rows_of old.tables) old.tables.archive_end current request outcome h.over.stand is some) (with_changes false outcome.changes c) groups ran
         (outcome.changes ∷ []) (with_groups 0 c.closed c.newest (outcome.changes ∷ [])) refl
@@ -241,14 +241,14 @@ module _ {D : Type 0} (seen may_leave : D → Files → Type 0) (moment : D → 
         again : (n : ℕ) → changed_by (rows_of old.tables) (joined (begun (n + 1))) ≡ changed_in (rows_of old.tables) (next_told (n + 1))
         again n = ap (λ (k : ℕ). changed_by (rows_of old.tables) (joined (begun k))) (one_on n) ∙ ap (λ (k : ℕ). changed_in (rows_of old.tables) (next_told k)) (sym (one_on n))
 
-    pub place_master : (fault : Bool) → HasRun seen may_leave moment left_since new since start (places ++ placed_by request fault ∷ []) → AreRowsAfter (rows_of old.tables) outcome.changes fault (rows_of new.tables)
-        → HasGroups seen may_leave new.journal (grown (opens_generation request) fault outcome.changes c)
-        → IsMaster seen may_leave past start (places ++ placed_by request fault ∷ []) new (grown (opens_generation request) fault outcome.changes c)
+    pub place_master : (fault : Bool) → HasRun disk_says new since start (places ++ placed_by request fault ∷ []) → AreRowsAfter (rows_of old.tables) outcome.changes fault (rows_of new.tables)
+        → HasGroups disk_says new.journal (grown (opens_generation request) fault outcome.changes c)
+        → IsMaster disk_says past start (places ++ placed_by request fault ∷ []) new (grown (opens_generation request) fault outcome.changes c)
     place_master fault ran rows groups = go fault outcome.changes refl ran rows groups
       where
-        go : (fault : Bool) (changes : List Change) → outcome.changes ≡ changes → HasRun seen may_leave moment left_since new since start (places ++ placed_by request fault ∷ [])
-            → AreRowsAfter (rows_of old.tables) changes fault (rows_of new.tables) → HasGroups seen may_leave new.journal (grown (opens_generation request) fault changes c)
-            → IsMaster seen may_leave past start (places ++ placed_by request fault ∷ []) new (grown (opens_generation request) fault changes c)
+        go : (fault : Bool) (changes : List Change) → outcome.changes ≡ changes → HasRun disk_says new since start (places ++ placed_by request fault ∷ [])
+            → AreRowsAfter (rows_of old.tables) changes fault (rows_of new.tables) → HasGroups disk_says new.journal (grown (opens_generation request) fault changes c)
+            → IsMaster disk_says past start (places ++ placed_by request fault ∷ []) new (grown (opens_generation request) fault changes c)
         go true [] same ran rows groups = quiet_place (placed_by request true) (λ change. let e = change.0 in cc) rows groups
         go true (change ∷ changes) same ran rows groups = quiet_place (placed_by request true) (λ change. let e = change.0 in cc) rows groups
         go false [] same ran rows groups =
@@ -259,6 +259,6 @@ module _ {D : Type 0} (seen may_leave : D → Files → Type 0) (moment : D → 
             (λ change. no_difference current (after current (step current request).deeds) (same_stand (rows_of old.tables) current (after current (step current request).deeds) h.over.stand after_it) change.1) rows groups
         go false (change ∷ changes) same ran rows groups =
             let some : outcome.changes ≢ [] = λ none. (let e = sym same ∙ none in cc) in
-            let Grows : List Change → Type 0 = λ cs. HasGroups seen may_leave new.journal (with_changes (opens_generation request) cs c) in
-            let Is : List Change → Type 0 = λ cs. IsMaster seen may_leave past start (places ++ placed_by request false ∷ []) new (with_changes (opens_generation request) cs c) in
+            let Grows : List Change → Type 0 = λ cs. HasGroups disk_says new.journal (with_changes (opens_generation request) cs c) in
+            let Is : List Change → Type 0 = λ cs. IsMaster disk_says past start (places ++ placed_by request false ∷ []) new (with_changes (opens_generation request) cs c) in
             subst Is same (written (opens_generation request) refl some ran (rows ∙ ap (changed_by (rows_of old.tables)) (sym same)) (subst Grows (sym same) groups))

@@ -4,6 +4,7 @@ use Rattle.std.specs.Prelude.{map}
 use Rattle.std.proofs.lemmas.List.{length-map, map-append}
 use Rattle.outside_api.specs.Disk.{Files}
 use Rattle.outside_api.specs.Link.{Answers, IsEarlier}
+use Rattle.outside_api.specs.Says.{DiskSays}
 use Rattle.outside_api.specs.declared.link.Fetched.{Fetched}
 use Rattle.outside_api.specs.declared.link.Fetched.TheVariants.{Bytes, End, Next}
 use Rattle.depot_rows.specs.depot_model.Printed.{printed}
@@ -30,8 +31,8 @@ use Rattle.replica_turns.specs.declared.party.ReplicaParty.{ReplicaParty}
 use Rattle.replica_turns.proofs.Along.{has_texts}
 use Rattle.replica_turns.proofs.Following.{earlier_self}
 
-module _ {D : Type 0} (seen may_leave : D → Files → Type 0) (reads : (disk : D) (files : Files) → seen disk files → may_leave disk files) (depot : SerialDepot D) (c : Chronicle)
-    (groups : HasGroups seen may_leave depot.journal c) (good : IsGoodJournal (texts_in c) (generations_of c)) (rules : List FilterRule) (moments : List Moment) (old new : Replica)
+module _ {D : Type 0} (disk_says : DiskSays D) (reads : (disk : D) (files : Files) → disk_says.seen disk files → disk_says.may_leave disk files) (depot : SerialDepot D) (c : Chronicle)
+    (groups : HasGroups disk_says depot.journal c) (good : IsGoodJournal (texts_in c) (generations_of c)) (rules : List FilterRule) (moments : List Moment) (old new : Replica)
     (followed : HasFollowed rules (texts_in c) old moments) where
   itself : IsEarlier (texts_in c) (texts_in c)
   itself = subst (λ (j : List (List ℕ)). IsEarlier j j) (sym (map-append (groups_text 1) c.closed (c.newest ∷ []))) (earlier_self (map (groups_text 1) c.closed) (groups_text 1 c.newest))
@@ -59,11 +60,11 @@ module _ {D : Type 0} (seen may_leave : D → Files → Type 0) (reads : (disk :
   never_stopped Next piece faults.NoGeneration answers other stopped = let most = few in omega (arith, stopped, answers.1, most)
   never_stopped Next piece faults.Memory answers other stopped = other refl
 
-  pulled_of : (number : ℕ) (text : List ℕ) → IsPulled (λ been. been ≡ depot) seen may_leave old new number text → HasPulledOf (texts_in c) old new
+  pulled_of : (number : ℕ) (text : List ℕ) → IsPulled (λ been. been ≡ depot) disk_says old new number text → HasPulledOf (texts_in c) old new
   pulled_of number text pull = go pull.follows
     where
       answers : Answers (texts_in c) old.generation old.at pull.fetched pull.piece
-      answers = pull.answers (texts_in c) (has_texts seen may_leave reads pull.depot c (subst (λ (d : SerialDepot D). HasGroups seen may_leave d.journal c) (sym pull.been) groups))
+      answers = pull.answers (texts_in c) (has_texts disk_says reads pull.depot c (subst (λ (d : SerialDepot D). HasGroups disk_says d.journal c) (sym pull.been) groups))
 
       go : Follows old new pull.fetched pull.piece → HasPulledOf (texts_in c) old new
       go (inl did) = record { fetched = pull.fetched; piece = pull.piece; moved = did.0; answers = answers; has = did.1 }
@@ -72,16 +73,16 @@ module _ {D : Type 0} (seen may_leave : D → Files → Type 0) (reads : (disk :
   abbrev Moves : Bool → List ℕ → ℕ → Type 0
   Moves lost text number = (lost ≡ true) ⊎ ((text ≡ printed (memory_row ∷ []) number) ⊎ HasPulledOf (texts_in c) old new)
 
-  moves : (request : Request) (text : List ℕ) (lost pull : Bool) → pull ≡ true → IsAnsweredAs (λ been. been ≡ depot) seen may_leave old new request text lost pull ⊎ IsWithoutMemory old new request text lost
+  moves : (request : Request) (text : List ℕ) (lost pull : Bool) → pull ≡ true → IsAnsweredAs (λ been. been ≡ depot) disk_says old new request text lost pull ⊎ IsWithoutMemory old new request text lost
       → Moves lost text request.number
   moves request text lost pull is (inr none) = inr (inl none.reply)
   moves request text true true is (inl answered) = inl refl
   moves request text false true is (inl answered) = inr (inr (pulled_of request.number text answered))
   moves request text lost false is (inl answered) = absurd cc
 
-pub pulls_move : {D E : Type 0} (seen may_leave : D → Files → Type 0) (reads : (disk : D) (files : Files) → seen disk files → may_leave disk files) (depot : SerialDepot D) (c : Chronicle) (rules : List FilterRule)
-    (moments : List Moment) (old new : ReplicaParty) (result : Result Answered E) → HasGroups seen may_leave depot.journal c → IsGoodJournal (texts_in c) (generations_of c)
-    → HasFollowed rules (texts_in c) old.replica moments → (turn : IsTurned seen may_leave depot old new result) → IsFormedBy turn.request → pulls turn.request.command ≡ true
+pub pulls_move : {D E : Type 0} (disk_says : DiskSays D) (reads : (disk : D) (files : Files) → disk_says.seen disk files → disk_says.may_leave disk files) (depot : SerialDepot D) (c : Chronicle) (rules : List FilterRule)
+    (moments : List Moment) (old new : ReplicaParty) (result : Result Answered E) → HasGroups disk_says depot.journal c → IsGoodJournal (texts_in c) (generations_of c)
+    → HasFollowed rules (texts_in c) old.replica moments → (turn : IsTurned disk_says depot old new result) → IsFormedBy turn.request → pulls turn.request.command ≡ true
     → (is_lost result ≡ true) ⊎ ((reply_text result turn.request.number ≡ printed (memory_row ∷ []) turn.request.number) ⊎ HasPulledOf (texts_in c) old.replica new.replica)
-pulls_move seen may_leave reads depot c rules moments old new result groups good followed turn formed is =
-    moves seen may_leave reads depot c groups good rules moments old.replica new.replica followed turn.request (reply_text result turn.request.number) (is_lost result) (pulls turn.request.command) is (turn.answered formed)
+pulls_move disk_says reads depot c rules moments old new result groups good followed turn formed is =
+    moves disk_says reads depot c groups good rules moments old.replica new.replica followed turn.request (reply_text result turn.request.number) (is_lost result) (pulls turn.request.command) is (turn.answered formed)

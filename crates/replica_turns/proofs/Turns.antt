@@ -4,7 +4,7 @@ use Rattle.std.specs.Prelude.{◌||◌, IfOk, reverse}
 use Rattle.std.specs.List.{AllByRecursion}
 use Rattle.std.proofs.lemmas.List.{reverse-append}
 use Rattle.std.proofs.lemmas.List.Elements.{recursion_from_All}
-use Rattle.outside_api.specs.Disk.{Files}
+use Rattle.outside_api.specs.Says.{DiskSays}
 use Rattle.serial_depot.specs.command_core.Outcomes.{IsFormed, IsFormedBy}
 use Rattle.command_words.specs.WellFormed.{IsWellFormed}
 use Rattle.depot_rows.specs.depot_model.declared.command.Command.{Command}
@@ -64,28 +64,28 @@ requests_many may_give party n caller (asked ∷ commands) (r ∷ requests) are 
 
 -- ---- over more depots
 
-module _ {D : Type 0} (HasBeen Other : SerialDepot D → Type 0) (seen may_leave : D → Files → Type 0) (more : (depot : SerialDepot D) → HasBeen depot → Other depot) where
-  pull_wider : (old new : Replica) (number : ℕ) (text : List ℕ) (lost : Bool) → IsPullAnswer HasBeen seen may_leave old new number text lost → IsPullAnswer Other seen may_leave old new number text lost
+module _ {D : Type 0} (HasBeen Other : SerialDepot D → Type 0) (disk_says : DiskSays D) (more : (depot : SerialDepot D) → HasBeen depot → Other depot) where
+  pull_wider : (old new : Replica) (number : ℕ) (text : List ℕ) (lost : Bool) → IsPullAnswer HasBeen disk_says old new number text lost → IsPullAnswer Other disk_says old new number text lost
   pull_wider old new number text true is = is
   pull_wider old new number text false is =
       record { depot = is.depot; been = more is.depot is.been; fetched = is.fetched; piece = is.piece; answers = is.answers; follows = is.follows; reply = is.reply }
 
-  reply_wider : (replica : Replica) (request : Request) (text : List ℕ) (lost : Bool) → IsReply HasBeen seen replica request text lost → IsReply Other seen replica request text lost
+  reply_wider : (replica : Replica) (request : Request) (text : List ℕ) (lost : Bool) → IsReply HasBeen disk_says replica request text lost → IsReply Other disk_says replica request text lost
   reply_wider replica request text true is = is
   reply_wider replica request text false is = record { depot = is.depot; been = more is.depot is.been; reply = is.reply }
 
-  as_wider : (old new : Replica) (request : Request) (text : List ℕ) (lost pull : Bool) → IsAnsweredAs HasBeen seen may_leave old new request text lost pull
-      → IsAnsweredAs Other seen may_leave old new request text lost pull
+  as_wider : (old new : Replica) (request : Request) (text : List ℕ) (lost pull : Bool) → IsAnsweredAs HasBeen disk_says old new request text lost pull
+      → IsAnsweredAs Other disk_says old new request text lost pull
   as_wider old new request text lost true is = pull_wider old new request.number text lost is
   as_wider old new request text lost false is = (is.0, reply_wider old request text lost is.1)
 
-  answer_wider : (old new : Replica) (request : Request) (text : List ℕ) (lost : Bool) → IsAnswered HasBeen seen may_leave old new request text lost
-      → IsAnswered Other seen may_leave old new request text lost
+  answer_wider : (old new : Replica) (request : Request) (text : List ℕ) (lost : Bool) → IsAnswered HasBeen disk_says old new request text lost
+      → IsAnswered Other disk_says old new request text lost
   answer_wider old new request text lost (inl is) = inl (as_wider old new request text lost (pulls request.command) is)
   answer_wider old new request text lost (inr is) = inr is
 
-  all_wider : (old new : Replica) (requests : List Request) (texts : List (List ℕ)) (lost : Bool) → AreAnswered HasBeen seen may_leave old new requests texts lost
-      → AreAnswered Other seen may_leave old new requests texts lost
+  all_wider : (old new : Replica) (requests : List Request) (texts : List (List ℕ)) (lost : Bool) → AreAnswered HasBeen disk_says old new requests texts lost
+      → AreAnswered Other disk_says old new requests texts lost
   all_wider old new [] [] lost are = are
   all_wider old new [] (text ∷ texts) lost are = absurd are
   all_wider old new (request ∷ requests) [] lost are = absurd are
@@ -94,18 +94,18 @@ module _ {D : Type 0} (HasBeen Other : SerialDepot D → Type 0) (seen may_leave
 
 -- ---- one more answer
 
-module _ {D : Type 0} (HasBeen : SerialDepot D → Type 0) (seen may_leave : D → Files → Type 0) where
-  as_many : (old new : Replica) (requests : List Request) (texts : List (List ℕ)) (lost : Bool) → AreAnswered HasBeen seen may_leave old new requests texts lost → length requests ≡ length texts
+module _ {D : Type 0} (HasBeen : SerialDepot D → Type 0) (disk_says : DiskSays D) where
+  as_many : (old new : Replica) (requests : List Request) (texts : List (List ℕ)) (lost : Bool) → AreAnswered HasBeen disk_says old new requests texts lost → length requests ≡ length texts
   as_many old new [] [] lost are = refl
   as_many old new [] (text ∷ texts) lost are = absurd are
   as_many old new (request ∷ requests) [] lost are = absurd are
   as_many old new (request ∷ requests) (text ∷ texts) lost are = ap suc (as_many are.0 new requests texts are.2 are.5)
 
   one_more : (old mid new : Replica) (requests : List Request) (texts : List (List ℕ)) (lost : Bool) (request : Request) (text : List ℕ) (last : Bool)
-      → AreAnswered HasBeen seen may_leave old mid requests texts lost → IsAnswered HasBeen seen may_leave mid new request text last
-      → AreAnswered HasBeen seen may_leave old new (requests ++ request ∷ []) (texts ++ text ∷ []) (lost || last)
+      → AreAnswered HasBeen disk_says old mid requests texts lost → IsAnswered HasBeen disk_says mid new request text last
+      → AreAnswered HasBeen disk_says old new (requests ++ request ∷ []) (texts ++ text ∷ []) (lost || last)
   one_more old mid new [] [] lost request text last are is =
-      (new, last, false, ap (λ (l : Bool). l || last) are.1 ∙ sym (or_false last), subst (λ (r : Replica). IsAnswered HasBeen seen may_leave r new request text last) are.0 is, (refl, refl))
+      (new, last, false, ap (λ (l : Bool). l || last) are.1 ∙ sym (or_false last), subst (λ (r : Replica). IsAnswered HasBeen disk_says r new request text last) are.0 is, (refl, refl))
   one_more old mid new [] (t ∷ texts) lost request text last are is = absurd are
   one_more old mid new (r ∷ requests) [] lost request text last are is = absurd are
   one_more old mid new (r ∷ requests) (t ∷ texts) lost request text last are is = (
@@ -119,16 +119,16 @@ module _ {D : Type 0} (HasBeen : SerialDepot D → Type 0) (seen may_leave : D �
 
 -- ---- a party
 
-module _ {D : Type 0} (HasBeen : SerialDepot D → Type 0) (seen may_leave : D → Files → Type 0) (may_give : ℕ → Type 0) (party : ℕ) (script : ReplicaScript) where
+module _ {D : Type 0} (HasBeen : SerialDepot D → Type 0) (disk_says : DiskSays D) (may_give : ℕ → Type 0) (party : ℕ) (script : ReplicaScript) where
   -- a fresh party of well-formed commands is going, with no reply
-  pub begins : (p : ReplicaParty) → IsFresh may_give party script p → AreWellFormed script.session.commands → IsGoing HasBeen seen may_leave may_give party script p [] false
+  pub begins : (p : ReplicaParty) → IsFresh may_give party script p → AreWellFormed script.session.commands → IsGoing HasBeen disk_says may_give party script p [] false
   begins p fresh formed =
       record { formed = formed; answered = []; asked = fresh.asked; first = p.replica; is_new = fresh.is_new; are = (refl, refl) }
 
   -- over a depot that has been it goes on by one turn
   pub goes_on : {E : Type 0} (depot : SerialDepot D) (old new : ReplicaParty) (texts : List (List ℕ)) (lost : Bool) (result : Result Answered E) → HasBeen depot
-      → IsGoing HasBeen seen may_leave may_give party script old texts lost → IsTurned seen may_leave depot old new result
-      → IsGoing HasBeen seen may_leave may_give party script new (texts ++ reply_text result (length texts + 1) ∷ []) (lost || is_lost result)
+      → IsGoing HasBeen disk_says may_give party script old texts lost → IsTurned disk_says depot old new result
+      → IsGoing HasBeen disk_says may_give party script new (texts ++ reply_text result (length texts + 1) ∷ []) (lost || is_lost result)
   goes_on depot old new texts lost result been going turn =
       let request = turn.request in
       let left : reverse old.left.items ≡ request ∷ reverse new.left.items = ap reverse turn.left ∙ reverse-append new.left.items (request ∷ []) in
@@ -136,10 +136,10 @@ module _ {D : Type 0} (HasBeen : SerialDepot D → Type 0) (seen may_leave : D �
       subst (λ (behind : List Request). AreRequests may_give party 1 script.session.caller script.session.commands (going.answered ++ behind)) left going.asked in
       let here = at_place may_give party 1 script.session.caller script.session.commands going.answered request (reverse new.left.items) asked
       (recursion_from_All IsAskedWell script.session.commands going.formed) in
-      let many = as_many HasBeen seen may_leave going.first old.replica going.answered texts lost going.are in
+      let many = as_many HasBeen disk_says going.first old.replica going.answered texts lost going.are in
       let number : request.number ≡ length texts + 1 = let is = here.0 in omega (arith, is, many) in
-      let one : IsAnswered HasBeen seen may_leave old.replica new.replica request (reply_text result request.number) (is_lost result) =
-      answer_wider (λ other. other ≡ depot) HasBeen seen may_leave (λ other same. subst HasBeen (sym same) been) old.replica new.replica request (reply_text result request.number) (is_lost result)
+      let one : IsAnswered HasBeen disk_says old.replica new.replica request (reply_text result request.number) (is_lost result) =
+      answer_wider (λ other. other ≡ depot) HasBeen disk_says (λ other same. subst HasBeen (sym same) been) old.replica new.replica request (reply_text result request.number) (is_lost result)
       (turn.answered (formed_of request here.1)) in
       record {
         formed = going.formed;
@@ -149,18 +149,18 @@ module _ {D : Type 0} (HasBeen : SerialDepot D → Type 0) (seen may_leave : D �
         first = going.first;
         is_new = going.is_new;
         are =
-            one_more HasBeen seen may_leave going.first old.replica new.replica going.answered texts lost request (reply_text result (length texts + 1)) (is_lost result) going.are
-            (subst (λ (n : ℕ). IsAnswered HasBeen seen may_leave old.replica new.replica request (reply_text result n) (is_lost result)) number one);
+            one_more HasBeen disk_says going.first old.replica new.replica going.answered texts lost request (reply_text result (length texts + 1)) (is_lost result) going.are
+            (subst (λ (n : ℕ). IsAnswered HasBeen disk_says old.replica new.replica request (reply_text result n) (is_lost result)) number one);
       }
 
   -- it has answered so over more depots too
   pub widened : (Other : SerialDepot D → Type 0) → ((depot : SerialDepot D) → HasBeen depot → Other depot) → (p : ReplicaParty) (texts : List (List ℕ)) (lost : Bool)
-      → IsGoing HasBeen seen may_leave may_give party script p texts lost → IsGoing Other seen may_leave may_give party script p texts lost
+      → IsGoing HasBeen disk_says may_give party script p texts lost → IsGoing Other disk_says may_give party script p texts lost
   widened Other more p texts lost going = record {
     formed = going.formed;
     answered = going.answered;
     asked = going.asked;
     first = going.first;
     is_new = going.is_new;
-    are = all_wider HasBeen Other seen may_leave more going.first p.replica going.answered texts lost going.are;
+    are = all_wider HasBeen Other disk_says more going.first p.replica going.answered texts lost going.are;
   }

@@ -1,7 +1,7 @@
 -- How far a replica among the parties of a run is. This project's own choice.
 use Rattle.std.specs.Prelude.{◌≡◌, ◌||◌, ℕ, Bool, true, false, List, [], ◌∷◌, ◌++◌, reverse, length, Option, Result, Ok, Err}
 use Rattle.std.specs.List.{flat_map}
-use Rattle.outside_api.specs.Disk.{Files}
+use Rattle.outside_api.specs.Says.{DiskSays}
 use Rattle.outside_api.specs.Told.{extended}
 use Rattle.depot_rows.specs.depot_model.Printed.{printed}
 use Rattle.depot_rows.specs.depot_model.Rows.{memory_row}
@@ -21,21 +21,21 @@ use Rattle.replica_turns.specs.declared.party.ReplicaParty.{ReplicaParty}
 -- ---- commands one after another
 
 -- These commands were answered with these texts, one after another, and whether one of them tells that a disk failed.
-abbrev pub AreAnswered : {D : Type 0} → (SerialDepot D → Type 0) → (D → Files → Type 0) → (D → Files → Type 0) → Replica → Replica → List Request → List (List ℕ) → Bool → Type 0
-AreAnswered HasBeen seen may_leave old new [] [] lost = (new ≡ old) × (lost ≡ false)
-AreAnswered HasBeen seen may_leave old new (request ∷ requests) (text ∷ texts) lost =
-    (next : Replica) × (first : Bool) × (later : Bool) × (lost ≡ first || later) × IsAnswered HasBeen seen may_leave old next request text first × AreAnswered HasBeen seen may_leave next new requests texts later
-AreAnswered HasBeen seen may_leave old new _ _ lost = ⊥
+abbrev pub AreAnswered : {D : Type 0} → (SerialDepot D → Type 0) → DiskSays D → Replica → Replica → List Request → List (List ℕ) → Bool → Type 0
+AreAnswered HasBeen disk_says old new [] [] lost = (new ≡ old) × (lost ≡ false)
+AreAnswered HasBeen disk_says old new (request ∷ requests) (text ∷ texts) lost =
+    (next : Replica) × (first : Bool) × (later : Bool) × (lost ≡ first || later) × IsAnswered HasBeen disk_says old next request text first × AreAnswered HasBeen disk_says next new requests texts later
+AreAnswered HasBeen disk_says old new _ _ lost = ⊥
 
 -- The party has answered the first commands of its script, as many as there are texts, with these printed replies, from a new replica with the script's
 -- filter on, over depots that have been; the others are left, the next one last. Whether one of the replies tells that a disk failed.
-pub record IsGoing {D : Type 0} (HasBeen : SerialDepot D → Type 0) (seen may_leave : D → Files → Type 0) (may_give : ℕ → Type 0) (party : ℕ) (script : ReplicaScript) (p : ReplicaParty) (texts : List (List ℕ)) (lost : Bool) : Type 0 where
+pub record IsGoing {D : Type 0} (HasBeen : SerialDepot D → Type 0) (disk_says : DiskSays D) (may_give : ℕ → Type 0) (party : ℕ) (script : ReplicaScript) (p : ReplicaParty) (texts : List (List ℕ)) (lost : Bool) : Type 0 where
   pub formed : AreWellFormed script.session.commands
   pub answered : List Request
   pub asked : AreRequests may_give party 1 script.session.caller script.session.commands (answered ++ reverse p.left.items)
   pub first : Replica
   pub is_new : IsNew script.filter first
-  pub are : AreAnswered HasBeen seen may_leave first p.replica answered texts lost
+  pub are : AreAnswered HasBeen disk_says first p.replica answered texts lost
 
 -- a party that has answered nothing yet
 pub record IsFresh (may_give : ℕ → Type 0) (party : ℕ) (script : ReplicaScript) (p : ReplicaParty) : Type 0 where
@@ -54,10 +54,10 @@ is_lost (Ok answered) = answered.lost
 is_lost (Err error) = false
 
 -- One turn over a depot: the next command was answered.
-pub record IsTurned {D E : Type 0} (seen may_leave : D → Files → Type 0) (depot : SerialDepot D) (old new : ReplicaParty) (result : Result Answered E) : Type 0 where
+pub record IsTurned {D E : Type 0} (disk_says : DiskSays D) (depot : SerialDepot D) (old new : ReplicaParty) (result : Result Answered E) : Type 0 where
   pub request : Request
   pub left : old.left.items ≡ new.left.items ++ request ∷ []
-  pub answered : IsFormedBy request → IsAnswered (λ been. been ≡ depot) seen may_leave old.replica new.replica request (reply_text result request.number) (is_lost result)
+  pub answered : IsFormedBy request → IsAnswered (λ been. been ≡ depot) disk_says old.replica new.replica request (reply_text result request.number) (is_lost result)
 
 -- ---- the sink
 
@@ -71,9 +71,9 @@ HasGotTexts true texts before now =
     (given : List (List ℕ)) × (last : List ℕ) × (texts ≡ given ++ last ∷ []) × (front : List ℕ) × IsProperFront front last × (now ≡ extended before (all_of given ++ front))
 
 -- A replica's first commands were answered, so many, and its sink got the replies.
-pub record IsReplicaOutput {D : Type 0} (HasBeen : SerialDepot D → Type 0) (seen may_leave : D → Files → Type 0) (may_give : ℕ → Type 0) (party : ℕ) (script : ReplicaScript) (commands : ℕ) (failed lost : Bool) (before now : Option (List ℕ)) : Type 0 where
+pub record IsReplicaOutput {D : Type 0} (HasBeen : SerialDepot D → Type 0) (disk_says : DiskSays D) (may_give : ℕ → Type 0) (party : ℕ) (script : ReplicaScript) (commands : ℕ) (failed lost : Bool) (before now : Option (List ℕ)) : Type 0 where
   pub replica : ReplicaParty
   pub texts : List (List ℕ)
   pub count : length texts ≡ commands
-  pub going : IsGoing HasBeen seen may_leave may_give party script replica texts lost
+  pub going : IsGoing HasBeen disk_says may_give party script replica texts lost
   pub got : HasGotTexts failed texts before now

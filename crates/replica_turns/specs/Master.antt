@@ -2,7 +2,7 @@
 -- group of the journal is one change, and so is the beginning of each generation but the first, is this project's own choice.
 use Rattle.std.specs.Prelude.{◌≡◌, ◌≤◌, ◌<◌, ◌⊎◌, ◌+◌, ℕ, suc, List, [], ◌∷◌, length, map}
 use Rattle.std.specs.List.{AllByRecursion}
-use Rattle.outside_api.specs.Disk.{Files}
+use Rattle.outside_api.specs.Says.{DiskSays}
 use Rattle.archive_file.specs.Archive.{disk_of, used_of}
 use Rattle.archive_file.specs.declared.archive.Archive.{Archive}
 use Rattle.depot_rows.specs.db_records.declared.change.Change.{Change}
@@ -65,18 +65,18 @@ AreChanges n d (p ∷ places) =
 -- ---- a depot in files
 
 -- The rows that its first n changes make stand for the depot after these, whose contents each image of the archive's disk has.
-pub record HasNth {D : Type 0} (may_leave : D → Files → Type 0) (archive : Archive D) (IsIt : List Deed → Type 0) (c : Chronicle) (n : ℕ) : Type 0 where
+pub record HasNth {D : Type 0} (disk_says : DiskSays D) (archive : Archive D) (IsIt : List Deed → Type 0) (c : Chronicle) (n : ℕ) : Type 0 where
   pub depot : List Deed
   pub is : IsIt depot
   pub stand : Stand (first_rows n (generations_of c)) depot
-  pub kept : KeepContents (may_leave (disk_of archive)) (used_of archive) (first_rows n (generations_of c)) depot
+  pub kept : KeepContents (disk_says.may_leave (disk_of archive)) (used_of archive) (first_rows n (generations_of c)) depot
 
 -- The journal has these groups, which make the rows of the tables; of its changes there are those before the run and those among the places that were taken,
 -- and after each number of them it had a depot that is known.
-pub record IsMaster {D : Type 0} (seen may_leave : D → Files → Type 0) (past : Past) (start : List Deed) (places : List Placed) (depot : SerialDepot D) (c : Chronicle) : Type 0 where
-  pub groups : HasGroups seen may_leave depot.journal c
+pub record IsMaster {D : Type 0} (disk_says : DiskSays D) (past : Past) (start : List Deed) (places : List Placed) (depot : SerialDepot D) (c : Chronicle) : Type 0 where
+  pub groups : HasGroups disk_says depot.journal c
   pub rows : rows_of depot.tables ≡ changed_by no_rows (joined (all_changes c))
   pub changes : ℕ
   pub count : length (all_changes c) ≡ past.count + changes
   pub are_changes : AreChanges changes start places
-  pub each : (n : ℕ) → n ≤ length (all_changes c) → HasNth may_leave depot.archive (IsNth past start places n) c n
+  pub each : (n : ℕ) → n ≤ length (all_changes c) → HasNth disk_says depot.archive (IsNth past start places n) c n

@@ -3,6 +3,7 @@
 use Rattle.std.specs.Prelude.{◌≡◌, ◌≢◌, ◌⊎◌, ℕ, Bool, true, false, IsTrue, List, [], ◌∷◌, Result, Ok, Err}
 use Rattle.outside_api.specs.Disk.{Files}
 use Rattle.outside_api.specs.Link.{Answers}
+use Rattle.outside_api.specs.Says.{DiskSays}
 use Rattle.outside_api.specs.declared.link.Fetched.{Fetched}
 use Rattle.archive_file.specs.Archive as archives
 use Rattle.journal_groups.specs.declared.moved.Moved.{Moved}
@@ -50,19 +51,19 @@ pub record HasPulledOf (texts : List (List ℕ)) (old new : Replica) : Type 0 wh
 
 -- Of a depot there was fetched where the replica awaited its next piece, as the committed texts of its journal are; the replica followed, and the reply
 -- is its position after it.
-pub record IsPulled {D : Type 0} (HasBeen : SerialDepot D → Type 0) (seen may_leave : D → Files → Type 0) (old new : Replica) (number : ℕ) (text : List ℕ) : Type 0 where
+pub record IsPulled {D : Type 0} (HasBeen : SerialDepot D → Type 0) (disk_says : DiskSays D) (old new : Replica) (number : ℕ) (text : List ℕ) : Type 0 where
   pub depot : SerialDepot D
   pub been : HasBeen depot
   pub fetched : Fetched
   pub piece : List ℕ
-  pub answers : (texts : List (List ℕ)) → HasTexts seen may_leave depot texts → Answers texts old.generation old.at fetched piece
+  pub answers : (texts : List (List ℕ)) → HasTexts disk_says depot texts → Answers texts old.generation old.at fetched piece
   pub follows : Follows old new fetched piece
   pub reply : text ≡ printed (position_row new.generation new.changes ∷ []) number
 
 -- the same, or the journal's disk failed, and the replica is as it was
-abbrev pub IsPullAnswer : {D : Type 0} → (SerialDepot D → Type 0) → (D → Files → Type 0) → (D → Files → Type 0) → Replica → Replica → ℕ → List ℕ → Bool → Type 0
-IsPullAnswer HasBeen seen may_leave old new number text true = (new ≡ old) × (text ≡ printed (disk_row ∷ []) number)
-IsPullAnswer HasBeen seen may_leave old new number text false = IsPulled HasBeen seen may_leave old new number text
+abbrev pub IsPullAnswer : {D : Type 0} → (SerialDepot D → Type 0) → DiskSays D → Replica → Replica → ℕ → List ℕ → Bool → Type 0
+IsPullAnswer HasBeen disk_says old new number text true = (new ≡ old) × (text ≡ printed (disk_row ∷ []) number)
+IsPullAnswer HasBeen disk_says old new number text false = IsPulled HasBeen disk_says old new number text
 
 -- ---- other commands
 
@@ -71,26 +72,26 @@ abbrev pub reads_archive : Request → Bool
 reads_archive request = prints request.command
 
 -- The reply is a replica's for each depot for which its rows stand, and whose contents are at their spots in the archive of a depot of the run.
-pub record IsReplied {D : Type 0} (HasBeen : SerialDepot D → Type 0) (seen : D → Files → Type 0) (replica : Replica) (request : Request) (text : List ℕ) : Type 0 where
+pub record IsReplied {D : Type 0} (HasBeen : SerialDepot D → Type 0) (disk_says : DiskSays D) (replica : Replica) (request : Request) (text : List ℕ) : Type 0 where
   pub depot : SerialDepot D
   pub been : HasBeen depot
-  pub reply : (d : List Deed) (files : Files) → Stand (rows_of replica.tables) d → seen (archives.disk_of depot.archive) files → HasContents (files 0) (rows_of replica.tables) d
+  pub reply : (d : List Deed) (files : Files) → Stand (rows_of replica.tables) d → disk_says.seen (archives.disk_of depot.archive) files → HasContents (files 0) (rows_of replica.tables) d
       → text ≡ printed (replica_reply d request) request.number
 
 -- the same, or the archive's disk failed for a `print`
-abbrev pub IsReply : {D : Type 0} → (SerialDepot D → Type 0) → (D → Files → Type 0) → Replica → Request → List ℕ → Bool → Type 0
-IsReply HasBeen seen replica request text true = IsTrue (prints request.command) × (text ≡ printed (disk_row ∷ []) request.number)
-IsReply HasBeen seen replica request text false = IsReplied HasBeen seen replica request text
+abbrev pub IsReply : {D : Type 0} → (SerialDepot D → Type 0) → DiskSays D → Replica → Request → List ℕ → Bool → Type 0
+IsReply HasBeen disk_says replica request text true = IsTrue (prints request.command) × (text ≡ printed (disk_row ∷ []) request.number)
+IsReply HasBeen disk_says replica request text false = IsReplied HasBeen disk_says replica request text
 
 -- ---- any command
 
 -- A command was answered: `pull`, or another, which leaves the replica as it was. Whether the reply tells that a disk failed.
-abbrev pub IsAnsweredAs : {D : Type 0} → (SerialDepot D → Type 0) → (D → Files → Type 0) → (D → Files → Type 0) → Replica → Replica → Request → List ℕ → Bool → Bool → Type 0
-IsAnsweredAs HasBeen seen may_leave old new request text lost true = IsPullAnswer HasBeen seen may_leave old new request.number text lost
-IsAnsweredAs HasBeen seen may_leave old new request text lost false = (new ≡ old) × IsReply HasBeen seen old request text lost
+abbrev pub IsAnsweredAs : {D : Type 0} → (SerialDepot D → Type 0) → DiskSays D → Replica → Replica → Request → List ℕ → Bool → Bool → Type 0
+IsAnsweredAs HasBeen disk_says old new request text lost true = IsPullAnswer HasBeen disk_says old new request.number text lost
+IsAnsweredAs HasBeen disk_says old new request text lost false = (new ≡ old) × IsReply HasBeen disk_says old request text lost
 
-abbrev pub IsAnsweredBy : {D : Type 0} → (SerialDepot D → Type 0) → (D → Files → Type 0) → (D → Files → Type 0) → Replica → Replica → Request → List ℕ → Bool → Type 0
-IsAnsweredBy HasBeen seen may_leave old new request text lost = IsAnsweredAs HasBeen seen may_leave old new request text lost (pulls request.command)
+abbrev pub IsAnsweredBy : {D : Type 0} → (SerialDepot D → Type 0) → DiskSays D → Replica → Replica → Request → List ℕ → Bool → Type 0
+IsAnsweredBy HasBeen disk_says old new request text lost = IsAnsweredAs HasBeen disk_says old new request text lost (pulls request.command)
 
 -- no memory was left for it, and the replica is as it was
 pub record IsWithoutMemory (old new : Replica) (request : Request) (text : List ℕ) (lost : Bool) : Type 0 where
@@ -98,5 +99,5 @@ pub record IsWithoutMemory (old new : Replica) (request : Request) (text : List 
   pub reply : text ≡ printed (memory_row ∷ []) request.number
   pub kept : lost ≡ false
 
-abbrev pub IsAnswered : {D : Type 0} → (SerialDepot D → Type 0) → (D → Files → Type 0) → (D → Files → Type 0) → Replica → Replica → Request → List ℕ → Bool → Type 0
-IsAnswered HasBeen seen may_leave old new request text lost = IsAnsweredBy HasBeen seen may_leave old new request text lost ⊎ IsWithoutMemory old new request text lost
+abbrev pub IsAnswered : {D : Type 0} → (SerialDepot D → Type 0) → DiskSays D → Replica → Replica → Request → List ℕ → Bool → Type 0
+IsAnswered HasBeen disk_says old new request text lost = IsAnsweredBy HasBeen disk_says old new request text lost ⊎ IsWithoutMemory old new request text lost

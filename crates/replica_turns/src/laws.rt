@@ -36,13 +36,13 @@ use outside_api::{Clock, Disk};
 /// it had; where it takes none, they stay. So its journal's texts grow.
 pub fn depots_grow_by_their_changes<D: Disk>()
     ensures placed { (past : Past) (start : List Deed) (places : List Placed) (old new : AnyDepot D) (c : Chronicle) (since : ℕ) (request : Request) (outcome : Outcome) (fault : Bool) →
-        IsMaster D.seen D.may_leave past start places old c → HasRun D.seen D.may_leave D.moment D.left_since old since start places →
-        IsOutcome (rows_of old.tables) old.tables.archive_end (taken step start places) request outcome → KeepsStored D.may_leave old.archive new.archive →
-        HasRun D.seen D.may_leave D.moment D.left_since new since start (places ++ placed_by request fault ∷ []) → AreRowsAfter (rows_of old.tables) outcome.changes fault (rows_of new.tables) →
-        HasGroups D.seen D.may_leave new.journal (grown (opens_generation request) fault outcome.changes c) →
-        IsMaster D.seen D.may_leave past start (places ++ placed_by request fault ∷ []) new (grown (opens_generation request) fault outcome.changes c) }
-    ensures kept { (past : Past) (start : List Deed) (places : List Placed) (old new : AnyDepot D) (c : Chronicle) → IsMaster D.seen D.may_leave past start places old c → rows_of new.tables ≡ rows_of old.tables →
-        HasGroups D.seen D.may_leave new.journal c → KeepsStored D.may_leave old.archive new.archive → IsMaster D.seen D.may_leave past start places new c }
+        IsMaster D.says past start places old c → HasRun D.says old since start places →
+        IsOutcome (rows_of old.tables) old.tables.archive_end (taken step start places) request outcome → KeepsStored D.says old.archive new.archive →
+        HasRun D.says new since start (places ++ placed_by request fault ∷ []) → AreRowsAfter (rows_of old.tables) outcome.changes fault (rows_of new.tables) →
+        HasGroups D.says new.journal (grown (opens_generation request) fault outcome.changes c) →
+        IsMaster D.says past start (places ++ placed_by request fault ∷ []) new (grown (opens_generation request) fault outcome.changes c) }
+    ensures kept { (past : Past) (start : List Deed) (places : List Placed) (old new : AnyDepot D) (c : Chronicle) → IsMaster D.says past start places old c → rows_of new.tables ≡ rows_of old.tables →
+        HasGroups D.says new.journal c → KeepsStored D.says old.archive new.archive → IsMaster D.says past start places new c }
     ensures texts { (opens fault : Bool) (changes : List Change) (c : Chronicle) → HasGrownTo c (grown opens fault changes c) }
 {}
 
@@ -50,12 +50,12 @@ pub fn depots_grow_by_their_changes<D: Disk>()
 /// its filter, where n is what its last `pull` told, and 0 before one.
 pub fn replicas_reply_for_their_last_pull<D: Disk, C: Clock>(clock: &C)
     ensures first { (past : Past) (start : List Deed) (places : List Placed) (party : ℕ) (script : ReplicaScript) (p : ReplicaParty) (c : Chronicle) →
-        IsFresh (C.may_give clock.now) party script p → AreWellFormed script.session.commands → IsAlong (IsNth past start places) (C.may_give clock.now) party script p c [] }
+        IsFresh (C.says.may_give clock.now) party script p → AreWellFormed script.session.commands → IsAlong (IsNth past start places) (C.says.may_give clock.now) party script p c [] }
     ensures grown { (past : Past) (start : List Deed) (places more : List Placed) (party : ℕ) (script : ReplicaScript) (p : ReplicaParty) (c now : Chronicle) (texts : List (List ℕ)) →
-        HasGrownTo c now → IsAlong (IsNth past start places) (C.may_give clock.now) party script p c texts → IsAlong (IsNth past start (places ++ more)) (C.may_give clock.now) party script p now texts }
+        HasGrownTo c now → IsAlong (IsNth past start places) (C.says.may_give clock.now) party script p c texts → IsAlong (IsNth past start (places ++ more)) (C.says.may_give clock.now) party script p now texts }
     ensures turned { (past : Past) (start : List Deed) (places : List Placed) (depot : AnyDepot D) (files : Files) (party : ℕ) (script : ReplicaScript) (old new : ReplicaParty) (c : Chronicle) (texts : List (List ℕ)) (result : Result Answered (Unit {0})) →
-        IsMaster D.seen D.may_leave past start places depot c → D.seen (archive_disk_of depot.archive) files → IsAlong (IsNth past start places) (C.may_give clock.now) party script old c texts →
-        IsTurned D.seen D.may_leave depot old new result → IsAlong (IsNth past start places) (C.may_give clock.now) party script new c (texts ++ reply_text result (length texts + 1) ∷ []) }
+        IsMaster D.says past start places depot c → D.says.seen (archive_disk_of depot.archive) files → IsAlong (IsNth past start places) (C.says.may_give clock.now) party script old c texts →
+        IsTurned D.says depot old new result → IsAlong (IsNth past start places) (C.says.may_give clock.now) party script new c (texts ++ reply_text result (length texts + 1) ∷ []) }
 {
     let _clock = clock;
 }
@@ -64,7 +64,7 @@ pub fn replicas_reply_for_their_last_pull<D: Disk, C: Clock>(clock: &C)
 /// that a disk failed or that there was no memory, takes at least one byte of what is committed then, passes to the next generation, or finds all of it taken.
 pub fn pulls_move<D: Disk>()
     ensures { (depot : AnyDepot D) (c : Chronicle) (rules : List FilterRule) (moments : List Moment) (old new : ReplicaParty) (result : Result Answered (Unit {0})) →
-        HasGroups D.seen D.may_leave depot.journal c → IsGoodJournal (texts_in c) (generations_of c) → HasFollowed rules (texts_in c) old.replica moments →
-        (turn : IsTurned D.seen D.may_leave depot old new result) → IsFormedBy turn.request → pulls turn.request.command ≡ true →
+        HasGroups D.says depot.journal c → IsGoodJournal (texts_in c) (generations_of c) → HasFollowed rules (texts_in c) old.replica moments →
+        (turn : IsTurned D.says depot old new result) → IsFormedBy turn.request → pulls turn.request.command ≡ true →
         (is_lost result ≡ true) ⊎ ((reply_text result turn.request.number ≡ printed (memory_row ∷ []) turn.request.number) ⊎ HasPulledOf (texts_in c) old.replica new.replica) }
 {}

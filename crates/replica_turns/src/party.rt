@@ -60,7 +60,7 @@ impl ReplicaParty {
         clock: &C,
     ) -> Result<ReplicaParty, AllocError>
         requires { length script.session.commands < 2 ^ 32 }
-        ensures fresh { IfOk result (IsFresh (C.may_give clock.now) party script) }
+        ensures fresh { IfOk result (IsFresh (C.says.may_give clock.now) party script) }
         ensures left { IfOk result (λ p. length p.left.items ≡ length script.session.commands) }
     {
         let ReplicaScript { filter, session } = script;
@@ -95,10 +95,10 @@ impl ReplicaParty {
     ) -> Result<Answered, AllocError>
         requires { reads_archive request.now ≡ true }
         ensures answered { (depot : AnyDepot D) → depot.archive ≡ archive.old → IsFormedBy request.now →
-            IfOk result (λ answered. IsAnsweredBy (λ been. been ≡ depot) D.seen D.may_leave self.now.replica self.now.replica request.now answered.text answered.lost) }
-        ensures read { IsRead D.seen D.may_leave archive.old archive.new }
-        ensures never_falls { D.faults (archive_disk_of archive.old) ≤ D.faults (archive_disk_of archive.new) }
-        ensures cause { IfOk result (λ answered. answered.lost ≡ true → HasRisen (D.faults (archive_disk_of archive.old)) (D.faults (archive_disk_of archive.new))) }
+            IfOk result (λ answered. IsAnsweredBy (λ been. been ≡ depot) D.says self.now.replica self.now.replica request.now answered.text answered.lost) }
+        ensures read { IsRead D.says archive.old archive.new }
+        ensures never_falls { D.says.faults (archive_disk_of archive.old) ≤ D.says.faults (archive_disk_of archive.new) }
+        ensures cause { IfOk result (λ answered. answered.lost ≡ true → HasRisen (D.says.faults (archive_disk_of archive.old)) (D.says.faults (archive_disk_of archive.new))) }
     {
         reply_print(alloc, &self.replica, archive, request)
     }
@@ -111,7 +111,7 @@ impl ReplicaParty {
     ) -> Result<Answered, AllocError>
         requires { (reads_archive request.now ≡ false) × (pulls request.now.command ≡ false) }
         ensures answered { (depot : AnyDepot D) → IsFormedBy request.now →
-            IfOk result (λ answered. IsAnsweredBy (λ been. been ≡ depot) D.seen D.may_leave self.now.replica self.now.replica request.now answered.text answered.lost) }
+            IfOk result (λ answered. IsAnsweredBy (λ been. been ≡ depot) D.says self.now.replica self.now.replica request.now answered.text answered.lost) }
         ensures kept { IfOk result (λ answered. answered.lost ≡ false) }
     {
         reply_bare(alloc, &self.replica, request)
@@ -127,12 +127,12 @@ impl ReplicaParty {
     ) -> Result<Answered, AllocError>
         requires { reads_archive request.now ≡ false }
         ensures answered { (depot : AnyDepot D) → depot.journal ≡ journal.old → IsFormedBy request.now →
-            IfOk result (λ answered. IsAnsweredBy (λ been. been ≡ depot) D.seen D.may_leave self.old.replica self.new.replica request.now answered.text answered.lost) }
+            IfOk result (λ answered. IsAnsweredBy (λ been. been ≡ depot) D.says self.old.replica self.new.replica request.now answered.text answered.lost) }
         ensures kept { OnErr result (self.new.replica ≡ self.old.replica) }
         ensures left { self.new.left ≡ self.old.left }
-        ensures fetched { IsFetched D.seen D.may_leave D.moment D.left_since journal.old journal.new }
-        ensures never_falls { D.faults (disk_of journal.old) ≤ D.faults (disk_of journal.new) }
-        ensures cause { IfOk result (λ answered. answered.lost ≡ true → HasRisen (D.faults (disk_of journal.old)) (D.faults (disk_of journal.new))) }
+        ensures fetched { IsFetched D.says journal.old journal.new }
+        ensures never_falls { D.says.faults (disk_of journal.old) ≤ D.says.faults (disk_of journal.new) }
+        ensures cause { IfOk result (λ answered. answered.lost ≡ true → HasRisen (D.says.faults (disk_of journal.old)) (D.says.faults (disk_of journal.new))) }
     {
         answer_by_journal(alloc, &mut self.replica, journal, request)
     }
@@ -145,19 +145,19 @@ impl ReplicaParty {
         alloc: Global,
         depot: &mut SerialDepot<D>,
     ) -> Result<Answered, AllocError>
-        requires { CanTake D.may_leave depot.old }
-        ensures can { CanTake D.may_leave depot.new }
-        ensures ran { (since : ℕ) (start : List Deed) (places : List Placed) → HasRun D.seen D.may_leave D.moment D.left_since depot.old since start places →
-            HasRun D.seen D.may_leave D.moment D.left_since depot.new since start places }
+        requires { CanTake D.says depot.old }
+        ensures can { CanTake D.says depot.new }
+        ensures ran { (since : ℕ) (start : List Deed) (places : List Placed) → HasRun D.says depot.old since start places →
+            HasRun D.says depot.new since start places }
         ensures tables { depot.new.tables ≡ depot.old.tables }
-        ensures groups { (c : Chronicle) → HasGroups D.seen D.may_leave depot.old.journal c → HasGroups D.seen D.may_leave depot.new.journal c }
-        ensures stored { KeepsStored D.may_leave depot.old.archive depot.new.archive }
-        ensures turned { 0 < length self.old.left.items → IsTurned D.seen D.may_leave depot.old self.old self.new result }
+        ensures groups { (c : Chronicle) → HasGroups D.says depot.old.journal c → HasGroups D.says depot.new.journal c }
+        ensures stored { KeepsStored D.says depot.old.archive depot.new.archive }
+        ensures turned { 0 < length self.old.left.items → IsTurned D.says depot.old self.old self.new result }
         ensures left { 0 < length self.old.left.items → length self.old.left.items ≡ length self.new.left.items + 1 }
         ensures done { self.old.left.items ≡ [] → (self.new ≡ self.old) × (depot.new ≡ depot.old) }
-        ensures never_falls { D.faults (disk_of depot.old.journal) ≤ D.faults (disk_of depot.new.journal) }
-        ensures never_falls_contents { D.faults (archive_disk_of depot.old.archive) ≤ D.faults (archive_disk_of depot.new.archive) }
-        ensures cause { IfOk result (λ answered. answered.lost ≡ true → HasRisen (D.faults (disk_of depot.old.journal)) (D.faults (disk_of depot.new.journal)) ⊎ HasRisen (D.faults (archive_disk_of depot.old.archive)) (D.faults (archive_disk_of depot.new.archive))) }
+        ensures never_falls { D.says.faults (disk_of depot.old.journal) ≤ D.says.faults (disk_of depot.new.journal) }
+        ensures never_falls_contents { D.says.faults (archive_disk_of depot.old.archive) ≤ D.says.faults (archive_disk_of depot.new.archive) }
+        ensures cause { IfOk result (λ answered. answered.lost ≡ true → HasRisen (D.says.faults (disk_of depot.old.journal)) (D.says.faults (disk_of depot.new.journal)) ⊎ HasRisen (D.says.faults (archive_disk_of depot.old.archive)) (D.says.faults (archive_disk_of depot.new.archive))) }
     {
         if self.left.is_empty() {
             return Err(AllocError);

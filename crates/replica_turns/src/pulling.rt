@@ -66,11 +66,11 @@ fn pull_into<D: Disk>(
     requires most { length buffer.old ≤ 65536 }
     requires room { IsRoom room }
     requires of_fault { of_fault ≡ printed (disk_row ∷ []) number }
-    ensures answered { (depot : AnyDepot D) → depot.journal ≡ journal.old → IfOk result (λ answered. IsPullAnswer (λ been. been ≡ depot) D.seen D.may_leave replica.old replica.new number answered.text answered.lost) }
+    ensures answered { (depot : AnyDepot D) → depot.journal ≡ journal.old → IfOk result (λ answered. IsPullAnswer (λ been. been ≡ depot) D.says replica.old replica.new number answered.text answered.lost) }
     ensures kept { OnErr result (replica.new ≡ replica.old) }
-    ensures fetched { IsFetched D.seen D.may_leave D.moment D.left_since journal.old journal.new }
-    ensures never_falls { D.faults (disk_of journal.old) ≤ D.faults (disk_of journal.new) }
-    ensures cause { IfOk result (λ answered. answered.lost ≡ true → HasRisen (D.faults (disk_of journal.old)) (D.faults (disk_of journal.new))) }
+    ensures fetched { IsFetched D.says journal.old journal.new }
+    ensures never_falls { D.says.faults (disk_of journal.old) ≤ D.says.faults (disk_of journal.new) }
+    ensures cause { IfOk result (λ answered. answered.lost ≡ true → HasRisen (D.says.faults (disk_of journal.old)) (D.says.faults (disk_of journal.new))) }
 {
     let (generation, at) = replica.awaits();
     match fetch_texts(journal, generation, at, buffer) {
@@ -91,11 +91,11 @@ pub(crate) fn pull<D: Disk>(
     journal: &mut Journal<D>,
     number: u32,
 ) -> Result<Answered, AllocError>
-    ensures answered { (depot : AnyDepot D) → depot.journal ≡ journal.old → IfOk result (λ answered. IsPullAnswer (λ been. been ≡ depot) D.seen D.may_leave replica.old replica.new number answered.text answered.lost) }
+    ensures answered { (depot : AnyDepot D) → depot.journal ≡ journal.old → IfOk result (λ answered. IsPullAnswer (λ been. been ≡ depot) D.says replica.old replica.new number answered.text answered.lost) }
     ensures kept { OnErr result (replica.new ≡ replica.old) }
-    ensures fetched { IsFetched D.seen D.may_leave D.moment D.left_since journal.old journal.new }
-    ensures never_falls { D.faults (disk_of journal.old) ≤ D.faults (disk_of journal.new) }
-    ensures cause { IfOk result (λ answered. answered.lost ≡ true → HasRisen (D.faults (disk_of journal.old)) (D.faults (disk_of journal.new))) }
+    ensures fetched { IsFetched D.says journal.old journal.new }
+    ensures never_falls { D.says.faults (disk_of journal.old) ≤ D.says.faults (disk_of journal.new) }
+    ensures cause { IfOk result (λ answered. answered.lost ≡ true → HasRisen (D.says.faults (disk_of journal.old)) (D.says.faults (disk_of journal.new))) }
 {
     let of_fault = fault_reply(alloc, number)?;
     let room = Room::take(alloc)?;

@@ -83,11 +83,11 @@ fn with_contents<D: Disk>(
     number: u32,
 ) -> Result<Answered, AllocError>
     ensures lost { IfOk result (λ answered. answered.lost ≡ true → answered.text ≡ printed (disk_row ∷ []) number) }
-    ensures told { (all : AllRows) (d : List Deed) (files : Files) (rows : List Row) → IsAnswerOf all d rows answer → D.seen (archive_disk_of archive.old) files → HasContents (files 0) all d →
+    ensures told { (all : AllRows) (d : List Deed) (files : Files) (rows : List Row) → IsAnswerOf all d rows answer → D.says.seen (archive_disk_of archive.old) files → HasContents (files 0) all d →
         IfOk result (λ answered. answered.lost ≡ false → answered.text ≡ printed rows number) }
-    ensures read { IsRead D.seen D.may_leave archive.old archive.new }
-    ensures never_falls { D.faults (archive_disk_of archive.old) ≤ D.faults (archive_disk_of archive.new) }
-    ensures cause { IfOk result (λ answered. answered.lost ≡ true → HasRisen (D.faults (archive_disk_of archive.old)) (D.faults (archive_disk_of archive.new))) }
+    ensures read { IsRead D.says archive.old archive.new }
+    ensures never_falls { D.says.faults (archive_disk_of archive.old) ≤ D.says.faults (archive_disk_of archive.new) }
+    ensures cause { IfOk result (λ answered. answered.lost ≡ true → HasRisen (D.says.faults (archive_disk_of archive.old)) (D.says.faults (archive_disk_of archive.new))) }
 {
     let Waiting { reply, reads } = answer;
     let of_fault = fault_reply(alloc, number)?;
@@ -109,10 +109,10 @@ pub(crate) fn reply_print<D: Disk>(
 ) -> Result<Answered, AllocError>
     requires { reads_archive request.now ≡ true }
     ensures answered { (depot : AnyDepot D) → depot.archive ≡ archive.old → IsFormedBy request.now →
-        IfOk result (λ answered. IsReply (λ been. been ≡ depot) D.seen replica.now request.now answered.text answered.lost) }
-    ensures read { IsRead D.seen D.may_leave archive.old archive.new }
-    ensures never_falls { D.faults (archive_disk_of archive.old) ≤ D.faults (archive_disk_of archive.new) }
-    ensures cause { IfOk result (λ answered. answered.lost ≡ true → HasRisen (D.faults (archive_disk_of archive.old)) (D.faults (archive_disk_of archive.new))) }
+        IfOk result (λ answered. IsReply (λ been. been ≡ depot) D.says replica.now request.now answered.text answered.lost) }
+    ensures read { IsRead D.says archive.old archive.new }
+    ensures never_falls { D.says.faults (archive_disk_of archive.old) ≤ D.says.faults (archive_disk_of archive.new) }
+    ensures cause { IfOk result (λ answered. answered.lost ≡ true → HasRisen (D.says.faults (archive_disk_of archive.old)) (D.says.faults (archive_disk_of archive.new))) }
 {
     let answer = answer(alloc, replica, request)?;
     with_contents(alloc, archive, answer, request.number)
@@ -141,11 +141,11 @@ pub(crate) fn answer_by_journal<D: Disk>(
 ) -> Result<Answered, AllocError>
     requires { reads_archive request.now ≡ false }
     ensures answered { (depot : AnyDepot D) → depot.journal ≡ journal.old → IsFormedBy request.now →
-        IfOk result (λ answered. IsAnsweredBy (λ been. been ≡ depot) D.seen D.may_leave replica.old replica.new request.now answered.text answered.lost) }
+        IfOk result (λ answered. IsAnsweredBy (λ been. been ≡ depot) D.says replica.old replica.new request.now answered.text answered.lost) }
     ensures kept { OnErr result (replica.new ≡ replica.old) }
-    ensures fetched { IsFetched D.seen D.may_leave D.moment D.left_since journal.old journal.new }
-    ensures never_falls { D.faults (disk_of journal.old) ≤ D.faults (disk_of journal.new) }
-    ensures cause { IfOk result (λ answered. answered.lost ≡ true → HasRisen (D.faults (disk_of journal.old)) (D.faults (disk_of journal.new))) }
+    ensures fetched { IsFetched D.says journal.old journal.new }
+    ensures never_falls { D.says.faults (disk_of journal.old) ≤ D.says.faults (disk_of journal.new) }
+    ensures cause { IfOk result (λ answered. answered.lost ≡ true → HasRisen (D.says.faults (disk_of journal.old)) (D.says.faults (disk_of journal.new))) }
 {
     if is_pull(request) {
         pull(alloc, replica, journal, request.number)
@@ -161,10 +161,10 @@ pub(crate) fn answer_request<D: Disk>(
     depot: &mut SerialDepot<D>,
     request: &Request,
 ) -> Result<Answered, AllocError>
-    ensures answered { IsFormedBy request.now → IfOk result (λ answered. IsAnsweredBy (λ been. been ≡ depot.old) D.seen D.may_leave replica.old replica.new request.now answered.text answered.lost) }
+    ensures answered { IsFormedBy request.now → IfOk result (λ answered. IsAnsweredBy (λ been. been ≡ depot.old) D.says replica.old replica.new request.now answered.text answered.lost) }
     ensures kept { OnErr result (replica.new ≡ replica.old) }
-    ensures depot { IsUnmoved D.seen D.may_leave D.moment D.left_since D.faults depot.old depot.new }
-    ensures cause { IfOk result (λ answered. answered.lost ≡ true → HasRisen (D.faults (disk_of depot.old.journal)) (D.faults (disk_of depot.new.journal)) ⊎ HasRisen (D.faults (archive_disk_of depot.old.archive)) (D.faults (archive_disk_of depot.new.archive))) }
+    ensures depot { IsUnmoved D.says depot.old depot.new }
+    ensures cause { IfOk result (λ answered. answered.lost ≡ true → HasRisen (D.says.faults (disk_of depot.old.journal)) (D.says.faults (disk_of depot.new.journal)) ⊎ HasRisen (D.says.faults (archive_disk_of depot.old.archive)) (D.says.faults (archive_disk_of depot.new.archive))) }
 {
     if is_print(request) {
         reply_print(alloc, replica, &mut depot.archive, request)

@@ -2,12 +2,12 @@
 use Rattle.std.proofs.Common.{◌≡◌, ℕ, ◌+◌, ◌≤◌, List, ◌++◌, length, map, take, Option, Result, Ok, Err, sym, ap, subst, ◌∙◌, arith}
 use Rattle.std.proofs.Math.Seq.{take-length}
 use Rattle.std.proofs.lemmas.List.{length-append, length-map, map-append, take-append-le}
+use Rattle.outside_api.specs.Says.{DiskSays}
 use Rattle.depot_model.specs.Deeds.{Deed}
 use Rattle.depot_model.specs.Places.{Placed}
 use Rattle.depot_model.specs.declared.order.Place.{Place}
 use Rattle.depot_model.specs.declared.request.Session.{Session}
 use Rattle.depot_runs.specs.Run.{placed}
-use Rattle.outside_api.specs.Disk.{Files}
 use Rattle.replica_turns.specs.Going.{IsTurned}
 use Rattle.replica_turns.specs.declared.party.Answered.{Answered}
 use Rattle.replica_turns.specs.declared.party.ReplicaParty.{ReplicaParty}
@@ -17,12 +17,12 @@ use Rattle.run_parties.specs.Replicas.{HasBeenAt}
 
 -- ---- the depots that have been
 
-module _ {D : Type 0} (seen may_leave : D → Files → Type 0) (moment : D → ℕ) (left_since : D → ℕ → Files → Type 0) (sessions : List (Option Session)) (since : ℕ) (start : List Deed) where
+module _ {D : Type 0} (disk_says : DiskSays D) (sessions : List (Option Session)) (since : ℕ) (start : List Deed) where
   abbrev Been : List Place → SerialDepot D → Type 0
-  Been order depot = HasBeenAt seen may_leave moment left_since sessions since start order depot
+  Been order depot = HasBeenAt disk_says sessions since start order depot
 
   abbrev Ran : SerialDepot D → List Placed → Type 0
-  Ran depot places = HasRun seen may_leave moment left_since depot since start places
+  Ran depot places = HasRun disk_says depot since start places
 
   -- those of an order have been those of a longer one
   pub been_longer : (order more : List Place) (depot : SerialDepot D) → Been order depot → Been (order ++ more) depot
@@ -51,6 +51,6 @@ abbrev pub plain : {E : Type 0} → Result Answered E → Result Answered (Unit 
 plain (Ok answered) = Ok answered
 plain (Err error) = Err tt
 
-pub turned_plain : {D E : Type 0} (seen may_leave : D → Files → Type 0) (depot : SerialDepot D) (old new : ReplicaParty) (result : Result Answered E) → IsTurned seen may_leave depot old new result → IsTurned seen may_leave depot old new (plain result)
-turned_plain seen may_leave depot old new (Ok answered) t = record { request = t.request; left = t.left; answered = t.answered }
-turned_plain seen may_leave depot old new (Err error) t = record { request = t.request; left = t.left; answered = t.answered }
+pub turned_plain : {D E : Type 0} (disk_says : DiskSays D) (depot : SerialDepot D) (old new : ReplicaParty) (result : Result Answered E) → IsTurned disk_says depot old new result → IsTurned disk_says depot old new (plain result)
+turned_plain disk_says depot old new (Ok answered) t = record { request = t.request; left = t.left; answered = t.answered }
+turned_plain disk_says depot old new (Err error) t = record { request = t.request; left = t.left; answered = t.answered }

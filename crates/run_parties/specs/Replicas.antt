@@ -3,7 +3,7 @@
 use Rattle.std.specs.Prelude.{◌≡◌, ◌≤◌, ◌+◌, ◌⊎◌, ℕ, Bool, true, false, List, length, map, take, get_or, slice_get, Option, Some, None}
 use Rattle.std.specs.List.{list_any}
 use Rattle.outside_api.specs.Count.{HasRisen}
-use Rattle.outside_api.specs.Disk.{Files}
+use Rattle.outside_api.specs.Says.{DiskSays}
 use Rattle.depot_model.specs.Deeds.{Deed}
 use Rattle.depot_model.specs.declared.order.Place.{Place}
 use Rattle.depot_model.specs.declared.request.Session.{Session}
@@ -26,12 +26,12 @@ pub record AreLost (replicas : List (Option ReplicaScript)) (flags : List Bool) 
 
 -- ---- outputs
 
-module _ {D : Type 0} (seen may_leave : D → Files → Type 0) (moment : D → ℕ) (left_since : D → ℕ → Files → Type 0) where
+module _ {D : Type 0} (disk_says : DiskSays D) where
   -- a depot as it was between two turns of a run: it had run the first places of the order
   pub record HasBeenAt (sessions : List (Option Session)) (since : ℕ) (start : List Deed) (order : List Place) (depot : SerialDepot D) : Type 0 where
     pub count : ℕ
     pub within : count ≤ length order
-    pub ran : HasRun seen may_leave moment left_since depot since start (take count (map (placed sessions) order))
+    pub ran : HasRun disk_says depot since start (take count (map (placed sessions) order))
 
   -- Each replica's sink got what a replica answers to its first commands, as many as its run tells, that followed the journal of the run's depot. The run is
   -- told exactly where one of its replies is that of a failed disk.
@@ -40,7 +40,7 @@ module _ {D : Type 0} (seen may_leave : D → Files → Type 0) (moment : D → 
     pub told : AreLost replicas flags lost
     pub each : (i : ℕ) (script : ReplicaScript) (run : SessionRun) (given got : Option (List ℕ)) → slice_get replicas i ≡ Some (Some script) → slice_get runs i ≡ Some run
         → slice_get before i ≡ Some given → slice_get now i ≡ Some got
-        → IsReplicaOutput (HasBeenAt sessions since start order) seen may_leave may_give (i + 1) script run.commands run.failed (get_or flags i false) given got
+        → IsReplicaOutput (HasBeenAt sessions since start order) disk_says may_give (i + 1) script run.commands run.failed (get_or flags i false) given got
 
 -- Each replica's sink got the replies to its first commands, as many as its run tells: each but those to `pull` is that of a replica of the depot after the
 -- first n changes, those before the run and then those among the places of the order, cut to its filter, where n is what its last `pull` told, and 0 before

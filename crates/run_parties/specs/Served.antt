@@ -1,6 +1,7 @@
 -- What the parties of a run are answered, and how they end. That each has a sink of its own is this project's own choice.
 use Rattle.std.specs.Prelude.{◌≡◌, ◌≤◌, ◌+◌, ℕ, true, false, List, [], ◌∷◌, length, slice_get, Option, Some, None}
 use Rattle.outside_api.specs.Count.{HasRisen}
+use Rattle.outside_api.specs.Says.{SinkSays}
 use Rattle.depot_model.specs.Deeds.{Deed}
 use Rattle.depot_model.specs.Order.{IsOrder}
 use Rattle.depot_model.specs.declared.order.Place.{Place}
@@ -40,15 +41,15 @@ pub record AreServed (may_give : ℕ → Type 0) (sessions : List (Option Sessio
 -- ---- the ends of all
 
 -- The end of a party that has so many commands: all were taken unless its sink failed.
-pub record IsEnd {K : Type 0} (faults : K → ℕ) (total : ℕ) (run : SessionRun) (before now : K) : Type 0 where
+pub record IsEnd {K : Type 0} (sink_says : SinkSays K) (total : ℕ) (run : SessionRun) (before now : K) : Type 0 where
   pub all : run.failed ≡ false → run.commands ≡ total
   pub within : run.commands ≤ total
-  pub counts : faults before ≤ faults now
-  pub cause : run.failed ≡ true → HasRisen (faults before) (faults now)
+  pub counts : sink_says.faults before ≤ sink_says.faults now
+  pub cause : run.failed ≡ true → HasRisen (sink_says.faults before) (sink_says.faults now)
 
 -- the end of each
-pub record AreEnds {K : Type 0} (faults : K → ℕ) (sessions : List (Option Session)) (replicas : List (Option ReplicaScript)) (runs : List SessionRun) (before now : List K) : Type 0 where
+pub record AreEnds {K : Type 0} (sink_says : SinkSays K) (sessions : List (Option Session)) (replicas : List (Option ReplicaScript)) (runs : List SessionRun) (before now : List K) : Type 0 where
   pub runs_count : length runs ≡ length sessions
   pub sinks_count : length now ≡ length before
   pub each : (i : ℕ) (session : Option Session) (script : Option ReplicaScript) (run : SessionRun) (old new : K) → slice_get sessions i ≡ Some session → slice_get replicas i ≡ Some script
-      → slice_get runs i ≡ Some run → slice_get before i ≡ Some old → slice_get now i ≡ Some new → IsEnd faults (total_of session script) run old new
+      → slice_get runs i ≡ Some run → slice_get before i ≡ Some old → slice_get now i ≡ Some new → IsEnd sink_says (total_of session script) run old new

@@ -19,7 +19,7 @@ pub fn all_requests<C: Clock>(
 ) -> Result<Vec<Vec<Request>>, AllocError>
     requires few_parties { length sessions.items < 2 ^ 32 }
     requires few { All (λ session. length (commands_of session) ≤ 67108864) sessions.items }
-    ensures { IfOk result (λ requests. AreRequestsOfAll (C.may_give clock.now) 1 sessions.items (map (λ own. own.items) requests.items)) }
+    ensures { IfOk result (λ requests. AreRequestsOfAll (C.says.may_give clock.now) 1 sessions.items (map (λ own. own.items) requests.items)) }
 {
     let mut requests = Vec::new(alloc);
     let mut party = 0;
@@ -39,7 +39,7 @@ fn replica_party<C: Clock>(
     clock: &C,
 ) -> Result<Option<ReplicaParty>, AllocError>
     requires { length (replica_commands script) ≤ 67108864 }
-    ensures { IfOk result (IsFreshParty (C.may_give clock.now) party script) }
+    ensures { IfOk result (IsFreshParty (C.says.may_give clock.now) party script) }
 {
     match script {
         None => Ok(None),
@@ -58,7 +58,7 @@ pub fn replica_parties<C: Clock>(
 ) -> Result<Vec<Option<ReplicaParty>>, AllocError>
     requires few_parties { length scripts.items < 2 ^ 32 }
     requires few { All (λ script. length (replica_commands script) ≤ 67108864) scripts.items }
-    ensures { IfOk result (λ parties. AreFresh (C.may_give clock.now) 1 scripts.items parties.items) }
+    ensures { IfOk result (λ parties. AreFresh (C.says.may_give clock.now) 1 scripts.items parties.items) }
 {
     let mut parties = Vec::new(alloc);
     let mut party = 0;

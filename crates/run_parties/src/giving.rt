@@ -11,9 +11,9 @@ use wire_text::{give_all, give_memory};
 
 /// Gives a reply, or, where there is none, that of a command that found no memory. Answers whether the sink has failed.
 pub fn give<K: Sink>(sink: &mut K, reply: Result<Text, AllocError>, number: u32) -> bool
-    ensures got { Got result (text_of reply number) (K.given sink.old) (K.given sink.new) }
-    ensures counts { K.faults sink.old ≤ K.faults sink.new }
-    ensures cause { result ≡ true → HasRisen (K.faults sink.old) (K.faults sink.new) }
+    ensures got { Got result (text_of reply number) (K.says.given sink.old) (K.says.given sink.new) }
+    ensures counts { K.says.faults sink.old ≤ K.says.faults sink.new }
+    ensures cause { result ≡ true → HasRisen (K.says.faults sink.old) (K.says.faults sink.new) }
 {
     match reply {
         Ok(text) => match give_all(sink, text.as_bytes()) {

@@ -1,6 +1,7 @@
 -- The run beside an archive in which contents were stored since a moment.
-use Rattle.std.proofs.Common.{◌≡◌, ◌⊎◌, ◌≤◌, ◌+◌, ℕ, max, Bool, true, false, List, [], ◌∷◌, ◌++◌, length, inl, inr, refl, sym, ap, subst, ◌∙◌, append-nil, arith}
+use Rattle.std.proofs.Common.{◌≡◌, ◌⊎◌, ◌+◌, ℕ, max, Bool, true, false, List, [], ◌++◌, inl, inr, refl, sym, ap, subst, ◌∙◌, append-nil, arith}
 use Rattle.outside_api.specs.Disk.{Files, NoMore, StillTells}
+use Rattle.outside_api.specs.Says.{DiskSays}
 use Rattle.archive_file.specs.Archive.{disk_of, used_of}
 use Rattle.archive_file.specs.declared.archive.Archive.{Archive}
 use Rattle.depot_rows.specs.db_records.declared.change.Change.{Change}
@@ -10,25 +11,13 @@ use Rattle.depot_rows.specs.table_changes.Changed.{AllRows, changed_by}
 use Rattle.depot_rows.specs.table_store.declared.tables.Tables.{Tables}
 use Rattle.disk_journal.specs.declared.journal.Journal.{Journal}
 use Rattle.serial_depot.specs.Committing.{AreRowsAfter}
-use Rattle.serial_depot.specs.Ending.{stored_by}
 use Rattle.serial_depot.specs.Growing.{KeepsStored}
-use Rattle.serial_depot.specs.Placing.{HasRunBeside, StoresBehind}
-use Rattle.serial_depot.specs.Running.{CanTake, HasRun, HasRunOver}
+use Rattle.serial_depot.specs.Placing.{EndsAt, HasRunBeside, StoresBehind}
+use Rattle.serial_depot.specs.Running.{CanCommit, CanTake, HasRun, HasRunOver}
 use Rattle.serial_depot.specs.Storing.{AllReach, AllStored, HasStored, KeepsBelow, stores_end}
 use Rattle.serial_depot.specs.declared.depot.SerialDepot.{SerialDepot}
-use Rattle.serial_depot.specs.declared.ending.Ending.{Ending}
-use Rattle.serial_depot.specs.declared.ending.Ending.TheVariants.{Unchanged, Written, Unwritten, Unsettled, Unstored}
-use Rattle.serial_depot.proofs.Finished.{over_stored}
 use Rattle.serial_depot.proofs.Moved.{over_fewer, over_moved}
-use Rattle.serial_depot.proofs.Stored.{ends_twice, grows, keeps_reach, keeps_same, stored_keeps, stored_once, stored_twice, stored_within}
-
--- with nothing to store nothing is stored
-pub stored_none : (ending : Ending) (stores : List (List ℕ)) → stores ≡ [] → stored_by ending stores ≡ []
-stored_none Unchanged stores none = refl
-stored_none Written stores none = none
-stored_none Unwritten stores none = none
-stored_none Unsettled stores none = refl
-stored_none Unstored stores none = refl
+use Rattle.serial_depot.proofs.Stored.{ends_twice, grows, keeps_reach, stored_keeps, stored_once, stored_twice, stored_within}
 
 -- the rows after a place, whose writing failed or didn't
 pub rows_so : (rows changed now : AllRows) (changes : List Change) (fault : Bool) → changed ≡ changed_by rows changes → (fault ≡ false → now ≡ changed) → (fault ≡ true → now ≡ rows) → AreRowsAfter rows changes fault now
@@ -41,44 +30,34 @@ ends_there before kept used from end stores start same most is = let more = grow
 
 -- ---- an archive
 
-module _ {D : Type 0} (seen may_leave : D → Files → Type 0) where
-  -- nothing was stored
-  pub nothing_stored : (archive : Archive D) → AllReach (may_leave (disk_of archive)) (used_of archive) → StoresBehind seen may_leave [] archive archive
-  nothing_stored archive room = record {
-    used = refl;
-    kept = keeps_same (may_leave (disk_of archive)) (used_of archive);
-    all = tt;
-    room = room;
-    tells = λ files here. (files, here);
-  }
-
+module _ {D : Type 0} (disk_says : DiskSays D) where
   -- a content couldn't be stored
-  pub none_counted : (old new : Archive D) → used_of new ≡ used_of old → KeepsBelow (may_leave (disk_of old)) (may_leave (disk_of new)) (used_of old) → AllReach (may_leave (disk_of old)) (used_of old)
-      → StillTells (seen (disk_of old)) (seen (disk_of new)) → StoresBehind seen may_leave [] old new
+  pub none_counted : (old new : Archive D) → used_of new ≡ used_of old → KeepsBelow (disk_says.may_leave (disk_of old)) (disk_says.may_leave (disk_of new)) (used_of old) → AllReach (disk_says.may_leave (disk_of old)) (used_of old)
+      → StillTells (disk_says.seen (disk_of old)) (disk_says.seen (disk_of new)) → StoresBehind disk_says [] old new
   none_counted old new same kept room tells = record {
     used = same;
     kept = kept;
     all = tt;
     room = λ image left.
-        let far = keeps_reach (may_leave (disk_of old)) (may_leave (disk_of new)) (used_of old) (used_of old) (omega arith) kept room image left in
+        let far = keeps_reach (disk_says.may_leave (disk_of old)) (disk_says.may_leave (disk_of new)) (used_of old) (used_of old) (omega arith) kept room image left in
         omega (arith, far, same);
     tells = tells;
   }
 
   -- what its disk may leave is among the images that it may leave now
-  pub among_now : (archive : Archive D) → AllReach (may_leave (disk_of archive)) (used_of archive) → NoMore (HasStored (may_leave (disk_of archive)) (used_of archive) []) (may_leave (disk_of archive))
+  pub among_now : (archive : Archive D) → AllReach (disk_says.may_leave (disk_of archive)) (used_of archive) → NoMore (HasStored (disk_says.may_leave (disk_of archive)) (used_of archive) []) (disk_says.may_leave (disk_of archive))
   among_now archive room image left = record { below = λ spot bytes le all. all image left; stored = tt; reach = room image left }
 
   -- what was there stays
-  pub stored_so : (old new : Archive D) (stored : List (List ℕ)) → StoresBehind seen may_leave stored old new → KeepsStored may_leave old new
+  pub stored_so : (old new : Archive D) (stored : List (List ℕ)) → StoresBehind disk_says stored old new → KeepsStored disk_says old new
   stored_so old new stored behind = record { below = behind.kept; more = let used = behind.used in let more = grows stored (used_of old) in omega (arith, used, more) }
 
   -- what its disk may leave is among the images, after the contents as before them
-  pub among_on : (images : Files → Type 0) (from : ℕ) (before stored : List (List ℕ)) (old new : Archive D) → used_of old ≡ stores_end before from → NoMore (HasStored images from before) (may_leave (disk_of old))
-      → StoresBehind seen may_leave stored old new → NoMore (HasStored images from (before ++ stored)) (may_leave (disk_of new))
+  pub among_on : (images : Files → Type 0) (from : ℕ) (before stored : List (List ℕ)) (old new : Archive D) → used_of old ≡ stores_end before from → NoMore (HasStored images from before) (disk_says.may_leave (disk_of old))
+      → StoresBehind disk_says stored old new → NoMore (HasStored images from (before ++ stored)) (disk_says.may_leave (disk_of new))
   among_on images from before stored old new used among behind image left =
-      let old_images = may_leave (disk_of old) in
-      let new_images = may_leave (disk_of new) in
+      let old_images = disk_says.may_leave (disk_of old) in
+      let new_images = disk_says.may_leave (disk_of new) in
       let kept : KeepsBelow old_images new_images (stores_end before from) = subst (KeepsBelow old_images new_images) used behind.kept in
       let all : AllStored new_images stored (stores_end before from) = subst (AllStored new_images stored) used behind.all in
       let end : used_of new ≡ stores_end stored (stores_end before from) = behind.used ∙ ap (stores_end stored) used in
@@ -87,44 +66,55 @@ module _ {D : Type 0} (seen may_leave : D → Files → Type 0) where
       (stored_within (HasStored images from before) (stores_end before from) stored old_images new_images among kept all reach image left)
 
   -- and it is used up to where they end
-  pub used_on : (images : Files → Type 0) (from : ℕ) (before stored : List (List ℕ)) (old new : Archive D) → used_of old ≡ stores_end before from → StoresBehind seen may_leave stored old new → used_of new ≡ stores_end (before ++ stored) from
+  pub used_on : (images : Files → Type 0) (from : ℕ) (before stored : List (List ℕ)) (old new : Archive D) → used_of old ≡ stores_end before from → StoresBehind disk_says stored old new → used_of new ≡ stores_end (before ++ stored) from
   used_on images from before stored old new used behind = behind.used ∙ ap (stores_end stored) used ∙ sym (ends_twice images from before stored)
 
 -- ---- a run
 
-module _ {D : Type 0} (may_leave : D → Files → Type 0) (moment : D → ℕ) (left_since : D → ℕ → Files → Type 0) (images : Files → Type 0) (from : ℕ) (tables : Tables) (journal : Journal D) (since : ℕ) (start : List Deed) (places : List Placed) where
+module _ {D : Type 0} (disk_says : DiskSays D) (images : Files → Type 0) (from : ℕ) (tables : Tables) (journal : Journal D) (since : ℕ) (start : List Deed) (places : List Placed) where
   -- contents were stored, and then others
-  pub beside_more : (before stores : List (List ℕ)) → HasRunOver may_leave moment left_since (HasStored (HasStored images from before) (stores_end before from) stores) (stores_end stores (stores_end before from)) tables journal since start places
-      → HasRunBeside may_leave moment left_since images from (before ++ stores) tables journal since start places
+  pub beside_more : (before stores : List (List ℕ)) → HasRunOver disk_says (HasStored (HasStored images from before) (stores_end before from) stores) (stores_end stores (stores_end before from)) tables journal since start places
+      → HasRunBeside disk_says images from (before ++ stores) tables journal since start places
   beside_more before stores h =
-      subst (λ (used : ℕ). HasRunOver may_leave moment left_since (HasStored images from (before ++ stores)) used tables journal since start places) (sym (ends_twice images from before stores))
-      (over_fewer may_leave moment left_since (HasStored (HasStored images from before) (stores_end before from) stores) (stores_end stores (stores_end before from)) tables journal since start places h
+      subst (λ (used : ℕ). HasRunOver disk_says (HasStored images from (before ++ stores)) used tables journal since start places) (sym (ends_twice images from before stores))
+      (over_fewer disk_says (HasStored (HasStored images from before) (stores_end before from) stores) (stores_end stores (stores_end before from)) tables journal since start places h
       (HasStored images from (before ++ stores)) (stored_twice images from before stores))
 
   -- none were
-  pub beside_same : (before : List (List ℕ)) → HasRunBeside may_leave moment left_since images from before tables journal since start places → HasRunBeside may_leave moment left_since images from (before ++ []) tables journal since start places
+  pub beside_same : (before : List (List ℕ)) → HasRunBeside disk_says images from before tables journal since start places → HasRunBeside disk_says images from (before ++ []) tables journal since start places
   beside_same before h =
-      subst (λ (stores : List (List ℕ)). HasRunBeside may_leave moment left_since images from stores tables journal since start places) (sym (append-nil before)) h
+      subst (λ (stores : List (List ℕ)). HasRunBeside disk_says images from stores tables journal since start places) (sym (append-nil before)) h
 
 -- ---- a depot
 
-module _ {D : Type 0} (seen may_leave : D → Files → Type 0) (moment : D → ℕ) (left_since : D → ℕ → Files → Type 0) where
+-- it can take commands, where its journal can commit and its archive ends where its tables say
+pub can_of : {D : Type 0} (disk_says : DiskSays D) (depot : SerialDepot D) → CanCommit disk_says depot.journal
+    → EndsAt disk_says depot.archive depot.tables.archive_end → CanTake disk_says depot
+can_of disk_says depot can used = record {
+  was = can.0;
+  doubt = can.1.0;
+  stands = can.1.1;
+  end = sym used.0;
+  room = subst (AllReach (disk_says.may_leave (disk_of depot.archive))) (sym used.0) used.1;
+}
+
+module _ {D : Type 0} (disk_says : DiskSays D) where
   -- the run of a depot is one beside its archive, in which nothing was stored since
-  pub beside_now : (depot : SerialDepot D) (since : ℕ) (start : List Deed) (places : List Placed) → HasRun seen may_leave moment left_since depot since start places
-      → HasRunBeside may_leave moment left_since (may_leave (disk_of depot.archive)) (used_of depot.archive) [] depot.tables depot.journal since start places
+  pub beside_now : (depot : SerialDepot D) (since : ℕ) (start : List Deed) (places : List Placed) → HasRun disk_says depot since start places
+      → HasRunBeside disk_says (disk_says.may_leave (disk_of depot.archive)) (used_of depot.archive) [] depot.tables depot.journal since start places
   beside_now depot since start places h =
-      let images = may_leave (disk_of depot.archive) in
+      let images = disk_says.may_leave (disk_of depot.archive) in
       let used = used_of depot.archive in
-      over_moved may_leave moment left_since images used depot.tables depot.journal since start places h.over (HasStored images used []) used (omega arith) (stored_keeps images used [])
+      over_moved disk_says images used depot.tables depot.journal since start places h.over (HasStored images used []) used (omega arith) (stored_keeps images used [])
 
   -- and a run beside an archive, whose disk tells what it reads, is that of a depot
   pub depot_of_parts : (images : Files → Type 0) (from : ℕ) (stores : List (List ℕ)) (depot : SerialDepot D) (since : ℕ) (start : List Deed) (places : List Placed)
-      → HasRunBeside may_leave moment left_since images from stores depot.tables depot.journal since start places → used_of depot.archive ≡ stores_end stores from
-      → NoMore (HasStored images from stores) (may_leave (disk_of depot.archive)) → ((files : Files) × seen (disk_of depot.archive) files) → HasRun seen may_leave moment left_since depot since start places
+      → HasRunBeside disk_says images from stores depot.tables depot.journal since start places → used_of depot.archive ≡ stores_end stores from
+      → NoMore (HasStored images from stores) (disk_says.may_leave (disk_of depot.archive)) → ((files : Files) × disk_says.seen (disk_of depot.archive) files) → HasRun disk_says depot since start places
   depot_of_parts images from stores depot since start places h used among tells = record {
     tells = tells;
-    over = subst (λ (n : ℕ). HasRunOver may_leave moment left_since (may_leave (disk_of depot.archive)) n depot.tables depot.journal since start places) (sym used)
-        (over_fewer may_leave moment left_since (HasStored images from stores) (stores_end stores from) depot.tables depot.journal since start places h (may_leave (disk_of depot.archive)) among);
+    over = subst (λ (n : ℕ). HasRunOver disk_says (disk_says.may_leave (disk_of depot.archive)) n depot.tables depot.journal since start places) (sym used)
+        (over_fewer disk_says (HasStored images from stores) (stores_end stores from) depot.tables depot.journal since start places h (disk_says.may_leave (disk_of depot.archive)) among);
   }
 
 -- ---- who failed

@@ -3,7 +3,6 @@ use Rattle.std.proofs.Common.{◌≡◌, ◌≢◌, ◌⊎◌, ℕ, ◌+◌, Boo
 use Rattle.std.specs.Prelude.{codes, map, nat_le, if◌then◌else◌}
 use Rattle.std.specs.List.{AllByRecursion}
 use Rattle.std.specs.List.Sorted.{IsStrictlySortedBy}
-use Rattle.std.specs.declared.cmp.Ordering.{Ordering}
 use Rattle.std.specs.declared.cmp.Ordering.TheVariants.{Equal, Less}
 use Rattle.command_core.specs.Outcomes.{IsOutcome}
 use Rattle.command_core.specs.declared.outcome.Outcome.{Outcome}
@@ -35,7 +34,7 @@ use Rattle.row_texts.proofs.Changes.{own_change}
 use Rattle.serial_depot.proofs.Differences.{all_differ, no_changes}
 use Rattle.serial_depot.proofs.Laws.{only_checkpoint, told_is_counted}
 use Rattle.serial_depot.specs.Holding.{generation_in}
-use Rattle.serial_depot.specs.Opening.{is_checkpoint, opens, opens_generation}
+use Rattle.serial_depot.specs.Opening.{opens, opens_generation}
 use Rattle.step_limits.proofs.Whole.{step_from}
 use Rattle.depot_rows.specs.table_changes.Changed.{AllRows, changed_by, changed_in}
 

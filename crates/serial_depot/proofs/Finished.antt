@@ -1,8 +1,10 @@
 -- A command whose contents were read, and one whose contents were stored and whose group or generation was written, or at which a disk failed.
-use Rattle.std.proofs.Common.{◌≡◌, ◌≢◌, ◌⊎◌, ℕ, ◌≤◌, ◌+◌, Bool, true, false, List, [], ◌∷◌, ◌++◌, length, refl, sym, ap, subst, ◌∙◌, arith}
+use Rattle.std.proofs.Common.{◌≡◌, ◌≢◌, ℕ, ◌+◌, Bool, true, false, List, [], ◌∷◌, ◌++◌, length, refl, sym, subst, ◌∙◌, arith}
 use Rattle.archive_file.specs.Archive as archives
 use Rattle.archive_file.specs.declared.archive.Archive.{Archive}
-use Rattle.outside_api.specs.Disk.{Files, LeavesOnly, NoMore, Same}
+use Rattle.outside_api.specs.Disk.{Files, NoMore, Same}
+use Rattle.outside_api.specs.Moments.{LeavesOnly}
+use Rattle.outside_api.specs.Says.{DiskSays}
 use Rattle.command_core.specs.Outcomes.{IsOutcome}
 use Rattle.command_core.specs.declared.outcome.Outcome.{Outcome}
 use Rattle.depot_rows.specs.db_records.declared.change.Change.{Change}
@@ -27,7 +29,7 @@ use Rattle.recovery.specs.Holding.{HasAllRows}
 use Rattle.serial_depot.specs.Holding.{HasItsContents, KeepContents}
 use Rattle.serial_depot.specs.Writing.{IsWritingOf, StandsBy, with_doubtful}
 use Rattle.serial_depot.specs.Running.{CanTake, HasRun, HasRunOver}
-use Rattle.serial_depot.specs.Storing.{AllReach, AreAt, HasStored, stores_end}
+use Rattle.serial_depot.specs.Storing.{AreAt, HasStored, stores_end}
 use Rattle.serial_depot.specs.declared.depot.SerialDepot.{SerialDepot}
 use Rattle.serial_depot.proofs.Moved.{has_run_moved, over_moved, over_settled, over_unsettled}
 use Rattle.serial_depot.proofs.Steps.{over_done, over_failed, over_faulted}
@@ -35,10 +37,10 @@ use Rattle.serial_depot.proofs.Contents.{contents_at}
 use Rattle.serial_depot.proofs.Stored.{contents_follow, contents_kept, grows, keeps_more, stored_all, stored_keeps, stored_reach}
 
 -- the journal stands, whether the writing failed or not
-pub standing : {D : Type 0} (may_leave : D → Files → Type 0) (journal : Journal D) (was : Committed) (doubt written : Doubtful) (failed : Bool) → StandsBy may_leave journal was doubt written failed
-    → (now : Committed) × ((left : Doubtful) × Stands may_leave journal now left)
-standing may_leave journal was doubt written false stands = (with_doubtful was written, (nothing, stands))
-standing may_leave journal was doubt written true stands = (was, (stands.0, stands.2))
+pub standing : {D : Type 0} (disk_says : DiskSays D) (journal : Journal D) (was : Committed) (written : Doubtful) (failed : Bool) → StandsBy disk_says journal was written failed
+    → (now : Committed) × ((left : Doubtful) × Stands disk_says journal now left)
+standing disk_says journal was written false stands = (with_doubtful was written, (nothing, stands))
+standing disk_says journal was written true stands = (was, (stands.0, stands.2))
 
 -- what was read are the contents that the reply waits for
 pub contents_are : (rows : AllRows) (d : List Deed) (request : Request) (from : ℕ) (outcome : Outcome) (files : Files) → HasItsContents rows d files → IsOutcome rows from d request outcome
@@ -46,8 +48,8 @@ pub contents_are : (rows : AllRows) (d : List Deed) (request : Request) (from : 
 contents_are rows d request from outcome files has is texts read =
     read (contents_of (step d request).rows) (contents_at (files 0) rows d has.contents (contents_of (step d request).rows) outcome.reads is.reads)
 
-module _ {D : Type 0} (may_leave : D → Files → Type 0) (moment : D → ℕ) (left_since : D → ℕ → Files → Type 0) (images : Files → Type 0) (used : ℕ) (tables : Tables) (journal : Journal D) (since : ℕ) (start : List Deed) (places : List Placed) (request : Request)
-    (h : HasRunOver may_leave moment left_since images used tables journal since start places) where
+module _ {D : Type 0} (disk_says : DiskSays D) (images : Files → Type 0) (used : ℕ) (tables : Tables) (journal : Journal D) (since : ℕ) (start : List Deed) (places : List Placed) (request : Request)
+    (h : HasRunOver disk_says images used tables journal since start places) where
   abbrev current : List Deed
   current = taken step start places
 
@@ -57,26 +59,26 @@ module _ {D : Type 0} (may_leave : D → Files → Type 0) (moment : D → ℕ) 
   -- ---- nothing was written
 
   -- what is in doubt couldn't be settled
-  pub over_unwritten : (journal' : Journal D) → Stands may_leave journal' h.was h.doubt → LeavesOnly moment left_since journal.disk journal'.disk (HasWithOrWithout h.was h.doubt)
-      → HasRunOver may_leave moment left_since images used tables journal' since start (places ++ placed_by request true ∷ [])
+  pub over_unwritten : (journal' : Journal D) → Stands disk_says journal' h.was h.doubt → LeavesOnly disk_says journal.disk journal'.disk (HasWithOrWithout h.was h.doubt)
+      → HasRunOver disk_says images used tables journal' since start (places ++ placed_by request true ∷ [])
   over_unwritten journal' stands leaves =
-      over_faulted may_leave moment left_since images used tables journal' since start places request
-      (over_unsettled may_leave moment left_since images used tables journal since start places h journal' stands leaves)
+      over_faulted disk_says images used tables journal' since start places request
+      (over_unsettled disk_says images used tables journal since start places h journal' stands leaves)
 
   -- it was settled, and a content couldn't be stored
-  pub over_unstored : (journal' : Journal D) → Stands may_leave journal' h.was nothing → LeavesOnly moment left_since journal.disk journal'.disk (HasWithOrWithout h.was h.doubt)
-      → HasRunOver may_leave moment left_since images used tables journal' since start (places ++ placed_by request true ∷ [])
+  pub over_unstored : (journal' : Journal D) → Stands disk_says journal' h.was nothing → LeavesOnly disk_says journal.disk journal'.disk (HasWithOrWithout h.was h.doubt)
+      → HasRunOver disk_says images used tables journal' since start (places ++ placed_by request true ∷ [])
   over_unstored journal' stands leaves =
-      over_faulted may_leave moment left_since images used tables journal' since start places request
-      (over_settled may_leave moment left_since images used tables journal since start places h journal' stands leaves)
+      over_faulted disk_says images used tables journal' since start places request
+      (over_settled disk_says images used tables journal since start places h journal' stands leaves)
 
   -- ---- contents were stored
 
   module _ (stores : List (List ℕ)) where
     -- the run beside them
-    pub over_stored : HasRunOver may_leave moment left_since (HasStored images used stores) (stores_end stores used) tables journal since start places
+    pub over_stored : HasRunOver disk_says (HasStored images used stores) (stores_end stores used) tables journal since start places
     over_stored =
-        over_moved may_leave moment left_since images used tables journal since start places h (HasStored images used stores) (stores_end stores used) (grows stores used)
+        over_moved disk_says images used tables journal since start places h (HasStored images used stores) (stores_end stores used) (grows stores used)
         (stored_keeps images used stores)
 
     -- the contents after the command
@@ -86,39 +88,35 @@ module _ {D : Type 0} (may_leave : D → Files → Type 0) (moment : D → ℕ) 
         (contents_kept images (HasStored images used stores) used used (rows_of tables) current (omega arith) (stored_keeps images used stores) h.stand h.kept)
         (stored_all images used stores) (omega arith) (stored_reach images used stores)
 
-  -- none had to be stored
-  pub same_contents_after : (changes : List Change) → StandAfter (rows_of tables) used current next [] changes → IsSound next → AllReach images used → KeepContents images used (changed_by (rows_of tables) changes) next
-  same_contents_after changes placed sound reach = contents_follow images used used used (rows_of tables) current next [] changes placed sound (omega arith) h.kept tt (omega arith) reach
-
   -- ---- a place was written, or its writing failed
 
   pub over_committed : (now : AllRows) (opens : Bool) (written : Doubtful) (changes : List Change) → changes ≢ []
       → IsWritingOf (rows_of tables) now (next_number journal) (generation_of_journal journal) opens written changes → AreChangesOf (rows_of tables) request opens changes
       → KeepContents images used (changed_by (rows_of tables) changes) next → (tables' : Tables) (journal' : Journal D)
-      → LeavesOnly moment left_since journal.disk journal'.disk (λ c. HasWithOrWithout h.was h.doubt c ⊎ HasWithOrWithout h.was written c)
-      → (failed : Bool) → StandsBy may_leave journal' h.was h.doubt written failed → (failed ≡ false → rows_of tables' ≡ now) → (failed ≡ true → rows_of tables' ≡ rows_of tables)
-      → HasRunOver may_leave moment left_since images used tables' journal' since start (places ++ placed_by request failed ∷ [])
+      → LeavesOnly disk_says journal.disk journal'.disk (HasWithOrWithout h.was written)
+      → (failed : Bool) → StandsBy disk_says journal' h.was written failed → (failed ≡ false → rows_of tables' ≡ now) → (failed ≡ true → rows_of tables' ≡ rows_of tables)
+      → HasRunOver disk_says images used tables' journal' since start (places ++ placed_by request failed ∷ [])
   over_committed now opens written changes some is made contents tables' journal' leaves failed stands done kept =
       let count = h.stands.count in
       let number : next_number journal ≡ length h.was.groups + 1 = omega (arith, count) in
       let with_it = is.has h.was number h.stands.generation h.has in
       ended with_it failed stands done kept
     where
-      ended : HasAllRows (with_doubtful h.was written) (changed_by (rows_of tables) changes) → (failed : Bool) → StandsBy may_leave journal' h.was h.doubt written failed → (failed ≡ false → rows_of tables' ≡ now) → (failed ≡ true → rows_of tables' ≡ rows_of tables)
-          → HasRunOver may_leave moment left_since images used tables' journal' since start (places ++ placed_by request failed ∷ [])
+      ended : HasAllRows (with_doubtful h.was written) (changed_by (rows_of tables) changes) → (failed : Bool) → StandsBy disk_says journal' h.was written failed → (failed ≡ false → rows_of tables' ≡ now) → (failed ≡ true → rows_of tables' ≡ rows_of tables)
+          → HasRunOver disk_says images used tables' journal' since start (places ++ placed_by request failed ∷ [])
       ended with_it false stands done kept =
-          over_done may_leave moment left_since images used tables journal since start places request h tables' journal' changes opens written some with_it (is.opened h.was) made contents leaves stands (done refl ∙ is.rows_are)
+          over_done disk_says images used tables journal since start places request h tables' journal' changes opens written some with_it (is.opened h.was) made contents leaves stands (done refl ∙ is.rows_are)
       ended with_it true stands done kept =
-          over_failed may_leave moment left_since images used tables journal since start places request h tables' journal' changes opens written some with_it (is.opened h.was) made contents leaves stands.0 stands.1 stands.2 (kept refl)
+          over_failed disk_says images used tables journal since start places request h tables' journal' changes opens written some with_it (is.opened h.was) made contents leaves stands.0 stands.1 stands.2 (kept refl)
 
 -- ---- the archive of a depot was read
 
-module _ {D : Type 0} (seen may_leave : D → Files → Type 0) (moment : D → ℕ) (left_since : D → ℕ → Files → Type 0) (depot : SerialDepot D) (archive : Archive D) (same_used : archives.used_of archive ≡ archives.used_of depot.archive)
-    (same : Same (seen (archives.disk_of depot.archive)) (seen (archives.disk_of archive))) (more : NoMore (may_leave (archives.disk_of depot.archive)) (may_leave (archives.disk_of archive))) where
+module _ {D : Type 0} (disk_says : DiskSays D) (depot : SerialDepot D) (archive : Archive D) (same_used : archives.used_of archive ≡ archives.used_of depot.archive)
+    (same : Same (disk_says.seen (archives.disk_of depot.archive)) (disk_says.seen (archives.disk_of archive))) (more : NoMore (disk_says.may_leave (archives.disk_of depot.archive)) (disk_says.may_leave (archives.disk_of archive))) where
   abbrev pub read : SerialDepot D
   read = record { tables = depot.tables; journal = depot.journal; archive = archive }
 
-  pub read_can : CanTake may_leave depot → CanTake may_leave read
+  pub read_can : CanTake disk_says depot → CanTake disk_says read
   read_can can = record {
     was = can.was;
     doubt = can.doubt;
@@ -127,10 +125,10 @@ module _ {D : Type 0} (seen may_leave : D → Files → Type 0) (moment : D → 
     room = λ image left. let le = can.room image (more image left) in omega (arith, le, same_used);
   }
 
-  pub read_run : (since : ℕ) (start : List Deed) (places : List Placed) → HasRun seen may_leave moment left_since depot since start places → HasRun seen may_leave moment left_since read since start places
+  pub read_run : (since : ℕ) (start : List Deed) (places : List Placed) → HasRun disk_says depot since start places → HasRun disk_says read since start places
   read_run since start places h =
-      has_run_moved seen may_leave moment left_since depot since start places h archive (omega (arith, same_used)) (h.tells.0, same.kept h.tells.0 h.tells.1)
-      (keeps_more (may_leave (archives.disk_of depot.archive)) (may_leave (archives.disk_of archive)) (archives.used_of depot.archive) more)
+      has_run_moved disk_says depot since start places h archive (omega (arith, same_used)) (h.tells.0, same.kept h.tells.0 h.tells.1)
+      (keeps_more (disk_says.may_leave (archives.disk_of depot.archive)) (disk_says.may_leave (archives.disk_of archive)) (archives.used_of depot.archive) more)
 
 -- where no content is waited for no row has one
 pub none_waits : (rows : AllRows) (d : List Deed) (contents : List (List ℕ)) (reads : List RowContent) → ComeFrom rows d contents reads → reads ≡ [] → contents ≡ []

@@ -1,5 +1,5 @@
 -- Which depots an image stands for after places.
-use Rattle.std.proofs.Common.{◌≡◌, ◌⊎◌, ℕ, ◌+◌, true, List, length, take, refl, sym, ap, subst, ◌∙◌, inl, inr}
+use Rattle.std.proofs.Common.{◌≡◌, ◌⊎◌, ℕ, true, List, take, refl, sym, subst, inl, inr}
 use Rattle.outside_api.specs.Disk.{Files}
 use Rattle.disk_journal.specs.Images.{Committed, HasCommitted, with_generation, with_group}
 use Rattle.disk_journal.specs.Stands.{Doubtful, nothing, group, opening, HasWithOrWithout}

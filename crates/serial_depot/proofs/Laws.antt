@@ -27,7 +27,6 @@ use Rattle.row_changes.specs.Differences.{AreDifferences}
 use Rattle.sound_requests.specs.Asked.{IsAsked, is_typed}
 use Rattle.sound_requests.proofs.All.{asked_sound}
 use Rattle.depots_alike.proofs.Staying as contents
-use Rattle.depots_alike.proofs.Twins.{Twins}
 use Rattle.depots_alike.proofs.Whole.{step_same}
 use Rattle.step_limits.proofs.Whole.{request_keeps_generation, step_from}
 use Rattle.step_limits.specs.Limits.{CountsNoGeneration}

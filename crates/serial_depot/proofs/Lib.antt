@@ -13,5 +13,6 @@ pub mod Moved
 pub mod Outcomes
 pub mod Finished
 pub mod Beside
+mod Idle
 mod Writings
 mod Quiet

@@ -1,9 +1,10 @@
 -- A depot in files whose journal was settled, or whose archive was read or stored in.
-use Rattle.std.proofs.Common.{◌≡◌, ◌⊎◌, ℕ, ◌≤◌, List, length, inl, refl, ⊎_elim, arith}
+use Rattle.std.proofs.Common.{ℕ, ◌≤◌, List, length, inl, refl, ⊎_elim, arith}
 use Rattle.archive_file.specs.Archive as archives
 use Rattle.archive_file.specs.declared.archive.Archive.{Archive}
-use Rattle.outside_api.specs.Disk.{Files, LeavesOnly, NoMore}
-use Rattle.outside_api.specs.Moments.{weaker}
+use Rattle.outside_api.specs.Disk.{Files, NoMore}
+use Rattle.outside_api.specs.Moments.{LeavesOnly, weaker}
+use Rattle.outside_api.specs.Says.{DiskSays}
 use Rattle.disk_journal.specs.Images.{Committed, with_generation, with_group}
 use Rattle.disk_journal.specs.Stands.{Doubtful, nothing, group, opening, HasWithOrWithout, Stands, disk_of}
 use Rattle.disk_journal.specs.declared.journal.Journal.{Journal}
@@ -12,10 +13,7 @@ use Rattle.depot_rows.specs.table_store.declared.tables.Tables.{Tables}
 use Rattle.depot_rows.specs.depot_model.Commands.{step}
 use Rattle.depot_rows.specs.depot_model.Deeds.{Deed}
 use Rattle.depot_rows.specs.depot_model.Places.{Placed, taken}
-use Rattle.depot_rows.specs.depot_model.Step.{after}
-use Rattle.depot_rows.specs.Standing.{Stand}
-use Rattle.recovery.specs.Holding.{HasAllRows}
-use Rattle.serial_depot.specs.Holding.{KeepContents, StandsWith, IsKeptSometime}
+use Rattle.serial_depot.specs.Holding.{StandsWith, IsKeptSometime}
 use Rattle.serial_depot.specs.Running.{IsOfFault, IsDoubtOf, HasRun, HasRunOver}
 use Rattle.serial_depot.specs.Fetching.{IsFetched, IsRead}
 use Rattle.serial_depot.specs.Storing.{KeepsBelow}
@@ -62,10 +60,10 @@ module _ (old new : Files → Type 0) (used used' : ℕ) (le : used ≤ used') (
   sometime_moved : (start : List Deed) (places : List Placed) (image : Files) → IsKeptSometime old used start places image → IsKeptSometime new used' start places image
   sometime_moved start places image (k, within, kept) = (k, within, kept_leads (StandsWith old used image) (StandsWith new used' image) (stands_moved image) start places k kept)
 
-module _ {D : Type 0} (may_leave : D → Files → Type 0) (moment : D → ℕ) (left_since : D → ℕ → Files → Type 0) (images : Files → Type 0) (used : ℕ) (tables : Tables) (journal : Journal D) (since : ℕ) (start : List Deed) (places : List Placed)
-    (h : HasRunOver may_leave moment left_since images used tables journal since start places) where
+module _ {D : Type 0} (disk_says : DiskSays D) (images : Files → Type 0) (used : ℕ) (tables : Tables) (journal : Journal D) (since : ℕ) (start : List Deed) (places : List Placed)
+    (h : HasRunOver disk_says images used tables journal since start places) where
   -- the archive may leave other images
-  pub over_moved : (new : Files → Type 0) (used' : ℕ) → used ≤ used' → KeepsBelow images new used → HasRunOver may_leave moment left_since new used' tables journal since start places
+  pub over_moved : (new : Files → Type 0) (used' : ℕ) → used ≤ used' → KeepsBelow images new used → HasRunOver disk_says new used' tables journal since start places
   over_moved new used' le keeps = record {
     was = h.was;
     doubt = h.doubt;
@@ -80,11 +78,11 @@ module _ {D : Type 0} (may_leave : D → Files → Type 0) (moment : D → ℕ) 
   }
 
   -- it leaves no others
-  pub over_fewer : (new : Files → Type 0) → NoMore images new → HasRunOver may_leave moment left_since new used tables journal since start places
+  pub over_fewer : (new : Files → Type 0) → NoMore images new → HasRunOver disk_says new used tables journal since start places
   over_fewer new more = over_moved new used (omega arith) (keeps_more images new used more)
 
-  still : (journal' : Journal D) (now : Doubtful) → Stands may_leave journal' h.was now → IsDoubtOf images used (rows_of tables) h.was start places now
-      → LeavesOnly moment left_since journal.disk journal'.disk (HasWithOrWithout h.was h.doubt) → HasRunOver may_leave moment left_since images used tables journal' since start places
+  still : (journal' : Journal D) (now : Doubtful) → Stands disk_says journal' h.was now → IsDoubtOf images used (rows_of tables) h.was start places now
+      → LeavesOnly disk_says journal.disk journal'.disk (HasWithOrWithout h.was h.doubt) → HasRunOver disk_says images used tables journal' since start places
   still journal' now stands doubt leaves = record {
     was = h.was;
     doubt = now;
@@ -108,43 +106,43 @@ module _ {D : Type 0} (may_leave : D → Files → Type 0) (moment : D → ℕ) 
   }
 
   -- what was in doubt was settled
-  pub over_settled : (journal' : Journal D) → Stands may_leave journal' h.was nothing → LeavesOnly moment left_since journal.disk journal'.disk (HasWithOrWithout h.was h.doubt)
-      → HasRunOver may_leave moment left_since images used tables journal' since start places
+  pub over_settled : (journal' : Journal D) → Stands disk_says journal' h.was nothing → LeavesOnly disk_says journal.disk journal'.disk (HasWithOrWithout h.was h.doubt)
+      → HasRunOver disk_says images used tables journal' since start places
   over_settled journal' stands leaves = still journal' nothing stands tt leaves
 
   -- or a disk failed at that, or the journal was read
-  pub over_unsettled : (journal' : Journal D) → Stands may_leave journal' h.was h.doubt → LeavesOnly moment left_since journal.disk journal'.disk (HasWithOrWithout h.was h.doubt)
-      → HasRunOver may_leave moment left_since images used tables journal' since start places
+  pub over_unsettled : (journal' : Journal D) → Stands disk_says journal' h.was h.doubt → LeavesOnly disk_says journal.disk journal'.disk (HasWithOrWithout h.was h.doubt)
+      → HasRunOver disk_says images used tables journal' since start places
   over_unsettled journal' stands leaves = still journal' h.doubt stands h.in_doubt leaves
 
 -- bytes of the journal were read
-pub over_fetched : {D : Type 0} (seen may_leave : D → Files → Type 0) (moment : D → ℕ) (left_since : D → ℕ → Files → Type 0) (images : Files → Type 0) (used : ℕ) (tables : Tables) (journal : Journal D) (since : ℕ) (start : List Deed) (places : List Placed)
-    → HasRunOver may_leave moment left_since images used tables journal since start places → (journal' : Journal D) → IsFetched seen may_leave moment left_since journal journal'
-    → HasRunOver may_leave moment left_since images used tables journal' since start places
-over_fetched seen may_leave moment left_since images used tables journal since start places h journal' fetched =
-    over_unsettled may_leave moment left_since images used tables journal since start places h journal' (fetched.stands h.was h.doubt h.stands)
-    (weaker moment left_since (disk_of journal) (disk_of journal') (may_leave (disk_of journal)) (HasWithOrWithout h.was h.doubt) h.stands.holds fetched.any_moment)
+pub over_fetched : {D : Type 0} (disk_says : DiskSays D) (images : Files → Type 0) (used : ℕ) (tables : Tables) (journal : Journal D) (since : ℕ) (start : List Deed) (places : List Placed)
+    → HasRunOver disk_says images used tables journal since start places → (journal' : Journal D) → IsFetched disk_says journal journal'
+    → HasRunOver disk_says images used tables journal' since start places
+over_fetched disk_says images used tables journal since start places h journal' fetched =
+    over_unsettled disk_says images used tables journal since start places h journal' (fetched.stands h.was h.doubt h.stands)
+    (weaker disk_says (disk_of journal) (disk_of journal') (disk_says.may_leave (disk_of journal)) (HasWithOrWithout h.was h.doubt) h.stands.holds fetched.any_moment)
 
 -- none were
-pub fetched_none : {D : Type 0} (seen may_leave : D → Files → Type 0) (moment : D → ℕ) (left_since : D → ℕ → Files → Type 0) → ((disk : D) (files : Files) → left_since disk (moment disk) files → may_leave disk files)
-    → (journal : Journal D) → IsFetched seen may_leave moment left_since journal journal
-fetched_none seen may_leave moment left_since only_now journal = record {
+pub fetched_none : {D : Type 0} (disk_says : DiskSays D) → ((disk : D) (files : Files) → disk_says.left_since disk (disk_says.moment disk) files → disk_says.may_leave disk files)
+    → (journal : Journal D) → IsFetched disk_says journal journal
+fetched_none disk_says only_now journal = record {
   stands = λ was doubt stands. stands;
   any_moment = record { later = omega arith; each = only_now (disk_of journal); before = λ t files le left. inl left };
   groups = λ all has. has;
 }
 
 -- nor were contents of the archive
-pub read_none : {D : Type 0} (seen may_leave : D → Files → Type 0) (archive : Archive D) → IsRead seen may_leave archive archive
-read_none seen may_leave archive = record { same = record { kept = λ files here. here; no_more = λ files here. here }; crash = λ files left. left; used = refl }
+pub read_none : {D : Type 0} (disk_says : DiskSays D) (archive : Archive D) → IsRead disk_says archive archive
+read_none disk_says archive = record { same = record { kept = λ files here. here; no_more = λ files here. here }; crash = λ files left. left; used = refl }
 
 -- the archive of a depot was read or stored in
-pub has_run_moved : {D : Type 0} (seen may_leave : D → Files → Type 0) (moment : D → ℕ) (left_since : D → ℕ → Files → Type 0) (depot : SerialDepot D) (since : ℕ) (start : List Deed) (places : List Placed)
-    → HasRun seen may_leave moment left_since depot since start places → (archive : Archive D) → archives.used_of depot.archive ≤ archives.used_of archive → ((files : Files) × seen (archives.disk_of archive) files)
-    → KeepsBelow (may_leave (archives.disk_of depot.archive)) (may_leave (archives.disk_of archive)) (archives.used_of depot.archive)
-    → HasRun seen may_leave moment left_since (record { tables = depot.tables; journal = depot.journal; archive = archive }) since start places
-has_run_moved seen may_leave moment left_since depot since start places h archive le tells keeps = record {
+pub has_run_moved : {D : Type 0} (disk_says : DiskSays D) (depot : SerialDepot D) (since : ℕ) (start : List Deed) (places : List Placed)
+    → HasRun disk_says depot since start places → (archive : Archive D) → archives.used_of depot.archive ≤ archives.used_of archive → ((files : Files) × disk_says.seen (archives.disk_of archive) files)
+    → KeepsBelow (disk_says.may_leave (archives.disk_of depot.archive)) (disk_says.may_leave (archives.disk_of archive)) (archives.used_of depot.archive)
+    → HasRun disk_says (record { tables = depot.tables; journal = depot.journal; archive = archive }) since start places
+has_run_moved disk_says depot since start places h archive le tells keeps = record {
   tells = tells;
-  over = over_moved may_leave moment left_since (may_leave (archives.disk_of depot.archive)) (archives.used_of depot.archive) depot.tables depot.journal since start places h.over
-      (may_leave (archives.disk_of archive)) (archives.used_of archive) le keeps;
+  over = over_moved disk_says (disk_says.may_leave (archives.disk_of depot.archive)) (archives.used_of depot.archive) depot.tables depot.journal since start places h.over
+      (disk_says.may_leave (archives.disk_of archive)) (archives.used_of archive) le keeps;
 }

@@ -1,9 +1,11 @@
 -- Tables and a journal after one place more.
-use Rattle.std.proofs.Common.{◌≡◌, ◌≢◌, ◌⊎◌, ℕ, ◌≤◌, ◌+◌, Bool, true, false, List, [], ◌∷◌, ◌++◌, length, Some, refl, sym, ap, subst, ◌∙◌, inl, inr, ⊎_elim, arith, append_assoc}
+use Rattle.std.proofs.Common.{◌≡◌, ◌≢◌, ◌⊎◌, ℕ, Bool, true, false, List, [], ◌∷◌, ◌++◌, length, refl, sym, ap, subst, ◌∙◌, inl, inr, ⊎_elim, arith, append_assoc}
 use Rattle.std.proofs.lemmas.List.{length_push}
 use Rattle.std.specs.Prelude.{codes}
 use Rattle.depot_rows.specs.db_records.declared.key.Key.TheVariants as keys
-use Rattle.outside_api.specs.Disk.{Files, LeavesOnly}
+use Rattle.outside_api.specs.Disk.{Files}
+use Rattle.outside_api.specs.Moments.{LeavesOnly}
+use Rattle.outside_api.specs.Says.{DiskSays}
 use Rattle.depot_rows.specs.db_records.declared.change.Change.{Change}
 use Rattle.disk_journal.specs.Images.{Committed, HasCommitted, with_generation, with_group}
 use Rattle.disk_journal.specs.Stands.{Doubtful, nothing, group, opening, HasWithOrWithout, Stands}
@@ -13,7 +15,7 @@ use Rattle.depot_rows.specs.table_store.declared.tables.Tables.{Tables}
 use Rattle.depot_rows.specs.depot_model.Commands.{step}
 use Rattle.depot_rows.specs.depot_model.Deeds.{Deed}
 use Rattle.depot_runs.specs.Kept.{IsChange}
-use Rattle.depot_rows.specs.depot_model.Places.{Placed, done_at, taken}
+use Rattle.depot_rows.specs.depot_model.Places.{Placed, taken}
 use Rattle.depot_rows.specs.depot_model.Records.{SameRows}
 use Rattle.depot_rows.specs.depot_model.Rules.{value_of}
 use Rattle.depot_rows.specs.depot_model.Step.{after}
@@ -81,8 +83,8 @@ doubt_of_it images used rows was start places nothing f = tt
 doubt_of_it images used rows was start places (group text) f = f
 doubt_of_it images used rows was start places (opening checkpoint) f = f
 
-module _ {D : Type 0} (may_leave : D → Files → Type 0) (moment : D → ℕ) (left_since : D → ℕ → Files → Type 0) (images : Files → Type 0) (used : ℕ) (tables : Tables) (journal : Journal D) (since : ℕ) (start : List Deed) (places : List Placed) (request : Request)
-    (h : HasRunOver may_leave moment left_since images used tables journal since start places) where
+module _ {D : Type 0} (disk_says : DiskSays D) (images : Files → Type 0) (used : ℕ) (tables : Tables) (journal : Journal D) (since : ℕ) (start : List Deed) (places : List Placed) (request : Request)
+    (h : HasRunOver disk_says images used tables journal since start places) where
   abbrev current : List Deed
   current = taken step start places
 
@@ -109,7 +111,7 @@ module _ {D : Type 0} (may_leave : D → Files → Type 0) (moment : D → ℕ) 
   contents_failed path n = ap (λ (d : List Deed). content_at d path n) (sym failed_is)
 
   -- a disk failed before the commit
-  pub over_faulted : HasRunOver may_leave moment left_since images used tables journal since start failed
+  pub over_faulted : HasRunOver disk_says images used tables journal since start failed
   over_faulted =
       let On : List Deed → Type 0 = Stand rows in
       let With : List Deed → Type 0 = KeepContents images used rows in
@@ -127,7 +129,7 @@ module _ {D : Type 0} (may_leave : D → Files → Type 0) (moment : D → ℕ) 
       }
 
   -- the command changed no row
-  pub over_idle : (opens : Bool) → AreChangesOf rows request opens [] → HasRunOver may_leave moment left_since images used tables journal since start done
+  pub over_idle : (opens : Bool) → AreChangesOf rows request opens [] → HasRunOver disk_says images used tables journal since start done
   over_idle opens made =
       let stand : Stand rows (after current deeds) = made.stand current h.stand in
       let same_rows : SameRows current (after current deeds) = same_stand rows current (after current deeds) h.stand stand in
@@ -154,24 +156,21 @@ module _ {D : Type 0} (may_leave : D → Files → Type 0) (moment : D → ℕ) 
 
   module _ (tables' : Tables) (journal' : Journal D) (changes : List Change) (opens : Bool) (written : Doubtful) (some : changes ≢ []) (with_it : HasAllRows (with_doubtful h.was written) (changed_by rows changes))
       (opened : (with_doubtful h.was written).generation ≡ next_if opens h.was.generation) (made : AreChangesOf rows request opens changes)
-      (with_contents : KeepContents images used (changed_by rows changes) (after current deeds)) (leaves : LeavesOnly moment left_since journal.disk journal'.disk (λ c. HasWithOrWithout h.was h.doubt c ⊎ HasWithOrWithout h.was written c)) where
+      (with_contents : KeepContents images used (changed_by rows changes) (after current deeds)) (leaves : LeavesOnly disk_says journal.disk journal'.disk (HasWithOrWithout h.was written)) where
     -- each image since is kept, where each that has what was written is
-    moments : (p : Placed) → ((image : Files) → HasCommitted (with_doubtful h.was written) image → IsKeptSometime images used start (places ++ p ∷ []) image) → (image : Files) → left_since journal'.disk since image
+    moments : (p : Placed) → ((image : Files) → HasCommitted (with_doubtful h.was written) image → IsKeptSometime images used start (places ++ p ∷ []) image) → (image : Files) → disk_says.left_since journal'.disk since image
         → IsKeptSometime images used start (places ++ p ∷ []) image
     moments p with_it_kept image left =
-        let was_kept : (doubt : Doubtful) → IsDoubtOf images used rows h.was start places doubt → HasWithOrWithout h.was doubt image → IsKeptSometime images used start (places ++ p ∷ []) image
-        = λ doubt in_doubt has_it.
-        sometime_more images used start places p image (length places, omega arith, kept_whole (StandsWith images used image) start places (kept_now images used h.was rows start places h.has h.stand h.generation h.kept doubt in_doubt image has_it)) in
+        let was_kept : HasCommitted h.was image → IsKeptSometime images used start (places ++ p ∷ []) image
+        = λ has_it.
+        sometime_more images used start places p image (length places, omega arith, kept_whole (StandsWith images used image) start places (kept_now images used h.was rows start places h.has h.stand h.generation h.kept nothing tt image has_it)) in
         ⊎_elim
         (λ was_left. sometime_more images used start places p image (h.any_moment image was_left))
-        (λ fresh. ⊎_elim
-        (was_kept h.doubt h.in_doubt)
-        (λ either. ⊎_elim (was_kept nothing tt) (with_it_kept image) (either_way h.was written image either))
-        fresh)
+        (λ fresh. ⊎_elim was_kept (with_it_kept image) (either_way h.was written image fresh))
         (leaves.before since image h.later left)
 
     -- it is done
-    pub over_done : Stands may_leave journal' (with_doubtful h.was written) nothing → rows_of tables' ≡ changed_by rows changes → HasRunOver may_leave moment left_since images used tables' journal' since start done
+    pub over_done : Stands disk_says journal' (with_doubtful h.was written) nothing → rows_of tables' ≡ changed_by rows changes → HasRunOver disk_says images used tables' journal' since start done
     over_done stands rows_are =
         let On : List Deed → Type 0 = Stand (changed_by rows changes) in
         let now : Stand (changed_by rows changes) (taken step start done) = subst On (sym done_is) (made.stand current h.stand) in
@@ -216,17 +215,14 @@ module _ {D : Type 0} (may_leave : D → Files → Type 0) (moment : D → ℕ) 
       kept = with_contents;
     }
 
-    doubt_after : (now : Doubtful) → IsLeft h.doubt written now → IsDoubtOf images used rows h.was start failed now
-    doubt_after now (inl same) =
-        let P : Doubtful → Type 0 = IsDoubtOf images used rows h.was start failed in
-        subst P (sym same) (doubt_more images used rows h.was start places (placed_by request true) (λ change. absurd (true_is_not_false change.0)) contents_failed h.doubt h.in_doubt)
-    doubt_after now (inr (inl none)) = let P : Doubtful → Type 0 = IsDoubtOf images used rows h.was start failed in subst P (sym none) tt
-    doubt_after now (inr (inr this)) =
+    doubt_after : (now : Doubtful) → IsLeft written now → IsDoubtOf images used rows h.was start failed now
+    doubt_after now (inl none) = let P : Doubtful → Type 0 = IsDoubtOf images used rows h.was start failed in subst P (sym none) tt
+    doubt_after now (inr this) =
         let P : Doubtful → Type 0 = IsDoubtOf images used rows h.was start failed in
         subst P (sym this) (doubt_of_it images used rows h.was start failed written of_this_fault)
 
     -- it failed
-    pub over_failed : (now : Doubtful) → IsLeft h.doubt written now → Stands may_leave journal' h.was now → rows_of tables' ≡ rows → HasRunOver may_leave moment left_since images used tables' journal' since start failed
+    pub over_failed : (now : Doubtful) → IsLeft written now → Stands disk_says journal' h.was now → rows_of tables' ≡ rows → HasRunOver disk_says images used tables' journal' since start failed
     over_failed now after_fault stands rows_are =
         let On : List Deed → Type 0 = Stand rows in
         let Has : AllRows → Type 0 = HasAllRows h.was in

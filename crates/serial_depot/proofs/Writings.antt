@@ -1,25 +1,37 @@
 -- What a place writes to the journal's disk.
-use Rattle.std.proofs.Common.{◌≡◌, ◌≢◌, ℕ, ◌+◌, ◌<◌, Bool, true, false, List, [], length, refl, sym, ap, subst, ◌∙◌}
-use Rattle.outside_api.specs.Disk.{Files}
+use Rattle.std.proofs.Common.{◌≡◌, ◌⊎◌, inl, inr, ℕ, ◌+◌, ◌<◌, true, false, List, refl, sym, ap, subst, ◌∙◌}
+use Rattle.outside_api.specs.Says.{DiskSays}
 use Rattle.depot_rows.specs.db_records.declared.change.Change.{Change}
 use Rattle.checkpoint_file.specs.Checkpoint.{IsCheckpointOf, puts_of}
 use Rattle.checkpoint_file.proofs.NextRows.{next_rows}
 use Rattle.checkpoint_file.proofs.Texts.{next_records}
 use Rattle.disk_journal.specs.Images.{Committed, with_generation, with_group}
-use Rattle.disk_journal.specs.Stands.{Doubtful, IsPrepared, Stands, generation_of_journal, group, next_number, opening}
+use Rattle.disk_journal.specs.Stands.{Doubtful, IsPrepared, IsStill, Stands, generation_of_journal, group, next_number, nothing, opening}
 use Rattle.disk_journal.specs.declared.journal.Journal.{Journal}
 use Rattle.journal_groups.specs.Groups.{AreRecords, IsGroup, group_text}
 use Rattle.recovery.specs.Holding.{HasAllRows}
 use Rattle.depot_rows.specs.table_changes.Changed.{AllFitIn, AllRows, changed_by}
-use Rattle.serial_depot.specs.Writing.{CanWrite, IsWritingOf}
+use Rattle.serial_depot.specs.Writing.{CanWrite, IsWritingOf, StandsBy}
 use Rattle.serial_depot.specs.declared.writing.Writing.{Writing}
 use Rattle.serial_depot.specs.declared.writing.Writing.TheVariants.{Group, Generation}
 use Rattle.serial_depot.proofs.Groups.{group_added}
 
 -- a journal that stands with the same committed has the same generation
-pub same_generation : {D : Type 0} (may_leave : D → Files → Type 0) (old new : Journal D) (was : Committed) (one other : Doubtful) → Stands may_leave old was one → Stands may_leave new was other
+pub same_generation : {D : Type 0} (disk_says : DiskSays D) (old new : Journal D) (was : Committed) (one other : Doubtful) → Stands disk_says old was one → Stands disk_says new was other
     → generation_of_journal new ≡ generation_of_journal old
-same_generation may_leave old new was one other before now = now.generation ∙ sym before.generation
+same_generation disk_says old new was one other before now = now.generation ∙ sym before.generation
+
+-- what is in doubt where a writing failed
+pub left : {D : Type 0} (disk_says : DiskSays D) (old new : Journal D) (was : Committed) (written : Doubtful)
+    → IsStill disk_says old new was ⊎ Stands disk_says new was written → StandsBy disk_says new was written true
+left disk_says old new was written (inl still) = (nothing, inl refl, still.stands)
+left disk_says old new was written (inr stands) = (written, inr refl, stands)
+
+-- where a journal stands with nothing in doubt, nothing is
+pub no_doubt : {D : Type 0} (disk_says : DiskSays D) (journal : Journal D) (was other : Committed) (doubt : Doubtful) → Stands disk_says journal was nothing → Stands disk_says journal other doubt → doubt ≡ nothing
+no_doubt disk_says journal was other nothing still stands = refl
+no_doubt disk_says journal was other (group text) still stands = absurd (let one = still.known in let two = stands.known.0 in cc)
+no_doubt disk_says journal was other (opening text) still stands = absurd (let one = still.known in let two = stands.known in cc)
 
 pub can_write : {D : Type 0} (old new : Journal D) (writing : Writing) → next_number new ≡ next_number old → generation_of_journal new ≡ generation_of_journal old → CanWrite old writing → CanWrite new writing
 can_write old new (Group prepared) number generation can = subst (λ (n : ℕ). IsPrepared n prepared) (sym number) can

@@ -1,7 +1,7 @@
 -- The groups of a depot's journal, and how they grow. That a place writes at most one group, or opens a generation, is this project's own choice.
 use Rattle.std.specs.Prelude.{◌≡◌, ◌≤◌, ℕ, Bool, true, false, List, [], ◌∷◌, ◌++◌, map}
 use Rattle.std.specs.List.{AllByRecursion}
-use Rattle.outside_api.specs.Disk.{Files}
+use Rattle.outside_api.specs.Says.{DiskSays}
 use Rattle.archive_file.specs.Archive.{disk_of, used_of}
 use Rattle.archive_file.specs.declared.archive.Archive.{Archive}
 use Rattle.depot_rows.specs.db_records.declared.change.Change.{Change}
@@ -24,11 +24,11 @@ abbrev pub generations_of : Chronicle → List (List (List Change))
 generations_of c = c.closed ++ c.newest ∷ []
 
 -- The journal's disk tells what it reads, and each image of it has these groups in the file of each generation. What is in doubt is none of them.
-pub record HasGroups {D : Type 0} (seen may_leave : D → Files → Type 0) (journal : Journal D) (c : Chronicle) : Type 0 where
+pub record HasGroups {D : Type 0} (disk_says : DiskSays D) (journal : Journal D) (c : Chronicle) : Type 0 where
   pub was : Committed
   pub doubt : Doubtful
-  pub stands : Stands may_leave journal was doubt
-  pub keeps : KeepsOlder seen may_leave journal (map (group_texts 1) c.closed)
+  pub stands : Stands disk_says journal was doubt
+  pub keeps : KeepsOlder disk_says journal (map (group_texts 1) c.closed)
   pub are : was.groups ≡ group_texts 1 c.newest
   pub are_groups : AllByRecursion (AllByRecursion IsGroup) (generations_of c)
 
@@ -36,7 +36,7 @@ pub record HasGroups {D : Type 0} (seen may_leave : D → Files → Type 0) (jou
 
 -- what was written is the group of changes, by its number; or, where a generation is opened, its checkpoint
 abbrev pub IsWritten : ℕ → Bool → Doubtful → List Change → Type 0
-IsWritten number false written changes = written ≡ group (group_text number changes)
+IsWritten number false written changes = (written ≡ group (group_text number changes)) × IsGroup changes
 IsWritten number true written changes = (checkpoint : List ℕ) × (written ≡ opening checkpoint)
 
 -- the groups before the newest generation, after what was written or whose writing failed
@@ -64,6 +64,6 @@ grown opens fault (change ∷ changes) c = landed opens fault (change ∷ change
 -- ---- the contents
 
 -- the archive keeps what lies below the end of what was used of it, and this end doesn't fall
-pub record KeepsStored {D : Type 0} (may_leave : D → Files → Type 0) (old new : Archive D) : Type 0 where
-  pub below : KeepsBelow (may_leave (disk_of old)) (may_leave (disk_of new)) (used_of old)
+pub record KeepsStored {D : Type 0} (disk_says : DiskSays D) (old new : Archive D) : Type 0 where
+  pub below : KeepsBelow (disk_says.may_leave (disk_of old)) (disk_says.may_leave (disk_of new)) (used_of old)
   pub more : used_of old ≤ used_of new

@@ -1,11 +1,11 @@
 pub mod Committing
-pub mod Ending
 pub mod Fetching
 pub mod Growing
 pub mod Holding
 pub mod Opening
 pub mod Placing
 pub mod Running
+pub mod StoreLaws
 pub mod Storing
 pub mod Telling
 pub mod Writing

@@ -1,6 +1,7 @@
 -- A depot in files that has taken commands.
-use Rattle.std.specs.Prelude.{◌≡◌, ℕ, ◌≤◌, true, List, ◌∷◌, ◌++◌, length}
+use Rattle.std.specs.Prelude.{◌≡◌, ℕ, ◌≤◌, true, List, ◌∷◌, ◌++◌}
 use Rattle.outside_api.specs.Disk.{Files}
+use Rattle.outside_api.specs.Says.{DiskSays}
 use Rattle.archive_file.specs.Archive as archives
 use Rattle.disk_journal.specs.Images.{Committed, with_generation, with_group}
 use Rattle.disk_journal.specs.Stands.{Doubtful, nothing, group, opening, Stands}
@@ -44,33 +45,33 @@ IsDoubtOf images used rows was start places (group text) = IsOfFault images used
 IsDoubtOf images used rows was start places (opening checkpoint) = IsOfFault images used rows was (with_generation was checkpoint) start places
 
 -- A journal at which a group or a generation can be written: what is committed of it is known, and what is in doubt.
-abbrev pub CanCommit : {D : Type 0} → (D → Files → Type 0) → Journal D → Type 0
-CanCommit may_leave journal = (was : Committed) × ((doubt : Doubtful) × Stands may_leave journal was doubt)
+abbrev pub CanCommit : {D : Type 0} → DiskSays D → Journal D → Type 0
+CanCommit disk_says journal = (was : Committed) × ((doubt : Doubtful) × Stands disk_says journal was doubt)
 
 -- Since that moment tables and a journal took the commands of these places, from the depot `start` on, beside an archive whose disk may leave these images
 -- and is used up to a place: the tables have the rows of the run, the journal has them too and at most one group or generation in doubt, each of the images
 -- has the contents, below the end of what is used, and each image of the journal's disk since is kept for some of the places.
-pub record HasRunOver {D : Type 0} (may_leave : D → Files → Type 0) (moment : D → ℕ) (left_since : D → ℕ → Files → Type 0) (images : Files → Type 0) (used : ℕ) (tables : Tables) (journal : Journal D) (since : ℕ) (start : List Deed) (places : List Placed) : Type 0 where
+pub record HasRunOver {D : Type 0} (disk_says : DiskSays D) (images : Files → Type 0) (used : ℕ) (tables : Tables) (journal : Journal D) (since : ℕ) (start : List Deed) (places : List Placed) : Type 0 where
   pub was : Committed
   pub doubt : Doubtful
-  pub stands : Stands may_leave journal was doubt
+  pub stands : Stands disk_says journal was doubt
   pub has : HasAllRows was (rows_of tables)
   pub stand : Stand (rows_of tables) (taken step start places)
   pub generation : generation_in (taken step start places) ≡ was.generation
   pub kept : KeepContents images used (rows_of tables) (taken step start places)
   pub in_doubt : IsDoubtOf images used (rows_of tables) was start places doubt
-  pub later : since ≤ moment journal.disk
-  pub any_moment : (image : Files) → left_since journal.disk since image → IsKeptSometime images used start places image
+  pub later : since ≤ disk_says.moment journal.disk
+  pub any_moment : (image : Files) → disk_says.left_since journal.disk since image → IsKeptSometime images used start places image
 
 -- So did a depot, beside its own archive, whose disk tells what it reads.
-pub record HasRun {D : Type 0} (seen may_leave : D → Files → Type 0) (moment : D → ℕ) (left_since : D → ℕ → Files → Type 0) (depot : SerialDepot D) (since : ℕ) (start : List Deed) (places : List Placed) : Type 0 where
-  pub tells : (files : Files) × seen (archives.disk_of depot.archive) files
-  pub over : HasRunOver may_leave moment left_since (may_leave (archives.disk_of depot.archive)) (archives.used_of depot.archive) depot.tables depot.journal since start places
+pub record HasRun {D : Type 0} (disk_says : DiskSays D) (depot : SerialDepot D) (since : ℕ) (start : List Deed) (places : List Placed) : Type 0 where
+  pub tells : (files : Files) × disk_says.seen (archives.disk_of depot.archive) files
+  pub over : HasRunOver disk_says (disk_says.may_leave (archives.disk_of depot.archive)) (archives.used_of depot.archive) depot.tables depot.journal since start places
 
 -- The journal is one that can commit, and the archive one that can store behind what is used of it, of which the tables know.
-pub record CanTake {D : Type 0} (may_leave : D → Files → Type 0) (depot : SerialDepot D) : Type 0 where
+pub record CanTake {D : Type 0} (disk_says : DiskSays D) (depot : SerialDepot D) : Type 0 where
   pub was : Committed
   pub doubt : Doubtful
-  pub stands : Stands may_leave depot.journal was doubt
+  pub stands : Stands disk_says depot.journal was doubt
   pub end : depot.tables.archive_end ≡ archives.used_of depot.archive
-  pub room : AllReach (may_leave (archives.disk_of depot.archive)) (archives.used_of depot.archive)
+  pub room : AllReach (disk_says.may_leave (archives.disk_of depot.archive)) (archives.used_of depot.archive)

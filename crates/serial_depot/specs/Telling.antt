@@ -1,5 +1,5 @@
 -- What a command is answered and does, once its reply is printed. This project's own choice.
-use Rattle.std.specs.Prelude.{◌≡◌, ℕ, All, IsTrue, false, List, [], ◌∷◌}
+use Rattle.std.specs.Prelude.{◌≡◌, ◌⊎◌, ℕ, All, IsTrue, true, false, List, [], ◌∷◌}
 use Rattle.command_core.specs.declared.outcome.Outcome.{Outcome}
 use Rattle.depot_rows.specs.depot_model.Deeds.{Deed}
 use Rattle.depot_rows.specs.depot_model.Printed.{printed}
@@ -20,3 +20,7 @@ pub record IsTold (outcome : Outcome) (number : ℕ) (told : Told) : Type 0 wher
 -- unless a content couldn't be read, the reply is that of the request after a depot
 abbrev pub IsReplyOf : List Deed → Request → Told → Type 0
 IsReplyOf d request told = told.unread ≡ false → told.reply ≡ printed (step d request).rows request.number
+
+-- nothing is written for it: it changes nothing, or a content couldn't be read
+abbrev pub IsUnwritten : Told → Type 0
+IsUnwritten told = (told.changes ≡ []) ⊎ (told.unread ≡ true)

@@ -1,6 +1,6 @@
 -- What a place writes to the disk of the journal, and what that leaves. This project's own choice.
 use Rattle.std.specs.Prelude.{◌≡◌, ◌⊎◌, ◌+◌, ◌<◌, ℕ, Bool, true, false, List, length, if◌then◌else◌}
-use Rattle.outside_api.specs.Disk.{Files}
+use Rattle.outside_api.specs.Says.{DiskSays}
 use Rattle.depot_rows.specs.db_records.declared.change.Change.{Change}
 use Rattle.disk_journal.specs.Images.{Committed, with_generation, with_group}
 use Rattle.disk_journal.specs.Stands.{Doubtful, nothing, group, opening, IsPrepared, Stands, generation_of_journal, group_of, next_number}
@@ -30,14 +30,14 @@ abbrev pub CanWrite : {D : Type 0} → Journal D → Writing → Type 0
 CanWrite journal (Group prepared) = IsPrepared (next_number journal) prepared
 CanWrite journal (Generation text) = generation_of_journal journal < 4095
 
--- what may be in doubt where a writing failed: what was before, nothing, or what was written
-abbrev pub IsLeft : Doubtful → Doubtful → Doubtful → Type 0
-IsLeft doubt written now = (now ≡ doubt) ⊎ ((now ≡ nothing) ⊎ (now ≡ written))
+-- what may be in doubt where a writing failed: nothing, or what was written
+abbrev pub IsLeft : Doubtful → Doubtful → Type 0
+IsLeft written now = (now ≡ nothing) ⊎ (now ≡ written)
 
 -- the journal has what was written; or the disk failed, and it has what it had, perhaps with that in doubt
-abbrev pub StandsBy : {D : Type 0} → (D → Files → Type 0) → Journal D → Committed → Doubtful → Doubtful → Bool → Type 0
-StandsBy may_leave journal was doubt written false = Stands may_leave journal (with_doubtful was written) nothing
-StandsBy may_leave journal was doubt written true = (now : Doubtful) × IsLeft doubt written now × Stands may_leave journal was now
+abbrev pub StandsBy : {D : Type 0} → DiskSays D → Journal D → Committed → Doubtful → Bool → Type 0
+StandsBy disk_says journal was written false = Stands disk_says journal (with_doubtful was written) nothing
+StandsBy disk_says journal was written true = (now : Doubtful) × IsLeft written now × Stands disk_says journal was now
 
 -- With what is written, what is committed has the rows after the changes, and is of the next generation if one is opened.
 pub record IsWritingOf (rows now : AllRows) (number generation : ℕ) (opens : Bool) (written : Doubtful) (changes : List Change) : Type 0 where

@@ -33,10 +33,10 @@ pub fn fetch_texts<D: Disk>(
     buffer: &mut [u8],
 ) -> Result<Fetched, DiskFault>
     requires room { 0 < length buffer.old }
-    ensures answers { (depot : AnyDepot D) (texts : List (List ℕ)) → depot.journal ≡ journal.old → HasTexts D.seen D.may_leave depot texts → IfOk result (λ fetched. Answers texts generation at fetched buffer.new) }
+    ensures answers { (depot : AnyDepot D) (texts : List (List ℕ)) → depot.journal ≡ journal.old → HasTexts D.says depot texts → IfOk result (λ fetched. Answers texts generation at fetched buffer.new) }
     ensures fits { IfOk result (λ fetched. Fits fetched (length buffer.old)) }
-    ensures fetched { IsFetched D.seen D.may_leave D.moment D.left_since journal.old journal.new }
-    ensures cause { HasCause (D.faults (disk_of journal.old)) (D.faults (disk_of journal.new)) result }
+    ensures fetched { IsFetched D.says journal.old journal.new }
+    ensures cause { HasCause (D.says.faults (disk_of journal.old)) (D.says.faults (disk_of journal.new)) result }
 {
     journal.fetch(generation, at, buffer)
 }
@@ -49,10 +49,10 @@ pub fn read_contents<D: Disk>(
     archive: &mut Archive<D>,
     places: &[RowContent],
 ) -> Result<Sequence<Text>, ContentFault>
-    ensures contents { (files : Files) (contents : List (List ℕ)) → D.seen (archive_disk_of archive.old) files → AreAt (files 0) places.now contents → IfOk result (λ texts. texts ≡ contents) }
-    ensures read { IsRead D.seen D.may_leave archive.old archive.new }
+    ensures contents { (files : Files) (contents : List (List ℕ)) → D.says.seen (archive_disk_of archive.old) files → AreAt (files 0) places.now contents → IfOk result (λ texts. texts ≡ contents) }
+    ensures read { IsRead D.says archive.old archive.new }
     ensures no_call { places.now ≡ [] → archive.new ≡ archive.old }
-    ensures cause { HasMemoryOr (D.faults (archive_disk_of archive.old)) (D.faults (archive_disk_of archive.new)) result }
+    ensures cause { HasMemoryOr (D.says.faults (archive_disk_of archive.old)) (D.says.faults (archive_disk_of archive.new)) result }
 {
     if !are_within(places, archive.used()) {
         return Err(ContentFault::Memory);
@@ -70,16 +70,16 @@ impl<D: Disk> SerialDepot<D> {
         buffer: &mut [u8],
     ) -> Result<Fetched, DiskFault>
         requires room { 0 < length buffer.old }
-        ensures answers { (texts : List (List ℕ)) → HasTexts D.seen D.may_leave self.old texts → IfOk result (λ fetched. Answers texts generation at fetched buffer.new) }
+        ensures answers { (texts : List (List ℕ)) → HasTexts D.says self.old texts → IfOk result (λ fetched. Answers texts generation at fetched buffer.new) }
         ensures fits { IfOk result (λ fetched. Fits fetched (length buffer.old)) }
-        ensures can { CanTake D.may_leave self.old → CanTake D.may_leave self.new }
-        ensures ran { (since : ℕ) (start : List Deed) (places : List Placed) → HasRun D.seen D.may_leave D.moment D.left_since self.old since start places →
-            HasRun D.seen D.may_leave D.moment D.left_since self.new since start places }
-        ensures groups { (c : Chronicle) → HasGroups D.seen D.may_leave self.old.journal c → HasGroups D.seen D.may_leave self.new.journal c }
+        ensures can { CanTake D.says self.old → CanTake D.says self.new }
+        ensures ran { (since : ℕ) (start : List Deed) (places : List Placed) → HasRun D.says self.old since start places →
+            HasRun D.says self.new since start places }
+        ensures groups { (c : Chronicle) → HasGroups D.says self.old.journal c → HasGroups D.says self.new.journal c }
         ensures tables { self.new.tables ≡ self.old.tables }
         ensures archive { self.new.archive ≡ self.old.archive }
-        ensures stored { KeepsStored D.may_leave self.old.archive self.new.archive }
-        ensures cause { HasCause (D.faults (disk_of self.old.journal)) (D.faults (disk_of self.new.journal)) result }
+        ensures stored { KeepsStored D.says self.old.archive self.new.archive }
+        ensures cause { HasCause (D.says.faults (disk_of self.old.journal)) (D.says.faults (disk_of self.new.journal)) result }
     {
         fetch_texts(&mut self.journal, generation, at, buffer)
     }
@@ -91,16 +91,16 @@ impl<D: Disk> SerialDepot<D> {
         alloc: Global,
         places: &[RowContent],
     ) -> Result<Sequence<Text>, ContentFault>
-        ensures contents { (files : Files) (contents : List (List ℕ)) → D.seen (archive_disk_of self.old.archive) files → AreAt (files 0) places.now contents → IfOk result (λ texts. texts ≡ contents) }
-        ensures can { CanTake D.may_leave self.old → CanTake D.may_leave self.new }
-        ensures ran { (since : ℕ) (start : List Deed) (places : List Placed) → HasRun D.seen D.may_leave D.moment D.left_since self.old since start places →
-            HasRun D.seen D.may_leave D.moment D.left_since self.new since start places }
+        ensures contents { (files : Files) (contents : List (List ℕ)) → D.says.seen (archive_disk_of self.old.archive) files → AreAt (files 0) places.now contents → IfOk result (λ texts. texts ≡ contents) }
+        ensures can { CanTake D.says self.old → CanTake D.says self.new }
+        ensures ran { (since : ℕ) (start : List Deed) (places : List Placed) → HasRun D.says self.old since start places →
+            HasRun D.says self.new since start places }
         ensures tables { self.new.tables ≡ self.old.tables }
         ensures journal { self.new.journal ≡ self.old.journal }
-        ensures groups { (c : Chronicle) → HasGroups D.seen D.may_leave self.old.journal c → HasGroups D.seen D.may_leave self.new.journal c }
-        ensures stored { KeepsStored D.may_leave self.old.archive self.new.archive }
+        ensures groups { (c : Chronicle) → HasGroups D.says self.old.journal c → HasGroups D.says self.new.journal c }
+        ensures stored { KeepsStored D.says self.old.archive self.new.archive }
         ensures no_call { places.now ≡ [] → self.new ≡ self.old }
-        ensures cause { HasMemoryOr (D.faults (archive_disk_of self.old.archive)) (D.faults (archive_disk_of self.new.archive)) result }
+        ensures cause { HasMemoryOr (D.says.faults (archive_disk_of self.old.archive)) (D.says.faults (archive_disk_of self.new.archive)) result }
     {
         read_contents(alloc, &mut self.archive, places)
     }

@@ -5,14 +5,12 @@
 //! changes to the journal.
 #![tactic(auto)]
 
-mod commit;
 mod counting;
 mod depot;
-mod ending;
 mod fetching;
 mod imaging;
 mod landing;
-mod placing;
+mod store;
 mod storing;
 mod taking;
 mod telling;
@@ -22,6 +20,7 @@ mod writing;
 pub use depot::{Closed, SerialDepot};
 pub use fetching::{fetch_texts, read_contents};
 pub use imaging::Imaging;
-pub use landing::{Landed, place_contents, place_rows};
+pub use landing::{Landed, place};
+pub use store::{NoArchive, Store};
 pub use telling::{Told, tell, tell_reading};
 pub use unwritten::place_unwritten;

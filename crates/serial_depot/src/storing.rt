@@ -22,17 +22,17 @@ pub(crate) fn store_all<D: Disk>(
 ) -> Result<u64, DiskFault>
     requires above { used_of archive.old ≤ at }
     requires fits { at < 2 ^ 63 }
-    requires room { AllReach (D.may_leave (disk_of archive.old)) at }
+    requires room { AllReach (D.says.may_leave (disk_of archive.old)) at }
     ensures end { IfOk result (λ end. end ≡ stores_end contents.now at) }
     ensures fits { IfOk result (λ end. end < 2 ^ 63) }
-    ensures stored { IfOk result (λ end. AllStored (D.may_leave (disk_of archive.new)) contents.now at) }
-    ensures room { IfOk result (λ end. AllReach (D.may_leave (disk_of archive.new)) end) }
-    ensures kept { KeepsBelow (D.may_leave (disk_of archive.old)) (D.may_leave (disk_of archive.new)) at }
-    ensures told { StillTells (D.seen (disk_of archive.old)) (D.seen (disk_of archive.new)) }
+    ensures stored { IfOk result (λ end. AllStored (D.says.may_leave (disk_of archive.new)) contents.now at) }
+    ensures room { IfOk result (λ end. AllReach (D.says.may_leave (disk_of archive.new)) end) }
+    ensures kept { KeepsBelow (D.says.may_leave (disk_of archive.old)) (D.says.may_leave (disk_of archive.new)) at }
+    ensures told { StillTells (D.says.seen (disk_of archive.old)) (D.says.seen (disk_of archive.new)) }
     ensures used { used_of archive.new ≡ used_of archive.old }
     ensures no_call { contents.now ≡ [] → archive.new ≡ archive.old }
-    ensures at_most { D.calls (disk_of archive.new) ≤ D.calls (disk_of archive.old) + length contents.now + 1 }
-    ensures cause { HasCause (D.faults (disk_of archive.old)) (D.faults (disk_of archive.new)) result }
+    ensures at_most { D.says.calls (disk_of archive.new) ≤ D.says.calls (disk_of archive.old) + length contents.now + 1 }
+    ensures cause { HasCause (D.says.faults (disk_of archive.old)) (D.says.faults (disk_of archive.new)) result }
 {
     if contents.is_empty() {
         return Ok(at);
@@ -75,11 +75,11 @@ fn read_one<D: Disk>(
     place: &RowContent,
 ) -> Result<Text, ContentFault>
     requires { EndsBy (used_of archive.old) place.now }
-    ensures content { (files : Files) (content : List ℕ) → D.seen (disk_of archive.old) files → IsAt (files 0) place.now content → IfOk result (λ text. text ≡ content) }
-    ensures same { Same (D.seen (disk_of archive.old)) (D.seen (disk_of archive.new)) }
-    ensures crash { NoMore (D.may_leave (disk_of archive.old)) (D.may_leave (disk_of archive.new)) }
+    ensures content { (files : Files) (content : List ℕ) → D.says.seen (disk_of archive.old) files → IsAt (files 0) place.now content → IfOk result (λ text. text ≡ content) }
+    ensures same { Same (D.says.seen (disk_of archive.old)) (D.says.seen (disk_of archive.new)) }
+    ensures crash { NoMore (D.says.may_leave (disk_of archive.old)) (D.says.may_leave (disk_of archive.new)) }
     ensures used { used_of archive.new ≡ used_of archive.old }
-    ensures cause { HasMemoryOr (D.faults (disk_of archive.old)) (D.faults (disk_of archive.new)) result }
+    ensures cause { HasMemoryOr (D.says.faults (disk_of archive.old)) (D.says.faults (disk_of archive.new)) result }
 {
     match place {
         RowContent::At(spot) => archive.read(alloc, *spot),
@@ -98,12 +98,12 @@ pub(crate) fn read_all<D: Disk>(
     places: &[RowContent],
 ) -> Result<Sequence<Text>, ContentFault>
     requires { All (EndsBy (used_of archive.old)) places.now }
-    ensures contents { (files : Files) (contents : List (List ℕ)) → D.seen (disk_of archive.old) files → AreAt (files 0) places.now contents → IfOk result (λ texts. texts ≡ contents) }
-    ensures same { Same (D.seen (disk_of archive.old)) (D.seen (disk_of archive.new)) }
-    ensures crash { NoMore (D.may_leave (disk_of archive.old)) (D.may_leave (disk_of archive.new)) }
+    ensures contents { (files : Files) (contents : List (List ℕ)) → D.says.seen (disk_of archive.old) files → AreAt (files 0) places.now contents → IfOk result (λ texts. texts ≡ contents) }
+    ensures same { Same (D.says.seen (disk_of archive.old)) (D.says.seen (disk_of archive.new)) }
+    ensures crash { NoMore (D.says.may_leave (disk_of archive.old)) (D.says.may_leave (disk_of archive.new)) }
     ensures used { used_of archive.new ≡ used_of archive.old }
     ensures no_call { places.now ≡ [] → archive.new ≡ archive.old }
-    ensures cause { HasMemoryOr (D.faults (disk_of archive.old)) (D.faults (disk_of archive.new)) result }
+    ensures cause { HasMemoryOr (D.says.faults (disk_of archive.old)) (D.says.faults (disk_of archive.new)) result }
 {
     let mut contents = Sequence::new(alloc);
     for place in places {

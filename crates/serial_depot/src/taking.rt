@@ -19,8 +19,9 @@ ghost use Rattle.serial_depot.specs.Opening.{opens_generation};
 ghost use Rattle.serial_depot.specs.Running.{CanTake, HasRun};
 
 use crate::depot::SerialDepot;
-use crate::landing::place_contents;
+use crate::landing::place;
 use crate::telling::tell_reading;
+use archive_file::Archive;
 use command_core::{Outcome, evaluate};
 use depot_rows::model::{Answer, Request};
 use depot_rows::tables::Tables;
@@ -40,29 +41,29 @@ impl<D: Disk> SerialDepot<D> {
         outcome: Outcome,
         changed: Option<Tables>,
     ) -> Result<Answer, AllocError>
-        requires can { CanTake D.may_leave self.old }
+        requires can { CanTake D.says self.old }
         requires fit { changed ≡ None → AllFitIn (rows_of self.old.tables) outcome.changes }
-        ensures can { CanTake D.may_leave self.new }
-        ensures ran { (since : ℕ) (start : List Deed) (places : List Placed) → HasRun D.seen D.may_leave D.moment D.left_since self.old since start places → IsProper request.now →
+        ensures can { CanTake D.says self.new }
+        ensures ran { (since : ℕ) (start : List Deed) (places : List Placed) → HasRun D.says self.old since start places → IsProper request.now →
             IsOutcomeOf (rows_of self.old.tables) self.old.tables.archive_end request.now outcome → IfSome changed (λ given. rows_of given ≡ changed_by (rows_of self.old.tables) outcome.changes) →
-            IfOk result (λ answer. HasRun D.seen D.may_leave D.moment D.left_since self.new since start (with_place places request.now answer)) }
-        ensures answers { (since : ℕ) (start : List Deed) (places : List Placed) → HasRun D.seen D.may_leave D.moment D.left_since self.old since start places →
+            IfOk result (λ answer. HasRun D.says self.new since start (with_place places request.now answer)) }
+        ensures answers { (since : ℕ) (start : List Deed) (places : List Placed) → HasRun D.says self.old since start places →
             IsOutcomeOf (rows_of self.old.tables) self.old.tables.archive_end request.now outcome → IfOk result (Answers start places request.now) }
-        ensures nothing { (since : ℕ) (start : List Deed) (places : List Placed) → HasRun D.seen D.may_leave D.moment D.left_since self.old since start places →
-            OnErr result (HasRun D.seen D.may_leave D.moment D.left_since self.new since start places) }
+        ensures nothing { (since : ℕ) (start : List Deed) (places : List Placed) → HasRun D.says self.old since start places →
+            OnErr result (HasRun D.says self.new since start places) }
         ensures rows { IfSome changed (λ given. rows_of given ≡ changed_by (rows_of self.old.tables) outcome.changes) →
             IfOk result (λ answer. AreRowsAfter (rows_of self.old.tables) outcome.changes answer.place.fault (rows_of self.new.tables)) }
         ensures same_tables { OnErr result (self.new.tables ≡ self.old.tables) }
         ensures grows { (d : List Deed) (c : Chronicle) → Stand (rows_of self.old.tables) d → IsProper request.now → IsOutcomeOf (rows_of self.old.tables) self.old.tables.archive_end request.now outcome →
-            HasGroups D.seen D.may_leave self.old.journal c → IfOk result (λ answer. HasGroups D.seen D.may_leave self.new.journal (grown (opens_generation request.now) answer.place.fault outcome.changes c)) }
+            HasGroups D.says self.old.journal c → IfOk result (λ answer. HasGroups D.says self.new.journal (grown (opens_generation request.now) answer.place.fault outcome.changes c)) }
         ensures same_journal { OnErr result (self.new.journal ≡ self.old.journal) }
-        ensures stored { KeepsStored D.may_leave self.old.archive self.new.archive }
+        ensures stored { KeepsStored D.says self.old.archive self.new.archive }
         ensures end { outcome.stores ≡ [] → self.new.tables.archive_end ≡ self.old.tables.archive_end }
         ensures no_write { outcome.changes ≡ [] → (self.new.journal ≡ self.old.journal) × (self.new.tables ≡ self.old.tables) }
         ensures no_call { outcome.changes ≡ [] → outcome.reads ≡ [] → self.new ≡ self.old }
-        ensures never_falls { D.faults (disk_of self.old.journal) ≤ D.faults (disk_of self.new.journal) }
-        ensures never_falls_contents { D.faults (archive_disk_of self.old.archive) ≤ D.faults (archive_disk_of self.new.archive) }
-        ensures cause { IfOk result (λ answer. answer.place.fault ≡ true → HasRisen (D.faults (disk_of self.old.journal)) (D.faults (disk_of self.new.journal)) ⊎ HasRisen (D.faults (archive_disk_of self.old.archive)) (D.faults (archive_disk_of self.new.archive))) }
+        ensures never_falls { D.says.faults (disk_of self.old.journal) ≤ D.says.faults (disk_of self.new.journal) }
+        ensures never_falls_contents { D.says.faults (archive_disk_of self.old.archive) ≤ D.says.faults (archive_disk_of self.new.archive) }
+        ensures cause { IfOk result (λ answer. answer.place.fault ≡ true → HasRisen (D.says.faults (disk_of self.old.journal)) (D.says.faults (disk_of self.new.journal)) ⊎ HasRisen (D.says.faults (archive_disk_of self.old.archive)) (D.says.faults (archive_disk_of self.new.archive))) }
     {
         let told = match tell_reading(alloc, &mut self.archive, outcome, request.number) {
             Ok(told) => told,
@@ -72,7 +73,7 @@ impl<D: Disk> SerialDepot<D> {
             }
         };
         gate.pass(request.party, request.number);
-        match place_contents::<D, Brand>(
+        match place::<D, Archive<D>, Brand>(
             alloc,
             &mut self.tables,
             &mut self.journal,
@@ -99,24 +100,24 @@ impl<D: Disk> SerialDepot<D> {
         outcome: Outcome,
         changed: Tables,
     ) -> Result<Answer, AllocError>
-        requires { CanTake D.may_leave self.old }
-        ensures can { CanTake D.may_leave self.new }
-        ensures ran { (since : ℕ) (start : List Deed) (places : List Placed) → HasRun D.seen D.may_leave D.moment D.left_since self.old since start places → IsProper request.now →
+        requires { CanTake D.says self.old }
+        ensures can { CanTake D.says self.new }
+        ensures ran { (since : ℕ) (start : List Deed) (places : List Placed) → HasRun D.says self.old since start places → IsProper request.now →
             IsOutcomeOf (rows_of self.old.tables) self.old.tables.archive_end request.now outcome → rows_of changed ≡ changed_by (rows_of self.old.tables) outcome.changes →
-            IfOk result (λ answer. HasRun D.seen D.may_leave D.moment D.left_since self.new since start (with_place places request.now answer)) }
-        ensures answers { (since : ℕ) (start : List Deed) (places : List Placed) → HasRun D.seen D.may_leave D.moment D.left_since self.old since start places →
+            IfOk result (λ answer. HasRun D.says self.new since start (with_place places request.now answer)) }
+        ensures answers { (since : ℕ) (start : List Deed) (places : List Placed) → HasRun D.says self.old since start places →
             IsOutcomeOf (rows_of self.old.tables) self.old.tables.archive_end request.now outcome → IfOk result (Answers start places request.now) }
-        ensures nothing { (since : ℕ) (start : List Deed) (places : List Placed) → HasRun D.seen D.may_leave D.moment D.left_since self.old since start places →
-            OnErr result (HasRun D.seen D.may_leave D.moment D.left_since self.new since start places) }
+        ensures nothing { (since : ℕ) (start : List Deed) (places : List Placed) → HasRun D.says self.old since start places →
+            OnErr result (HasRun D.says self.new since start places) }
         ensures rows { rows_of changed ≡ changed_by (rows_of self.old.tables) outcome.changes →
             IfOk result (λ answer. AreRowsAfter (rows_of self.old.tables) outcome.changes answer.place.fault (rows_of self.new.tables)) }
         ensures same_tables { OnErr result (self.new.tables ≡ self.old.tables) }
         // The journal has one group more, or the next generation where the request opens one; at a fault, and without changes, it has the groups that it had.
         ensures grows { (d : List Deed) (c : Chronicle) → Stand (rows_of self.old.tables) d → IsProper request.now → IsOutcomeOf (rows_of self.old.tables) self.old.tables.archive_end request.now outcome →
-            HasGroups D.seen D.may_leave self.old.journal c → IfOk result (λ answer. HasGroups D.seen D.may_leave self.new.journal (grown (opens_generation request.now) answer.place.fault outcome.changes c)) }
+            HasGroups D.says self.old.journal c → IfOk result (λ answer. HasGroups D.says self.new.journal (grown (opens_generation request.now) answer.place.fault outcome.changes c)) }
         ensures same_journal { OnErr result (self.new.journal ≡ self.old.journal) }
         // What lies in the archive below the end of what was used stays.
-        ensures stored { KeepsStored D.may_leave self.old.archive self.new.archive }
+        ensures stored { KeepsStored D.says self.old.archive self.new.archive }
         // With nothing to store the contents in the archive end where they did.
         ensures end { outcome.stores ≡ [] → self.new.tables.archive_end ≡ self.old.tables.archive_end }
         // A command after which no row differs makes no call of the journal's disk, and none of the archive's where it prints no content.
@@ -124,9 +125,9 @@ impl<D: Disk> SerialDepot<D> {
             SameRows d (after d (step d request.now).deeds) → (self.new.journal ≡ self.old.journal) × (self.new.tables ≡ self.old.tables) }
         ensures no_call { (d : List Deed) → Stand (rows_of self.old.tables) d → IsOutcomeOf (rows_of self.old.tables) self.old.tables.archive_end request.now outcome →
             SameRows d (after d (step d request.now).deeds) → contents_of (step d request.now).rows ≡ [] → self.new ≡ self.old }
-        ensures never_falls { D.faults (disk_of self.old.journal) ≤ D.faults (disk_of self.new.journal) }
-        ensures never_falls_contents { D.faults (archive_disk_of self.old.archive) ≤ D.faults (archive_disk_of self.new.archive) }
-        ensures cause { IfOk result (λ answer. answer.place.fault ≡ true → HasRisen (D.faults (disk_of self.old.journal)) (D.faults (disk_of self.new.journal)) ⊎ HasRisen (D.faults (archive_disk_of self.old.archive)) (D.faults (archive_disk_of self.new.archive))) }
+        ensures never_falls { D.says.faults (disk_of self.old.journal) ≤ D.says.faults (disk_of self.new.journal) }
+        ensures never_falls_contents { D.says.faults (archive_disk_of self.old.archive) ≤ D.says.faults (archive_disk_of self.new.archive) }
+        ensures cause { IfOk result (λ answer. answer.place.fault ≡ true → HasRisen (D.says.faults (disk_of self.old.journal)) (D.says.faults (disk_of self.new.journal)) ⊎ HasRisen (D.says.faults (archive_disk_of self.old.archive)) (D.says.faults (archive_disk_of self.new.archive))) }
     {
         self.take_outcome(alloc, gate, request, outcome, Some(changed))
     }
@@ -138,22 +139,22 @@ impl<D: Disk> SerialDepot<D> {
         gate: &G,
         request: &Request,
     ) -> Result<Answer, AllocError>
-        requires { CanTake D.may_leave self.old }
-        ensures can { CanTake D.may_leave self.new }
-        ensures ran { (since : ℕ) (start : List Deed) (places : List Placed) → HasRun D.seen D.may_leave D.moment D.left_since self.old since start places → IsProper request.now →
-            IfOk result (λ answer. HasRun D.seen D.may_leave D.moment D.left_since self.new since start (with_place places request.now answer)) }
-        ensures answers { (since : ℕ) (start : List Deed) (places : List Placed) → HasRun D.seen D.may_leave D.moment D.left_since self.old since start places → IsProper request.now →
+        requires { CanTake D.says self.old }
+        ensures can { CanTake D.says self.new }
+        ensures ran { (since : ℕ) (start : List Deed) (places : List Placed) → HasRun D.says self.old since start places → IsProper request.now →
+            IfOk result (λ answer. HasRun D.says self.new since start (with_place places request.now answer)) }
+        ensures answers { (since : ℕ) (start : List Deed) (places : List Placed) → HasRun D.says self.old since start places → IsProper request.now →
             IfOk result (Answers start places request.now) }
-        ensures nothing { (since : ℕ) (start : List Deed) (places : List Placed) → HasRun D.seen D.may_leave D.moment D.left_since self.old since start places →
-            OnErr result (HasRun D.seen D.may_leave D.moment D.left_since self.new since start places) }
+        ensures nothing { (since : ℕ) (start : List Deed) (places : List Placed) → HasRun D.says self.old since start places →
+            OnErr result (HasRun D.says self.new since start places) }
         // A command after which no row differs makes no call of the journal's disk, and none of the archive's where it prints no content.
         ensures no_write { (d : List Deed) → Stand (rows_of self.old.tables) d → IsProper request.now → SameRows d (after d (step d request.now).deeds) →
             (self.new.journal ≡ self.old.journal) × (self.new.tables ≡ self.old.tables) }
         ensures no_call { (d : List Deed) → Stand (rows_of self.old.tables) d → IsProper request.now → SameRows d (after d (step d request.now).deeds) →
             contents_of (step d request.now).rows ≡ [] → self.new ≡ self.old }
-        ensures never_falls { D.faults (disk_of self.old.journal) ≤ D.faults (disk_of self.new.journal) }
-        ensures never_falls_contents { D.faults (archive_disk_of self.old.archive) ≤ D.faults (archive_disk_of self.new.archive) }
-        ensures cause { IfOk result (λ answer. answer.place.fault ≡ true → HasRisen (D.faults (disk_of self.old.journal)) (D.faults (disk_of self.new.journal)) ⊎ HasRisen (D.faults (archive_disk_of self.old.archive)) (D.faults (archive_disk_of self.new.archive))) }
+        ensures never_falls { D.says.faults (disk_of self.old.journal) ≤ D.says.faults (disk_of self.new.journal) }
+        ensures never_falls_contents { D.says.faults (archive_disk_of self.old.archive) ≤ D.says.faults (archive_disk_of self.new.archive) }
+        ensures cause { IfOk result (λ answer. answer.place.fault ≡ true → HasRisen (D.says.faults (disk_of self.old.journal)) (D.says.faults (disk_of self.new.journal)) ⊎ HasRisen (D.says.faults (archive_disk_of self.old.archive)) (D.says.faults (archive_disk_of self.new.archive))) }
     {
         let outcome = evaluate(alloc, &self.tables, request)?;
         let answer = self.take_outcome(alloc, gate, request, outcome, None)?;
@@ -162,17 +163,17 @@ impl<D: Disk> SerialDepot<D> {
 }
 
 impl<D: Disk> Taker for SerialDepot<D> {
-    ghost can_take = { λ depot. CanTake D.may_leave depot };
+    ghost can_take = { λ depot. CanTake D.says depot };
 
-    ghost has_run = { λ depot since start places. HasRun D.seen D.may_leave D.moment D.left_since depot since start places };
+    ghost has_run = { λ depot since start places. HasRun D.says depot since start places };
 
     ghost unwritten = { λ old new. (new.journal ≡ old.journal) × (new.tables ≡ old.tables) };
 
     ghost untouched = { λ old new. new ≡ old };
 
-    ghost faults = { λ depot. D.faults (disk_of depot.journal) };
+    ghost faults = { λ depot. D.says.faults (disk_of depot.journal) };
 
-    ghost content_faults = { λ depot. D.faults (archive_disk_of depot.archive) };
+    ghost content_faults = { λ depot. D.says.faults (archive_disk_of depot.archive) };
 
     fn take<G: Gate>(
         &mut self,

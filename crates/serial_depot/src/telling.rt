@@ -1,6 +1,6 @@
 //! What a command is answered and does, once its reply is printed.
 
-ghost use Rattle.std.specs.Prelude.{◌≡◌, ◌≤◌, ℕ, List, [], ◌∷◌, All, IsTrue, true, false, IfOk, map};
+ghost use Rattle.std.specs.Prelude.{◌≡◌, ◌≢◌, ◌≤◌, ℕ, List, [], ◌∷◌, All, IsFalse, IsTrue, true, false, IfOk, map};
 ghost use Rattle.archive_file.specs.Archive.{disk_of, used_of};
 ghost use Rattle.command_core.specs.Outcomes.{IsOutcome};
 ghost use Rattle.depot_rows.specs.depot_model.Deeds.{Deed};
@@ -15,15 +15,15 @@ ghost use Rattle.reply_rows.specs.Made.{contents_of, waiting};
 ghost use Rattle.row_texts.specs.Texts.{IsOf64Bits, is_counted};
 ghost use Rattle.serial_depot.specs.Holding.{HasItsContents};
 ghost use Rattle.serial_depot.specs.Storing.{EndsBy};
-ghost use Rattle.serial_depot.specs.Telling.{IsReplyOf, IsTold};
+ghost use Rattle.serial_depot.specs.Telling.{IsReplyOf, IsTold, IsUnwritten};
 
-use crate::commit::fault_reply;
 use crate::counting::{are_counted, know_records};
 use crate::storing::{are_within, read_all};
 use archive_file::{Archive, ContentFault};
 use command_core::Outcome;
 use depot_rows::paths::{Sequence, Text};
 use depot_rows::records::Change;
+use itoa::Buffer;
 use outside_api::Disk;
 use reply_rows::filled;
 use std::alloc::{AllocError, Global};
@@ -52,6 +52,25 @@ impl Told {
     {
         self.unread
     }
+
+    /// Whether nothing is written for it: it changes nothing, or a content couldn't be read.
+    pub fn is_unwritten(&self) -> bool
+        ensures unwritten { IsTrue result → IsUnwritten self.now }
+        ensures read { IsFalse result → self.now.unread ≡ false }
+        ensures some { IsFalse result → self.now.changes ≢ [] }
+    {
+        self.unread || self.changes.is_empty()
+    }
+}
+
+/// The reply to the command of that number where a disk failed.
+fn fault_reply(alloc: Global, number: u32) -> Result<Text, AllocError>
+    ensures { IfOk result (λ text. text ≡ printed (disk_row ∷ []) number) }
+{
+    let mut text = Text::from_bytes(alloc, b"... code 30\n... name Disk\n\n... end ")?;
+    text.append(Buffer::new().format(number).as_bytes())?;
+    text.append(b"\n\n")?;
+    Ok(text)
 }
 
 /// Whether an outcome can be committed and answered: a text may say the numbers of each row that is
@@ -156,14 +175,14 @@ pub fn tell_reading<D: Disk>(
 ) -> Result<Told, AllocError>
     ensures told { IfOk result (IsTold outcome number) }
     // The reply is the request's after each depot whose contents stand in what the archive's disk reads.
-    ensures reply { (files : Files) (rows : AllRows) (from : ℕ) (d : List Deed) (request : Request) → D.seen (disk_of archive.old) files → request.number ≡ number →
+    ensures reply { (files : Files) (rows : AllRows) (from : ℕ) (d : List Deed) (request : Request) → D.says.seen (disk_of archive.old) files → request.number ≡ number →
         HasItsContents rows d files → IsOutcome rows from d request outcome → IfOk result (IsReplyOf d request) }
-    ensures same { Same (D.seen (disk_of archive.old)) (D.seen (disk_of archive.new)) }
-    ensures crash { NoMore (D.may_leave (disk_of archive.old)) (D.may_leave (disk_of archive.new)) }
+    ensures same { Same (D.says.seen (disk_of archive.old)) (D.says.seen (disk_of archive.new)) }
+    ensures crash { NoMore (D.says.may_leave (disk_of archive.old)) (D.says.may_leave (disk_of archive.new)) }
     ensures used { used_of archive.new ≡ used_of archive.old }
     ensures no_call { outcome.reads ≡ [] → archive.new ≡ archive.old }
-    ensures never_falls { D.faults (disk_of archive.old) ≤ D.faults (disk_of archive.new) }
-    ensures cause { IfOk result (λ told. told.unread ≡ true → HasRisen (D.faults (disk_of archive.old)) (D.faults (disk_of archive.new))) }
+    ensures never_falls { D.says.faults (disk_of archive.old) ≤ D.says.faults (disk_of archive.new) }
+    ensures cause { IfOk result (λ told. told.unread ≡ true → HasRisen (D.says.faults (disk_of archive.old)) (D.says.faults (disk_of archive.new))) }
 {
     if !is_ready(&outcome, archive.used()) {
         drop(outcome);

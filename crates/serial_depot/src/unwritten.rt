@@ -1,6 +1,6 @@
 //! Places at which nothing is written.
 
-ghost use Rattle.std.specs.Prelude.{◌≡◌, ◌⊎◌, [], ℕ, List, true, false};
+ghost use Rattle.std.specs.Prelude.{◌≡◌, ℕ, List, false};
 ghost use Rattle.command_core.specs.declared.outcome.Outcome.{Outcome};
 ghost use Rattle.depot_rows.specs.depot_model.Commands.{step};
 ghost use Rattle.depot_rows.specs.depot_model.Deeds.{Deed};
@@ -9,7 +9,7 @@ ghost use Rattle.depot_rows.specs.table_changes.Changed.{AllRows};
 ghost use Rattle.session_loop.specs.Taking.{Answers, IsProper};
 ghost use Rattle.serial_depot.specs.Committing.{IsOutcomeOf};
 ghost use Rattle.serial_depot.specs.Placing.{LeavesRows};
-ghost use Rattle.serial_depot.specs.Telling.{IsReplyOf, IsTold};
+ghost use Rattle.serial_depot.specs.Telling.{IsReplyOf, IsTold, IsUnwritten};
 
 use crate::landing::answer_told;
 use crate::telling::Told;
@@ -19,7 +19,7 @@ use sound_requests::requests_are_typed;
 /// Gives its place to a command that changes nothing, or for whose reply a content couldn't be read; then the place is that of a fault. No call of a disk is
 /// made, and neither the tables nor the journal are needed.
 pub fn place_unwritten(request: &Request, told: Told) -> Answer
-    requires unwritten { (told.changes ≡ []) ⊎ (told.unread ≡ true) }
+    requires unwritten { IsUnwritten told }
     ensures fault { result.place.fault ≡ told.unread }
     ensures answers { (start : List Deed) (places : List Placed) (outcome : Outcome) → IsTold outcome request.now.number told → IsReplyOf (taken step start places) request.now told →
         Answers start places request.now result }

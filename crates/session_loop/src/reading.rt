@@ -249,14 +249,14 @@ fn asks(
 
 /// Reads a session or a replica's script from the source of its bytes.
 pub fn read_session<S: Source>(alloc: Global, source: &mut S) -> Result<ReadSession, AllocError>
-    ensures read { IfOk result (IsReadSession (S.left source.old) (S.left source.new) (S.faults source.old) (S.faults source.new)) }
+    ensures read { IfOk result (IsReadSession (S.says.left source.old) (S.says.left source.new) (S.says.faults source.old) (S.says.faults source.new)) }
     ensures few { IfOk result (λ read. length (spec.commands_of read.session) ≤ 67108864) }
     ensures few_of_replica { IfOk result (λ read. length (spec.replica_commands read.replica) ≤ 67108864) }
     ensures formed { IfOk result (λ read. spec.AreWellFormed (spec.commands_of read.session)) }
     ensures formed_of_replica { IfOk result (λ read. spec.AreWellFormed (spec.replica_commands read.replica)) }
     // A script is a session's or a replica's.
     ensures apart { IfOk result (λ read. IfSome read.replica (λ script. read.session ≡ None)) }
-    ensures counts { S.faults source.old ≤ S.faults source.new }
+    ensures counts { S.says.faults source.old ≤ S.says.faults source.new }
 {
     let ReadScript { head, entries, end } = read_script(alloc, source)?;
     let (session, replica) = asks(alloc, head, entries)?;

@@ -50,7 +50,7 @@ fn request_now<C: Clock>(
     asked: Asked,
     clock: &C,
 ) -> Result<Request, AllocError>
-    ensures { IfOk result (IsRequest (C.may_give clock.now) party number caller.now asked) }
+    ensures { IfOk result (IsRequest (C.says.may_give clock.now) party number caller.now asked) }
 {
     let place = Place {
         party,
@@ -71,7 +71,7 @@ pub fn requests_of<C: Clock>(
     clock: &C,
 ) -> Result<Vec<Request>, AllocError>
     requires { length session.commands < 2 ^ 32 }
-    ensures { IfOk result (λ requests. AreRequests (C.may_give clock.now) party 1 session.caller session.commands requests.items) }
+    ensures { IfOk result (λ requests. AreRequests (C.says.may_give clock.now) party 1 session.caller session.commands requests.items) }
 {
     let Session { caller, commands } = session;
     let mut requests = Vec::new(alloc);
@@ -93,7 +93,7 @@ pub fn session_requests<C: Clock>(
     clock: &C,
 ) -> Result<Vec<Request>, AllocError>
     requires { length (commands_of session) < 2 ^ 32 }
-    ensures { IfOk result (λ requests. AreRequestsOf (C.may_give clock.now) party session requests.items) }
+    ensures { IfOk result (λ requests. AreRequestsOf (C.says.may_give clock.now) party session requests.items) }
 {
     match session {
         Some(session) => requests_of(alloc, party, session, clock),

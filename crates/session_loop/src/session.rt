@@ -52,7 +52,7 @@ fn take_command<T: Taker, C: Clock, G: Gate>(
     requires { T.can_take taker.old }
     ensures can { T.can_take taker.new }
     ensures ok { (since : ℕ) (start : List Deed) (places : List Placed) → T.has_run taker.old since start places → AreProper asked.command asked.contents →
-        IfOk result (IsTaken (C.may_give clock.now) (T.has_run taker.new since) party number caller.now asked start places order.old.items order.new.items) }
+        IfOk result (IsTaken (C.says.may_give clock.now) (T.has_run taker.new since) party number caller.now asked start places order.old.items order.new.items) }
     ensures nothing { (since : ℕ) (start : List Deed) (places : List Placed) → T.has_run taker.old since start places → OnErr result (T.has_run taker.new since start places) }
     ensures same_order { OnErr result (order.new.items ≡ order.old.items) }
     ensures cause { AreCaused (T.faults taker.old) (T.faults taker.new) (T.content_faults taker.old) (T.content_faults taker.new) order.old.items order.new.items }
@@ -85,9 +85,9 @@ fn answer<T: Taker, K: Sink, C: Clock, G: Gate>(
     requires { T.can_take taker.old }
     ensures can { T.can_take taker.new }
     ensures answered { (since : ℕ) (start : List Deed) (places : List Placed) → T.has_run taker.old since start places → AreProper asked.command asked.contents →
-        IsAnswered (C.may_give clock.now) (T.has_run taker.new since) party number caller.now asked start places order.old.items order.new.items (K.given sink.old) (K.given sink.new) result }
+        IsAnswered (C.says.may_give clock.now) (T.has_run taker.new since) party number caller.now asked start places order.old.items order.new.items (K.says.given sink.old) (K.says.given sink.new) result }
     ensures places { AreCaused (T.faults taker.old) (T.faults taker.new) (T.content_faults taker.old) (T.content_faults taker.new) order.old.items order.new.items }
-    ensures cause { HasCause (K.faults sink.old) (K.faults sink.new) result }
+    ensures cause { HasCause (K.says.faults sink.old) (K.says.faults sink.new) result }
 {
     match take_command(
         alloc, party, number, caller, asked, clock, gate, taker, order,
@@ -117,14 +117,14 @@ pub fn run_session<T: Taker, K: Sink, C: Clock, G: Gate>(
 
     // From each depot from which the taker begins, where the commands are well-formed.
     ensures served { (sessions : List (Option Session)) (since : ℕ) (start : List Deed) → slice_get sessions (party - 1) ≡ Some (Some session) → AreWellFormed session.commands → T.has_run taker.old since start [] →
-        IsServed (C.may_give clock.now) sessions start party result.commands result.failed (K.given sink.old) (K.given sink.new) order.new.items }
+        IsServed (C.says.may_give clock.now) sessions start party result.commands result.failed (K.says.given sink.old) (K.says.given sink.new) order.new.items }
     ensures ran { (sessions : List (Option Session)) (since : ℕ) (start : List Deed) → slice_get sessions (party - 1) ≡ Some (Some session) → AreWellFormed session.commands → T.has_run taker.old since start [] →
         T.has_run taker.new since start (map (placed sessions) order.new.items) }
 
     ensures all { result.failed ≡ false → result.commands ≡ length session.commands }
     ensures within { result.commands ≤ length session.commands }
-    ensures counts { K.faults sink.old ≤ K.faults sink.new }
-    ensures cause { result.failed ≡ true → HasRisen (K.faults sink.old) (K.faults sink.new) }
+    ensures counts { K.says.faults sink.old ≤ K.says.faults sink.new }
+    ensures cause { result.failed ≡ true → HasRisen (K.says.faults sink.old) (K.says.faults sink.new) }
 
     // There are at most as many fault places as the taker's two counts rose.
     ensures faults { AreCaused (T.faults taker.old) (T.faults taker.new) (T.content_faults taker.old) (T.content_faults taker.new) [] order.new.items }

@@ -1,37 +1,41 @@
 -- One more turn of one of the parties, which is a session's or a replica's.
-use Rattle.std.proofs.Common.{◌≡◌, ℕ, zero, suc, ◌+◌, ◌<◌, Bool, true, false, cond, List, [], ◌∷◌, ◌++◌, drop, get_or, length, map, Option, Some, None, refl, sym, ap, subst, ◌∙◌, arith, inl, inr}
+use Rattle.std.proofs.Common.{◌≡◌, ℕ, zero, suc, ◌+◌, ◌<◌, Bool, true, false, cond, List, [], ◌∷◌, ◌++◌, drop, get_or, length, map, Option, Some, None, refl, sym, ap, subst, ◌∙◌, arith, inl, inr, Vec, Global}
 use Rattle.std.specs.Prelude.{slice_get, option_map}
 use Rattle.std.specs.Option.{IsSomeAnd}
 use Rattle.std.proofs.lemmas.Bool.{lt-ltb, ltb-true}
 use Rattle.std.proofs.lemmas.Option.{get_or_from_slice_get, slice_get-map, slice_get_cases}
 use Rattle.std.proofs.lemmas.List.{get_or_past}
 use Rattle.outside_api.specs.Disk.{Files}
-use Rattle.depot_rows.specs.depot_model.Deeds.{Deed}
+use Rattle.outside_api.specs.Says.{DiskSays, SinkSays}
+use Rattle.depot_rows.specs.depot_model.Places.{Placed}
 use Rattle.depot_rows.specs.depot_model.declared.order.Place.{Place}
 use Rattle.depot_rows.specs.depot_model.declared.request.Request.{Request}
 use Rattle.depot_rows.specs.depot_model.declared.request.Session.{Session}
 use Rattle.depot_runs.specs.Run.{placed}
 use Rattle.lock_core.specs.Drawing.{has_other}
 use Rattle.lock_core.specs.declared.machine.LockCore.{LockCore}
-use Rattle.lock_machine.specs.Machine.{Fault, State}
+use Rattle.lock_machine.specs.Machine.{Fault}
 use Rattle.lock_machine.proofs.Places.{set_here, some_is}
 use Rattle.run_parties.proofs.Replicas.{been_longer, been_now}
 use Rattle.run_parties.proofs.Slots.{also_at, at_set}
 use Rattle.run_parties.specs.Replicas.{HasBeenAt}
+use Rattle.run_parties.specs.serial_depot.Growing.{Chronicle, HasGroups, KeepsStored}
 use Rattle.run_parties.specs.serial_depot.Running.{HasRun}
 use Rattle.run_parties.specs.serial_depot.declared.depot.SerialDepot.{SerialDepot}
 use Rattle.session_loop.specs.Asking.{replica_commands}
 use Rattle.session_loop.specs.Requests.{AreRequestsOfAll}
 use Rattle.session_loop.specs.declared.reading.ReplicaScript.{ReplicaScript}
 use Rattle.session_loop.specs.declared.session.SessionRun.{SessionRun}
-use Rattle.session_turns.proofs.Following.{following_stays, following_turned, following_wider}
+use Rattle.session_turns.proofs.Following.{IsReplicaTurn, following_stays, following_turned, following_wider}
+use Rattle.session_turns.proofs.Telling.{along_replica, along_session}
 use Rattle.session_turns.proofs.Within.{served_other, stay_more}
-use Rattle.session_turns.specs.Answering.{IsSameAt, has_more_at}
+use Rattle.session_turns.specs.Answering.{has_more_at}
 use Rattle.session_turns.specs.Drawn.{Progress, Turn, advanced, others_turned, turned}
-use Rattle.session_turns.specs.Going.{AreBounded, AreFollowing, AreGoing, IsLeft, IsReplicaTurn}
-use Rattle.session_turns.specs.Running.{left_after}
-use Rattle.session_turns.specs.Taking.{Advances, IsRunning, TakesTurn}
+use Rattle.session_turns.specs.Going.{Advances, AreFollowing, AreGoing, IsLeft}
+use Rattle.session_turns.specs.Running.{Scene, left_after}
+use Rattle.session_turns.specs.Taking.{IsRunning, TakesTurn}
 use Rattle.session_turns.specs.declared.replicas.Replicas.{Replicas}
+use Rattle.session_turns.specs.declared.turns.Turns.{Turns}
 use Rattle.depot_rows.specs.table_changes.Changed.{rows_of}
 use Rattle.depot_rows.specs.table_store.declared.tables.Tables.{Tables}
 
@@ -55,70 +59,38 @@ none_after own run none = ap (λ (o : List Request). left_after o run) none ∙ 
     go true = refl
     go false = nothing_left run.commands
 
-module _ {D K : Type 0} (seen may_leave : D → Files → Type 0) (moment : D → ℕ) (left_since : D → ℕ → Files → Type 0) (given : K → Option (List ℕ)) (may_give : ℕ → Type 0) (sessions : List (Option Session)) (scripts : List (Option ReplicaScript)) (since : ℕ) (start : List Deed)
-    (requests : List (List Request)) (before : List (Option (List ℕ))) (p : Progress) (core : LockCore) (replicas : Replicas) (runs : List SessionRun) (sinks : List K) (depot : SerialDepot D) (order : List Place)
-    (r : AreGoing seen may_leave moment left_since given may_give sessions scripts since start requests before p core replicas runs sinks depot order) (i : ℕ) where
-  -- ---- a session
+-- a party is a replica with commands left
+pub record IsHere {D K : Type 0} (scene : Scene) (old : Turns D K) (i : ℕ) : Type 0 where
+  pub script : ReplicaScript
+  pub at_script : slice_get scene.scripts i ≡ Some (Some script)
+  pub run : SessionRun
+  pub at_run : slice_get old.runs.items i ≡ Some run
+  pub left : IsLeft script old.replicas i run
+  pub some : 0 < left.other
+  pub whole : run.failed ≡ false
+  pub party_left : 0 < length left.p.left.items
+  pub more : has_more_at (slice_get old.runs.items i) (slice_get old.totals.items i) ≡ true
 
-  module _ (runs' : List SessionRun) (sinks' : List K) (core' : LockCore) (depot' : SerialDepot D) (order' more : List Place) (grown : order' ≡ order ++ more) (totals bounds : List ℕ) where
-    abbrev SessionGoing : Progress → Type 0
-    SessionGoing q = AreGoing seen may_leave moment left_since given may_give sessions scripts since start requests before q core' replicas runs' sinks' depot' order'
-
-    pub session_advances : has_other p.others i ≡ false → AreBounded scripts totals bounds → ((j : ℕ) → slice_get totals j ≡ Some 0 → IsSameAt j runs runs' sinks sinks')
-        → TakesTurn p.machine i runs runs' (λ (t : State). IsRunning seen may_leave moment left_since given may_give sessions scripts since start requests before t core' runs' sinks' depot' order')
-        → Advances p i runs runs' SessionGoing
-    session_advances none bounded same takes =
-        let turn : Turn = record { party = i; how = takes.how; stops = takes.stops } in
-        let is : advanced p turn ≡ record p { machine = turned p.machine turn } =
-        ap (λ (b : Bool). cond b (record p { others = others_turned p.others turn }) (record p { machine = turned p.machine turn })) none in
-        let Been : List Place → SerialDepot D → Type 0 = HasBeenAt seen may_leave moment left_since sessions since start in
-        let F : List Place → Type 0 = λ o. AreFollowing (Been o) seen may_leave may_give scripts replicas runs' before (map given sinks') in
-        let stays = following_stays (Been order) seen may_leave may_give scripts replicas runs runs' before (map given sinks) (map given sinks')
-        (λ j script at_script.
-        let one = same j (bounded.none j script at_script) in
-        (one.0, slice_get-map given sinks' j ∙ (ap (option_map given) one.1 ∙ sym (slice_get-map given sinks j)))) r.following in
-        let wider = following_wider (Been order) seen may_leave may_give scripts (Been (order ++ more)) (λ d been. been_longer seen may_leave moment left_since sessions since start order more d been)
-        replicas runs' before (map given sinks') stays in
-        record {
-          how = takes.how;
-          stops = takes.stops;
-          is_then = subst SessionGoing (sym is) (record { running = takes.is_then; others = r.others; following = subst F (sym grown) wider });
-          failed = takes.failed;
-          stay = takes.stay;
-        }
-
-  -- ---- a replica
-
-  -- it is one, with commands left
-  pub record IsHere (bounds : List ℕ) : Type 0 where
-    pub script : ReplicaScript
-    pub at_script : slice_get scripts i ≡ Some (Some script)
-    pub run : SessionRun
-    pub at_run : slice_get runs i ≡ Some run
-    pub left : IsLeft script replicas i run
-    pub some : 0 < left.other
-    pub whole : run.failed ≡ false
-    pub party_left : 0 < length left.p.left.items
-    pub more : has_more_at (slice_get runs i) (slice_get bounds i) ≡ true
-
-  pub replica_here : (totals bounds : List ℕ) → AreBounded scripts totals bounds → has_other p.others i ≡ true → IsHere bounds
-  replica_here totals bounds bounded has = elim (slice_get_cases replicas.others.items i).1 [
+module _ {D K : Type 0} (disk_says : DiskSays D) (sink_says : SinkSays K) (may_give : ℕ → Type 0) (scene : Scene) (p : Progress) (old : Turns D K)
+    (r : AreGoing disk_says sink_says may_give scene p old) (i : ℕ) where
+  pub replica_here : has_other p.others i ≡ true → IsHere scene old i
+  replica_here has = elim (slice_get_cases old.replicas.others.items i).1 [
     | inl there ↦
         let other = there.0 in
-        let in_scripts = also_at replicas.others.items scripts i other r.following.count there.2 in
-        let some : 0 < other = (let more = had in let same = get_or_from_slice_get replicas.others.items i other 0 there.2 in omega (arith, more, same)) in
+        let in_scripts = also_at old.replicas.others.items scene.scripts i other r.following.count there.2 in
+        let some : 0 < other = (let more = had in let same = get_or_from_slice_get old.replicas.others.items i other 0 there.2 in omega (arith, more, same)) in
         go other there.2 some in_scripts.0 in_scripts.1
-    | inr past ↦ absurd (let more = had in let none = get_or_past replicas.others.items i 0 past.0 in omega (arith, more, none))
+    | inr past ↦ absurd (let more = had in let none = get_or_past old.replicas.others.items i 0 past.0 in omega (arith, more, none))
   ]
     where
-      had : 0 < get_or replicas.others.items i 0
-      had = ltb-true 0 (get_or replicas.others.items i 0) (ap (λ (os : List ℕ). has_other os i) (sym r.others) ∙ has)
+      had : 0 < get_or old.replicas.others.items i 0
+      had = ltb-true 0 (get_or old.replicas.others.items i 0) (ap (λ (os : List ℕ). has_other os i) (sym r.others) ∙ has)
 
-      go : (other : ℕ) → slice_get replicas.others.items i ≡ Some other → 0 < other → (found : Option ReplicaScript) → slice_get scripts i ≡ Some found → IsHere bounds
+      go : (other : ℕ) → slice_get old.replicas.others.items i ≡ Some other → 0 < other → (found : Option ReplicaScript) → slice_get scene.scripts i ≡ Some found → IsHere scene old i
       go other at_other some None at_script = absurd (let none = r.following.none i other at_script at_other in omega (arith, some, none))
       go other at_other some (Some script) at_script =
           let u = r.running.under_way in
-          let run = also_at scripts runs i (Some script) (u.as_many ∙ sym u.served.count) at_script in
+          let run = also_at scene.scripts old.runs.items i (Some script) (u.as_many ∙ sym u.served.count) at_script in
           let left = r.following.left i script run.0 at_script run.1 in
           let same : left.other ≡ other = some_is (sym left.at_other ∙ at_other) in
           let some' : 0 < left.other = omega (arith, some, same) in
@@ -135,71 +107,112 @@ module _ {D K : Type 0} (seen may_leave : D → Files → Type 0) (moment : D �
             some = some';
             whole = whole;
             party_left = omega (arith, in_party, some');
-            more = (λ k. has_more_at (run.1 k) (bounded.bound i script at_script k)) ∙ lt-ltb run.0.commands (length (replica_commands (Some script))) low;
+            more = (λ k. has_more_at (run.1 k) (r.running.totals i None (Some script) (u.apart i script at_script) at_script k)) ∙ lt-ltb run.0.commands (length (replica_commands (Some script))) low;
           }
         where
           not_failed : (b : Bool) (n : ℕ) → 0 < n → (b ≡ true → n ≡ 0) → b ≡ false
           not_failed true n some none = absurd (let zero_is = none refl in omega (arith, some, zero_is))
           not_failed false n some none = refl
 
-  module _ (replicas' : Replicas) (runs' : List SessionRun) (sinks' : List K) (depot' : SerialDepot D) where
-    abbrev ReplicaGoing : Progress → Type 0
-    ReplicaGoing q = AreGoing seen may_leave moment left_since given may_give sessions scripts since start requests before q core replicas' runs' sinks' depot' order
+module _ {D K : Type 0} (disk_says : DiskSays D) (sink_says : SinkSays K) (may_give : ℕ → Type 0) (scene : Scene) (p : Progress) (old new : Turns D K)
+    (r : AreGoing disk_says sink_says may_give scene p old) (i : ℕ) where
+  abbrev Been : List Place → SerialDepot D → Type 0
+  Been = HasBeenAt disk_says scene.sessions scene.since scene.start
 
-    pub replica_advances : (faults : K → ℕ) (bounds : List ℕ) (here : IsHere bounds) → has_other p.others i ≡ true → IsReplicaTurn seen may_leave given faults depot i here.left.p replicas replicas' runs runs' sinks sinks'
-        → (HasRun seen may_leave moment left_since depot since start (map (placed sessions) order) → HasRun seen may_leave moment left_since depot' since start (map (placed sessions) order)) → depot'.tables ≡ depot.tables
-        → Advances p i runs runs' ReplicaGoing
-    replica_advances faults bounds here has t ran same =
-        let turn : Turn = record { party = i; how = Fault; stops = t.failed } in
-        let is : advanced p turn ≡ record p { others = others_turned p.others turn } =
-        ap (λ (b : Bool). cond b (record p { others = others_turned p.others turn }) (record p { machine = turned p.machine turn })) has in
-        let Been : List Place → SerialDepot D → Type 0 = HasBeenAt seen may_leave moment left_since sessions since start in
-        let run_is : here.run ≡ t.answered.run = some_is (sym here.at_run ∙ t.answered.at_run) in
-        let whole : t.answered.run.failed ≡ false = ap (λ (x : SessionRun). x.failed) (sym run_is) ∙ here.whole in
-        let here_is = r.following.left i here.script t.answered.run here.at_script t.answered.at_run in
-        let same_other : here_is.other ≡ here.left.other = some_is (sym here_is.at_other ∙ here.left.at_other) in
-        let some = here.some in
-        record {
-          how = Fault;
-          stops = t.failed;
-          is_then = subst ReplicaGoing (sym is) (record {
-            running = running t here.at_script;
-            others = ap (λ (os : List ℕ). others_turned os turn) r.others ∙ sym t.others;
-            following = following_turned (Been order) seen may_leave may_give scripts given faults depot (been_now seen may_leave moment left_since sessions since start order depot r.running.ran) i here.script here.at_script here.left.p
-                replicas replicas' here.left.at_party runs runs' sinks sinks' before t whole r.following (omega (arith, some, same_other));
-          });
-          failed = λ bad.
-              let run' : SessionRun = record { commands = t.answered.run.commands + 1; failed = t.failed } in
-              let P : Option SessionRun → Type 0 = λ found. IsSomeAnd found (λ (x : SessionRun). x.failed ≡ true) in
-              subst P (sym (ap (λ (rs : List SessionRun). slice_get rs i) t.answered.runs ∙ set_here runs i t.answered.run run' t.answered.at_run)) bad;
-          stay = stay_more given faults [] runs runs' sinks sinks' i t.text t.failed t.answered whole;
-        }
-      where
-        running : IsReplicaTurn seen may_leave given faults depot i here.left.p replicas replicas' runs runs' sinks sinks' → slice_get scripts i ≡ Some (Some here.script)
-            → IsRunning seen may_leave moment left_since given may_give sessions scripts since start requests before p.machine core runs' sinks' depot' order
-        running t at_script =
-            let u = r.running.under_way in
+  abbrev Going : Progress → Type 0
+  Going q = AreGoing disk_says sink_says may_give scene q new
+
+  -- ---- a session
+
+  pub session_advances : has_other p.others i ≡ false → new.replicas ≡ old.replicas → TakesTurn disk_says sink_says may_give scene p.machine i old new → Advances disk_says sink_says may_give scene p i old new
+  session_advances none same t =
+      let turn : Turn = record { party = i; how = t.how; stops = t.stops } in
+      let is : advanced p turn ≡ record p { machine = turned p.machine turn } =
+      ap (λ (b : Bool). cond b (record p { others = others_turned p.others turn }) (record p { machine = turned p.machine turn })) none in
+      let now = map sink_says.given old.sinks.items in
+      let now' = map sink_says.given new.sinks.items in
+      let F : List Place → Replicas → Type 0 = λ o rs. AreFollowing (Been o) disk_says may_give scene.scripts rs new.runs.items scene.before now' in
+      let stays = following_stays (Been old.order.items) disk_says may_give scene.scripts old.replicas old.runs.items new.runs.items scene.before now now'
+      (λ j script at_script.
+      let one = t.others j script at_script in
+      (one.0, slice_get-map sink_says.given new.sinks.items j ∙ (ap (option_map sink_says.given) one.1 ∙ sym (slice_get-map sink_says.given old.sinks.items j)))) r.following in
+      let longer = old.order.items ++ t.grown.0 in
+      let wider = following_wider (Been old.order.items) disk_says may_give scene.scripts (Been longer)
+      (λ d been. been_longer disk_says scene.sessions scene.since scene.start old.order.items t.grown.0 d been) old.replicas new.runs.items scene.before now' stays in
+      record {
+        how = t.how;
+        stops = t.stops;
+        going = subst Going (sym is) (record {
+          running = t.running;
+          others = r.others ∙ ap (λ (rs : Replicas). rs.others.items) (sym same);
+          following = subst (λ (o : List Place). F o new.replicas) (sym t.grown.1) (subst (F longer) (sym same) wider);
+        });
+        failed = t.failed;
+        stay = t.stay;
+        along = λ past h. along_session disk_says sink_says may_give past scene old new h same t.others t.grown.0 t.grown.1 (t.grows past h.all h.master);
+      }
+
+  -- ---- a replica
+
+  pub replica_advances : (here : IsHere scene old i) → has_other p.others i ≡ true → IsReplicaTurn disk_says sink_says i here.left.p old new
+      → ((places : List Placed) → HasRun disk_says old.depot scene.since scene.start places → HasRun disk_says new.depot scene.since scene.start places)
+      → ((disk : D) (files : Files) → disk_says.seen disk files → disk_says.may_leave disk files) → ((c : Chronicle) → HasGroups disk_says old.depot.journal c → HasGroups disk_says new.depot.journal c) → KeepsStored disk_says old.depot.archive new.depot.archive
+      → Advances disk_says sink_says may_give scene p i old new
+  replica_advances here has t ran reads groups stored =
+      let turn : Turn = record { party = i; how = Fault; stops = t.failed } in
+      let is : advanced p turn ≡ record p { others = others_turned p.others turn } =
+      ap (λ (b : Bool). cond b (record p { others = others_turned p.others turn }) (record p { machine = turned p.machine turn })) has in
+      let run_is : here.run ≡ t.answered.run = some_is (sym here.at_run ∙ t.answered.at_run) in
+      let whole : t.answered.run.failed ≡ false = ap (λ (x : SessionRun). x.failed) (sym run_is) ∙ here.whole in
+      let here_is = r.following.left i here.script t.answered.run here.at_script t.answered.at_run in
+      let same_other : here_is.other ≡ here.left.other = some_is (sym here_is.at_other ∙ here.left.at_other) in
+      let some = here.some in
+      let F : List Place → Type 0 = λ o. AreFollowing (Been o) disk_says may_give scene.scripts new.replicas new.runs.items scene.before (map sink_says.given new.sinks.items) in
+      record {
+        how = Fault;
+        stops = t.failed;
+        going = subst Going (sym is) (record {
+          running = running t here.at_script;
+          others = ap (λ (os : List ℕ). others_turned os turn) r.others ∙ sym t.others;
+          following = subst F (ap (λ (o : Vec Place Global). o.items) (sym t.order)) (following_turned (Been old.order.items) disk_says may_give scene.scripts sink_says old new
+              (been_now disk_says scene.sessions scene.since scene.start old.order.items old.depot r.running.ran) i here.script here.at_script here.left.p here.left.at_party scene.before t whole r.following (omega (arith, some, same_other)));
+        });
+        failed = λ bad.
             let run' : SessionRun = record { commands = t.answered.run.commands + 1; failed = t.failed } in
-            record {
-              formed = r.running.formed;
-              under_way = record {
-                served = served_other given faults runs runs' sinks sinks' i t.text t.failed t.answered may_give sessions scripts start before order u.served (λ e. let both = sym at_script ∙ e in cc);
-                as_many = u.as_many;
-                apart = u.apart;
-                asked = u.asked;
-                count = u.count;
-                left = λ j own run q at_own at_run at_q.
-                    elim (at_set runs i j run' run (ap (λ (rs : List SessionRun). slice_get rs j) (sym t.answered.runs) ∙ at_run)) [
-                      | inl one ↦
-                          let none = none_asked may_give 1 sessions requests u.asked j own (u.apart j here.script (ap (slice_get scripts) (sym one.0) ∙ at_script)) at_own in
-                          let first = u.left j own t.answered.run q at_own (ap (slice_get runs) (sym one.0) ∙ t.answered.at_run) at_q in
-                          first ∙ (none_after own t.answered.run none ∙ sym (none_after own run none))
-                      | inr other ↦ u.left j own run q at_own other.1 at_q
-                    ];
-                order_is = u.order_is;
-              };
-              shows = r.running.shows;
-              rows = r.running.rows ∙ ap rows_of (sym same);
-              end = r.running.end ∙ ap (λ (ts : Tables). ts.archive_end) (sym same);
-              ran = ran r.running.ran;
-            }
+            let P : Option SessionRun → Type 0 = λ found. IsSomeAnd found (λ (x : SessionRun). x.failed ≡ true) in
+            subst P (sym (ap (λ (rs : List SessionRun). slice_get rs i) t.answered.runs ∙ set_here old.runs.items i t.answered.run run' t.answered.at_run)) bad;
+        stay = stay_more sink_says [] old.runs.items new.runs.items old.sinks.items new.sinks.items i t.text t.failed t.answered whole;
+        along = λ past h. along_replica disk_says sink_says may_give past scene old new h reads r.running.ran.tells i here.script here.at_script here.left.p here.left.at_party t whole (groups h.all h.master.groups) stored;
+      }
+    where
+      running : IsReplicaTurn disk_says sink_says i here.left.p old new → slice_get scene.scripts i ≡ Some (Some here.script) → IsRunning disk_says sink_says may_give scene p.machine new
+      running t at_script =
+          let u = r.running.under_way in
+          let run' : SessionRun = record { commands = t.answered.run.commands + 1; failed = t.failed } in
+          let R : LockCore → Vec ℕ Global → Vec Place Global → Type 0 = λ core totals order. IsRunning disk_says sink_says may_give scene p.machine (record new { core = core; totals = totals; order = order }) in
+          let order = old.order.items in
+          subst (λ (core : LockCore). R core new.totals new.order) (sym t.core) (subst (λ (totals : Vec ℕ Global). R old.core totals new.order) (sym t.totals) (subst (R old.core old.totals) (sym t.order) (record {
+            formed = r.running.formed;
+            under_way = record {
+              served = served_other sink_says old.runs.items new.runs.items old.sinks.items new.sinks.items i t.text t.failed t.answered may_give scene.sessions scene.scripts scene.start scene.before order u.served
+                  (λ e. let both = sym at_script ∙ e in cc);
+              as_many = u.as_many;
+              apart = u.apart;
+              asked = u.asked;
+              count = u.count;
+              left = λ j own run q at_own at_run at_q.
+                  elim (at_set old.runs.items i j run' run (ap (λ (rs : List SessionRun). slice_get rs j) (sym t.answered.runs) ∙ at_run)) [
+                    | inl one ↦
+                        let none = none_asked may_give 1 scene.sessions scene.requests u.asked j own (u.apart j here.script (ap (slice_get scene.scripts) (sym one.0) ∙ at_script)) at_own in
+                        let first = u.left j own t.answered.run q at_own (ap (slice_get old.runs.items) (sym one.0) ∙ t.answered.at_run) at_q in
+                        first ∙ (none_after own t.answered.run none ∙ sym (none_after own run none))
+                    | inr other ↦ u.left j own run q at_own other.1 at_q
+                  ];
+              order_is = u.order_is;
+            };
+            totals = r.running.totals;
+            shows = r.running.shows;
+            rows = r.running.rows ∙ ap rows_of (sym t.tables);
+            end = r.running.end ∙ ap (λ (ts : Tables). ts.archive_end) (sym t.tables);
+            ran = ran (map (placed scene.sessions) order) r.running.ran;
+          })))

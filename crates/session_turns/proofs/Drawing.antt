@@ -12,7 +12,7 @@ use Rattle.depot_rows.specs.depot_model.Tables.{Need, needs_of}
 use Rattle.depot_rows.specs.depot_model.declared.request.Request.{Request}
 use Rattle.lock_core.specs.Drawing.{has_other, may_go_on}
 use Rattle.lock_machine.specs.Draws.{chosen}
-use Rattle.lock_machine.specs.Machine.{Fault, Finish, Party, State, event, is_enabled, journal, may_party, stops}
+use Rattle.lock_machine.specs.Machine.{Fault, Finish, Party, State, event, is_enabled, lock_number, may_party, stops}
 use Rattle.lock_machine.specs.Orderly.{Rises}
 use Rattle.lock_machine.specs.Runs.{beginning}
 use Rattle.lock_machine.specs.Turns.{turns_in, turns_left, turns_of, turns_of_left}
@@ -163,9 +163,9 @@ replica_count (script ∷ scripts) few =
 pub all_replica_count : (scripts : List (Option ReplicaScript)) → All (λ (script : Option ReplicaScript). length (replica_commands script) ≤ 67108864) scripts → sum (replica_totals scripts) ≤ 67108864 * length scripts
 all_replica_count scripts few = replica_count scripts (recursion_from_All (λ (script : Option ReplicaScript). length (replica_commands script) ≤ 67108864) scripts few)
 
-set_count : (n : ℕ) (needs : List Need) → Rises n needs → n + length needs ≤ journal
+set_count : (n : ℕ) (needs : List Need) → Rises n needs → n + length needs ≤ 12
 set_count n [] rises = omega (arith, rises)
-set_count n (need ∷ needs) rises = let more = set_count (suc need.lock) needs rises.1 in let here = rises.0 in omega (arith, more, here)
+set_count n (need ∷ needs) rises = let more = set_count (suc (lock_number need.lock)) needs rises.1 in let here = rises.0 in omega (arith, more, here)
 
 left_count : (left : List Request) → turns_of_left needs_of left ≤ 32 * length left
 left_count [] = omega arith

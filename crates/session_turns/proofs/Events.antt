@@ -2,6 +2,8 @@
 use Rattle.std.proofs.Common.{◌≡◌, ℕ, Bool, true, false, cond, List, [], ◌∷◌, ◌++◌, set, Option, Some, None, refl, sym, ap, subst, ◌∙◌, append-nil}
 use Rattle.std.specs.Prelude.{slice_get}
 use Rattle.std.specs.List.{list_any}
+use Rattle.depot_rows.specs.db_records.declared.table.TableId.{TableId}
+use Rattle.depot_rows.specs.db_records.declared.table.TableId.TheVariants.{Rev}
 use Rattle.depot_rows.specs.depot_model.Commands.{step}
 use Rattle.depot_rows.specs.depot_model.Deeds.{Deed}
 use Rattle.depot_rows.specs.depot_model.Places.{done_at}
@@ -102,9 +104,9 @@ told_last d (first ∷ order) c told = told_last (after d (done_at step d first.
 
 pub never_judged : (start : List Deed) (s : State) (i : ℕ) (p : Party) → slice_get s.parties i ≡ Some p → is_enabled s i ≡ true → ((how : Finish) → IsTold start (event needs_of s i how).order) → IsJudged p → ⊥
 never_judged start s i p there enabled told (w, has, is) =
-    let commit : List ℕ → Commit = λ changed. record { place = record { request = Some w.request; fault = false }; changed = changed } in
+    let commit : List TableId → Commit = λ changed. record { place = record { request = Some w.request; fault = false }; changed = changed } in
     let Told : State → Type 0 = λ t. IsTold start t.order in
-    let last : (changed : List ℕ) → AreChanged (depot_after start s.order) (after (depot_after start s.order) (done_at step (depot_after start s.order) (commit []).place)) changed
+    let last : (changed : List TableId) → AreChanged (depot_after start s.order) (after (depot_after start s.order) (done_at step (depot_after start s.order) (commit []).place)) changed
     = λ changed. told_last start s.order (commit changed) (subst Told (commit_is s i p there enabled w has is (Done changed)) (told (Done changed))) in
-    let one = (last (0 ∷ [])).differ 0 refl in
+    let one = (last (Rev ∷ [])).differ Rev refl in
     one.2 ((last []).same one.0 refl)

@@ -4,7 +4,7 @@ use Rattle.std.specs.Prelude.{◌||◌, slice_get, option_map}
 use Rattle.std.specs.List.{list_any}
 use Rattle.std.proofs.lemmas.List.{get_or-set_other, get_or-set_same, length-append, length-set, map-set}
 use Rattle.std.proofs.lemmas.Option.{get_or_from_slice_get, slice_get-map, slice_get_within}
-use Rattle.outside_api.specs.Disk.{Files}
+use Rattle.outside_api.specs.Says.{DiskSays, SinkSays}
 use Rattle.lock_machine.proofs.Places.{set_here, set_there, some_is}
 use Rattle.run_parties.proofs.Outputs.{got_more}
 use Rattle.run_parties.proofs.Slots.{at_set}
@@ -18,8 +18,10 @@ use Rattle.session_loop.specs.Asking.{AreWellFormed}
 use Rattle.session_loop.specs.declared.reading.ReplicaScript.{ReplicaScript}
 use Rattle.session_loop.specs.declared.session.SessionRun.{SessionRun}
 use Rattle.session_turns.specs.Drawn.{left_after_turn}
-use Rattle.session_turns.specs.Going.{AreFollowing, IsLeft, IsReplicaTurn}
+use Rattle.session_turns.specs.Answering.{IsAnsweredAt}
+use Rattle.session_turns.specs.Going.{AreFollowing, IsLeft, IsStepped}
 use Rattle.session_turns.specs.declared.replicas.Replicas.{Replicas}
+use Rattle.session_turns.specs.declared.turns.Turns.{Turns}
 
 -- ---- the flags
 
@@ -40,15 +42,30 @@ any_set [] i x low = absurd (omega arith)
 any_set (f ∷ flags) zero x low = one_or f x (list_any (λ (flag : Bool). flag) flags)
 any_set (f ∷ flags) (suc i) x low = ap (λ (b : Bool). f || b) (any_set flags i x (omega arith)) ∙ or_more f (list_any (λ (flag : Bool). flag) flags) x
 
+-- A replica took its turn: its sink got the text, and one command fewer is left to it, or none where the sink failed.
+pub record IsReplicaTurn {D K : Type 0} (disk_says : DiskSays D) (sink_says : SinkSays K) (at : ℕ) (p : ReplicaParty) (old new : Turns D K) : Type 0 where
+  pub mid : Replicas
+  pub text : ℕ → List ℕ
+  pub failed : Bool
+  pub stepped : IsStepped disk_says old.depot at p old.replicas mid text
+  pub parties : new.replicas.parties.items ≡ mid.parties.items
+  pub lost : new.replicas.lost ≡ mid.lost
+  pub others : new.replicas.others.items ≡ set old.replicas.others.items at (left_after_turn (get_or old.replicas.others.items at 0) failed)
+  pub answered : IsAnsweredAt sink_says at text old.runs.items new.runs.items old.sinks.items new.sinks.items failed
+  pub tables : new.depot.tables ≡ old.depot.tables
+  pub core : new.core ≡ old.core
+  pub totals : new.totals ≡ old.totals
+  pub order : new.order ≡ old.order
+
 -- ---- all replicas
 
-module _ {D : Type 0} (HasBeen : SerialDepot D → Type 0) (seen may_leave : D → Files → Type 0) (may_give : ℕ → Type 0) (scripts : List (Option ReplicaScript)) where
+module _ {D : Type 0} (HasBeen : SerialDepot D → Type 0) (disk_says : DiskSays D) (may_give : ℕ → Type 0) (scripts : List (Option ReplicaScript)) where
   abbrev Following : Replicas → List SessionRun → List (Option (List ℕ)) → List (Option (List ℕ)) → Type 0
-  Following replicas runs before now = AreFollowing HasBeen seen may_leave may_give scripts replicas runs before now
+  Following replicas runs before now = AreFollowing HasBeen disk_says may_give scripts replicas runs before now
 
   -- over more depots
   pub following_wider : (Other : SerialDepot D → Type 0) → ((depot : SerialDepot D) → HasBeen depot → Other depot) → (replicas : Replicas) (runs : List SessionRun) (before now : List (Option (List ℕ)))
-      → Following replicas runs before now → AreFollowing Other seen may_leave may_give scripts replicas runs before now
+      → Following replicas runs before now → AreFollowing Other disk_says may_give scripts replicas runs before now
   following_wider Other more replicas runs before now h = record {
     count = h.count;
     none = h.none;
@@ -60,7 +77,7 @@ module _ {D : Type 0} (HasBeen : SerialDepot D → Type 0) (seen may_leave : D �
         record {
           texts = g.texts;
           count = g.count;
-          going = widened HasBeen seen may_leave may_give (i + 1) script Other more p g.texts (get_or h.flags i false) g.going;
+          going = widened HasBeen disk_says may_give (i + 1) script Other more p g.texts (get_or h.flags i false) g.going;
           got = g.got;
         };
   }
@@ -81,16 +98,16 @@ module _ {D : Type 0} (HasBeen : SerialDepot D → Type 0) (seen may_leave : D �
 
   -- ---- a turn of one of them
 
-  module _ {K : Type 0} (given : K → Option (List ℕ)) (faults : K → ℕ) (depot : SerialDepot D) (been : HasBeen depot) (i : ℕ) (script : ReplicaScript) (at_script : slice_get scripts i ≡ Some (Some script)) (p : ReplicaParty)
-      (old new : Replicas) (at_party : slice_get old.parties.items i ≡ Some (Some p)) (runs runs' : List SessionRun) (sinks sinks' : List K) (before : List (Option (List ℕ)))
-      (t : IsReplicaTurn seen may_leave given faults depot i p old new runs runs' sinks sinks') (whole : t.answered.run.failed ≡ false) (h : Following old runs before (map given sinks)) where
+  module _ {K : Type 0} (sink_says : SinkSays K) (old new : Turns D K) (been : HasBeen old.depot) (i : ℕ) (script : ReplicaScript) (at_script : slice_get scripts i ≡ Some (Some script)) (p : ReplicaParty)
+      (at_party : slice_get old.replicas.parties.items i ≡ Some (Some p)) (before : List (Option (List ℕ))) (t : IsReplicaTurn disk_says sink_says i p old new) (whole : t.answered.run.failed ≡ false)
+      (h : Following old.replicas old.runs.items before (map sink_says.given old.sinks.items)) where
     abbrev run' : SessionRun
     run' = record { commands = t.answered.run.commands + 1; failed = t.failed }
 
     abbrev next : ReplicaParty
     next = t.stepped.next
 
-    parties_are : new.parties.items ≡ set old.parties.items i (Some next)
+    parties_are : new.replicas.parties.items ≡ set old.replicas.parties.items i (Some next)
     parties_are = t.parties ∙ t.stepped.parties
 
     -- the flags
@@ -109,80 +126,80 @@ module _ {D : Type 0} (HasBeen : SerialDepot D → Type 0) (seen may_leave : D �
     flag_there : (j : ℕ) → (i ≡ j → ⊥) → get_or flags' j false ≡ get_or h.flags j false
     flag_there j apart = get_or-set_other h.flags i j flag false (λ e. apart (sym e))
 
-    flags_told : AreLost scripts flags' new.lost
+    flags_told : AreLost scripts flags' new.replicas.lost
     flags_told = record {
       count = length-set h.flags i flag ∙ h.told.count;
       none = λ j at_none. flag_there j (λ e. let both = sym at_none ∙ (ap (slice_get scripts) (sym e) ∙ at_script) in cc) ∙ h.told.none j at_none;
       one = t.lost ∙ (t.stepped.lost_is ∙ (ap (λ (b : Bool). b || is_lost t.stepped.result) h.told.one ∙ sym (any_set h.flags i (is_lost t.stepped.result) low)));
     }
 
-    abbrev pub was : IsLeft script old i t.answered.run
+    abbrev pub was : IsLeft script old.replicas i t.answered.run
     was = h.left i script t.answered.run at_script t.answered.at_run
 
-    left_here : 0 < was.other → IsLeft script new i run'
+    left_here : 0 < was.other → IsLeft script new.replicas i run'
     left_here some =
-        let now : ℕ = left_after_turn (get_or old.others.items i 0) t.failed in
-        let is : get_or old.others.items i 0 ≡ was.other = get_or_from_slice_get old.others.items i was.other 0 was.at_other in
+        let now : ℕ = left_after_turn (get_or old.replicas.others.items i 0) t.failed in
+        let is : get_or old.replicas.others.items i 0 ≡ was.other = get_or_from_slice_get old.replicas.others.items i was.other 0 was.at_other in
         record {
           p = next;
           other = now;
-          at_party = ap (λ (ps : List (Option ReplicaParty)). slice_get ps i) parties_are ∙ set_here old.parties.items i (Some p) (Some next) at_party;
-          at_other = ap (λ (os : List ℕ). slice_get os i) t.others ∙ set_here old.others.items i was.other now was.at_other;
-          stopped = λ bad. ap (left_after_turn (get_or old.others.items i 0)) bad;
+          at_party = ap (λ (ps : List (Option ReplicaParty)). slice_get ps i) parties_are ∙ set_here old.replicas.parties.items i (Some p) (Some next) at_party;
+          at_other = ap (λ (os : List ℕ). slice_get os i) t.others ∙ set_here old.replicas.others.items i was.other now was.at_other;
+          stopped = λ bad. ap (left_after_turn (get_or old.replicas.others.items i 0)) bad;
           left = λ good.
-              let one : now ≡ was.other - 1 = ap (left_after_turn (get_or old.others.items i 0)) good ∙ ap (λ (n : ℕ). n - 1) is in
+              let one : now ≡ was.other - 1 = ap (left_after_turn (get_or old.replicas.others.items i 0)) good ∙ ap (λ (n : ℕ). n - 1) is in
               let same : was.p ≡ p = some_is (some_is (sym was.at_party ∙ at_party)) in
               let before_it = was.left whole ∙ ap (λ (q : ReplicaParty). length q.left.items) same in
               let fewer = t.stepped.left in
               omega (arith, one, before_it, fewer);
           total = λ good.
-              let one : now ≡ was.other - 1 = ap (left_after_turn (get_or old.others.items i 0)) good ∙ ap (λ (n : ℕ). n - 1) is in
+              let one : now ≡ was.other - 1 = ap (left_after_turn (get_or old.replicas.others.items i 0)) good ∙ ap (λ (n : ℕ). n - 1) is in
               let before_it = was.total whole in
               omega (arith, one, before_it, some);
         }
 
-    gave_here : (had : Option (List ℕ)) → slice_get before i ≡ Some had → AreWellFormed script.session.commands → HasGiven HasBeen seen may_leave may_give (i + 1) script next run' (get_or flags' i false) had (given t.answered.new)
+    gave_here : (had : Option (List ℕ)) → slice_get before i ≡ Some had → AreWellFormed script.session.commands → HasGiven HasBeen disk_says may_give (i + 1) script next run' (get_or flags' i false) had (sink_says.given t.answered.new)
     gave_here had at_had formed =
-        let got_at : slice_get (map given sinks) i ≡ Some (given t.answered.sink) = slice_get-map given sinks i ∙ ap (option_map given) t.answered.at_sink in
-        let g = h.gave i script t.answered.run p had (given t.answered.sink) at_script t.answered.at_run at_party at_had got_at formed in
+        let got_at : slice_get (map sink_says.given old.sinks.items) i ≡ Some (sink_says.given t.answered.sink) = slice_get-map sink_says.given old.sinks.items i ∙ ap (option_map sink_says.given) t.answered.at_sink in
+        let g = h.gave i script t.answered.run p had (sink_says.given t.answered.sink) at_script t.answered.at_run at_party at_had got_at formed in
         let result = t.stepped.result in
         let text = reply_text result (length g.texts + 1) in
-        let P : Bool → Type 0 = λ b. HasGotTexts b g.texts had (given t.answered.sink) in
-        let Q : List ℕ → Type 0 = λ x. Got t.failed x (given t.answered.sink) (given t.answered.new) in
+        let P : Bool → Type 0 = λ b. HasGotTexts b g.texts had (sink_says.given t.answered.sink) in
+        let Q : List ℕ → Type 0 = λ x. Got t.failed x (sink_says.given t.answered.sink) (sink_says.given t.answered.new) in
         let gives : Q text = subst Q (t.stepped.text_is (t.answered.run.commands + 1) ∙ ap (λ (n : ℕ). reply_text result (n + 1)) (sym g.count)) t.answered.got in
         record {
           texts = g.texts ++ text ∷ [];
           count = (let long = length-append g.texts (text ∷ []) in let same = g.count in omega (arith, long, same));
           going =
-              subst (IsGoing HasBeen seen may_leave may_give (i + 1) script next (g.texts ++ text ∷ [])) (sym flag_here)
-              (goes_on HasBeen seen may_leave may_give (i + 1) script depot p next g.texts (get_or h.flags i false) result been g.going t.stepped.turned);
-          got = got_more t.failed g.texts text had (given t.answered.sink) (given t.answered.new) (subst P whole g.got) gives;
+              subst (IsGoing HasBeen disk_says may_give (i + 1) script next (g.texts ++ text ∷ [])) (sym flag_here)
+              (goes_on HasBeen disk_says may_give (i + 1) script old.depot p next g.texts (get_or h.flags i false) result been g.going t.stepped.turned);
+          got = got_more t.failed g.texts text had (sink_says.given t.answered.sink) (sink_says.given t.answered.new) (subst P whole g.got) gives;
         }
 
-    sinks_are : map given sinks' ≡ set (map given sinks) i (given t.answered.new)
-    sinks_are = ap (map given) t.answered.sinks ∙ map-set given sinks i t.answered.new
+    sinks_are : map sink_says.given new.sinks.items ≡ set (map sink_says.given old.sinks.items) i (sink_says.given t.answered.new)
+    sinks_are = ap (map sink_says.given) t.answered.sinks ∙ map-set sink_says.given old.sinks.items i t.answered.new
 
-    pub following_turned : 0 < was.other → Following new runs' before (map given sinks')
+    pub following_turned : 0 < was.other → Following new.replicas new.runs.items before (map sink_says.given new.sinks.items)
     following_turned some = record {
-      count = ap (length {A = ℕ}) t.others ∙ (length-set old.others.items i (left_after_turn (get_or old.others.items i 0) t.failed) ∙ h.count);
+      count = ap (length {A = ℕ}) t.others ∙ (length-set old.replicas.others.items i (left_after_turn (get_or old.replicas.others.items i 0) t.failed) ∙ h.count);
       none = λ j other at_none at_other.
-          elim (at_set old.others.items i j (left_after_turn (get_or old.others.items i 0) t.failed) other (ap (λ (os : List ℕ). slice_get os j) (sym t.others) ∙ at_other)) [
+          elim (at_set old.replicas.others.items i j (left_after_turn (get_or old.replicas.others.items i 0) t.failed) other (ap (λ (os : List ℕ). slice_get os j) (sym t.others) ∙ at_other)) [
             | inl here ↦ absurd (let both = sym at_none ∙ (ap (slice_get scripts) (sym here.0) ∙ at_script) in cc)
             | inr there ↦ h.none j other at_none there.1
           ];
       left = λ j script' run at_script' at_run.
-          elim (at_set runs i j run' run (ap (λ (rs : List SessionRun). slice_get rs j) (sym t.answered.runs) ∙ at_run)) [
+          elim (at_set old.runs.items i j run' run (ap (λ (rs : List SessionRun). slice_get rs j) (sym t.answered.runs) ∙ at_run)) [
             | inl here ↦
                 let same : script ≡ script' = some_is (some_is (sym at_script ∙ (ap (slice_get scripts) here.0 ∙ at_script'))) in
-                let P : ReplicaScript → ℕ → SessionRun → Type 0 = λ s k r. IsLeft s new k r in
+                let P : ReplicaScript → ℕ → SessionRun → Type 0 = λ s k r. IsLeft s new.replicas k r in
                 subst (λ (r : SessionRun). P script' j r) (sym here.1) (subst (λ (k : ℕ). P script' k run') here.0 (subst (λ (s : ReplicaScript). P s i run') same (left_here some)))
             | inr there ↦
                 let l = h.left j script' run at_script' there.1 in
                 record {
                   p = l.p;
                   other = l.other;
-                  at_party = ap (λ (ps : List (Option ReplicaParty)). slice_get ps j) parties_are ∙ (set_there old.parties.items i j (Some next) there.0 ∙ l.at_party);
-                  at_other = ap (λ (os : List ℕ). slice_get os j) t.others ∙ (set_there old.others.items i j (left_after_turn (get_or old.others.items i 0) t.failed) there.0 ∙ l.at_other);
+                  at_party = ap (λ (ps : List (Option ReplicaParty)). slice_get ps j) parties_are ∙ (set_there old.replicas.parties.items i j (Some next) there.0 ∙ l.at_party);
+                  at_other = ap (λ (os : List ℕ). slice_get os j) t.others ∙ (set_there old.replicas.others.items i j (left_after_turn (get_or old.replicas.others.items i 0) t.failed) there.0 ∙ l.at_other);
                   stopped = l.stopped;
                   left = l.left;
                   total = l.total;
@@ -191,20 +208,20 @@ module _ {D : Type 0} (HasBeen : SerialDepot D → Type 0) (seen may_leave : D �
       flags = flags';
       told = flags_told;
       gave = λ j script' run q had got at_script' at_run at_q at_had at_got formed.
-          elim (at_set runs i j run' run (ap (λ (rs : List SessionRun). slice_get rs j) (sym t.answered.runs) ∙ at_run)) [
+          elim (at_set old.runs.items i j run' run (ap (λ (rs : List SessionRun). slice_get rs j) (sym t.answered.runs) ∙ at_run)) [
             | inl here ↦
                 let same : script ≡ script' = some_is (some_is (sym at_script ∙ (ap (slice_get scripts) here.0 ∙ at_script'))) in
-                let party : next ≡ q = some_is (some_is (sym (set_here old.parties.items i (Some p) (Some next) at_party) ∙ (sym (ap (λ (ps : List (Option ReplicaParty)). slice_get ps i) parties_are) ∙ (ap (slice_get new.parties.items) here.0 ∙ at_q)))) in
-                let got_is : given t.answered.new ≡ got =
-                some_is (sym (set_here (map given sinks) i (given t.answered.sink) (given t.answered.new) (slice_get-map given sinks i ∙ ap (option_map given) t.answered.at_sink))
-                ∙ (sym (ap (λ (os : List (Option (List ℕ))). slice_get os i) sinks_are) ∙ (ap (slice_get (map given sinks')) here.0 ∙ at_got))) in
-                let G : ℕ → ReplicaScript → ReplicaParty → SessionRun → Option (List ℕ) → Type 0 = λ k s r x o. HasGiven HasBeen seen may_leave may_give (k + 1) s r x (get_or flags' k false) had o in
-                let first : G i script next run' (given t.answered.new) = gave_here had (ap (slice_get before) here.0 ∙ at_had) (subst (λ (s : ReplicaScript). AreWellFormed s.session.commands) (sym same) formed) in
+                let party : next ≡ q = some_is (some_is (sym (set_here old.replicas.parties.items i (Some p) (Some next) at_party) ∙ (sym (ap (λ (ps : List (Option ReplicaParty)). slice_get ps i) parties_are) ∙ (ap (slice_get new.replicas.parties.items) here.0 ∙ at_q)))) in
+                let got_is : sink_says.given t.answered.new ≡ got =
+                some_is (sym (set_here (map sink_says.given old.sinks.items) i (sink_says.given t.answered.sink) (sink_says.given t.answered.new) (slice_get-map sink_says.given old.sinks.items i ∙ ap (option_map sink_says.given) t.answered.at_sink))
+                ∙ (sym (ap (λ (os : List (Option (List ℕ))). slice_get os i) sinks_are) ∙ (ap (slice_get (map sink_says.given new.sinks.items)) here.0 ∙ at_got))) in
+                let G : ℕ → ReplicaScript → ReplicaParty → SessionRun → Option (List ℕ) → Type 0 = λ k s r x o. HasGiven HasBeen disk_says may_give (k + 1) s r x (get_or flags' k false) had o in
+                let first : G i script next run' (sink_says.given t.answered.new) = gave_here had (ap (slice_get before) here.0 ∙ at_had) (subst (λ (s : ReplicaScript). AreWellFormed s.session.commands) (sym same) formed) in
                 subst (λ (x : SessionRun). G j script' q x got) (sym here.1) (subst (λ (k : ℕ). G k script' q run' got) here.0 (subst (λ (s : ReplicaScript). G i s q run' got) same
                 (subst (λ (r : ReplicaParty). G i script r run' got) party (subst (λ (o : Option (List ℕ)). G i script next run' o) got_is first))))
             | inr there ↦
-                let g = h.gave j script' run q had got at_script' there.1 (sym (set_there old.parties.items i j (Some next) there.0) ∙ (sym (ap (λ (ps : List (Option ReplicaParty)). slice_get ps j) parties_are) ∙ at_q)) at_had
-                (sym (set_there (map given sinks) i j (given t.answered.new) there.0) ∙ (sym (ap (λ (os : List (Option (List ℕ))). slice_get os j) sinks_are) ∙ at_got)) formed in
-                subst (λ (b : Bool). HasGiven HasBeen seen may_leave may_give (j + 1) script' q run b had got) (sym (flag_there j there.0)) g
+                let g = h.gave j script' run q had got at_script' there.1 (sym (set_there old.replicas.parties.items i j (Some next) there.0) ∙ (sym (ap (λ (ps : List (Option ReplicaParty)). slice_get ps j) parties_are) ∙ at_q)) at_had
+                (sym (set_there (map sink_says.given old.sinks.items) i j (sink_says.given t.answered.new) there.0) ∙ (sym (ap (λ (os : List (Option (List ℕ))). slice_get os j) sinks_are) ∙ at_got)) formed in
+                subst (λ (b : Bool). HasGiven HasBeen disk_says may_give (j + 1) script' q run b had got) (sym (flag_there j there.0)) g
           ];
     }

@@ -8,14 +8,12 @@ pub mod Starting
 pub mod Rounds
 pub mod Ending
 pub mod Opening
+pub mod Whole
 pub mod Moving
-pub mod Made
 pub mod Following
 pub mod Advancing
-pub mod Bounds
 pub mod Fresh
 pub mod Answered
 pub mod Losing
 pub mod Stepping
-pub mod Mastering
 pub mod Telling

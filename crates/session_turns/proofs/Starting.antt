@@ -6,7 +6,6 @@ use Rattle.std.proofs.lemmas.List.{length-map}
 use Rattle.std.proofs.lemmas.List.Elements.{recursion_from_All}
 use Rattle.std.proofs.lemmas.Option.{slice_get-map}
 use Rattle.command_words.specs.WellFormed.{IsWellFormed}
-use Rattle.depot_rows.specs.depot_model.Deeds.{Deed}
 use Rattle.depot_rows.specs.depot_model.WellFormed.{asks_rightly, is_command}
 use Rattle.depot_rows.specs.depot_model.declared.command.Command.{Command}
 use Rattle.depot_rows.specs.depot_model.declared.request.Asked.{Asked}
@@ -25,22 +24,14 @@ use Rattle.session_loop.specs.Asking.{AreProper, AreWellFormed, commands_of}
 use Rattle.session_loop.specs.Requests.{AreRequests, AreRequestsOf, AreRequestsOfAll, IsRequest}
 use Rattle.session_loop.specs.Served.{IsOutput}
 use Rattle.session_loop.specs.Taking.{IsProper}
-use Rattle.session_loop.specs.declared.reading.ReplicaScript.{ReplicaScript}
 use Rattle.session_loop.specs.declared.session.SessionRun.{SessionRun}
 use Rattle.session_turns.proofs.Drawing.{AllShort}
 use Rattle.session_turns.proofs.Fresh.{fresh_at}
-use Rattle.session_turns.specs.Running.{IsUnderWay, fresh_runs, left_after, unanswered}
+use Rattle.session_turns.specs.Running.{IsUnderWay, Scene, fresh_runs, left_after, unanswered}
 use Rattle.wire_text.proofs.Pieces.{extended-nil}
 
 module _ (may_give : ℕ → Type 0) where
   -- ---- how many there are
-
-  pub counts_are : (party : ℕ) (sessions : List (Option Session)) (requests : List (List Request)) → AreRequestsOfAll may_give party sessions requests
-      → map (λ (own : List Request). length own) requests ≡ map (λ (session : Option Session). length (commands_of session)) sessions
-  counts_are party [] [] all = refl
-  counts_are party [] (r ∷ requests) all = absurd all
-  counts_are party (s ∷ sessions) [] all = absurd all
-  counts_are party (s ∷ sessions) (r ∷ requests) all = λ k. many_of may_give party s r all.0 k ∷ counts_are (suc party) sessions requests all.1 k
 
   short : (party : ℕ) (sessions : List (Option Session)) (requests : List (List Request)) → AreRequestsOfAll may_give party sessions requests
       → AllByRecursion (λ (session : Option Session). length (commands_of session) ≤ 67108864) sessions → AllShort requests
@@ -95,25 +86,25 @@ module _ (may_give : ℕ → Type 0) where
 
   -- ---- nothing is taken yet
 
-  pub under_way : (sessions : List (Option Session)) (scripts : List (Option ReplicaScript)) (start : List Deed) (requests : List (List Request)) (totals : List ℕ) (given : List (Option (List ℕ))) → AreRequestsOfAll may_give 1 sessions requests → length totals ≡ length sessions
-      → length scripts ≡ length sessions → AreApart sessions scripts → IsUnderWay may_give sessions scripts start requests (beginning requests) (fresh_runs totals) given given []
-  under_way sessions scripts start requests totals given asked as_many as_many_scripts apart = record {
+  pub under_way : (scene : Scene) (totals : List ℕ) → AreRequestsOfAll may_give 1 scene.sessions scene.requests → length totals ≡ length scene.sessions → length scene.scripts ≡ length scene.sessions
+      → AreApart scene.sessions scene.scripts → IsUnderWay may_give scene (beginning scene.requests) (fresh_runs totals) scene.before []
+  under_way scene totals asked as_many as_many_scripts apart = record {
     served = record {
       count = length-map totals (λ (n : ℕ). fresh) ∙ as_many;
       places = record { places = λ k d lt. absurd (omega (arith, lt)); rising = λ i j d lt1 lt2. absurd (omega (arith, lt2)) };
       each = λ i run before now at_script at_run at_before at_now.
           let run_is = fresh_at totals i run at_run in
           let same : before ≡ now = some_is (sym at_before ∙ at_now) in
-          let P : SessionRun → Type 0 = λ r. IsOutput sessions start [] (i + 1) r.commands r.failed before now in
+          let P : SessionRun → Type 0 = λ r. IsOutput scene.sessions scene.start [] (i + 1) r.commands r.failed before now in
           subst P (sym run_is) (sym same ∙ sym (extended-nil before));
     };
     as_many = as_many_scripts;
     apart = apart;
     asked = asked;
-    count = length-map requests idle ∙ asked_count may_give 1 sessions requests asked;
+    count = length-map scene.requests idle ∙ asked_count may_give 1 scene.sessions scene.requests asked;
     left = λ i own run p at_own at_run at_p.
         let run_is = fresh_at totals i run at_run in
-        let p_is : idle own ≡ p = some_is (sym (slice_get-map idle requests i ∙ ap (option_map idle) at_own) ∙ at_p) in
+        let p_is : idle own ≡ p = some_is (sym (slice_get-map idle scene.requests i ∙ ap (option_map idle) at_own) ∙ at_p) in
         ap unanswered (sym p_is) ∙ ap (left_after own) (sym run_is);
     order_is = refl;
   }

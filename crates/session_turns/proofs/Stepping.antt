@@ -1,7 +1,7 @@
 -- What a replica's answer to a command is in all replicas.
 use Rattle.std.proofs.Common.{◌≡◌, ℕ, ◌+◌, Bool, List, length, Some, Result, Ok, Err, refl, sym, ap, subst, ◌∙◌}
 use Rattle.std.specs.Prelude.{◌||◌, slice_set}
-use Rattle.outside_api.specs.Disk.{Files}
+use Rattle.outside_api.specs.Says.{DiskSays}
 use Rattle.run_parties.proofs.Replicas.{plain, turned_plain}
 use Rattle.run_parties.specs.Giving.{text_of}
 use Rattle.run_parties.specs.replica_turns.Going.{IsTurned, is_lost, reply_text}
@@ -11,7 +11,7 @@ use Rattle.run_parties.specs.serial_depot.declared.depot.SerialDepot.{SerialDepo
 use Rattle.session_turns.specs.Going.{IsStepped}
 use Rattle.session_turns.specs.declared.replicas.Replicas.{Replicas}
 
-module _ {D E : Type 0} (seen may_leave : D → Files → Type 0) (depot : SerialDepot D) where
+module _ {D E : Type 0} (disk_says : DiskSays D) (depot : SerialDepot D) where
   text_plain : (result : Result Answered E) (number : ℕ) → reply_text result number ≡ reply_text (plain result) number
   text_plain (Ok answered) number = refl
   text_plain (Err error) number = refl
@@ -21,15 +21,15 @@ module _ {D E : Type 0} (seen may_leave : D → Files → Type 0) (depot : Seria
   lost_plain (Err error) = refl
 
   pub stepped : (at : ℕ) (p party next : ReplicaParty) (old new : Replicas) (result : Result Answered E) (reply : Result (List ℕ) E) → p ≡ party → new.parties.items ≡ slice_set old.parties.items at (Some next)
-      → IsTurned seen may_leave depot party next result → length party.left.items ≡ length next.left.items + 1 → ((number : ℕ) → text_of reply number ≡ reply_text result number)
-      → new.lost ≡ (old.lost || is_lost result) → IsStepped seen may_leave depot at p old new (text_of reply)
+      → IsTurned disk_says depot party next result → length party.left.items ≡ length next.left.items + 1 → ((number : ℕ) → text_of reply number ≡ reply_text result number)
+      → new.lost ≡ (old.lost || is_lost result) → IsStepped disk_says depot at p old new (text_of reply)
   stepped at p party next old new result reply same parties turned left text lost =
-      let P : ReplicaParty → Type 0 = λ q. IsTurned seen may_leave depot q next (plain result) in
+      let P : ReplicaParty → Type 0 = λ q. IsTurned disk_says depot q next (plain result) in
       record {
         next = next;
         result = plain result;
         parties = parties;
-        turned = subst P (sym same) (turned_plain seen may_leave depot party next result turned);
+        turned = subst P (sym same) (turned_plain disk_says depot party next result turned);
         left = ap (λ (q : ReplicaParty). length q.left.items) same ∙ left;
         text_is = λ number. text number ∙ text_plain result number;
         lost_is = lost ∙ ap (λ (b : Bool). old.lost || b) (sym (lost_plain result));

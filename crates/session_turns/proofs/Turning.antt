@@ -2,14 +2,12 @@
 use Rattle.std.proofs.Common.{◌≡◌, ◌≢◌, ◌⊎◌, ℕ, ◌+◌, Bool, true, false, cond, List, [], ◌∷◌, ◌++◌, length, map, drop, set, Option, Some, None, refl, sym, ap, subst, ◌∙◌, inl, inr}
 use Rattle.std.specs.Prelude.{slice_get}
 use Rattle.std.proofs.lemmas.List.{length-set, map-append, map_push}
-use Rattle.depot_rows.specs.depot_model.Deeds.{Deed}
 use Rattle.depot_rows.specs.depot_model.Places.{Placed, taken, told_at}
 use Rattle.depot_rows.specs.depot_model.Printed.{printed}
 use Rattle.depot_rows.specs.depot_model.Rows.{memory_row}
 use Rattle.depot_rows.specs.depot_model.Tables.{needs_of}
 use Rattle.depot_rows.specs.depot_model.declared.order.Place.{Place}
 use Rattle.depot_rows.specs.depot_model.declared.request.Request.{Request}
-use Rattle.depot_rows.specs.depot_model.declared.request.Session.{Session}
 use Rattle.depot_runs.specs.Run.{placed}
 use Rattle.depot_rows.specs.depot_model.Commands.{step}
 use Rattle.lock_machine.specs.Machine.{Commit, Finish, NoMemory, Party, State, Work, event, is_enabled, stopped}
@@ -23,23 +21,21 @@ use Rattle.run_parties.proofs.Slots.{also_at, at_set, drop_next}
 use Rattle.run_parties.specs.Giving.{Got}
 use Rattle.run_parties.specs.Served.{session_counts}
 use Rattle.session_loop.specs.Taking.{place_by, placed_by}
-use Rattle.session_loop.specs.declared.reading.ReplicaScript.{ReplicaScript}
 use Rattle.session_loop.specs.declared.session.SessionRun.{SessionRun}
 use Rattle.session_turns.proofs.Events.{IsJudged, commit_after, commit_is, commit_left, committed, quiet_is, quiet_left, stopped_is}
 use Rattle.session_turns.proofs.Orders.{IsNext, next_placed, next_unplaced, served_more}
 use Rattle.session_turns.specs.Drawn.{ended}
-use Rattle.session_turns.specs.Running.{IsUnderWay, left_after, unanswered}
+use Rattle.session_turns.specs.Running.{IsUnderWay, Scene, left_after, unanswered}
 
 abbrev pub places_of : List Commit → List Placed
 places_of order = map (λ (c : Commit). c.place) order
 
-module _ (may_give : ℕ → Type 0) (sessions : List (Option Session)) (scripts : List (Option ReplicaScript)) (start : List Deed) (requests : List (List Request)) (s : State) (runs : List SessionRun) (before now : List (Option (List ℕ))) (order : List Place)
-    (u : IsUnderWay may_give sessions scripts start requests s runs before now order) (i : ℕ) (p : Party) (there : slice_get s.parties i ≡ Some p) (enabled : is_enabled s i ≡ true) where
+module _ (may_give : ℕ → Type 0) (scene : Scene) (s : State) (runs : List SessionRun) (now : List (Option (List ℕ))) (order : List Place) (u : IsUnderWay may_give scene s runs now order) (i : ℕ) (p : Party) (there : slice_get s.parties i ≡ Some p) (enabled : is_enabled s i ≡ true) where
   abbrev UnderWay : State → Type 0
-  UnderWay t = IsUnderWay may_give sessions scripts start requests t runs before now order
+  UnderWay t = IsUnderWay may_give scene t runs now order
 
   -- no commit is at hand
-  pub quiet_more : (IsJudged p → ⊥) → (how : Finish) → IsUnderWay may_give sessions scripts start requests (event needs_of s i how) runs before now order
+  pub quiet_more : (IsJudged p → ⊥) → (how : Finish) → IsUnderWay may_give scene (event needs_of s i how) runs now order
   quiet_more none how = subst UnderWay (sym (quiet_is s i p there enabled none how)) (record {
     served = u.served;
     as_many = u.as_many;
@@ -61,12 +57,12 @@ module _ (may_give : ℕ → Type 0) (sessions : List (Option Session)) (scripts
   pub record IsHere : Type 0 where
     pub own : List Request
     pub run : SessionRun
-    pub at_own : slice_get requests i ≡ Some own
+    pub at_own : slice_get scene.requests i ≡ Some own
     pub at_run : slice_get runs i ≡ Some run
 
   pub here : IsHere
   here =
-      let own = also_at s.parties requests i p (u.count ∙ sym (asked_count may_give 1 sessions requests u.asked)) there in
+      let own = also_at s.parties scene.requests i p (u.count ∙ sym (asked_count may_give 1 scene.sessions scene.requests u.asked)) there in
       let run = also_at s.parties runs i p (u.count ∙ sym u.served.count) there in
       record { own = own.0; run = run.0; at_own = own.1; at_run = run.1 }
 
@@ -87,51 +83,51 @@ module _ (may_give : ℕ → Type 0) (sessions : List (Option Session)) (scripts
     rest_is : drop n here.own ≡ w.request ∷ p.left
     rest_is = ap (λ (b : Bool). cond b [] (drop n here.own)) (sym whole) ∙ left_is
 
-    pub its : IsOf may_give sessions i n w.request
-    its = named may_give sessions requests u.asked i n here.own w.request here.at_own (drop_next here.own n w.request p.left rest_is).0
+    pub its : IsOf may_give scene.sessions i n w.request
+    its = named may_give scene.sessions scene.requests u.asked i n here.own w.request here.at_own (drop_next here.own n w.request p.left rest_is).0
 
     -- the party is no replica
-    pub is_session : slice_get scripts i ≡ Some None
-    is_session = session_at sessions scripts i its.session u.as_many u.apart its.has
+    pub is_session : slice_get scene.scripts i ≡ Some None
+    is_session = session_at scene.sessions scene.scripts i its.session u.as_many u.apart its.has
 
-    pub at_count : slice_get (session_counts scripts runs) i ≡ Some n
-    at_count = count_at scripts runs i here.run is_session here.at_run
+    pub at_count : slice_get (session_counts scene.scripts runs) i ≡ Some n
+    at_count = count_at scene.scripts runs i here.run is_session here.at_run
 
     -- there is one more
     pub more_left : (slice_get here.own n ≡ Some w.request) × (drop (n + 1) here.own ≡ p.left)
     more_left = drop_next here.own n w.request p.left rest_is
 
     -- the places with that of its request behind them
-    pub places_more : (fault : Bool) → map (placed sessions) (order ++ place_by w.request fault ∷ []) ≡ map (placed sessions) order ++ placed_by w.request fault ∷ []
-    places_more fault = map_push (placed sessions) order (place_by w.request fault) ∙ ap (λ (x : Placed). map (placed sessions) order ++ x ∷ []) (placed_is may_give sessions i n w.request its fault)
+    pub places_more : (fault : Bool) → map (placed scene.sessions) (order ++ place_by w.request fault ∷ []) ≡ map (placed scene.sessions) order ++ placed_by w.request fault ∷ []
+    places_more fault = map_push (placed scene.sessions) order (place_by w.request fault) ∙ ap (λ (x : Placed). map (placed scene.sessions) order ++ x ∷ []) (placed_is may_give scene.sessions i n w.request its fault)
 
-    pub next_with : (fault : Bool) → IsNext may_give sessions start (session_counts scripts runs) i n order (order ++ place_by w.request fault ∷ []) (printed (told_at step (taken step start (map (placed sessions) order)) (placed_by w.request fault)) w.request.number)
+    pub next_with : (fault : Bool) → IsNext may_give scene.sessions scene.start (session_counts scene.scripts runs) i n order (order ++ place_by w.request fault ∷ []) (printed (told_at step (taken step scene.start (map (placed scene.sessions) order)) (placed_by w.request fault)) w.request.number)
     next_with fault =
-        let depot = taken step start (map (placed sessions) order) in
-        let P : List ℕ → Type 0 = IsNext may_give sessions start (session_counts scripts runs) i n order (order ++ place_by w.request fault ∷ []) in
-        subst P (ap (λ (x : Placed). printed (told_at step depot x) (n + 1)) (placed_is may_give sessions i n w.request its fault) ∙ ap (printed (told_at step depot (placed_by w.request fault))) (sym (number_is may_give sessions i n w.request its)))
-        (next_placed may_give sessions start (session_counts scripts runs) i n order at_count u.served.places (place_by w.request fault) (party_is may_give sessions i n w.request its) (number_is may_give sessions i n w.request its)
-        (moment_is may_give sessions i n w.request its))
+        let depot = taken step scene.start (map (placed scene.sessions) order) in
+        let P : List ℕ → Type 0 = IsNext may_give scene.sessions scene.start (session_counts scene.scripts runs) i n order (order ++ place_by w.request fault ∷ []) in
+        subst P (ap (λ (x : Placed). printed (told_at step depot x) (n + 1)) (placed_is may_give scene.sessions i n w.request its fault) ∙ ap (printed (told_at step depot (placed_by w.request fault))) (sym (number_is may_give scene.sessions i n w.request its)))
+        (next_placed may_give scene.sessions scene.start (session_counts scene.scripts runs) i n order at_count u.served.places (place_by w.request fault) (party_is may_give scene.sessions i n w.request its) (number_is may_give scene.sessions i n w.request its)
+        (moment_is may_give scene.sessions i n w.request its))
 
-    pub next_without : IsNext may_give sessions start (session_counts scripts runs) i n order order (printed (memory_row ∷ []) (n + 1))
-    next_without = next_unplaced may_give sessions start (session_counts scripts runs) i n order at_count u.served.places
+    pub next_without : IsNext may_give scene.sessions scene.start (session_counts scene.scripts runs) i n order order (printed (memory_row ∷ []) (n + 1))
+    next_without = next_unplaced may_give scene.sessions scene.start (session_counts scene.scripts runs) i n order at_count u.served.places
 
     -- ---- the parties after it
 
-    module _ (how : Finish) (order' : List Place) (text : List ℕ) (next : IsNext may_give sessions start (session_counts scripts runs) i n order order' text)
-        (order_is : map (placed sessions) order' ≡ places_of s.order ++ places_of (machine.placed w.request how)) (failed : Bool) (got new : Option (List ℕ)) (at_got : slice_get now i ≡ Some got) (gives : Got failed text got new) where
+    module _ (how : Finish) (order' : List Place) (text : List ℕ) (next : IsNext may_give scene.sessions scene.start (session_counts scene.scripts runs) i n order order' text)
+        (order_is : map (placed scene.sessions) order' ≡ places_of s.order ++ places_of (machine.placed w.request how)) (failed : Bool) (got new : Option (List ℕ)) (at_got : slice_get now i ≡ Some got) (gives : Got failed text got new) where
       abbrev run' : SessionRun
       run' = record { commands = n + 1; failed = failed }
 
       abbrev After : State → Type 0
-      After t = IsUnderWay may_give sessions scripts start requests t (set runs i run') before (set now i new) order'
+      After t = IsUnderWay may_give scene t (set runs i run') (set now i new) order'
 
       -- of a party it is, or isn't, that whose commit it was
       module _ (parties : List Party) (as_many : length parties ≡ length s.parties)
           (each : (j : ℕ) (q : Party) → slice_get parties j ≡ Some q → ((i ≡ j) × (unanswered q ≡ left_after here.own run')) ⊎ ((i ≢ j) × (slice_get s.parties j ≡ Some q))) where
         after_it : After (record { parties = parties; order = s.order ++ machine.placed w.request how })
         after_it = record {
-          served = served_more may_give sessions start (session_counts scripts runs) i n order scripts runs refl is_session here.run here.at_run refl whole before now u.served order' text next failed got new at_got gives;
+          served = served_more may_give scene.sessions scene.start (session_counts scene.scripts runs) i n order scene.scripts runs refl is_session here.run here.at_run refl whole scene.before now u.served order' text next failed got new at_got gives;
           as_many = u.as_many;
           apart = u.apart;
           asked = u.asked;
@@ -150,8 +146,8 @@ module _ (may_give : ℕ → Type 0) (sessions : List (Option Session)) (scripts
           order_is = order_is ∙ sym (map-append (λ (c : Commit). c.place) s.order (machine.placed w.request how));
         }
           where
-            own_is : (j : ℕ) (own : List Request) → i ≡ j → slice_get requests j ≡ Some own → here.own ≡ own
-            own_is j own same at_own = some_is (sym here.at_own ∙ (ap (slice_get requests) same ∙ at_own))
+            own_is : (j : ℕ) (own : List Request) → i ≡ j → slice_get scene.requests j ≡ Some own → here.own ≡ own
+            own_is j own same at_own = some_is (sym here.at_own ∙ (ap (slice_get scene.requests) same ∙ at_own))
 
       goes_on : failed ≡ false → After (commit_after s i p there enabled w has is how)
       goes_on good = after_it (set s.parties i (committed s i p there enabled w has is)) (length-set s.parties i (committed s i p there enabled w has is)) (λ j q at_q.

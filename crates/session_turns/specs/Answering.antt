@@ -2,6 +2,7 @@
 use Rattle.std.specs.Prelude.{◌≡◌, ◌≤◌, ◌+◌, ◌-◌, nat_lt, ℕ, Bool, true, false, List, map, slice_get, slice_set, Option, Some, None, Result, Ok, Err, if◌then◌else◌}
 use Rattle.std.specs.Option.{IsSomeAnd}
 use Rattle.outside_api.specs.Count.{HasRisen}
+use Rattle.outside_api.specs.Says.{SinkSays}
 use Rattle.depot_rows.specs.depot_model.Deeds.{Deed}
 use Rattle.depot_rows.specs.depot_model.declared.order.Answer.{Answer}
 use Rattle.depot_rows.specs.depot_model.declared.order.Place.{Place}
@@ -37,7 +38,7 @@ abbrev pub reply_of : {E : Type 0} → Result Answer E → ℕ → List ℕ
 reply_of answer number = text_of (reply_in answer) number
 
 -- one party got the text of an answer to the command that has this number
-pub record IsAnsweredAt {K : Type 0} (given : K → Option (List ℕ)) (faults : K → ℕ) (at : ℕ) (text : ℕ → List ℕ) (old_runs new_runs : List SessionRun) (old_sinks new_sinks : List K) (failed : Bool) : Type 0 where
+pub record IsAnsweredAt {K : Type 0} (sink_says : SinkSays K) (at : ℕ) (text : ℕ → List ℕ) (old_runs new_runs : List SessionRun) (old_sinks new_sinks : List K) (failed : Bool) : Type 0 where
   pub run : SessionRun
   pub sink : K
   pub new : K
@@ -45,18 +46,18 @@ pub record IsAnsweredAt {K : Type 0} (given : K → Option (List ℕ)) (faults :
   pub at_sink : slice_get old_sinks at ≡ Some sink
   pub runs : new_runs ≡ slice_set old_runs at (record { commands = run.commands + 1; failed = failed })
   pub sinks : new_sinks ≡ slice_set old_sinks at new
-  pub got : Got failed (text (run.commands + 1)) (given sink) (given new)
-  pub counts : faults sink ≤ faults new
-  pub cause : failed ≡ true → HasRisen (faults sink) (faults new)
+  pub got : Got failed (text (run.commands + 1)) (sink_says.given sink) (sink_says.given new)
+  pub counts : sink_says.faults sink ≤ sink_says.faults new
+  pub cause : failed ≡ true → HasRisen (sink_says.faults sink) (sink_says.faults new)
 
 -- whose sink failed has still failed
 abbrev pub StayFailed : List SessionRun → List SessionRun → Type 0
 StayFailed old new = (j : ℕ) (run : SessionRun) → slice_get old j ≡ Some run → run.failed ≡ true → IsSomeAnd (slice_get new j) (λ now. now.failed ≡ true)
 
 -- The replies stay those of an order that gets no place, and whose sink has failed has still failed.
-pub record AnswersNone {K : Type 0} (may_give : ℕ → Type 0) (given : K → Option (List ℕ)) (old_runs new_runs : List SessionRun) (old_sinks new_sinks : List K) : Type 0 where
+pub record AnswersNone {K : Type 0} (may_give : ℕ → Type 0) (sink_says : SinkSays K) (old_runs new_runs : List SessionRun) (old_sinks new_sinks : List K) : Type 0 where
   pub served : (sessions : List (Option Session)) (scripts : List (Option ReplicaScript)) (start : List Deed) (before : List (Option (List ℕ))) (order : List Place)
-      → AreServed may_give sessions scripts start old_runs before (map given old_sinks) order → AreServed may_give sessions scripts start new_runs before (map given new_sinks) order
+      → AreServed may_give sessions scripts start old_runs before (map sink_says.given old_sinks) order → AreServed may_give sessions scripts start new_runs before (map sink_says.given new_sinks) order
   pub stay : StayFailed old_runs new_runs
 
 -- all commands of a party are answered, unless its sink failed

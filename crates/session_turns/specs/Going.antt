@@ -1,27 +1,29 @@
 -- How far the replicas of a run are, between two turns. This project's own choice.
-use Rattle.std.specs.Prelude.{◌≡◌, ◌||◌, ◌≤◌, ◌+◌, nat_lt, if◌then◌else◌, ℕ, Bool, true, false, List, length, map, get_or, slice_get, slice_set, Option, Some, None, Result}
+use Rattle.std.specs.Prelude.{◌≡◌, ◌||◌, ◌+◌, ℕ, Bool, true, false, List, [], length, map, get_or, slice_get, slice_set, All, Option, Some, None, Result}
 use Rattle.std.specs.List.{sum}
-use Rattle.outside_api.specs.Disk.{Files}
-use Rattle.depot_rows.specs.depot_model.Deeds.{Deed}
+use Rattle.outside_api.specs.Says.{DiskSays, SinkSays}
+use Rattle.archive_file.specs.Archive as archives
 use Rattle.depot_rows.specs.depot_model.Tables.{needs_of}
-use Rattle.depot_rows.specs.depot_model.declared.order.Place.{Place}
-use Rattle.depot_rows.specs.depot_model.declared.request.Request.{Request}
-use Rattle.depot_rows.specs.depot_model.declared.request.Session.{Session}
-use Rattle.lock_core.specs.declared.machine.LockCore.{LockCore}
+use Rattle.disk_journal.specs.Stands.{disk_of}
+use Rattle.lock_machine.specs.Machine.{Finish}
 use Rattle.lock_machine.specs.Turns.{turns_left}
 use Rattle.run_parties.specs.Giving.{HasGiven}
-use Rattle.run_parties.specs.Replicas.{AreLost, HasBeenAt}
+use Rattle.run_parties.specs.Replicas.{AreLost, HasBeenAt, HasLost}
 use Rattle.run_parties.specs.replica_turns.Going.{IsTurned, is_lost, reply_text}
+use Rattle.run_parties.specs.replica_turns.Master.{Past}
 use Rattle.run_parties.specs.replica_turns.declared.party.Answered.{Answered}
 use Rattle.run_parties.specs.replica_turns.declared.party.ReplicaParty.{ReplicaParty}
 use Rattle.run_parties.specs.serial_depot.declared.depot.SerialDepot.{SerialDepot}
 use Rattle.session_loop.specs.Asking.{AreWellFormed, replica_commands}
 use Rattle.session_loop.specs.declared.reading.ReplicaScript.{ReplicaScript}
 use Rattle.session_loop.specs.declared.session.SessionRun.{SessionRun}
-use Rattle.session_turns.specs.Answering.{IsAnsweredAt}
-use Rattle.session_turns.specs.Drawn.{Progress, left_after_turn}
+use Rattle.session_turns.specs.Along.{AreAlong}
+use Rattle.session_turns.specs.Answering.{StayFailed}
+use Rattle.session_turns.specs.Drawn.{AreDrawn, Progress, StopsFailed, Turn, advanced, going}
+use Rattle.session_turns.specs.Running.{Scene}
 use Rattle.session_turns.specs.Taking.{IsRunning}
 use Rattle.session_turns.specs.declared.replicas.Replicas.{Replicas}
+use Rattle.session_turns.specs.declared.turns.Turns.{Turns}
 
 -- ---- between two turns
 
@@ -37,7 +39,7 @@ pub record IsLeft (script : ReplicaScript) (replicas : Replicas) (i : ℕ) (run 
 
 -- Each replica's sink has the replies to the commands that its run tells of, where its commands are well-formed; and no other party has commands left as one. A
 -- flag a party tells whether one of its replies is that of a failed disk.
-pub record AreFollowing {D : Type 0} (HasBeen : SerialDepot D → Type 0) (seen may_leave : D → Files → Type 0) (may_give : ℕ → Type 0) (scripts : List (Option ReplicaScript)) (replicas : Replicas) (runs : List SessionRun) (before now : List (Option (List ℕ))) : Type 0 where
+pub record AreFollowing {D : Type 0} (HasBeen : SerialDepot D → Type 0) (disk_says : DiskSays D) (may_give : ℕ → Type 0) (scripts : List (Option ReplicaScript)) (replicas : Replicas) (runs : List SessionRun) (before now : List (Option (List ℕ))) : Type 0 where
   pub count : length replicas.others.items ≡ length scripts
   pub none : (i other : ℕ) → slice_get scripts i ≡ Some None → slice_get replicas.others.items i ≡ Some other → other ≡ 0
   pub left : (i : ℕ) (script : ReplicaScript) (run : SessionRun) → slice_get scripts i ≡ Some (Some script) → slice_get runs i ≡ Some run → IsLeft script replicas i run
@@ -45,54 +47,51 @@ pub record AreFollowing {D : Type 0} (HasBeen : SerialDepot D → Type 0) (seen 
   pub told : AreLost scripts flags replicas.lost
   pub gave : (i : ℕ) (script : ReplicaScript) (run : SessionRun) (p : ReplicaParty) (given got : Option (List ℕ)) → slice_get scripts i ≡ Some (Some script) → slice_get runs i ≡ Some run
       → slice_get replicas.parties.items i ≡ Some (Some p) → slice_get before i ≡ Some given → slice_get now i ≡ Some got → AreWellFormed script.session.commands
-      → HasGiven HasBeen seen may_leave may_give (i + 1) script p run (get_or flags i false) given got
+      → HasGiven HasBeen disk_says may_give (i + 1) script p run (get_or flags i false) given got
 
 -- The sessions are running, and the replicas are following.
-pub record AreGoing {D K : Type 0} (seen may_leave : D → Files → Type 0) (moment : D → ℕ) (left_since : D → ℕ → Files → Type 0) (given : K → Option (List ℕ)) (may_give : ℕ → Type 0) (sessions : List (Option Session)) (scripts : List (Option ReplicaScript)) (since : ℕ) (start : List Deed) (requests : List (List Request)) (before : List (Option (List ℕ))) (progress : Progress) (core : LockCore) (replicas : Replicas) (runs : List SessionRun) (sinks : List K) (depot : SerialDepot D) (order : List Place) : Type 0 where
-  pub running : IsRunning seen may_leave moment left_since given may_give sessions scripts since start requests before progress.machine core runs sinks depot order
-  pub others : progress.others ≡ replicas.others.items
-  pub following : AreFollowing (HasBeenAt seen may_leave moment left_since sessions since start order) seen may_leave may_give scripts replicas runs before (map given sinks)
+pub record AreGoing {D K : Type 0} (disk_says : DiskSays D) (sink_says : SinkSays K) (may_give : ℕ → Type 0) (scene : Scene) (progress : Progress) (turns : Turns D K) : Type 0 where
+  pub running : IsRunning disk_says sink_says may_give scene progress.machine turns
+  pub others : progress.others ≡ turns.replicas.others.items
+  pub following : AreFollowing (HasBeenAt disk_says scene.sessions scene.since scene.start turns.order.items) disk_says may_give scene.scripts turns.replicas turns.runs.items scene.before (map sink_says.given turns.sinks.items)
 
 -- ---- a replica's turn
 
 -- One replica answered a command, with this text by the number of the command.
-pub record IsStepped {D : Type 0} (seen may_leave : D → Files → Type 0) (depot : SerialDepot D) (at : ℕ) (p : ReplicaParty) (old new : Replicas) (text : ℕ → List ℕ) : Type 0 where
+pub record IsStepped {D : Type 0} (disk_says : DiskSays D) (depot : SerialDepot D) (at : ℕ) (p : ReplicaParty) (old new : Replicas) (text : ℕ → List ℕ) : Type 0 where
   pub next : ReplicaParty
   pub result : Result Answered (Unit {0})
   pub parties : new.parties.items ≡ slice_set old.parties.items at (Some next)
-  pub turned : IsTurned seen may_leave depot p next result
+  pub turned : IsTurned disk_says depot p next result
   pub left : length p.left.items ≡ length next.left.items + 1
   pub text_is : (number : ℕ) → text number ≡ reply_text result number
   pub lost_is : new.lost ≡ (old.lost || is_lost result)
 
--- It took its turn: its sink got the text, and one command fewer is left to it, or none where the sink failed.
-pub record IsReplicaTurn {D K : Type 0} (seen may_leave : D → Files → Type 0) (given : K → Option (List ℕ)) (faults : K → ℕ) (depot : SerialDepot D) (at : ℕ) (p : ReplicaParty) (old new : Replicas) (old_runs new_runs : List SessionRun) (old_sinks new_sinks : List K) : Type 0 where
-  pub mid : Replicas
-  pub text : ℕ → List ℕ
-  pub failed : Bool
-  pub stepped : IsStepped seen may_leave depot at p old mid text
-  pub parties : new.parties.items ≡ mid.parties.items
-  pub lost : new.lost ≡ mid.lost
-  pub others : new.others.items ≡ slice_set old.others.items at (left_after_turn (get_or old.others.items at 0) failed)
-  pub answered : IsAnsweredAt given faults at text old_runs new_runs old_sinks new_sinks failed
+-- ---- a turn
 
--- ---- how many there are
+-- A party took its turn, at which the replicas went on along the depot that they follow.
+pub record Advances {D K : Type 0} (disk_says : DiskSays D) (sink_says : SinkSays K) (may_give : ℕ → Type 0) (scene : Scene) (p : Progress) (i : ℕ) (old new : Turns D K) : Type 0 where
+  pub how : Finish
+  pub stops : Bool
+  pub going : AreGoing disk_says sink_says may_give scene (advanced p (record { party = i; how = how; stops = stops })) new
+  pub failed : StopsFailed new.runs.items (record { party = i; how = how; stops = stops })
+  pub stay : StayFailed old.runs.items new.runs.items
+  pub along : (past : Past) → AreAlong disk_says sink_says may_give past scene old → AreAlong disk_says sink_says may_give past scene new
 
--- a party has those that it has as a replica, or else as a session
-abbrev pub bound_of : ℕ → ℕ → ℕ
-bound_of total other = if nat_lt 0 other then other else total
+-- The parties took the turns that the numbers after a number draw, until none could go on.
+pub record TakesTurns {D K : Type 0} (disk_says : DiskSays D) (sink_says : SinkSays K) (may_give : ℕ → Type 0) (scene : Scene) (x : ℕ) (p : Progress) (old new : Turns D K) : Type 0 where
+  pub turns : List Turn
+  pub last : ℕ
+  pub end : Progress
+  pub drawn : AreDrawn x p turns last end
+  pub done : going end ≡ []
+  pub going : AreGoing disk_says sink_says may_give scene end new
+  pub stops : All (StopsFailed new.runs.items) turns
+  pub along : (past : Past) → AreAlong disk_says sink_says may_give past scene old → AreAlong disk_says sink_says may_give past scene new
 
-abbrev pub AreBoundsOf : List ℕ → List ℕ → List ℕ → Type 0
-AreBoundsOf totals others bounds = (i total other : ℕ) → slice_get totals i ≡ Some total → slice_get others i ≡ Some other → slice_get bounds i ≡ Some (bound_of total other)
-
--- a replica has no commands as a session, and its bound is how many it has
-pub record AreBounded (scripts : List (Option ReplicaScript)) (totals bounds : List ℕ) : Type 0 where
-  pub none : (i : ℕ) (script : ReplicaScript) → slice_get scripts i ≡ Some (Some script) → slice_get totals i ≡ Some 0
-  pub bound : (i : ℕ) (script : ReplicaScript) → slice_get scripts i ≡ Some (Some script) → slice_get bounds i ≡ Some (length (replica_commands (Some script)))
-
--- a party has at most as many commands as its bound
-abbrev pub AreAtMost : List ℕ → List ℕ → Type 0
-AreAtMost totals bounds = (i total : ℕ) → slice_get totals i ≡ Some total → (bound : ℕ) × (slice_get bounds i ≡ Some bound) × (total ≤ bound)
+-- that a replica was answered so only where the count of one of the two disks rose
+abbrev pub HaveLost : {D K : Type 0} → DiskSays D → Turns D K → Turns D K → Type 0
+HaveLost disk_says old new = HasLost old.replicas.lost new.replicas.lost (disk_says.faults (disk_of old.depot.journal)) (disk_says.faults (disk_of new.depot.journal)) (disk_says.faults (archives.disk_of old.depot.archive)) (disk_says.faults (archives.disk_of new.depot.archive))
 
 -- how many turns are left at most
 abbrev pub all_left : Progress → ℕ

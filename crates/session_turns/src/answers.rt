@@ -47,7 +47,7 @@ pub(crate) fn answer_party<K: Sink>(
     requires run { at < length runs.old.items }
     requires sink { at < length sinks.old.items }
     requires few { (run : AnyRun) → slice_get runs.old.items at ≡ Some run → run.commands < 4294967295 }
-    ensures { IsAnsweredAt K.given K.faults at (text_of reply) runs.old.items runs.new.items sinks.old.items sinks.new.items result }
+    ensures { IsAnsweredAt K.says at (text_of reply) runs.old.items runs.new.items sinks.old.items sinks.new.items result }
 {
     let number = runs[at].commands + 1;
     let failed = give(&mut sinks[at], reply, number);
@@ -87,8 +87,8 @@ fn answer_left<K: Sink, C: Clock>(
     requires as_many { length sinks.old.items ≡ length runs.old.items }
     ensures as_many { length sinks.new.items ≡ length runs.new.items }
     ensures count { length sinks.new.items ≡ length sinks.old.items }
-    ensures none { AnswersNone (C.may_give clock.now) K.given runs.old.items runs.new.items sinks.old.items sinks.new.items }
-    ensures within { (before : List K) → AreWithin K.faults totals.now runs.old.items before sinks.old.items → AreWithin K.faults totals.now runs.new.items before sinks.new.items }
+    ensures none { AnswersNone (C.says.may_give clock.now) K.says runs.old.items runs.new.items sinks.old.items sinks.new.items }
+    ensures within { (before : List K) → AreWithin K.says totals.now runs.old.items before sinks.old.items → AreWithin K.says totals.now runs.new.items before sinks.new.items }
     ensures done { IsDoneAt runs.new.items totals.now at }
     ensures others { (j : ℕ) → j ≢ at → IsSameAt j runs.old.items runs.new.items sinks.old.items sinks.new.items }
     ensures same { IsDoneAt runs.old.items totals.now at → IsSameAt at runs.old.items runs.new.items sinks.old.items sinks.new.items }
@@ -106,8 +106,8 @@ pub(crate) fn answer_rest<K: Sink, C: Clock>(
     sinks: &mut Vec<K>,
 )
     requires as_many { length sinks.old.items ≡ length runs.old.items }
-    ensures none { AnswersNone (C.may_give clock.now) K.given runs.old.items runs.new.items sinks.old.items sinks.new.items }
-    ensures within { (before : List K) → AreWithin K.faults totals.now runs.old.items before sinks.old.items → AreWithin K.faults totals.now runs.new.items before sinks.new.items }
+    ensures none { AnswersNone (C.says.may_give clock.now) K.says runs.old.items runs.new.items sinks.old.items sinks.new.items }
+    ensures within { (before : List K) → AreWithin K.says totals.now runs.old.items before sinks.old.items → AreWithin K.says totals.now runs.new.items before sinks.new.items }
     ensures done { AreDone runs.new.items totals.now }
     ensures same { (i : ℕ) → IsDoneAt runs.old.items totals.now i → IsSameAt i runs.old.items runs.new.items sinks.old.items sinks.new.items }
 {

@@ -1,62 +1,58 @@
 //! What a run begins with.
 
-ghost use Rattle.std.specs.Prelude.{◌≡◌, ◌≤◌, length, map, All, IfOk};
+ghost use Rattle.std.specs.Prelude.{◌≡◌, ◌≤◌, ◌<◌, ◌^◌, length, map, All, IfOk};
 ghost use Rattle.run_parties.specs.Asking.{fresh};
-ghost use Rattle.session_loop.specs.Asking.{commands_of};
-ghost use Rattle.session_turns.specs.Going.{AreBoundsOf, bound_of};
+ghost use Rattle.run_parties.specs.Served.{total_of};
+ghost use Rattle.session_loop.specs.Asking.{commands_of, replica_commands};
+ghost use Rattle.session_turns.specs.Beginning.{HasBegun};
+ghost use Rattle.session_turns.specs.Running.{AreTotals};
 
+use crate::replicas::Replicas;
 use depot_rows::model::Session;
-use session_loop::SessionRun;
+use depot_rows::tables::Tables;
+use lock_core::{LockCore, share_tables};
+use outside_api::Clock;
+use run_parties::all_requests;
+use session_loop::{ReplicaScript, SessionRun};
 use std::alloc::{AllocError, Global};
 
-/// How many commands a session has.
-fn total_of(session: &Option<Session>) -> u32
-    ensures { length (commands_of session.now) ≤ 67108864 → result ≡ length (commands_of session.now) }
+/// How many commands a party has.
+fn total_of(session: &Option<Session>, script: &Option<ReplicaScript>) -> u32
+    requires few { length (commands_of session.now) ≤ 67108864 }
+    requires few_replicas { length (replica_commands script.now) ≤ 67108864 }
+    ensures { result ≡ total_of session.now script.now }
 {
-    match session {
-        Some(session) => u32::try_from(session.commands.len()).unwrap_or(u32::MAX),
-        None => 0,
-    }
+    let commands = match script {
+        Some(script) => script.session.commands.len(),
+        None => match session {
+            Some(session) => session.commands.len(),
+            None => 0,
+        },
+    };
+    u32::try_from(commands).unwrap_or(u32::MAX)
 }
 
-/// How many commands each session has.
-pub(crate) fn totals_of(alloc: Global, sessions: &[Option<Session>]) -> Result<Vec<u32>, AllocError>
-    requires { All (λ session. length (commands_of session) ≤ 67108864) sessions.now }
-    ensures { IfOk result (λ totals. totals.items ≡ map (λ session. length (commands_of session)) sessions.now) }
+/// How many commands each party has.
+fn totals_of(
+    alloc: Global,
+    sessions: &[Option<Session>],
+    scripts: &[Option<ReplicaScript>],
+) -> Result<Vec<u32>, AllocError>
+    requires as_many { length scripts.now ≡ length sessions.now }
+    requires few { All (λ session. length (commands_of session) ≤ 67108864) sessions.now }
+    requires few_replicas { All (λ script. length (replica_commands script) ≤ 67108864) scripts.now }
+    ensures count { IfOk result (λ totals. length totals.items ≡ length sessions.now) }
+    ensures each { IfOk result (λ totals. AreTotals sessions.now scripts.now totals.items) }
 {
     let mut totals = Vec::new(alloc);
-    for session in sessions {
-        totals.push(total_of(session))?;
+    for at in 0..sessions.len() {
+        totals.push(total_of(&sessions[at], &scripts[at]))?;
     }
     Ok(totals)
 }
 
-/// How many commands a party has that has so many as a session, and so many as a replica: it is one of the two.
-fn bound_of(total: u32, other: u32) -> u32
-    ensures { result ≡ bound_of total other }
-{
-    if other > 0 { other } else { total }
-}
-
-/// How many commands each party has.
-pub(crate) fn bounds_of(
-    alloc: Global,
-    totals: &[u32],
-    others: &[u32],
-) -> Result<Vec<u32>, AllocError>
-    requires { length others.now ≡ length totals.now }
-    ensures count { IfOk result (λ bounds. length bounds.items ≡ length totals.now) }
-    ensures each { IfOk result (λ bounds. AreBoundsOf totals.now others.now bounds.items) }
-{
-    let mut bounds = Vec::new(alloc);
-    for at in 0..totals.len() {
-        bounds.push(bound_of(totals[at], others[at]))?;
-    }
-    Ok(bounds)
-}
-
 /// The runs of parties of which no command is taken yet.
-pub(crate) fn fresh_runs(alloc: Global, totals: &[u32]) -> Result<Vec<SessionRun>, AllocError>
+fn fresh_runs(alloc: Global, totals: &[u32]) -> Result<Vec<SessionRun>, AllocError>
     ensures { IfOk result (λ runs. runs.items ≡ map (λ total. fresh) totals.now) }
 {
     let mut runs = Vec::new(alloc);
@@ -67,4 +63,43 @@ pub(crate) fn fresh_runs(alloc: Global, totals: &[u32]) -> Result<Vec<SessionRun
         })?;
     }
     Ok(runs)
+}
+
+/// All that a run has in memory before its first turn.
+#[derive(Drop)]
+pub(crate) struct Beginning {
+    pub(crate) core: LockCore,
+    pub(crate) replicas: Replicas,
+    pub(crate) totals: Vec<u32>,
+    pub(crate) runs: Vec<SessionRun>,
+}
+
+impl Beginning {
+    /// The beginning of sessions and replicas over the tables of a depot. The one error is want of memory.
+    pub(crate) fn new<C: Clock>(
+        alloc: Global,
+        sessions: Vec<Option<Session>>,
+        scripts: Vec<Option<ReplicaScript>>,
+        clock: &C,
+        tables: &Tables,
+    ) -> Result<Beginning, AllocError>
+        requires as_many { length scripts.items ≡ length sessions.items }
+        requires few_parties { length sessions.items < 2 ^ 32 }
+        requires few { All (λ session. length (commands_of session) ≤ 67108864) sessions.items }
+        requires few_replicas { All (λ script. length (replica_commands script) ≤ 67108864) scripts.items }
+        ensures { IfOk result (HasBegun (C.says.may_give clock.now) sessions.items scripts.items tables.now) }
+    {
+        let totals = totals_of(alloc, &sessions, &scripts)?;
+        let runs = fresh_runs(alloc, &totals)?;
+        let replicas = Replicas::new(alloc, scripts, clock)?;
+        let requests = all_requests(alloc, sessions, clock)?;
+        let tables = share_tables(alloc, tables)?;
+        let core = LockCore::new(alloc, tables, requests)?;
+        Ok(Beginning {
+            core,
+            replicas,
+            totals,
+            runs,
+        })
+    }
 }

@@ -1,27 +1,22 @@
-//! Making the commit of a party.
+//! The place of a commit.
 
-ghost use Rattle.std.specs.Prelude.{◌≡◌, ◌<◌, ◌++◌, ◌∷◌, [], ℕ, List, IfOk, OnOk, OnErr, Ok, Err, vec_len, vec_capacity};
+ghost use Rattle.std.specs.Prelude.{◌≡◌, ◌<◌, ◌++◌, ◌∷◌, [], ℕ, List, IfOk, OnErr, OnOk, Ok, vec_len, vec_capacity};
 ghost use Rattle.archive_file.specs.Archive.{disk_of as archive_disk_of};
 ghost use Rattle.depot_rows.specs.depot_model.Deeds.{Deed};
 ghost use Rattle.depot_rows.specs.depot_model.Places.{Placed};
 ghost use Rattle.depot_rows.specs.depot_model.declared.request.Request.{Request as AnyRequest};
+ghost use Rattle.depot_rows.specs.table_changes.Changed.{changed_by, rows_of};
 ghost use Rattle.disk_journal.specs.Stands.{disk_of};
 ghost use Rattle.lock_core.specs.Core.{IsReady, Shows};
 ghost use Rattle.lock_machine.specs.Machine.{State};
 ghost use Rattle.run_parties.specs.command_core.declared.outcome.Outcome.{Outcome as AnyOutcome};
-ghost use Rattle.run_parties.specs.replica_turns.Master.{IsMaster, Past};
-ghost use Rattle.run_parties.specs.serial_depot.Committing.{AreRowsAfter, IsOutcomeOf};
-ghost use Rattle.run_parties.specs.serial_depot.Growing.{Chronicle};
 ghost use Rattle.run_parties.specs.serial_depot.Running.{CanTake, HasRun};
 ghost use Rattle.session_loop.specs.Served.{AreCaused};
-ghost use Rattle.session_loop.specs.Taking.{Answers, IsProper, with_place};
-ghost use Rattle.session_turns.specs.Along.{GrowsTo};
 ghost use Rattle.session_turns.specs.Drawn.{ended};
-ghost use Rattle.session_turns.specs.Taking.{finish_for};
-ghost use Rattle.depot_rows.specs.table_changes.Changed.{changed_by, rows_of};
+ghost use Rattle.session_turns.specs.Taking.{IsDue, IsPlaced, IsUnplaced, finish_for};
 
 use command_core::Outcome;
-use depot_rows::model::{Answer, Place, Request};
+use depot_rows::model::{Answer, Place};
 use depot_rows::tables::Tables;
 use lock_core::{Finish, LockCore};
 use outside_api::{Disk, Gate};
@@ -44,88 +39,8 @@ fn tables_with_room(
     core.tables_after(alloc, party)
 }
 
-/// Gives a request its place in the depot, and puts the place behind the order, which has room for it.
-fn place_with_room<D: Disk, G: Gate>(
-    alloc: Global,
-    gate: &G,
-    request: &Request,
-    outcome: Outcome,
-    changed: Tables,
-    depot: &mut SerialDepot<D>,
-    order: &mut Vec<Place>,
-) -> Result<Answer, AllocError>
-    requires can { CanTake D.may_leave depot.old }
-    requires room { vec_len order.old < vec_capacity order.old }
-    ensures can { CanTake D.may_leave depot.new }
-    ensures ran { (since : ℕ) (start : List Deed) (places : List Placed) → HasRun D.seen D.may_leave D.moment D.left_since depot.old since start places → IsProper request.now →
-        IsOutcomeOf (rows_of depot.old.tables) depot.old.tables.archive_end request.now outcome → rows_of changed ≡ changed_by (rows_of depot.old.tables) outcome.changes →
-        IfOk result (λ answer. HasRun D.seen D.may_leave D.moment D.left_since depot.new since start (with_place places request.now answer)) }
-    ensures answers { (since : ℕ) (start : List Deed) (places : List Placed) → HasRun D.seen D.may_leave D.moment D.left_since depot.old since start places →
-        IsOutcomeOf (rows_of depot.old.tables) depot.old.tables.archive_end request.now outcome → IfOk result (Answers start places request.now) }
-    ensures rows { rows_of changed ≡ changed_by (rows_of depot.old.tables) outcome.changes →
-        IfOk result (λ answer. AreRowsAfter (rows_of depot.old.tables) outcome.changes answer.place.fault (rows_of depot.new.tables)) }
-    ensures nothing { (since : ℕ) (start : List Deed) (places : List Placed) → HasRun D.seen D.may_leave D.moment D.left_since depot.old since start places →
-        OnErr result (HasRun D.seen D.may_leave D.moment D.left_since depot.new since start places) }
-    ensures same_tables { OnErr result (depot.new.tables ≡ depot.old.tables) }
-    // A depot that replicas follow stays one.
-    ensures master { (past : Past) (since : ℕ) (start : List Deed) (places : List Placed) (c : Chronicle) → HasRun D.seen D.may_leave D.moment D.left_since depot.old since start places → IsProper request.now →
-        IsOutcomeOf (rows_of depot.old.tables) depot.old.tables.archive_end request.now outcome → rows_of changed ≡ changed_by (rows_of depot.old.tables) outcome.changes →
-        IsMaster D.seen D.may_leave past start places depot.old c → IfOk result (λ answer. GrowsTo D.seen D.may_leave past start (with_place places request.now answer) depot.new c) }
-    ensures same_master { (past : Past) (start : List Deed) (places : List Placed) (c : Chronicle) → IsMaster D.seen D.may_leave past start places depot.old c → OnErr result (IsMaster D.seen D.may_leave past start places depot.new c) }
-    ensures order { IfOk result (λ answer. order.new.items ≡ order.old.items ++ answer.place ∷ []) }
-    ensures same_order { OnErr result (order.new.items ≡ order.old.items) }
-    ensures faults { AreCaused (D.faults (disk_of depot.old.journal)) (D.faults (disk_of depot.new.journal)) (D.faults (archive_disk_of depot.old.archive)) (D.faults (archive_disk_of depot.new.archive)) order.old.items order.new.items }
-{
-    let answer = depot.place_outcome(alloc, gate, request, outcome, changed)?;
-    order.push(answer.place).unwrap();
-    Ok(answer)
-}
-
-/// Makes the commit of a party that is at hand, and puts its place behind the order. The one error is want of memory, and then it has no place.
-fn commit<D: Disk, G: Gate>(
-    alloc: Global,
-    party: u32,
-    gate: &G,
-    outcome: Outcome,
-    core: &LockCore,
-    depot: &mut SerialDepot<D>,
-    order: &mut Vec<Place>,
-) -> Result<Answer, AllocError>
-    requires can { CanTake D.may_leave depot.old }
-    ensures can { CanTake D.may_leave depot.new }
-    ensures ran { (since : ℕ) (start : List Deed) (places : List Placed) (s : State) (request : AnyRequest) → HasRun D.seen D.may_leave D.moment D.left_since depot.old since start places →
-        IsReady start s core.now party request outcome → rows_of core.now.tables ≡ rows_of depot.old.tables → core.now.tables.archive_end ≡ depot.old.tables.archive_end → IsProper request →
-        IfOk result (λ answer. HasRun D.seen D.may_leave D.moment D.left_since depot.new since start (with_place places request answer)) }
-    ensures answers { (since : ℕ) (start : List Deed) (places : List Placed) (s : State) (request : AnyRequest) → HasRun D.seen D.may_leave D.moment D.left_since depot.old since start places →
-        IsReady start s core.now party request outcome → rows_of core.now.tables ≡ rows_of depot.old.tables → core.now.tables.archive_end ≡ depot.old.tables.archive_end →
-        IfOk result (Answers start places request) }
-    ensures rows { (start : List Deed) (s : State) (request : AnyRequest) → IsReady start s core.now party request outcome → rows_of core.now.tables ≡ rows_of depot.old.tables →
-        IfOk result (λ answer. AreRowsAfter (rows_of depot.old.tables) outcome.changes answer.place.fault (rows_of depot.new.tables)) }
-    ensures nothing { (since : ℕ) (start : List Deed) (places : List Placed) → HasRun D.seen D.may_leave D.moment D.left_since depot.old since start places →
-        OnErr result (HasRun D.seen D.may_leave D.moment D.left_since depot.new since start places) }
-    ensures same_tables { OnErr result (depot.new.tables ≡ depot.old.tables) }
-    ensures master { (past : Past) (since : ℕ) (start : List Deed) (places : List Placed) (c : Chronicle) (s : State) (request : AnyRequest) → HasRun D.seen D.may_leave D.moment D.left_since depot.old since start places →
-        IsReady start s core.now party request outcome → rows_of core.now.tables ≡ rows_of depot.old.tables → core.now.tables.archive_end ≡ depot.old.tables.archive_end → IsProper request →
-        IsMaster D.seen D.may_leave past start places depot.old c → IfOk result (λ answer. GrowsTo D.seen D.may_leave past start (with_place places request answer) depot.new c) }
-    ensures same_master { (past : Past) (start : List Deed) (places : List Placed) (c : Chronicle) → IsMaster D.seen D.may_leave past start places depot.old c → OnErr result (IsMaster D.seen D.may_leave past start places depot.new c) }
-    ensures order { IfOk result (λ answer. order.new.items ≡ order.old.items ++ answer.place ∷ []) }
-    ensures same_order { OnErr result (order.new.items ≡ order.old.items) }
-    ensures faults { AreCaused (D.faults (disk_of depot.old.journal)) (D.faults (disk_of depot.new.journal)) (D.faults (archive_disk_of depot.old.archive)) (D.faults (archive_disk_of depot.new.archive)) order.old.items order.new.items }
-{
-    let Some(request) = core.request(party) else {
-        drop(outcome);
-        return Err(AllocError);
-    };
-    match tables_with_room(alloc, party, core, order) {
-        Ok(changed) => { place_with_room(alloc, gate, request, outcome, changed, depot, order) }
-        Err(error) => {
-            drop(outcome);
-            Err(error)
-        }
-    }
-}
-
-/// The same, where there may have been no memory for its outcome.
+/// Makes the commit that a party has at hand, for whose outcome there may have been no memory: gives its request a place in the depot, and puts the place
+/// behind the order. The one error is want of memory, and then it has no place.
 pub(crate) fn place_commit<D: Disk, G: Gate>(
     alloc: Global,
     party: u32,
@@ -135,30 +50,37 @@ pub(crate) fn place_commit<D: Disk, G: Gate>(
     depot: &mut SerialDepot<D>,
     order: &mut Vec<Place>,
 ) -> Result<Answer, AllocError>
-    requires can { CanTake D.may_leave depot.old }
-    ensures can { CanTake D.may_leave depot.new }
-    ensures ran { (since : ℕ) (start : List Deed) (places : List Placed) (s : State) (request : AnyRequest) (ready : AnyOutcome) → HasRun D.seen D.may_leave D.moment D.left_since depot.old since start places →
-        outcome ≡ Ok ready → IsReady start s core.now party request ready → rows_of core.now.tables ≡ rows_of depot.old.tables → core.now.tables.archive_end ≡ depot.old.tables.archive_end → IsProper request →
-        IfOk result (λ answer. HasRun D.seen D.may_leave D.moment D.left_since depot.new since start (with_place places request answer)) }
-    ensures answers { (since : ℕ) (start : List Deed) (places : List Placed) (s : State) (request : AnyRequest) (ready : AnyOutcome) → HasRun D.seen D.may_leave D.moment D.left_since depot.old since start places →
-        outcome ≡ Ok ready → IsReady start s core.now party request ready → rows_of core.now.tables ≡ rows_of depot.old.tables → core.now.tables.archive_end ≡ depot.old.tables.archive_end →
-        IfOk result (Answers start places request) }
-    ensures rows { (start : List Deed) (s : State) (request : AnyRequest) (ready : AnyOutcome) → outcome ≡ Ok ready → IsReady start s core.now party request ready → rows_of core.now.tables ≡ rows_of depot.old.tables →
-        IfOk result (λ answer. AreRowsAfter (rows_of depot.old.tables) ready.changes answer.place.fault (rows_of depot.new.tables)) }
-    ensures ready { IfOk result (λ answer. (ready : AnyOutcome) × (outcome ≡ Ok ready)) }
-    ensures nothing { (since : ℕ) (start : List Deed) (places : List Placed) → HasRun D.seen D.may_leave D.moment D.left_since depot.old since start places →
-        OnErr result (HasRun D.seen D.may_leave D.moment D.left_since depot.new since start places) }
-    ensures same_tables { OnErr result (depot.new.tables ≡ depot.old.tables) }
-    ensures master { (past : Past) (since : ℕ) (start : List Deed) (places : List Placed) (c : Chronicle) (s : State) (request : AnyRequest) (ready : AnyOutcome) → HasRun D.seen D.may_leave D.moment D.left_since depot.old since start places →
-        outcome ≡ Ok ready → IsReady start s core.now party request ready → rows_of core.now.tables ≡ rows_of depot.old.tables → core.now.tables.archive_end ≡ depot.old.tables.archive_end → IsProper request →
-        IsMaster D.seen D.may_leave past start places depot.old c → IfOk result (λ answer. GrowsTo D.seen D.may_leave past start (with_place places request answer) depot.new c) }
-    ensures same_master { (past : Past) (start : List Deed) (places : List Placed) (c : Chronicle) → IsMaster D.seen D.may_leave past start places depot.old c → OnErr result (IsMaster D.seen D.may_leave past start places depot.new c) }
+    requires can { CanTake D.says depot.old }
+    ensures can { CanTake D.says depot.new }
+    ensures placed { (since : ℕ) (start : List Deed) (places : List Placed) (s : State) (request : AnyRequest) → HasRun D.says depot.old since start places →
+        (due : IsDue start s core.now depot.old party request outcome) →
+        IfOk result (IsPlaced D.says since start places request due.found depot.old depot.new) }
+    ensures found { IfOk result (λ answer. (found : AnyOutcome) × (outcome ≡ Ok found)) }
+    ensures unplaced { OnErr result (IsUnplaced D.says depot.old depot.new) }
     ensures order { IfOk result (λ answer. order.new.items ≡ order.old.items ++ answer.place ∷ []) }
     ensures same_order { OnErr result (order.new.items ≡ order.old.items) }
-    ensures faults { AreCaused (D.faults (disk_of depot.old.journal)) (D.faults (disk_of depot.new.journal)) (D.faults (archive_disk_of depot.old.archive)) (D.faults (archive_disk_of depot.new.archive)) order.old.items order.new.items }
+    ensures faults { AreCaused (D.says.faults (disk_of depot.old.journal)) (D.says.faults (disk_of depot.new.journal)) (D.says.faults (archive_disk_of depot.old.archive)) (D.says.faults (archive_disk_of depot.new.archive)) order.old.items order.new.items }
 {
-    match outcome {
-        Ok(outcome) => commit(alloc, party, gate, outcome, core, depot, order),
+    let outcome = match outcome {
+        Ok(outcome) => outcome,
+        Err(error) => return Err(error),
+    };
+    let Some(request) = core.request(party) else {
+        drop(outcome);
+        return Err(AllocError);
+    };
+    let changed = match tables_with_room(alloc, party, core, order) {
+        Ok(changed) => changed,
+        Err(error) => {
+            drop(outcome);
+            return Err(error);
+        }
+    };
+    match depot.place_outcome(alloc, gate, request, outcome, changed) {
+        Ok(answer) => {
+            order.push(answer.place).unwrap();
+            Ok(answer)
+        }
         Err(error) => Err(error),
     }
 }

@@ -5,9 +5,8 @@
 mod answers;
 mod beginning;
 mod commits;
-mod replica_turn;
 mod replicas;
 mod run;
 mod turns;
 
-pub use run::{Ran, run_sessions};
+pub use run::{Ran, Unrun, run_sessions};

@@ -66,7 +66,7 @@ impl Replicas {
     ) -> Result<Replicas, AllocError>
         requires few_parties { length scripts.items < 2 ^ 32 }
         requires few { All (λ script. length (replica_commands script) ≤ 67108864) scripts.items }
-        ensures fresh { IfOk result (λ replicas. AreFresh (C.may_give clock.now) 1 scripts.items replicas.parties.items) }
+        ensures fresh { IfOk result (λ replicas. AreFresh (C.says.may_give clock.now) 1 scripts.items replicas.parties.items) }
         ensures others { IfOk result (λ replicas. replicas.others.items ≡ replica_totals scripts.items) }
         ensures lost { IfOk result (λ replicas. replicas.lost ≡ false) }
     {
@@ -96,18 +96,18 @@ impl Replicas {
         at: usize,
         depot: &mut SerialDepot<D>,
     ) -> Result<Text, AllocError>
-        requires can { CanTake D.may_leave depot.old }
-        ensures can { CanTake D.may_leave depot.new }
-        ensures ran { (since : ℕ) (start : List Deed) (places : List Placed) → HasRun D.seen D.may_leave D.moment D.left_since depot.old since start places →
-            HasRun D.seen D.may_leave D.moment D.left_since depot.new since start places }
+        requires can { CanTake D.says depot.old }
+        ensures can { CanTake D.says depot.new }
+        ensures ran { (since : ℕ) (start : List Deed) (places : List Placed) → HasRun D.says depot.old since start places →
+            HasRun D.says depot.new since start places }
         ensures tables { depot.new.tables ≡ depot.old.tables }
-        ensures groups { (c : Chronicle) → HasGroups D.seen D.may_leave depot.old.journal c → HasGroups D.seen D.may_leave depot.new.journal c }
-        ensures stored { KeepsStored D.may_leave depot.old.archive depot.new.archive }
+        ensures groups { (c : Chronicle) → HasGroups D.says depot.old.journal c → HasGroups D.says depot.new.journal c }
+        ensures stored { KeepsStored D.says depot.old.archive depot.new.archive }
         ensures others { self.new.others ≡ self.old.others }
-        ensures stepped { (p : AnyParty) → slice_get self.old.parties.items at ≡ Some (Some p) → 0 < length p.left.items → IsStepped D.seen D.may_leave depot.old at p self.old self.new (text_of result) }
-        ensures never_falls { D.faults (disk_of depot.old.journal) ≤ D.faults (disk_of depot.new.journal) }
-        ensures never_falls_contents { D.faults (archive_disk_of depot.old.archive) ≤ D.faults (archive_disk_of depot.new.archive) }
-        ensures lost { HasLost self.old.lost self.new.lost (D.faults (disk_of depot.old.journal)) (D.faults (disk_of depot.new.journal)) (D.faults (archive_disk_of depot.old.archive)) (D.faults (archive_disk_of depot.new.archive)) }
+        ensures stepped { (p : AnyParty) → slice_get self.old.parties.items at ≡ Some (Some p) → 0 < length p.left.items → IsStepped D.says depot.old at p self.old self.new (text_of result) }
+        ensures never_falls { D.says.faults (disk_of depot.old.journal) ≤ D.says.faults (disk_of depot.new.journal) }
+        ensures never_falls_contents { D.says.faults (archive_disk_of depot.old.archive) ≤ D.says.faults (archive_disk_of depot.new.archive) }
+        ensures lost { HasLost self.old.lost self.new.lost (D.says.faults (disk_of depot.old.journal)) (D.says.faults (disk_of depot.new.journal)) (D.says.faults (archive_disk_of depot.old.archive)) (D.says.faults (archive_disk_of depot.new.archive)) }
     {
         if at >= self.parties.len() {
             return Err(AllocError);

@@ -5,6 +5,7 @@ use Rattle.archive_file.specs.declared.archive.Archive.{Archive}
 use Rattle.depot_rows.specs.depot_model.Deeds.{Deed}
 use Rattle.locked_tables.specs.declared.taken.Taken.{Taken}
 use Rattle.outside_api.specs.Disk.{Files, NoMore}
+use Rattle.outside_api.specs.Says.{DiskSays}
 use Rattle.serial_depot.specs.Storing.{AreStored, HasStored, stores_end}
 use Rattle.serial_depot.proofs.Stored.{grows}
 use Rattle.shared_depot.specs.Common.{HasAllStored}
@@ -26,9 +27,9 @@ fewer_stored images from first second image has =
     let less = first_end first second from in
     record { below = has.below; stored = first_stored (image 0) first second from has.stored; reach = omega (arith, far, less) }
 
-module _ {D : Type 0} (seen may_leave : D → Files → Type 0) (moment : D → ℕ) (left_since : D → ℕ → Files → Type 0) (end : ℕ) (images : Files → Type 0) (begins : ℕ → List Deed → Type 0) where
-  pub stored_front : (known order : List Taken) (archive : Archive D) → IsPrefix known order → HasAllStored seen may_leave moment left_since end images begins order archive
-      → HasAllStored seen may_leave moment left_since end images begins known archive
+module _ {D : Type 0} (disk_says : DiskSays D) (end : ℕ) (images : Files → Type 0) (begins : ℕ → List Deed → Type 0) where
+  pub stored_front : (known order : List Taken) (archive : Archive D) → IsPrefix known order → HasAllStored disk_says end images begins order archive
+      → HasAllStored disk_says end images begins known archive
   stored_front known order archive (rest, is) all =
       let apart = sym (ap stores_of is) ∙ stores_append known rest in
       let used = all.used in

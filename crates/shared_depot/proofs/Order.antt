@@ -20,6 +20,7 @@ use Rattle.locked_tables.specs.declared.taken.Taken.{Taken}
 use Rattle.order_words.specs.Lanes.{has_lane}
 use Rattle.outside_api.specs.Count.{HasRisen, counted}
 use Rattle.outside_api.specs.Disk.{Files, NoMore}
+use Rattle.outside_api.specs.Says.{DiskSays}
 use Rattle.serial_depot.specs.Committing.{AreRowsAfter, IsOutcomeOf}
 use Rattle.serial_depot.specs.Fetching.{IsRead}
 use Rattle.serial_depot.specs.Placing.{HasRunBeside, StoresBehind}
@@ -33,16 +34,16 @@ use Rattle.serial_depot.proofs.Stored.{keeps_more}
 use Rattle.session_loop.specs.Taking.{Answers, place_by, placed_by}
 use Rattle.depot_rows.specs.table_changes.Changed.{AllRows, changed_by, rows_of}
 use Rattle.depot_rows.specs.table_store.declared.tables.Tables.{Tables}
-use Rattle.shared_depot.specs.Common.{HasAllStored, HasRunOrder, IsArchiveAfter}
+use Rattle.shared_depot.specs.Common.{HasAllStored, HasRunOrder, IsArchiveAfter, IsLostPlace}
 use Rattle.shared_depot.specs.Room.{StandsAfter}
 use Rattle.shared_depot.specs.Sharing.{IsTakenAt}
 use Rattle.shared_depot.specs.Stored.{ArchiveKnown, images_after, is_lost, is_unwritten, lost_count, lost_in, stored_end, stores_of, unwritten_count}
 use Rattle.shared_depot.proofs.Stored.{count_caused, count_one, lost_kept, lost_risen, stores_kept, stores_touched}
 
-module _ {D : Type 0} (seen may_leave : D → Files → Type 0) (moment : D → ℕ) (left_since : D → ℕ → Files → Type 0) (faults : D → ℕ)
+module _ {D : Type 0} (disk_says : DiskSays D)
     (rows : AllRows) (end : ℕ) (images : Files → Type 0) (begins : ℕ → List Deed → Type 0) (faults_then : ℕ) where
   abbrev Ran : List Taken → Tables → Journal D → Type 0
-  Ran order tables journal = HasRunOrder seen may_leave moment left_since faults rows end images begins faults_then order tables journal
+  Ran order tables journal = HasRunOrder disk_says rows end images begins faults_then order tables journal
 
   module _ (order : List Taken) (tables : Tables) (journal : Journal D) (was : Ran order tables journal) where
     -- the rows are those after the order
@@ -70,14 +71,14 @@ module _ {D : Type 0} (seen may_leave : D → Files → Type 0) (moment : D → 
         ∙ ap (λ (all : AllRows). changed_by all changes) (sym all_rows))
 
     -- a command has the place of an entry behind them, and these contents were stored
-    pub run_more : (tables' : Tables) (journal' : Journal D) → CanCommit may_leave journal' → faults (disk_of journal) ≤ faults (disk_of journal')
+    pub run_more : (tables' : Tables) (journal' : Journal D) → CanCommit disk_says journal' → disk_says.faults (disk_of journal) ≤ disk_says.faults (disk_of journal')
         → (entry : Taken) (changes : List Change) (stored : List (List ℕ)) → AreRowsAfter (rows_of tables) changes entry.fault (rows_of tables')
         → entry.changes ≡ (if entry.fault then [] else changes)
         → ((table : TableId) → rows_after rows (order ++ entry ∷ []) table ≡ changed_by (rows_after rows order) entry.changes table)
         → end_after end (order ++ entry ∷ []) ≡ tables'.archive_end → tables'.archive_end ≡ stores_end (stores_of order ++ stored) end
         → stores_of (order ++ entry ∷ []) ≡ stores_of order ++ stored
-        → ((since : ℕ) (start : List Deed) → begins since start → HasRunBeside may_leave moment left_since images end (stores_of order ++ stored) tables' journal' since start (map placed_of order ++ placed_of entry ∷ []))
-        → (is_unwritten entry ≡ true → HasRisen (faults (disk_of journal)) (faults (disk_of journal')))
+        → ((since : ℕ) (start : List Deed) → begins since start → HasRunBeside disk_says images end (stores_of order ++ stored) tables' journal' since start (map placed_of order ++ placed_of entry ∷ []))
+        → (is_unwritten entry ≡ true → HasRisen (disk_says.faults (disk_of journal)) (disk_says.faults (disk_of journal')))
         → Ran (order ++ entry ∷ []) tables' journal'
     run_more tables' journal' can le entry changes stored rows_now own rows_placed end_placed ends stores_are ran risen = record {
       can = can;
@@ -85,10 +86,10 @@ module _ {D : Type 0} (seen may_leave : D → Files → Type 0) (moment : D → 
       end_is = sym end_placed;
       ends = end_placed ∙ (ends ∙ sym (ap (λ (l : List (List ℕ)). stores_end l end) stores_are));
       ran = λ since start at.
-          subst (HasRunBeside may_leave moment left_since images end (stores_of (order ++ entry ∷ [])) tables' journal' since start) (sym (map-append placed_of order (entry ∷ [])))
-          (subst (λ (l : List (List ℕ)). HasRunBeside may_leave moment left_since images end l tables' journal' since start (map placed_of order ++ placed_of entry ∷ [])) (sym stores_are) (ran since start at));
-      caused = subst (λ (n : ℕ). counted n faults_then ≤ faults (disk_of journal')) (sym (count_one is_unwritten order entry))
-          (count_caused (unwritten_count order) faults_then (faults (disk_of journal)) (faults (disk_of journal')) (is_unwritten entry) was.caused le risen);
+          subst (HasRunBeside disk_says images end (stores_of (order ++ entry ∷ [])) tables' journal' since start) (sym (map-append placed_of order (entry ∷ [])))
+          (subst (λ (l : List (List ℕ)). HasRunBeside disk_says images end l tables' journal' since start (map placed_of order ++ placed_of entry ∷ [])) (sym stores_are) (ran since start at));
+      caused = subst (λ (n : ℕ). counted n faults_then ≤ disk_says.faults (disk_of journal')) (sym (count_one is_unwritten order entry))
+          (count_caused (unwritten_count order) faults_then (disk_says.faults (disk_of journal)) (disk_says.faults (disk_of journal')) (is_unwritten entry) was.caused le risen);
       no_fewer = let before = was.no_fewer in omega (arith, before, le);
     }
       where
@@ -101,18 +102,18 @@ module _ {D : Type 0} (seen may_leave : D → Files → Type 0) (moment : D → 
             ∙ sym (ap (λ (l : List Change). changed_by (rows_after rows order) l table) all))
 
     -- beside an archive in which the contents of the order were stored they are a depot that has run it
-    pub depot_ran : (archive : Archive D) → HasAllStored seen may_leave moment left_since end images begins order archive → (since : ℕ) (start : List Deed) → begins since start
-        → HasRun seen may_leave moment left_since (record { tables = tables; journal = journal; archive = archive }) since start (map placed_of order)
+    pub depot_ran : (archive : Archive D) → HasAllStored disk_says end images begins order archive → (since : ℕ) (start : List Deed) → begins since start
+        → HasRun disk_says (record { tables = tables; journal = journal; archive = archive }) since start (map placed_of order)
     depot_ran archive all since start at = record {
       tells = all.tells since start at;
-      over = over_moved may_leave moment left_since (images_after images end order) (stored_end end order) tables journal since start (map placed_of order) (was.ran since start at)
-          (may_leave (archive_disk_of archive)) (used_of archive) all.used (keeps_more (images_after images end order) (may_leave (archive_disk_of archive)) (stored_end end order) all.among);
+      over = over_moved disk_says (images_after images end order) (stored_end end order) tables journal since start (map placed_of order) (was.ran since start at)
+          (disk_says.may_leave (archive_disk_of archive)) (used_of archive) all.used (keeps_more (images_after images end order) (disk_says.may_leave (archive_disk_of archive)) (stored_end end order) all.among);
     }
 
   -- a journal of which bytes were read, or none, is as good
-  pub run_fetched : (order : List Taken) (tables : Tables) (journal journal' : Journal D) → Ran order tables journal → CanCommit may_leave journal' → faults (disk_of journal) ≤ faults (disk_of journal')
-      → ((since : ℕ) (start : List Deed) (places : List Placed) → HasRunBeside may_leave moment left_since images end (stores_of order) tables journal since start places
-      → HasRunBeside may_leave moment left_since images end (stores_of order) tables journal' since start places)
+  pub run_fetched : (order : List Taken) (tables : Tables) (journal journal' : Journal D) → Ran order tables journal → CanCommit disk_says journal' → disk_says.faults (disk_of journal) ≤ disk_says.faults (disk_of journal')
+      → ((since : ℕ) (start : List Deed) (places : List Placed) → HasRunBeside disk_says images end (stores_of order) tables journal since start places
+      → HasRunBeside disk_says images end (stores_of order) tables journal' since start places)
       → Ran order tables journal'
   run_fetched order tables journal journal' was can le same = record {
     can = can;
@@ -126,17 +127,17 @@ module _ {D : Type 0} (seen may_leave : D → Files → Type 0) (moment : D → 
 
 -- ---- an archive
 
-module _ {D : Type 0} (seen may_leave : D → Files → Type 0) (moment : D → ℕ) (left_since : D → ℕ → Files → Type 0) (faults : D → ℕ)
+module _ {D : Type 0} (disk_says : DiskSays D)
     (end : ℕ) (images : Files → Type 0) (begins : ℕ → List Deed → Type 0) (faults_then : ℕ) where
   abbrev Kept : ArchiveKnown → Archive D → Type 0
-  Kept known archive = IsArchiveAfter seen may_leave moment left_since faults end images begins faults_then known archive
+  Kept known archive = IsArchiveAfter disk_says end images begins faults_then known archive
 
   -- more places are known, none of which touched its lane
   pub archive_learnt : (known : ArchiveKnown) (order : List Taken) (archive : Archive D) → Kept known archive → stores_of order ≡ stores_of known.list → lost_count order ≡ lost_count known.list
       → Kept (record { list = order; failed = known.failed }) archive
   archive_learnt known order archive was stores lost = record {
     used = was.used ∙ ap (λ (l : List (List ℕ)). stores_end l end) (sym stores);
-    among = subst (λ (l : List (List ℕ)). NoMore (HasStored images end l) (may_leave (archive_disk_of archive))) (sym stores) was.among;
+    among = subst (λ (l : List (List ℕ)). NoMore (HasStored images end l) (disk_says.may_leave (archive_disk_of archive))) (sym stores) was.among;
     room = was.room;
     tells = was.tells;
     caused = let before = was.caused in omega (arith, before, lost);
@@ -144,12 +145,12 @@ module _ {D : Type 0} (seen may_leave : D → Files → Type 0) (moment : D → 
   }
 
   -- it has the contents of the places that are known
-  pub has_all : (known : ArchiveKnown) (archive : Archive D) → Kept known archive → HasAllStored seen may_leave moment left_since end images begins known.list archive
+  pub has_all : (known : ArchiveKnown) (archive : Archive D) → Kept known archive → HasAllStored disk_says end images begins known.list archive
   has_all known archive was = record { used = let used = was.used in omega (arith, used); among = was.among; tells = was.tells }
 
   -- contents were read of it, or none
-  pub archive_read : (known : ArchiveKnown) (archive archive' : Archive D) → Kept known archive → IsRead seen may_leave archive archive' → faults (archive_disk_of archive) ≤ faults (archive_disk_of archive')
-      → (failed : Bool) → counted (lost_in (record { list = known.list; failed = failed })) faults_then ≤ faults (archive_disk_of archive') → Kept (record { list = known.list; failed = failed }) archive'
+  pub archive_read : (known : ArchiveKnown) (archive archive' : Archive D) → Kept known archive → IsRead disk_says archive archive' → disk_says.faults (archive_disk_of archive) ≤ disk_says.faults (archive_disk_of archive')
+      → (failed : Bool) → counted (lost_in (record { list = known.list; failed = failed })) faults_then ≤ disk_says.faults (archive_disk_of archive') → Kept (record { list = known.list; failed = failed }) archive'
   archive_read known archive archive' was read le failed caused = record {
     used = read.used ∙ was.used;
     among = λ image left. was.among image (read.crash image left);
@@ -161,12 +162,12 @@ module _ {D : Type 0} (seen may_leave : D → Files → Type 0) (moment : D → 
 
   -- a place more, whose contents were stored
   pub archive_more : (known : ArchiveKnown) (archive archive' : Archive D) → Kept known archive → (entry : Taken) (stored : List (List ℕ)) → stores_of (known.list ++ entry ∷ []) ≡ stores_of known.list ++ stored
-      → StoresBehind seen may_leave stored archive archive' → faults (archive_disk_of archive) ≤ faults (archive_disk_of archive') → (failed : Bool)
-      → counted (lost_in (record { list = known.list ++ entry ∷ []; failed = failed })) faults_then ≤ faults (archive_disk_of archive') → Kept (record { list = known.list ++ entry ∷ []; failed = failed }) archive'
+      → StoresBehind disk_says stored archive archive' → disk_says.faults (archive_disk_of archive) ≤ disk_says.faults (archive_disk_of archive') → (failed : Bool)
+      → counted (lost_in (record { list = known.list ++ entry ∷ []; failed = failed })) faults_then ≤ disk_says.faults (archive_disk_of archive') → Kept (record { list = known.list ++ entry ∷ []; failed = failed }) archive'
   archive_more known archive archive' was entry stored stores behind le failed caused = record {
-    used = used_on seen may_leave images end (stores_of known.list) stored archive archive' was.used behind ∙ ap (λ (l : List (List ℕ)). stores_end l end) (sym stores);
-    among = subst (λ (l : List (List ℕ)). NoMore (HasStored images end l) (may_leave (archive_disk_of archive'))) (sym stores)
-        (among_on seen may_leave images end (stores_of known.list) stored archive archive' was.used was.among behind);
+    used = used_on disk_says images end (stores_of known.list) stored archive archive' was.used behind ∙ ap (λ (l : List (List ℕ)). stores_end l end) (sym stores);
+    among = subst (λ (l : List (List ℕ)). NoMore (HasStored images end l) (disk_says.may_leave (archive_disk_of archive'))) (sym stores)
+        (among_on disk_says images end (stores_of known.list) stored archive archive' was.used was.among behind);
     room = behind.room;
     tells = λ since start at. let told = was.tells since start at in behind.tells told.0 told.1;
     caused = caused;
@@ -175,32 +176,32 @@ module _ {D : Type 0} (seen may_leave : D → Files → Type 0) (moment : D → 
 
   -- the same behind an order that goes on without touching its lane
   pub archive_then : (known order : List Taken) (failed : Bool) (archive archive' : Archive D) → Kept (record { list = known; failed = failed }) archive → GoesOnWithout archive_lane known order → (entry : Taken) (stored : List (List ℕ))
-      → has_lane entry.lanes archive_lane ≡ true → entry.stores ≡ stored → StoresBehind seen may_leave stored archive archive' → faults (archive_disk_of archive) ≤ faults (archive_disk_of archive')
-      → (is_lost entry ≡ true → HasRisen (faults (archive_disk_of archive)) (faults (archive_disk_of archive'))) → Kept (record { list = order ++ entry ∷ []; failed = failed }) archive'
+      → has_lane entry.lanes archive_lane ≡ true → entry.stores ≡ stored → StoresBehind disk_says stored archive archive' → disk_says.faults (archive_disk_of archive) ≤ disk_says.faults (archive_disk_of archive')
+      → (is_lost entry ≡ true → HasRisen (disk_says.faults (archive_disk_of archive)) (disk_says.faults (archive_disk_of archive'))) → Kept (record { list = order ++ entry ∷ []; failed = failed }) archive'
   archive_then known order failed archive archive' was on entry stored touches stores behind le risen =
       let here : Kept (record { list = order; failed = failed }) archive =
       archive_learnt (record { list = known; failed = failed }) order archive was (stores_kept known order on) (lost_kept known order on) in
       archive_more (record { list = order; failed = failed }) archive archive' here entry stored (stores_touched order entry touches ∙ ap (λ (l : List (List ℕ)). stores_of order ++ l) stores) behind le failed
-      (subst (λ (n : ℕ). counted (n + cond failed 1 0) faults_then ≤ faults (archive_disk_of archive')) (sym (count_one is_lost order entry))
-      (lost_risen (lost_count order) faults_then (faults (archive_disk_of archive)) (faults (archive_disk_of archive')) failed (is_lost entry) here.caused le risen))
+      (subst (λ (n : ℕ). counted (n + cond failed 1 0) faults_then ≤ disk_says.faults (archive_disk_of archive')) (sym (count_one is_lost order entry))
+      (lost_risen (lost_count order) faults_then (disk_says.faults (archive_disk_of archive)) (disk_says.faults (archive_disk_of archive')) failed (is_lost entry) here.caused le risen))
 
 -- a place more for the command without one, for which its disk failed: it stored nothing
-module _ {D : Type 0} (seen may_leave : D → Files → Type 0) (moment : D → ℕ) (left_since : D → ℕ → Files → Type 0) (faults : D → ℕ)
+module _ {D : Type 0} (disk_says : DiskSays D)
     (end : ℕ) (images : Files → Type 0) (begins : ℕ → List Deed → Type 0) (faults_then : ℕ) where
-  pub archive_placed : (order : List Taken) (archive : Archive D) → IsArchiveAfter seen may_leave moment left_since faults end images begins faults_then (record { list = order; failed = true }) archive
-      → (entry : Taken) → has_lane entry.lanes archive_lane ≡ true → entry.stores ≡ [] → is_lost entry ≡ true
-      → IsArchiveAfter seen may_leave moment left_since faults end images begins faults_then (record { list = order ++ entry ∷ []; failed = false }) archive
-  archive_placed order archive was entry touches none lost =
-      let stores : stores_of (order ++ entry ∷ []) ≡ stores_of order = stores_touched order entry touches ∙ (ap (λ (l : List (List ℕ)). stores_of order ++ l) none ∙ append-nil (stores_of order)) in
+  pub archive_placed : (order after : List Taken) (archive : Archive D) → IsArchiveAfter disk_says end images begins faults_then (record { list = order; failed = true }) archive
+      → IsLostPlace order after → IsArchiveAfter disk_says end images begins faults_then (record { list = after; failed = false }) archive
+  archive_placed order after archive was place =
+      let stores : stores_of after ≡ stores_of order =
+      ap stores_of place.placed ∙ (stores_touched order place.entry place.touches ∙ (ap (λ (l : List (List ℕ)). stores_of order ++ l) place.unstored ∙ append-nil (stores_of order))) in
       record {
         used = was.used ∙ ap (λ (l : List (List ℕ)). stores_end l end) (sym stores);
-        among = subst (λ (l : List (List ℕ)). NoMore (HasStored images end l) (may_leave (archive_disk_of archive))) (sym stores) was.among;
+        among = subst (λ (l : List (List ℕ)). NoMore (HasStored images end l) (disk_says.may_leave (archive_disk_of archive))) (sym stores) was.among;
         room = was.room;
         tells = was.tells;
         caused =
             let before = was.caused in
-            let count = count_one is_lost order entry in
-            let one = ap (λ (b : Bool). let n : ℕ = cond b 1 0 in n) lost in
+            let count = ap lost_count place.placed ∙ count_one is_lost order place.entry in
+            let one = ap (λ (b : Bool). let n : ℕ = cond b 1 0 in n) place.lost in
             omega (arith, before, count, one);
         no_fewer = was.no_fewer;
       }
@@ -239,14 +240,14 @@ module _ (begins : ℕ → List Deed → Type 0) (order after : List Taken) (old
 
 -- ---- parts that have run no place
 
-module _ {D : Type 0} (seen may_leave : D → Files → Type 0) (moment : D → ℕ) (left_since : D → ℕ → Files → Type 0) (faults : D → ℕ) (rows : AllRows) (end : ℕ) (images : Files → Type 0) (begins : ℕ → List Deed → Type 0) (depot : SerialDepot D)
-    (can : CanTake may_leave depot) (rows_are : (table : TableId) → rows_of depot.tables table ≡ rows table) (end_is : depot.tables.archive_end ≡ end)
-    (fewer : NoMore (may_leave (archive_disk_of depot.archive)) images) (among : NoMore images (may_leave (archive_disk_of depot.archive)))
-    (ran : (since : ℕ) (start : List Deed) → begins since start → HasRun seen may_leave moment left_since depot since start []) where
+module _ {D : Type 0} (disk_says : DiskSays D) (rows : AllRows) (end : ℕ) (images : Files → Type 0) (begins : ℕ → List Deed → Type 0) (depot : SerialDepot D)
+    (can : CanTake disk_says depot) (rows_are : (table : TableId) → rows_of depot.tables table ≡ rows table) (end_is : depot.tables.archive_end ≡ end)
+    (fewer : NoMore (disk_says.may_leave (archive_disk_of depot.archive)) images) (among : NoMore images (disk_says.may_leave (archive_disk_of depot.archive)))
+    (ran : (since : ℕ) (start : List Deed) → begins since start → HasRun disk_says depot since start []) where
   there : used_of depot.archive ≡ end
   there = sym can.end ∙ end_is
 
-  pub fresh_run : (faults_then : ℕ) → faults_then ≡ faults (disk_of depot.journal) → HasRunOrder seen may_leave moment left_since faults rows end images begins faults_then [] depot.tables depot.journal
+  pub fresh_run : (faults_then : ℕ) → faults_then ≡ disk_says.faults (disk_of depot.journal) → HasRunOrder disk_says rows end images begins faults_then [] depot.tables depot.journal
   fresh_run faults_then same = record {
     can = (can.was, (can.doubt, can.stands));
     rows_are = rows_are;
@@ -254,14 +255,14 @@ module _ {D : Type 0} (seen may_leave : D → Files → Type 0) (moment : D → 
     ends = refl;
     ran = λ since start at.
         let used = used_of depot.archive in
-        over_moved may_leave moment left_since (may_leave (archive_disk_of depot.archive)) used depot.tables depot.journal since start [] (ran since start at).over (HasStored images end []) end (omega (arith, there))
+        over_moved disk_says (disk_says.may_leave (archive_disk_of depot.archive)) used depot.tables depot.journal since start [] (ran since start at).over (HasStored images end []) end (omega (arith, there))
         (λ spot bytes le all image has. has.below spot bytes (omega (arith, le, there)) (λ c left. all c (fewer c left)));
     caused = omega (arith, same);
     no_fewer = omega (arith, same);
   }
 
-  pub fresh_archive : (faults_then : ℕ) → faults_then ≡ faults (archive_disk_of depot.archive)
-      → IsArchiveAfter seen may_leave moment left_since faults end images begins faults_then (record { list = []; failed = false }) depot.archive
+  pub fresh_archive : (faults_then : ℕ) → faults_then ≡ disk_says.faults (archive_disk_of depot.archive)
+      → IsArchiveAfter disk_says end images begins faults_then (record { list = []; failed = false }) depot.archive
   fresh_archive faults_then same = record {
     used = there;
     among = λ image left. record { below = λ spot bytes le all. all image (among image left); stored = tt; reach = let far = can.room image left in omega (arith, far, there) };
@@ -273,20 +274,20 @@ module _ {D : Type 0} (seen may_leave : D → Files → Type 0) (moment : D → 
 
 -- ---- the parts put together
 
-module _ {D : Type 0} (seen may_leave : D → Files → Type 0) (moment : D → ℕ) (left_since : D → ℕ → Files → Type 0) (faults : D → ℕ) (rows : AllRows) (end : ℕ) (images : Files → Type 0) (begins : ℕ → List Deed → Type 0) (faults_then contents_then : ℕ)
-    (order : List Taken) (failed : Bool) (tables : Tables) (journal : Journal D) (archive : Archive D) (was : HasRunOrder seen may_leave moment left_since faults rows end images begins faults_then order tables journal)
-    (kept : IsArchiveAfter seen may_leave moment left_since faults end images begins contents_then (record { list = order; failed = failed }) archive) where
-  pub closed_can : CanTake may_leave (record { tables = tables; journal = journal; archive = archive })
+module _ {D : Type 0} (disk_says : DiskSays D) (rows : AllRows) (end : ℕ) (images : Files → Type 0) (begins : ℕ → List Deed → Type 0) (faults_then contents_then : ℕ)
+    (order : List Taken) (failed : Bool) (tables : Tables) (journal : Journal D) (archive : Archive D) (was : HasRunOrder disk_says rows end images begins faults_then order tables journal)
+    (kept : IsArchiveAfter disk_says end images begins contents_then (record { list = order; failed = failed }) archive) where
+  pub closed_can : CanTake disk_says (record { tables = tables; journal = journal; archive = archive })
   closed_can = record {
     was = was.can.0;
     doubt = was.can.1.0;
     stands = was.can.1.1;
-    end = stored_there seen may_leave moment left_since faults rows end images begins faults_then order tables journal was ∙ sym kept.used;
+    end = stored_there disk_says rows end images begins faults_then order tables journal was ∙ sym kept.used;
     room = kept.room;
   }
 
-  pub closed_stored : HasAllStored seen may_leave moment left_since end images begins order archive
-  closed_stored = has_all seen may_leave moment left_since faults end images begins contents_then (record { list = order; failed = failed }) archive kept
+  pub closed_stored : HasAllStored disk_says end images begins order archive
+  closed_stored = has_all disk_says end images begins contents_then (record { list = order; failed = failed }) archive kept
 
-  pub closed_run : (since : ℕ) (start : List Deed) → begins since start → HasRun seen may_leave moment left_since (record { tables = tables; journal = journal; archive = archive }) since start (map placed_of order)
-  closed_run = depot_ran seen may_leave moment left_since faults rows end images begins faults_then order tables journal was archive closed_stored
+  pub closed_run : (since : ℕ) (start : List Deed) → begins since start → HasRun disk_says (record { tables = tables; journal = journal; archive = archive }) since start (map placed_of order)
+  closed_run = depot_ran disk_says rows end images begins faults_then order tables journal was archive closed_stored

@@ -5,12 +5,11 @@ use Rattle.std.specs.Sync.Mutex.{mutex_guard_value}
 use Rattle.std.specs.declared.sync.MutexGuard.{MutexGuard}
 use Rattle.serial_depot.specs.command_core.Outcomes.{HasNeeded, IsFormed, IsFormedBy, IsOutcome}
 use Rattle.serial_depot.specs.command_core.declared.outcome.Outcome.{Outcome}
-use Rattle.command_needs.specs.Sets.{need_of}
-use Rattle.command_needs.specs.declared.sets.Need.{Need}
+use Rattle.command_needs.specs.Sets.{AreOfWords}
+use Rattle.command_needs.specs.declared.needs.Needs.{Needs}
 use Rattle.depot_rows.specs.db_records.declared.change.Change.{Change}
 use Rattle.depot_rows.specs.depot_model.Deeds.{Deed}
 use Rattle.depot_rows.specs.depot_model.Rules.{IsSound}
-use Rattle.depot_rows.specs.depot_model.Tables.{needs_of}
 use Rattle.command_words.specs.WellFormed.{IsWellFormed}
 use Rattle.depot_rows.specs.depot_model.declared.command.Command.{Command}
 use Rattle.depot_rows.specs.depot_model.declared.request.Request.{Request}
@@ -19,12 +18,10 @@ use Rattle.depot_rows.specs.Standing.{Stand}
 use Rattle.depot_rows.specs.table_store.declared.tables.Tables.{Tables}
 use Rattle.locked_tables.specs.Taken.{end_after, rows_after}
 use Rattle.locked_tables.specs.declared.taken.Taken.{Taken}
-use Rattle.needed_tables.proofs.Sets.{in_set_needed}
 use Rattle.needed_tables.proofs.Whole.{have_needed, outcome_alike, outcome_anywhere}
-use Rattle.needed_tables.specs.Needed.{AgreeOnNeeded, AgreeOnNeededBy}
+use Rattle.needed_tables.specs.Needed.{AgreeOnNeeded}
 use Rattle.session_loop.specs.Taking.{IsProper}
 use Rattle.depot_rows.specs.table_changes.Changed.{AllRows, rows_of}
-use Rattle.table_locks.specs.Gathered.{HasSet, HasSetBy}
 use Rattle.table_locks.specs.declared.gathered.Gathered.{Gathered}
 use Rattle.shared_depot.specs.Ready.{IsFoundOver, IsGatheredFor}
 use Rattle.outside_api.specs.Disk.{Files}
@@ -45,27 +42,20 @@ formed_of request proper = go request.command proper.0
     go (Ok command) h = (h.form, h.heads)
     go (Err fault) h = tt
 
-agree_of : (all rows : AllRows) (request : Request) → HasSet all rows request → AgreeOnNeeded rows all request
-agree_of all rows request set = go request.command set
-  where
-    go : (asked : Result Command WordFault) → HasSetBy all rows asked → AgreeOnNeededBy rows all asked
-    go (Ok command) has = has
-    go (Err fault) has = tt
-
-module _ {N : Type 0} (rows : AllRows) (end : ℕ) (begins : ℕ → List Deed → Type 0) (order : List Taken) (g : Gathered N) (whole : Bool) (needs : List Need) (request : Request) (outcome : Outcome)
-    (gathered : IsGatheredFor rows whole needs g) (set : map need_of needs ≡ needs_of request) (proper : (since : ℕ) (start : List Deed) → begins since start → IsProper request)
+module _ {N : Type 0} (rows : AllRows) (end : ℕ) (begins : ℕ → List Deed → Type 0) (order : List Taken) (g : Gathered N) (whole : Bool) (needs : Needs) (request : Request) (outcome : Outcome)
+    (gathered : IsGatheredFor rows whole needs g) (set : AreOfWords request.command needs) (proper : (since : ℕ) (start : List Deed) → begins since start → IsProper request)
     (found : (d : List Deed) → IsSound d → IsFormedBy request → HasNeeded (rows_of g.tables) d request → IsOutcome (rows_of g.tables) g.tables.archive_end d request outcome)
     (still : IsStillSo rows end order g outcome.changes outcome.stores) where
   abbrev all : AllRows
   all = rows_after rows order
 
   agree : AgreeOnNeeded (rows_of g.tables) all request
-  agree = agree_of all (rows_of g.tables) request (still.set request (gathered.covers request set))
+  agree = still.set request (gathered.covers request set)
 
   over_all : (d : List Deed) → Stand all d → IsFormedBy request → IsOutcome all g.tables.archive_end d request outcome
   over_all d stand formed =
       outcome_alike (rows_of g.tables) all g.tables.archive_end d request outcome stand agree
-      (in_set_needed request outcome.changes (changes_in_set g whole needs gathered.held request set outcome.changes still.held))
+      (changes_in_set g whole needs gathered.held request set outcome.changes still.held)
       (found d stand.sound formed (have_needed (rows_of g.tables) all d request stand agree))
 
   at_end : (d : List Deed) → (outcome.stores ≡ []) ⊎ (g.tables.archive_end ≡ end_after end order) → IsOutcome all g.tables.archive_end d request outcome → IsOutcome all (end_after end order) d request outcome
@@ -94,8 +84,8 @@ told_after end images begins (Some guard) order request outcome told same found 
     found (mutex_guard_value guard).list refl since start at rows from d stand is (subst (λ (stores : List (List ℕ)). KeepContents (HasStored images end stores) (stores_end stores end) rows d) same kept)
 
 -- What was found over gathered tables that are still so after an order is due after it.
-pub due_after : {N : Type 0} (rows : AllRows) (end : ℕ) (images : Files → Type 0) (begins : ℕ → List Deed → Type 0) (order : List Taken) (g : Gathered N) (whole : Bool) (needs : List Need) (request : Request)
-    (archive : Option (MutexGuard ArchiveKnown)) (told : Told) → IsGatheredFor rows whole needs g → map need_of needs ≡ needs_of request → ((since : ℕ) (start : List Deed) → begins since start → IsProper request)
+pub due_after : {N : Type 0} (rows : AllRows) (end : ℕ) (images : Files → Type 0) (begins : ℕ → List Deed → Type 0) (order : List Taken) (g : Gathered N) (whole : Bool) (needs : Needs) (request : Request)
+    (archive : Option (MutexGuard ArchiveKnown)) (told : Told) → IsGatheredFor rows whole needs g → AreOfWords request.command needs → ((since : ℕ) (start : List Deed) → begins since start → IsProper request)
     → IsFoundOver end images begins g archive request told → IsStillSo rows end order g told.changes told.stores
     → IfSome archive (λ guard. stores_of order ≡ stores_of (mutex_guard_value guard).list) → IsDueAfter rows end images begins order request told
 due_after rows end images begins order g whole needs request archive told gathered set proper found still same = record {

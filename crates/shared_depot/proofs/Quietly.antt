@@ -18,6 +18,7 @@ use Rattle.locked_tables.proofs.Archive.{end_append}
 use Rattle.locked_tables.proofs.Rows.{after_append}
 use Rattle.order_words.specs.Lanes.{has_lane}
 use Rattle.outside_api.specs.Disk.{Files}
+use Rattle.outside_api.specs.Says.{DiskSays}
 use Rattle.serial_depot.specs.Committing.{AreChangesOf}
 use Rattle.serial_depot.specs.Placing.{HasRunBeside, LeavesRows}
 use Rattle.serial_depot.proofs.Steps.{over_faulted, over_idle}
@@ -107,10 +108,10 @@ module _ (begins : ℕ → List Deed → Type 0) where
         omega (arith, rest, first, here)
 
     -- tables and a journal that have run some places have run these behind them
-    module _ {D : Type 0} (may_leave : D → Files → Type 0) (moment : D → ℕ) (left_since : D → ℕ → Files → Type 0) (images : Files → Type 0) (from : ℕ) (stores : List (List ℕ))
+    module _ {D : Type 0} (disk_says : DiskSays D) (images : Files → Type 0) (from : ℕ) (stores : List (List ℕ))
         (tables : Tables) (journal : Journal D) (same : rows_of tables ≡ rows) (since : ℕ) (start : List Deed) (at : begins since start) where
       abbrev Ran : List Placed → Type 0
-      Ran places = HasRunBeside may_leave moment left_since images from stores tables journal since start places
+      Ran places = HasRunBeside disk_says images from stores tables journal since start places
 
       one_more : (places : List Placed) (entry : Taken) → IsQuiet begins rows end entry → Ran places → Ran (places ++ placed_of entry ∷ [])
       one_more places entry is ran = go entry.fault refl
@@ -123,10 +124,10 @@ module _ (begins : ℕ → List Deed → Type 0) where
           go : (fault : Bool) → entry.fault ≡ fault → Ran (places ++ placed_of entry ∷ [])
           go true failed =
               subst (λ (b : Bool). Ran (places ++ placed_by entry.request b ∷ [])) (sym failed)
-              (over_faulted may_leave moment left_since _ _ tables journal since start places entry.request ran)
+              (over_faulted disk_says _ _ tables journal since start places entry.request ran)
           go false fine =
               subst (λ (b : Bool). Ran (places ++ placed_by entry.request b ∷ [])) (sym fine)
-              (over_idle may_leave moment left_since _ _ tables journal since start places entry.request ran false (left fine))
+              (over_idle disk_says _ _ tables journal since start places entry.request ran false (left fine))
 
       pub all_more : (order : List Taken) (places : List Placed) → AllQuiet order → Ran places → Ran (places ++ map placed_of order)
       all_more [] places all ran = subst Ran (sym (append-nil places)) ran
@@ -135,8 +136,8 @@ module _ (begins : ℕ → List Deed → Type 0) where
 
 -- ---- an order that goes on without touching the journal's lane
 
-module _ {D : Type 0} (may_leave : D → Files → Type 0) (moment : D → ℕ) (left_since : D → ℕ → Files → Type 0) (rows : AllRows) (end : ℕ) (images : Files → Type 0) (begins : ℕ → List Deed → Type 0) where
-  pub goes_on_quietly : (known order : List Taken) → AreQuiet begins rows end order → GoesOnWithout journal_lane known order → GoesOnQuietly may_leave moment left_since rows end images begins known order
+module _ {D : Type 0} (disk_says : DiskSays D) (rows : AllRows) (end : ℕ) (images : Files → Type 0) (begins : ℕ → List Deed → Type 0) where
+  pub goes_on_quietly : (known order : List Taken) → AreQuiet begins rows end order → GoesOnWithout journal_lane known order → GoesOnQuietly disk_says rows end images begins known order
   goes_on_quietly known order all on =
       let behind = on.behind in
       let here : AllByRecursion (IsQuiet begins (rows_after rows known) (end_after end known)) behind =
@@ -155,6 +156,6 @@ module _ {D : Type 0} (may_leave : D → Files → Type 0) (moment : D → ℕ) 
             let none = none_unwritten begins (rows_after rows known) (end_after end known) behind here in
             omega (arith, parts, none);
         runs = λ tables journal same since start at ran.
-            subst (λ (l : List Placed). HasRunBeside may_leave moment left_since images end (stores_of known) tables journal since start l) (sym (ap (map placed_of) on.parts ∙ map-append placed_of known behind))
-            (all_more begins (rows_after rows known) (end_after end known) may_leave moment left_since images end (stores_of known) tables journal (λ k table. same table k) since start at behind (map placed_of known) here ran);
+            subst (λ (l : List Placed). HasRunBeside disk_says images end (stores_of known) tables journal since start l) (sym (ap (map placed_of) on.parts ∙ map-append placed_of known behind))
+            (all_more begins (rows_after rows known) (end_after end known) disk_says images end (stores_of known) tables journal (λ k table. same table k) since start at behind (map placed_of known) here ran);
       }

@@ -3,18 +3,18 @@ use Rattle.std.proofs.Common.{◌≡◌, Bool, true, false, cond, List, [], ◌�
 use Rattle.std.specs.Prelude.{◌==◌, ◌&&◌, ◌||◌, filter}
 use Rattle.std.specs.List.{list_any}
 use Rattle.std.proofs.lemmas.Bool.{eqb-true, true≢false}
-use Rattle.command_needs.specs.Sets.{need_of}
-use Rattle.command_needs.specs.declared.sets.Need.{Need}
+use Rattle.command_needs.specs.Sets.{AreOfWords, has_table}
+use Rattle.command_needs.specs.declared.needs.Needs.{Needs}
 use Rattle.depot_rows.specs.db_records.Record.{table_of}
 use Rattle.depot_rows.specs.db_records.Table.{all_tables, table_number}
 use Rattle.depot_rows.specs.db_records.declared.change.Change.{Change}
 use Rattle.depot_rows.specs.db_records.declared.table.TableId.{TableId}
-use Rattle.depot_rows.specs.depot_model.Tables as model
-use Rattle.depot_rows.specs.depot_model.Tables.{needs_of}
+use Rattle.depot_rows.specs.depot_model.Tables.{needs_table}
 use Rattle.depot_rows.specs.depot_model.declared.request.Request.{Request}
 use Rattle.locked_tables.specs.Held.{table_held}
 use Rattle.locked_tables.specs.declared.held_table.HeldTable.{HeldTable}
-use Rattle.needed_tables.specs.Needed.{AreInSet, has_need}
+use Rattle.needed_tables.specs.Needed.{AreNeeded}
+use Rattle.table_locks.proofs.Sets.{needs_same}
 use Rattle.table_locks.proofs.Tables.{any-map, is_table, same_number}
 use Rattle.table_locks.specs.Gathered.{tables_held}
 use Rattle.table_locks.specs.Prepared.{are_held, is_held}
@@ -35,19 +35,6 @@ module _ {X : Type 0} (same p : X → Bool) (Q : Type 0) (found : (x : X) → sa
       go true passes h rest = here passes (same x) refl h rest
       go false fails h rest = rest h
 
-or_right : (a b : Bool) → b ≡ true → (a || b) ≡ true
-or_right true b e = refl
-or_right false b e = e
-
--- a weaker test finds it too
-any_weaker : {X : Type 0} (p q : X → Bool) → ((x : X) → p x ≡ true → q x ≡ true) → (xs : List X) → list_any p xs ≡ true → list_any q xs ≡ true
-any_weaker p q weaker [] e = e
-any_weaker p q weaker (x ∷ xs) e = go (p x) refl e (λ h. any_weaker p q weaker xs h)
-  where
-    go : (b : Bool) → p x ≡ b → (b || list_any p xs) ≡ true → (list_any p xs ≡ true → list_any q xs ≡ true) → (q x || list_any q xs) ≡ true
-    go true is h rest = ap (λ t. t || list_any q xs) (weaker x is)
-    go false is h rest = or_right (q x) (list_any q xs) (rest h)
-
 and_right : (a b : Bool) → (a && b) ≡ true → b ≡ true
 and_right true b e = e
 and_right false b e = absurd (true≢false (sym e))
@@ -56,9 +43,9 @@ and_left : (a b : Bool) → (a && b) ≡ true → a ≡ true
 and_left true b e = refl
 and_left false b e = absurd (true≢false (sym e))
 
-module _ {N : Type 0} (g : Gathered N) (whole : Bool) (needs : List Need) (held : tables_held g ≡ filter (holds_table whole needs) all_tables) (request : Request) (set : map need_of needs ≡ needs_of request) where
+module _ {N : Type 0} (g : Gathered N) (whole : Bool) (needs : Needs) (held : tables_held g ≡ filter (holds_table whole needs) all_tables) (request : Request) (set : AreOfWords request.command needs) where
   -- a held table is one of the set
-  in_set : (table : TableId) → is_held g.held.items table ≡ true → has_need (needs_of request) table ≡ true
+  in_set : (table : TableId) → is_held g.held.items table ≡ true → needs_table request.command table ≡ true
   in_set table has = needed (from_filter (is_table table) (holds_table whole needs) (holds_table whole needs table ≡ true) (λ x is holds. ap (holds_table whole needs) (sym (same_table x is)) ∙ holds) all_tables among)
     where
       same_table : (x : TableId) → is_table table x ≡ true → x ≡ table
@@ -67,15 +54,18 @@ module _ {N : Type 0} (g : Gathered N) (whole : Bool) (needs : List Need) (held 
       among : list_any (is_table table) (filter (holds_table whole needs) all_tables) ≡ true
       among = ap (list_any (is_table table)) (sym held) ∙ (any-map (is_table table) (λ (h : HeldTable N). table_held h) g.held.items ∙ has)
 
-      needed : holds_table whole needs table ≡ true → has_need (needs_of request) table ≡ true
-      needed holds =
-          ap (list_any (λ (need : model.Need). need.lock == table_number table)) (sym set)
-          ∙ (any-map (λ (need : model.Need). need.lock == table_number table) need_of needs
-          ∙ any_weaker (λ (need : Need). (whole || need.writes) && (need.lock == table_number table)) (λ (need : Need). need.lock == table_number table)
-          (λ need both. and_right (whole || need.writes) (need.lock == table_number table) both) needs holds)
+      taken : (w whole r : Bool) → (w || (whole && r)) ≡ true → (r || w) ≡ true
+      taken true whole true e = refl
+      taken true whole false e = refl
+      taken false true true e = refl
+      taken false true false e = absurd (true≢false (sym e))
+      taken false false r e = absurd (true≢false (sym e))
+
+      needed : holds_table whole needs table ≡ true → needs_table request.command table ≡ true
+      needed holds = sym (needs_same needs request.command set table) ∙ taken (has_table needs.writes table) whole (has_table needs.reads table) holds
 
   -- changes of held tables are of tables of the set
-  pub changes_in_set : (changes : List Change) → are_held g.held.items changes ≡ true → AreInSet request changes
+  pub changes_in_set : (changes : List Change) → are_held g.held.items changes ≡ true → AreNeeded request changes
   changes_in_set [] all = tt
   changes_in_set (c ∷ cs) all = (
     in_set (table_of c.row) (and_left (is_held g.held.items (table_of c.row)) (are_held g.held.items cs) all),

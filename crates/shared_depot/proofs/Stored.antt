@@ -92,9 +92,13 @@ lost_of entry is = go entry.fault (has_lane entry.lanes archive_lane) entry.lost
     go true false lost all = absurd cc
     go false touched lost all = absurd cc
 
--- a place that touches the archive's lane and says that its disk failed isn't one at which the journal's did
-pub written_so : (entry : Taken) → has_lane entry.lanes archive_lane ≡ true → entry.lost ≡ true → is_unwritten entry ≡ false
-written_so entry touches lost = (λ k. entry.fault && not (touches k && lost k)) ∙ never entry.fault
+-- a place that touches the archive's lane just where its disk failed isn't one at which the journal's did
+pub written_so : (entry : Taken) → has_lane entry.lanes archive_lane ≡ entry.fault → entry.lost ≡ entry.fault → is_unwritten entry ≡ false
+written_so entry touches lost = (λ k. entry.fault && not (touches k && lost k)) ∙ go entry.fault
+  where
+    go : (failed : Bool) → failed && not (failed && failed) ≡ false
+    go true = refl
+    go false = refl
 
 -- at a fault it is lost
 pub lost_so : (entry : Taken) → has_lane entry.lanes archive_lane ≡ true → entry.fault ≡ true → entry.lost ≡ true → is_lost entry ≡ true
@@ -138,6 +142,11 @@ caused_by order before now contents_before contents_now commits contents = let a
 pub count_caused : (count before mid now : ℕ) (failed : Bool) → counted count before ≤ mid → mid ≤ now → (failed ≡ true → HasRisen mid now) → counted (count + cond failed 1 0) before ≤ now
 count_caused count before mid now true was le risen = let more = risen refl in omega (arith, was, more)
 count_caused count before mid now false was le risen = omega (arith, was, le)
+
+-- what counts no failure doesn't fail
+pub never_fails : (before now : ℕ) (lost : Bool) → before ≡ 0 → now ≡ 0 → (lost ≡ true → HasRisen before now) → lost ≡ false
+never_fails before now false none still risen = refl
+never_fails before now true none still risen = let more = risen refl in absurd (omega (arith, none, still, more))
 
 -- the archive's disk failed for a command that has its place then: its count rose
 pub lost_risen : (count before mid now : ℕ) (failed lost : Bool) → counted (count + cond failed 1 0) before ≤ mid → mid ≤ now → (lost ≡ true → HasRisen mid now) → counted (count + cond lost 1 0 + cond failed 1 0) before ≤ now

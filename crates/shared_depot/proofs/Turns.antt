@@ -6,6 +6,7 @@ use Rattle.depot_rows.specs.depot_model.Deeds.{Deed}
 use Rattle.depot_rows.specs.depot_model.declared.request.Request.{Request}
 use Rattle.locked_tables.specs.Known.{PartyKnown}
 use Rattle.outside_api.specs.Disk.{Files}
+use Rattle.outside_api.specs.Says.{DiskSays}
 use Rattle.party_marks.specs.Known.{PassKnown}
 use Rattle.replica_turns.specs.Going.{is_lost, reply_text}
 use Rattle.replica_turns.specs.Replying.{IsAnswered, IsAnsweredAs, IsAnsweredBy, pulls}
@@ -15,18 +16,18 @@ use Rattle.serial_depot.specs.command_core.Outcomes.{IsFormedBy}
 use Rattle.serial_depot.specs.declared.depot.SerialDepot.{SerialDepot}
 use Rattle.shared_depot.specs.Replicas.{IsReplicaAnswer, IsReplicaTurn, IsToldOn}
 
-module _ {D : Type 0} (seen may_leave : D → Files → Type 0) (depot : SerialDepot D) (old new : ReplicaParty) (request : Request) where
+module _ {D : Type 0} (disk_says : DiskSays D) (depot : SerialDepot D) (old new : ReplicaParty) (request : Request) where
   abbrev Been : SerialDepot D → Type 0
   Been been = been ≡ depot
 
   abbrev AnsweredSo : List ℕ → Bool → Type 0
-  AnsweredSo text lost = IsAnswered Been seen may_leave old.replica new.replica request text lost
+  AnsweredSo text lost = IsAnswered Been disk_says old.replica new.replica request text lost
 
   abbrev AnsweredBy : {E : Type 0} → Result Answered E → Type 0
   AnsweredBy answer = AnsweredSo (reply_text answer request.number) (is_lost answer)
 
   -- a command was answered
-  pub answered_so : {E : Type 0} (answer : Result Answered E) → IfOk answer (λ answered. IsAnsweredBy Been seen may_leave old.replica new.replica request answered.text answered.lost) → OnErr answer (new.replica ≡ old.replica) → AnsweredBy answer
+  pub answered_so : {E : Type 0} (answer : Result Answered E) → IfOk answer (λ answered. IsAnsweredBy Been disk_says old.replica new.replica request answered.text answered.lost) → OnErr answer (new.replica ≡ old.replica) → AnsweredBy answer
   answered_so (Ok answered) is kept = inl is
   answered_so (Err error) is kept = inr (record { same = kept; reply = refl; kept = refl })
 
@@ -34,7 +35,7 @@ module _ {D : Type 0} (seen may_leave : D → Files → Type 0) (depot : SerialD
   same_lost : (text : List ℕ) → AnsweredSo text true → new.replica ≡ old.replica
   same_lost text (inl is) = go (pulls request.command) is
     where
-      go : (pull : Bool) → IsAnsweredAs Been seen may_leave old.replica new.replica request text true pull → new.replica ≡ old.replica
+      go : (pull : Bool) → IsAnsweredAs Been disk_says old.replica new.replica request text true pull → new.replica ≡ old.replica
       go true is = is.0
       go false is = is.0
   same_lost text (inr is) = is.same
@@ -51,14 +52,14 @@ module _ (before mid after : ReplicaParty) (request : Request) (taken : before.l
   left_so : before.left.items ≡ after.left.items ++ request ∷ []
   left_so = taken ∙ ap (λ (rest : Vec Request Global). rest.items ++ request ∷ []) (sym left)
 
-  module _ {D E : Type 0} (seen may_leave : D → Files → Type 0) (moment : D → ℕ) (left_since : D → ℕ → Files → Type 0) (end : ℕ) (images : Files → Type 0) (begins : ℕ → List Deed → Type 0) (old new : PartyKnown) (old_marks new_marks : PassKnown)
+  module _ {D E : Type 0} (disk_says : DiskSays D) (end : ℕ) (images : Files → Type 0) (begins : ℕ → List Deed → Type 0) (old new : PartyKnown) (old_marks new_marks : PassKnown)
       (same : mid.replica ≡ before.replica) where
-    pub turn_so : (result : Result Answered E) → IsReplicaAnswer seen may_leave moment left_since end images begins old new old_marks new_marks request mid after result
-        → IsReplicaTurn seen may_leave moment left_since end images begins old new old_marks new_marks before after result
+    pub turn_so : (result : Result Answered E) → IsReplicaAnswer disk_says end images begins old new old_marks new_marks request mid after result
+        → IsReplicaTurn disk_says end images begins old new old_marks new_marks before after result
     turn_so result is = record {
       turned = λ archive all.
           let over = is.answered archive all in
-          let answered = λ (formed : IsFormedBy request). subst (λ first. IsAnswered (λ been. been ≡ over.0) seen may_leave first after.replica request (reply_text result request.number) (is_lost result)) same (over.1.1 formed) in
+          let answered = λ (formed : IsFormedBy request). subst (λ first. IsAnswered (λ been. been ≡ over.0) disk_says first after.replica request (reply_text result request.number) (is_lost result)) same (over.1.1 formed) in
           (over.0, (over.1.0, record { request = request; left = left_so; answered = answered }));
       heard = is.heard;
     }

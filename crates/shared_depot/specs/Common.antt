@@ -13,43 +13,44 @@ use Rattle.locked_tables.specs.declared.taken.Taken.{Taken}
 use Rattle.order_words.specs.Lanes.{has_lane}
 use Rattle.outside_api.specs.Count.{HasRisen, counted}
 use Rattle.outside_api.specs.Disk.{Files, NoMore}
+use Rattle.outside_api.specs.Says.{DiskSays}
 use Rattle.party_marks.specs.Marks.{is_empty}
 use Rattle.party_marks.specs.declared.mark.Mark.{Mark}
 use Rattle.serial_depot.specs.Placing.{HasRunBeside, LeavesRows}
 use Rattle.serial_depot.specs.Running.{CanCommit}
 use Rattle.serial_depot.specs.Storing.{AllReach}
 use Rattle.depot_rows.specs.table_changes.Changed.{AllRows, changed_by, rows_of}
-use Rattle.shared_depot.specs.Stored.{ArchiveKnown, images_after, is_unwritten, lost_in, stored_end, stores_of, unwritten_count}
+use Rattle.shared_depot.specs.Stored.{ArchiveKnown, images_after, is_lost, is_unwritten, lost_in, stored_end, stores_of, unwritten_count}
 
-module _ {D : Type 0} (seen may_leave : D → Files → Type 0) (moment : D → ℕ) (left_since : D → ℕ → Files → Type 0) where
+module _ {D : Type 0} (disk_says : DiskSays D) where
   -- An archive in which the contents of an order's places were stored, and maybe others behind them.
   pub record HasAllStored (end : ℕ) (images : Files → Type 0) (begins : ℕ → List Deed → Type 0) (order : List Taken) (archive : Archive D) : Type 0 where
     pub used : stored_end end order ≤ used_of archive
-    pub among : NoMore (images_after images end order) (may_leave (archive_disk_of archive))
-    pub tells : (since : ℕ) (start : List Deed) → begins since start → (files : Files) × seen (archive_disk_of archive) files
+    pub among : NoMore (images_after images end order) (disk_says.may_leave (archive_disk_of archive))
+    pub tells : (since : ℕ) (start : List Deed) → begins since start → (files : Files) × disk_says.seen (archive_disk_of archive) files
 
-module _ {D : Type 0} (seen may_leave : D → Files → Type 0) (moment : D → ℕ) (left_since : D → ℕ → Files → Type 0) (faults : D → ℕ) where
+module _ {D : Type 0} (disk_says : DiskSays D) where
   -- Tables and a journal have run the places of an order: the rows and the end of the archive are those after it, from each moment and depot from which
   -- they began it they have taken the commands of these places, beside an archive in which the contents of these places were stored, and no more of them
   -- are faults of the journal's disk than its count rose.
   pub record HasRunOrder (rows : AllRows) (end : ℕ) (images : Files → Type 0) (begins : ℕ → List Deed → Type 0) (faults_then : ℕ) (order : List Taken) (tables : Tables) (journal : Journal D) : Type 0 where
-    pub can : CanCommit may_leave journal
+    pub can : CanCommit disk_says journal
     pub rows_are : (table : TableId) → rows_of tables table ≡ rows_after rows order table
     pub end_is : tables.archive_end ≡ end_after end order
     pub ends : end_after end order ≡ stored_end end order
-    pub ran : (since : ℕ) (start : List Deed) → begins since start → HasRunBeside may_leave moment left_since images end (stores_of order) tables journal since start (map placed_of order)
-    pub caused : counted (unwritten_count order) faults_then ≤ faults (disk_of journal)
-    pub no_fewer : faults_then ≤ faults (disk_of journal)
+    pub ran : (since : ℕ) (start : List Deed) → begins since start → HasRunBeside disk_says images end (stores_of order) tables journal since start (map placed_of order)
+    pub caused : counted (unwritten_count order) faults_then ≤ disk_says.faults (disk_of journal)
+    pub no_fewer : faults_then ≤ disk_says.faults (disk_of journal)
 
   -- An archive in which the contents of an order's places were stored: what its disk may leave is among the images that tell so, it is used up to where
   -- they end, and contents can be stored there. For no more commands it failed than its disk's count rose.
   pub record IsArchiveAfter (end : ℕ) (images : Files → Type 0) (begins : ℕ → List Deed → Type 0) (faults_then : ℕ) (known : ArchiveKnown) (archive : Archive D) : Type 0 where
     pub used : used_of archive ≡ stored_end end known.list
-    pub among : NoMore (images_after images end known.list) (may_leave (archive_disk_of archive))
-    pub room : AllReach (may_leave (archive_disk_of archive)) (used_of archive)
-    pub tells : (since : ℕ) (start : List Deed) → begins since start → (files : Files) × seen (archive_disk_of archive) files
-    pub caused : counted (lost_in known) faults_then ≤ faults (archive_disk_of archive)
-    pub no_fewer : faults_then ≤ faults (archive_disk_of archive)
+    pub among : NoMore (images_after images end known.list) (disk_says.may_leave (archive_disk_of archive))
+    pub room : AllReach (disk_says.may_leave (archive_disk_of archive)) (used_of archive)
+    pub tells : (since : ℕ) (start : List Deed) → begins since start → (files : Files) × disk_says.seen (archive_disk_of archive) files
+    pub caused : counted (lost_in known) faults_then ≤ disk_says.faults (archive_disk_of archive)
+    pub no_fewer : faults_then ≤ disk_says.faults (archive_disk_of archive)
 
   -- some tables and a journal have run the places of an order
   abbrev pub WasRun : AllRows → ℕ → (Files → Type 0) → (ℕ → List Deed → Type 0) → ℕ → List Taken → Type 0
@@ -71,12 +72,20 @@ AreQuiet begins rows end [] = Unit {0}
 AreQuiet begins rows end (entry ∷ order) =
     (has_lane entry.lanes journal_lane ≡ false → IsQuiet begins rows end entry) × AreQuiet begins (rows_behind rows entry) (if has_lane entry.lanes archive_lane then entry.end else end) order
 
-module _ {D : Type 0} (seen may_leave : D → Files → Type 0) (moment : D → ℕ) (left_since : D → ℕ → Files → Type 0) (faults : D → ℕ) where
+-- An order has one more place, at which the archive's disk failed: it touches the archive's lane, and nothing was stored.
+pub record IsLostPlace (before after : List Taken) : Type 0 where
+  pub entry : Taken
+  pub placed : after ≡ before ++ entry ∷ []
+  pub touches : has_lane entry.lanes archive_lane ≡ true
+  pub unstored : entry.stores ≡ []
+  pub lost : is_lost entry ≡ true
+
+module _ {D : Type 0} (disk_says : DiskSays D) where
   -- What is kept of an order: tables show the rows after it, the places that don't touch the journal's lane are quiet, and it was run.
   pub record KeepsOrder (rows : AllRows) (end : ℕ) (images : Files → Type 0) (begins : ℕ → List Deed → Type 0) (faults_then : ℕ) (order : List Taken) (tables : Tables) : Type 0 where
     pub shown : (table : TableId) → rows_of tables table ≡ rows_after rows order table
     pub quiet : AreQuiet begins rows end order
-    pub run : WasRun seen may_leave moment left_since faults rows end images begins faults_then order
+    pub run : WasRun disk_says rows end images begins faults_then order
 
 -- Behind an order and a place at which something was to be written the rows are those after its changes, and so much of the archive is used.
 pub record IsEntered (rows : AllRows) (end : ℕ) (order : List Taken) (entry : Taken) (used : ℕ) : Type 0 where
@@ -86,7 +95,7 @@ pub record IsEntered (rows : AllRows) (end : ℕ) (order : List Taken) (entry : 
 
 -- Behind a beginning of an order nothing was written: the rows, the contents and the faults of the journal's disk are the same, and tables and a journal
 -- that have run the beginning have run the order.
-module _ {D : Type 0} (may_leave : D → Files → Type 0) (moment : D → ℕ) (left_since : D → ℕ → Files → Type 0) where
+module _ {D : Type 0} (disk_says : DiskSays D) where
   pub record GoesOnQuietly (rows : AllRows) (end : ℕ) (images : Files → Type 0) (begins : ℕ → List Deed → Type 0) (known order : List Taken) : Type 0 where
     pub begins_it : IsPrefix known order
     pub rows_are : rows_after rows order ≡ rows_after rows known
@@ -94,8 +103,8 @@ module _ {D : Type 0} (may_leave : D → Files → Type 0) (moment : D → ℕ) 
     pub stores : stores_of order ≡ stores_of known
     pub unwritten : unwritten_count order ≡ unwritten_count known
     pub runs : (tables : Tables) (journal : Journal D) → ((table : TableId) → rows_of tables table ≡ rows_after rows known table) → (since : ℕ) (start : List Deed) → begins since start
-        → HasRunBeside may_leave moment left_since images end (stores_of known) tables journal since start (map placed_of known)
-        → HasRunBeside may_leave moment left_since images end (stores_of known) tables journal since start (map placed_of order)
+        → HasRunBeside disk_says images end (stores_of known) tables journal since start (map placed_of known)
+        → HasRunBeside disk_says images end (stores_of known) tables journal since start (map placed_of order)
 
 -- where there is a mark, a count has risen
 abbrev pub IsMarkCaused : ℕ → ℕ → List Mark → Type 0

@@ -1,17 +1,16 @@
 -- What a command has whose place is at hand. This project's own choice.
-use Rattle.std.specs.Prelude.{◌≡◌, ◌⊎◌, ℕ, true, false, List, [], filter, map, Bool, IfSome, IsTrue, None, Option}
+use Rattle.std.specs.Prelude.{◌≡◌, ℕ, true, false, List, [], filter, map, Bool, IfSome, IsTrue, None, Option}
 use Rattle.std.specs.Sync.Mutex.{mutex_guard_value}
 use Rattle.std.specs.declared.sync.MutexGuard.{MutexGuard}
-use Rattle.command_needs.specs.declared.sets.Need.{Need}
+use Rattle.command_needs.specs.declared.needs.Needs.{Needs}
 use Rattle.depot_rows.specs.db_records.Table.{all_tables}
 use Rattle.depot_rows.specs.depot_model.Deeds.{Deed}
 use Rattle.depot_rows.specs.depot_model.Rules.{IsSound}
-use Rattle.depot_rows.specs.depot_model.Tables.{needs_of}
-use Rattle.command_needs.specs.Sets.{need_of}
+use Rattle.command_needs.specs.Sets.{AreOfWords}
 use Rattle.depot_rows.specs.depot_model.declared.request.Request.{Request}
 use Rattle.locked_tables.specs.declared.taken.Taken.{Taken}
 use Rattle.outside_api.specs.Disk.{Files}
-use Rattle.serial_depot.specs.Telling.{IsTold}
+use Rattle.serial_depot.specs.Telling.{IsTold, IsUnwritten}
 use Rattle.serial_depot.specs.command_core.Outcomes.{HasNeeded, IsFormedBy, IsOutcome}
 use Rattle.serial_depot.specs.command_core.declared.outcome.Outcome.{Outcome}
 use Rattle.serial_depot.specs.declared.telling.Told.{Told}
@@ -28,17 +27,17 @@ use Rattle.shared_depot.specs.declared.ready.Writing.{Writing}
 
 module _ {N : Type 0} where
   -- the tables of a set whose locks its needs ask for are held, and none was looked at yet
-  pub record IsTakenFor (rows : AllRows) (whole : Bool) (needs : List Need) (gathered : Gathered N) : Type 0 where
+  pub record IsTakenFor (rows : AllRows) (whole : Bool) (needs : Needs) (gathered : Gathered N) : Type 0 where
     pub shown : IsShown rows gathered
     pub held : tables_held gathered ≡ filter (holds_table whole needs) all_tables
     pub unseen : gathered.peeks.items ≡ []
 
   -- the set of a request is gathered as its needs ask for it; where the whole set is held, no table is only looked at
-  pub record IsGatheredFor (rows : AllRows) (whole : Bool) (needs : List Need) (gathered : Gathered N) : Type 0 where
+  pub record IsGatheredFor (rows : AllRows) (whole : Bool) (needs : Needs) (gathered : Gathered N) : Type 0 where
     pub shown : IsShown rows gathered
     pub held : tables_held gathered ≡ filter (holds_table whole needs) all_tables
     pub alone : IsTrue whole → gathered.peeks.items ≡ []
-    pub covers : (request : Request) → map need_of needs ≡ needs_of request → Covers gathered request
+    pub covers : (request : Request) → AreOfWords request.command needs → Covers gathered request
 
   -- What is told is an outcome that was found over gathered tables, and so is its reply, as far as the contents of the places go that are known behind the
   -- lock of the archive; without that lock, as far as those of any order do.
@@ -47,10 +46,6 @@ module _ {N : Type 0} where
     pub tells : IsTold outcome request.number told
     pub found : (d : List Deed) → IsSound d → IsFormedBy request → HasNeeded (rows_of gathered.tables) d request → IsOutcome (rows_of gathered.tables) gathered.tables.archive_end d request outcome
     pub reply : (order : List Taken) → IfSome archive (λ guard. order ≡ (mutex_guard_value guard).list) → IsToldAfter end images begins order request outcome told
-
--- a command writes nothing more: it changes nothing, or a content couldn't be read
-abbrev pub IsUnwritten : Told → Type 0
-IsUnwritten told = (told.changes ≡ []) ⊎ (told.unread ≡ true)
 
 module _ {D N : Type 0} where
   -- What is told is the request's after the whole order, and nothing more is written. Where a content couldn't be read, the lock of the archive is held,
@@ -63,9 +58,12 @@ module _ {D N : Type 0} where
     pub with_it : IfSome quiet.archive (λ guard. quiet.told.unread ≡ true)
     pub without : quiet.archive ≡ None → quiet.told.unread ≡ false
 
-  -- What is told is the request's after the order that is known behind the lock of the journal, each content was read, and room is made for it.
+  -- What is told is the request's after the order that is known behind the lock of the journal, each content was read, and room is made for it. Where
+  -- contents are stored, the lock of the archive is held, behind which that order is known.
   pub record IsWritingFor (rows : AllRows) (end : ℕ) (images : Files → Type 0) (begins : ℕ → List Deed → Type 0) (request : Request) (writing : Writing D N) : Type 0 where
     pub room : IsRoomFor rows (mutex_guard_value writing.journal) writing.told writing.room
+    pub archive : IsAtOrder (mutex_guard_value writing.journal) writing.archive
+    pub without : writing.archive ≡ None → writing.told.stores ≡ []
     pub read : writing.told.unread ≡ false
     pub due : IsDueAfter rows end images begins (mutex_guard_value writing.journal) request writing.told
 

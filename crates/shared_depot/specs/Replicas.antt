@@ -9,6 +9,7 @@ use Rattle.locked_tables.specs.Known.{PartyKnown}
 use Rattle.locked_tables.specs.Taken.{of_party, placed_of}
 use Rattle.locked_tables.specs.declared.taken.Taken.{Taken}
 use Rattle.outside_api.specs.Disk.{Files}
+use Rattle.outside_api.specs.Says.{DiskSays}
 use Rattle.party_marks.specs.Known.{PassKnown}
 use Rattle.party_marks.specs.Marks.{has_marks, is_empty}
 use Rattle.party_marks.specs.declared.mark.Mark.{Mark}
@@ -33,15 +34,15 @@ IsMarkedBy old new answer = has_marks new.party new.list ≡ (has_marks old.part
 abbrev pub AreMarkedBy : {E : Type 0} → List Mark → List Mark → Result Answered E → Type 0
 AreMarkedBy old new answer = is_empty new ≡ false → (is_empty old ≡ false) ⊎ (is_lost answer ≡ true)
 
-module _ {D : Type 0} (seen may_leave : D → Files → Type 0) (moment : D → ℕ) (left_since : D → ℕ → Files → Type 0) (end : ℕ) (images : Files → Type 0) (begins : ℕ → List Deed → Type 0) (known : List Taken) where
+module _ {D : Type 0} (disk_says : DiskSays D) (end : ℕ) (images : Files → Type 0) (begins : ℕ → List Deed → Type 0) (known : List Taken) where
   -- Over a depot in files that had run all places that the party knows now, from each moment and depot from which it began. Where it isn't said which archive
   -- that depot has, since none was asked, it is any in which the contents of these places were stored.
   abbrev pub OverDepot : (SerialDepot D → Type 0) → Type 0
   OverDepot Answers =
-      (archive : Archive D) → HasAllStored seen may_leave moment left_since end images begins known archive
-      → (depot : SerialDepot D) × (((since : ℕ) (start : List Deed) → begins since start → HasRun seen may_leave moment left_since depot since start (map placed_of known)) × Answers depot)
+      (archive : Archive D) → HasAllStored disk_says end images begins known archive
+      → (depot : SerialDepot D) × (((since : ℕ) (start : List Deed) → begins since start → HasRun disk_says depot since start (map placed_of known)) × Answers depot)
 
-module _ {D E : Type 0} (seen may_leave : D → Files → Type 0) (moment : D → ℕ) (left_since : D → ℕ → Files → Type 0) (end : ℕ) (images : Files → Type 0) (begins : ℕ → List Deed → Type 0) (old new : PartyKnown) (old_marks new_marks : PassKnown) where
+module _ {D E : Type 0} (disk_says : DiskSays D) (end : ℕ) (images : Files → Type 0) (begins : ℕ → List Deed → Type 0) (old new : PartyKnown) (old_marks new_marks : PassKnown) where
   -- The party has learnt places, which are others'. It has marks now where it had, or where the answer tells that a disk failed.
   pub record HasHeard (result : Result Answered E) : Type 0 where
     pub party : new.party ≡ old.party
@@ -52,10 +53,10 @@ module _ {D E : Type 0} (seen may_leave : D → Files → Type 0) (moment : D �
 
   -- A command of a replica was answered over such a depot.
   pub record IsReplicaAnswer (request : Request) (old_replica new_replica : ReplicaParty) (result : Result Answered E) : Type 0 where
-    pub answered : OverDepot seen may_leave moment left_since end images begins new.list (λ depot. IsFormedBy request → IsAnswered (λ been. been ≡ depot) seen may_leave old_replica.replica new_replica.replica request (reply_text result request.number) (is_lost result))
+    pub answered : OverDepot disk_says end images begins new.list (λ depot. IsFormedBy request → IsAnswered (λ been. been ≡ depot) disk_says old_replica.replica new_replica.replica request (reply_text result request.number) (is_lost result))
     pub heard : HasHeard result
 
   -- A replica's next command was.
   pub record IsReplicaTurn (old_replica new_replica : ReplicaParty) (result : Result Answered E) : Type 0 where
-    pub turned : OverDepot seen may_leave moment left_since end images begins new.list (λ depot. IsTurned seen may_leave depot old_replica new_replica result)
+    pub turned : OverDepot disk_says end images begins new.list (λ depot. IsTurned disk_says depot old_replica new_replica result)
     pub heard : HasHeard result

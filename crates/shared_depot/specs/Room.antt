@@ -1,5 +1,5 @@
 -- What a command has under the lock of the journal before it is committed, and what it is answered. This project's own choice.
-use Rattle.std.specs.Prelude.{◌≡◌, ◌⊎◌, ℕ, true, IsTrue, IfSome, List, [], Option, None}
+use Rattle.std.specs.Prelude.{◌≡◌, ◌⊎◌, ◌++◌, ℕ, Bool, true, IsTrue, IfSome, List, [], ◌∷◌, Option}
 use Rattle.std.specs.Sync.Mutex.{mutex_guard_value}
 use Rattle.std.specs.declared.sync.MutexGuard.{MutexGuard}
 use Rattle.serial_depot.specs.command_core.declared.outcome.Outcome.{Outcome}
@@ -8,8 +8,10 @@ use Rattle.depot_rows.specs.db_records.declared.change.Change.{Change}
 use Rattle.depot_rows.specs.db_records.declared.table.TableId.{TableId}
 use Rattle.depot_rows.specs.depot_model.Deeds.{Deed}
 use Rattle.depot_rows.specs.depot_model.declared.request.Request.{Request}
-use Rattle.locked_tables.specs.Taken.{end_after, rows_after}
+use Rattle.locked_tables.specs.Taken.{archive_lane, end_after, rows_after}
 use Rattle.locked_tables.specs.declared.taken.Taken.{Taken}
+use Rattle.order_words.specs.Lanes.{has_lane}
+use Rattle.outside_api.specs.Count.{HasRisen}
 use Rattle.outside_api.specs.Disk.{Files}
 use Rattle.serial_depot.specs.Committing.{IsOutcomeOf}
 use Rattle.serial_depot.specs.Holding.{KeepContents}
@@ -19,7 +21,7 @@ use Rattle.depot_rows.specs.table_changes.Changed.{AllRows, changed_by, rows_of}
 use Rattle.table_locks.specs.Gathered.{Covers, HasSet}
 use Rattle.table_locks.specs.Prepared.{IsPrepared, are_held}
 use Rattle.table_locks.specs.declared.gathered.Gathered.{Gathered}
-use Rattle.shared_depot.specs.Stored.{ArchiveKnown, images_after, stored_end}
+use Rattle.shared_depot.specs.Stored.{ArchiveKnown, images_after, is_lost, stored_end}
 use Rattle.shared_depot.specs.declared.room.Room.{Room}
 
 -- if the lock of the archive is held, so much of the archive is used after the places that are known behind it
@@ -34,24 +36,30 @@ IsAtOrder order archive = IfSome archive (λ guard. (mutex_guard_value guard).li
 abbrev pub IsFailed : Option (MutexGuard ArchiveKnown) → Type 0
 IsFailed archive = IfSome archive (λ guard. (mutex_guard_value guard).failed ≡ true)
 
-module _ {D N : Type 0} where
-  -- Room is made for what a command changes and stores behind an order: the versions that are to follow, the tables after the changes, twice, a copy of the
-  -- changes, and the lock of the archive if contents are stored.
-  pub record IsRoomFor (rows : AllRows) (order : List Taken) (told : Told) (room : Room D N) : Type 0 where
+module _ {N : Type 0} where
+  -- Room is made for what a command changes behind an order: the versions that are to follow, and the tables after the changes, twice.
+  pub record IsRoomFor (rows : AllRows) (order : List Taken) (told : Told) (room : Room N) : Type 0 where
     pub prepared : IsPrepared rows told.changes room.prepared
     pub after : (table : TableId) → rows_of room.after table ≡ changed_by (rows_after rows order) told.changes table
     pub shown : rows_of room.shown ≡ rows_of room.after
-    pub copied : room.changes ≡ told.changes
-    pub archive : IsAtOrder order room.archive
-    pub without : room.archive ≡ None → told.stores ≡ []
 
-module _ {N : Type 0} where
   -- What was gathered is still so after an order: the tables of the set are as they were seen, those of the changes are held, and if contents are stored,
   -- the archive ends where it was seen to end.
   pub record IsStillSo (rows : AllRows) (end : ℕ) (order : List Taken) (gathered : Gathered N) (changes : List Change) (stores : List (List ℕ)) : Type 0 where
     pub set : (request : Request) → Covers gathered request → HasSet (rows_after rows order) (rows_of gathered.tables) request
     pub held : IsTrue (are_held gathered.held.items changes)
     pub end_is : (stores ≡ []) ⊎ (gathered.tables.archive_end ≡ end_after end order)
+
+module _ {S L : Type 0} where
+  -- A command has its place behind an order: the archive's lane, if it is held, has learnt that, and what the entry says that it stored was stored. Where
+  -- the archive's disk failed its count rose.
+  pub record IsStoredBehind (Learns : List Taken → List Taken → L → L → Type 0) (held : Bool) (stores : List (List ℕ) → S → S → Type 0) (faults : S → ℕ) (lane lane' : L) (store store' : S) : Type 0 where
+    pub order : List Taken
+    pub entry : Taken
+    pub learnt : Learns order (order ++ entry ∷ []) lane lane'
+    pub touches : has_lane entry.lanes archive_lane ≡ held
+    pub stored : stores entry.stores store store'
+    pub caused : is_lost entry ≡ true → HasRisen (faults store) (faults store')
 
 -- the outcome is the request's over the tables after the order, from each depot from which the run began
 abbrev pub StandsAfter : AllRows → ℕ → (ℕ → List Deed → Type 0) → List Taken → Request → Outcome → Type 0

@@ -1,15 +1,11 @@
 //! How a command is made ready for its place.
-ghost use Rattle.std.specs.Prelude.{◌≡◌, ◌⊎◌, ◌&&◌, ◌==◌, ℕ, List, None, [], true, false, IfOk, IfSome, IsSome, IsTrue, IsFalse, OnOk, map, not};
-ghost use Rattle.std.specs.List.{list_all, list_any};
+ghost use Rattle.std.specs.Prelude.{◌≡◌, ◌⊎◌, ℕ, List, None, [], true, false, IfOk, IfSome, IsSome, IsTrue, IsFalse, OnOk};
 ghost use Rattle.std.specs.Sync.Mutex.{mutex_guard_value};
 ghost use Rattle.serial_depot.specs.command_core.Outcomes.{HasNeeded, IsFormedBy, IsOutcome};
-ghost use Rattle.serial_depot.specs.Telling.{IsTold};
-ghost use Rattle.command_needs.specs.Sets.{need_of};
-ghost use Rattle.command_needs.specs.declared.sets.Need.{Need as AnyNeed};
-ghost use Rattle.depot_rows.specs.db_records.declared.table.TableId.{TableId};
+ghost use Rattle.serial_depot.specs.Telling.{IsTold, IsUnwritten};
+ghost use Rattle.command_needs.specs.Sets.{AreOfWords};
 ghost use Rattle.depot_rows.specs.depot_model.Deeds.{Deed};
 ghost use Rattle.depot_rows.specs.depot_model.Rules.{IsSound};
-ghost use Rattle.depot_rows.specs.depot_model.Tables.{needs_of};
 ghost use Rattle.depot_rows.specs.depot_model.declared.request.Request.{Request as AnyRequest};
 ghost use Rattle.locked_tables.specs.Taken.{end_after, rows_after};
 ghost use Rattle.locked_tables.specs.declared.taken.Taken.{Taken};
@@ -19,13 +15,12 @@ ghost use Rattle.table_locks.specs.Confirmed.{IsConfirmed};
 ghost use Rattle.table_locks.specs.Gathered.{IsShown};
 ghost use Rattle.table_locks.specs.Prepared.{are_held};
 ghost use Rattle.table_locks.specs.declared.gathered.Gathered.{Gathered as AnyGathered};
-ghost use Rattle.shared_depot.specs.Ready.{IsFoundOver, IsGatheredFor, IsQuietFor, IsReadyFor, IsTakenFor, IsUnwritten, IsWritingFor};
+ghost use Rattle.shared_depot.specs.Ready.{IsFoundOver, IsGatheredFor, IsQuietFor, IsReadyFor, IsTakenFor, IsWritingFor};
 ghost use Rattle.shared_depot.specs.Room.{IsAtOrder, IsEndKnown, IsFailed, IsRoomFor, IsStillSo, IsToldAfter, StandsAfter};
 ghost use Rattle.shared_depot.specs.Stored.{stores_of};
 ghost use Rattle.shared_depot.specs.declared.ready.Attempt.TheVariants as attempts;
 
 use crate::common::CommonDepot;
-use crate::copying::copy_changes;
 use crate::ready::{Attempt, Quiet, Ready, Writing};
 use crate::room::Room;
 use crate::serving::Serving;
@@ -33,8 +28,9 @@ use crate::shared::SharedDepot;
 use crate::stored_archive::StoredArchive;
 use crate::written_journal::{WrittenJournal, share_tables};
 use command_core::{Outcome, evaluate};
-use command_needs::{Need, request_needs};
+use command_needs::{Needs, request_needs};
 use depot_rows::model::Request;
+use depot_rows::records::TableId;
 use locked_tables::{Naming, OrderWords};
 use outside_api::{Disk, Gate};
 use party_marks::Marking;
@@ -47,26 +43,11 @@ use table_locks::{Confirmed, Gathered, gather};
 /// its set.
 const LOOKS_AGAIN: u32 = 3;
 
-/// Whether a command with these needs may store contents: it then writes the table of revisions.
-fn may_store(needs: &[Need]) -> bool
-    ensures { result ≡ list_any (λ (need : AnyNeed). need.writes && (need.lock == 10)) needs.now }
-{
-    needs.iter().any(|need| need.writes && need.lock == 10)
-}
-
 /// Whether a command stores nothing, or the archive may be stored in.
 fn may_store_so(told: &Told, may: bool) -> bool
     ensures { IsTrue result → IsFalse may → told.now.stores ≡ [] }
 {
     told.stores.is_empty() || may
-}
-
-/// Whether a command writes nothing more: it changes nothing, or a content couldn't be read.
-fn is_unwritten(told: &Told) -> bool
-    ensures unwritten { IsTrue result → IsUnwritten told.now }
-    ensures read { IsFalse result → told.now.unread ≡ false }
-{
-    told.is_unread() || told.changes.is_empty()
 }
 
 /// The lock of the archive, which is given back where it isn't needed any more.
@@ -127,7 +108,7 @@ impl<D: Disk, N: Naming + Imaging + Serving> CommonDepot<D, N> {
         &mut self,
         words: &OrderWords<N>,
         gathered: &mut Gathered<'a, N>,
-        needs: &[Need],
+        needs: &Needs,
         whole: bool,
     ) -> Result<(), AllocError>
         requires { IsTakenFor N.rows whole needs.now gathered.old }
@@ -206,39 +187,24 @@ impl<D: Disk, N: Naming + Marking + Imaging + Serving> WrittenJournal<D, N> {
     fn room_for<'a>(
         &self,
         alloc: Global,
-        settled: Settled<'a, D, N>,
+        confirmed: Confirmed<'a, N>,
         told: &Told,
-    ) -> Result<Room<'a, D, N>, AllocError>
-        requires confirmed { (gathered : AnyGathered N) × IsConfirmed N.rows self.now gathered settled.confirmed }
-        requires held { IsTrue (are_held settled.confirmed.held.items told.now.changes) }
+    ) -> Result<Room<'a, N>, AllocError>
+        requires confirmed { (gathered : AnyGathered N) × IsConfirmed N.rows self.now gathered confirmed }
+        requires held { IsTrue (are_held confirmed.held.items told.now.changes) }
         requires fit { AllFitIn (rows_after N.rows self.now) told.now.changes }
-        requires archive { IsAtOrder self.now settled.archive }
-        requires without { settled.archive ≡ None → told.now.stores ≡ [] }
         ensures { IfOk result (IsRoomFor N.rows self.now told.now) }
     {
-        let Settled { confirmed, archive } = settled;
-        let stores = !told.stores.is_empty();
-        let archive = kept_where(archive, stores);
         let changes = told.changes.as_slice();
         let after = self.tables_after(alloc, changes)?;
         let shown = share_tables(alloc, &after)?;
         let prepared = confirmed.prepare(&after, changes)?;
-        let changes = copy_changes(alloc, changes)?;
         Ok(Room {
-            archive,
             prepared,
             after,
             shown,
-            changes,
         })
     }
-}
-
-/// Whether a command with these needs writes no table.
-fn only_reads(needs: &[Need]) -> bool
-    ensures { result ≡ list_all (λ (need : AnyNeed). not need.writes) needs.now }
-{
-    needs.iter().all(|need| !need.writes)
 }
 
 /// What the command of a request does over gathered tables. The one error is want of memory.
@@ -256,19 +222,19 @@ fn outcome_over<N: Naming>(
 
 impl<D: Disk, N: Naming + Marking + Imaging + Serving> SharedDepot<D, N> {
     /// Gathers a set. Where contents may be stored, takes the lock of the archive too, and sees where
-    /// the archive ends.
+    /// the archive ends: a command that stores some writes the table of revisions.
     fn reach<'a, R: Wait>(
         &'a self,
         rt: &R,
         alloc: Global,
-        needs: &[Need],
+        needs: &Needs,
         whole: bool,
     ) -> Result<(Gathered<'a, N>, Option<MutexGuard<'a, StoredArchive<D, N>>>), AllocError>
         ensures gathered { IfOk result (λ r. IsGatheredFor N.rows whole needs.now r.0) }
         ensures end { IfOk result (λ r. IsEndKnown N.end r.0.tables.archive_end r.1) }
     {
         let mut gathered = gather(rt, alloc, &self.tables, needs, whole)?;
-        let archive = if may_store(needs) {
+        let archive = if needs.writes.has(TableId::Rev) {
             Some(self.archive.lock(rt))
         } else {
             None
@@ -289,7 +255,7 @@ impl<D: Disk, N: Naming + Marking + Imaging + Serving> SharedDepot<D, N> {
         &'a self,
         rt: &R,
         gathered: &mut Gathered<'a, N>,
-        needs: &[Need],
+        needs: &Needs,
         whole: bool,
     ) -> Result<(), AllocError>
         requires { IsTakenFor N.rows whole needs.now gathered.old }
@@ -327,7 +293,7 @@ impl<D: Disk, N: Naming + Marking + Imaging + Serving> SharedDepot<D, N> {
     fn quiet_for<'a, R: Wait>(
         &'a self,
         rt: &R,
-        needs: &[Need],
+        needs: &Needs,
         whole: bool,
         gathered: Gathered<'a, N>,
         archive: Option<MutexGuard<'a, StoredArchive<D, N>>>,
@@ -336,7 +302,7 @@ impl<D: Disk, N: Naming + Marking + Imaging + Serving> SharedDepot<D, N> {
     ) -> Result<Option<Quiet<'a, D, N>>, AllocError>
         requires gathered { IsGatheredFor N.rows whole needs.now gathered }
         requires end { (told.stores ≡ []) ⊎ IsEndKnown N.end gathered.tables.archive_end archive }
-        requires needs { map need_of needs.now ≡ needs_of request.now }
+        requires needs { AreOfWords request.now.command needs.now }
         requires proper { (since : ℕ) (start : List Deed) → N.begins since start → IsProper request.now }
         requires found { IsFoundOver N.end N.images N.begins gathered archive request.now told }
         requires unwritten { IsUnwritten told }
@@ -401,7 +367,7 @@ impl<D: Disk, N: Naming + Marking + Imaging + Serving> SharedDepot<D, N> {
         &'a self,
         rt: &R,
         alloc: Global,
-        needs: &[Need],
+        needs: &Needs,
         whole: bool,
         gathered: Gathered<'a, N>,
         archive: Option<MutexGuard<'a, StoredArchive<D, N>>>,
@@ -410,7 +376,7 @@ impl<D: Disk, N: Naming + Marking + Imaging + Serving> SharedDepot<D, N> {
     ) -> Result<Option<Writing<'a, D, N>>, AllocError>
         requires gathered { IsGatheredFor N.rows whole needs.now gathered }
         requires end { (told.stores ≡ []) ⊎ IsEndKnown N.end gathered.tables.archive_end archive }
-        requires needs { map need_of needs.now ≡ needs_of request.now }
+        requires needs { AreOfWords request.now.command needs.now }
         requires proper { (since : ℕ) (start : List Deed) → N.begins since start → IsProper request.now }
         requires found { IsFoundOver N.end N.images N.begins gathered archive request.now told }
         requires fit { AllFitIn (rows_of gathered.tables) told.changes }
@@ -420,17 +386,21 @@ impl<D: Disk, N: Naming + Marking + Imaging + Serving> SharedDepot<D, N> {
     {
         let mut journal = self.journal.lock(rt);
         match self.settle_under(rt, &mut *journal, gathered, archive, &told) {
-            Ok(Some(settled)) => match journal.room_for(alloc, settled, &told) {
-                Ok(room) => Ok(Some(Writing {
-                    journal,
-                    room,
-                    told,
-                })),
-                Err(error) => {
-                    drop(told);
-                    Err(error)
+            Ok(Some(Settled { confirmed, archive })) => {
+                let archive = kept_where(archive, !told.stores.is_empty());
+                match journal.room_for(alloc, confirmed, &told) {
+                    Ok(room) => Ok(Some(Writing {
+                        journal,
+                        archive,
+                        room,
+                        told,
+                    })),
+                    Err(error) => {
+                        drop(told);
+                        Err(error)
+                    }
                 }
-            },
+            }
             Ok(None) => {
                 drop(told);
                 Ok(None)
@@ -448,7 +418,7 @@ impl<D: Disk, N: Naming + Marking + Imaging + Serving> SharedDepot<D, N> {
         &'a self,
         rt: &R,
         alloc: Global,
-        needs: &[Need],
+        needs: &Needs,
         whole: bool,
         gathered: Gathered<'a, N>,
         archive: Option<MutexGuard<'a, StoredArchive<D, N>>>,
@@ -457,7 +427,7 @@ impl<D: Disk, N: Naming + Marking + Imaging + Serving> SharedDepot<D, N> {
     ) -> Result<Option<Ready<'a, D, N>>, AllocError>
         requires gathered { IsGatheredFor N.rows whole needs.now gathered }
         requires end { (told.stores ≡ []) ⊎ IsEndKnown N.end gathered.tables.archive_end archive }
-        requires needs { map need_of needs.now ≡ needs_of request.now }
+        requires needs { AreOfWords request.now.command needs.now }
         requires proper { (since : ℕ) (start : List Deed) → N.begins since start → IsProper request.now }
         requires found { IsFoundOver N.end N.images N.begins gathered archive request.now told }
         requires fit { AllFitIn (rows_of gathered.tables) told.changes }
@@ -466,7 +436,7 @@ impl<D: Disk, N: Naming + Marking + Imaging + Serving> SharedDepot<D, N> {
         ensures ready { IfOk result (λ found. IfSome found (IsReadyFor N.rows N.end N.images N.begins request.now)) }
         ensures always { IfOk result (λ found. IsTrue whole → IsSome found) }
     {
-        if is_unwritten(&told) {
+        if told.is_unwritten() {
             match self.quiet_for(rt, needs, whole, gathered, archive, request, told)? {
                 Some(quiet) => Ok(Some(Ready::Quiet(quiet))),
                 None => Ok(None),
@@ -488,11 +458,11 @@ impl<D: Disk, N: Naming + Marking + Imaging + Serving> SharedDepot<D, N> {
         rt: &R,
         alloc: Global,
         gate: &G,
-        needs: &[Need],
+        needs: &Needs,
         attempt: Attempt,
         request: &Request,
     ) -> Result<Option<Ready<'a, D, N>>, AllocError>
-        requires needs { map need_of needs.now ≡ needs_of request.now }
+        requires needs { AreOfWords request.now.command needs.now }
         requires proper { (since : ℕ) (start : List Deed) → N.begins since start → IsProper request.now }
         ensures ready { IfOk result (λ found. IfSome found (IsReadyFor N.rows N.end N.images N.begins request.now)) }
         ensures always { IfOk result (λ found. attempt ≡ attempts.Whole → IsSome found) }
@@ -525,13 +495,12 @@ impl<D: Disk, N: Naming + Marking + Imaging + Serving> SharedDepot<D, N> {
         requires { (since : ℕ) (start : List Deed) → N.begins since start → IsProper request.now }
         ensures { IfOk result (IsReadyFor N.rows N.end N.images N.begins request.now) }
     {
-        let needs = request_needs(alloc, request)?;
-        let needs = needs.as_slice();
+        let needs = &request_needs(request);
         let first = self.attempt(rt, alloc, gate, needs, Attempt::First, request)?;
         if let Some(ready) = first {
             return Ok(ready);
         }
-        if only_reads(needs) {
+        if needs.writes.is_empty() {
             for _ in 0..LOOKS_AGAIN {
                 let again = self.attempt(rt, alloc, gate, needs, Attempt::Again, request)?;
                 if let Some(ready) = again {

@@ -52,9 +52,9 @@ impl<D: Disk, N: Naming + Marking + Imaging + Serving> Model for OpenedDepot<D, 
 
     ghost view = { λ o. record { order = o.order; marks = o.marks.list ++ o.content_marks.list } };
 
-    ghost invariant = { λ o. HasRunOrder D.seen D.may_leave D.moment D.left_since D.faults N.rows N.end N.images N.begins N.faults o.order o.tables o.journal ×
-        IsArchiveAfter D.seen D.may_leave D.moment D.left_since D.faults N.end N.images N.begins N.content_faults (record { list = o.order; failed = false }) o.archive ×
-        IsMarkCaused N.faults (D.faults (disk_of o.journal)) o.marks.list × IsMarkCaused N.content_faults (D.faults (archive_disk_of o.archive)) o.content_marks.list };
+    ghost invariant = { λ o. HasRunOrder D.says N.rows N.end N.images N.begins N.faults o.order o.tables o.journal ×
+        IsArchiveAfter D.says N.end N.images N.begins N.content_faults (record { list = o.order; failed = false }) o.archive ×
+        IsMarkCaused N.faults (D.says.faults (disk_of o.journal)) o.marks.list × IsMarkCaused N.content_faults (D.says.faults (archive_disk_of o.archive)) o.content_marks.list };
 }
 
 /// What a shared depot that is closed gives back.
@@ -137,14 +137,14 @@ impl<D: Disk, N: Naming + Marking + Imaging + Serving> OpenedDepot<D, N> {
         ensures order { result.order.items ≡ map place_of self.order }
         // Each place is of a party whose lane is one of the run's.
         ensures parties { AllByRecursion (λ taken. IsParty N.run taken.request.party) self.order }
-        ensures can { CanTake D.may_leave result.depot }
-        ensures ran { (since : ℕ) (start : List Deed) → N.begins since start → HasRun D.seen D.may_leave D.moment D.left_since result.depot since start (map placed_of self.order) }
-        ensures stored { HasAllStored D.seen D.may_leave D.moment D.left_since N.end N.images N.begins self.order result.depot.archive }
+        ensures can { CanTake D.says result.depot }
+        ensures ran { (since : ℕ) (start : List Deed) → N.begins since start → HasRun D.says result.depot since start (map placed_of self.order) }
+        ensures stored { HasAllStored D.says N.end N.images N.begins self.order result.depot.archive }
         // There are at most as many fault places as the counts of the two disks rose, and marks only where one rose.
-        ensures faults { AreCaused N.faults (D.faults (disk_of result.depot.journal)) N.content_faults (D.faults (archive_disk_of result.depot.archive)) [] result.order.items }
-        ensures marks { AreMarksCaused N.faults (D.faults (disk_of result.depot.journal)) N.content_faults (D.faults (archive_disk_of result.depot.archive)) self.marks }
-        ensures never_falls { N.faults ≤ D.faults (disk_of result.depot.journal) }
-        ensures never_falls_contents { N.content_faults ≤ D.faults (archive_disk_of result.depot.archive) }
+        ensures faults { AreCaused N.faults (D.says.faults (disk_of result.depot.journal)) N.content_faults (D.says.faults (archive_disk_of result.depot.archive)) [] result.order.items }
+        ensures marks { AreMarksCaused N.faults (D.says.faults (disk_of result.depot.journal)) N.content_faults (D.says.faults (archive_disk_of result.depot.archive)) self.marks }
+        ensures never_falls { N.faults ≤ D.says.faults (disk_of result.depot.journal) }
+        ensures never_falls_contents { N.content_faults ≤ D.says.faults (archive_disk_of result.depot.archive) }
     {
         let OpenedDepot {
             words: _,

@@ -41,7 +41,7 @@ impl<D: Disk, N: Naming + Imaging + Serving> Model for CommonDepot<D, N> {
 
     ghost view = { λ c. c.order };
 
-    ghost invariant = { λ c. KeepsOrder D.seen D.may_leave D.moment D.left_since D.faults N.rows N.end N.images N.begins N.faults c.order c.tables };
+    ghost invariant = { λ c. KeepsOrder D.says N.rows N.end N.images N.begins N.faults c.order c.tables };
 }
 
 impl<D: Disk, N: Naming + Imaging + Serving> CommonDepot<D, N> {
@@ -49,7 +49,7 @@ impl<D: Disk, N: Naming + Imaging + Serving> CommonDepot<D, N> {
     pub(crate) fn new(order: PlacedOrder<N>, tables: Tables) -> CommonDepot<D, N>
         requires order { order ≡ [] }
         requires rows { (table : TableId) → rows_of tables table ≡ N.rows table }
-        requires run { WasRun D.seen D.may_leave D.moment D.left_since D.faults N.rows N.end N.images N.begins N.faults [] }
+        requires run { WasRun D.says N.rows N.end N.images N.begins N.faults [] }
         ensures { result ≡ [] }
     {
         CommonDepot {
@@ -91,7 +91,7 @@ impl<D: Disk, N: Naming + Imaging + Serving> CommonDepot<D, N> {
     pub(crate) fn learn_journal(&mut self, words: &OrderWords<N>, lane: &mut LockedJournal<N>)
         ensures same { self.new ≡ self.old }
         ensures learnt { lane.new ≡ self.old }
-        ensures on { GoesOnQuietly D.may_leave D.moment D.left_since N.rows N.end N.images N.begins lane.old self.old }
+        ensures on { GoesOnQuietly D.says N.rows N.end N.images N.begins lane.old self.old }
     {
         self.order.learn_journal(words, lane);
     }

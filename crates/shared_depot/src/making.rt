@@ -263,11 +263,11 @@ impl<D: Disk, N: Naming + Marking + Imaging + Serving> SharedDepot<D, N> {
         requires content_seats { content_words.2.items ≡ fresh_lanes N.content_marks (1 + length places.now) }
         requires rows { (table : TableId) → rows_of depot.tables table ≡ N.rows table }
         requires end { depot.tables.archive_end ≡ N.end }
-        requires images { (files : Files) → N.images files ↔ D.may_leave (archive_disk_of depot.archive) files }
-        requires can { CanTake D.may_leave depot }
-        requires begins { (since : ℕ) (start : List Deed) → N.begins since start → HasRun D.seen D.may_leave D.moment D.left_since depot since start [] }
-        requires faults { N.faults ≡ D.faults (disk_of depot.journal) }
-        requires content_faults { N.content_faults ≡ D.faults (archive_disk_of depot.archive) }
+        requires images { (files : Files) → N.images files ↔ D.says.may_leave (archive_disk_of depot.archive) files }
+        requires can { CanTake D.says depot }
+        requires begins { (since : ℕ) (start : List Deed) → N.begins since start → HasRun D.says depot since start [] }
+        requires faults { N.faults ≡ D.says.faults (disk_of depot.journal) }
+        requires content_faults { N.content_faults ≡ D.says.faults (archive_disk_of depot.archive) }
         ensures passes { IfOk result (λ shared. shared.passes.items ≡ fresh_passes (length places.now)) }
         ensures mark_passes { IfOk result (λ shared. shared.marks.items ≡ fresh_marks (length places.now)) }
         ensures back { IfErr result (λ given. given ≡ depot) }

@@ -1,97 +1,67 @@
 //! The place of a command that writes nothing more.
-ghost use Rattle.std.specs.Prelude.{◌≡◌, ℕ, List, [], true, false};
+ghost use Rattle.std.specs.Prelude.{◌≡◌, ◌≤◌, ◌-◌, ◌^◌, ℕ, List, true};
 ghost use Rattle.depot_rows.specs.depot_model.Deeds.{Deed};
 ghost use Rattle.locked_tables.specs.Known.{HasPlaceLeft};
+ghost use Rattle.locked_tables.specs.Taken.{end_after};
+ghost use Rattle.serial_depot.specs.Telling.{IsUnwritten};
 ghost use Rattle.session_loop.specs.Taking.{IsProper};
+ghost use Rattle.shared_depot.specs.Common.{IsLostPlace};
 ghost use Rattle.shared_depot.specs.Ready.{IsQuietFor};
 ghost use Rattle.shared_depot.specs.Room.{IsDueAfter};
 ghost use Rattle.shared_depot.specs.Sharing.{IsTakenAt};
 
 use crate::common::CommonDepot;
-use crate::placing::entry_of;
 use crate::ready::Quiet;
 use crate::serving::Serving;
-use crate::stored_archive::StoredArchive;
 use depot_rows::model::{Answer, Request};
 use depot_rows::paths::Sequence;
-use locked_tables::{Naming, OrderWords, PartyPass};
+use locked_tables::{ArchiveLane, Naming, NoLane, OrderWords, PartyPass, Taken};
 use outside_api::Disk;
 use serial_depot::{Imaging, Told, place_unwritten};
 use std::alloc::Global;
-use table_locks::{place_read, place_unread};
+use table_locks::Prepared;
 
 impl<D: Disk, N: Naming + Imaging + Serving> CommonDepot<D, N> {
-    /// Gives a command its place that changes nothing, and whose contents were read.
-    fn take_read(
+    /// Gives a command its place that writes nothing more. Where a content couldn't be read it is that of a
+    /// fault, and it touches the archive's lane, which is held then; the archive ends where it did.
+    fn place_quiet<A: ArchiveLane<N>>(
         &mut self,
         words: &OrderWords<N>,
         alloc: Global,
         pass: &mut PartyPass<N>,
+        archive: &mut A,
+        end: u64,
         told: Told,
         request: Request,
     ) -> Answer
         requires room { HasPlaceLeft N.places pass.old }
-        requires unchanged { told.changes ≡ [] }
-        requires read { told.unread ≡ false }
+        requires unwritten { IsUnwritten told }
+        requires held { told.unread ≡ A.is_held }
+        requires end { A.is_held ≡ true → end ≡ end_after N.end self.old }
+        requires fits { A.is_held ≡ true → end ≤ 2 ^ 63 - 1 }
         requires due { IsDueAfter N.rows N.end N.images N.begins self.old request told }
         requires proper { (since : ℕ) (start : List Deed) → N.begins since start → IsProper request }
         requires party { request.party ≡ pass.old.party }
-        ensures { IsTakenAt N.begins pass.old pass.new request result }
+        ensures taken { IsTakenAt N.begins pass.old pass.new request result }
+        ensures archive { A.Learns self.old self.new archive.old archive.new }
+        ensures lost { A.is_held ≡ true → IsLostPlace self.old self.new }
     {
         let answer = place_unwritten(&request, told);
+        let fault = answer.place.fault;
         let changes = Sequence::new(alloc);
         let stores = Sequence::new(alloc);
-        let taken = entry_of(
-            alloc,
+        let taken = Taken {
             request,
+            fault,
+            lost: fault,
+            lanes: 0,
             changes,
-            answer.place.fault,
-            false,
-            0,
-            stores,
-        );
-        let place = taken.place();
-        place_read(words, &mut self.order, pass, taken);
-        Answer {
-            place,
-            reply: answer.reply,
-        }
-    }
-
-    /// Gives a command its place for which a content couldn't be read: that of a fault.
-    fn take_unread(
-        &mut self,
-        words: &OrderWords<N>,
-        alloc: Global,
-        pass: &mut PartyPass<N>,
-        archive: &mut StoredArchive<D, N>,
-        told: Told,
-        request: Request,
-    ) -> Answer
-        requires room { HasPlaceLeft N.places pass.old }
-        requires archive { (archive.old.list ≡ self.old) × (archive.old.failed ≡ true) }
-        requires unread { told.unread ≡ true }
-        requires due { IsDueAfter N.rows N.end N.images N.begins self.old request told }
-        requires proper { (since : ℕ) (start : List Deed) → N.begins since start → IsProper request }
-        requires party { request.party ≡ pass.old.party }
-        ensures { IsTakenAt N.begins pass.old pass.new request result }
-    {
-        let answer = place_unwritten(&request, told);
-        let changes = Sequence::new(alloc);
-        let stores = Sequence::new(alloc);
-        let end = archive.lane.end();
-        let taken = entry_of(
-            alloc,
-            request,
-            changes,
-            answer.place.fault,
-            true,
             end,
             stores,
-        );
+        };
         let place = taken.place();
-        place_unread(words, &mut self.order, &mut archive.lane, pass, taken);
-        archive.failed = false;
+        let nothing = Prepared::nothing(alloc);
+        nothing.place(words, &mut self.order, archive, &mut NoLane, pass, taken);
         Answer {
             place,
             reply: answer.reply,
@@ -120,9 +90,21 @@ impl<'a, D: Disk, N: Naming + Imaging + Serving> Quiet<'a, D, N> {
             told,
         } = self;
         match archive {
-            None => common.take_read(words, alloc, pass, told, request),
+            None => common.place_quiet(words, alloc, pass, &mut NoLane, 0, told, request),
             Some(mut guard) => {
-                common.take_unread(words, alloc, pass, &mut *guard, told, request)
+                let held = &mut *guard;
+                let end = held.lane.end();
+                let answer = common.place_quiet(
+                    words,
+                    alloc,
+                    pass,
+                    &mut held.lane,
+                    end,
+                    told,
+                    request,
+                );
+                held.failed = false;
+                answer
             }
         }
     }

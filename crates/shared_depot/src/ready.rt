@@ -22,11 +22,13 @@ pub(crate) struct Quiet<'a, D: Disk, N: Naming + Imaging + Serving> {
     pub(crate) told: Told,
 }
 
-/// What a command is answered and does, with the lock of the journal and the room that is made under it.
+/// What a command is answered and does, with the lock of the journal and the room that is made under it,
+/// and the lock of the archive where it stores contents.
 #[derive(Drop)]
 pub(crate) struct Writing<'a, D: Disk, N: Naming + Marking + Imaging + Serving> {
     pub(crate) journal: MutexGuard<'a, WrittenJournal<D, N>>,
-    pub(crate) room: Room<'a, D, N>,
+    pub(crate) archive: Option<MutexGuard<'a, StoredArchive<D, N>>>,
+    pub(crate) room: Room<'a, N>,
     pub(crate) told: Told,
 }
 

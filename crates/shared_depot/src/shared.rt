@@ -63,7 +63,7 @@ impl<D: Disk, N: Naming + Marking + Imaging + Serving> SharedDepot<D, N> {
                 Err(error)
             }
             Ok(ready) => {
-                let answer = ready.take(rt, &self.words, &self.common, alloc, pass, request)?;
+                let answer = ready.take(rt, self, alloc, pass, request)?;
                 gate.answered(party, number);
                 Ok(answer)
             }
@@ -85,7 +85,7 @@ impl<D: Disk, N: Naming + Marking + Imaging + Serving> SharedDepot<D, N> {
         replica: &mut ReplicaParty,
     ) -> Result<Answered, AllocError>
         requires { 0 < length replica.old.left.items }
-        ensures turn { IsReplicaTurn D.seen D.may_leave D.moment D.left_since N.end N.images N.begins pass.old pass.new marks.old marks.new replica.old replica.new result }
+        ensures turn { IsReplicaTurn D.says N.end N.images N.begins pass.old pass.new marks.old marks.new replica.old replica.new result }
         ensures left { length replica.old.left.items ≡ length replica.new.left.items + 1 }
     {
         let request = replica.take_next().unwrap();

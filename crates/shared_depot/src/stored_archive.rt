@@ -45,8 +45,8 @@ impl<D: Disk, N: Naming + Imaging + Serving> Model for StoredArchive<D, N> {
 
     ghost view = { λ a. record { list = a.lane; failed = a.failed } };
 
-    ghost invariant = { λ a. IsArchiveAfter D.seen D.may_leave D.moment D.left_since D.faults N.end N.images N.begins N.content_faults (record { list = a.lane; failed = a.failed }) a.archive ×
-        IsMarkCaused N.content_faults (D.faults (disk_of a.archive)) a.marks.list };
+    ghost invariant = { λ a. IsArchiveAfter D.says N.end N.images N.begins N.content_faults (record { list = a.lane; failed = a.failed }) a.archive ×
+        IsMarkCaused N.content_faults (D.says.faults (disk_of a.archive)) a.marks.list };
 }
 
 impl<D: Disk, N: Naming + Imaging + Serving> StoredArchive<D, N> {
@@ -58,7 +58,7 @@ impl<D: Disk, N: Naming + Imaging + Serving> StoredArchive<D, N> {
     ) -> StoredArchive<D, N>
         requires lane { lane ≡ [] }
         requires marks { marks.list ≡ [] }
-        requires archive { IsArchiveAfter D.seen D.may_leave D.moment D.left_since D.faults N.end N.images N.begins N.content_faults (record { list = []; failed = false }) archive }
+        requires archive { IsArchiveAfter D.says N.end N.images N.begins N.content_faults (record { list = []; failed = false }) archive }
         ensures { result ≡ record { list = []; failed = false } }
     {
         StoredArchive {

@@ -5,6 +5,8 @@ use Rattle.std.specs.List.{list_all, list_any}
 use Rattle.std.specs.Option.{option_or}
 use Rattle.std.proofs.lemmas.List.{reverse-append}
 use Rattle.depot_model.specs.depot_path.Bytes.{same}
+use Rattle.depot_model.specs.db_records.declared.table.TableId.{TableId}
+use Rattle.depot_model.specs.db_records.declared.table.TableId.TheVariants.{Domain}
 use Rattle.depot_model.specs.Deeds.{Deed, SpecKind, Spec}
 use Rattle.depot_model.specs.Latest.{latest, when, kind_word, same_kind, spec, spec_said}
 use Rattle.depot_model.specs.Step.{after}
@@ -37,11 +39,11 @@ module _ (kinds : List SpecKind) (kind : SpecKind) (away : is_kind_in kinds kind
 
 -- ---- deeds that stay out of the table of forms save none
 
-none_saved : (tables : List ℕ) (kinds : List SpecKind) → is_in tables 3 ≡ false → (deed : Deed) → stays_in tables deed ≡ true → saves_in kinds deed ≡ true
-none_saved tables kinds away (Spec kind name form) e = absurd (let both : true ≡ false = sym (left-true (is_in tables 3) true e) ∙ away in cc)
+none_saved : (tables : List TableId) (kinds : List SpecKind) → is_in tables Domain ≡ false → (deed : Deed) → stays_in tables deed ≡ true → saves_in kinds deed ≡ true
+none_saved tables kinds away (Spec kind name form) e = absurd (let both : true ≡ false = sym (left-true (is_in tables Domain) true e) ∙ away in cc)
 none_saved tables kinds away _ e = refl
 
-pub saves_none : (tables : List ℕ) (kinds : List SpecKind) → is_in tables 3 ≡ false → (deeds : List Deed) → list_all (stays_in tables) deeds ≡ true
+pub saves_none : (tables : List TableId) (kinds : List SpecKind) → is_in tables Domain ≡ false → (deeds : List Deed) → list_all (stays_in tables) deeds ≡ true
     → list_all (saves_in kinds) deeds ≡ true
 saves_none tables kinds away [] all = refl
 saves_none tables kinds away (deed ∷ deeds) all =

@@ -4,7 +4,6 @@ use Rattle.std.specs.Prelude.{◌&&◌, not, codes, unwrap_or, option_map, IfOk}
 use Rattle.std.specs.Option.{option_flatten, option_or}
 use Rattle.depot_model.specs.depot_path.Bytes.{same}
 use Rattle.depot_model.specs.db_records.Key.{key_table}
-use Rattle.depot_model.specs.db_records.Table.{table_number}
 use Rattle.depot_model.specs.db_records.declared.key.Key.{Key}
 use Rattle.depot_model.specs.db_records.declared.key.Key.TheVariants as keys
 use Rattle.depot_model.specs.db_records.declared.record.Record.TheVariants.{Counter as CounterRow}
@@ -47,7 +46,7 @@ module _ (d : List Deed) (request : Request) where
   done = (step d request).deeds
 
   -- a row of a table that a command doesn't write stays
-  row_stays : (command : Command) → request.command ≡ Ok command → (key : Key) → is_in (own_tables command).written (table_number (key_table key)) ≡ false
+  row_stays : (command : Command) → request.command ≡ Ok command → (key : Key) → is_in (own_tables command).written (key_table key) ≡ false
       → record_of (after d done) key ≡ record_of d key
   row_stays command e key away = rows_stay (own_tables command).written key away d done (step_stays d request command e).each
 

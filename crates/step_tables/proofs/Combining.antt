@@ -4,6 +4,7 @@ use Rattle.std.specs.Prelude.{length, nat_lt, if◌then◌else◌}
 use Rattle.std.specs.List.{list_all}
 use Rattle.std.specs.Cmp.Derive.{both_true}
 use Rattle.std.proofs.lemmas.List.Folds.{list_all-append}
+use Rattle.depot_model.specs.db_records.declared.table.TableId.{TableId}
 use Rattle.depot_model.specs.Arguments.{over, over_all, each_or, not_in, everything, within_files, paths_of, changed_paths}
 use Rattle.depot_model.specs.Deeds.{Deed}
 use Rattle.depot_model.specs.declared.reply.Row.{Row}
@@ -14,17 +15,17 @@ use Rattle.depot_model.specs.declared.refusal.Refusal.TheVariants.{OverLimit}
 use Rattle.depot_model.specs.declared.refusal.Limit.TheVariants.{Files}
 use Rattle.step_tables.specs.DeedTables.{stays_in}
 
-abbrev pub StayIn : List ℕ → List Deed → Type 0
+abbrev pub StayIn : List TableId → List Deed → Type 0
 StayIn tables deeds = list_all (stays_in tables) deeds ≡ true
 
 -- the deeds of a step do
-pub record Stays (tables : List ℕ) (step : Step) : Type 0 where
+pub record Stays (tables : List TableId) (step : Step) : Type 0 where
   pub each : StayIn tables step.deeds
 
-pub joined : (tables : List ℕ) (xs ys : List Deed) → StayIn tables xs → StayIn tables ys → StayIn tables (xs ++ ys)
+pub joined : (tables : List TableId) (xs ys : List Deed) → StayIn tables xs → StayIn tables ys → StayIn tables (xs ++ ys)
 joined tables xs ys h k = list_all-append (stays_in tables) xs ys ∙ both_true h k
 
-module _ {tables : List ℕ} where
+module _ {tables : List TableId} where
   -- a step that only tells, and one of some deeds
   pub only_tells : (rows : List Row) → Stays tables (tells rows)
   only_tells rows = record { each = refl }

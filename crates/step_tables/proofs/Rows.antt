@@ -1,8 +1,10 @@
 -- A deed changes no row of a table that isn't one of its own, and deeds that stay in some tables change no row of another.
 use Rattle.std.proofs.Common.{◌≡◌, ℕ, Bool, true, false, List, [], ◌∷◌, refl, sym, ap, ◌∙◌}
 use Rattle.std.specs.Prelude.{◌==◌, ◌&&◌, ◌||◌, option_and_then}
-use Rattle.std.specs.List.{list_all}
+use Rattle.std.specs.List.{list_all, list_any}
 use Rattle.std.proofs.lemmas.Bool.{eqb-true}
+use Rattle.depot_model.specs.db_records.declared.table.TableId.{TableId}
+use Rattle.depot_model.specs.db_records.declared.table.TableId.TheVariants.{Rev}
 use Rattle.depot_model.specs.db_records.Key.{key_table}
 use Rattle.depot_model.specs.db_records.Table.{table_number}
 use Rattle.depot_model.specs.db_records.declared.key.Key.{Key}
@@ -19,7 +21,7 @@ use Rattle.step_tables.specs.DeedTables.{deed_tables, stays_in}
 -- ---- one deed
 
 abbrev Elsewhere : Deed → Key → Type 0
-Elsewhere deed key = is_in (deed_tables deed) (table_number (key_table key)) ≡ false
+Elsewhere deed key = is_in (deed_tables deed) (key_table key) ≡ false
 
 module _ (d : List Deed) where
   abbrev Stays : Deed → Key → Type 0
@@ -90,7 +92,7 @@ module _ (d : List Deed) where
   landed l (keys.Rev path n) away = absurd cc
   landed l _ away = refl
 
-pub deed_stays : (d : List Deed) (deed : Deed) (key : Key) → is_in (deed_tables deed) (table_number (key_table key)) ≡ false
+pub deed_stays : (d : List Deed) (deed : Deed) (key : Key) → is_in (deed_tables deed) (key_table key) ≡ false
     → record_of (deed ∷ d) key ≡ record_of d key
 deed_stays d (Count name value) = counted d name value
 deed_stays d (Group name users) = grouped d name users
@@ -119,43 +121,45 @@ right-true true b e = e
 right-true false b e = absurd cc
 
 -- a table that isn't among some isn't among those of a deed that stays in them
-not_among : (tables : List ℕ) (n : ℕ) → is_in tables n ≡ false → (own : List ℕ) → list_all (is_in tables) own ≡ true → is_in own n ≡ false
-not_among tables n away [] e = refl
-not_among tables n away (m ∷ own) e = go (m == n) refl (not_among tables n away own (right-true (is_in tables m) (list_all (is_in tables) own) e))
+not_among : (tables : List TableId) (table : TableId) → is_in tables table ≡ false → (own : List TableId) → list_all (is_in tables) own ≡ true → is_in own table ≡ false
+not_among tables table away [] e = refl
+not_among tables table away (other ∷ own) e = go (table_number other == table_number table) refl (not_among tables table away own (right-true (is_in tables other) (list_all (is_in tables) own) e))
   where
-    go : (b : Bool) → (m == n) ≡ b → is_in own n ≡ false → (b || is_in own n) ≡ false
+    go : (b : Bool) → (table_number other == table_number table) ≡ b → is_in own table ≡ false → (b || is_in own table) ≡ false
     go false is later = later
     go true is later =
-        let there : is_in tables m ≡ true = left-true (is_in tables m) (list_all (is_in tables) own) e in
-        absurd (let both : true ≡ false = sym there ∙ (ap (is_in tables) (eqb-true m n is) ∙ away) in cc)
+        let there : is_in tables other ≡ true = left-true (is_in tables other) (list_all (is_in tables) own) e in
+        let same : is_in tables other ≡ is_in tables table =
+        ap (λ n. list_any (λ (t : TableId). table_number t == n) tables) (eqb-true (table_number other) (table_number table) is) in
+        absurd (let both : true ≡ false = sym there ∙ (same ∙ away) in cc)
 
-pub rows_stay : (tables : List ℕ) (key : Key) → is_in tables (table_number (key_table key)) ≡ false → (d deeds : List Deed)
+pub rows_stay : (tables : List TableId) (key : Key) → is_in tables (key_table key) ≡ false → (d deeds : List Deed)
     → list_all (stays_in tables) deeds ≡ true → record_of (after d deeds) key ≡ record_of d key
 rows_stay tables key away d [] e = refl
 rows_stay tables key away d (deed ∷ deeds) e =
     rows_stay tables key away (deed ∷ d) deeds (right-true (stays_in tables deed) (list_all (stays_in tables) deeds) e)
-    ∙ deed_stays d deed key (not_among tables (table_number (key_table key)) away (deed_tables deed) (left-true (stays_in tables deed) (list_all (stays_in tables) deeds) e))
+    ∙ deed_stays d deed key (not_among tables (key_table key) away (deed_tables deed) (left-true (stays_in tables deed) (list_all (stays_in tables) deeds) e))
 
 -- ---- deeds that stay out of the table of revisions
 
-module _ (tables : List ℕ) (away : is_in tables 10 ≡ false) where
+module _ (tables : List TableId) (away : is_in tables Rev ≡ false) where
   module _ {A : Type 0} (reading : List Deed → A)
-      (same_but_landed : (d : List Deed) (deed : Deed) → is_in (deed_tables deed) 10 ≡ false → reading (deed ∷ d) ≡ reading d) where
+      (same_but_landed : (d : List Deed) (deed : Deed) → is_in (deed_tables deed) Rev ≡ false → reading (deed ∷ d) ≡ reading d) where
     pub reading_stays : (d deeds : List Deed) → list_all (stays_in tables) deeds ≡ true → reading (after d deeds) ≡ reading d
     reading_stays d [] e = refl
     reading_stays d (deed ∷ deeds) e =
         reading_stays (deed ∷ d) deeds (right-true (stays_in tables deed) (list_all (stays_in tables) deeds) e)
-        ∙ same_but_landed d deed (not_among tables 10 away (deed_tables deed) (left-true (stays_in tables deed) (list_all (stays_in tables) deeds) e))
+        ∙ same_but_landed d deed (not_among tables Rev away (deed_tables deed) (left-true (stays_in tables deed) (list_all (stays_in tables) deeds) e))
 
-same_landings : (d : List Deed) (deed : Deed) → is_in (deed_tables deed) 10 ≡ false → landings (deed ∷ d) ≡ landings d
+same_landings : (d : List Deed) (deed : Deed) → is_in (deed_tables deed) Rev ≡ false → landings (deed ∷ d) ≡ landings d
 same_landings d (Land l) e = absurd cc
 same_landings d _ e = refl
 
-same_revisions : (path : List ℕ) (d : List Deed) (deed : Deed) → is_in (deed_tables deed) 10 ≡ false → revisions (deed ∷ d) path ≡ revisions d path
+same_revisions : (path : List ℕ) (d : List Deed) (deed : Deed) → is_in (deed_tables deed) Rev ≡ false → revisions (deed ∷ d) path ≡ revisions d path
 same_revisions path d (Land l) e = absurd cc
 same_revisions path d _ e = refl
 
-module _ (tables : List ℕ) (away : is_in tables 10 ≡ false) (d deeds : List Deed) (all : list_all (stays_in tables) deeds ≡ true) where
+module _ (tables : List TableId) (away : is_in tables Rev ≡ false) (d deeds : List Deed) (all : list_all (stays_in tables) deeds ≡ true) where
   pub landings_stay : landings (after d deeds) ≡ landings d
   landings_stay = reading_stays tables away landings same_landings d deeds all
 

@@ -3,6 +3,8 @@ use Rattle.std.proofs.Common.{ℕ, Bool, true, false, List, [], ◌∷◌, ◌++
 use Rattle.std.specs.Prelude.{◌&&◌, ◌||◌, ◌==◌, ◌+◌, not, codes, length, is_none, filter_map, flat_map, option_map, unwrap_or, if◌then◌else◌}
 use Rattle.std.specs.Option.{option_map_or}
 use Rattle.std.specs.List.{cons_option}
+use Rattle.depot_model.specs.db_records.declared.table.TableId.{TableId}
+use Rattle.depot_model.specs.db_records.declared.table.TableId.TheVariants as ids
 use Rattle.depot_model.specs.spec_form.Form.{FormValue}
 use Rattle.depot_model.specs.spec_form.Reading.{form_of}
 use Rattle.depot_model.specs.spec_form.declared.shape.Shape.TheVariants as shapes
@@ -21,7 +23,7 @@ use Rattle.depot_model.specs.declared.request.Request.{Request}
 use Rattle.step_tables.proofs.Combining.{StayIn, Stays, joined, only_tells, done, stays_refused, stays_read}
 
 -- the deeds that a list gives, each some or none
-gathered : {A : Type 0} (tables : List ℕ) (deeds : A → List Deed) → ((x : A) → StayIn tables (deeds x)) → (xs : List A) → StayIn tables (flat_map deeds xs)
+gathered : {A : Type 0} (tables : List TableId) (deeds : A → List Deed) → ((x : A) → StayIn tables (deeds x)) → (xs : List A) → StayIn tables (flat_map deeds xs)
 gathered tables deeds h [] = refl
 gathered tables deeds h (x ∷ xs) = joined tables (deeds x) (flat_map deeds xs) (h x) (gathered tables deeds h xs)
 
@@ -29,31 +31,31 @@ module _ (d : List Deed) where
   -- ---- pending changes
 
   module _ (n : ℕ) (caller : Caller) where
-    moved_stay : (paths : List (List ℕ)) → StayIn (0 ∷ 8 ∷ 9 ∷ []) (filter_map (moved_to n d caller) paths)
+    moved_stay : (paths : List (List ℕ)) → StayIn (ids.Counter ∷ ids.Working ∷ ids.Change ∷ []) (filter_map (moved_to n d caller) paths)
     moved_stay [] = refl
     moved_stay (path ∷ paths) = go (opened d caller.client path) (moved_stay paths)
       where
-        go : (o : Option Opening) → StayIn (0 ∷ 8 ∷ 9 ∷ []) (filter_map (moved_to n d caller) paths)
-            → StayIn (0 ∷ 8 ∷ 9 ∷ []) (cons_option (option_map (λ (o : Opening). Open (record o { change = n })) o) (filter_map (moved_to n d caller) paths))
+        go : (o : Option Opening) → StayIn (ids.Counter ∷ ids.Working ∷ ids.Change ∷ []) (filter_map (moved_to n d caller) paths)
+            → StayIn (ids.Counter ∷ ids.Working ∷ ids.Change ∷ []) (cons_option (option_map (λ (o : Opening). Open (record o { change = n })) o) (filter_map (moved_to n d caller) paths))
         go None later = later
         go (Some o) later = later
 
-  change_form_stays : (request : Request) (input : List ℕ) (form : FormValue) → Stays (0 ∷ 8 ∷ 9 ∷ []) (change_form d request input form)
+  change_form_stays : (request : Request) (input : List ℕ) (form : FormValue) → Stays (ids.Counter ∷ ids.Working ∷ ids.Change ∷ []) (change_form d request input form)
   change_form_stays request input form =
       let n = unwrap_or (form_number form) (top d + 1) in
       stays_refused (refuse_if (not (has_number form)) (BadForm (field_place input (codes "Change")))) _ _ (done _ _ (moved_stay n request.caller (listed_paths form)))
 
-  pub change_save_stays : (request : Request) (input : List ℕ) → Stays (0 ∷ 8 ∷ 9 ∷ []) (change_save d request input)
+  pub change_save_stays : (request : Request) (input : List ℕ) → Stays (ids.Counter ∷ ids.Working ∷ ids.Change ∷ []) (change_save d request input)
   change_save_stays request input =
       stays_read (change_form d request input) (change_form_stays request input) _ (λ fault. only_tells _) (form_of shapes.Change input)
 
-  pub change_delete_stays : (caller : Caller) (n : ℕ) → Stays (9 ∷ []) (change_delete d caller n)
+  pub change_delete_stays : (caller : Caller) (n : ℕ) → Stays (ids.Change ∷ []) (change_delete d caller n)
   change_delete_stays caller n = stays_refused (refuse_if (is_none (pending d n) && is_none (landing d n)) (NoSuchChange n)) _ _ (done _ _ refl)
 
   -- ---- submits
 
-  abbrev written : List ℕ
-  written = 0 ∷ 3 ∷ 4 ∷ 6 ∷ 7 ∷ 8 ∷ 9 ∷ 10 ∷ 11 ∷ []
+  abbrev written : List TableId
+  written = ids.Counter ∷ ids.Domain ∷ ids.Have ∷ ids.Integed ∷ ids.Resolve ∷ ids.Working ∷ ids.Change ∷ ids.Rev ∷ []
 
   dropped_stay : (n : ℕ) → StayIn written (dropped d n)
   dropped_stay n = go ((n == 0) || (n == landing_number d n))

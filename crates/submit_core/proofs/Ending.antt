@@ -20,22 +20,8 @@ use Rattle.depot_rows.specs.declared.deed.Deed.TheVariants as dones
 use Rattle.depot_rows.specs.declared.deed.Entry.{Entry}
 use Rattle.sound_landing.specs.Following.{AreTold}
 use Rattle.submit_core.specs.Landing.{dropped_by, ends_of, had_then, row_of_entry}
-use Rattle.submit_core.specs.Telling.{Tells}
-
--- ---- deeds one after another
-
-pub told_on : (a b : List Done) (s t : List Deed) → AreTold a s → AreTold b t → AreTold (a ++ b) (s ++ t)
-told_on [] b [] t h k = k
-told_on [] b (x ∷ s) t h k = absurd h
-told_on (y ∷ a) b [] t h k = absurd h
-told_on (y ∷ a) b (x ∷ s) t h k = (h.0, told_on a b s t h.1 k)
-
-pub tells_none : (before now : List Done) → now ≡ before ++ [] → Tells before now []
-tells_none before now e = ([], (e, tt))
-
-pub tells_on : (a b c : List Done) (s t : List Deed) → Tells a b s → Tells b c t → Tells a c (s ++ t)
-tells_on a b c s t h k =
-    (h.0 ++ k.0, (k.1.0 ∙ ap (λ (l : List Done). l ++ k.0) h.1.0 ∙ append_assoc a h.0 k.0, told_on h.0 k.0 s t h.1.1 k.1.1))
+use Rattle.job_fixes.specs.Telling.{Tells}
+use Rattle.job_fixes.proofs.Telling.{told_on}
 
 -- ---- the number that is dropped
 
@@ -91,9 +77,6 @@ rows_told d request (e ∷ es) (o ∷ os) are =
     ∷ rows_told d request es os are.1 i
 
 -- ---- deeds behind others
-
-pub tells_one : (before now : List Done) (done : Done) (deed : Deed) → now ≡ before ++ done ∷ [] → deed_of done ≡ Some deed → Tells before now (deed ∷ [])
-tells_one before now done deed e is = (done ∷ [], (e, (is, tt)))
 
 pub told_all : (now : List Done) (told : List Deed) → Tells [] now told → AreTold now told
 told_all now told h = subst (λ (l : List Done). AreTold l told) (sym h.1.0) h.1.1

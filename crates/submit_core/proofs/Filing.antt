@@ -16,7 +16,7 @@ use Rattle.submit_core.specs.Entries.{AreFiles, content_in, stores_of, total}
 use Rattle.file_contents.specs.declared.content.Found.{Found}
 use Rattle.file_contents.specs.declared.content.Found.TheVariants.{Old, Block, Absent}
 use Rattle.submit_core.specs.declared.entries.Files.{Files}
-use Rattle.submit_core.proofs.Steps.{map_on}
+use Rattle.job_fixes.proofs.Steps.{map_on}
 
 -- ---- places among what is stored
 

@@ -1,10 +1,7 @@
 pub mod CreditRows
-pub mod Keeping
 pub mod Refusing
 pub mod Filing
 pub mod Ending
-pub mod FixRows
-pub mod Steps
 pub mod Opened
 pub mod Stepping
 pub mod Deciding

@@ -3,7 +3,7 @@ use Rattle.std.proofs.Common.{◌≡◌, ◌<◌, ℕ, zero, suc, List, [], ◌�
 use Rattle.depot_rows.specs.depot_model.Deeds.{Deed}
 use Rattle.depot_rows.specs.declared.deed.Opening.{Opening}
 use Rattle.submit_core.specs.Premises.{AreOpened, IsOpened}
-use Rattle.submit_core.proofs.Steps.{back}
+use Rattle.job_fixes.proofs.Steps.{back}
 
 module _ (d : List Deed) (client : List ℕ) where
   opened_drop : (i : ℕ) (os : List Opening) → AreOpened d client os → AreOpened d client (drop i os)

@@ -7,7 +7,8 @@ use Rattle.std.proofs.SliceLists.{all_by_recursion_push}
 use Rattle.std.proofs.lemmas.Bool.{or_from, or_parts}
 use Rattle.std.proofs.lemmas.List.{map-append, take_all}
 use Rattle.std.proofs.lemmas.List.Elements.{filter_more}
-use Rattle.command_needs.specs.declared.sets.Need.{Need}
+use Rattle.command_needs.specs.Sets.{needs_table}
+use Rattle.command_needs.specs.declared.needs.Needs.{Needs}
 use Rattle.depot_model.specs.db_records.Table.{all_tables}
 use Rattle.depot_model.specs.db_records.declared.table.TableId.{TableId}
 use Rattle.locked_tables.specs.Held.{known_of, table_held}
@@ -18,7 +19,7 @@ use Rattle.table_changes.specs.Changed.{AllRows, rows_of}
 use Rattle.table_changes.specs.table_store.Rows.{TableRows}
 use Rattle.table_changes.specs.table_store.Tables.{version_of}
 use Rattle.table_locks.specs.Gathered.{AddsHeld, AddsPeeks, AllHeldSeen, HasSeen, IsShown, has_table, is_of, tables_held, tables_seen}
-use Rattle.table_locks.specs.Ways.{holds_table, looks_at, needs_table}
+use Rattle.table_locks.specs.Ways.{holds_table, looks_at}
 use Rattle.table_locks.specs.declared.gathered.Gathered.{Gathered}
 use Rattle.table_locks.proofs.Seen.{shown_new, shown_put}
 use Rattle.table_locks.proofs.Sets.{held_by, seen_by}
@@ -115,7 +116,7 @@ module _ (p : TableId → Bool) where
       ∙ (among_passing p table (take i all_tables) ∙ (ap (λ (b : Bool). p table && b) (first_at i d lt) ∙ and-false (p table)))
 
 -- what is only looked at isn't held
-looked_unheld : (whole : Bool) (needs : List Need) (table : TableId) → looks_at whole needs table ≡ true → holds_table whole needs table ≡ false
+looked_unheld : (whole : Bool) (needs : Needs) (table : TableId) → looks_at whole needs table ≡ true → holds_table whole needs table ≡ false
 looked_unheld whole needs table looks = go (needs_table needs table) (holds_table whole needs table) looks
   where
     go : (a b : Bool) → (a && not b) ≡ true → b ≡ false
@@ -123,7 +124,7 @@ looked_unheld whole needs table looks = go (needs_table needs table) (holds_tabl
     go true false e = refl
     go false b e = absurd (cc e)
 
-module _ {N : Type 0} (g : Gathered N) (whole : Bool) (needs : List Need) (i : ℕ) (d : TableId) (lt : i < 11) where
+module _ {N : Type 0} (g : Gathered N) (whole : Bool) (needs : Needs) (i : ℕ) (d : TableId) (lt : i < 11) where
   abbrev next : TableId
   next = get_or all_tables i d
 

@@ -1,14 +1,11 @@
 -- What was gathered, beside another end of the archive.
-use Rattle.std.proofs.Common.{◌≡◌, Result, Ok, Err, sym, subst}
+use Rattle.std.proofs.Common.{◌≡◌, sym, subst}
 use Rattle.depot_model.specs.db_records.declared.table.TableId.{TableId}
-use Rattle.depot_model.specs.declared.command.Command.{Command}
-use Rattle.depot_model.specs.declared.request.Request.{Request}
-use Rattle.depot_model.specs.declared.request.WordFault.{WordFault}
 use Rattle.std.specs.List.{AllByRecursion}
 use Rattle.table_changes.specs.Changed.{AllRows, rows_of}
 use Rattle.table_changes.specs.table_store.Tables.{version_of}
 use Rattle.table_changes.specs.table_store.declared.tables.Tables.{Tables}
-use Rattle.table_locks.specs.Gathered.{AllHeldSeen, Covers, CoversBy, HasSeen, IsShown}
+use Rattle.table_locks.specs.Gathered.{AllHeldSeen, HasSeen, IsShown}
 use Rattle.table_locks.specs.declared.gathered.Gathered.{Gathered}
 
 module _ {N : Type 0} (old : Gathered N) (tables : Tables) (versions : (table : TableId) → version_of tables table ≡ version_of old.tables table) where
@@ -24,11 +21,3 @@ module _ {N : Type 0} (old : Gathered N) (tables : Tables) (versions : (table : 
     held = subst (λ (rows : AllRows). AllHeldSeen start rows old.held.items) same_rows shown.held;
     peeks = subst (λ (rows : AllRows). AllByRecursion (HasSeen start rows) old.peeks.items) same_rows shown.peeks;
   }
-
-  covers_by : (command : Result Command WordFault) → CoversBy old command → CoversBy with_tables command
-  covers_by (Ok command) covers = covers
-  covers_by (Err fault) covers = tt
-
-  -- each table of a set is among them still
-  pub covers_still : (request : Request) → Covers old request → Covers with_tables request
-  covers_still request covers = covers_by request.command covers

@@ -1,11 +1,9 @@
 -- Held tables that have learnt the whole order.
-use Rattle.std.proofs.Common.{◌≡◌, Bool, true, false, List, [], ◌∷◌, Result, Ok, Err, refl, sym, ap, subst, ◌∙◌}
+use Rattle.std.proofs.Common.{◌≡◌, Bool, true, false, List, [], ◌∷◌, refl, sym, ap, subst, ◌∙◌}
 use Rattle.std.specs.Prelude.{◌||◌}
 use Rattle.std.specs.List.{AllByRecursion, list_any}
 use Rattle.depot_model.specs.db_records.declared.table.TableId.{TableId}
-use Rattle.depot_model.specs.declared.command.Command.{Command}
 use Rattle.depot_model.specs.declared.request.Request.{Request}
-use Rattle.depot_model.specs.declared.request.WordFault.{WordFault}
 use Rattle.locked_tables.specs.Held.{AllHaveLearnt, AllStill, known_of}
 use Rattle.locked_tables.specs.Known.{IsStill, TableKnown}
 use Rattle.locked_tables.specs.Taken.{rows_after}
@@ -13,7 +11,7 @@ use Rattle.locked_tables.specs.declared.held_table.HeldTable.{HeldTable}
 use Rattle.locked_tables.specs.declared.taken.Taken.{Taken}
 use Rattle.table_changes.specs.Changed.{AllRows, rows_of}
 use Rattle.table_locks.specs.Confirmed.{tables_of}
-use Rattle.table_locks.specs.Gathered.{AllHeldSeen, Covers, CoversBy, HasSeen, HasSet, HasSetBy, IsShown, has_table, is_of}
+use Rattle.table_locks.specs.Gathered.{AllHeldSeen, Covers, HasSeen, HasSet, IsShown, has_table, is_of}
 use Rattle.table_locks.specs.declared.gathered.Gathered.{Gathered}
 use Rattle.table_locks.proofs.Seen.{rows_now}
 
@@ -50,10 +48,6 @@ module _ {N : Type 0} (start : AllRows) (order : List Taken) (g : Gathered N) (s
       go true is h = rows_now (λ (h : HeldTable N). known_of h) start (rows_of g.tables) order g.held.items shown.held held table is
       go false is h = rows_now (λ (k : TableKnown). k) start (rows_of g.tables) order g.peeks.items shown.peeks peeks table h
 
-  set_by : (command : Result Command WordFault) → CoversBy g command → HasSetBy (rows_after start order) (rows_of g.tables) command
-  set_by (Ok command) covers = λ table touched. table_now table (covers table touched)
-  set_by (Err fault) covers = tt
-
   -- the tables of the set are as they are after all places
   pub set_now : (request : Request) → Covers g request → HasSet (rows_after start order) (rows_of g.tables) request
-  set_now request covers = set_by request.command covers
+  set_now request covers = λ table touched. table_now table (covers table touched)

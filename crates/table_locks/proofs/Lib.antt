@@ -6,7 +6,6 @@ pub mod Adding
 pub mod Written
 pub mod Learnt
 pub mod Next
-pub mod Placed
 pub mod Fitting
 pub mod Following
 pub mod Ends

@@ -1,12 +1,10 @@
 -- What a command has gathered of its set. This project's own choice.
-use Rattle.std.specs.Prelude.{◌≡◌, ◌==◌, ◌||◌, Bool, IsTrue, List, ◌++◌, map, Result, Ok, Err}
+use Rattle.std.specs.Prelude.{◌≡◌, ◌==◌, ◌||◌, Bool, IsTrue, List, ◌++◌, map}
 use Rattle.std.specs.List.{AllByRecursion, list_any}
 use Rattle.depot_model.specs.db_records.Table.{table_number}
 use Rattle.depot_model.specs.db_records.declared.table.TableId.{TableId}
-use Rattle.depot_model.specs.Tables.{touches}
-use Rattle.depot_model.specs.declared.command.Command.{Command}
+use Rattle.depot_model.specs.Tables.{needs_table}
 use Rattle.depot_model.specs.declared.request.Request.{Request}
-use Rattle.depot_model.specs.declared.request.WordFault.{WordFault}
 use Rattle.locked_tables.specs.Held.{known_of, table_held}
 use Rattle.locked_tables.specs.Known.{TableKnown}
 use Rattle.locked_tables.specs.Taken.{rows_after}
@@ -23,12 +21,8 @@ abbrev pub is_of : TableId → TableKnown → Bool
 is_of table known = table_number known.table == table_number table
 
 -- in the tables of a request's set the rows are those of others
-abbrev pub HasSetBy : AllRows → AllRows → Result Command WordFault → Type 0
-HasSetBy all rows (Ok command) = (table : TableId) → IsTrue (touches command (table_number table)) → rows table ≡ all table
-HasSetBy all rows (Err fault) = Unit {0}
-
 abbrev pub HasSet : AllRows → AllRows → Request → Type 0
-HasSet all rows request = HasSetBy all rows request.command
+HasSet all rows request = (table : TableId) → IsTrue (needs_table request.command table) → rows table ≡ all table
 
 module _ {N : Type 0} where
   -- so have they those of each held table
@@ -64,9 +58,5 @@ module _ {N : Type 0} where
   has_table g table = list_any (λ (h : HeldTable N). is_of table (known_of h)) g.held.items || list_any (is_of table) g.peeks.items
 
   -- so is each of a request's set
-  abbrev pub CoversBy : Gathered N → Result Command WordFault → Type 0
-  CoversBy g (Ok command) = (table : TableId) → IsTrue (touches command (table_number table)) → IsTrue (has_table g table)
-  CoversBy g (Err fault) = Unit {0}
-
   abbrev pub Covers : Gathered N → Request → Type 0
-  Covers g request = CoversBy g request.command
+  Covers g request = (table : TableId) → IsTrue (needs_table request.command table) → IsTrue (has_table g table)

@@ -6,7 +6,7 @@ ghost use Rattle.table_locks.specs.Ways.{holds_table};
 
 use crate::gathered::Gathered;
 use crate::ways::is_taken;
-use command_needs::Need;
+use command_needs::Needs;
 use depot_model::records::TableId;
 use locked_tables::{Naming, TableLocks};
 use std::alloc::{AllocError, Global};
@@ -18,7 +18,7 @@ impl<'a, N: Naming> Gathered<'a, N> {
         &mut self,
         rt: &impl Wait,
         locks: &'a TableLocks<N>,
-        needs: &[Need],
+        needs: &Needs,
         whole: bool,
         table: TableId,
     ) -> Result<(), AllocError>
@@ -33,14 +33,14 @@ impl<'a, N: Naming> Gathered<'a, N> {
     }
 }
 
-/// Takes the locks of the tables of a set that are written, in rising order; where the whole set
-/// is to be held, that of each. At the others `Gathered::look` looks later. The error stands for
+/// Takes the locks of the tables of a set that are written, in the order of `TableId`; where the
+/// whole set is to be held, that of each. At the others `Gathered::look` looks later. The error stands for
 /// want of memory, or is one that `TableLocks::hold` names.
 pub fn gather<'a, N: Naming>(
     rt: &impl Wait,
     alloc: Global,
     locks: &'a TableLocks<N>,
-    needs: &[Need],
+    needs: &Needs,
     whole: bool,
 ) -> Result<Gathered<'a, N>, AllocError>
     ensures shown { IfOk result (IsShown N.rows) }

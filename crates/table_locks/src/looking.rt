@@ -1,9 +1,8 @@
 //! How a command looks at the tables of its set whose locks it doesn't take.
-ghost use Rattle.std.specs.Prelude.{◌≡◌, [], ◌∷◌, true, false, map, filter, IsTrue, OnOk};
-ghost use Rattle.command_needs.specs.Sets.{need_of};
+ghost use Rattle.std.specs.Prelude.{◌≡◌, [], ◌∷◌, true, false, filter, IsTrue, OnOk};
+ghost use Rattle.command_needs.specs.Sets.{AreOfWords};
 ghost use Rattle.depot_model.specs.db_records.Table.{all_tables};
 ghost use Rattle.depot_model.specs.db_records.declared.table.TableId.{TableId as AnyTable};
-ghost use Rattle.depot_model.specs.Tables.{needs_of};
 ghost use Rattle.depot_model.specs.declared.request.Request.{Request};
 ghost use Rattle.locked_tables.specs.Taken.{rows_after};
 ghost use Rattle.table_changes.specs.Changed.{rows_of};
@@ -11,19 +10,12 @@ ghost use Rattle.table_locks.specs.Gathered.{AddsPeeks, Covers, IsShown, has_tab
 ghost use Rattle.table_locks.specs.Ways.{holds_table, looks_at};
 
 use crate::gathered::Gathered;
-use crate::ways::{is_needed, is_taken};
-use command_needs::Need;
+use crate::ways::is_looked_at;
+use command_needs::Needs;
 use depot_model::records::TableId;
 use locked_tables::{Naming, OrderWords, PlacedOrder};
 use std::alloc::AllocError;
 use table_changes::tables::Tables;
-
-/// Whether a table is only looked at.
-fn is_looked_at(needs: &[Need], whole: bool, table: TableId) -> bool
-    ensures { result ≡ looks_at whole needs.now table }
-{
-    is_needed(needs, table) && !is_taken(needs, whole, table)
-}
 
 impl<'a, N: Naming> Gathered<'a, N> {
     /// Looks at the next table, where the set asks for it.
@@ -32,7 +24,7 @@ impl<'a, N: Naming> Gathered<'a, N> {
         words: &OrderWords<N>,
         order: &mut PlacedOrder<N>,
         tables: &Tables,
-        needs: &[Need],
+        needs: &Needs,
         whole: bool,
         table: TableId,
     ) -> Result<(), AllocError>
@@ -58,7 +50,7 @@ impl<'a, N: Naming> Gathered<'a, N> {
         words: &OrderWords<N>,
         order: &mut PlacedOrder<N>,
         tables: &Tables,
-        needs: &[Need],
+        needs: &Needs,
         whole: bool,
     ) -> Result<(), AllocError>
         requires rows { (table : AnyTable) → rows_of tables.now table ≡ rows_after N.rows order.old table }
@@ -72,7 +64,7 @@ impl<'a, N: Naming> Gathered<'a, N> {
         ensures held { OnOk result (tables_held self.new ≡ filter (holds_table whole needs.now) all_tables) }
         ensures seen { OnOk result (tables_seen self.new ≡ filter (looks_at whole needs.now) all_tables) }
         ensures alone { OnOk result (IsTrue whole → self.new.peeks.items ≡ []) }
-        ensures covers { OnOk result ((request : Request) → map need_of needs.now ≡ needs_of request → Covers self.new request) }
+        ensures covers { OnOk result ((request : Request) → AreOfWords request.command needs.now → Covers self.new request) }
     {
         for table in TableId::ALL {
             self.look_next(words, order, tables, needs, whole, table)?;

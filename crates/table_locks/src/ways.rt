@@ -1,25 +1,21 @@
 //! How a command takes a table: by its lock, by a look, or not at all.
 ghost use Rattle.std.specs.Prelude.{◌≡◌};
-ghost use Rattle.table_locks.specs.Ways.{holds_table, needs_table};
+ghost use Rattle.table_locks.specs.Ways.{holds_table, looks_at};
 
-use command_needs::Need;
+use command_needs::Needs;
 use depot_model::records::TableId;
 
-/// Whether a table is in the set.
-pub(crate) fn is_needed(needs: &[Need], table: TableId) -> bool
-    ensures { result ≡ needs_table needs.now table }
-{
-    let number = table.number() as u32;
-    needs.iter().any(|need| need.lock == number)
-}
-
-/// Whether its lock is taken for the whole attempt: that of a table that is written, and in a
-/// second attempt each.
-pub(crate) fn is_taken(needs: &[Need], whole: bool, table: TableId) -> bool
+/// Whether its lock is taken for the whole attempt: that of a table that is written, and where the
+/// whole set is to be held each.
+pub(crate) fn is_taken(needs: &Needs, whole: bool, table: TableId) -> bool
     ensures { result ≡ holds_table whole needs.now table }
 {
-    let number = table.number() as u32;
-    needs
-        .iter()
-        .any(|need| (whole || need.writes) && need.lock == number)
+    needs.writes.has(table) || whole && needs.reads.has(table)
+}
+
+/// Whether it is only looked at.
+pub(crate) fn is_looked_at(needs: &Needs, whole: bool, table: TableId) -> bool
+    ensures { result ≡ looks_at whole needs.now table }
+{
+    (needs.reads.has(table) || needs.writes.has(table)) && !is_taken(needs, whole, table)
 }

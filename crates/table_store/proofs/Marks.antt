@@ -1,5 +1,6 @@
 -- Rows in the order of their marks, beside the same rows in the order of their keys.
 use Rattle.std.proofs.Common.{◌≡◌, ℕ, Bool, true, false, not, cond, List, [], ◌∷◌, ◌++◌, drop, get_or, Option, Some, None, IsSome, Result, Ok, Err, OnOk, OnErr, refl, sym, ap, ◌∙◌, subst, ◌⊎◌, inl, inr, arith}
+use Rattle.std.specs.Prelude.{◌&&◌, if◌then◌else◌}
 use Rattle.std.specs.List.{filter, find}
 use Rattle.std.specs.Option.{is_some, option_cmp}
 use Rattle.std.specs.Cmp.{IsTotalOrder}
@@ -15,13 +16,15 @@ use Rattle.db_records.specs.declared.change.Op.{Op}
 use Rattle.db_records.specs.declared.change.Op.TheVariants.{Put, Replace, Remove}
 use Rattle.db_records.specs.declared.key.Key.{Key}
 use Rattle.db_records.specs.declared.record.Record.{Record}
+use Rattle.db_records.specs.declared.record.Record.TheVariants as rows
 use Rattle.db_records.specs.Key.{key_cmp}
 use Rattle.db_records.specs.KeyLaws.{keys_total}
 use Rattle.db_records.specs.Record.{key_of}
 use Rattle.db_records.proofs.Order.{keys_equal}
-use Rattle.table_store.specs.Places.{Mark, OfChange, OfClient, OfUser, mark_text, mark_cmp, Place, place_cmp, at_key, by_key, left_by, stands_below, stands_at, stands_above, AllStandAbove, StandsRising, standing_from, placed_once}
+use Rattle.db_records.specs.depot_path.Bytes.{same}
+use Rattle.table_store.specs.Places.{Mark, OfChange, OfClient, OfUser, OfFix, mark_text, mark_cmp, Place, place_cmp, at_key, by_key, left_by, stands_below, stands_at, stands_above, AllStandAbove, StandsRising, standing_from, placed_once}
 use Rattle.table_store.specs.Rows.{is_below, is_above, AllAbove, IsRising, row_at, changed_once}
-use Rattle.table_store.specs.Marks.{mark_of, same_mark, has_mark, is_of, by_mark, HasPlace, AllHavePlaces, leading, if_passed, rows_now, from_start}
+use Rattle.table_store.specs.Marks.{is_fix, fixing, mark_of, is_of, by_mark, HasPlace, AllHavePlaces, leading, if_passed, rows_now, from_start}
 use Rattle.table_store.proofs.Order.{places_total, below_turned, StandsRising-filter}
 
 -- ---- rows of a list
@@ -179,14 +182,10 @@ text-is a b e = (bytes_eq-Decides a b).0 (sym (is_eq-slice_cmp a b) ∙ ap is_eq
 
 mark-is : (a b : Mark) → mark_text a ≡ mark_text b → a ≡ b
 mark-is (OfChange a) (OfChange b) e = ap (λ (t : List ℕ). OfChange (get_or t 1 0)) e
-mark-is (OfChange a) (OfClient b) e = absurd (omega (arith, ap (λ (t : List ℕ). get_or t 0 0) e))
-mark-is (OfChange a) (OfUser b) e = absurd (omega (arith, ap (λ (t : List ℕ). get_or t 0 0) e))
-mark-is (OfClient a) (OfChange b) e = absurd (omega (arith, ap (λ (t : List ℕ). get_or t 0 0) e))
 mark-is (OfClient a) (OfClient b) e = ap (λ (t : List ℕ). OfClient (drop 1 t)) e
-mark-is (OfClient a) (OfUser b) e = absurd (omega (arith, ap (λ (t : List ℕ). get_or t 0 0) e))
-mark-is (OfUser a) (OfChange b) e = absurd (omega (arith, ap (λ (t : List ℕ). get_or t 0 0) e))
-mark-is (OfUser a) (OfClient b) e = absurd (omega (arith, ap (λ (t : List ℕ). get_or t 0 0) e))
 mark-is (OfUser a) (OfUser b) e = ap (λ (t : List ℕ). OfUser (drop 1 t)) e
+mark-is (OfFix a) (OfFix b) e = ap (λ (t : List ℕ). OfFix (drop 1 t)) e
+mark-is _ _ e = absurd (omega (arith, ap (λ (t : List ℕ). get_or t 0 0) e))
 
 marks_total : IsTotalOrder mark_cmp
 marks_total = on_texts mark_text
@@ -198,28 +197,37 @@ option-is : (m : Mark) (a : Option Mark) → option_cmp mark_cmp a (Some m) ≡ 
 option-is m None e = cc
 option-is m (Some n) e = ap (λ (k : Mark). Some k) (mark-is n m (text-is (mark_text n) (mark_text m) e))
 
-same-is : (a b : Mark) → same_mark a b ≡ true → a ≡ b
-same-is (OfChange a) (OfChange b) e = ap (λ (k : ℕ). OfChange k) ((Decides-eqb a b).0 e)
-same-is (OfChange a) (OfClient b) e = absurd (false≢true e)
-same-is (OfChange a) (OfUser b) e = absurd (false≢true e)
-same-is (OfClient a) (OfChange b) e = absurd (false≢true e)
-same-is (OfClient a) (OfClient b) e = ap (λ (k : List ℕ). OfClient k) ((bytes_eq-Decides a b).0 e)
-same-is (OfClient a) (OfUser b) e = absurd (false≢true e)
-same-is (OfUser a) (OfChange b) e = absurd (false≢true e)
-same-is (OfUser a) (OfClient b) e = absurd (false≢true e)
-same-is (OfUser a) (OfUser b) e = ap (λ (k : List ℕ). OfUser k) ((bytes_eq-Decides a b).0 e)
+same-is : (a b : List ℕ) → same a b ≡ true → a ≡ b
+same-is a b e = (bytes_eq-Decides a b).0 e
 
-same-self : (a : Mark) → same_mark a a ≡ true
-same-self (OfChange a) = (Decides-eqb a a).1 refl
-same-self (OfClient a) = (bytes_eq-Decides a a).1 refl
-same-self (OfUser a) = (bytes_eq-Decides a a).1 refl
+has-is : (m : Mark) (row : Record) → is_of m row ≡ true → mark_of row ≡ Some m
+has-is (OfChange n) (rows.Rev row) e = ap (λ (k : ℕ). Some (OfChange k)) ((Decides-eqb row.change n).0 e)
+has-is (OfClient c) (rows.Working row) e = ap (λ (k : List ℕ). Some (OfClient k)) (same-is row.client c e)
+has-is (OfUser u) (rows.Group row) e = ap (λ (k : List ℕ). Some (OfUser k)) (same-is row.user u e)
+has-is (OfFix c) (rows.Domain row) e = go (is_fix row) e
+  where
+    go : (b : Bool) → (b && same (fixing row) c) ≡ true → (if b then Some (OfFix (fixing row)) else None) ≡ Some (OfFix c)
+    go true h = ap (λ (k : List ℕ). Some (OfFix k)) (same-is (fixing row) c h)
+    go false h = absurd (false≢true h)
+has-is _ _ e = absurd (false≢true e)
 
-has-is : (m : Mark) (a : Option Mark) → has_mark m a ≡ true → a ≡ Some m
-has-is m None e = absurd (false≢true e)
-has-is m (Some n) e = ap (λ (k : Mark). Some k) (same-is n m e)
+same-self : (a : List ℕ) → same a a ≡ true
+same-self a = (bytes_eq-Decides a a).1 refl
 
-has-self : (m : Mark) (a : Option Mark) → a ≡ Some m → has_mark m a ≡ true
-has-self m a e = ap (has_mark m) e ∙ same-self m
+one-mark : (a b : Mark) → Some a ≡ Some b → a ≡ b
+one-mark a b p = ap (λ (o : Option Mark). elim o as (λ _. Mark) [ None ↦ a | Some c ↦ c ]) p
+
+-- a row that stands by a mark has it
+has-self : (m : Mark) (row : Record) → mark_of row ≡ Some m → is_of m row ≡ true
+has-self m (rows.Rev row) e = subst (λ (k : Mark). is_of k (rows.Rev row) ≡ true) (one-mark (OfChange row.change) m e) ((Decides-eqb row.change row.change).1 refl)
+has-self m (rows.Working row) e = subst (λ (k : Mark). is_of k (rows.Working row) ≡ true) (one-mark (OfClient row.client) m e) (same-self row.client)
+has-self m (rows.Group row) e = subst (λ (k : Mark). is_of k (rows.Group row) ≡ true) (one-mark (OfUser row.user) m e) (same-self row.user)
+has-self m (rows.Domain row) e = go (is_fix row) refl e
+  where
+    go : (b : Bool) → is_fix row ≡ b → (if b then Some (OfFix (fixing row)) else None) ≡ Some m → is_of m (rows.Domain row) ≡ true
+    go true is e = subst (λ (k : Mark). is_of k (rows.Domain row) ≡ true) (one-mark (OfFix (fixing row)) m e) (λ i. is i && same-self (fixing row) i)
+    go false is e = absurd (false≢true (ap is_some e))
+has-self m _ e = absurd (false≢true (ap is_some e))
 
 then-equal : (x y : Ordering) → ordering_then x y ≡ Equal → (x ≡ Equal) × (y ≡ Equal)
 then-equal Less y e = absurd cc
@@ -498,12 +506,12 @@ module _ (m : Mark) (from : Option Key) where
   in-leading : (places : List Record) (e : Record) → StandsRising by_mark places → ((x : Record) → In x places → stands_below by_mark start x ≡ false) → In e places → mark_of e ≡ Some m → In e (leading (is_of m) places)
   in-leading [] e up each is marks = elim is [ ]
   in-leading (x ∷ xs) e up each (inl same) marks =
-      subst (λ (b : Bool). In e (cond b (x ∷ leading (is_of m) xs) [])) (sym (ap (is_of m) (sym same) ∙ has-self m (mark_of e) marks)) (inl same)
+      subst (λ (b : Bool). In e (cond b (x ∷ leading (is_of m) xs) [])) (sym (ap (is_of m) (sym same) ∙ has-self m e marks)) (inl same)
   in-leading (x ∷ xs) e up each (inr is) marks =
       let greater : ordering_then (option_cmp mark_cmp (Some m) (mark_of x)) (key_cmp (key_of e) (key_of x)) ≡ Greater =
       (λ i. ordering_then (option_cmp mark_cmp (sym marks i) (mark_of x)) (key_cmp (key_of e) (key_of x))) ∙ above-in by_mark (by_mark x) xs e up.0 is in
       let first = between m (mark_of x) (key_cmp (key_of e) (key_of x)) (option_cmp key_cmp (Some (key_of x)) from) greater (each x (inl refl)) in
-      subst (λ (b : Bool). In e (cond b (x ∷ leading (is_of m) xs) [])) (sym (has-self m (mark_of x) first)) (inr (in-leading xs e up.1 (λ y there. each y (inr there)) is marks))
+      subst (λ (b : Bool). In e (cond b (x ∷ leading (is_of m) xs) [])) (sym (has-self m x first)) (inr (in-leading xs e up.1 (λ y there. each y (inr there)) is marks))
 
   module _ (rows marked : List Record) (up : IsRising rows) (marked_up : StandsRising by_mark marked) (all : AllHavePlaces marked rows) where
     abbrev ahead : List Record
@@ -523,7 +531,7 @@ module _ (m : Mark) (from : Option Key) where
     marked_to r is =
         let found = of-now (is_of m) rows (leading (is_of m) ahead) r is in
         let place = of-leading (is_of m) found.0 ahead found.1 in
-        let marks = has-is m (mark_of found.0) place.1 in
+        let marks = has-is m found.0 place.1 in
         let row = row-is (key_of found.0) rows r found.2 in
         let low = ap (λ (k : Key). is_lt (option_cmp key_cmp (Some k) from)) row.1 ∙ sym (below-start found.0 marks) ∙ not-below found.0 place.0 in
         in-filter (is_of m) r (from_start from rows) (in-start from r rows row.0 low) found.3
@@ -532,7 +540,7 @@ module _ (m : Mark) (from : Option Key) where
     marked_from r is =
         let passed = of-filter (is_of m) r (from_start from rows) is in
         let there = of-start from r rows passed.0 in
-        let marks = has-is m (mark_of r) passed.1 in
+        let marks = has-is m r passed.1 in
         let place = some-in (stands_at by_mark (by_mark r)) marked (place-of marked rows r all there.0 (ap is_some marks)) in
         let e = place.0 in
         let tied = then-equal (option_cmp mark_cmp (mark_of e) (mark_of r)) (key_cmp (key_of e) (key_of r)) (equal-is (place_cmp (by_mark e) (by_mark r)) place.2) in
@@ -545,6 +553,6 @@ module _ (m : Mark) (from : Option Key) where
     -- the rows at the places of a mark are those that have it
     pub marked_walk : rows_now (is_of m) rows (leading (is_of m) ahead) ≡ filter (is_of m) (from_start from rows)
     marked_walk = rising_same by_key (rows_now (is_of m) rows (leading (is_of m) ahead)) (filter (is_of m) (from_start from rows))
-        (now-rises (is_of m) rows (leading (is_of m) ahead) (one-mark-rises (leading (is_of m) ahead) (lead-rises by_mark (is_of m) ahead ahead_up) (λ e is. has-is m (mark_of e) (of-leading (is_of m) e ahead is).1)))
+        (now-rises (is_of m) rows (leading (is_of m) ahead) (one-mark-rises (leading (is_of m) ahead) (lead-rises by_mark (is_of m) ahead ahead_up) (λ e is. has-is m e (of-leading (is_of m) e ahead is).1)))
         (StandsRising-filter by_key (is_of m) (from_start from rows) (start-rises from rows up))
         marked_to marked_from

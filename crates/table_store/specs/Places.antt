@@ -14,17 +14,19 @@ use Rattle.db_records.specs.declared.change.Op.TheVariants.{Put, Replace, Remove
 use Rattle.db_records.specs.Key.{key_cmp}
 use Rattle.db_records.specs.Record.{key_of}
 
--- what a row is sought by beside its key: a changelist by its number, a client or a user by the name
+-- what a row is sought by beside its key: a changelist by its number, a client or a user by the name, and for a fix a changelist by its digits
 pub data Mark : Type 0 where
   OfChange : ℕ → Mark
   OfClient : List ℕ → Mark
   OfUser : List ℕ → Mark
+  OfFix : List ℕ → Mark
 
--- marks stand by their kinds, then by their numbers or by the bytes of their names
+-- marks stand by their kinds, then by their numbers or by the bytes of their names or digits
 abbrev pub mark_text : Mark → List ℕ
 mark_text (OfChange change) = 0 ∷ change ∷ []
 mark_text (OfClient client) = 1 ∷ client
 mark_text (OfUser user) = 2 ∷ user
+mark_text (OfFix change) = 3 ∷ change
 
 abbrev pub mark_cmp : Mark → Mark → Ordering
 mark_cmp a b = slice_cmp nat_cmp (mark_text a) (mark_text b)

@@ -3,8 +3,8 @@
 //!
 //! A [`Version`] holds the rows of one table in the order of their keys. A change makes a new
 //! version and leaves the old one as it is, so that who reads a version goes on reading it while
-//! the next one is made. The rows of a changelist, of a client and of a user are found without those of
-//! others. [`Tables`] has a version of each table.
+//! the next one is made. The rows of a changelist, its fixes among them, of a client and of a user are found
+//! without those of others. [`Tables`] has a version of each table.
 #![tactic(auto)]
 
 mod branch;

@@ -5,11 +5,11 @@ ghost use Rattle.std.specs.Option.{option_cmp};
 ghost use Rattle.db_records.specs.Key.{key_cmp};
 ghost use Rattle.db_records.specs.Record.{key_of};
 ghost use Rattle.table_store.specs.Places.{mark_cmp};
-ghost use Rattle.table_store.specs.Marks.{by_mark, is_of, mark_of};
+ghost use Rattle.table_store.specs.Marks.{by_mark, fixing as fixing_in, is_fix as is_fix_in, is_of, mark_of};
 ghost use Rattle.table_store.specs.SearchKey.{mark_found, sought_mark, sought_place};
 
 use db_records::paths::Text;
-use db_records::{Key, Record};
+use db_records::{DomainRecord, Key, Record};
 use std::cmp::Ordering;
 
 /// What rows are looked for by beside their keys. A row has one mark at most.
@@ -21,6 +21,8 @@ pub enum MarkRef<'a> {
     Client(&'a Text),
     /// A user of a group.
     User(&'a Text),
+    /// The digits of a fix's changelist.
+    Fix(&'a [u8]),
 }
 
 /// What is looked for in an order of rows: a key, the place of a row, or a mark with a key from which
@@ -32,6 +34,20 @@ pub enum SearchKey<'a> {
     Marked(MarkRef<'a>, Option<&'a Key>),
 }
 
+/// Whether a form is a fix.
+fn is_fix(row: &DomainRecord) -> bool
+    ensures { result ≡ is_fix_in row.now }
+{
+    b"fix".as_slice() == row.kind.as_bytes()
+}
+
+/// The digits of a fix's changelist: what its name has behind that of a job, which has nine bytes, and a space.
+fn fixing(row: &DomainRecord) -> &[u8]
+    ensures { result.now ≡ fixing_in row.now }
+{
+    row.name.as_bytes().get(10..).unwrap_or(&[])
+}
+
 impl<'a> MarkRef<'a> {
     /// The mark of a row, where it has one.
     pub(crate) fn of_row(row: &'a Record) -> Option<MarkRef<'a>>
@@ -41,6 +57,7 @@ impl<'a> MarkRef<'a> {
             Record::Rev(row) => Some(MarkRef::Change(row.change)),
             Record::Working(row) => Some(MarkRef::Client(&row.client)),
             Record::Group(row) => Some(MarkRef::User(&row.user)),
+            Record::Domain(row) if is_fix(row) => Some(MarkRef::Fix(fixing(row))),
             _ => None,
         }
     }
@@ -53,6 +70,7 @@ impl<'a> MarkRef<'a> {
             (MarkRef::Change(change), Record::Rev(row)) => row.change == change,
             (MarkRef::Client(client), Record::Working(row)) => row.client == *client,
             (MarkRef::User(user), Record::Group(row)) => row.user == *user,
+            (MarkRef::Fix(change), Record::Domain(row)) => is_fix(row) && fixing(row) == change,
             _ => false,
         }
     }
@@ -66,9 +84,12 @@ impl<'a> MarkRef<'a> {
             (MarkRef::Change(_), _) => Ordering::Less,
             (MarkRef::Client(_), MarkRef::Change(_)) => Ordering::Greater,
             (MarkRef::Client(a), MarkRef::Client(b)) => a.cmp(b),
-            (MarkRef::Client(_), MarkRef::User(_)) => Ordering::Less,
+            (MarkRef::Client(_), _) => Ordering::Less,
+            (MarkRef::User(_), MarkRef::Change(_) | MarkRef::Client(_)) => Ordering::Greater,
             (MarkRef::User(a), MarkRef::User(b)) => a.cmp(b),
-            (MarkRef::User(_), _) => Ordering::Greater,
+            (MarkRef::User(_), MarkRef::Fix(_)) => Ordering::Less,
+            (MarkRef::Fix(a), MarkRef::Fix(b)) => a.cmp(b),
+            (MarkRef::Fix(_), _) => Ordering::Greater,
         }
     }
 }

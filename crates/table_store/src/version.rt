@@ -4,7 +4,7 @@ ghost use Rattle.std.specs.Prelude.{◌≡◌, [], ◌↔◌, IfOk, IsTrue, filt
 ghost use Rattle.std.specs.Option.{option_copied};
 ghost use Rattle.db_records.specs.declared.table.TableId.{TableId};
 ghost use Rattle.table_store.specs.Rows.{AllFit, AllOfTable, Fits, IsRising, row_at, rows_from, changed, with_rows};
-ghost use Rattle.table_store.specs.Marks.{AllHavePlaces, is_of_change, is_of_client, is_of_user};
+ghost use Rattle.table_store.specs.Marks.{AllHavePlaces, is_fix_of, is_of_change, is_of_client, is_of_user};
 
 use crate::draft::Draft;
 use crate::mark_walk::MarkWalk;
@@ -20,9 +20,9 @@ use std::sync::Arc;
 
 /// The rows of one table, in the order of their keys. It never changes.
 ///
-/// Rows that have a mark (a revision its changelist, an opening its client, a user of a group the user)
-/// stand a second time in the order of marks, so that those of one mark are found at the cost of what
-/// is given.
+/// Rows that have a mark (a revision its changelist, an opening its client, a user of a group the user, a fix
+/// the digits of its changelist) stand a second time in the order of marks, so that those of one mark are
+/// found at the cost of what is given.
 pub struct Version {
     table: TableId,
     tree: Arc<Tree<ByKey>, Global>,
@@ -116,6 +116,21 @@ impl Version {
         ensures { result ≡ filter (is_of_change change) self.now.rows }
     {
         MarkWalk::new(&self.tree, &self.marked, MarkRef::Change(change), None)
+    }
+
+    /// The revisions that a changelist made from the first key at or above the key, in the order of their keys.
+    pub fn of_change_from(&self, change: u32, key: &Key) -> MarkWalk<'_>
+        ensures { result ≡ filter (is_of_change change) (rows_from key.now self.now.rows) }
+    {
+        MarkWalk::new(&self.tree, &self.marked, MarkRef::Change(change), Some(key))
+    }
+
+    /// The fixes by a changelist, which is given by its digits, in the order of their keys. In another table than
+    /// db.domain there are none.
+    pub fn fixes_of<'a>(&'a self, change: &'a [u8]) -> MarkWalk<'a>
+        ensures { result ≡ filter (is_fix_of change.now) self.now.rows }
+    {
+        MarkWalk::new(&self.tree, &self.marked, MarkRef::Fix(change), None)
     }
 
     /// The openings of a client, in the order of their keys. In another table than db.working there

@@ -50,8 +50,8 @@ fn read_bytes<S: Source>(
     count: usize,
 ) -> Result<BytesRead, AllocError>
     requires { intake.old.place + length intake.old.held ≤ 67108864 }
-    ensures bytes { IfOk result (BytesCase (S.left source.old) (S.left source.new) (S.faults source.old) (S.faults source.new) intake.old intake.new count) }
-    ensures counts { S.faults source.old ≤ S.faults source.new }
+    ensures bytes { IfOk result (BytesCase (S.says.left source.old) (S.says.left source.new) (S.says.faults source.old) (S.says.faults source.new) intake.old intake.new count) }
+    ensures counts { S.says.faults source.old ≤ S.says.faults source.new }
 {
     let mut bytes = Vec::with_capacity(alloc, count)?;
     loop {
@@ -74,8 +74,8 @@ pub(crate) fn read_block<S: Source>(
     size: u32,
 ) -> Result<BlockRead, AllocError>
     requires { intake.old.place + length intake.old.held ≤ 67108864 }
-    ensures block { IfOk result (BlockCase (S.left source.old) (S.left source.new) (S.faults source.old) (S.faults source.new) intake.old intake.new size) }
-    ensures counts { S.faults source.old ≤ S.faults source.new }
+    ensures block { IfOk result (BlockCase (S.says.left source.old) (S.says.left source.new) (S.says.faults source.old) (S.says.faults source.new) intake.old intake.new size) }
+    ensures counts { S.says.faults source.old ≤ S.says.faults source.new }
 {
     match read_bytes(alloc, source, intake, size as usize + 1)? {
         BytesRead::Bytes(mut bytes) => match bytes.pop() {

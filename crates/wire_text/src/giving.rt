@@ -15,8 +15,8 @@ pub struct GiveFault;
 
 /// Gives a whole piece, part by part. It takes no memory.
 pub fn give_all<K: Sink>(sink: &mut K, piece: &[u8]) -> Result<(), GiveFault>
-    ensures given { GivesAll (K.given sink.old) (K.given sink.new) piece.now result }
-    ensures cause { HasCause (K.faults sink.old) (K.faults sink.new) result }
+    ensures given { GivesAll (K.says.given sink.old) (K.says.given sink.new) piece.now result }
+    ensures cause { HasCause (K.says.faults sink.old) (K.says.faults sink.new) result }
 {
     let mut at = 0;
     while at < piece.len() {
@@ -30,8 +30,8 @@ pub fn give_all<K: Sink>(sink: &mut K, piece: &[u8]) -> Result<(), GiveFault>
 
 /// Gives the end of a reply.
 fn give_end<K: Sink>(sink: &mut K, number: u32) -> Result<(), GiveFault>
-    ensures given { GivesAll (K.given sink.old) (K.given sink.new) (decimal number ++ codes "\n\n") result }
-    ensures cause { HasCause (K.faults sink.old) (K.faults sink.new) result }
+    ensures given { GivesAll (K.says.given sink.old) (K.says.given sink.new) (decimal number ++ codes "\n\n") result }
+    ensures cause { HasCause (K.says.faults sink.old) (K.says.faults sink.new) result }
 {
     match give_all(sink, Buffer::new().format(number).as_bytes()) {
         Ok(()) => give_all(sink, b"\n\n"),
@@ -41,8 +41,8 @@ fn give_end<K: Sink>(sink: &mut K, number: u32) -> Result<(), GiveFault>
 
 /// Gives the reply of a command that found no memory, which takes none.
 pub fn give_memory<K: Sink>(sink: &mut K, number: u32) -> Result<(), GiveFault>
-    ensures given { GivesAll (K.given sink.old) (K.given sink.new) (printed (memory_row ∷ []) number) result }
-    ensures cause { HasCause (K.faults sink.old) (K.faults sink.new) result }
+    ensures given { GivesAll (K.says.given sink.old) (K.says.given sink.new) (printed (memory_row ∷ []) number) result }
+    ensures cause { HasCause (K.says.faults sink.old) (K.says.faults sink.new) result }
 {
     match give_all(sink, b"... code 31\n... name Memory\n\n... end ") {
         Ok(()) => give_end(sink, number),

@@ -52,9 +52,9 @@ fn take_bytes<S: Source>(source: &mut S, buffer: &mut [u8], room: u64) -> Result
     ensures some { IfOk result (λ n. 0 < n) }
     ensures fits { IfOk result (λ n. n ≤ length buffer.old) }
     ensures room { IfOk result (λ n. n ≤ room) }
-    ensures taken { IfOk result (λ n. S.left source.old ≡ prepended (take n buffer.new) (S.left source.new)) }
-    ensures stop { IfErr result (λ stop. StopCase (S.left source.old) (S.left source.new) room (S.faults source.old) (S.faults source.new) stop) }
-    ensures counts { S.faults source.old ≤ S.faults source.new }
+    ensures taken { IfOk result (λ n. S.says.left source.old ≡ prepended (take n buffer.new) (S.says.left source.new)) }
+    ensures stop { IfErr result (λ stop. StopCase (S.says.left source.old) (S.says.left source.new) room (S.says.faults source.old) (S.says.faults source.new) stop) }
+    ensures counts { S.says.faults source.old ≤ S.says.faults source.new }
 {
     if room == 0 {
         return Err(past_end(source));
@@ -69,8 +69,8 @@ fn take_bytes<S: Source>(source: &mut S, buffer: &mut [u8], room: u64) -> Result
 
 /// Whether the source goes on where there is no room for more.
 fn past_end<S: Source>(source: &mut S) -> Stop
-    ensures stop { StopCase (S.left source.old) (S.left source.new) 0 (S.faults source.old) (S.faults source.new) result }
-    ensures counts { S.faults source.old ≤ S.faults source.new }
+    ensures stop { StopCase (S.says.left source.old) (S.says.left source.new) 0 (S.says.faults source.old) (S.says.faults source.new) result }
+    ensures counts { S.says.faults source.old ≤ S.says.faults source.new }
 {
     let mut byte = [0u8; 1];
     match source.take(&mut byte) {
@@ -123,10 +123,10 @@ impl Intake {
     /// Takes bytes from the source where none is held, at least one; or it answers why none came.
     pub fn refill<S: Source>(&mut self, source: &mut S) -> Option<Stop>
         requires { self.old.held ≡ [] }
-        ensures more { IfNone result (Moves (S.left source.old) (S.left source.new) self.old self.new []) }
+        ensures more { IfNone result (Moves (S.says.left source.old) (S.says.left source.new) self.old self.new []) }
         ensures some { IfNone result (0 < length self.new.held) }
-        ensures stops { IfSome result (λ stop. Stops (S.left source.old) (S.left source.new) (S.faults source.old) (S.faults source.new) self.old self.new [] stop) }
-        ensures counts { S.faults source.old ≤ S.faults source.new }
+        ensures stops { IfSome result (λ stop. Stops (S.says.left source.old) (S.says.left source.new) (S.says.faults source.old) (S.says.faults source.new) self.old self.new [] stop) }
+        ensures counts { S.says.faults source.old ≤ S.says.faults source.new }
     {
         let room = MAX_SCRIPT - self.place;
         self.start = 0;

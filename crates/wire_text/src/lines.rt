@@ -51,8 +51,8 @@ pub(crate) fn read_line<S: Source>(
     intake: &mut Intake,
 ) -> Result<LineRead, AllocError>
     requires { intake.old.place + length intake.old.held ≤ 67108864 }
-    ensures line { IfOk result (LineCase (S.left source.old) (S.left source.new) (S.faults source.old) (S.faults source.new) intake.old intake.new) }
-    ensures counts { S.faults source.old ≤ S.faults source.new }
+    ensures line { IfOk result (LineCase (S.says.left source.old) (S.says.left source.new) (S.says.faults source.old) (S.says.faults source.new) intake.old intake.new) }
+    ensures counts { S.says.faults source.old ≤ S.says.faults source.new }
 {
     let mut line = Vec::new(alloc);
     loop {

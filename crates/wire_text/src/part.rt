@@ -94,8 +94,8 @@ fn read_line_part<S: Source>(
     requires free { IsFree 10 line.now }
     requires short { length line.now ≤ 8192 }
     requires start { length line.now + 1 ≤ intake.old.place }
-    ensures part { IfOk result (PartCase (line.now ++ 10 ∷ []) (S.left source.old) (S.left source.new) (S.faults source.old) (S.faults source.new) intake.old intake.new (point_at client.now (intake.old.place - (length line.now + 1)) number input.old) input.new) }
-    ensures counts { S.faults source.old ≤ S.faults source.new }
+    ensures part { IfOk result (PartCase (line.now ++ 10 ∷ []) (S.says.left source.old) (S.says.left source.new) (S.says.faults source.old) (S.says.faults source.new) intake.old intake.new (point_at client.now (intake.old.place - (length line.now + 1)) number input.old) input.new) }
+    ensures counts { S.says.faults source.old ≤ S.says.faults source.new }
 {
     let start = intake.place() - (line.len() as u64 + 1);
     match line_kind(alloc, client, input.is_some(), line)? {
@@ -135,8 +135,8 @@ pub(crate) fn read_part<S: Source>(
     number: u32,
     input: &mut Option<Text>,
 ) -> Result<PartRead, AllocError>
-    ensures part { IfOk result (PartCase [] (S.left source.old) (S.left source.new) (S.faults source.old) (S.faults source.new) intake.old intake.new (point_at client.now intake.old.place number input.old) input.new) }
-    ensures counts { S.faults source.old ≤ S.faults source.new }
+    ensures part { IfOk result (PartCase [] (S.says.left source.old) (S.says.left source.new) (S.says.faults source.old) (S.says.faults source.new) intake.old intake.new (point_at client.now intake.old.place number input.old) input.new) }
+    ensures counts { S.says.faults source.old ≤ S.says.faults source.new }
 {
     let start = intake.place();
     match read_line(alloc, source, intake)? {

@@ -39,8 +39,8 @@ fn read_item<S: Source>(
     contents: &mut IndexMap<ClientPath, Block>,
 ) -> Result<ItemRead, AllocError>
     requires number { number ≤ intake.old.place }
-    ensures item { IfOk result (ItemCase (S.left source.old) (S.left source.new) (S.faults source.old) (S.faults source.new) intake.old intake.new (point_at client.now intake.old.place number input.old) input.new contents.old.entries contents.new.entries) }
-    ensures counts { S.faults source.old ≤ S.faults source.new }
+    ensures item { IfOk result (ItemCase (S.says.left source.old) (S.says.left source.new) (S.says.faults source.old) (S.says.faults source.new) intake.old intake.new (point_at client.now intake.old.place number input.old) input.new contents.old.entries contents.new.entries) }
+    ensures counts { S.says.faults source.old ≤ S.says.faults source.new }
 {
     loop {
         match read_part(alloc, source, intake, client, number, input)? {
@@ -98,8 +98,8 @@ impl ScriptReader {
     /// Reads the head. It is asked once, first.
     pub fn head<S: Source>(&mut self, alloc: Global, source: &mut S) -> Result<Head, ScriptError>
         requires { IsFresh self.old }
-        ensures head { HeadAnswer (S.left source.old) (S.left source.new) (S.faults source.old) (S.faults source.new) self.new result }
-        ensures counts { S.faults source.old ≤ S.faults source.new }
+        ensures head { HeadAnswer (S.says.left source.old) (S.says.left source.new) (S.says.faults source.old) (S.says.faults source.new) self.new result }
+        ensures counts { S.says.faults source.old ≤ S.says.faults source.new }
     {
         match read_head(alloc, source, &mut self.intake) {
             Ok(HeadRead::Head(head)) => match head.client().clone() {
@@ -122,8 +122,8 @@ impl ScriptReader {
         alloc: Global,
         source: &mut S,
     ) -> Result<Option<Item>, ScriptError>
-        ensures next { NextAnswer (S.left source.old) (S.left source.new) (S.faults source.old) (S.faults source.new) self.old self.new result }
-        ensures counts { S.faults source.old ≤ S.faults source.new }
+        ensures next { NextAnswer (S.says.left source.old) (S.says.left source.new) (S.says.faults source.old) (S.says.faults source.new) self.old self.new result }
+        ensures counts { S.says.faults source.old ≤ S.says.faults source.new }
     {
         let Some(client) = self.client.take() else {
             return Ok(None);

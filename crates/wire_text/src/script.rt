@@ -74,8 +74,8 @@ pub(crate) fn read_head<S: Source>(
     intake: &mut Intake,
 ) -> Result<HeadRead, AllocError>
     requires { intake.old ≡ record { held = []; place = 0 } }
-    ensures head { IfOk result (HeadCase (S.left source.old) (S.left source.new) (S.faults source.old) (S.faults source.new) intake.new) }
-    ensures counts { S.faults source.old ≤ S.faults source.new }
+    ensures head { IfOk result (HeadCase (S.says.left source.old) (S.says.left source.new) (S.says.faults source.old) (S.says.faults source.new) intake.new) }
+    ensures counts { S.says.faults source.old ≤ S.says.faults source.new }
 {
     match read_line(alloc, source, intake)? {
         LineRead::Line(line) => match read_head_line(alloc, &line)? {
@@ -133,10 +133,10 @@ fn read_entries<S: Source>(
 ) -> Result<(Sequence<Entry>, ScriptEnd), AllocError>
     requires some { 0 < intake.old.place }
     requires most { intake.old.place ≤ 67108864 }
-    ensures read { IfOk result (λ read. EntriesCase (S.left source.old) (S.left source.new) (S.faults source.old) (S.faults source.new) intake.old.held (point_at client.now intake.old.place 1 None) read.0 read.1) }
+    ensures read { IfOk result (λ read. EntriesCase (S.says.left source.old) (S.says.left source.new) (S.says.faults source.old) (S.says.faults source.new) intake.old.held (point_at client.now intake.old.place 1 None) read.0 read.1) }
     ensures few { IfOk result (λ read. length read.0 < 67108864) }
     ensures short { IfOk result (λ read. IsTrue (list_all spec.has_short_content read.0)) }
-    ensures counts { S.faults source.old ≤ S.faults source.new }
+    ensures counts { S.says.faults source.old ≤ S.says.faults source.new }
 {
     let mut entries = Sequence::new(alloc);
     let mut number = 1;
@@ -163,10 +163,10 @@ fn without_head(alloc: Global, end: ScriptEnd) -> ReadScript
 
 /// Reads a whole script.
 pub fn read_script<S: Source>(alloc: Global, source: &mut S) -> Result<ReadScript, AllocError>
-    ensures read { IfOk result (IsReadScript (S.left source.old) (S.left source.new) (S.faults source.old) (S.faults source.new)) }
+    ensures read { IfOk result (IsReadScript (S.says.left source.old) (S.says.left source.new) (S.says.faults source.old) (S.says.faults source.new)) }
     ensures few { IfOk result (λ read. length read.entries < 67108864) }
     ensures short { IfOk result (λ read. IsTrue (list_all spec.has_short_content read.entries)) }
-    ensures counts { S.faults source.old ≤ S.faults source.new }
+    ensures counts { S.says.faults source.old ≤ S.says.faults source.new }
 {
     let mut intake = Intake::new(alloc)?;
     match read_head(alloc, source, &mut intake)? {

@@ -34,6 +34,6 @@ loop-done-preserved g c =
           subst (Holds c.update.new.self) (piece_more file c.fill.new.buffer _ c.args.spot.at c.loop-done.done c.in_ok-count.count room part fits whole bytes) (c.update.ensures (take c.loop-done.done (drop c.args.spot.at file)) (inv.holds files read within));
       same = record { kept = λ f read. c.fill.ensures.same.kept f (inv.same.kept f read); no_more = λ f read. inv.same.no_more f (c.fill.ensures.same.no_more f read) };
       crash = λ f left. inv.crash f (c.fill.ensures.crash f left);
-      any_moment = then g.D.Disk.moment g.D.Disk.left_since c.args.disk.now c.loop-done.disk c.fill.new.disk (g.D.Disk.may_leave c.args.disk.now) inv.any_moment (weaker g.D.Disk.moment g.D.Disk.left_since c.loop-done.disk c.fill.new.disk (g.D.Disk.may_leave c.loop-done.disk) (g.D.Disk.may_leave c.args.disk.now) inv.crash c.fill.ensures.any_moment);
+      any_moment = then g.D.Disk.says c.args.disk.now c.loop-done.disk c.fill.new.disk (g.D.Disk.says.may_leave c.args.disk.now) inv.any_moment (weaker g.D.Disk.says c.loop-done.disk c.fill.new.disk (g.D.Disk.says.may_leave c.loop-done.disk) (g.D.Disk.says.may_leave c.args.disk.now) inv.crash c.fill.ensures.any_moment);
       faults = omega (arith, inv.faults, c.fill.ensures.cause.never_falls);
     }

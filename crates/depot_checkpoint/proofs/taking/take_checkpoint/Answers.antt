@@ -33,7 +33,7 @@ returns-in-Ok-clause-any_moment g c = λ was d archive stands of_depot.
     let less : n < 4095 = grind (arith, nat_tests) in
     let same : n ≡ was.generation = c.generation-generation.ensures ∙ stands.generation in
     let next = c.in_ok-text.ensures was d of_depot.has of_depot.stand of_depot.generation (sym same) in
-    weaker g.D.Disk.moment g.D.Disk.left_since (disk_of c.args.journal.now) (disk_of c.write_generation.new.journal) (StandsForEither (was.generation + 1) d archive) (StandsBeforeOrAfter d archive)
+    weaker g.D.Disk.says (disk_of c.args.journal.now) (disk_of c.write_generation.new.journal) (StandsForEither (was.generation + 1) d archive) (StandsBeforeOrAfter d archive)
     (stands_either was (rows_of c.args.tables.now) d archive of_depot (subst (λ (k : ℕ). k < 4095) same less))
     (c.write_generation.ensures.opens was (rows_of c.args.tables.now) d archive stands of_depot next)
 
@@ -44,6 +44,6 @@ returns-clause-any_moment g c = λ was d archive stands of_depot.
     let less : n < 4095 = grind (arith, nat_tests) in
     let same : n ≡ was.generation = c.generation-generation.ensures ∙ stands.generation in
     let next = c.in_ok-text.ensures was d of_depot.has of_depot.stand of_depot.generation (sym same) in
-    weaker g.D.Disk.moment g.D.Disk.left_since (disk_of c.args.journal.now) (disk_of c.write_generation.new.journal) (StandsForEither (was.generation + 1) d archive) (StandsBeforeOrAfter d archive)
+    weaker g.D.Disk.says (disk_of c.args.journal.now) (disk_of c.write_generation.new.journal) (StandsForEither (was.generation + 1) d archive) (StandsBeforeOrAfter d archive)
     (stands_either was (rows_of c.args.tables.now) d archive of_depot (subst (λ (k : ℕ). k < 4095) same less))
     (c.write_generation.ensures.opens was (rows_of c.args.tables.now) d archive stands of_depot next)

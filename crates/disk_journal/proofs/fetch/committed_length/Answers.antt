@@ -21,7 +21,7 @@ returns-then-block-length-clause-text g c = λ groups files read is.
 pub loop-length-preserved : goal.loop-length-preserved
 loop-length-preserved g c =
     let so_far = c.loop-length.invariant in
-    let P : Files → Type 0 = g.D.Disk.may_leave c.args.disk.now in
+    let P : Files → Type 0 = g.D.Disk.says.may_leave c.args.disk.now in
     record {
       small = omega (arith, so_far.small, c.if-block-length.false);
       reached = λ groups files read is.
@@ -29,7 +29,7 @@ loop-length-preserved g c =
           scanned groups (files c.args.file) c.loop-length.length (Some c.in-Some.block) is (g.met.D.Disk.within c.args.disk.now files c.args.file read) (so_far.reached groups files read is) (subst (IsBlockAt (drop c.loop-length.length (files c.args.file))) c.in-Some.is seen);
       same = record { kept = λ f read. c.block_at.ensures.same.kept f (so_far.same.kept f read); no_more = λ f read. so_far.same.no_more f (c.block_at.ensures.same.no_more f read) };
       crash = λ f left. so_far.crash f (c.block_at.ensures.crash f left);
-      any_moment = then g.D.Disk.moment g.D.Disk.left_since c.args.disk.now c.loop-length.disk c.block_at.new.disk P so_far.any_moment (weaker g.D.Disk.moment g.D.Disk.left_since c.loop-length.disk c.block_at.new.disk (g.D.Disk.may_leave c.loop-length.disk) P so_far.crash c.block_at.ensures.any_moment);
+      any_moment = then g.D.Disk.says c.args.disk.now c.loop-length.disk c.block_at.new.disk P so_far.any_moment (weaker g.D.Disk.says c.loop-length.disk c.block_at.new.disk (g.D.Disk.says.may_leave c.loop-length.disk) P so_far.crash c.block_at.ensures.any_moment);
       faults = omega (arith, so_far.faults, c.block_at.ensures.cause.never_falls);
     }
 

@@ -7,31 +7,31 @@ use Rattle.disk_journal.proofs.make.make_files.Goals as goal
 
 pub returns-in_err-make_first-clause-crash : goal.returns-in_err-make_first-clause-crash
 returns-in_err-make_first-clause-crash g c =
-    begun_same g.D.Disk.moment g.D.Disk.left_since g.D.Disk.may_leave c.args.disk.now c.make_first.new.disk c.make_first.new.disk c.make_first.ensures.crash
+    begun_same g.D.Disk.says c.args.disk.now c.make_first.new.disk c.make_first.new.disk c.make_first.ensures.crash
 
 pub returns-in_err-make_first-clause-any_moment : goal.returns-in_err-make_first-clause-any_moment
 returns-in_err-make_first-clause-any_moment g c =
-    begun_always g.D.Disk.moment g.D.Disk.left_since g.D.Disk.may_leave c.args.disk.now c.make_first.new.disk c.make_first.new.disk c.make_first.ensures.any_moment
+    begun_always g.D.Disk.says c.args.disk.now c.make_first.new.disk c.make_first.new.disk c.make_first.ensures.any_moment
 
 pub returns-in_err-write_through-clause-crash : goal.returns-in_err-write_through-clause-crash
 returns-in_err-write_through-clause-crash g c =
-    root_same g.D.Disk.moment g.D.Disk.left_since g.D.Disk.may_leave c.args.disk.now c.make_first.new.disk c.write_through.new.disk g.D.Disk.seen g.met.D.Disk.reads_an_image c.in_ok-make_first.ensures.made 4095 c.write_through.ensures.crash
+    root_same g.D.Disk.says c.args.disk.now c.make_first.new.disk c.write_through.new.disk g.met.D.Disk.reads_an_image c.in_ok-make_first.ensures.made 4095 c.write_through.ensures.crash
 
 pub returns-in_err-write_through-clause-any_moment : goal.returns-in_err-write_through-clause-any_moment
 returns-in_err-write_through-clause-any_moment g c =
-    root_always g.D.Disk.moment g.D.Disk.left_since g.D.Disk.may_leave c.args.disk.now c.make_first.new.disk c.write_through.new.disk g.D.Disk.seen g.met.D.Disk.reads_an_image c.in_ok-make_first.ensures.made 4095 c.make_first.ensures.any_moment c.write_through.ensures.any_moment
+    root_always g.D.Disk.says c.args.disk.now c.make_first.new.disk c.write_through.new.disk g.met.D.Disk.reads_an_image c.in_ok-make_first.ensures.made 4095 c.make_first.ensures.any_moment c.write_through.ensures.any_moment
 
 pub returns-clause-crash : goal.returns-clause-crash
 returns-clause-crash g c =
-    root_same g.D.Disk.moment g.D.Disk.left_since g.D.Disk.may_leave c.args.disk.now c.make_first.new.disk c.write_through.new.disk g.D.Disk.seen g.met.D.Disk.reads_an_image c.in_ok-make_first.ensures.made 4095 c.write_through.ensures.crash
+    root_same g.D.Disk.says c.args.disk.now c.make_first.new.disk c.write_through.new.disk g.met.D.Disk.reads_an_image c.in_ok-make_first.ensures.made 4095 c.write_through.ensures.crash
 
 pub returns-clause-any_moment : goal.returns-clause-any_moment
 returns-clause-any_moment g c =
-    root_always g.D.Disk.moment g.D.Disk.left_since g.D.Disk.may_leave c.args.disk.now c.make_first.new.disk c.write_through.new.disk g.D.Disk.seen g.met.D.Disk.reads_an_image c.in_ok-make_first.ensures.made 4095 c.make_first.ensures.any_moment c.write_through.ensures.any_moment
+    root_always g.D.Disk.says c.args.disk.now c.make_first.new.disk c.write_through.new.disk g.met.D.Disk.reads_an_image c.in_ok-make_first.ensures.made 4095 c.make_first.ensures.any_moment c.write_through.ensures.any_moment
 
 pub returns-clause-made : goal.returns-clause-made
 returns-clause-made g c =
-    let each : (f : Files) → g.D.Disk.may_leave c.write_through.new.disk f → IsAtRest made f = λ f left.
+    let each : (f : Files) → g.D.Disk.says.may_leave c.write_through.new.disk f → IsAtRest made f = λ f left.
     let root = c.in_ok-write_through.ensures.durable f left in
     let first = c.in_ok-make_first.ensures.made root.0 (g.met.D.Disk.reads_an_image c.make_first.new.disk root.0 root.1) in
     made_rest 4095 _ first.0 root.0 f refl refl (c.requires first.0 first.1) first.2 root.2 in

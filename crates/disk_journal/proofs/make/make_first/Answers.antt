@@ -3,20 +3,20 @@ use Rattle.disk_journal.proofs.make.make_first.Goals as goal
 
 pub returns-in_err-write_at-clause-crash : goal.returns-in_err-write_at-clause-crash
 returns-in_err-write_at-clause-crash g c =
-    first_same g.D.Disk.moment g.D.Disk.left_since g.D.Disk.may_leave c.args.disk.now c.write_at.new.self c.write_at.new.self 9 c.write_at.ensures.crash
+    first_same g.D.Disk.says c.args.disk.now c.write_at.new.self c.write_at.new.self 9 c.write_at.ensures.crash
 
 pub returns-in_err-write_at-clause-any_moment : goal.returns-in_err-write_at-clause-any_moment
 returns-in_err-write_at-clause-any_moment g c =
-    first_always g.D.Disk.moment g.D.Disk.left_since g.D.Disk.may_leave c.args.disk.now c.write_at.new.self c.write_at.new.self 9 c.write_at.ensures.crash (g.met.D.Disk.only_now c.args.disk.now) c.write_at.ensures.time
+    first_always g.D.Disk.says c.args.disk.now c.write_at.new.self c.write_at.new.self 9 c.write_at.ensures.crash (g.met.D.Disk.only_now c.args.disk.now) c.write_at.ensures.time
 
 pub returns-in_err-write_through-clause-crash : goal.returns-in_err-write_through-clause-crash
 returns-in_err-write_through-clause-crash g c =
-    second_same g.D.Disk.moment g.D.Disk.left_since g.D.Disk.may_leave c.args.disk.now c.write_at.new.self c.write_through.new.disk 9 c.write_at.ensures.crash 5 c.write_through.ensures.crash
+    second_same g.D.Disk.says c.args.disk.now c.write_at.new.self c.write_through.new.disk 9 c.write_at.ensures.crash 5 c.write_through.ensures.crash
 
 pub returns-in_err-write_through-clause-any_moment : goal.returns-in_err-write_through-clause-any_moment
 returns-in_err-write_through-clause-any_moment g c =
-    second_always g.D.Disk.moment g.D.Disk.left_since g.D.Disk.may_leave c.args.disk.now c.write_at.new.self c.write_through.new.disk 9 c.write_at.ensures.crash 5
-    (first_always g.D.Disk.moment g.D.Disk.left_since g.D.Disk.may_leave c.args.disk.now c.write_at.new.self c.write_at.new.self 9 c.write_at.ensures.crash (g.met.D.Disk.only_now c.args.disk.now) c.write_at.ensures.time)
+    second_always g.D.Disk.says c.args.disk.now c.write_at.new.self c.write_through.new.disk 9 c.write_at.ensures.crash 5
+    (first_always g.D.Disk.says c.args.disk.now c.write_at.new.self c.write_at.new.self 9 c.write_at.ensures.crash (g.met.D.Disk.only_now c.args.disk.now) c.write_at.ensures.time)
     c.write_through.ensures.any_moment
 
 pub returns-clause-made : goal.returns-clause-made
@@ -27,10 +27,10 @@ returns-clause-made g c = λ image left.
 
 pub returns-clause-crash : goal.returns-clause-crash
 returns-clause-crash g c =
-    second_same g.D.Disk.moment g.D.Disk.left_since g.D.Disk.may_leave c.args.disk.now c.write_at.new.self c.write_through.new.disk 9 c.write_at.ensures.crash 5 c.write_through.ensures.crash
+    second_same g.D.Disk.says c.args.disk.now c.write_at.new.self c.write_through.new.disk 9 c.write_at.ensures.crash 5 c.write_through.ensures.crash
 
 pub returns-clause-any_moment : goal.returns-clause-any_moment
 returns-clause-any_moment g c =
-    second_always g.D.Disk.moment g.D.Disk.left_since g.D.Disk.may_leave c.args.disk.now c.write_at.new.self c.write_through.new.disk 9 c.write_at.ensures.crash 5
-    (first_always g.D.Disk.moment g.D.Disk.left_since g.D.Disk.may_leave c.args.disk.now c.write_at.new.self c.write_at.new.self 9 c.write_at.ensures.crash (g.met.D.Disk.only_now c.args.disk.now) c.write_at.ensures.time)
+    second_always g.D.Disk.says c.args.disk.now c.write_at.new.self c.write_through.new.disk 9 c.write_at.ensures.crash 5
+    (first_always g.D.Disk.says c.args.disk.now c.write_at.new.self c.write_at.new.self 9 c.write_at.ensures.crash (g.met.D.Disk.only_now c.args.disk.now) c.write_at.ensures.time)
     c.write_through.ensures.any_moment

@@ -1,4 +1,4 @@
-use Rattle.std.proofs.Common.{ℕ, List, [], ◌∷◌, ◌++◌, refl, ap, ◌∙◌}
+use Rattle.std.proofs.Common.{ℕ, List, refl, ap, ◌∙◌}
 use Rattle.std.specs.Prelude.{codes, decimal, filter}
 use Rattle.std.specs.List.{list_any}
 use Rattle.depot_rows.specs.depot_path.Bytes.{begins_with}

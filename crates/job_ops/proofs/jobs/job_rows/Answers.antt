@@ -4,7 +4,7 @@ use Rattle.std.specs.Option.{option_to_list}
 use Rattle.depot_rows.specs.depot_model.Fixes.{job}
 use Rattle.depot_rows.specs.depot_model.Steps.Jobs.{job_row}
 use Rattle.job_ops.proofs.JobRows.{row_more}
-use Rattle.job_ops.proofs.Stepping.{back}
+use Rattle.job_fixes.proofs.Steps.{back}
 use Rattle.job_ops.proofs.jobs.job_rows.Goals as goal
 
 pub loop-name-preserved : goal.loop-name-preserved

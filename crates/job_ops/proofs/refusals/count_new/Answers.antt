@@ -2,7 +2,7 @@ use Rattle.std.proofs.Common.{◌+◌, ℕ, Bool, List, length, take, sym, ap, �
 use Rattle.std.specs.Prelude.{filter, not}
 use Rattle.depot_rows.specs.depot_model.Fixes.{has_fix}
 use Rattle.job_ops.proofs.ChangeRows.{counted}
-use Rattle.job_ops.proofs.Stepping.{front}
+use Rattle.job_fixes.proofs.Steps.{front}
 use Rattle.job_ops.proofs.refusals.count_new.Goals as goal
 
 pub loop-name-preserved : goal.loop-name-preserved

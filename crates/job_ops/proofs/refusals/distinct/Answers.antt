@@ -2,7 +2,7 @@ use Rattle.std.proofs.Common.{◌+◌, ◌++◌, ℕ, List, drop, sym, ap, ◌�
 use Rattle.depot_rows.specs.depot_model.Steps.Jobs.{distinct_after}
 use Rattle.job_ops.specs.Distinct.{once}
 use Rattle.job_ops.proofs.Distinct.{once_more}
-use Rattle.job_ops.proofs.Stepping.{back}
+use Rattle.job_fixes.proofs.Steps.{back}
 use Rattle.job_ops.proofs.refusals.distinct.Goals as goal
 
 pub loop-name-preserved : goal.loop-name-preserved

@@ -4,7 +4,8 @@ use Rattle.depot_rows.specs.table_changes.Changed.{rows_of}
 use Rattle.depot_rows.specs.depot_model.Step.{after, all_of}
 use Rattle.depot_rows.specs.depot_model.Steps.Jobs.{unfix_job}
 use Rattle.reply_rows.specs.Made.{IsMade}
-use Rattle.job_ops.proofs.Stepping.{front, no_step, step_more}
+use Rattle.job_fixes.proofs.Steps.{front}
+use Rattle.job_ops.proofs.Stepping.{no_step, step_more}
 use Rattle.job_ops.proofs.unfixing.unfix_jobs.Goals as goal
 
 pub loop-name-init : goal.loop-name-init

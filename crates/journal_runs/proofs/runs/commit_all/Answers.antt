@@ -13,8 +13,8 @@ loop-place-init g c = record {
   never_falls = omega arith;
   cause = λ k lt. absurd (omega (arith, lt));
   so_far = λ was stands.
-      started_run g.D.Disk.may_leave g.D.Disk.moment g.D.Disk.left_since c.args.journal.now was stands
-      (started g.D.Disk.moment g.D.Disk.left_since c.args.journal.now.disk (HasCommitted was) (λ f left. stands.holds f (g.met.D.Disk.only_now c.args.journal.now.disk f left)));
+      started_run g.D.Disk.says c.args.journal.now was stands
+      (started g.D.Disk.says c.args.journal.now.disk (HasCommitted was) (λ f left. stands.holds f (g.met.D.Disk.only_now c.args.journal.now.disk f left)));
 }
 
 pub commit_changes-requires : goal.commit_changes-requires
@@ -36,23 +36,23 @@ loop-place-preserved g c =
     let filled : take (i + 1) (set c.loop-place.landings i landing) ≡ landings ++ landing ∷ [] = take_more_set c.loop-place.landings i landing within in
     record {
       never_falls = omega (arith, c.loop-place.invariant.never_falls, c.commit_changes.ensures.never_falls);
-      cause = caused_more (g.D.Disk.faults c.args.journal.now.disk) (g.D.Disk.faults c.loop-place.journal.disk) (g.D.Disk.faults c.commit_changes.new.journal.disk) c.loop-place.landings i landing c.loop-place.invariant.never_falls c.commit_changes.ensures.never_falls within c.loop-place.invariant.cause c.commit_changes.ensures.cause;
+      cause = caused_more (g.D.Disk.says.faults c.args.journal.now.disk) (g.D.Disk.says.faults c.loop-place.journal.disk) (g.D.Disk.says.faults c.commit_changes.new.journal.disk) c.loop-place.landings i landing c.loop-place.invariant.never_falls c.commit_changes.ensures.never_falls within c.loop-place.invariant.cause c.commit_changes.ensures.cause;
       so_far = λ was stands.
           let so_far = c.loop-place.invariant.so_far was stands in
           let now = after was batch landings in
-          let next = one_more g.D.Disk.may_leave g.D.Disk.moment g.D.Disk.left_since c.args.journal.now c.loop-place.journal c.commit_changes.new.journal batch landings was changes landing long so_far (c.commit_changes.ensures.stands now so_far.doubt so_far.stands) (c.commit_changes.ensures.any_moment now so_far.doubt so_far.stands) in
-          subst (λ (b : List (List Change)). Progress g.D.Disk.may_leave g.D.Disk.moment g.D.Disk.left_since c.args.journal.now c.commit_changes.new.journal b (take (i + 1) (set c.loop-place.landings i landing)) was) (sym grown)
-          (subst (λ (l : List Landing). Progress g.D.Disk.may_leave g.D.Disk.moment g.D.Disk.left_since c.args.journal.now c.commit_changes.new.journal (batch ++ changes ∷ []) l was) (sym filled) next);
+          let next = one_more g.D.Disk.says c.args.journal.now c.loop-place.journal c.commit_changes.new.journal batch landings was changes landing long so_far (c.commit_changes.ensures.stands now so_far.doubt so_far.stands) (c.commit_changes.ensures.any_moment now so_far.doubt so_far.stands) in
+          subst (λ (b : List (List Change)). Progress g.D.Disk.says c.args.journal.now c.commit_changes.new.journal b (take (i + 1) (set c.loop-place.landings i landing)) was) (sym grown)
+          (subst (λ (l : List Landing). Progress g.D.Disk.says c.args.journal.now c.commit_changes.new.journal (batch ++ changes ∷ []) l was) (sym filled) next);
     }
 
 pub returns-clause-stands : goal.returns-clause-stands
 returns-clause-stands g c = λ was stands.
-    let all = all_of g.D.Disk.may_leave g.D.Disk.moment g.D.Disk.left_since c.args.journal.now c.loop-place.journal c.loop-place.place c.args.batch.now c.loop-place.landings was c.loop-place-test.false (omega (arith, c.loop-place.auto.landings, c.requires.room, c.loop-place-test.false)) (c.loop-place.invariant.so_far was stands) in
+    let all = all_of g.D.Disk.says c.args.journal.now c.loop-place.journal c.loop-place.place c.args.batch.now c.loop-place.landings was c.loop-place-test.false (omega (arith, c.loop-place.auto.landings, c.requires.room, c.loop-place-test.false)) (c.loop-place.invariant.so_far was stands) in
     (all.doubt, all.stands)
 
 pub returns-clause-any_moment : goal.returns-clause-any_moment
 returns-clause-any_moment g c = λ was stands.
-    let all = all_of g.D.Disk.may_leave g.D.Disk.moment g.D.Disk.left_since c.args.journal.now c.loop-place.journal c.loop-place.place c.args.batch.now c.loop-place.landings was c.loop-place-test.false (omega (arith, c.loop-place.auto.landings, c.requires.room, c.loop-place-test.false)) (c.loop-place.invariant.so_far was stands) in
+    let all = all_of g.D.Disk.says c.args.journal.now c.loop-place.journal c.loop-place.place c.args.batch.now c.loop-place.landings was c.loop-place-test.false (omega (arith, c.loop-place.auto.landings, c.requires.room, c.loop-place-test.false)) (c.loop-place.invariant.so_far was stands) in
     all.any_moment
 
 pub returns-clause-cause : goal.returns-clause-cause

@@ -8,7 +8,7 @@ use Rattle.journal_runs.proofs.runs.commit_all.Given as goal
 
 abbrev pub invariant-loop-place : goal.invariant-loop-place
 invariant-loop-place g l = record {
-  never_falls : g.D.Disk.faults l.fn.journal.disk ≤ g.D.Disk.faults l.journal.disk;
-  cause : (k : ℕ) → k < l.place → IsCaused (g.D.Disk.faults l.fn.journal.disk) (g.D.Disk.faults l.journal.disk) (get_or l.landings k NoMemory);
-  so_far : (was : Committed) → Stands g.D.Disk.may_leave l.fn.journal was nothing → Progress g.D.Disk.may_leave g.D.Disk.moment g.D.Disk.left_since l.fn.journal l.journal (take l.place l.batch) (take l.place l.landings) was;
+  never_falls : g.D.Disk.says.faults l.fn.journal.disk ≤ g.D.Disk.says.faults l.journal.disk;
+  cause : (k : ℕ) → k < l.place → IsCaused (g.D.Disk.says.faults l.fn.journal.disk) (g.D.Disk.says.faults l.journal.disk) (get_or l.landings k NoMemory);
+  so_far : (was : Committed) → Stands g.D.Disk.says l.fn.journal was nothing → Progress g.D.Disk.says l.fn.journal l.journal (take l.place l.batch) (take l.place l.landings) was;
 }

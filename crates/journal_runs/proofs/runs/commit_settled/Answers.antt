@@ -10,7 +10,7 @@ returns-in_err-settle-clause-fault g c = λ was doubt stands is_err. (doubt, inl
 
 pub returns-in_err-settle-clause-any_moment : goal.returns-in_err-settle-clause-any_moment
 returns-in_err-settle-clause-any_moment g c = λ was doubt stands.
-    weaker g.D.Disk.moment g.D.Disk.left_since c.args.journal.now.disk c.settle.new.self.disk (HasWithOrWithout was doubt) _ (λ f has. inl has) (c.settle.ensures.any_moment was doubt stands)
+    weaker g.D.Disk.says c.args.journal.now.disk c.settle.new.self.disk (HasWithOrWithout was doubt) _ (λ f has. inl has) (c.settle.ensures.any_moment was doubt stands)
 
 pub commit-requires-clause-rest : goal.commit-requires-clause-rest
 commit-requires-clause-rest g c = (c.requires.stands.0, c.in_ok-settle.ensures.ok c.requires.stands.0 c.requires.stands.1.0 c.requires.stands.1.1)
@@ -28,9 +28,9 @@ returns-in_err-receipt-clause-fault g c = λ was doubt stands is_err.
 pub returns-in_err-receipt-clause-any_moment : goal.returns-in_err-receipt-clause-any_moment
 returns-in_err-receipt-clause-any_moment g c = λ was doubt stands.
     let P : Files → Type 0 = λ f. HasWithOrWithout was doubt f ⊎ HasEither was (with_group was (group_of c.args.prepared)) f in
-    let first = weaker g.D.Disk.moment g.D.Disk.left_since c.args.journal.now.disk c.settle.new.self.disk (HasWithOrWithout was doubt) P (λ f has. inl has) (c.settle.ensures.any_moment was doubt stands) in
-    let second = weaker g.D.Disk.moment g.D.Disk.left_since c.settle.new.self.disk c.commit.new.self.disk (HasEither was (with_group was (group_of c.args.prepared))) P (λ f has. inr has) (c.commit.ensures.any_moment was (c.in_ok-settle.ensures.ok was doubt stands)) in
-    then g.D.Disk.moment g.D.Disk.left_since c.args.journal.now.disk c.settle.new.self.disk c.commit.new.self.disk P first second
+    let first = weaker g.D.Disk.says c.args.journal.now.disk c.settle.new.self.disk (HasWithOrWithout was doubt) P (λ f has. inl has) (c.settle.ensures.any_moment was doubt stands) in
+    let second = weaker g.D.Disk.says c.settle.new.self.disk c.commit.new.self.disk (HasEither was (with_group was (group_of c.args.prepared))) P (λ f has. inr has) (c.commit.ensures.any_moment was (c.in_ok-settle.ensures.ok was doubt stands)) in
+    then g.D.Disk.says c.args.journal.now.disk c.settle.new.self.disk c.commit.new.self.disk P first second
 
 pub returns-clause-landed : goal.returns-clause-landed
 returns-clause-landed g c = λ was doubt stands. c.in_ok-receipt.ensures.ok was (c.in_ok-settle.ensures.ok was doubt stands)
@@ -38,9 +38,9 @@ returns-clause-landed g c = λ was doubt stands. c.in_ok-receipt.ensures.ok was 
 pub returns-clause-any_moment : goal.returns-clause-any_moment
 returns-clause-any_moment g c = λ was doubt stands.
     let P : Files → Type 0 = λ f. HasWithOrWithout was doubt f ⊎ HasEither was (with_group was (group_of c.args.prepared)) f in
-    let first = weaker g.D.Disk.moment g.D.Disk.left_since c.args.journal.now.disk c.settle.new.self.disk (HasWithOrWithout was doubt) P (λ f has. inl has) (c.settle.ensures.any_moment was doubt stands) in
-    let second = weaker g.D.Disk.moment g.D.Disk.left_since c.settle.new.self.disk c.commit.new.self.disk (HasEither was (with_group was (group_of c.args.prepared))) P (λ f has. inr has) (c.commit.ensures.any_moment was (c.in_ok-settle.ensures.ok was doubt stands)) in
-    then g.D.Disk.moment g.D.Disk.left_since c.args.journal.now.disk c.settle.new.self.disk c.commit.new.self.disk P first second
+    let first = weaker g.D.Disk.says c.args.journal.now.disk c.settle.new.self.disk (HasWithOrWithout was doubt) P (λ f has. inl has) (c.settle.ensures.any_moment was doubt stands) in
+    let second = weaker g.D.Disk.says c.settle.new.self.disk c.commit.new.self.disk (HasEither was (with_group was (group_of c.args.prepared))) P (λ f has. inr has) (c.commit.ensures.any_moment was (c.in_ok-settle.ensures.ok was doubt stands)) in
+    then g.D.Disk.says c.args.journal.now.disk c.settle.new.self.disk c.commit.new.self.disk P first second
 
 pub returns-in_err-receipt-clause-keeps : goal.returns-in_err-receipt-clause-keeps
 returns-in_err-receipt-clause-keeps g c = λ older keeps. c.commit.ensures.keeps older (c.settle.ensures.keeps older keeps)

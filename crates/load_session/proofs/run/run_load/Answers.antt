@@ -29,6 +29,6 @@ returns-clause-loaded g c = λ since start ran.
     let bytes = script_of c.args.seed c.args.count in
     let Of : List ℕ → Type 0 = λ script. IsAskedBy script read.session read.end in
     let same = session_is bytes read.session read.end (subst Of c.in_ok-script.ensures c.in_ok-read.ensures.read) in
-    let By : Option Session → Type 0 = λ session. IsLoaded (g.C.Clock.may_give c.args.clock.now) (g.T.Taker.has_run c.run_read-commands.new.taker since) start session c.run_read-commands.new.order.items in
-    let Over : List Place → Type 0 = λ order. IsLoaded (g.C.Clock.may_give c.args.clock.now) (g.T.Taker.has_run c.run_read-commands.new.taker since) start (load_session c.args.seed c.args.count) order in
+    let By : Option Session → Type 0 = λ session. IsLoaded (g.C.Clock.says.may_give c.args.clock.now) (g.T.Taker.has_run c.run_read-commands.new.taker since) start session c.run_read-commands.new.order.items in
+    let Over : List Place → Type 0 = λ order. IsLoaded (g.C.Clock.says.may_give c.args.clock.now) (g.T.Taker.has_run c.run_read-commands.new.taker since) start (load_session c.args.seed c.args.count) order in
     subst Over (sym c.from_vec.ensures) (subst By same (c.run_read-commands.ensures.loaded since start c.in_ok-read.ensures.formed ran))

@@ -11,7 +11,7 @@ pub loop-request-preserved : goal.loop-request-preserved
 loop-request-preserved c =
     let at = c.loop-request in
     let request = c.in-Some.request in
-    let work = c.in_ok-fresh_work.field-0 in
+    let work = c.fresh_work.result in
     let rest = into_iter_items c.next.new.self in
     let steps : into_iter_items at.request-iterator ≡ request ∷ rest = c.in-Some.ensures.steps.0 in
     let parts : at.yielded ++ request ∷ rest ≡ c.args.requests.items = rw (← steps) at.invariant.items in
@@ -25,9 +25,9 @@ loop-request-preserved c =
           omega arith;
       taken =
           ap (map request_in) c.in_ok-push.ensures.items
-          ∙ (map-append request_in at.left.items (work ∷ []) ∙ (λ k. at.invariant.taken k ++ c.in_ok-fresh_work.ensures.request k ∷ []));
-      fresh = subst P (sym c.in_ok-push.ensures.items) (fresh_push at.left.items work at.invariant.fresh c.in_ok-fresh_work.ensures.fresh);
-      typed = typed_push at.yielded request at.invariant.typed c.in_ok-fresh_work.ensures.typed;
+          ∙ (map-append request_in at.left.items (work ∷ []) ∙ (λ k. at.invariant.taken k ++ c.fresh_work.ensures.request k ∷ []));
+      fresh = subst P (sym c.in_ok-push.ensures.items) (fresh_push at.left.items work at.invariant.fresh c.fresh_work.ensures.fresh);
+      typed = typed_push at.yielded request at.invariant.typed c.fresh_work.ensures.typed;
     }
 
 pub returns-clause-shown : goal.returns-clause-shown

@@ -6,10 +6,10 @@ use Rattle.table_changes.specs.Changed.{changed_by}
 use Rattle.table_changes.specs.table_store.Rows.{TableRows}
 use Rattle.locked_tables.specs.Known.{TableKnown}
 use Rattle.locked_tables.specs.Taken.{rows_after}
-use Rattle.locked_tables.specs.Held.{AllNext, AreAmong, known_of, lane_next, lanes_next, table_held}
+use Rattle.locked_tables.specs.Held.{AllNext, known_of, lane_next, lanes_next, table_held}
 use Rattle.locked_tables.specs.declared.taken.Taken.{Taken}
-use Rattle.locked_tables.proofs.Lanes.{among_more, lanes_or, or_first}
-use Rattle.locked_tables.proofs.Announced.{announced_placed, settled_table}
+use Rattle.locked_tables.proofs.Lanes.{lanes_or, or_first}
+use Rattle.locked_tables.proofs.Announced.{announced_placed, checked_next, settled_table}
 use Rattle.locked_tables.proofs.placing.+place_tables.Goals as goal
 
 pub place_tables-all-requires : goal.place_tables-all-requires
@@ -21,12 +21,11 @@ place_tables-all-requires g t c κs within =
     let more = c.with_lane-more.result in
     let is : c.args.held.now ≡ first ∷ rest = c.in-Some.ensures.cases.0 in
     let all : AllNext rows c.args.taken.changes (first ∷ rest) = subst (AllNext rows c.args.taken.changes) is c.requires.next in
-    let lane_is : c.lane.result ≡ c.table.inside.seat.lane = c.lane.ensures.lane ∙ ap (λ (s : LaneState Taken). s.lane) c.announce_next.ensures.lane in
-    let checked : AreAmong more (c.table.inside.seat.lane ∷ order.checked) =
-    subst (λ (n : ℕ). AreAmong more (n ∷ order.checked)) lane_is (among_more c.args.lanes more c.lane.result c.with_lane-more.ensures.one c.with_lane-more.ensures.others order.checked c.requires.checked) in
     let run = ap (λ (o : OrderState Taken). o.run) c.announce_next.ensures.order ∙ c.requires.run in
     let room = subst (λ (o : OrderState Taken). length o.list < 2 ^ 64 - 1) (sym c.announce_next.ensures.order) c.requires.room in
-    let among = subst (λ (o : OrderState Taken). AreAmong more o.checked) (sym c.announce_next.ensures.order) checked in
+    let among =
+    checked_next c.args.lanes more c.lane.result c.table.inside.seat c.announce_next.new.lane order c.announce_next.new.order c.lane.ensures.lane (ap (λ (s : LaneState Taken). s.lane) c.announce_next.ensures.lane)
+    c.with_lane-more.ensures.one c.with_lane-more.ensures.others c.announce_next.ensures.order c.requires.checked in
     (search rules, (search rules, (run, (room, (among, all.1)))))
 
 pub settle-requires-clause-placed : goal.settle-requires-clause-placed
@@ -88,7 +87,8 @@ returns-in-Some-take-clause-lanes g t c =
     let known = c.table.view_is ∙ c.deref_mut-table.ensures.value in
     let lane_is : n ≡ table_number (table_held first) =
     c.lane.ensures.lane ∙ (ap (λ (s : LaneState Taken). s.lane) c.announce_next.ensures.lane ∙ (ap (λ (s : LaneState Taken). s.lane) c.table.invariant.0 ∙ ap (λ (k : TableKnown). table_number k.table) known)) in
-    let lanes : n ∷ lanes_next rest ≡ lanes_next c.args.held.now =
-    ap (λ (m : ℕ). m ∷ lanes_next rest) lane_is ∙ sym (ap lanes_next is ∙ ap (λ (n : Option TableRows). lane_next n (table_held first) (lanes_next rest)) next) in
-    λ lane. lanes_or c.args.lanes c.with_lane-more.result n c.with_lane-more.ensures.one c.with_lane-more.ensures.others c.place_tables-all.result (lanes_next rest) c.place_tables-all.ensures.lanes lane
+    let lanes : table_number (table_held first) ∷ lanes_next rest ≡ lanes_next c.args.held.now =
+    sym (ap lanes_next is ∙ ap (λ (n : Option TableRows). lane_next n (table_held first) (lanes_next rest)) next) in
+    λ lane.
+    lanes_or c.args.lanes c.with_lane-more.result n (table_number (table_held first)) lane_is c.with_lane-more.ensures.one c.with_lane-more.ensures.others c.place_tables-all.result (lanes_next rest) c.place_tables-all.ensures.lanes lane
     ∙ ap (λ (l : List ℕ). has_lane c.args.lanes lane || is_among lane l) lanes

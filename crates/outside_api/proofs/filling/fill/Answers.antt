@@ -9,7 +9,7 @@ loop-done-preserved g c =
     let so_far = c.loop-done.invariant in
     let n = c.in_ok-count.count in
     let fits : n ≤ length c.read.new.buffer = search rules in
-    let P : Files → Type 0 = g.D.Disk.may_leave c.args.disk.now in
+    let P : Files → Type 0 = g.D.Disk.says.may_leave c.args.disk.now in
     record {
       within = omega (arith, c.loop-done.auto.buffer, fits, c.loop-done.invariant.within);
       bytes = λ files read.
@@ -21,6 +21,6 @@ loop-done-preserved g c =
           );
       same = record { kept = λ f read. c.read.ensures.same.kept f (so_far.same.kept f read); no_more = λ f read. so_far.same.no_more f (c.read.ensures.same.no_more f read) };
       crash = λ f left. so_far.crash f (c.read.ensures.crash f left);
-      any_moment = goes_on g.D.Disk.moment g.D.Disk.left_since c.args.disk.now c.loop-done.disk c.read.new.self P _ so_far.any_moment c.read.ensures.time (λ f left. so_far.crash f (c.read.ensures.crash f left));
+      any_moment = goes_on g.D.Disk.says c.args.disk.now c.loop-done.disk c.read.new.self P so_far.any_moment c.read.ensures.time (λ f left. so_far.crash f (c.read.ensures.crash f left));
       faults = omega (arith, so_far.faults, c.read.ensures.cause.never_falls);
     }

@@ -10,14 +10,14 @@ pub returns-in-Err-clause-checkpoints : goal.returns-in-Err-clause-checkpoints
 returns-in-Err-clause-checkpoints g c =
     let opens = c.in-Err.ensures in
     let end = c.end_unopened.ensures in
-    checkpoints_unopened _ _ _ _ _ _ _ _ _ _ _ _ _ (unopened_of _ _ _ _ _ _ _ _ _ _ _ _ _ _ end.journal end.archive c.in-Err.found.fault end.told end.cause
+    checkpoints_unopened _ _ _ _ _ (unopened_of _ _ _ _ _ _ end.journal end.archive c.in-Err.found.fault end.told end.cause
     opens.journal_looks.no_more opens.archive_looks.no_more opens.journal_looks.any_moment opens.archive_looks.any_moment opens.unmade opens.exactly (λ j a d j_reads a_reads stand. (opens.stands j a d j_reads a_reads stand).0) opens.damaged opens.cause opens.unopened)
 
 pub returns-in-Err-orders_at-clause-checkpoints : goal.returns-in-Err-orders_at-clause-checkpoints
 returns-in-Err-orders_at-clause-checkpoints g c =
     let opens = c.in-Ok.ensures in
     let end = c.ended_alone.ensures in
-    checkpoints_untaken _ _ _ _ _ _ _ _ _ _ _ _ _ (untaken_of _ _ _ _ _ _ _ _ _ _ _ _ _ c.in-Ok.opened opens.«open» opens.journal_synced opens.archive_synced g.met.D.Disk.reads_an_image g.met.D.Disk.only_now g.met.D.Disk.reads_one
+    checkpoints_untaken _ _ _ _ _ (untaken_of _ _ _ _ _ c.in-Ok.opened opens.«open» opens.journal_synced opens.archive_synced g.met.D.Disk.reads_an_image g.met.D.Disk.only_now g.met.D.Disk.reads_one
     opens.exactly opens.whole opens.journal_looks opens.held (λ j a d j_reads a_reads stand. (opens.stands j a d j_reads a_reads stand).1)
     (end.archive ∙ c.into_disk-in-Err-orders_at.ensures) end.cause end.unrun (end.journal ∙ c.into_disk.ensures))
 
@@ -27,7 +27,7 @@ returns-in-Ok-taken-clause-checkpoints g c =
     let opening = opens.«open» in
     let taken = c.in-Ok-taken.ensures in
     let end = c.end_taken.ensures in
-    checkpoints_taken _ _ _ _ _ _ _ _ _ _ _ _ _ (taken_of _ _ _ _ _ _ _ _ _ _ _ _ _ c.in-Ok.opened opening opens.journal_synced opens.archive_synced g.met.D.Disk.reads_an_image g.met.D.Disk.only_now g.met.D.Disk.reads_one
+    checkpoints_taken _ _ _ _ _ (taken_of _ _ _ _ _ c.in-Ok.opened opening opens.journal_synced opens.archive_synced g.met.D.Disk.reads_an_image g.met.D.Disk.only_now g.met.D.Disk.reads_one
     opens.exactly opens.whole opens.journal_looks opens.held (λ j a d j_reads a_reads stand. (opens.stands j a d j_reads a_reads stand).1)
     (end.archive ∙ c.into_disk-archive.ensures) (disk_of c.take_checkpoint-taken.new.journal) (end.journal ∙ c.into_disk-journal.ensures)
     (λ d image of_depot. c.take_checkpoint-taken.ensures.any_moment opening.0 d image opening.1.stands of_depot)
@@ -47,15 +47,15 @@ returns-in-Err-taken-clause-checkpoints g c =
     (λ is.
     let before = opens.cause.journal_never_falls in
     let more = taking.cause (at ∙ ap Err is) in
-    let risen : HasRisen (g.D.Disk.faults c.args.journal) (g.D.Disk.faults (disk_of c.take_checkpoint-taken.new.journal)) = omega (arith, before, more) in
-    checkpoints_in_doubt _ _ _ _ _ _ _ _ _ _ _ _ _ (in_doubt_of _ _ _ _ _ _ _ _ _ _ _ _ _ c.in-Ok.opened opening opens.journal_synced opens.archive_synced g.met.D.Disk.reads_an_image g.met.D.Disk.only_now g.met.D.Disk.reads_one
+    let risen : HasRisen (g.D.Disk.says.faults c.args.journal) (g.D.Disk.says.faults (disk_of c.take_checkpoint-taken.new.journal)) = omega (arith, before, more) in
+    checkpoints_in_doubt _ _ _ _ _ (in_doubt_of _ _ _ _ _ c.in-Ok.opened opening opens.journal_synced opens.archive_synced g.met.D.Disk.reads_an_image g.met.D.Disk.only_now g.met.D.Disk.reads_one
     opens.exactly opens.whole opens.journal_looks opens.held (λ j a d j_reads a_reads stand. (opens.stands j a d j_reads a_reads stand).1)
     archive_is (disk_of c.take_checkpoint-taken.new.journal) journal_is
     (λ d image of_depot. taking.any_moment opening.0 d image opening.1.stands of_depot) g.met.D.Disk.counts_now
     (record { moment = c.now.result; by_clock = c.now.ensures; order_is = end.order is ∙ c.in-Ok-orders_at.ensures.failed; parties_are = end.parties; sources_are = end.sources })
-    (end.cause is) (inl (subst (λ disk. HasRisen (g.D.Disk.faults c.args.journal) (g.D.Disk.faults disk)) (sym journal_is) risen)) (end.line is)))
+    (end.cause is) (inl (subst (λ disk. HasRisen (g.D.Disk.says.faults c.args.journal) (g.D.Disk.says.faults disk)) (sym journal_is) risen)) (end.line is)))
     (λ is.
-    checkpoints_untaken _ _ _ _ _ _ _ _ _ _ _ _ _ (untaken_of _ _ _ _ _ _ _ _ _ _ _ _ _ c.in-Ok.opened opening opens.journal_synced opens.archive_synced g.met.D.Disk.reads_an_image g.met.D.Disk.only_now g.met.D.Disk.reads_one
+    checkpoints_untaken _ _ _ _ _ (untaken_of _ _ _ _ _ c.in-Ok.opened opening opens.journal_synced opens.archive_synced g.met.D.Disk.reads_an_image g.met.D.Disk.only_now g.met.D.Disk.reads_one
     opens.exactly opens.whole opens.journal_looks opens.held (λ j a d j_reads a_reads stand. (opens.stands j a d j_reads a_reads stand).1)
     archive_is (end.memory is) (end.unrun is)
     (journal_is ∙ ap (λ (journal : Journal g.row.D.Denot). disk_of journal) (taking.untouched (at ∙ ap Err is)))))

@@ -7,14 +7,14 @@ pub returns-in-Err-clause-dumps : goal.returns-in-Err-clause-dumps
 returns-in-Err-clause-dumps g c =
     let opens = c.in-Err.ensures in
     let end = c.end_unopened.ensures in
-    dumps_unopened _ _ _ _ _ _ _ _ _ _ _ _ (unopened_of _ _ _ _ _ _ _ _ _ _ _ _ _ _ end.journal end.archive c.in-Err.found.fault end.told end.cause
+    dumps_unopened _ _ _ _ (unopened_of _ _ _ _ _ _ end.journal end.archive c.in-Err.found.fault end.told end.cause
     opens.journal_looks.no_more opens.archive_looks.no_more opens.journal_looks.any_moment opens.archive_looks.any_moment opens.unmade opens.exactly (λ j a d j_reads a_reads stand. (opens.stands j a d j_reads a_reads stand).0) opens.damaged opens.cause opens.unopened)
 
 pub returns-in-Ok-clause-dumps : goal.returns-in-Ok-clause-dumps
 returns-in-Ok-clause-dumps g c =
     let opens = c.in-Ok.ensures in
     let end = c.dump_opened.ensures in
-    dumps_opened _ _ _ _ _ _ _ _ _ _ _ _ (rows_of c.in-Ok.opened.tables) end.unrun end.printed opens.held opens.whole
+    dumps_opened _ _ _ _ (rows_of c.in-Ok.opened.tables) end.unrun end.printed opens.held opens.whole
     (λ d start. (opens.stands start.journal_files start.archive_files d start.journal_reads start.archive_reads start.stand).1)
     (record { journal = rw end.journal opens.journal_synced; archive = rw end.archive opens.archive_synced })
-    (rw end.journal (read_at_start _ _ _ _ opens.journal_synced)) (rw end.archive (read_at_start _ _ _ _ opens.archive_synced)) (rw end.journal opens.journal_looks.any_moment) (rw end.archive opens.archive_looks.any_moment)
+    (rw end.journal (read_at_start _ _ _ opens.journal_synced)) (rw end.archive (read_at_start _ _ _ opens.archive_synced)) (rw end.journal opens.journal_looks.any_moment) (rw end.archive opens.archive_looks.any_moment)

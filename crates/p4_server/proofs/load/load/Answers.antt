@@ -7,7 +7,7 @@ use Rattle.p4_server.proofs.load.load.Goals as goal
 pub returns-in-Ok-clause-loads : goal.returns-in-Ok-clause-loads
 returns-in-Ok-clause-loads g c =
     let made = c.in-Ok.ensures in
-    loads_begun _ _ _ _ _ _ _ _ _ _ _ _ c.args.seed c.args.count _ (record {
+    loads_begun _ _ _ _ _ c.args.seed c.args.count (record {
       made_journal = c.make_files.new.journal;
       made_archive = c.make_files.new.archive;
       files = inr (record { was_empty = made.unmade; empty = λ j a j_left a_left. made.empty_depot j a j_left });
@@ -19,10 +19,10 @@ pub returns-in-Err-Made-clause-loads : goal.returns-in-Err-Made-clause-loads
 returns-in-Err-Made-clause-loads g c =
     let there = c.in-Err-Made.ensures in
     let fault : c.in-Err-Made.field-0 ≡ Made = c.in-Err-Made.field-0-is in
-    loads_begun _ _ _ _ _ _ _ _ _ _ _ _ c.args.seed c.args.count _ (record {
+    loads_begun _ _ _ _ _ c.args.seed c.args.count (record {
       made_journal = c.make_files.new.journal;
       made_archive = c.make_files.new.archive;
-      files = inl (record { was_there = λ files reads. there.there files reads (λ i. Err (fault i)); untouched = both_only_read _ _ _ _ g.met.D.Disk.only_now _ _ _ _ (there.untouched (λ i. Err (fault i))) });
+      files = inl (record { was_there = λ files reads. there.there files reads (λ i. Err (fault i)); untouched = both_only_read _ g.met.D.Disk.only_now _ _ _ _ (there.untouched (λ i. Err (fault i))) });
       counts = (there.cause.journal_never_falls, there.cause.archive_never_falls);
       loads = c.load_files-in-Err-Made.ensures.loads;
     })
@@ -32,7 +32,7 @@ returns-in-Err-DiskFault-clause-loads g c =
     let failed = c.in-Err-DiskFault.ensures in
     let fault : c.in-Err-DiskFault.field-0 ≡ DiskFault = c.in-Err-DiskFault.field-0-is in
     let end = c.end_alone.ensures in
-    loads_unbegun _ _ _ _ _ _ _ _ _ _ _ _ c.args.seed c.args.count _ (record {
+    loads_unbegun _ _ _ _ _ c.args.seed c.args.count (record {
       told = end.told;
       cause_is = end.cause;
       risen = rw (end.journal, end.archive) (failed.cause.risen (λ i. Err (fault i)));

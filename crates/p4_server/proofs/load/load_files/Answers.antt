@@ -11,13 +11,13 @@ use Rattle.p4_server.proofs.load.load_files.Goals as goal
 pub run_load-run-requires : goal.run_load-run-requires
 run_load-run-requires g c =
     let opens = c.in-Ok.ensures in
-    can_take g.D.Disk.seen g.D.Disk.may_leave g.D.Disk.moment g.D.Disk.left_since c.args.archive c.in-Ok.opened c.new-depot.result c.new-depot.ensures opens.«open» opens.archive_synced opens.within
+    can_take g.D.Disk.says c.args.archive c.in-Ok.opened c.new-depot.result c.new-depot.ensures opens.«open» opens.archive_synced opens.within
 
 pub returns-in-Err-clause-loads : goal.returns-in-Err-clause-loads
 returns-in-Err-clause-loads g c =
     let opens = c.in-Err.ensures in
     let end = c.end_unopened.ensures in
-    loads_unopened _ _ _ _ _ _ _ (g.C.Clock.may_give c.args.clock.now) _ _ _ _ c.args.seed c.args.count _ (unopened_of _ _ _ _ _ _ _ _ _ _ _ _ _ _ end.journal end.archive c.in-Err.found.fault end.told end.cause
+    loads_unopened _ _ (g.C.Clock.says.may_give c.args.clock.now) _ _ c.args.seed c.args.count (unopened_of _ _ _ _ _ _ end.journal end.archive c.in-Err.found.fault end.told end.cause
     opens.journal_looks.no_more opens.archive_looks.no_more opens.journal_looks.any_moment opens.archive_looks.any_moment opens.unmade opens.exactly (λ j a d j_reads a_reads stand. (opens.stands j a d j_reads a_reads stand).0) opens.damaged opens.cause opens.unopened)
 
 pub returns-in-Ok-run-clause-loads : goal.returns-in-Ok-run-clause-loads
@@ -27,11 +27,11 @@ returns-in-Ok-run-clause-loads g c =
     let end = c.ended_load-ended.ensures in
     let opened = disk_of c.in-Ok.opened.journal in
     let closed = c.close-tables.ensures in
-    loads_run _ _ _ _ _ _ _ _ _ _ _ _ c.args.seed c.args.count _ (load_of _ _ _ _ _ _ _ _ _ _ _ _ c.args.seed c.args.count _
-    c.run_load-run.new.taker opened (g.D.Disk.faults (disk_of c.new-depot.result.journal)) (g.D.Disk.faults (archives.disk_of c.new-depot.result.archive)) (rows_of c.close-tables.result.tables)
+    loads_run _ _ _ _ _ c.args.seed c.args.count (load_of _ _ _ _ _ c.args.seed c.args.count
+    c.run_load-run.new.taker opened (g.D.Disk.says.faults (disk_of c.new-depot.result.journal)) (g.D.Disk.says.faults (archives.disk_of c.new-depot.result.archive)) (rows_of c.close-tables.result.tables)
     c.in-Ok-run.run'.order c.in-Ok-run.run'.commands c.in-Ok-run.run'.end (end.journal ∙ closed.journal) (end.archive ∙ closed.archive) (ap rows_of closed.tables) end.order run.commands run.read
-    (opened_of _ _ _ _ _ _ c.in-Ok.opened opens.exactly opens.whole opens.journal_looks opens.journal_synced)
-    (λ d start. run.loaded (g.D.Disk.moment opened) d (begins g.D.Disk.seen g.D.Disk.may_leave g.D.Disk.moment g.D.Disk.left_since c.args.journal c.args.archive c.in-Ok.opened c.new-depot.result c.new-depot.ensures opens.«open» opens.journal_synced opens.archive_synced g.met.D.Disk.reads_an_image g.met.D.Disk.only_now g.met.D.Disk.reads_one opens.held
+    (opened_of _ _ _ c.in-Ok.opened opens.exactly opens.whole opens.journal_looks opens.journal_synced)
+    (λ d start. run.loaded (g.D.Disk.says.moment opened) d (begins g.D.Disk.says c.args.journal c.args.archive c.in-Ok.opened c.new-depot.result c.new-depot.ensures opens.«open» opens.journal_synced opens.archive_synced g.met.D.Disk.reads_an_image g.met.D.Disk.only_now g.met.D.Disk.reads_one opens.held
     (λ j a d j_reads a_reads stand. (opens.stands j a d j_reads a_reads stand).1) d start))
     (rw c.new-depot.ensures opens.cause.journal_never_falls) (rw c.new-depot.ensures opens.cause.archive_never_falls) run.faults end.told) end.no_parties
 
@@ -41,14 +41,14 @@ returns-in-Err-run-clause-loads g c =
     let end = c.end_alone.ensures in
     let opened = disk_of c.in-Ok.opened.journal in
     let closed = c.close-tables.ensures in
-    loads_unloaded _ _ _ _ _ _ _ (g.C.Clock.may_give c.args.clock.now) _ _ _ _ c.args.seed c.args.count _ (record {
+    loads_unloaded _ _ (g.C.Clock.says.may_give c.args.clock.now) _ _ c.args.seed c.args.count (record {
       told = end.told;
       cause_is = end.cause;
       opened = opened;
-      is_opened = opened_of _ _ _ _ _ _ c.in-Ok.opened opens.exactly opens.whole opens.journal_looks opens.journal_synced;
-      kept = λ d start. load_kept _ _ _ _ _ _ _ (g.C.Clock.may_give c.args.clock.now) _ _ _ _ c.args.seed c.args.count _ c.new-depot.result opened
+      is_opened = opened_of _ _ _ c.in-Ok.opened opens.exactly opens.whole opens.journal_looks opens.journal_synced;
+      kept = λ d start. load_kept _ _ (g.C.Clock.says.may_give c.args.clock.now) _ _ c.args.seed c.args.count c.new-depot.result opened
           (end.journal ∙ (closed.journal ∙ ap (λ (depot : SerialDepot g.row.D.Denot). disk_of depot.journal) c.in-Err-run.ensures.unrun))
           (end.archive ∙ (closed.archive ∙ ap (λ (depot : SerialDepot g.row.D.Denot). archives.disk_of depot.archive) c.in-Err-run.ensures.unrun)) d []
-          (begins g.D.Disk.seen g.D.Disk.may_leave g.D.Disk.moment g.D.Disk.left_since c.args.journal c.args.archive c.in-Ok.opened c.new-depot.result c.new-depot.ensures opens.«open» opens.journal_synced opens.archive_synced g.met.D.Disk.reads_an_image g.met.D.Disk.only_now g.met.D.Disk.reads_one opens.held
+          (begins g.D.Disk.says c.args.journal c.args.archive c.in-Ok.opened c.new-depot.result c.new-depot.ensures opens.«open» opens.journal_synced opens.archive_synced g.met.D.Disk.reads_an_image g.met.D.Disk.only_now g.met.D.Disk.reads_one opens.held
           (λ j a d j_reads a_reads stand. (opens.stands j a d j_reads a_reads stand).1) d start);
     })

@@ -13,7 +13,7 @@ name_at names i d lt = slice_get-map (λ (word : Bor (List ℕ)). word.now) name
 
 pub loop-name-init : goal.loop-name-init
 loop-name-init g c = record {
-  firsts = rw (c.new.ensures.items, c.new-2.ensures.items) (firsts_none _ _ _ _ _ _ _);
+  firsts = rw (c.new.ensures.items, c.new-2.ensures.items) (firsts_none _ _ _ _ _);
   counts = omega arith;
 }
 
@@ -36,7 +36,7 @@ loop-name-preserved g c =
     let came = c.in-Ok.ensures in
     record {
       firsts = rw (c.in-Ok-add_pair.ensures.sources, c.in-Ok-add_pair.ensures.sinks)
-          (firsts_more _ _ _ _ _ _ _ _ _ _ _ at.name-index _ (name_at c.args.names.now at.name-index _ c.loop-name-test.true) came.other_inputs came.other_outputs _ _ _ _
+          (firsts_more _ _ _ _ _ _ _ _ _ at.name-index _ (name_at c.args.names.now at.name-index _ c.loop-name-test.true) came.other_inputs came.other_outputs _ _ _ _
           c.requires.different at.invariant.firsts came.source came.sink came.new_source came.new_sink);
       counts = omega (arith, at.invariant.counts, c.come.ensures.cause.never_falls);
     }
@@ -46,7 +46,7 @@ returns-clause-came g c =
     let at = c.loop-name in
     let same = length-map c.args.names.now (λ (word : Bor (List ℕ)). word.now) in
     let whole : at.name-index ≡ length (words_of c.args.names.now) = omega (arith, same, c.loop-name-test.false, at.auto.name-index-end) in
-    have_come _ _ _ _ _ _ _ _ _ at.name-index _ _ whole at.invariant.firsts
+    have_come _ _ _ _ _ _ _ at.name-index _ _ whole at.invariant.firsts
 
 pub returns-clause-only : goal.returns-clause-only
 returns-clause-only g c = c.loop-name.invariant.firsts.only

@@ -9,7 +9,7 @@ use Rattle.p4_server.proofs.party.read_one.Goals as goal
 pub returns-clause-read : goal.returns-clause-read
 returns-clause-read g c = λ before so_far.
     let added = c.in_ok-add_script.ensures in
-    rw (added.sources, added.sessions, added.replicas, added.ends) (read_more _ _ before _ _ _ _ c.args.source _ _ _ _ so_far (record { asked = c.in_ok-read.ensures.read; apart = c.in_ok-read.ensures.apart }))
+    rw (added.sources, added.sessions, added.replicas, added.ends) (read_more _ before _ _ _ _ c.args.source _ _ _ _ so_far (record { asked = c.in_ok-read.ensures.read; apart = c.in_ok-read.ensures.apart }))
 
 pub returns-clause-formed : goal.returns-clause-formed
 returns-clause-formed g c = λ all.

@@ -9,7 +9,7 @@ pub loop-source-init : goal.loop-source-init
 loop-source-init g c = record {
   items = search rules;
   left = search rules;
-  read = rw (c.new.ensures.items, c.new-2.ensures.items, c.new-3.ensures.items, c.new-4.ensures.items) (read_none _ _);
+  read = rw (c.new.ensures.items, c.new-2.ensures.items, c.new-3.ensures.items, c.new-4.ensures.items) (read_none _);
   formed = rw (c.new-2.ensures.items, c.new-3.ensures.items) (record { sessions_formed = λ k d lt. absurd (omega (arith, lt)); replicas_formed = λ k d lt. absurd (omega (arith, lt)) });
   few = rw (c.new-2.ensures.items, c.new-3.ensures.items) (record { sessions_few = λ k d lt. absurd (omega (arith, lt)); replicas_few = λ k d lt. absurd (omega (arith, lt)) });
 }
@@ -38,5 +38,5 @@ returns-clause-read g c =
     let at = c.loop-source in
     let none : into_iter_items at.source-iterator ≡ [] = nil_from_length (into_iter_items at.source-iterator) (sym at.invariant.left ∙ c.in-None.ensures.steps.0) in
     let all : at.yielded ≡ c.args.sources.items = sym (append-nil at.yielded) ∙ rw (← none) at.invariant.items in
-    let P : List _ → Type 0 = λ sources. AreRead g.S.Source.left g.S.Source.faults sources at.scripts.sources.items at.scripts.sessions.items at.scripts.replicas.items at.scripts.ends.items in
+    let P : List _ → Type 0 = λ sources. AreRead g.S.Source.says sources at.scripts.sources.items at.scripts.sessions.items at.scripts.replicas.items at.scripts.ends.items in
     subst P all at.invariant.read

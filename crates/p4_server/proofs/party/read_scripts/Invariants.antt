@@ -8,7 +8,7 @@ invariant-loop-source g l =
     record {
       items : l.yielded ++ into_iter_items l.source-iterator ≡ l.fn.sources.items;
       left : into_iter_len l.source-iterator ≡ length (into_iter_items l.source-iterator);
-      read : AreRead g.S.Source.left g.S.Source.faults l.yielded l.scripts.sources.items l.scripts.sessions.items l.scripts.replicas.items l.scripts.ends.items;
+      read : AreRead g.S.Source.says l.yielded l.scripts.sources.items l.scripts.sessions.items l.scripts.replicas.items l.scripts.ends.items;
       formed : AreFormed l.scripts.sessions.items l.scripts.replicas.items;
       few : AreFew l.scripts.sessions.items l.scripts.replicas.items;
     }

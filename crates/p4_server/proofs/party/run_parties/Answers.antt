@@ -17,7 +17,7 @@ run_sessions-requires-clause-as_many_replicas g c =
     omega (arith, read.replicas_count, read.sessions_count)
 
 pub run_sessions-requires-clause-apart : goal.run_sessions-requires-clause-apart
-run_sessions-requires-clause-apart g c = are_apart _ _ _ _ _ _ _ c.in-Ok-read_scripts.ensures.read
+run_sessions-requires-clause-apart g c = are_apart _ _ _ _ _ _ c.in-Ok-read_scripts.ensures.read
 
 pub run_sessions-requires-clause-few : goal.run_sessions-requires-clause-few
 run_sessions-requires-clause-few g c = c.in-Ok-read_scripts.ensures.few.sessions_few
@@ -38,23 +38,23 @@ returns-in-Ok-run_sessions-clause-told g c =
     let read = c.in-Ok-read_scripts.ensures.read in
     let turns = c.in-Ok-run_sessions.ensures.ends in
     let same = length-map c.args.names.now (λ (word : Bor (List ℕ)). word.now) in
-    let all = sinks_count _ _ _ _ _ _ _ _ _ _ _ _ _ _ _ come read turns in
+    let all = sinks_count _ _ _ _ _ _ _ _ _ _ _ _ _ come read turns in
     record {
-      runs = runs_count _ _ _ _ _ _ _ _ _ _ _ _ _ _ _ come read turns;
-      ends = ends_count _ _ _ _ _ _ _ _ _ _ _ _ _ _ _ come read turns;
+      runs = runs_count _ _ _ _ _ _ _ _ _ _ _ _ _ come read turns;
+      ends = ends_count _ _ _ _ _ _ _ _ _ _ _ _ _ come read turns;
       few = omega (arith, all, same, c.requires.few);
     }
 
 pub returns-in-Ok-run_sessions-clause-ends : goal.returns-in-Ok-run_sessions-clause-ends
 returns-in-Ok-run_sessions-clause-ends g c =
-    ends_of _ _ _ _ _ _ _ _ _ _ _ _ _ _ _ c.in-Ok.ensures.came c.in-Ok-read_scripts.ensures.read c.in-Ok-run_sessions.ensures.ends
+    ends_of _ _ _ _ _ _ _ _ _ _ _ _ _ c.in-Ok.ensures.came c.in-Ok-read_scripts.ensures.read c.in-Ok-run_sessions.ensures.ends
 
 pub returns-in-Ok-run_sessions-clause-run : goal.returns-in-Ok-run_sessions-clause-run
 returns-in-Ok-run_sessions-clause-run g c = λ since start ran.
     let formed = c.in-Ok-read_scripts.ensures.formed.sessions_formed in
     let replicas_formed = c.in-Ok-read_scripts.ensures.formed.replicas_formed in
     let run = c.in-Ok-run_sessions.ensures in
-    rw c.from_vec.ensures (run_from _ _ _ _ _ _ _ _ _ _ _ _ _ _ _ c.in-Ok.ensures.came c.in-Ok-read_scripts.ensures.read run.ends _ _ _ _ _ since start _ _ (run.served since start formed ran) (run.replicas since start formed replicas_formed ran) _
+    rw c.from_vec.ensures (run_from _ _ _ _ _ _ _ _ _ _ _ _ _ c.in-Ok.ensures.came c.in-Ok-read_scripts.ensures.read run.ends _ _ since start _ _ (run.served since start formed ran) (run.replicas since start formed replicas_formed ran) _
     (λ past began. run.told past since start began.0 formed replicas_formed ran began.1) _ _
     (run.ran since start formed ran) (run.drawn since start formed ran))
 

@@ -17,6 +17,6 @@ pub returns-in-Err-clause-prints : goal.returns-in-Err-clause-prints
 returns-in-Err-clause-prints g c =
     let at = c.loop-row in
     let parts : map (λ (row : Bor Record). row.now) at.yielded ++ c.in-Some.row.now ∷ c.next.new.self ≡ c.args.version.now.rows = rw c.in-Some.ensures.steps at at.invariant.items in
-    let P : List Record → Type 0 = λ rows. Prints (g.K.Sink.given c.args.out.now) (g.K.Sink.given c.give_row.new.out) (g.K.Sink.faults c.args.out.now) (g.K.Sink.faults c.give_row.new.out) (rows_text rows) (Err c.in-Err.fault) in
-    subst P parts (prints_last row_text (g.K.Sink.given c.args.out.now) (g.K.Sink.given at.out) (g.K.Sink.given c.give_row.new.out) (g.K.Sink.faults c.args.out.now) (g.K.Sink.faults at.out) (g.K.Sink.faults c.give_row.new.out)
+    let P : List Record → Type 0 = λ rows. Prints (g.K.Sink.says.given c.args.out.now) (g.K.Sink.says.given c.give_row.new.out) (g.K.Sink.says.faults c.args.out.now) (g.K.Sink.says.faults c.give_row.new.out) (rows_text rows) (Err c.in-Err.fault) in
+    subst P parts (prints_last row_text (g.K.Sink.says.given c.args.out.now) (g.K.Sink.says.given at.out) (g.K.Sink.says.given c.give_row.new.out) (g.K.Sink.says.faults c.args.out.now) (g.K.Sink.says.faults at.out) (g.K.Sink.says.faults c.give_row.new.out)
     (map (λ (row : Bor Record). row.now) at.yielded) c.next.new.self c.in-Some.row.now c.in-Err.fault at.invariant.counts at.invariant.given c.in-Err.ensures.prints)

@@ -8,6 +8,6 @@ use Rattle.p4_server.proofs.rows.give_tables.Given as goal
 abbrev pub invariant-loop-table : goal.invariant-loop-table
 invariant-loop-table g l =
     record {
-      given : g.K.Sink.given l.out ≡ extended (g.K.Sink.given l.fn.out) (tables_text (λ table. (version_of l.tables table).rows) (take l.table-index all_tables));
-      counts : g.K.Sink.faults l.fn.out ≤ g.K.Sink.faults l.out;
+      given : g.K.Sink.says.given l.out ≡ extended (g.K.Sink.says.given l.fn.out) (tables_text (λ table. (version_of l.tables table).rows) (take l.table-index all_tables));
+      counts : g.K.Sink.says.faults l.fn.out ≤ g.K.Sink.says.faults l.out;
     }

@@ -14,54 +14,55 @@ use Rattle.p4_server.proofs.Scheduled.{begins, can_take, are_kept, run_of, why_u
 use Rattle.p4_server.proofs.Writtens.{written_master}
 use Rattle.p4_server.proofs.schedule.schedule.Goals as goal
 
-pub run_parties-run-requires-clause-can : goal.run_parties-run-requires-clause-can
-run_parties-run-requires-clause-can g c =
+pub run_parties-depot-requires-clause-can : goal.run_parties-depot-requires-clause-can
+run_parties-depot-requires-clause-can g c =
     let opens = c.in-Ok.ensures in
-    can_take g.D.Disk.seen g.D.Disk.may_leave g.D.Disk.moment g.D.Disk.left_since c.args.archive c.in-Ok.opened c.new-depot.result c.new-depot.ensures opens.«open» opens.archive_synced opens.within
+    can_take g.D.Disk.says c.args.archive c.in-Ok.opened c.new-depot.result c.new-depot.ensures opens.«open» opens.archive_synced opens.within
 
 pub returns-in-Err-clause-schedules : goal.returns-in-Err-clause-schedules
 returns-in-Err-clause-schedules g c =
     let opens = c.in-Err.ensures in
     let end = c.end_unopened.ensures in
-    parties_unopened _ _ _ _ _ _ _ _ _ _ _ _ _ _ _ _ _ _ _ _ _ (words_of c.args.names.now) _ refl (unopened_of _ _ _ _ _ _ _ _ _ _ _ _ _ _ end.journal end.archive c.in-Err.found.fault end.told end.cause
+    parties_unopened _ _ _ _ _ _ _ (words_of c.args.names.now) refl (unopened_of _ _ _ _ _ _ end.journal end.archive c.in-Err.found.fault end.told end.cause
     opens.journal_looks.no_more opens.archive_looks.no_more opens.journal_looks.any_moment opens.archive_looks.any_moment opens.unmade opens.exactly (λ j a d j_reads a_reads stand. (opens.stands j a d j_reads a_reads stand).0) opens.damaged opens.cause opens.unopened)
 
 pub returns-in-Ok-run-clause-schedules : goal.returns-in-Ok-run-clause-schedules
 returns-in-Ok-run-clause-schedules g c =
     let opens = c.in-Ok.ensures in
-    let run = c.in-Ok-run.ensures in
+    let served = c.run_parties-depot.ensures in
     let end = c.told.ensures in
     let party = c.in-Ok-run.run' in
     let opened = disk_of c.in-Ok.opened.journal in
-    parties_run _ _ _ _ _ _ _ _ _ _ _ _ _ _ _ _ _ _ _ _ _ (words_of c.args.names.now) _ c.run_parties-run.ensures.only (run_of _ _ _ _ _ _ _ _ _ _ _ _ _ _ _ _ _ _ _ _ _ (words_of c.args.names.now) _
-    c.run_parties-run.new.depot opened (g.D.Disk.faults (disk_of c.new-depot.result.journal)) (g.D.Disk.faults (archives.disk_of c.new-depot.result.archive)) party.order party.lost (parties_of party) party.sources.items
-    (end.journal ∙ c.close-journal.ensures.journal) (end.archive ∙ c.close-journal.ensures.archive) (opened_of _ _ _ _ _ _ c.in-Ok.opened opens.exactly opens.whole opens.journal_looks opens.journal_synced) end.order run.ends
+    parties_run _ _ _ _ _ _ _ (words_of c.args.names.now) served.only (run_of _ _ _ _ _ _ _ (words_of c.args.names.now)
+    c.run_parties-depot.result.depot opened (g.D.Disk.says.faults (disk_of c.new-depot.result.journal)) (g.D.Disk.says.faults (archives.disk_of c.new-depot.result.archive)) party.order party.lost (parties_of party) party.sources.items
+    (end.journal ∙ c.close-journal.ensures.journal) (end.archive ∙ c.close-journal.ensures.archive) (opened_of _ _ _ c.in-Ok.opened opens.exactly opens.whole opens.journal_looks opens.journal_synced) end.order (rw c.in-Ok-run.is at served.ends)
     (λ d start.
-    let Ran : SerialDepot g.row.D.Denot → Type 0 = λ s. HasRun g.D.Disk.seen g.D.Disk.may_leave g.D.Disk.moment g.D.Disk.left_since s (g.D.Disk.moment opened) d [] in
-    let Master : Past → SerialDepot g.row.D.Denot → Type 0 = λ past s. (all : Chronicle) × IsMaster g.D.Disk.seen g.D.Disk.may_leave past d [] s all in
-    let ran = begins g.D.Disk.seen g.D.Disk.may_leave g.D.Disk.moment g.D.Disk.left_since c.args.journal c.args.archive c.in-Ok.opened c.new-depot.result c.new-depot.ensures opens.«open» opens.journal_synced opens.archive_synced g.met.D.Disk.reads_an_image g.met.D.Disk.only_now g.met.D.Disk.reads_one opens.held
+    let Ran : SerialDepot g.row.D.Denot → Type 0 = λ s. HasRun g.D.Disk.says s (g.D.Disk.says.moment opened) d [] in
+    let Master : Past → SerialDepot g.row.D.Denot → Type 0 = λ past s. (all : Chronicle) × IsMaster g.D.Disk.says past d [] s all in
+    let ran = begins g.D.Disk.says c.args.journal c.args.archive c.in-Ok.opened c.new-depot.result c.new-depot.ensures opens.«open» opens.journal_synced opens.archive_synced g.met.D.Disk.reads_an_image g.met.D.Disk.only_now g.met.D.Disk.reads_one opens.held
     (λ j a d j_reads a_reads stand. (opens.stands j a d j_reads a_reads stand).1) d start in
-    began_from _ _ _ _ _ _ _ _ _ _ _ _ _ _ _ _ _ _ _ _ _ _ (λ past w. subst (Master past) (sym c.new-depot.ensures) (
+    began_from _ _ _ _ _ _ _ _ _ _ _ _ _ _ _ _ _ (λ past w. subst (Master past) (sym c.new-depot.ensures) (
       w.all,
-      written_master g.D.Disk.seen g.D.Disk.may_leave g.D.Disk.moment g.D.Disk.left_since c.args.journal c.args.archive c.in-Ok.opened
+      written_master g.D.Disk.says c.args.journal c.args.archive c.in-Ok.opened
           opens.«open».0 opens.«open».1 opens.journal_synced opens.archive_synced g.met.D.Disk.reads_an_image opens.held d start (subst Ran c.new-depot.ensures ran) past w,
-    )) (run.run (g.D.Disk.moment opened) d ran))
-    (rw c.new-depot.ensures opens.cause.journal_never_falls) (rw c.new-depot.ensures opens.cause.archive_never_falls) run.faults run.lost end.told)
+    )) (rw c.in-Ok-run.is at (served.run (g.D.Disk.says.moment opened) d ran)))
+    (rw c.new-depot.ensures opens.cause.journal_never_falls) (rw c.new-depot.ensures opens.cause.archive_never_falls) (rw c.in-Ok-run.is at served.faults) (rw c.in-Ok-run.is at served.lost) end.told)
 
 pub returns-in-Err-run-clause-schedules : goal.returns-in-Err-run-clause-schedules
 returns-in-Err-run-clause-schedules g c =
     let opens = c.in-Ok.ensures in
-    let run = c.in-Err-run.ensures in
+    let served = c.run_parties-depot.ensures in
     let end = c.end_alone.ensures in
     let opened = disk_of c.in-Ok.opened.journal in
-    parties_shut _ _ _ _ _ _ _ _ _ _ _ _ _ _ _ _ _ _ _ _ _ (words_of c.args.names.now) _ c.run_parties-run.ensures.only (record {
+    let same = served.unrun c.in-Err-run.why c.in-Err-run.is in
+    parties_shut _ _ _ _ _ _ _ (words_of c.args.names.now) served.only (record {
       told = end.told;
-      why = why_unrun _ _ _ c.in-Err-run.why (end.cause ∙ c.cause_of_unrun.ensures) (λ e. run.doors (ap Err e));
+      why = why_unrun _ _ _ c.in-Err-run.why (end.cause ∙ c.cause_of_unrun.ensures) (λ e. served.doors (c.in-Err-run.is ∙ ap Err e));
       opened = opened;
-      is_opened = opened_of _ _ _ _ _ _ c.in-Ok.opened opens.exactly opens.whole opens.journal_looks opens.journal_synced;
-      kept = λ d start. are_kept _ _ _ _ _ _ _ _ _ _ _ _ _ _ _ _ _ _ _ _ _ (words_of c.args.names.now) _ c.new-depot.result opened
-          (end.journal ∙ (c.close-journal.ensures.journal ∙ ap (λ (depot : SerialDepot g.row.D.Denot). disk_of depot.journal) (run.unrun c.in-Err-run.why refl)))
-          (end.archive ∙ (c.close-journal.ensures.archive ∙ ap (λ (depot : SerialDepot g.row.D.Denot). archives.disk_of depot.archive) (run.unrun c.in-Err-run.why refl))) d _
-          (begins g.D.Disk.seen g.D.Disk.may_leave g.D.Disk.moment g.D.Disk.left_since c.args.journal c.args.archive c.in-Ok.opened c.new-depot.result c.new-depot.ensures opens.«open» opens.journal_synced opens.archive_synced g.met.D.Disk.reads_an_image g.met.D.Disk.only_now g.met.D.Disk.reads_one opens.held
+      is_opened = opened_of _ _ _ c.in-Ok.opened opens.exactly opens.whole opens.journal_looks opens.journal_synced;
+      kept = λ d start. are_kept _ _ _ _ _ _ _ (words_of c.args.names.now) c.new-depot.result opened
+          (end.journal ∙ (c.close-journal.ensures.journal ∙ ap (λ (depot : SerialDepot g.row.D.Denot). disk_of depot.journal) same))
+          (end.archive ∙ (c.close-journal.ensures.archive ∙ ap (λ (depot : SerialDepot g.row.D.Denot). archives.disk_of depot.archive) same)) d _
+          (begins g.D.Disk.says c.args.journal c.args.archive c.in-Ok.opened c.new-depot.result c.new-depot.ensures opens.«open» opens.journal_synced opens.archive_synced g.met.D.Disk.reads_an_image g.met.D.Disk.only_now g.met.D.Disk.reads_one opens.held
           (λ j a d j_reads a_reads stand. (opens.stands j a d j_reads a_reads stand).1) d start);
     })

@@ -12,13 +12,13 @@ use Rattle.p4_server.proofs.serve.serve.Goals as goal
 pub serve_parties-depot-requires-clause-can : goal.serve_parties-depot-requires-clause-can
 serve_parties-depot-requires-clause-can g c =
     let opens = c.in-Ok.ensures in
-    λ κs bounds. can_take g.D.Disk.seen g.D.Disk.may_leave g.D.Disk.moment g.D.Disk.left_since c.args.archive c.in-Ok.opened c.new-depot.result c.new-depot.ensures opens.«open» opens.archive_synced opens.within
+    λ κs bounds. can_take g.D.Disk.says c.args.archive c.in-Ok.opened c.new-depot.result c.new-depot.ensures opens.«open» opens.archive_synced opens.within
 
 pub returns-in-Err-clause-serves : goal.returns-in-Err-clause-serves
 returns-in-Err-clause-serves g c =
     let opens = c.in-Err.ensures in
     let end = c.end_unopened.ensures in
-    parties_unopened _ _ _ _ _ _ _ _ _ _ _ _ _ _ _ _ _ _ _ _ _ (words_of c.args.names.now) _ refl (unopened_of _ _ _ _ _ _ _ _ _ _ _ _ _ _ end.journal end.archive c.in-Err.found.fault end.told end.cause
+    parties_unopened _ _ _ _ _ _ _ (words_of c.args.names.now) refl (unopened_of _ _ _ _ _ _ end.journal end.archive c.in-Err.found.fault end.told end.cause
     opens.journal_looks.no_more opens.archive_looks.no_more opens.journal_looks.any_moment opens.archive_looks.any_moment opens.unmade opens.exactly (λ j a d j_reads a_reads stand. (opens.stands j a d j_reads a_reads stand).0) opens.damaged opens.cause opens.unopened)
 
 pub returns-in-Ok-run-clause-serves : goal.returns-in-Ok-run-clause-serves
@@ -31,10 +31,10 @@ returns-in-Ok-run-clause-serves g c =
     -- what is promised of a disk that may go to another thread, on this one
     let disk = g.met.D.Disk g.world.𝓛 g.world.𝓜 g.world.𝓡 ((λ s x. x), (λ x. x), (λ x. x), λ x. x) in
     let opened = disk_of c.in-Ok.opened.journal in
-    parties_run _ _ _ _ _ _ _ _ _ _ _ _ _ _ _ _ _ _ _ _ _ (words_of c.args.names.now) _ served.only (run_of _ _ _ _ _ _ _ _ _ _ _ _ _ _ _ _ _ _ _ _ _ (words_of c.args.names.now) _
-    depot opened (g.D.Disk.faults (disk_of c.new-depot.result.journal)) (g.D.Disk.faults (archives.disk_of c.new-depot.result.archive)) party.order party.lost (parties_of party) party.sources.items
-    (end.journal ∙ c.close-journal.ensures.journal) (end.archive ∙ c.close-journal.ensures.archive) (opened_of _ _ _ _ _ _ c.in-Ok.opened opens.exactly opens.whole opens.journal_looks opens.journal_synced) end.order (rw c.in-Ok-run.is at served.ends)
-    (λ d start. rw c.in-Ok-run.is at (served.run (g.D.Disk.moment opened) d (begins g.D.Disk.seen g.D.Disk.may_leave g.D.Disk.moment g.D.Disk.left_since c.args.journal c.args.archive c.in-Ok.opened c.new-depot.result c.new-depot.ensures opens.«open» opens.journal_synced opens.archive_synced disk.reads_an_image disk.only_now disk.reads_one opens.held
+    parties_run _ _ _ _ _ _ _ (words_of c.args.names.now) served.only (run_of _ _ _ _ _ _ _ (words_of c.args.names.now)
+    depot opened (g.D.Disk.says.faults (disk_of c.new-depot.result.journal)) (g.D.Disk.says.faults (archives.disk_of c.new-depot.result.archive)) party.order party.lost (parties_of party) party.sources.items
+    (end.journal ∙ c.close-journal.ensures.journal) (end.archive ∙ c.close-journal.ensures.archive) (opened_of _ _ _ c.in-Ok.opened opens.exactly opens.whole opens.journal_looks opens.journal_synced) end.order (rw c.in-Ok-run.is at served.ends)
+    (λ d start. rw c.in-Ok-run.is at (served.run (g.D.Disk.says.moment opened) d (begins g.D.Disk.says c.args.journal c.args.archive c.in-Ok.opened c.new-depot.result c.new-depot.ensures opens.«open» opens.journal_synced opens.archive_synced disk.reads_an_image disk.only_now disk.reads_one opens.held
     (λ j a d j_reads a_reads stand. (opens.stands j a d j_reads a_reads stand).1) d start)))
     (rw c.new-depot.ensures opens.cause.journal_never_falls) (rw c.new-depot.ensures opens.cause.archive_never_falls) (rw c.in-Ok-run.is at served.faults) (rw c.in-Ok-run.is at served.lost) end.told)
 
@@ -47,14 +47,14 @@ returns-in-Err-run-clause-serves g c =
     -- what is promised of a disk that may go to another thread, on this one
     let disk = g.met.D.Disk g.world.𝓛 g.world.𝓜 g.world.𝓡 ((λ s x. x), (λ x. x), (λ x. x), λ x. x) in
     let same = served.unrun c.in-Err-run.why c.in-Err-run.is in
-    parties_shut _ _ _ _ _ _ _ _ _ _ _ _ _ _ _ _ _ _ _ _ _ (words_of c.args.names.now) _ served.only (record {
+    parties_shut _ _ _ _ _ _ _ (words_of c.args.names.now) served.only (record {
       told = end.told;
       why = why_unrun _ _ _ c.in-Err-run.why (end.cause ∙ c.cause_of_unrun.ensures) (λ e. served.doors (c.in-Err-run.is ∙ ap Err e));
       opened = opened;
-      is_opened = opened_of _ _ _ _ _ _ c.in-Ok.opened opens.exactly opens.whole opens.journal_looks opens.journal_synced;
-      kept = λ d start. are_kept _ _ _ _ _ _ _ _ _ _ _ _ _ _ _ _ _ _ _ _ _ (words_of c.args.names.now) _ c.new-depot.result opened
+      is_opened = opened_of _ _ _ c.in-Ok.opened opens.exactly opens.whole opens.journal_looks opens.journal_synced;
+      kept = λ d start. are_kept _ _ _ _ _ _ _ (words_of c.args.names.now) c.new-depot.result opened
           (end.journal ∙ (c.close-journal.ensures.journal ∙ ap (λ (depot : SerialDepot g.row.D.Denot). disk_of depot.journal) same))
           (end.archive ∙ (c.close-journal.ensures.archive ∙ ap (λ (depot : SerialDepot g.row.D.Denot). archives.disk_of depot.archive) same)) d _
-          (begins g.D.Disk.seen g.D.Disk.may_leave g.D.Disk.moment g.D.Disk.left_since c.args.journal c.args.archive c.in-Ok.opened c.new-depot.result c.new-depot.ensures opens.«open» opens.journal_synced opens.archive_synced disk.reads_an_image disk.only_now disk.reads_one opens.held
+          (begins g.D.Disk.says c.args.journal c.args.archive c.in-Ok.opened c.new-depot.result c.new-depot.ensures opens.«open» opens.journal_synced opens.archive_synced disk.reads_an_image disk.only_now disk.reads_one opens.held
           (λ j a d j_reads a_reads stand. (opens.stands j a d j_reads a_reads stand).1) d start);
     })

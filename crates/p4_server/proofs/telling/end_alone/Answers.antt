@@ -9,6 +9,6 @@ returns-clause-told g c =
     let before = c.args.out.now in
     let now = c.give_cause.new.out in record {
       unrun = c.ended_alone.ensures.unrun;
-      lines = subst (λ cause. OutGot (g.K.Sink.given before) (g.K.Sink.given now) (g.K.Sink.faults before) (g.K.Sink.faults now) (cause_line cause)) (sym c.ended_alone.ensures.cause)
+      lines = subst (λ cause. OutGot (g.K.Sink.says.given before) (g.K.Sink.says.given now) (g.K.Sink.says.faults before) (g.K.Sink.says.faults now) (cause_line cause)) (sym c.ended_alone.ensures.cause)
           (got_lines _ _ _ _ _ c.give_cause.result c.give_cause.ensures.given c.give_cause.ensures.cause);
     }

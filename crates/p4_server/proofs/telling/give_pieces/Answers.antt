@@ -10,9 +10,9 @@ returns-in-Err-clause-given g c =
     let at = c.loop-piece in
     let i = at.piece-index in
     let pieces = c.args.pieces.now in
-    let P : List (Bor (List ℕ)) → Type 0 = λ parts. GotFront (g.K.Sink.given c.args.out.now) (g.K.Sink.given c.give_all.new.sink) (flat_map (λ (piece : Bor (List ℕ)). piece.now) parts) in
+    let P : List (Bor (List ℕ)) → Type 0 = λ parts. GotFront (g.K.Sink.says.given c.args.out.now) (g.K.Sink.says.given c.give_all.new.sink) (flat_map (λ (piece : Bor (List ℕ)). piece.now) parts) in
     record {
       whole = tt;
-      front = subst P (parted pieces i _ c.loop-piece-test.true) (front_last (λ (piece : Bor (List ℕ)). piece.now) (g.K.Sink.given c.args.out.now) (g.K.Sink.given at.out) (g.K.Sink.given c.give_all.new.sink)
+      front = subst P (parted pieces i _ c.loop-piece-test.true) (front_last (λ (piece : Bor (List ℕ)). piece.now) (g.K.Sink.says.given c.args.out.now) (g.K.Sink.says.given at.out) (g.K.Sink.says.given c.give_all.new.sink)
           (take i pieces) (drop (i + 1) pieces) _ at.invariant.given c.in-Err.ensures.given.front);
     }

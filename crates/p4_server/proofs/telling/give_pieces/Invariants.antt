@@ -6,6 +6,6 @@ use Rattle.p4_server.proofs.telling.give_pieces.Given as goal
 abbrev pub invariant-loop-piece : goal.invariant-loop-piece
 invariant-loop-piece g l =
     record {
-      given : g.K.Sink.given l.out ≡ extended (g.K.Sink.given l.fn.out) (flat_map (λ piece. piece.now) (take l.piece-index l.pieces));
-      counts : g.K.Sink.faults l.fn.out ≤ g.K.Sink.faults l.out;
+      given : g.K.Sink.says.given l.out ≡ extended (g.K.Sink.says.given l.fn.out) (flat_map (λ piece. piece.now) (take l.piece-index l.pieces));
+      counts : g.K.Sink.says.faults l.fn.out ≤ g.K.Sink.says.faults l.out;
     }

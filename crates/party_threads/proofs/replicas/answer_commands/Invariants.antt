@@ -7,6 +7,6 @@ abbrev pub invariant-loop-number : goal.invariant-loop-number
 invariant-loop-number g l = record {
   total : l.total ≡ length l.fn.replica.left.items;
   left : length l.replica.left.items + l.number ≡ l.total;
-  answered : HasAnswered g.D.Disk.seen g.D.Disk.may_leave g.D.Disk.moment g.D.Disk.left_since g.N.Naming.end g.N.Imaging.images g.N.Serving.begins g.K.Sink.given g.K.Sink.faults (g.C.Clock.may_give l.clock) l.fn.pass.party l.fn.replica l.fn.sink
+  answered : HasAnswered g.D.Disk.says g.N.Naming.end g.N.Imaging.images g.N.Serving.begins g.K.Sink.says (g.C.Clock.says.may_give l.clock) l.fn.pass.party l.fn.replica l.fn.sink
       l.number false l.pass l.marks l.replica l.sink;
 }

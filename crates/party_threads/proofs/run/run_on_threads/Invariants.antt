@@ -11,22 +11,22 @@ use Rattle.party_threads.proofs.run.run_on_threads.Given as goal
 
 -- the words that were just made, the tables and the archive as they are, and as many places as requests
 abbrev pub ghosts-run_named-N-Naming : goal.ghosts-run_named-N-Naming
-ghosts-run_named-N-Naming g a = record { run = a.words.0; rows = rows_of a.depot.tables; end = a.depot.tables.archive_end; places = places_in a.places.items }
+ghosts-run_named-N-Naming g a = record { run = a.brought.words.places.orders; rows = rows_of a.depot.tables; end = a.depot.tables.archive_end; places = places_in a.brought.places.items }
 
 -- the words of the marks
 abbrev pub ghosts-run_named-N-Marking : goal.ghosts-run_named-N-Marking
-ghosts-run_named-N-Marking g a = record { marks = a.mark_words.0 }
+ghosts-run_named-N-Marking g a = record { marks = a.brought.words.marks.orders }
 
 -- the depots from which the depot in files has run no place, where all requests are proper
 abbrev pub ghosts-run_named-N-Serving : goal.ghosts-run_named-N-Serving
 ghosts-run_named-N-Serving g a = record {
   begins = λ since start.
-      AllByRecursion (λ (own : Vec Request Global). AllByRecursion IsProper own.items) a.requests.items × HasRun g.D.Disk.seen g.D.Disk.may_leave g.D.Disk.moment g.D.Disk.left_since a.depot since start [];
-  faults = g.D.Disk.faults (disk_of a.depot.journal);
-  content_faults = g.D.Disk.faults (archive_disk_of a.depot.archive);
-  content_marks = a.content_words.0;
+      AllByRecursion (λ (own : Vec Request Global). AllByRecursion IsProper own.items) a.brought.requests.items × HasRun g.D.Disk.says a.depot since start [];
+  faults = g.D.Disk.says.faults (disk_of a.depot.journal);
+  content_faults = g.D.Disk.says.faults (archive_disk_of a.depot.archive);
+  content_marks = a.brought.words.content_marks.orders;
 }
 
 -- what the archive's disk may leave
 abbrev pub ghosts-run_named-N-Imaging : goal.ghosts-run_named-N-Imaging
-ghosts-run_named-N-Imaging g a = record { images = g.D.Disk.may_leave (archive_disk_of a.depot.archive) }
+ghosts-run_named-N-Imaging g a = record { images = g.D.Disk.says.may_leave (archive_disk_of a.depot.archive) }

@@ -9,7 +9,7 @@ use Rattle.recovery.proofs.contents.check_rows.Goals as goal
 
 pub loop-row-init : goal.loop-row-init
 loop-row-init g c = record {
-  checked = checked_none (g.D.Disk.seen c.args.disk.now) c.args.limit (rows_of c.args.tables.now Rev) c.into_iter-row-iterator.result (c.into_iter-row-iterator.ensures.into_iter_gives ∙ c.revisions-row-items.ensures);
+  checked = checked_none (g.D.Disk.says.seen c.args.disk.now) c.args.limit (rows_of c.args.tables.now Rev) c.into_iter-row-iterator.result (c.into_iter-row-iterator.ensures.into_iter_gives ∙ c.revisions-row-items.ensures);
   reads = search rules;
   faults = omega arith;
 }
@@ -22,15 +22,15 @@ returns-in_err-check_row-clause-damaged g c = λ files read limit_is.
     let rest = c.next.new.self in
     let head : c.loop-row.row-iterator ≡ row ∷ rest = search rules in
     passed_damage ℕ (IsBadAt (files 0) row) (IsSpotDamage (files 0) rows) c.from_residual.result c.in_err-check_row.field-0.0 c.from_residual.ensures.1 (c.in_err-check_row.ensures.damaged files (inv.reads.same.kept files read) limit_is)
-    (λ place bad. checked_bad (g.D.Disk.seen c.args.disk.now) c.args.limit rows c.loop-row.row-iterator row rest c.loop-row.end files place inv.checked head read limit_is bad)
+    (λ place bad. checked_bad (g.D.Disk.says.seen c.args.disk.now) c.args.limit rows c.loop-row.row-iterator row rest c.loop-row.end files place inv.checked head read limit_is bad)
 
 pub returns-clause-end : goal.returns-clause-end
 returns-clause-end g c =
     let inv = c.loop-row.invariant in
-    ((checked_all (g.D.Disk.seen c.args.disk.now) c.args.limit (rows_of c.args.tables.now Rev) c.loop-row.row-iterator c.loop-row.end inv.checked c.in-None.ensures.steps.0).0, inv.checked.within)
+    ((checked_all (g.D.Disk.says.seen c.args.disk.now) c.args.limit (rows_of c.args.tables.now Rev) c.loop-row.row-iterator c.loop-row.end inv.checked c.in-None.ensures.steps.0).0, inv.checked.within)
 
 pub returns-clause-whole : goal.returns-clause-whole
-returns-clause-whole g c = (checked_all (g.D.Disk.seen c.args.disk.now) c.args.limit (rows_of c.args.tables.now Rev) c.loop-row.row-iterator c.loop-row.end c.loop-row.invariant.checked c.in-None.ensures.steps.0).1
+returns-clause-whole g c = (checked_all (g.D.Disk.says.seen c.args.disk.now) c.args.limit (rows_of c.args.tables.now Rev) c.loop-row.row-iterator c.loop-row.end c.loop-row.invariant.checked c.in-None.ensures.steps.0).1
 
 pub loop-row-preserved : goal.loop-row-preserved
 loop-row-preserved g c =
@@ -41,8 +41,8 @@ loop-row-preserved g c =
     let head : c.loop-row.row-iterator ≡ row ∷ rest = search rules in
     let top : c.max-end.result ≡ max c.loop-row.end c.in_ok-check_row.field-0 = search rules in
     record {
-      checked = checked_more (g.D.Disk.seen c.args.disk.now) c.args.limit (rows_of c.args.tables.now Rev) c.loop-row.row-iterator row rest c.loop-row.end c.in_ok-check_row.field-0 c.max-end.result inv.checked head ok.end.0 ok.end.1 top
+      checked = checked_more (g.D.Disk.says.seen c.args.disk.now) c.args.limit (rows_of c.args.tables.now Rev) c.loop-row.row-iterator row rest c.loop-row.end c.in_ok-check_row.field-0 c.max-end.result inv.checked head ok.end.0 ok.end.1 top
           (λ files read limit_is. ok.whole files (inv.reads.same.kept files read) limit_is);
-      reads = reads_on g.D.Disk.seen g.D.Disk.may_leave g.D.Disk.moment g.D.Disk.left_since c.args.disk.now c.loop-row.disk c.check_row.new.disk inv.reads c.check_row.ensures.reads;
+      reads = reads_on g.D.Disk.says c.args.disk.now c.loop-row.disk c.check_row.new.disk inv.reads c.check_row.ensures.reads;
       faults = omega (arith, inv.faults, c.check_row.ensures.cause.never_falls);
     }

@@ -7,7 +7,7 @@ use Rattle.recovery.proofs.contents.check_rows.Given as goal
 
 abbrev pub invariant-loop-row : goal.invariant-loop-row
 invariant-loop-row g l = record {
-  checked : AreChecked (g.D.Disk.seen l.fn.disk) l.limit (rows_of l.tables Rev) l.row-iterator l.end;
-  reads : OnlyReads g.D.Disk.seen g.D.Disk.may_leave g.D.Disk.moment g.D.Disk.left_since l.fn.disk l.disk;
-  faults : g.D.Disk.faults l.fn.disk ≤ g.D.Disk.faults l.disk;
+  checked : AreChecked (g.D.Disk.says.seen l.fn.disk) l.limit (rows_of l.tables Rev) l.row-iterator l.end;
+  reads : OnlyReads g.D.Disk.says l.fn.disk l.disk;
+  faults : g.D.Disk.says.faults l.fn.disk ≤ g.D.Disk.says.faults l.disk;
 }

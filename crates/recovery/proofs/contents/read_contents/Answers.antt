@@ -30,19 +30,18 @@ pub returns-clause-reads : goal.returns-clause-reads
 returns-clause-reads g c =
     let old = c.args.disk.now in
     let mid = c.length.new.self in
-    let may_leave = g.D.Disk.may_leave in
-    let first : OnlyReads g.D.Disk.seen may_leave g.D.Disk.moment g.D.Disk.left_since old mid = record {
+    let first : OnlyReads g.D.Disk.says old mid = record {
       same = c.length.ensures.same;
       no_more = c.length.ensures.crash;
-      any_moment = goes_on g.D.Disk.moment g.D.Disk.left_since old old mid (may_leave old) (may_leave mid) (started g.D.Disk.moment g.D.Disk.left_since old (may_leave old) (g.met.D.Disk.only_now old)) c.length.ensures.time c.length.ensures.crash;
+      any_moment = goes_on g.D.Disk.says old old mid (g.D.Disk.says.may_leave old) (started g.D.Disk.says old (g.D.Disk.says.may_leave old) (g.met.D.Disk.only_now old)) c.length.ensures.time c.length.ensures.crash;
     } in
-    reads_on g.D.Disk.seen may_leave g.D.Disk.moment g.D.Disk.left_since old mid c.check_rows.new.disk first c.check_rows.ensures.reads
+    reads_on g.D.Disk.says old mid c.check_rows.new.disk first c.check_rows.ensures.reads
 
 both : (before mid now : ℕ) → before ≤ mid → mid ≤ now → before ≤ now
 both before mid now first second = omega (arith, first, second)
 
 pub returns-clause-cause : goal.returns-clause-cause
 returns-clause-cause g c = record {
-  never_falls = both (g.D.Disk.faults c.args.disk.now) (g.D.Disk.faults c.length.new.self) (g.D.Disk.faults c.check_rows.new.disk) c.length.ensures.cause.never_falls c.check_rows.ensures.cause.never_falls;
-  risen = λ e. rises_on (g.D.Disk.faults c.args.disk.now) (g.D.Disk.faults c.length.new.self) (g.D.Disk.faults c.check_rows.new.disk) c.length.ensures.cause.never_falls (c.check_rows.ensures.cause.risen e);
+  never_falls = both (g.D.Disk.says.faults c.args.disk.now) (g.D.Disk.says.faults c.length.new.self) (g.D.Disk.says.faults c.check_rows.new.disk) c.length.ensures.cause.never_falls c.check_rows.ensures.cause.never_falls;
+  risen = λ e. rises_on (g.D.Disk.says.faults c.args.disk.now) (g.D.Disk.says.faults c.length.new.self) (g.D.Disk.says.faults c.check_rows.new.disk) c.length.ensures.cause.never_falls (c.check_rows.ensures.cause.risen e);
 }

@@ -27,11 +27,11 @@ returns-in_err-draft-clause-only g c = λ files rows read hold.
     c.in_err-draft.ensures.only files hold.has.puts (c.read_root.ensures.reads.same.kept files read) (held_begins files rows hold generation same) (held_checkpoint files rows hold))
 
 pub returns-in_err-draft-clause-reads : goal.returns-in_err-draft-clause-reads
-returns-in_err-draft-clause-reads g c = reads_on g.D.Disk.seen g.D.Disk.may_leave g.D.Disk.moment g.D.Disk.left_since c.args.disk.now c.read_root.new.disk c.read_checkpoint.new.disk c.read_root.ensures.reads c.read_checkpoint.ensures.reads
+returns-in_err-draft-clause-reads g c = reads_on g.D.Disk.says c.args.disk.now c.read_root.new.disk c.read_checkpoint.new.disk c.read_root.ensures.reads c.read_checkpoint.ensures.reads
 
 pub returns-in_err-draft-clause-cause : goal.returns-in_err-draft-clause-cause
 returns-in_err-draft-clause-cause g c =
-    passed_cause c.from_residual-in_err-draft.result c.in_err-draft.field-0.0 (g.D.Disk.faults c.args.disk.now) (g.D.Disk.faults c.read_root.new.disk) (g.D.Disk.faults c.read_checkpoint.new.disk) c.from_residual-in_err-draft.ensures.1 c.read_root.ensures.cause.never_falls c.read_checkpoint.ensures.cause.never_falls (λ e. c.in_err-draft.ensures.cause.risen (ap (λ (f : OpenFault). Err f) e))
+    passed_cause c.from_residual-in_err-draft.result c.in_err-draft.field-0.0 (g.D.Disk.says.faults c.args.disk.now) (g.D.Disk.says.faults c.read_root.new.disk) (g.D.Disk.says.faults c.read_checkpoint.new.disk) c.from_residual-in_err-draft.ensures.1 c.read_root.ensures.cause.never_falls c.read_checkpoint.ensures.cause.never_falls (λ e. c.in_err-draft.ensures.cause.risen (ap (λ (f : OpenFault). Err f) e))
 
 pub returns-in_err-end-clause-only : goal.returns-in_err-end-clause-only
 returns-in_err-end-clause-only g c = λ files rows read hold.
@@ -45,21 +45,21 @@ returns-in_err-end-clause-only g c = λ files rows read hold.
 
 pub returns-in_err-end-clause-reads : goal.returns-in_err-end-clause-reads
 returns-in_err-end-clause-reads g c =
-    let two = reads_on g.D.Disk.seen g.D.Disk.may_leave g.D.Disk.moment g.D.Disk.left_since c.args.disk.now c.read_root.new.disk c.read_checkpoint.new.disk c.read_root.ensures.reads c.read_checkpoint.ensures.reads in
-    reads_on g.D.Disk.seen g.D.Disk.may_leave g.D.Disk.moment g.D.Disk.left_since c.args.disk.now c.read_checkpoint.new.disk c.read_journal.new.disk two c.read_journal.ensures.reads
+    let two = reads_on g.D.Disk.says c.args.disk.now c.read_root.new.disk c.read_checkpoint.new.disk c.read_root.ensures.reads c.read_checkpoint.ensures.reads in
+    reads_on g.D.Disk.says c.args.disk.now c.read_checkpoint.new.disk c.read_journal.new.disk two c.read_journal.ensures.reads
 
 pub returns-in_err-end-clause-cause : goal.returns-in_err-end-clause-cause
 returns-in_err-end-clause-cause g c =
-    passed_cause c.from_residual-in_err-end.result c.in_err-end.field-0.0 (g.D.Disk.faults c.args.disk.now) (g.D.Disk.faults c.read_checkpoint.new.disk) (g.D.Disk.faults c.read_journal.new.disk) c.from_residual-in_err-end.ensures.1 (omega (arith, c.read_root.ensures.cause.never_falls, c.read_checkpoint.ensures.cause.never_falls)) c.read_journal.ensures.cause.never_falls (λ e. c.in_err-end.ensures.cause.risen (ap (λ (f : OpenFault). Err f) e))
+    passed_cause c.from_residual-in_err-end.result c.in_err-end.field-0.0 (g.D.Disk.says.faults c.args.disk.now) (g.D.Disk.says.faults c.read_checkpoint.new.disk) (g.D.Disk.says.faults c.read_journal.new.disk) c.from_residual-in_err-end.ensures.1 (omega (arith, c.read_root.ensures.cause.never_falls, c.read_checkpoint.ensures.cause.never_falls)) c.read_journal.ensures.cause.never_falls (λ e. c.in_err-end.ensures.cause.risen (ap (λ (f : OpenFault). Err f) e))
 
 pub returns-in_err-tables-clause-reads : goal.returns-in_err-tables-clause-reads
 returns-in_err-tables-clause-reads g c =
-    let two = reads_on g.D.Disk.seen g.D.Disk.may_leave g.D.Disk.moment g.D.Disk.left_since c.args.disk.now c.read_root.new.disk c.read_checkpoint.new.disk c.read_root.ensures.reads c.read_checkpoint.ensures.reads in
-    reads_on g.D.Disk.seen g.D.Disk.may_leave g.D.Disk.moment g.D.Disk.left_since c.args.disk.now c.read_checkpoint.new.disk c.read_journal.new.disk two c.read_journal.ensures.reads
+    let two = reads_on g.D.Disk.says c.args.disk.now c.read_root.new.disk c.read_checkpoint.new.disk c.read_root.ensures.reads c.read_checkpoint.ensures.reads in
+    reads_on g.D.Disk.says c.args.disk.now c.read_checkpoint.new.disk c.read_journal.new.disk two c.read_journal.ensures.reads
 
 pub returns-in_err-tables-clause-cause : goal.returns-in_err-tables-clause-cause
 returns-in_err-tables-clause-cause g c =
-    other_cause c.from_residual-in_err-tables.result (g.D.Disk.faults c.args.disk.now) (g.D.Disk.faults c.read_journal.new.disk) c.from_residual-in_err-tables.ensures.1 (omega (arith, c.read_root.ensures.cause.never_falls, c.read_checkpoint.ensures.cause.never_falls, c.read_journal.ensures.cause.never_falls))
+    other_cause c.from_residual-in_err-tables.result (g.D.Disk.says.faults c.args.disk.now) (g.D.Disk.says.faults c.read_journal.new.disk) c.from_residual-in_err-tables.ensures.1 (omega (arith, c.read_root.ensures.cause.never_falls, c.read_checkpoint.ensures.cause.never_falls, c.read_journal.ensures.cause.never_falls))
 
 pub returns-clause-found : goal.returns-clause-found
 returns-clause-found g c =
@@ -93,11 +93,11 @@ returns-clause-only g c = λ files rows read hold.
 
 pub returns-clause-reads : goal.returns-clause-reads
 returns-clause-reads g c =
-    let two = reads_on g.D.Disk.seen g.D.Disk.may_leave g.D.Disk.moment g.D.Disk.left_since c.args.disk.now c.read_root.new.disk c.read_checkpoint.new.disk c.read_root.ensures.reads c.read_checkpoint.ensures.reads in
-    reads_on g.D.Disk.seen g.D.Disk.may_leave g.D.Disk.moment g.D.Disk.left_since c.args.disk.now c.read_checkpoint.new.disk c.read_journal.new.disk two c.read_journal.ensures.reads
+    let two = reads_on g.D.Disk.says c.args.disk.now c.read_root.new.disk c.read_checkpoint.new.disk c.read_root.ensures.reads c.read_checkpoint.ensures.reads in
+    reads_on g.D.Disk.says c.args.disk.now c.read_checkpoint.new.disk c.read_journal.new.disk two c.read_journal.ensures.reads
 
 pub returns-clause-cause : goal.returns-clause-cause
-returns-clause-cause g c = no_cause _ (g.D.Disk.faults c.args.disk.now) (g.D.Disk.faults c.read_journal.new.disk) (omega (arith, c.read_root.ensures.cause.never_falls, c.read_checkpoint.ensures.cause.never_falls, c.read_journal.ensures.cause.never_falls))
+returns-clause-cause g c = no_cause _ (g.D.Disk.says.faults c.args.disk.now) (g.D.Disk.says.faults c.read_journal.new.disk) (omega (arith, c.read_root.ensures.cause.never_falls, c.read_checkpoint.ensures.cause.never_falls, c.read_journal.ensures.cause.never_falls))
 
 pub returns-in_err-generation-clause-damaged : goal.returns-in_err-generation-clause-damaged
 returns-in_err-generation-clause-damaged g c = λ files contents read.

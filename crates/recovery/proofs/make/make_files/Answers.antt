@@ -8,95 +8,95 @@ pub returns-clause-empty_depot : goal.returns-clause-empty_depot
 returns-clause-empty_depot g c = λ image contents left. made_stands empty_is_sound image contents (made_committed image (c.in_ok-make_files.ensures.made.each image left))
 
 pub returns-clause-others : goal.returns-clause-others
-returns-clause-others g c = others_read (g.D.Disk.seen c.args.journal.now) (g.D.Disk.seen c.length.new.self) (g.D.Disk.may_leave c.make_files.new.disk) c.length.ensures.same c.in_ok-make_files.ensures.others
+returns-clause-others g c = others_read (g.D.Disk.says.seen c.args.journal.now) (g.D.Disk.says.seen c.length.new.self) (g.D.Disk.says.may_leave c.make_files.new.disk) c.length.ensures.same c.in_ok-make_files.ensures.others
 
 -- ---- the journal's disk
 
 pub returns-in_err-length-clause-images : goal.returns-in_err-length-clause-images
 returns-in_err-length-clause-images g c =
-    looked_images g.D.Disk.moment g.D.Disk.left_since g.D.Disk.may_leave c.args.journal.now c.length.new.self c.length.new.self
-    (looked g.D.Disk.moment g.D.Disk.left_since g.D.Disk.may_leave c.args.journal.now c.length.new.self c.length.new.self (g.met.D.Disk.only_now c.args.journal.now) c.length.ensures.crash c.length.ensures.time)
+    looked_images g.D.Disk.says c.args.journal.now c.length.new.self c.length.new.self
+    (looked g.D.Disk.says c.args.journal.now c.length.new.self c.length.new.self (g.met.D.Disk.only_now c.args.journal.now) c.length.ensures.crash c.length.ensures.time)
 
 pub returns-in_err-length-clause-any_moment : goal.returns-in_err-length-clause-any_moment
 returns-in_err-length-clause-any_moment g c =
-    looked_moments g.D.Disk.moment g.D.Disk.left_since g.D.Disk.may_leave c.args.journal.now c.length.new.self c.length.new.self
-    (looked g.D.Disk.moment g.D.Disk.left_since g.D.Disk.may_leave c.args.journal.now c.length.new.self c.length.new.self (g.met.D.Disk.only_now c.args.journal.now) c.length.ensures.crash c.length.ensures.time)
+    looked_moments g.D.Disk.says c.args.journal.now c.length.new.self c.length.new.self
+    (looked g.D.Disk.says c.args.journal.now c.length.new.self c.length.new.self (g.met.D.Disk.only_now c.args.journal.now) c.length.ensures.crash c.length.ensures.time)
 
 pub returns-then-length-ne0-clause-images : goal.returns-then-length-ne0-clause-images
 returns-then-length-ne0-clause-images g c =
-    looked_images g.D.Disk.moment g.D.Disk.left_since g.D.Disk.may_leave c.args.journal.now c.length.new.self c.length.new.self
-    (looked g.D.Disk.moment g.D.Disk.left_since g.D.Disk.may_leave c.args.journal.now c.length.new.self c.length.new.self (g.met.D.Disk.only_now c.args.journal.now) c.length.ensures.crash c.length.ensures.time)
+    looked_images g.D.Disk.says c.args.journal.now c.length.new.self c.length.new.self
+    (looked g.D.Disk.says c.args.journal.now c.length.new.self c.length.new.self (g.met.D.Disk.only_now c.args.journal.now) c.length.ensures.crash c.length.ensures.time)
 
 pub returns-then-length-ne0-clause-any_moment : goal.returns-then-length-ne0-clause-any_moment
 returns-then-length-ne0-clause-any_moment g c =
-    looked_moments g.D.Disk.moment g.D.Disk.left_since g.D.Disk.may_leave c.args.journal.now c.length.new.self c.length.new.self
-    (looked g.D.Disk.moment g.D.Disk.left_since g.D.Disk.may_leave c.args.journal.now c.length.new.self c.length.new.self (g.met.D.Disk.only_now c.args.journal.now) c.length.ensures.crash c.length.ensures.time)
+    looked_moments g.D.Disk.says c.args.journal.now c.length.new.self c.length.new.self
+    (looked g.D.Disk.says c.args.journal.now c.length.new.self c.length.new.self (g.met.D.Disk.only_now c.args.journal.now) c.length.ensures.crash c.length.ensures.time)
 
 pub returns-in_err-sync-clause-images : goal.returns-in_err-sync-clause-images
 returns-in_err-sync-clause-images g c =
-    looked_images g.D.Disk.moment g.D.Disk.left_since g.D.Disk.may_leave c.args.journal.now c.length.new.self c.length.new.self
-    (looked g.D.Disk.moment g.D.Disk.left_since g.D.Disk.may_leave c.args.journal.now c.length.new.self c.length.new.self (g.met.D.Disk.only_now c.args.journal.now) c.length.ensures.crash c.length.ensures.time)
+    looked_images g.D.Disk.says c.args.journal.now c.length.new.self c.length.new.self
+    (looked g.D.Disk.says c.args.journal.now c.length.new.self c.length.new.self (g.met.D.Disk.only_now c.args.journal.now) c.length.ensures.crash c.length.ensures.time)
 
 pub returns-in_err-sync-clause-any_moment : goal.returns-in_err-sync-clause-any_moment
 returns-in_err-sync-clause-any_moment g c =
-    looked_moments g.D.Disk.moment g.D.Disk.left_since g.D.Disk.may_leave c.args.journal.now c.length.new.self c.length.new.self
-    (looked g.D.Disk.moment g.D.Disk.left_since g.D.Disk.may_leave c.args.journal.now c.length.new.self c.length.new.self (g.met.D.Disk.only_now c.args.journal.now) c.length.ensures.crash c.length.ensures.time)
+    looked_moments g.D.Disk.says c.args.journal.now c.length.new.self c.length.new.self
+    (looked g.D.Disk.says c.args.journal.now c.length.new.self c.length.new.self (g.met.D.Disk.only_now c.args.journal.now) c.length.ensures.crash c.length.ensures.time)
 
 pub returns-in_err-make_files-clause-images : goal.returns-in_err-make_files-clause-images
 returns-in_err-make_files-clause-images g c =
-    made_images g.D.Disk.moment g.D.Disk.left_since g.D.Disk.may_leave c.args.journal.now c.length.new.self c.make_files.new.disk empty_is_sound
-    (looked g.D.Disk.moment g.D.Disk.left_since g.D.Disk.may_leave c.args.journal.now c.length.new.self c.length.new.self (g.met.D.Disk.only_now c.args.journal.now) c.length.ensures.crash c.length.ensures.time)
+    made_images g.D.Disk.says c.args.journal.now c.length.new.self c.make_files.new.disk empty_is_sound
+    (looked g.D.Disk.says c.args.journal.now c.length.new.self c.length.new.self (g.met.D.Disk.only_now c.args.journal.now) c.length.ensures.crash c.length.ensures.time)
     c.make_files.ensures.crash
 
 pub returns-in_err-make_files-clause-any_moment : goal.returns-in_err-make_files-clause-any_moment
 returns-in_err-make_files-clause-any_moment g c =
-    made_moments g.D.Disk.moment g.D.Disk.left_since g.D.Disk.may_leave c.args.journal.now c.length.new.self c.make_files.new.disk empty_is_sound
-    (looked g.D.Disk.moment g.D.Disk.left_since g.D.Disk.may_leave c.args.journal.now c.length.new.self c.length.new.self (g.met.D.Disk.only_now c.args.journal.now) c.length.ensures.crash c.length.ensures.time)
+    made_moments g.D.Disk.says c.args.journal.now c.length.new.self c.make_files.new.disk empty_is_sound
+    (looked g.D.Disk.says c.args.journal.now c.length.new.self c.length.new.self (g.met.D.Disk.only_now c.args.journal.now) c.length.ensures.crash c.length.ensures.time)
     c.make_files.ensures.any_moment
 
 pub returns-clause-images : goal.returns-clause-images
 returns-clause-images g c =
-    made_images g.D.Disk.moment g.D.Disk.left_since g.D.Disk.may_leave c.args.journal.now c.length.new.self c.make_files.new.disk empty_is_sound
-    (looked g.D.Disk.moment g.D.Disk.left_since g.D.Disk.may_leave c.args.journal.now c.length.new.self c.length.new.self (g.met.D.Disk.only_now c.args.journal.now) c.length.ensures.crash c.length.ensures.time)
+    made_images g.D.Disk.says c.args.journal.now c.length.new.self c.make_files.new.disk empty_is_sound
+    (looked g.D.Disk.says c.args.journal.now c.length.new.self c.length.new.self (g.met.D.Disk.only_now c.args.journal.now) c.length.ensures.crash c.length.ensures.time)
     c.make_files.ensures.crash
 
 pub returns-clause-any_moment : goal.returns-clause-any_moment
 returns-clause-any_moment g c =
-    made_moments g.D.Disk.moment g.D.Disk.left_since g.D.Disk.may_leave c.args.journal.now c.length.new.self c.make_files.new.disk empty_is_sound
-    (looked g.D.Disk.moment g.D.Disk.left_since g.D.Disk.may_leave c.args.journal.now c.length.new.self c.length.new.self (g.met.D.Disk.only_now c.args.journal.now) c.length.ensures.crash c.length.ensures.time)
+    made_moments g.D.Disk.says c.args.journal.now c.length.new.self c.make_files.new.disk empty_is_sound
+    (looked g.D.Disk.says c.args.journal.now c.length.new.self c.length.new.self (g.met.D.Disk.only_now c.args.journal.now) c.length.ensures.crash c.length.ensures.time)
     c.make_files.ensures.any_moment
 
 -- ---- the archive's disk
 
 pub returns-in_err-length-clause-archive_looks : goal.returns-in_err-length-clause-archive_looks
-returns-in_err-length-clause-archive_looks g c = looks_at_none g.D.Disk.moment g.D.Disk.left_since g.D.Disk.may_leave c.args.archive.now c.args.archive.now c.args.archive.now (g.met.D.Disk.only_now c.args.archive.now)
+returns-in_err-length-clause-archive_looks g c = looks_at_none g.D.Disk.says c.args.archive.now c.args.archive.now c.args.archive.now (g.met.D.Disk.only_now c.args.archive.now)
 
 pub returns-in_err-length-clause-archive_reads : goal.returns-in_err-length-clause-archive_reads
 returns-in_err-length-clause-archive_reads g c = inl (record { kept = λ f read. read; no_more = λ f read. read })
 
 pub returns-then-length-ne0-clause-archive_looks : goal.returns-then-length-ne0-clause-archive_looks
-returns-then-length-ne0-clause-archive_looks g c = looks_at_none g.D.Disk.moment g.D.Disk.left_since g.D.Disk.may_leave c.args.archive.now c.args.archive.now c.args.archive.now (g.met.D.Disk.only_now c.args.archive.now)
+returns-then-length-ne0-clause-archive_looks g c = looks_at_none g.D.Disk.says c.args.archive.now c.args.archive.now c.args.archive.now (g.met.D.Disk.only_now c.args.archive.now)
 
 pub returns-then-length-ne0-clause-archive_reads : goal.returns-then-length-ne0-clause-archive_reads
 returns-then-length-ne0-clause-archive_reads g c = inl (record { kept = λ f read. read; no_more = λ f read. read })
 
 pub returns-in_err-sync-clause-archive_looks : goal.returns-in_err-sync-clause-archive_looks
 returns-in_err-sync-clause-archive_looks g c =
-    looked g.D.Disk.moment g.D.Disk.left_since g.D.Disk.may_leave c.args.archive.now c.sync.new.self c.sync.new.self (g.met.D.Disk.only_now c.args.archive.now) c.sync.ensures.crash c.sync.ensures.time
+    looked g.D.Disk.says c.args.archive.now c.sync.new.self c.sync.new.self (g.met.D.Disk.only_now c.args.archive.now) c.sync.ensures.crash c.sync.ensures.time
 
 pub returns-in_err-sync-clause-archive_reads : goal.returns-in_err-sync-clause-archive_reads
 returns-in_err-sync-clause-archive_reads g c = inr (disk_fault c.from_residual-in_err-sync.result c.from_residual-in_err-sync.ensures.1, c.in_err-sync.ensures.cause.risen)
 
 pub returns-in_err-make_files-clause-archive_looks : goal.returns-in_err-make_files-clause-archive_looks
 returns-in_err-make_files-clause-archive_looks g c =
-    looked g.D.Disk.moment g.D.Disk.left_since g.D.Disk.may_leave c.args.archive.now c.sync.new.self c.sync.new.self (g.met.D.Disk.only_now c.args.archive.now) c.sync.ensures.crash c.sync.ensures.time
+    looked g.D.Disk.says c.args.archive.now c.sync.new.self c.sync.new.self (g.met.D.Disk.only_now c.args.archive.now) c.sync.ensures.crash c.sync.ensures.time
 
 pub returns-in_err-make_files-clause-archive_reads : goal.returns-in_err-make_files-clause-archive_reads
 returns-in_err-make_files-clause-archive_reads g c = inl c.in_ok-sync.ensures.same
 
 pub returns-clause-archive_looks : goal.returns-clause-archive_looks
 returns-clause-archive_looks g c =
-    looked g.D.Disk.moment g.D.Disk.left_since g.D.Disk.may_leave c.args.archive.now c.sync.new.self c.sync.new.self (g.met.D.Disk.only_now c.args.archive.now) c.sync.ensures.crash c.sync.ensures.time
+    looked g.D.Disk.says c.args.archive.now c.sync.new.self c.sync.new.self (g.met.D.Disk.only_now c.args.archive.now) c.sync.ensures.crash c.sync.ensures.time
 
 pub returns-clause-archive_reads : goal.returns-clause-archive_reads
 returns-clause-archive_reads g c = inl c.in_ok-sync.ensures.same

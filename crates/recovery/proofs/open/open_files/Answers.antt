@@ -18,7 +18,7 @@ pub returns-in-Ok-clause-open : goal.returns-in-Ok-clause-open
 returns-in-Ok-clause-open g c =
     let found = c.in-Ok.ensures.found in
     let synced = c.in-Ok.ensures.synced.0 in
-    let adopted : CanBeAdopted g.D.Disk.may_leave c.read_depot.new.journal c.in-Ok.found.generation c.in-Ok.found.end.groups c.in-Ok.found.end.length found.was = record {
+    let adopted : CanBeAdopted g.D.Disk.says c.read_depot.new.journal c.in-Ok.found.generation c.in-Ok.found.end.groups c.in-Ok.found.end.length found.was = record {
       generation_is = found.generation;
       last = found.last;
       are_groups = found.are_groups;
@@ -35,7 +35,7 @@ returns-in-Ok-clause-open g c =
         used = c.adopt-in-Ok.ensures.used ∙ c.archive_end-used.ensures.end;
         contents = λ image left.
             let archive = c.in-Ok.ensures.synced.1 in
-            c.in-Ok.ensures.contents image (archive.same.no_more image (archive.durable image (subst (λ (disk : g.row.D.Denot). g.D.Disk.may_leave disk image) c.adopt-in-Ok.ensures.disk left)));
+            c.in-Ok.ensures.contents image (archive.same.no_more image (archive.durable image (subst (λ (disk : g.row.D.Denot). g.D.Disk.says.may_leave disk image) c.adopt-in-Ok.ensures.disk left)));
       },
     )
 
@@ -43,7 +43,7 @@ pub returns-in-Ok-clause-held : goal.returns-in-Ok-clause-held
 returns-in-Ok-clause-held g c = λ files read.
     let open_now = returns-in-Ok-clause-open g c in
     let image = g.met.D.Disk.reads_an_image c.read_depot.new.journal files (c.in-Ok.ensures.synced.0.same.kept files read) in
-    record { was = open_now.0; committed = open_now.1.stands.holds files (subst (λ (disk : g.row.D.Denot). g.D.Disk.may_leave disk files) (sym c.adopt.ensures.disk) image); has = open_now.1.rows }
+    record { was = open_now.0; committed = open_now.1.stands.holds files (subst (λ (disk : g.row.D.Denot). g.D.Disk.says.may_leave disk files) (sym c.adopt.ensures.disk) image); has = open_now.1.rows }
 
 pub returns-in-Ok-clause-suit : goal.returns-in-Ok-clause-suit
 unfolding returns-in-Ok-clause-open

@@ -40,11 +40,11 @@ returns-in_err-end-clause-damaged g c = λ files contents read read_contents.
 
 pub returns-in_err-end-clause-journal_looks : goal.returns-in_err-end-clause-journal_looks
 returns-in_err-end-clause-journal_looks g c =
-    looks_then g.D.Disk.seen g.D.Disk.may_leave g.D.Disk.moment g.D.Disk.left_since c.args.journal.now c.sync.new.self c.read_kept_rows.new.disk (g.met.D.Disk.only_now c.args.journal.now) c.sync.ensures.crash c.sync.ensures.time c.read_kept_rows.ensures.reads
+    looks_then g.D.Disk.says c.args.journal.now c.sync.new.self c.read_kept_rows.new.disk (g.met.D.Disk.only_now c.args.journal.now) c.sync.ensures.crash c.sync.ensures.time c.read_kept_rows.ensures.reads
 
 pub returns-clause-journal_looks : goal.returns-clause-journal_looks
 returns-clause-journal_looks g c =
-    looks_then g.D.Disk.seen g.D.Disk.may_leave g.D.Disk.moment g.D.Disk.left_since c.args.journal.now c.sync.new.self c.read_kept_rows.new.disk (g.met.D.Disk.only_now c.args.journal.now) c.sync.ensures.crash c.sync.ensures.time c.read_kept_rows.ensures.reads
+    looks_then g.D.Disk.says c.args.journal.now c.sync.new.self c.read_kept_rows.new.disk (g.met.D.Disk.only_now c.args.journal.now) c.sync.ensures.crash c.sync.ensures.time c.read_kept_rows.ensures.reads
 
 pub returns-clause-found : goal.returns-clause-found
 returns-clause-found g c =
@@ -78,8 +78,8 @@ returns-clause-contents g c = λ contents read.
 
 pub returns-clause-synced : goal.returns-clause-synced
 returns-clause-synced g c = (
-  synced_then g.D.Disk.seen g.D.Disk.may_leave g.D.Disk.moment g.D.Disk.left_since c.args.journal.now c.sync.new.self c.read_kept_rows.new.disk c.in_ok-sync.ensures.same c.in_ok-sync.ensures.durable c.read_kept_rows.ensures.reads,
-  synced_then g.D.Disk.seen g.D.Disk.may_leave g.D.Disk.moment g.D.Disk.left_since c.args.archive.now c.sync-2.new.self c.read_contents.new.disk c.in_ok-sync-2.ensures.same c.in_ok-sync-2.ensures.durable c.read_contents.ensures.reads,
+  synced_then g.D.Disk.says c.args.journal.now c.sync.new.self c.read_kept_rows.new.disk c.in_ok-sync.ensures.same c.in_ok-sync.ensures.durable c.read_kept_rows.ensures.reads,
+  synced_then g.D.Disk.says c.args.archive.now c.sync-2.new.self c.read_contents.new.disk c.in_ok-sync-2.ensures.same c.in_ok-sync-2.ensures.durable c.read_contents.ensures.reads,
 )
 
 pub returns-clause-only : goal.returns-clause-only
@@ -108,13 +108,13 @@ returns-in_err-sync-2-clause-read g c = no_fault_but c.from_residual-in_err-sync
 pub returns-in_err-found-clause-read : goal.returns-in_err-found-clause-read
 returns-in_err-found-clause-read g c =
     passed_on c.from_residual-in_err-found.result c.in_err-found.field-0.0 _ c.from_residual-in_err-found.ensures.1 (λ other. (
-      synced_then g.D.Disk.seen g.D.Disk.may_leave g.D.Disk.moment g.D.Disk.left_since c.args.journal.now c.sync.new.self c.read_kept_rows.new.disk c.in_ok-sync.ensures.same c.in_ok-sync.ensures.durable c.read_kept_rows.ensures.reads,
+      synced_then g.D.Disk.says c.args.journal.now c.sync.new.self c.read_kept_rows.new.disk c.in_ok-sync.ensures.same c.in_ok-sync.ensures.durable c.read_kept_rows.ensures.reads,
       record { same = c.in_ok-sync-2.ensures.same; durable = c.in_ok-sync-2.ensures.durable },
     ))
 
 pub returns-in_err-end-clause-read : goal.returns-in_err-end-clause-read
 returns-in_err-end-clause-read g c =
     passed_on c.from_residual-in_err-end.result c.in_err-end.field-0.0 _ c.from_residual-in_err-end.ensures.1 (λ other. (
-      synced_then g.D.Disk.seen g.D.Disk.may_leave g.D.Disk.moment g.D.Disk.left_since c.args.journal.now c.sync.new.self c.read_kept_rows.new.disk c.in_ok-sync.ensures.same c.in_ok-sync.ensures.durable c.read_kept_rows.ensures.reads,
-      synced_then g.D.Disk.seen g.D.Disk.may_leave g.D.Disk.moment g.D.Disk.left_since c.args.archive.now c.sync-2.new.self c.read_contents.new.disk c.in_ok-sync-2.ensures.same c.in_ok-sync-2.ensures.durable c.read_contents.ensures.reads,
+      synced_then g.D.Disk.says c.args.journal.now c.sync.new.self c.read_kept_rows.new.disk c.in_ok-sync.ensures.same c.in_ok-sync.ensures.durable c.read_kept_rows.ensures.reads,
+      synced_then g.D.Disk.says c.args.archive.now c.sync-2.new.self c.read_contents.new.disk c.in_ok-sync-2.ensures.same c.in_ok-sync-2.ensures.durable c.read_contents.ensures.reads,
     ))

@@ -15,7 +15,7 @@ pub returns-in_err-changes-clause-only : goal.returns-in_err-changes-clause-only
 returns-in_err-changes-clause-only g c = λ files all read has fit.
     let inv = c.loop-groups.invariant in
     let groups = c.loop-groups.groups in
-    let seen = g.D.Disk.seen c.args.disk.now in
+    let seen = g.D.Disk.says.seen c.args.disk.now in
     let file = 1 + 2 * c.args.generation in
     let old = rows_of_draft c.args.draft.now in
     let now = rows_of_draft c.loop-groups.draft in
@@ -33,7 +33,7 @@ returns-in_err-make_changes-clause-only g c = λ files all read has fit.
     passed_on _ c.in_err-make_changes.field-0.0 SaysNothing c.from_residual-in_err-make_changes.ensures.1 (
     c.in_err-make_changes.ensures.only (subst (AllFitIn (rows_of_draft c.next_changes.new.draft)) (sym c.as_slice.ensures)
     (subst (λ (rows : AllRows). AllFitIn rows c.in-Some.changes) (sym c.in_ok-changes.ensures.draft)
-    (next_fit (g.D.Disk.seen c.args.disk.now) (1 + 2 * c.args.generation) c.loop-groups.count groups (rows_of_draft c.args.draft.now) (rows_of_draft c.loop-groups.draft) inv.so_far c.next_changes.new.groups c.in-Some.changes come files read is_first all has fit))))
+    (next_fit (g.D.Disk.says.seen c.args.disk.now) (1 + 2 * c.args.generation) c.loop-groups.count groups (rows_of_draft c.args.draft.now) (rows_of_draft c.loop-groups.draft) inv.so_far c.next_changes.new.groups c.in-Some.changes come files read is_first all has fit))))
 
 pub returns-in_err-changes-clause-damaged : goal.returns-in_err-changes-clause-damaged
 returns-in_err-changes-clause-damaged g c = λ files read.
@@ -42,7 +42,7 @@ returns-in_err-changes-clause-damaged g c = λ files read.
     let now = rows_of_draft c.loop-groups.draft in
     let P : ℕ → Type 0 = λ place. (found : ℕ) × ((place ≡ found - groups.front) × IsTextDamage (AllFitIn now) groups.reader.number groups.reader.at (text_left groups files) found) in
     passed_damage (Option (List Change)) P (IsJournalDamage (rows_of_draft c.args.draft.now) (files (1 + 2 * c.args.generation))) _ c.in_err-changes.field-0.0 c.from_residual-in_err-changes.ensures.1 (c.in_err-changes.ensures.damaged files (inv.reads.same.kept files read) (inv.so_far.text files read).0) (λ place bad.
-    journal_text (g.D.Disk.seen c.args.disk.now) (1 + 2 * c.args.generation) c.loop-groups.count groups (rows_of_draft c.args.draft.now) now inv.so_far inv.front files read bad.0 place bad.1.0 bad.1.1)
+    journal_text (g.D.Disk.says.seen c.args.disk.now) (1 + 2 * c.args.generation) c.loop-groups.count groups (rows_of_draft c.args.draft.now) now inv.so_far inv.front files read bad.0 place bad.1.0 bad.1.1)
 
 pub returns-in_err-make_changes-clause-damaged : goal.returns-in_err-make_changes-clause-damaged
 returns-in_err-make_changes-clause-damaged g c = λ files read.
@@ -53,7 +53,7 @@ returns-in_err-make_changes-clause-damaged g c = λ files read.
     let first = c.in_ok-changes.ensures.text files (inv.reads.same.kept files read) (inv.so_far.text files read).0 in
     let is_first = subst (IsFirst groups.reader.number (text_left groups files) (text_left c.next_changes.new.groups files)) c.in-Some.is first.1 in
     passed_damage (Unit {0}) (IsBadPlace (AllFitIn (rows_of_draft c.next_changes.new.draft)) c.next_changes.new.groups c.as_slice.result.now) (IsJournalDamage (rows_of_draft c.args.draft.now) (files (1 + 2 * c.args.generation))) _ c.in_err-make_changes.field-0.0 c.from_residual-in_err-make_changes.ensures.1 c.in_err-make_changes.ensures.damaged (λ place bad.
-    journal_misfit (g.D.Disk.seen c.args.disk.now) (1 + 2 * c.args.generation) c.loop-groups.count groups (rows_of_draft c.args.draft.now) now inv.so_far inv.front c.next_changes.new.groups c.in-Some.changes come c.in_ok-changes.ensures.file.1 files read is_first place
+    journal_misfit (g.D.Disk.says.seen c.args.disk.now) (1 + 2 * c.args.generation) c.loop-groups.count groups (rows_of_draft c.args.draft.now) now inv.so_far inv.front c.next_changes.new.groups c.in-Some.changes come c.in_ok-changes.ensures.file.1 files read is_first place
     (subst (λ (rows : AllRows). IsBadPlace (AllFitIn rows) c.next_changes.new.groups c.in-Some.changes place) c.in_ok-changes.ensures.draft
     (subst (λ (l : List Change). IsBadPlace (AllFitIn (rows_of_draft c.next_changes.new.draft)) c.next_changes.new.groups l place) c.as_slice.ensures bad)))
 
@@ -61,7 +61,7 @@ pub overflow_add-count : goal.overflow_add-count
 overflow_add-count g c =
     let groups = c.loop-groups.groups in
     let short : groups.reader.at < 2 ^ 63 = omega (arith, groups.so_far, groups.short, groups.within) in
-    let few = small_count (g.D.Disk.seen c.args.disk.now) (1 + 2 * c.args.generation) c.loop-groups.count groups (rows_of_draft c.args.draft.now) (rows_of_draft c.loop-groups.draft) c.loop-groups.invariant.so_far short in
+    let few = small_count (g.D.Disk.says.seen c.args.disk.now) (1 + 2 * c.args.generation) c.loop-groups.count groups (rows_of_draft c.args.draft.now) (rows_of_draft c.loop-groups.draft) c.loop-groups.invariant.so_far short in
     omega (arith, few)
 
 pub loop-groups-preserved : goal.loop-groups-preserved
@@ -73,7 +73,7 @@ loop-groups-preserved g c =
     let same : rows_of_draft c.next_changes.new.draft ≡ now = c.in_ok-changes.ensures.draft in
     let reads = c.next_changes.ensures.reads in
     record {
-      so_far = one_more (g.D.Disk.seen c.args.disk.now) (1 + 2 * c.args.generation) c.loop-groups.count groups (rows_of_draft c.args.draft.now) now inv.so_far c.next_changes.new.groups c.in-Some.changes come (rows_of_draft c.make_changes.new.draft)
+      so_far = one_more (g.D.Disk.says.seen c.args.disk.now) (1 + 2 * c.args.generation) c.loop-groups.count groups (rows_of_draft c.args.draft.now) now inv.so_far c.next_changes.new.groups c.in-Some.changes come (rows_of_draft c.make_changes.new.draft)
           (subst (λ (rows : AllRows). AllFitIn rows c.in-Some.changes) same (subst (AllFitIn (rows_of_draft c.next_changes.new.draft)) c.as_slice.ensures c.in_ok-make_changes.ensures.fit))
           (c.in_ok-make_changes.ensures.rows ∙ ap (changed_by (rows_of_draft c.next_changes.new.draft)) c.as_slice.ensures ∙ ap (λ (rows : AllRows). changed_by rows c.in-Some.changes) same)
           c.in_ok-changes.ensures.file.0
@@ -84,7 +84,7 @@ loop-groups-preserved g c =
       reads = record {
         same = record { kept = λ f read. reads.same.kept f (inv.reads.same.kept f read); no_more = λ f read. inv.reads.same.no_more f (reads.same.no_more f read) };
         no_more = λ f left. inv.reads.no_more f (reads.no_more f left);
-        any_moment = then g.D.Disk.moment g.D.Disk.left_since c.args.disk.now c.loop-groups.disk c.next_changes.new.disk (g.D.Disk.may_leave c.args.disk.now) inv.reads.any_moment (weaker g.D.Disk.moment g.D.Disk.left_since c.loop-groups.disk c.next_changes.new.disk (g.D.Disk.may_leave c.loop-groups.disk) (g.D.Disk.may_leave c.args.disk.now) inv.reads.no_more reads.any_moment);
+        any_moment = then g.D.Disk.says c.args.disk.now c.loop-groups.disk c.next_changes.new.disk (g.D.Disk.says.may_leave c.args.disk.now) inv.reads.any_moment (weaker g.D.Disk.says c.loop-groups.disk c.next_changes.new.disk (g.D.Disk.says.may_leave c.loop-groups.disk) (g.D.Disk.says.may_leave c.args.disk.now) inv.reads.no_more reads.any_moment);
       };
       faults = omega (arith, inv.faults, c.next_changes.ensures.cause.never_falls);
     }

@@ -6,10 +6,10 @@ use Rattle.recovery.proofs.rows.read_journal.Given as goal
 
 abbrev pub invariant-loop-groups : goal.invariant-loop-groups
 invariant-loop-groups g l = record {
-  so_far : SoFar (g.D.Disk.seen l.fn.disk) (1 + 2 * l.generation) l.count l.groups (rows_of_draft l.fn.draft) (rows_of_draft l.draft);
+  so_far : SoFar (g.D.Disk.says.seen l.fn.disk) (1 + 2 * l.generation) l.count l.groups (rows_of_draft l.fn.draft) (rows_of_draft l.draft);
   front : l.groups.front ≡ 0;
-  reads : OnlyReads g.D.Disk.seen g.D.Disk.may_leave g.D.Disk.moment g.D.Disk.left_since l.fn.disk l.disk;
-  faults : g.D.Disk.faults l.fn.disk ≤ g.D.Disk.faults l.disk;
+  reads : OnlyReads g.D.Disk.says l.fn.disk l.disk;
+  faults : g.D.Disk.says.faults l.fn.disk ≤ g.D.Disk.says.faults l.disk;
 }
 
 abbrev pub decreases-loop-groups : goal.decreases-loop-groups

@@ -3,10 +3,10 @@ use Rattle.replica_turns.proofs.laws.depots_grow_by_their_changes.Goals as goal
 
 pub returns-clause-placed : goal.returns-clause-placed
 returns-clause-placed g c = λ past start places old new all since request outcome fault master h is stored.
-    place_master g.D.Disk.seen g.D.Disk.may_leave g.D.Disk.moment g.D.Disk.left_since past start places old new all master since h stored request outcome is fault
+    place_master g.D.Disk.says past start places old new all master since h stored request outcome is fault
 
 pub returns-clause-texts : goal.returns-clause-texts
 returns-clause-texts g c = texts_grow
 
 pub returns-clause-kept : goal.returns-clause-kept
-returns-clause-kept g c = λ past start places old new all master same groups stored. unmoved_master g.D.Disk.seen g.D.Disk.may_leave past start places old new all master stored same groups
+returns-clause-kept g c = λ past start places old new all master same groups stored. unmoved_master g.D.Disk.says past start places old new all master stored same groups

@@ -6,12 +6,12 @@ use Rattle.replica_turns.proofs.laws.replicas_reply_for_their_last_pull.Goals as
 
 pub returns-clause-first : goal.returns-clause-first
 returns-clause-first g c = λ past start places party script p all fresh formed.
-    along_first (IsNth past start places) (g.C.Clock.may_give c.args.clock.now) party script p all fresh formed
+    along_first (IsNth past start places) (g.C.Clock.says.may_give c.args.clock.now) party script p all fresh formed
 
 pub returns-clause-grown : goal.returns-clause-grown
 returns-clause-grown g c = λ past start places more party script p all now texts grown along.
-    along_grown (IsNth past start places) (IsNth past start (places ++ more)) (nth_longer past start places more) (g.C.Clock.may_give c.args.clock.now) party script p all now grown texts along
+    along_grown (IsNth past start places) (IsNth past start (places ++ more)) (nth_longer past start places more) (g.C.Clock.says.may_give c.args.clock.now) party script p all now grown texts along
 
 pub returns-clause-turned : goal.returns-clause-turned
 returns-clause-turned g c = λ past start places depot files party script old new all texts result master sees along turn.
-    along_turned g.D.Disk.seen g.D.Disk.may_leave g.met.D.Disk.reads_an_image past start places depot all master (files, sees) (g.C.Clock.may_give c.args.clock.now) party script old new texts result along turn
+    along_turned g.D.Disk.says g.met.D.Disk.reads_an_image past start places depot all master (files, sees) (g.C.Clock.says.may_give c.args.clock.now) party script old new texts result along turn

@@ -2,10 +2,10 @@ use Rattle.serial_depot.proofs.Moved.{fetched_none}
 use Rattle.replica_turns.proofs.pulling.pull.Goals as goal
 
 pub returns-in_err-of_fault-clause-fetched : goal.returns-in_err-of_fault-clause-fetched
-returns-in_err-of_fault-clause-fetched g c = fetched_none g.D.Disk.seen g.D.Disk.may_leave g.D.Disk.moment g.D.Disk.left_since g.met.D.Disk.only_now c.args.journal.now
+returns-in_err-of_fault-clause-fetched g c = fetched_none g.D.Disk.says g.met.D.Disk.only_now c.args.journal.now
 
 pub returns-in_err-room-clause-fetched : goal.returns-in_err-room-clause-fetched
-returns-in_err-room-clause-fetched g c = fetched_none g.D.Disk.seen g.D.Disk.may_leave g.D.Disk.moment g.D.Disk.left_since g.met.D.Disk.only_now c.args.journal.now
+returns-in_err-room-clause-fetched g c = fetched_none g.D.Disk.says g.met.D.Disk.only_now c.args.journal.now
 
 pub returns-in_err-buffer-clause-fetched : goal.returns-in_err-buffer-clause-fetched
-returns-in_err-buffer-clause-fetched g c = fetched_none g.D.Disk.seen g.D.Disk.may_leave g.D.Disk.moment g.D.Disk.left_since g.met.D.Disk.only_now c.args.journal.now
+returns-in_err-buffer-clause-fetched g c = fetched_none g.D.Disk.says g.met.D.Disk.only_now c.args.journal.now

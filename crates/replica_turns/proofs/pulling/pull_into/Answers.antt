@@ -8,7 +8,7 @@ use Rattle.replica_turns.proofs.pulling.pull_into.Goals as goal
 
 pub returns-in_ok-follow-in-Ok-clause-answered : goal.returns-in_ok-follow-in-Ok-clause-answered
 returns-in_ok-follow-in-Ok-clause-answered g c = λ depot same.
-    subst (λ (answered : Answered). IsPullAnswer (λ been. been ≡ depot) g.D.Disk.seen g.D.Disk.may_leave c.args.replica.now c.follow.new.replica c.args.number answered.text answered.lost)
+    subst (λ (answered : Answered). IsPullAnswer (λ been. been ≡ depot) g.D.Disk.says c.args.replica.now c.follow.new.replica c.args.number answered.text answered.lost)
     (sym c.tells.ensures) (record {
       depot = depot;
       been = refl;

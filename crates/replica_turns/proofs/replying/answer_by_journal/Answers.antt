@@ -5,14 +5,14 @@ use Rattle.replica_turns.proofs.replying.answer_by_journal.Goals as goal
 
 pub returns-then-is_pull-clause-answered : goal.returns-then-is_pull-clause-answered
 returns-then-is_pull-clause-answered g c = λ depot same formed.
-    by_pull (λ been. been ≡ depot) g.D.Disk.seen g.D.Disk.may_leave c.args.replica.now c.pull.new.replica c.args.request.now c.pull.result
+    by_pull (λ been. been ≡ depot) g.D.Disk.says c.args.replica.now c.pull.new.replica c.args.request.now c.pull.result
     (sym c.is_pull.ensures ∙ c.if-is_pull.true) (c.pull.ensures.answered depot same)
 
 pub returns-else-is_pull-clause-answered : goal.returns-else-is_pull-clause-answered
 returns-else-is_pull-clause-answered g c = λ depot same formed.
-    by_other (λ been. been ≡ depot) g.D.Disk.seen g.D.Disk.may_leave c.args.replica.now c.args.replica.now c.args.request.now c.reply_bare.result
+    by_other (λ been. been ≡ depot) g.D.Disk.says c.args.replica.now c.args.replica.now c.args.request.now c.reply_bare.result
     (sym c.is_pull.ensures ∙ c.if-is_pull.false) refl
-    (of_bare depot g.D.Disk.seen c.args.replica.now c.args.request.now c.reply_bare.result c.reply_bare.ensures.kept (λ d stand. c.reply_bare.ensures.told d stand formed))
+    (of_bare depot g.D.Disk.says c.args.replica.now c.args.request.now c.reply_bare.result c.reply_bare.ensures.kept (λ d stand. c.reply_bare.ensures.told d stand formed))
 
 pub returns-else-is_pull-clause-fetched : goal.returns-else-is_pull-clause-fetched
-returns-else-is_pull-clause-fetched g c = fetched_none g.D.Disk.seen g.D.Disk.may_leave g.D.Disk.moment g.D.Disk.left_since g.met.D.Disk.only_now c.args.journal.now
+returns-else-is_pull-clause-fetched g c = fetched_none g.D.Disk.says g.met.D.Disk.only_now c.args.journal.now

@@ -12,16 +12,16 @@ answer_by_journal-requires g c = sym c.is_print.ensures ∙ c.if-is_print.false
 pub returns-then-is_print-clause-answered : goal.returns-then-is_print-clause-answered
 returns-then-is_print-clause-answered g c = λ formed.
     let depot = c.args.depot.now in
-    by_other (λ been. been ≡ depot) g.D.Disk.seen g.D.Disk.may_leave c.args.replica.now c.args.replica.now c.args.request.now c.reply_print.result
+    by_other (λ been. been ≡ depot) g.D.Disk.says c.args.replica.now c.args.replica.now c.args.request.now c.reply_print.result
     (prints_no_pull c.args.request.now.command (sym c.is_print.ensures ∙ c.if-is_print.true)) refl (c.reply_print.ensures.answered depot refl formed)
 
 pub returns-then-is_print-clause-depot : goal.returns-then-is_print-clause-depot
 returns-then-is_print-clause-depot g c =
-    unmoved_read g.D.Disk.seen g.D.Disk.may_leave g.D.Disk.moment g.D.Disk.left_since g.D.Disk.faults c.args.depot.now c.reply_print.new.archive c.reply_print.ensures.read c.reply_print.ensures.never_falls
+    unmoved_read g.D.Disk.says c.args.depot.now c.reply_print.new.archive c.reply_print.ensures.read c.reply_print.ensures.never_falls
 
 pub returns-else-is_print-clause-answered : goal.returns-else-is_print-clause-answered
 returns-else-is_print-clause-answered g c = λ formed. c.answer_by_journal.ensures.answered c.args.depot.now refl formed
 
 pub returns-else-is_print-clause-depot : goal.returns-else-is_print-clause-depot
 returns-else-is_print-clause-depot g c =
-    unmoved_fetched g.D.Disk.seen g.D.Disk.may_leave g.D.Disk.moment g.D.Disk.left_since g.D.Disk.faults c.args.depot.now c.answer_by_journal.new.journal c.answer_by_journal.ensures.fetched c.answer_by_journal.ensures.never_falls
+    unmoved_fetched g.D.Disk.says c.args.depot.now c.answer_by_journal.new.journal c.answer_by_journal.ensures.fetched c.answer_by_journal.ensures.never_falls

@@ -14,4 +14,4 @@ returns-clause-told g c = λ all d files rows is sees has kept.
     ap (λ (answered : Answered). answered.text) c.tells.ensures ∙ c.in_ok-text.ensures rows is.reply (c.in-Ok.ensures.contents files (contents_of rows) sees here)
 
 pub returns-in_err-of_fault-clause-read : goal.returns-in_err-of_fault-clause-read
-returns-in_err-of_fault-clause-read g c = read_none g.D.Disk.seen g.D.Disk.may_leave c.args.archive.now
+returns-in_err-of_fault-clause-read g c = read_none g.D.Disk.says c.args.archive.now

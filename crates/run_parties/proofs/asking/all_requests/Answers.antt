@@ -15,7 +15,7 @@ loop-session-preserved g c =
     let rest = into_iter_items c.next.new.self in
     let steps : into_iter_items at.session-iterator ≡ session ∷ rest = c.in-Some.ensures.steps.0 in
     let parts : at.yielded ++ session ∷ rest ≡ c.args.sessions.items = rw (← steps) at.invariant.items in
-    let may_give = g.C.Clock.may_give c.args.clock.now in
+    let may_give = g.C.Clock.says.may_give c.args.clock.now in
     let items : Vec Request Global → List Request = λ (v : Vec Request Global). v.items in
     let Made : List (Vec Request Global) → Type 0 = λ vs. AreRequestsOfAll may_give 1 (at.yielded ++ session ∷ []) (map items vs) in
     let Pushed : List (List Request) → Type 0 = AreRequestsOfAll may_give 1 (at.yielded ++ session ∷ []) in
@@ -38,5 +38,5 @@ returns g c =
     let none : into_iter_items at.session-iterator ≡ [] = nil_from_length (into_iter_items at.session-iterator) (sym at.invariant.left ∙ c.in-None.ensures.steps.0) in
     let all : at.yielded ≡ c.args.sessions.items = sym (append-nil at.yielded) ∙ rw (← none) at.invariant.items in
     let items : Vec Request Global → List Request = λ (v : Vec Request Global). v.items in
-    let Made : List (Option Session) → Type 0 = λ sessions. AreRequestsOfAll (g.C.Clock.may_give c.args.clock.now) 1 sessions (map items at.requests.items) in
+    let Made : List (Option Session) → Type 0 = λ sessions. AreRequestsOfAll (g.C.Clock.says.may_give c.args.clock.now) 1 sessions (map items at.requests.items) in
     subst Made all at.invariant.made

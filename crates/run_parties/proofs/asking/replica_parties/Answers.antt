@@ -17,7 +17,7 @@ loop-script-preserved g c =
     let rest = into_iter_items c.next.new.self in
     let steps : into_iter_items at.script-iterator ≡ script ∷ rest = c.in-Some.ensures.steps.0 in
     let parts : at.yielded ++ script ∷ rest ≡ c.args.scripts.items = rw (← steps) at.invariant.items in
-    let may_give = g.C.Clock.may_give c.args.clock.now in
+    let may_give = g.C.Clock.says.may_give c.args.clock.now in
     let Made : List (Option ReplicaParty) → Type 0 = AreFresh may_give 1 (at.yielded ++ script ∷ []) in
     let count = at.invariant.count in
     record {
@@ -37,7 +37,7 @@ returns g c =
     let at = c.loop-script in
     let none : into_iter_items at.script-iterator ≡ [] = nil_from_length (into_iter_items at.script-iterator) (sym at.invariant.left ∙ c.in-None.ensures.steps.0) in
     let all : at.yielded ≡ c.args.scripts.items = sym (append-nil at.yielded) ∙ rw (← none) at.invariant.items in
-    let Made : List (Option ReplicaScript) → Type 0 = λ scripts. AreFresh (g.C.Clock.may_give c.args.clock.now) 1 scripts at.parties.items in
+    let Made : List (Option ReplicaScript) → Type 0 = λ scripts. AreFresh (g.C.Clock.says.may_give c.args.clock.now) 1 scripts at.parties.items in
     subst Made all at.invariant.made
 
 pub replica_party-requires : goal.replica_party-requires

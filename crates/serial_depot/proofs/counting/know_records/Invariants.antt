@@ -1,4 +1,4 @@
-use Rattle.std.proofs.Common.{◌≡◌, ℕ, ◌<◌, get_or}
+use Rattle.std.proofs.Common.{ℕ, ◌<◌, get_or}
 use Rattle.depot_rows.specs.db_records.declared.change.Change.{Change}
 use Rattle.row_texts.specs.Texts.{IsOf64Bits}
 use Rattle.serial_depot.proofs.counting.know_records.Given as goal

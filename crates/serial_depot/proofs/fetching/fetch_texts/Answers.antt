@@ -10,8 +10,8 @@ use Rattle.serial_depot.proofs.fetching.fetch_texts.Goals as goal
 pub returns-clause-answers : goal.returns-clause-answers
 returns-clause-answers g c = λ depot texts same h.
     let P : List (List ℕ) → Type 0 = λ told. IfOk c.fetch.result (λ fetched. Answers told c.args.generation c.args.at fetched c.fetch.new.buffer) in
-    let stands = subst (λ (journal : Journal g.row.D.Denot). Stands g.D.Disk.may_leave journal h.was h.doubt) same h.stands in
-    let sees = subst (λ (journal : Journal g.row.D.Denot). g.D.Disk.seen (disk_of journal) h.files) same h.sees in
+    let stands = subst (λ (journal : Journal g.row.D.Denot). Stands g.D.Disk.says journal h.was h.doubt) same h.stands in
+    let sees = subst (λ (journal : Journal g.row.D.Denot). g.D.Disk.says.seen (disk_of journal) h.files) same h.sees in
     subst P (sym h.are) (c.fetch.ensures.as_link h.was h.doubt h.before h.files stands sees h.as_many h.older)
 
 pub returns-clause-fetched : goal.returns-clause-fetched
@@ -19,5 +19,5 @@ returns-clause-fetched g c = record {
   stands = c.fetch.ensures.stands;
   any_moment = c.fetch.ensures.any_moment;
   groups = λ all has.
-      same_groups g.D.Disk.seen g.D.Disk.may_leave c.fetch.new.self has.was all has.are has.are_groups has.doubt (c.fetch.ensures.stands has.was has.doubt has.stands) (c.fetch.ensures.keeps (map (group_texts 1) all.closed) has.keeps);
+      same_groups g.D.Disk.says c.fetch.new.self has.was all has.are has.are_groups has.doubt (c.fetch.ensures.stands has.was has.doubt has.stands) (c.fetch.ensures.keeps (map (group_texts 1) all.closed) has.keeps);
 }

@@ -6,10 +6,10 @@ use Rattle.serial_depot.proofs.storing.read_all.Given as goal
 
 abbrev pub invariant-loop-place : goal.invariant-loop-place
 invariant-loop-place g l = record {
-  contents : (files : Files) (contents : List (List ℕ)) → g.D.Disk.seen (disk_of l.fn.archive) files → AreAt (files 0) l.places contents → l.contents ≡ take l.place-index contents;
-  same : Same (g.D.Disk.seen (disk_of l.fn.archive)) (g.D.Disk.seen (disk_of l.archive));
-  more : NoMore (g.D.Disk.may_leave (disk_of l.fn.archive)) (g.D.Disk.may_leave (disk_of l.archive));
+  contents : (files : Files) (contents : List (List ℕ)) → g.D.Disk.says.seen (disk_of l.fn.archive) files → AreAt (files 0) l.places contents → l.contents ≡ take l.place-index contents;
+  same : Same (g.D.Disk.says.seen (disk_of l.fn.archive)) (g.D.Disk.says.seen (disk_of l.archive));
+  more : NoMore (g.D.Disk.says.may_leave (disk_of l.fn.archive)) (g.D.Disk.says.may_leave (disk_of l.archive));
   used : used_of l.archive ≡ used_of l.fn.archive;
   untouched : l.place-index ≡ 0 → l.archive ≡ l.fn.archive;
-  counts : g.D.Disk.faults (disk_of l.fn.archive) ≤ g.D.Disk.faults (disk_of l.archive);
+  counts : g.D.Disk.says.faults (disk_of l.fn.archive) ≤ g.D.Disk.says.faults (disk_of l.archive);
 }

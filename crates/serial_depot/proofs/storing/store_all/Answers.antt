@@ -10,7 +10,7 @@ use Rattle.serial_depot.proofs.storing.store_all.Goals as goal
 -- ---- no content
 
 pub returns-then-is_empty-clause-kept : goal.returns-then-is_empty-clause-kept
-returns-then-is_empty-clause-kept g c = keeps_same (g.D.Disk.may_leave (disk_of c.args.archive.now)) c.args.at
+returns-then-is_empty-clause-kept g c = keeps_same (g.D.Disk.says.may_leave (disk_of c.args.archive.now)) c.args.at
 
 pub returns-then-is_empty-clause-told : goal.returns-then-is_empty-clause-told
 returns-then-is_empty-clause-told g c = λ files read. (files, read)
@@ -24,7 +24,7 @@ loop-content-init g c = record {
   fits = c.requires.fits;
   written = tt;
   room = λ files read. c.requires.room files (g.met.D.Disk.reads_an_image _ files read);
-  kept = keeps_same (g.D.Disk.may_leave (disk_of c.args.archive.now)) c.args.at;
+  kept = keeps_same (g.D.Disk.says.may_leave (disk_of c.args.archive.now)) c.args.at;
   told = λ files read. (files, read);
   used = refl;
   calls = omega arith;
@@ -50,7 +50,7 @@ loop-content-preserved g c =
     let end_is : end_of spot ≡ at.end + length text = ap end_of spot_is in
     let was = at.invariant.end_is in
     let more = end_more c.args.contents.now at.content-index c.args.at text c.loop-content-test.true c.content-item.is in
-    let read = g.D.Disk.seen (disk_of c.write.new.self) in
+    let read = g.D.Disk.says.seen (disk_of c.write.new.self) in
     let above = at.invariant.above in
     let calls = at.invariant.calls in
     let asked = c.in_ok-spot.ensures.asked in
@@ -60,7 +60,7 @@ loop-content-preserved g c =
       end_is = omega (arith, end_is, was, more);
       above = omega (arith, above, end_is);
       fits = c.in_ok-spot.ensures.small;
-      written = stored_more c.args.contents.now at.content-index c.args.at text c.loop-content-test.true c.content-item.is (g.D.Disk.seen (disk_of at.archive)) read at.end was c.in_ok-spot.ensures.read at.invariant.written
+      written = stored_more c.args.contents.now at.content-index c.args.at text c.loop-content-test.true c.content-item.is (g.D.Disk.says.seen (disk_of at.archive)) read at.end was c.in_ok-spot.ensures.read at.invariant.written
           (subst (λ (s : Spot). AllHave read s text) spot_is (subst (AllHave read spot) c.as_bytes.ensures c.in_ok-spot.ensures.written));
       room = λ files seen. let there = c.in_ok-spot.ensures.written files seen in there.within;
       kept = λ spot bytes le all. c.write.ensures.kept spot bytes (omega (arith, le, above)) (at.invariant.kept spot bytes le all);
@@ -86,7 +86,7 @@ returns-in_err-spot-clause-cause g c =
     let counts = c.loop-content.invariant.counts in
     let more = c.in_err-spot.ensures.cause.never_falls in
     let risen = c.in_err-spot.ensures.cause.risen in
-    record { never_falls = omega (arith, counts, more); risen = on_err c.from_residual.result (HasRisen (g.D.Disk.faults (disk_of c.args.archive.now)) (g.D.Disk.faults (disk_of c.write.new.self))) (omega (arith, counts, risen)) }
+    record { never_falls = omega (arith, counts, more); risen = on_err c.from_residual.result (HasRisen (g.D.Disk.says.faults (disk_of c.args.archive.now)) (g.D.Disk.says.faults (disk_of c.write.new.self))) (omega (arith, counts, risen)) }
 
 -- ---- they couldn't be synced
 
@@ -106,8 +106,8 @@ returns-clause-end g c =
 pub returns-clause-stored : goal.returns-clause-stored
 returns-clause-stored g c =
     let at = c.loop-content in
-    let read = g.D.Disk.seen (disk_of at.archive) in
-    let images = g.D.Disk.may_leave (disk_of c.sync.new.self) in
+    let read = g.D.Disk.says.seen (disk_of at.archive) in
+    let images = g.D.Disk.says.may_leave (disk_of c.sync.new.self) in
     let all : take at.content-index c.args.contents.now ≡ c.args.contents.now = take_all at.content-index c.args.contents.now c.loop-content-test.false in
     let written = subst (λ (l : List (List ℕ)). AllStored read l c.args.at) all at.invariant.written in
     let end = stores_end c.args.contents.now c.args.at in

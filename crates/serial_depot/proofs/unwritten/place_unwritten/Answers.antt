@@ -1,9 +1,9 @@
-use Rattle.std.proofs.Common.{◌≡◌, Bool, List, [], refl, sym, ap, subst, ⊎_elim, ◌∙◌}
-use Rattle.std.proofs.lemmas.Bool.{true≢false}
+use Rattle.std.proofs.Common.{List, sym, subst, ◌∙◌}
 use Rattle.depot_rows.specs.db_records.declared.change.Change.{Change}
 use Rattle.serial_depot.specs.Committing.{AreChangesOf}
 use Rattle.serial_depot.specs.Opening.{opens_generation}
 use Rattle.serial_depot.proofs.Outcomes.{answers, told_changes}
+use Rattle.serial_depot.proofs.Idle.{none_changed}
 use Rattle.serial_depot.proofs.unwritten.place_unwritten.Goals as goal
 
 pub returns-clause-answers : goal.returns-clause-answers
@@ -15,6 +15,6 @@ pub returns-clause-leaves : goal.returns-clause-leaves
 returns-clause-leaves c = λ rows from outcome proper is t read d stand.
     let request = c.args.request.now in
     let told = c.args.told in
-    let none : told.changes ≡ [] = ⊎_elim (λ none. none) (λ unread. absurd (true≢false (sym unread ∙ read))) c.requires.unwritten in
+    let none = none_changed told c.requires.unwritten read in
     let Made : List Change → Type 0 = AreChangesOf rows request (opens_generation request) in
     (subst Made none (told_changes rows from d request outcome told stand is t proper c.requests_are_typed.ensures)).stand d stand

@@ -15,7 +15,7 @@ loop-asked-preserved g c =
     let rest = into_iter_items c.next.new.self in
     let steps : into_iter_items at.asked-iterator ≡ asked ∷ rest = c.in-Some.ensures.steps.0 in
     let parts : at.yielded ++ asked ∷ rest ≡ c.args.session.commands = rw (← steps) at.invariant.items in
-    let may_give = g.C.Clock.may_give c.args.clock.now in
+    let may_give = g.C.Clock.says.may_give c.args.clock.now in
     let caller = c.args.session.caller in
     let Made : List Request → Type 0 = AreRequests may_give c.args.party 1 caller (at.yielded ++ asked ∷ []) in
     let count = at.invariant.count in
@@ -35,5 +35,5 @@ returns g c =
     let at = c.loop-asked in
     let none : into_iter_items at.asked-iterator ≡ [] = nil_from_length (into_iter_items at.asked-iterator) (sym at.invariant.left ∙ c.in-None.ensures.steps.0) in
     let all : at.yielded ≡ c.args.session.commands = sym (append-nil at.yielded) ∙ rw (← none) at.invariant.items in
-    let Made : List Asked → Type 0 = λ commands. AreRequests (g.C.Clock.may_give c.args.clock.now) c.args.party 1 c.args.session.caller commands at.requests.items in
+    let Made : List Asked → Type 0 = λ commands. AreRequests (g.C.Clock.says.may_give c.args.clock.now) c.args.party 1 c.args.session.caller commands at.requests.items in
     subst Made all at.invariant.made

@@ -6,7 +6,7 @@ use Rattle.session_loop.proofs.requests.requests_of.Given as goal
 -- the requests of the commands that were taken
 abbrev pub invariant-loop-asked : goal.invariant-loop-asked
 invariant-loop-asked g l = record {
-  made : AreRequests (g.C.Clock.may_give l.clock) l.party 1 l.fn.session.caller l.yielded l.requests.items;
+  made : AreRequests (g.C.Clock.says.may_give l.clock) l.party 1 l.fn.session.caller l.yielded l.requests.items;
   items : l.yielded ++ into_iter_items l.asked-iterator ≡ l.fn.session.commands;
   left : into_iter_len l.asked-iterator ≡ length (into_iter_items l.asked-iterator);
   count : l.number ≡ length l.yielded;

@@ -9,7 +9,7 @@ pub loop-at-init : goal.loop-at-init
 loop-at-init g c = record {
   as_many = c.requires.as_many;
   same = refl;
-  none = none_same (g.C.Clock.may_give c.args.clock.now) g.K.Sink.given c.args.runs.now.items c.args.sinks.now.items;
+  none = none_same (g.C.Clock.says.may_give c.args.clock.now) g.K.Sink.says c.args.runs.now.items c.args.sinks.now.items;
   within = λ before h. h;
   still = λ i done. (refl, refl);
   done = λ j lt. absurd (omega (arith, lt));
@@ -23,7 +23,7 @@ loop-at-preserved g c =
     record {
       as_many = next.as_many;
       same = next.count ∙ was.same;
-      none = none_then (g.C.Clock.may_give c.args.clock.now) g.K.Sink.given _ _ _ _ _ _ was.none next.none;
+      none = none_then (g.C.Clock.says.may_give c.args.clock.now) g.K.Sink.says _ _ _ _ _ _ was.none next.none;
       within = λ before h. next.within before (was.within before h);
       still = λ i done.
           let before = was.still i done in

@@ -5,7 +5,7 @@ use Rattle.depot_rows.specs.Deed.{opening_of}
 use Rattle.submit_core.specs.Entries.{AreFiles}
 use Rattle.submit_core.proofs.Filing.{no_files}
 use Rattle.submit_core.proofs.Opened.{opened_at}
-use Rattle.submit_core.proofs.Steps.{front, map_on}
+use Rattle.job_fixes.proofs.Steps.{front, map_on}
 use Rattle.submit_core.proofs.entries.files_of.Goals as goal
 
 pub loop-opening-init : goal.loop-opening-init

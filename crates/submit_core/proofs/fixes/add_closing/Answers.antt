@@ -1,8 +1,8 @@
 use Rattle.std.proofs.Common.{ℕ, List, subst}
 use Rattle.std.specs.Prelude.{◌==◌}
 use Rattle.depot_rows.specs.depot_model.Fixes.{closes, fixed_job, renumbers_where}
-use Rattle.submit_core.specs.Telling.{Tells}
-use Rattle.submit_core.proofs.Ending.{tells_on}
+use Rattle.job_fixes.specs.Telling.{Tells}
+use Rattle.job_fixes.proofs.Telling.{tells_on}
 use Rattle.submit_core.proofs.fixes.add_closing.Goals as goal
 
 pub returns : goal.returns

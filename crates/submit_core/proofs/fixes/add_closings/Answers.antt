@@ -2,9 +2,9 @@ use Rattle.std.proofs.Common.{List, take, sym, ap, subst, ◌∙◌, append-nil}
 use Rattle.std.specs.Prelude.{flat_map}
 use Rattle.depot_rows.specs.depot_model.Deeds.{Deed}
 use Rattle.depot_rows.specs.depot_model.Fixes.{closing}
-use Rattle.submit_core.specs.Telling.{Tells}
-use Rattle.submit_core.proofs.Ending.{tells_none, tells_on}
-use Rattle.submit_core.proofs.Steps.{flat_on, front}
+use Rattle.job_fixes.specs.Telling.{Tells}
+use Rattle.job_fixes.proofs.Telling.{tells_none, tells_on}
+use Rattle.job_fixes.proofs.Steps.{flat_on, front}
 use Rattle.submit_core.proofs.fixes.add_closings.Goals as goal
 
 pub loop-form-init : goal.loop-form-init

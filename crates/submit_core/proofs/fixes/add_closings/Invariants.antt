@@ -6,7 +6,7 @@ use Rattle.depot_rows.specs.depot_model.Deeds.{Deed}
 use Rattle.depot_rows.specs.depot_model.Fixes.{closing}
 use Rattle.depot_rows.specs.depot_model.Rules.{IsSound}
 use Rattle.depot_rows.specs.Standing.{HasRows}
-use Rattle.submit_core.specs.Telling.{Tells}
+use Rattle.job_fixes.specs.Telling.{Tells}
 use Rattle.submit_core.proofs.fixes.add_closings.Given as goal
 
 abbrev pub invariant-loop-form : goal.invariant-loop-form

@@ -2,7 +2,7 @@ use Rattle.std.proofs.Common.{List, subst, ◌∙◌}
 use Rattle.std.specs.Prelude.{flat_map}
 use Rattle.depot_rows.specs.spec_form.Form.{FormValue}
 use Rattle.depot_rows.specs.depot_model.Fixes.{closing}
-use Rattle.submit_core.specs.Telling.{Tells}
+use Rattle.job_fixes.specs.Telling.{Tells}
 use Rattle.submit_core.proofs.fixes.close_jobs.Goals as goal
 
 pub returns : goal.returns

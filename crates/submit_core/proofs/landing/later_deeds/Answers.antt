@@ -3,7 +3,8 @@ use Rattle.std.specs.Prelude.{flat_map}
 use Rattle.depot_rows.specs.depot_model.Fixes.{closing, fixes_of}
 use Rattle.depot_rows.specs.declared.deed.Deed.{Deed}
 use Rattle.submit_core.specs.Landing.{dropped_by, ends_of}
-use Rattle.submit_core.proofs.Ending.{told_all, tells_on}
+use Rattle.job_fixes.proofs.Telling.{tells_on}
+use Rattle.submit_core.proofs.Ending.{told_all}
 use Rattle.submit_core.proofs.landing.later_deeds.Goals as goal
 
 pub returns : goal.returns

@@ -9,7 +9,7 @@ use Rattle.depot_rows.specs.declared.deed.Opening.{Opening}
 use Rattle.reply_rows.specs.Refusing.{first_of}
 use Rattle.submit_core.specs.Premises.{AreOpened}
 use Rattle.submit_core.proofs.Refusing.{first_on, next_first, none_of, row_first}
-use Rattle.submit_core.proofs.Steps.{back}
+use Rattle.job_fixes.proofs.Steps.{back}
 use Rattle.submit_core.proofs.refusals.files_refusal.Goals as goal
 
 pub loop-opening-preserved : goal.loop-opening-preserved

@@ -6,7 +6,7 @@ use Rattle.depot_rows.specs.Deed.{opening_of}
 use Rattle.reply_rows.specs.Refusing.{first_of}
 use Rattle.submit_core.specs.Submitting.{front_refusals, last_refusals}
 use Rattle.submit_core.proofs.Refusing.{first_part, second_part, third_part}
-use Rattle.submit_core.proofs.Steps.{map_length}
+use Rattle.job_fixes.proofs.Steps.{map_length}
 use Rattle.submit_core.proofs.submitting.submit_refusal.Goals as goal
 
 pub returns-then-is_some : goal.returns-then-is_some

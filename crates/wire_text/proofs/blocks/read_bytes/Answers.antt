@@ -5,7 +5,7 @@ use Rattle.wire_text.proofs.blocks.read_bytes.Goals as goal
 pub loop-bytes-init : goal.loop-bytes-init
 loop-bytes-init g c =
     rw c.in_ok-bytes.ensures.items (record {
-      moves = moves_none (g.S.Source.left c.args.source.now) c.args.intake.now c.requires;
+      moves = moves_none (g.S.Source.says.left c.args.source.now) c.args.intake.now c.requires;
       short = zero-le;
       counts = omega arith;
     })

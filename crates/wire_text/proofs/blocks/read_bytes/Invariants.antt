@@ -5,9 +5,9 @@ use Rattle.wire_text.proofs.blocks.read_bytes.Given as goal
 abbrev pub invariant-loop-bytes : goal.invariant-loop-bytes
 invariant-loop-bytes g l =
     record {
-      moves : Moves (g.S.Source.left l.fn.source) (g.S.Source.left l.source) l.fn.intake l.intake l.bytes.items;
+      moves : Moves (g.S.Source.says.left l.fn.source) (g.S.Source.says.left l.source) l.fn.intake l.intake l.bytes.items;
       short : length l.bytes.items ≤ l.count;
-      counts : g.S.Source.faults l.fn.source ≤ g.S.Source.faults l.source;
+      counts : g.S.Source.says.faults l.fn.source ≤ g.S.Source.says.faults l.source;
     }
 
 abbrev pub decreases-loop-bytes : goal.decreases-loop-bytes

@@ -5,9 +5,9 @@ use Rattle.wire_text.proofs.giving.give_all.Given as goal
 abbrev pub invariant-loop-at : goal.invariant-loop-at
 invariant-loop-at g l =
     record {
-      given : g.K.Sink.given l.sink ≡ extended (g.K.Sink.given l.fn.sink) (take l.at l.piece);
+      given : g.K.Sink.says.given l.sink ≡ extended (g.K.Sink.says.given l.fn.sink) (take l.at l.piece);
       within : l.at ≤ length l.piece;
-      counts : g.K.Sink.faults l.fn.sink ≤ g.K.Sink.faults l.sink;
+      counts : g.K.Sink.says.faults l.fn.sink ≤ g.K.Sink.says.faults l.sink;
     }
 
 abbrev pub decreases-loop-at : goal.decreases-loop-at

@@ -5,7 +5,7 @@ use Rattle.wire_text.proofs.lines.read_line.Goals as goal
 pub loop-line-init : goal.loop-line-init
 loop-line-init g c =
     rw c.new-line.ensures.items (record {
-      moves = moves_none (g.S.Source.left c.args.source.now) c.args.intake.now c.requires;
+      moves = moves_none (g.S.Source.says.left c.args.source.now) c.args.intake.now c.requires;
       free = tt;
       short = zero-le;
       counts = omega arith;

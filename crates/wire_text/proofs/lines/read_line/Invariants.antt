@@ -6,10 +6,10 @@ use Rattle.wire_text.proofs.lines.read_line.Given as goal
 abbrev pub invariant-loop-line : goal.invariant-loop-line
 invariant-loop-line g l =
     record {
-      moves : Moves (g.S.Source.left l.fn.source) (g.S.Source.left l.source) l.fn.intake l.intake l.line.items;
+      moves : Moves (g.S.Source.says.left l.fn.source) (g.S.Source.says.left l.source) l.fn.intake l.intake l.line.items;
       free : IsFree 10 l.line.items;
       short : length l.line.items ≤ 8192;
-      counts : g.S.Source.faults l.fn.source ≤ g.S.Source.faults l.source;
+      counts : g.S.Source.says.faults l.fn.source ≤ g.S.Source.says.faults l.source;
     }
 
 abbrev pub decreases-loop-line : goal.decreases-loop-line

@@ -29,7 +29,7 @@ pub returns-clause-any_moment : goal.returns-clause-any_moment
 returns-clause-any_moment g c = λ spot bytes le all.
     let P : Files → Type 0 = λ image. Has (image 0) spot bytes in
     let disk = disk_of c.args.self.now in
-    goes_on g.D.Disk.moment g.D.Disk.left_since disk disk c.write_at.new.self P _ (started g.D.Disk.moment g.D.Disk.left_since disk P (λ image left. all image (g.met.D.Disk.only_now disk image left))) c.write_at.ensures.time
+    goes_on g.D.Disk.says disk disk c.write_at.new.self P (started g.D.Disk.says disk P (λ image left. all image (g.met.D.Disk.only_now disk image left))) c.write_at.ensures.time
     (λ image left.
     let from = c.write_at.ensures.crash image left in
     still_has c.args.at (length c.args.content.now) (from.0 0) (image 0) spot bytes le from.2.this (all from.0 from.1))
@@ -38,7 +38,7 @@ pub returns-in_err-write_at-clause-any_moment : goal.returns-in_err-write_at-cla
 returns-in_err-write_at-clause-any_moment g c = λ spot bytes le all.
     let P : Files → Type 0 = λ image. Has (image 0) spot bytes in
     let disk = disk_of c.args.self.now in
-    goes_on g.D.Disk.moment g.D.Disk.left_since disk disk c.write_at.new.self P _ (started g.D.Disk.moment g.D.Disk.left_since disk P (λ image left. all image (g.met.D.Disk.only_now disk image left))) c.write_at.ensures.time
+    goes_on g.D.Disk.says disk disk c.write_at.new.self P (started g.D.Disk.says disk P (λ image left. all image (g.met.D.Disk.only_now disk image left))) c.write_at.ensures.time
     (λ image left.
     let from = c.write_at.ensures.crash image left in
     still_has c.args.at (length c.args.content.now) (from.0 0) (image 0) spot bytes le from.2.this (all from.0 from.1))

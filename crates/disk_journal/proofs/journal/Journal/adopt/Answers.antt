@@ -14,4 +14,4 @@ invariant_of-result g c =
     }
 
 pub returns-clause-stands : goal.returns-clause-stands
-returns-clause-stands g c = λ was can. standing g.D.Disk.may_leave _ was nothing can.generation_is can.are_groups can.count can.length_is refl can.each
+returns-clause-stands g c = λ was can. standing g.D.Disk.says _ was nothing can.generation_is can.are_groups can.count can.length_is refl can.each

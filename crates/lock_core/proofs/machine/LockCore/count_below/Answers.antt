@@ -2,7 +2,7 @@ use Rattle.std.proofs.Common.{◌+◌, ℕ, Bool, length, sym, ap, ◌∙◌, ar
 use Rattle.std.specs.Prelude.{◌||◌}
 use Rattle.lock_core.specs.Core.{may_wait, wait_at}
 use Rattle.lock_core.specs.Drawing.{has_other}
-use Rattle.command_needs.proofs.Ranges.{counted_one, without_one}
+use Rattle.lock_core.proofs.Ranges.{counted_one, without_one}
 use Rattle.lock_core.proofs.machine.LockCore.count_below.Goals as goal
 use Rattle.lock_core.proofs.machine.LockCore.count_below.Goals.{then-may_go_on, else-may_go_on}
 

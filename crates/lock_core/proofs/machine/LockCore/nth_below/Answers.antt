@@ -3,7 +3,7 @@ use Rattle.std.specs.Prelude.{◌||◌, slice_get}
 use Rattle.std.proofs.lemmas.Option.{slice_get_past}
 use Rattle.lock_core.specs.Core.{may_wait, wait_at}
 use Rattle.lock_core.specs.Drawing.{has_other, may_go_below}
-use Rattle.command_needs.proofs.Ranges.{counted_one, stands_at, without_one}
+use Rattle.lock_core.proofs.Ranges.{counted_one, stands_at, without_one}
 use Rattle.lock_core.proofs.machine.LockCore.nth_below.Goals as goal
 use Rattle.lock_core.proofs.machine.LockCore.nth_below.Goals.{then-may_go_on+else-passed-place, else-may_go_on}
 

@@ -1,7 +1,7 @@
-use Rattle.std.proofs.Common.{◌≡◌, ℕ, List, Option, Some, None, Result, Ok, Err, refl, sym, ap, ◌∙◌}
+use Rattle.std.proofs.Common.{◌≡◌, ℕ, List, Option, Some, None, Result, Ok, Err, sym, ap, ◌∙◌}
 use Rattle.std.specs.Prelude.{IfOk, slice_get}
 use Rattle.std.specs.Option.{option_copied}
-use Rattle.depot_rows.specs.table_changes.Changed.{changed_by, rows_of}
+use Rattle.depot_rows.specs.table_changes.Changed.{rows_of}
 use Rattle.command_core.specs.declared.outcome.Outcome.{Outcome}
 use Rattle.depot_rows.specs.depot_model.Deeds.{Deed}
 use Rattle.depot_rows.specs.depot_model.declared.request.Request.{Request}
@@ -10,7 +10,6 @@ use Rattle.lock_machine.proofs.Places.{some_is}
 use Rattle.lock_core.specs.Core.{IsReady}
 use Rattle.lock_core.specs.Finished.{room_at, room_in}
 use Rattle.lock_core.specs.declared.machine.LockCore.{LockCore}
-use Rattle.lock_core.specs.declared.party.Party.{Party}
 use Rattle.lock_core.specs.declared.work.Room.{Room}
 use Rattle.lock_core.specs.declared.work.Work.{Work}
 use Rattle.lock_core.proofs.machine.LockCore.tables_after.Goals as goal

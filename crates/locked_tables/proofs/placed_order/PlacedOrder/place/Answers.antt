@@ -1,14 +1,15 @@
-use Rattle.std.proofs.Common.{◌≡◌, ◌≤◌, ℕ, List, [], ◌∷◌, ◌++◌, map, vec_capacity, refl, sym, ap, subst, ◌∙◌, arith}
+use Rattle.std.proofs.Common.{◌≡◌, ◌≤◌, ℕ, List, [], ◌∷◌, ◌++◌, map, vec_capacity, sym, ap, subst, ◌∙◌, arith}
+use Rattle.std.specs.Prelude.{if◌then◌else◌}
 use mathlib.Core.List.{map-append}
-use Rattle.order_words.specs.Lanes.{has_lane}
 use Rattle.order_words.specs.Seats.{OrderState}
+use Rattle.table_changes.specs.Changed.{changed_by}
 use Rattle.locked_tables.specs.Held.{lanes_next}
 use Rattle.locked_tables.specs.Known.{all_places}
-use Rattle.locked_tables.specs.Taken.{archive_lane, end_after, journal_lane, place_of}
+use Rattle.locked_tables.specs.Taken.{end_after, place_of, rows_after}
 use Rattle.locked_tables.specs.declared.taken.Taken.{Taken}
-use Rattle.locked_tables.proofs.Archive.{end_same}
-use Rattle.locked_tables.proofs.Lanes.{next_of_tables, no_lane, or_no_first}
-use Rattle.locked_tables.proofs.Placed.{TouchesLanes, counts_kept, parties_kept, spares, tables_kept}
+use Rattle.locked_tables.proofs.Archive.{end_placed}
+use Rattle.locked_tables.proofs.Lanes.{next_of_tables}
+use Rattle.locked_tables.proofs.Placed.{TouchesLanes, counts_kept, of_archive, of_journal, parties_kept, rows_changed_by, tables_kept}
 use Rattle.locked_tables.proofs.Room.{has_room, left_behind}
 use Rattle.locked_tables.proofs.placed_order.PlacedOrder.place.Goals as goal
 
@@ -17,70 +18,68 @@ push_reserved-requires g c =
     let places = g.N.Naming.places in
     let order = c.self.inside.seat.list in
     let known = c.args.pass.now in
-    let behind = left_behind places known order c.place_written-lanes.new.order.list c.place_written-lanes.ensures.own c.requires.room in
-    let less = has_room g.N.Naming.run places order c.self.invariant.3 c.self.invariant.4 known.party c.place_written-lanes.ensures.party behind c.self.inside.places.items (vec_capacity c.self.inside.places) c.self.invariant.1 c.self.invariant.5 in
+    let placed = c.place-lanes.ensures.placed in
+    let behind = left_behind places known order c.place-lanes.new.order.list placed.own c.requires.room in
+    let less = has_room g.N.Naming.run places order c.self.invariant.3 c.self.invariant.4 known.party placed.party behind c.self.inside.places.items (vec_capacity c.self.inside.places) c.self.invariant.1 c.self.invariant.5 in
     omega (arith, less, c.self.inside.places.ok.0)
 
 pub invariant_of-self : goal.invariant_of-self
 invariant_of-self g c =
     let run = g.N.Naming.run in
     let places = g.N.Naming.places in
+    let archive = g.A.ArchiveLane.is_held in
+    let journal = g.J.JournalLane.is_held in
     let order = c.self.inside.seat.list in
-    let after = c.place_written-lanes.new.order.list in
-    let entry : Taken = record c.args.taken { lanes = c.place_written-lanes.result } in
-    let front : List ℕ = journal_lane ∷ [] in
+    let after = c.place-lanes.new.order.list in
+    let placed = c.place-lanes.ensures.placed in
+    let entry : Taken = record c.args.taken { lanes = c.place-lanes.result } in
     let party = c.args.pass.now.party in
     let tables : List ℕ = lanes_next c.args.held.now in
-    let touches : TouchesLanes g.N.Naming.run entry front party tables = record {
-      of_run = c.place_written-lanes.ensures.party;
-      between = ((omega arith, omega arith), tt);
-      below = next_of_tables c.args.held.now;
-      are = λ lane. c.place_written-lanes.ensures.lanes lane ∙ or_no_first (has_lane 0 lane) _ (no_lane lane);
-    } in
-    let last : after ≡ order ++ entry ∷ [] = ap (λ (o : OrderState Taken). o.list) c.place_written-lanes.ensures.order in
+    let touches : TouchesLanes run entry archive journal party tables = record { of_run = placed.party; below = next_of_tables c.args.held.now; are = c.place-lanes.ensures.lanes } in
+    let last : after ≡ order ++ entry ∷ [] = ap (λ (o : OrderState Taken). o.list) placed.order in
     let items = c.push_reserved.ensures.items
     ∙ (λ i. c.self.invariant.1 i ++ c.place-place.ensures i ∷ [])
     ∙ sym (map-append place_of order (entry ∷ []))
     ∙ ap (map place_of) (sym last) in (
-      ap (λ (o : OrderState Taken). o.run) c.place_written-lanes.ensures.order ∙ c.self.invariant.0,
+      ap (λ (o : OrderState Taken). o.run) placed.order ∙ c.self.invariant.0,
       items,
-      tables_kept run entry front party tables touches order after last c.requires.only c.self.invariant.2,
-      parties_kept run entry front party tables touches order after last c.requires.party c.self.invariant.3,
-      counts_kept places c.args.pass.now order after entry last c.place_written-lanes.ensures.own c.requires.party c.requires.room c.self.invariant.4,
+      tables_kept run entry archive journal party tables touches order after last c.requires.only c.self.invariant.2,
+      parties_kept run entry archive journal party tables touches order after last c.requires.party c.self.invariant.3,
+      counts_kept places c.args.pass.now order after entry last placed.own c.requires.party c.requires.room c.self.invariant.4,
       subst (λ (n : ℕ). all_places places 16 ≤ n) (sym c.push_reserved.ensures.capacity) c.self.invariant.5,
     )
 
-pub returns-clause-spares : goal.returns-clause-spares
-returns-clause-spares g c =
-    let entry : Taken = record c.args.taken { lanes = c.place_written-lanes.result } in
-    let front : List ℕ = journal_lane ∷ [] in
-    let party = c.args.pass.now.party in
-    let tables : List ℕ = lanes_next c.args.held.now in
-    let touches : TouchesLanes g.N.Naming.run entry front party tables = record {
-      of_run = c.place_written-lanes.ensures.party;
-      between = ((omega arith, omega arith), tt);
-      below = next_of_tables c.args.held.now;
-      are = λ lane. c.place_written-lanes.ensures.lanes lane ∙ or_no_first (has_lane 0 lane) _ (no_lane lane);
-    } in
-    spares g.N.Naming.run entry front party tables touches archive_lane (omega arith, omega arith) refl
+pub returns-clause-of_archive : goal.returns-clause-of_archive
+returns-clause-of_archive g c =
+    of_archive g.N.Naming.run (record c.args.taken { lanes = c.place-lanes.result }) g.A.ArchiveLane.is_held g.J.JournalLane.is_held c.args.pass.now.party (lanes_next c.args.held.now)
+    (record { of_run = c.place-lanes.ensures.placed.party; below = next_of_tables c.args.held.now; are = c.place-lanes.ensures.lanes })
+
+pub returns-clause-of_journal : goal.returns-clause-of_journal
+returns-clause-of_journal g c =
+    of_journal g.N.Naming.run (record c.args.taken { lanes = c.place-lanes.result }) g.A.ArchiveLane.is_held g.J.JournalLane.is_held c.args.pass.now.party (lanes_next c.args.held.now)
+    (record { of_run = c.place-lanes.ensures.placed.party; below = next_of_tables c.args.held.now; are = c.place-lanes.ensures.lanes })
 
 pub returns-clause-end : goal.returns-clause-end
 returns-clause-end g c =
+    let archive = g.A.ArchiveLane.is_held in
     let end = g.N.Naming.end in
     let order = c.self.inside.seat.list in
-    let after = c.place_written-lanes.new.order.list in
-    let entry : Taken = record c.args.taken { lanes = c.place_written-lanes.result } in
-    let front : List ℕ = journal_lane ∷ [] in
-    let party = c.args.pass.now.party in
-    let tables : List ℕ = lanes_next c.args.held.now in
-    let touches : TouchesLanes g.N.Naming.run entry front party tables = record {
-      of_run = c.place_written-lanes.ensures.party;
-      between = ((omega arith, omega arith), tt);
-      below = next_of_tables c.args.held.now;
-      are = λ lane. c.place_written-lanes.ensures.lanes lane ∙ or_no_first (has_lane 0 lane) _ (no_lane lane);
-    } in
-    let spared = spares g.N.Naming.run entry front party tables touches archive_lane (omega arith, omega arith) refl in
-    subst (λ (l : List Taken). end_after end after ≡ end_after end l) c.self.view_is (end_same end order after entry (ap (λ (o : OrderState Taken). o.list) c.place_written-lanes.ensures.order) spared)
+    let after = c.place-lanes.new.order.list in
+    let placed = c.place-lanes.ensures.placed in
+    let entry : Taken = record c.args.taken { lanes = c.place-lanes.result } in
+    let touched =
+    of_archive g.N.Naming.run entry archive g.J.JournalLane.is_held c.args.pass.now.party (lanes_next c.args.held.now)
+    (record { of_run = placed.party; below = next_of_tables c.args.held.now; are = c.place-lanes.ensures.lanes }) in
+    subst (λ (l : List Taken). end_after end after ≡ (if archive then c.args.taken.end else end_after end l)) c.self.view_is
+    (end_placed end order after entry archive (ap (λ (o : OrderState Taken). o.list) placed.order) touched)
 
-pub returns-clause-writes : goal.returns-clause-writes
-returns-clause-writes g c = c.place_written-lanes.ensures.lanes journal_lane ∙ or_no_first (has_lane 0 journal_lane) _ (no_lane journal_lane)
+pub returns-clause-rows : goal.returns-clause-rows
+returns-clause-rows g c = λ table.
+    let rows = g.N.Naming.rows in
+    let after = c.place-lanes.new.order.list in
+    let placed = c.place-lanes.ensures.placed in
+    let entry : Taken = record c.args.taken { lanes = c.place-lanes.result } in
+    subst (λ (l : List Taken). rows_after rows after table ≡ changed_by (rows_after rows l) entry.changes table) c.self.view_is
+    (rows_changed_by g.N.Naming.run entry g.A.ArchiveLane.is_held g.J.JournalLane.is_held c.args.pass.now.party (lanes_next c.args.held.now)
+    (record { of_run = placed.party; below = next_of_tables c.args.held.now; are = c.place-lanes.ensures.lanes })
+    c.self.inside.seat.list after (ap (λ (o : OrderState Taken). o.list) placed.order) c.requires.only rows table)

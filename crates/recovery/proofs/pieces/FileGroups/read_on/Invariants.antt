@@ -12,9 +12,9 @@ invariant-loop g l = record {
   file : l.self.file ≡ l.initial.self.file;
   at : l.self.reader.at ≡ l.initial.self.reader.at;
   number : l.self.reader.number ≡ l.initial.self.reader.number;
-  text : (files : Files) → g.D.Disk.seen l.initial.disk files → KnowsEnd l.initial.self files → (text_left l.self files ≡ text_left l.initial.self files) × KnowsEnd l.self files;
-  reads : OnlyReads g.D.Disk.seen g.D.Disk.may_leave g.D.Disk.moment g.D.Disk.left_since l.initial.disk l.disk;
-  faults : g.D.Disk.faults l.initial.disk ≤ g.D.Disk.faults l.disk;
+  text : (files : Files) → g.D.Disk.says.seen l.initial.disk files → KnowsEnd l.initial.self files → (text_left l.self files ≡ text_left l.initial.self files) × KnowsEnd l.self files;
+  reads : OnlyReads g.D.Disk.says l.initial.disk l.disk;
+  faults : g.D.Disk.says.faults l.initial.disk ≤ g.D.Disk.says.faults l.disk;
 }
 
 abbrev pub decreases-loop : goal.decreases-loop

@@ -19,4 +19,4 @@ returns-clause-grows g c = c.pull_into-moved.ensures.grows
 
 pub returns-clause-good : goal.returns-clause-good
 returns-clause-good g c = λ rules before told p masters.
-    no_bad_feed rules before c.args.self.now (g.L.Link.tells c.pull_into-moved.new.link) p (c.pull_into-moved.ensures.grows before told) masters c.pull_into-moved.result c.pull_into-moved.ensures.stopped
+    no_bad_feed rules before c.args.self.now (g.L.Link.says.tells c.pull_into-moved.new.link) p (c.pull_into-moved.ensures.grows before told) masters c.pull_into-moved.result c.pull_into-moved.ensures.stopped

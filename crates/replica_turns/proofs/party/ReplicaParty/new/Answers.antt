@@ -7,4 +7,4 @@ use Rattle.replica_turns.proofs.party.ReplicaParty.new.Goals as goal
 pub returns-clause-left : goal.returns-clause-left
 returns-clause-left g c =
     ap (λ (requests : List Request). length requests) c.reverse.ensures.items
-    ∙ (length-reverse c.in_ok-left.left.items ∙ requests_many (g.C.Clock.may_give c.args.clock.now) c.args.party 1 c.args.script.session.caller c.args.script.session.commands c.in_ok-left.left.items c.in_ok-left.ensures)
+    ∙ (length-reverse c.in_ok-left.left.items ∙ requests_many (g.C.Clock.says.may_give c.args.clock.now) c.args.party 1 c.args.script.session.caller c.args.script.session.commands c.in_ok-left.left.items c.in_ok-left.ensures)

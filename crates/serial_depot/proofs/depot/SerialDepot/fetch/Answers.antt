@@ -22,7 +22,7 @@ returns-clause-ran g c = λ since start places h.
     let depot = c.args.self.now in
     record {
       tells = h.tells;
-      over = over_fetched D.seen D.may_leave D.moment D.left_since (D.may_leave (archives.disk_of depot.archive)) (archives.used_of depot.archive) depot.tables depot.journal since start places h.over c.fetch_texts.new.journal
+      over = over_fetched D.says (D.says.may_leave (archives.disk_of depot.archive)) (archives.used_of depot.archive) depot.tables depot.journal since start places h.over c.fetch_texts.new.journal
           c.fetch_texts.ensures.fetched;
     }
 
@@ -30,4 +30,4 @@ pub returns-clause-groups : goal.returns-clause-groups
 returns-clause-groups g c = c.fetch_texts.ensures.fetched.groups
 
 pub returns-clause-stored : goal.returns-clause-stored
-returns-clause-stored g c = stored_same g.D.Disk.may_leave c.args.self.now.archive
+returns-clause-stored g c = stored_same g.D.Disk.says c.args.self.now.archive

@@ -1,10 +1,6 @@
-use Rattle.std.proofs.Common.{◌≡◌, List, refl}
 use Rattle.depot_rows.specs.table_changes.Changed.{rows_of}
 use Rattle.depot_rows.specs.depot_model.Commands.{step}
 use Rattle.depot_rows.specs.depot_model.Step.{after}
-use Rattle.depot_rows.specs.depot_model.declared.request.Request.{Request}
-use Rattle.session_loop.specs.Taking.{IsProper}
-use Rattle.serial_depot.specs.Committing.{IsOutcomeOf}
 use Rattle.serial_depot.proofs.Differences.{no_changes}
 use Rattle.serial_depot.proofs.Finished.{none_read}
 use Rattle.serial_depot.proofs.Laws.{formed_of}

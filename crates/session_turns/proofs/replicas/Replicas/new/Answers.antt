@@ -12,11 +12,11 @@ use Rattle.session_turns.proofs.replicas.Replicas.new.Goals as goal
 pub left_counts-requires : goal.left_counts-requires
 left_counts-requires g c =
     let Few : List (Option ReplicaParty) → Type 0 = All (λ (p : Option ReplicaParty). length (left_in p) ≤ 67108864) in
-    let few = few_left (g.C.Clock.may_give c.args.clock.now) 1 c.args.scripts.items c.in_ok-parties.parties.items c.in_ok-parties.ensures
+    let few = few_left (g.C.Clock.says.may_give c.args.clock.now) 1 c.args.scripts.items c.in_ok-parties.parties.items c.in_ok-parties.ensures
     (recursion_from_All (λ (script : Option ReplicaScript). length (replica_commands script) ≤ 67108864) c.args.scripts.items c.requires.few) in
     subst Few (sym c.deref.ensures.value) (All-from_recursion (λ (p : Option ReplicaParty). length (left_in p) ≤ 67108864) c.in_ok-parties.parties.items few)
 
 pub returns-clause-others : goal.returns-clause-others
 returns-clause-others g c =
     c.in_ok-others.ensures ∙ (ap (map (λ (p : Option ReplicaParty). length (left_in p))) c.deref.ensures.value
-    ∙ lefts_are (g.C.Clock.may_give c.args.clock.now) 1 c.args.scripts.items c.in_ok-parties.parties.items c.in_ok-parties.ensures)
+    ∙ lefts_are (g.C.Clock.says.may_give c.args.clock.now) 1 c.args.scripts.items c.in_ok-parties.parties.items c.in_ok-parties.ensures)

@@ -17,7 +17,7 @@ returns-after-self-clause-stepped g c = λ p at_p some.
     let at_i : slice_get items at ≡ Some found = slice_get_read items (length items) at found refl within c.index_mut.ensures.value in
     let same : p ≡ c.in-Some.party = some_is (some_is (sym at_p ∙ at_i) ∙ c.in-Some.is) in
     let here : 0 < length c.in-Some.party.left.items = (let less = ap (λ (q : ReplicaParty). length q.left.items) same in omega (arith, some, less)) in
-    stepped g.D.Disk.seen g.D.Disk.may_leave c.args.depot.now at p c.in-Some.party c.answer_next.new.self c.args.self.now _ (Ok c.in-Ok.field-0) (Ok c.in-Ok.field-0.text) same refl
+    stepped g.D.Disk.says c.args.depot.now at p c.in-Some.party c.answer_next.new.self c.args.self.now _ (Ok c.in-Ok.field-0) (Ok c.in-Ok.field-0.text) same refl
     (c.in-Ok.ensures.turned here) (c.in-Ok.ensures.left here) (λ number. refl)
     (elim c.if-self.branch [
       | then-self w ↦ (w.self-is ∙ w.if-self.true) ∙ sym (ap (λ (b : Bool). b || c.in-Ok.field-0.lost) w.if-self.true)
@@ -33,5 +33,5 @@ returns-in-Err-clause-stepped g c = λ p at_p some.
     let at_i : slice_get items at ≡ Some found = slice_get_read items (length items) at found refl within c.index_mut.ensures.value in
     let same : p ≡ c.in-Some.party = some_is (some_is (sym at_p ∙ at_i) ∙ c.in-Some.is) in
     let here : 0 < length c.in-Some.party.left.items = (let less = ap (λ (q : ReplicaParty). length q.left.items) same in omega (arith, some, less)) in
-    stepped g.D.Disk.seen g.D.Disk.may_leave c.args.depot.now at p c.in-Some.party c.answer_next.new.self c.args.self.now _ (Err c.in-Err.error) (Err c.in-Err.error) same refl
+    stepped g.D.Disk.says c.args.depot.now at p c.in-Some.party c.answer_next.new.self c.args.self.now _ (Err c.in-Err.error) (Err c.in-Err.error) same refl
     (c.in-Err.ensures.turned here) (c.in-Err.ensures.left here) (λ number. refl) (sym (or-false c.args.self.now.lost))

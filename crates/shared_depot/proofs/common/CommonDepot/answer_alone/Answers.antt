@@ -16,7 +16,7 @@ use Rattle.shared_depot.proofs.common.CommonDepot.answer_alone.Goals as goal
 pub invariant_of-self : goal.invariant_of-self
 invariant_of-self g c =
     let D = g.D.Disk in
-    subst (λ (l : List Taken). KeepsOrder D.seen D.may_leave D.moment D.left_since D.faults g.N.Naming.rows g.N.Naming.end g.N.Imaging.images g.N.Serving.begins g.N.Serving.faults l c.self.inside.tables)
+    subst (λ (l : List Taken). KeepsOrder D.says g.N.Naming.rows g.N.Naming.end g.N.Imaging.images g.N.Serving.begins g.N.Serving.faults l c.self.inside.tables)
     (sym c.tell.ensures.same) c.self.invariant
 
 pub returns : goal.returns
@@ -37,13 +37,13 @@ returns g c =
       answer = λ marks. record {
         answered = λ archive all.
             let depot : SerialDepot g.row.D.Denot = record { tables = run.0; journal = run.1.0; archive = archive } in
-            let here = subst (λ (l : List Taken). HasAllStored D.seen D.may_leave D.moment D.left_since end images begins l archive) known all in (
+            let here = subst (λ (l : List Taken). HasAllStored D.says end images begins l archive) known all in (
               depot,
               (
                 λ since start at.
-                    subst (λ (l : List Taken). HasRun D.seen D.may_leave D.moment D.left_since depot since start (map placed_of l)) (sym known)
-                    (depot_ran D.seen D.may_leave D.moment D.left_since D.faults rows end images begins g.N.Serving.faults order run.0 run.1.0 run.1.1 archive here since start at),
-                λ formed. answered_so D.seen D.may_leave depot replica replica request answer (c.answer_alone-answer.ensures.answered depot formed) (kept_so answer replica.replica),
+                    subst (λ (l : List Taken). HasRun D.says depot since start (map placed_of l)) (sym known)
+                    (depot_ran D.says rows end images begins g.N.Serving.faults order run.0 run.1.0 run.1.1 archive here since start at),
+                λ formed. answered_so D.says depot replica replica request answer (c.answer_alone-answer.ensures.answered depot formed) (kept_so answer replica.replica),
               ),
             );
         heard = record {

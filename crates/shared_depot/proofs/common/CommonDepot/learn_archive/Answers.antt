@@ -10,7 +10,7 @@ use Rattle.shared_depot.proofs.common.CommonDepot.learn_archive.Goals as goal
 pub invariant_of-self : goal.invariant_of-self
 invariant_of-self g c =
     let D = g.D.Disk in
-    subst (λ (l : List Taken). KeepsOrder D.seen D.may_leave D.moment D.left_since D.faults g.N.Naming.rows g.N.Naming.end g.N.Imaging.images g.N.Serving.begins g.N.Serving.faults l c.self.inside.tables)
+    subst (λ (l : List Taken). KeepsOrder D.says g.N.Naming.rows g.N.Naming.end g.N.Imaging.images g.N.Serving.begins g.N.Serving.faults l c.self.inside.tables)
     (sym c.learn_archive.ensures.same) c.self.invariant
 
 pub invariant_of-archive : goal.invariant_of-archive
@@ -19,9 +19,9 @@ invariant_of-archive g c =
     let order = c.self.inside.order in
     let known : ArchiveKnown = record { list = c.archive.inside.lane; failed = c.archive.inside.failed } in
     let behind = c.learn_archive.ensures.behind in (
-      subst (λ (l : List Taken). IsArchiveAfter D.seen D.may_leave D.moment D.left_since D.faults g.N.Naming.end g.N.Imaging.images g.N.Serving.begins g.N.Serving.content_faults (record { list = l; failed = known.failed }) c.archive.inside.archive)
+      subst (λ (l : List Taken). IsArchiveAfter D.says g.N.Naming.end g.N.Imaging.images g.N.Serving.begins g.N.Serving.content_faults (record { list = l; failed = known.failed }) c.archive.inside.archive)
           (sym c.learn_archive.ensures.learnt)
-          (archive_learnt D.seen D.may_leave D.moment D.left_since D.faults g.N.Naming.end g.N.Imaging.images g.N.Serving.begins g.N.Serving.content_faults known order c.archive.inside.archive c.archive.invariant.0
+          (archive_learnt D.says g.N.Naming.end g.N.Imaging.images g.N.Serving.begins g.N.Serving.content_faults known order c.archive.inside.archive c.archive.invariant.0
           (stores_kept known.list order behind) (lost_kept known.list order behind)),
       c.archive.invariant.1,
     )

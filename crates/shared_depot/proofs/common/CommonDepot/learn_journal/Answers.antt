@@ -7,7 +7,7 @@ use Rattle.shared_depot.proofs.common.CommonDepot.learn_journal.Goals as goal
 pub invariant_of-self : goal.invariant_of-self
 invariant_of-self g c =
     let D = g.D.Disk in
-    subst (λ (l : List Taken). KeepsOrder D.seen D.may_leave D.moment D.left_since D.faults g.N.Naming.rows g.N.Naming.end g.N.Imaging.images g.N.Serving.begins g.N.Serving.faults l c.self.inside.tables)
+    subst (λ (l : List Taken). KeepsOrder D.says g.N.Naming.rows g.N.Naming.end g.N.Imaging.images g.N.Serving.begins g.N.Serving.faults l c.self.inside.tables)
     (sym c.learn_journal.ensures.same) c.self.invariant
 
 pub returns-clause-on : goal.returns-clause-on
@@ -17,5 +17,5 @@ returns-clause-on g c =
     let end = g.N.Naming.end in
     let images = g.N.Imaging.images in
     let begins = g.N.Serving.begins in
-    subst (λ (l : List Taken). GoesOnQuietly D.may_leave D.moment D.left_since rows end images begins c.args.lane.now l) c.self.view_is
-    (goes_on_quietly D.may_leave D.moment D.left_since rows end images begins c.args.lane.now c.self.inside.order c.self.invariant.quiet c.learn_journal.ensures.behind)
+    subst (λ (l : List Taken). GoesOnQuietly D.says rows end images begins c.args.lane.now l) c.self.view_is
+    (goes_on_quietly D.says rows end images begins c.args.lane.now c.self.inside.order c.self.invariant.quiet c.learn_journal.ensures.behind)

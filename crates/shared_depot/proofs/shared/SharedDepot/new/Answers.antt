@@ -6,7 +6,7 @@ use Rattle.shared_depot.proofs.shared.SharedDepot.new.Goals as goal
 pub new-archive-requires-clause-archive : goal.new-archive-requires-clause-archive
 new-archive-requires-clause-archive g c =
     let D = g.D.Disk in
-    fresh_archive D.seen D.may_leave D.moment D.left_since D.faults g.N.Naming.rows g.N.Naming.end g.N.Imaging.images g.N.Serving.begins c.args.depot
+    fresh_archive D.says g.N.Naming.rows g.N.Naming.end g.N.Imaging.images g.N.Serving.begins c.args.depot
     c.requires.can c.requires.rows c.requires.end (λ files. (c.requires.images files).0) (λ files. (c.requires.images files).1) c.requires.begins g.N.Serving.content_faults c.requires.content_faults
 
 pub new-common-requires-clause-run : goal.new-common-requires-clause-run
@@ -15,7 +15,7 @@ new-common-requires-clause-run g c =
       c.args.depot.tables,
       (
         c.args.depot.journal,
-        fresh_run D.seen D.may_leave D.moment D.left_since D.faults g.N.Naming.rows g.N.Naming.end g.N.Imaging.images g.N.Serving.begins c.args.depot
+        fresh_run D.says g.N.Naming.rows g.N.Naming.end g.N.Imaging.images g.N.Serving.begins c.args.depot
             c.requires.can c.requires.rows c.requires.end (λ files. (c.requires.images files).0) (λ files. (c.requires.images files).1) c.requires.begins g.N.Serving.faults c.requires.faults,
       ),
     )
@@ -23,7 +23,7 @@ new-common-requires-clause-run g c =
 pub new-journal-requires-clause-run : goal.new-journal-requires-clause-run
 new-journal-requires-clause-run g c =
     let D = g.D.Disk in
-    fresh_run D.seen D.may_leave D.moment D.left_since D.faults g.N.Naming.rows g.N.Naming.end g.N.Imaging.images g.N.Serving.begins c.args.depot
+    fresh_run D.says g.N.Naming.rows g.N.Naming.end g.N.Imaging.images g.N.Serving.begins c.args.depot
     c.requires.can c.requires.rows c.requires.end (λ files. (c.requires.images files).0) (λ files. (c.requires.images files).1) c.requires.begins g.N.Serving.faults c.requires.faults
 
 pub new-common-requires-clause-rows : goal.new-common-requires-clause-rows

@@ -21,7 +21,7 @@ pub invariant_of-held : goal.invariant_of-held
 invariant_of-held g c =
     let D = g.D.Disk in
     let same = c.tell.ensures.same ∙ c.learn_archive.ensures.same in
-    subst (λ (l : List Taken). KeepsOrder D.seen D.may_leave D.moment D.left_since D.faults g.N.Naming.rows g.N.Naming.end g.N.Imaging.images g.N.Serving.begins g.N.Serving.faults l c.held.inside.tables) (sym same) c.held.invariant
+    subst (λ (l : List Taken). KeepsOrder D.says g.N.Naming.rows g.N.Naming.end g.N.Imaging.images g.N.Serving.begins g.N.Serving.faults l c.held.inside.tables) (sym same) c.held.invariant
 
 pub invariant_of-self : goal.invariant_of-self
 invariant_of-self g c =
@@ -37,11 +37,11 @@ invariant_of-self g c =
     let was = c.self.invariant.0 in
     let known : ArchiveKnown = record { list = c.self.inside.lane; failed = c.self.inside.failed } in
     let behind = c.learn_archive.ensures.behind in
-    let read = archive_read D.seen D.may_leave D.moment D.left_since D.faults end images begins contents_then known old new was next.read next.never_falls known.failed
-    (caused_on (lost_in known) contents_then (D.faults (disk_of old)) (D.faults (disk_of new)) was.caused next.never_falls) in (
-      subst (λ (l : List Taken). IsArchiveAfter D.seen D.may_leave D.moment D.left_since D.faults end images begins contents_then (record { list = l; failed = known.failed }) new) (sym c.learn_archive.ensures.learnt)
-          (archive_learnt D.seen D.may_leave D.moment D.left_since D.faults end images begins contents_then known order new read (stores_kept known.list order behind) (lost_kept known.list order behind)),
-      mark_caused contents_then (D.faults (disk_of old)) (D.faults (disk_of new)) was.no_fewer next.never_falls _ (lost_caused c.answer_print-answer.result _ next.cause) c.self.inside.marks.list c.mark_lost.new.all.list
+    let read = archive_read D.says end images begins contents_then known old new was next.read next.never_falls known.failed
+    (caused_on (lost_in known) contents_then (D.says.faults (disk_of old)) (D.says.faults (disk_of new)) was.caused next.never_falls) in (
+      subst (λ (l : List Taken). IsArchiveAfter D.says end images begins contents_then (record { list = l; failed = known.failed }) new) (sym c.learn_archive.ensures.learnt)
+          (archive_learnt D.says end images begins contents_then known order new read (stores_kept known.list order behind) (lost_kept known.list order behind)),
+      mark_caused contents_then (D.says.faults (disk_of old)) (D.says.faults (disk_of new)) was.no_fewer next.never_falls _ (lost_caused c.answer_print-answer.result _ next.cause) c.self.inside.marks.list c.mark_lost.new.all.list
           c.mark_lost.ensures.caused c.self.invariant.1,
     )
 
@@ -75,8 +75,8 @@ returns g c =
     ap (λ (p : ℕ). has_marks p given) (sym of_party_is) ∙ (c.mark_lost.ensures.marked ∙ ap (λ (p : ℕ). has_marks p marks.archive.list || lost) c.marks.invariant) in
     let seen : ArchiveKnown = record { list = c.self.inside.lane; failed = c.self.inside.failed } in
     let behind = c.learn_archive.ensures.behind in
-    let at_order = archive_learnt D.seen D.may_leave D.moment D.left_since D.faults end images begins g.N.Serving.content_faults seen order archive c.self.invariant.0 (stores_kept seen.list order behind) (lost_kept seen.list order behind) in
-    let all = has_all D.seen D.may_leave D.moment D.left_since D.faults end images begins g.N.Serving.content_faults (record { list = order; failed = seen.failed }) archive at_order in
+    let at_order = archive_learnt D.says end images begins g.N.Serving.content_faults seen order archive c.self.invariant.0 (stores_kept seen.list order behind) (lost_kept seen.list order behind) in
+    let all = has_all D.says end images begins g.N.Serving.content_faults (record { list = order; failed = seen.failed }) archive at_order in
     let depot : SerialDepot g.row.D.Denot = record { tables = tables; journal = journal; archive = archive } in
     record {
       answer = record {
@@ -84,11 +84,11 @@ returns g c =
           depot,
           (
             λ since start at.
-                subst (λ (l : List Taken). HasRun D.seen D.may_leave D.moment D.left_since depot since start (map placed_of l)) (sym known)
-                (depot_ran D.seen D.may_leave D.moment D.left_since D.faults rows end images begins g.N.Serving.faults order tables journal was archive all since start at),
+                subst (λ (l : List Taken). HasRun D.says depot since start (map placed_of l)) (sym known)
+                (depot_ran D.says rows end images begins g.N.Serving.faults order tables journal was archive all since start at),
             λ formed.
-                told_on D.seen D.may_leave depot replica replica request answer c.mark_lost.result c.mark_lost.ensures.told
-                (answered_so D.seen D.may_leave depot replica replica request answer (c.answer_print-answer.ensures.answered depot refl formed) (kept_so answer replica.replica)),
+                told_on D.says depot replica replica request answer c.mark_lost.result c.mark_lost.ensures.told
+                (answered_so D.says depot replica replica request answer (c.answer_print-answer.ensures.answered depot refl formed) (kept_so answer replica.replica)),
           ),
         );
         heard = record {

@@ -13,10 +13,10 @@ invariant_of-self g c =
     let D = g.D.Disk in
     let read = c.tell_reading.ensures in
     let known : ArchiveKnown = record { list = c.self.inside.lane; failed = c.self.inside.failed } in (
-      archive_read D.seen D.may_leave D.moment D.left_since D.faults g.N.Naming.end g.N.Imaging.images g.N.Serving.begins g.N.Serving.content_faults known c.self.inside.archive c.tell_reading.new.archive c.self.invariant.0
+      archive_read D.says g.N.Naming.end g.N.Imaging.images g.N.Serving.begins g.N.Serving.content_faults known c.self.inside.archive c.tell_reading.new.archive c.self.invariant.0
           (record { same = read.same; crash = read.crash; used = read.used }) read.never_falls known.failed
-          (caused_on _ g.N.Serving.content_faults (D.faults (disk_of c.self.inside.archive)) (D.faults (disk_of c.tell_reading.new.archive)) c.self.invariant.0.caused read.never_falls),
-      mark_stays g.N.Serving.content_faults (D.faults (disk_of c.self.inside.archive)) (D.faults (disk_of c.tell_reading.new.archive)) read.never_falls c.self.inside.marks.list c.self.invariant.1,
+          (caused_on _ g.N.Serving.content_faults (D.says.faults (disk_of c.self.inside.archive)) (D.says.faults (disk_of c.tell_reading.new.archive)) c.self.invariant.0.caused read.never_falls),
+      mark_stays g.N.Serving.content_faults (D.says.faults (disk_of c.self.inside.archive)) (D.says.faults (disk_of c.tell_reading.new.archive)) read.never_falls c.self.inside.marks.list c.self.invariant.1,
     )
 
 pub invariant_of-self-2 : goal.invariant_of-self-2
@@ -25,12 +25,12 @@ invariant_of-self-2 g c =
     let read = c.tell_reading.ensures in
     let known : ArchiveKnown = record { list = c.self.inside.lane; failed = c.self.inside.failed } in
     let unread = c.is_unread.result in (
-      archive_read D.seen D.may_leave D.moment D.left_since D.faults g.N.Naming.end g.N.Imaging.images g.N.Serving.begins g.N.Serving.content_faults known c.self.inside.archive c.tell_reading.new.archive c.self.invariant.0
+      archive_read D.says g.N.Naming.end g.N.Imaging.images g.N.Serving.begins g.N.Serving.content_faults known c.self.inside.archive c.tell_reading.new.archive c.self.invariant.0
           (record { same = read.same; crash = read.crash; used = read.used }) read.never_falls c.either-self-inside.result
-          (subst (λ (b : Bool). counted (lost_count known.list + cond b 1 0) g.N.Serving.content_faults ≤ D.faults (disk_of c.tell_reading.new.archive)) (sym c.either-self-inside.ensures)
-          (failed_caused (lost_count known.list) g.N.Serving.content_faults (D.faults (disk_of c.self.inside.archive)) (D.faults (disk_of c.tell_reading.new.archive)) known.failed unread c.self.invariant.0.caused read.never_falls
+          (subst (λ (b : Bool). counted (lost_count known.list + cond b 1 0) g.N.Serving.content_faults ≤ D.says.faults (disk_of c.tell_reading.new.archive)) (sym c.either-self-inside.ensures)
+          (failed_caused (lost_count known.list) g.N.Serving.content_faults (D.says.faults (disk_of c.self.inside.archive)) (D.says.faults (disk_of c.tell_reading.new.archive)) known.failed unread c.self.invariant.0.caused read.never_falls
           (λ yes. c.in_ok-told.ensures.cause (sym c.is_unread.ensures ∙ yes)))),
-      mark_stays g.N.Serving.content_faults (D.faults (disk_of c.self.inside.archive)) (D.faults (disk_of c.tell_reading.new.archive)) read.never_falls c.self.inside.marks.list c.self.invariant.1,
+      mark_stays g.N.Serving.content_faults (D.says.faults (disk_of c.self.inside.archive)) (D.says.faults (disk_of c.tell_reading.new.archive)) read.never_falls c.self.inside.marks.list c.self.invariant.1,
     )
 
 pub returns-clause-reply : goal.returns-clause-reply

@@ -1,0 +1,4 @@
+mod FixNames
+mod FixRows
+pub mod Steps
+pub mod Telling
