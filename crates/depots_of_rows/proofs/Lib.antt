@@ -1,0 +1,15 @@
+pub mod Given
+pub mod Side
+pub mod Words
+pub mod Simple
+pub mod Opened
+pub mod Guarded
+pub mod Revised
+pub mod Credits
+pub mod Entered
+pub mod History
+pub mod Landed
+pub mod Stages
+pub mod Passing
+pub mod Whole
+pub mod Told
