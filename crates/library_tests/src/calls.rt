@@ -1,7 +1,8 @@
 //! Calls of the libraries that no program makes, each with ample memory.
 
+use command_needs::{Needs, TableSet, tables_of};
 use depot_path::Text;
-use depot_rows::model::Filter;
+use depot_rows::model::{Command, Filter};
 use depot_rows::records::{Change, TableId};
 use depot_rows::tables::Version;
 use journal_groups::{GroupFault, GroupReader, read_group};
@@ -255,4 +256,27 @@ fn is_script(alloc: Global, text: &[u8]) -> bool {
 #[test]
 fn a_script_is_read_command_by_command(rt: HostRuntime) {
     assert!(rt; is_script(rt.alloc(), b"session ann ws1 hostA\np4 counters\n"));
+}
+
+/// Whether a command needs none of these tables.
+fn needs_none(needs: &Needs, tables: &TableSet) -> bool {
+    TableId::ALL.iter().all(|table| !tables.has(*table)
+        || !needs.reads.has(*table) && !needs.writes.has(*table))
+}
+
+/// Whether neither of two commands needs a table that the other writes.
+fn are_apart(first: &Command, second: &Command) -> bool {
+    let (one, other) = (tables_of(first), tables_of(second));
+    needs_none(&one, &other.writes) && needs_none(&other, &one.writes)
+}
+
+#[test]
+fn commands_that_only_read_are_apart(rt: HostRuntime) {
+    let (counters, labels, save) = (Command::Counters, Command::Labels, Command::ChangeSave);
+    let readers = are_apart(&counters, &labels);
+    let writer = are_apart(&counters, &save);
+    drop(counters);
+    drop(labels);
+    drop(save);
+    assert!(rt; readers && !writer);
 }

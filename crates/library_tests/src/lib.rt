@@ -4,7 +4,10 @@
 //! computed in proofs, here that of dates.
 #![tactic(auto)]
 
-/// Calls that no program makes, with ample memory (`replica_pull`, `journal_groups`, `table_store`, `wire_text`).
+/// Callers of libraries that programs use too (`depot_path`, `view_map`, `protect_table`, `spec_form`, `record_text`, `archive_file`).
+#[cfg(test)]
+mod callers;
+/// Calls that no program makes, with ample memory (`replica_pull`, `journal_groups`, `table_store`, `wire_text`, `command_needs`).
 #[cfg(test)]
 mod calls;
 /// Disks in folders, step by step, as the tests ask them.
