@@ -8,8 +8,8 @@ use Rattle.recovery.specs.Holding.{Hold}
 use Rattle.recovery.specs.Rules.{DeletesAreUnplaced}
 use Rattle.recovery.specs.Standing.{StandFor}
 use Rattle.recovery.proofs.Held.{rows_once}
-use Rattle.party_threads.specs.serial_depot.Holding.{HasItsContents, StandsWith}
-use Rattle.party_threads.proofs.serial_depot.Contents.{contents_alike}
+use Rattle.party_threads.specs.depot_commit.Holding.{HasItsContents, StandsWith}
+use Rattle.party_threads.proofs.depot_commit.Contents.{contents_alike}
 
 -- files that stand for a depot have its contents at the spots of the rows that were read of them
 pub contents_opened : (journal archive image : Files) (rows : AllRows) (d : List Deed) → StandFor d journal archive → Hold journal rows → image 0 ≡ archive 0 → HasItsContents rows d image

@@ -19,11 +19,11 @@ use Rattle.recovery.specs.Rules.{DeletesAreUnplaced}
 use Rattle.recovery.specs.Standing.{StandFor}
 use Rattle.recovery.specs.declared.open.Opened.{Opened}
 use Rattle.party_threads.specs.replica_turns.Master.{Past}
-use Rattle.party_threads.specs.serial_depot.Holding.{generation_in, AllHaveContents, KeepContents, StandsWith}
+use Rattle.party_threads.specs.depot_commit.Holding.{generation_in, AllHaveContents, KeepContents, StandsWith}
 use Rattle.party_threads.specs.serial_depot.Running.{CanTake, HasRun}
 use Rattle.party_threads.specs.serial_depot.declared.depot.SerialDepot.{SerialDepot}
-use Rattle.party_threads.proofs.serial_depot.Kept.{kept_leads, kept_now}
-use Rattle.party_threads.proofs.serial_depot.Places.{kept_whole}
+use Rattle.party_threads.proofs.depot_commit.Kept.{kept_leads, kept_now}
+use Rattle.party_threads.proofs.depot_commit.Places.{kept_whole}
 use Rattle.p4_server.specs.declared.ended.PartyEnd.{PartyEnd}
 use Rattle.p4_server.specs.declared.ended.Cause.{Cause}
 use Rattle.p4_server.specs.declared.ended.Cause.TheVariants as causes

@@ -16,7 +16,7 @@ use Rattle.recovery.specs.Holding.{Hold, group_texts, joined, spots_end}
 use Rattle.recovery.specs.Opening.{HasSynced, IsOpen}
 use Rattle.recovery.specs.declared.open.Opened.{Opened}
 use Rattle.party_threads.specs.replica_turns.Master.{HasNth, IsMaster, IsNth, Past, all_changes, first_of}
-use Rattle.party_threads.specs.serial_depot.Holding.{KeepContents}
+use Rattle.party_threads.specs.depot_commit.Holding.{KeepContents}
 use Rattle.party_threads.specs.serial_depot.Running.{HasRun}
 use Rattle.party_threads.specs.serial_depot.declared.depot.SerialDepot.{SerialDepot}
 use Rattle.depot_rows.specs.table_changes.Changed.{AllRows, changed_by, no_rows, rows_of}

@@ -10,8 +10,8 @@ use Rattle.disk_journal.specs.Older.{AreOlder}
 use Rattle.recovery.specs.Holding.{Hold, group_texts, joined, spots_end}
 use Rattle.recovery.specs.Rules.{DeletesAreUnplaced}
 use Rattle.party_threads.specs.replica_turns.Master.{AreGroupsOf, Past, all_changes, first_of}
-use Rattle.party_threads.specs.serial_depot.Growing.{Chronicle}
-use Rattle.party_threads.specs.serial_depot.Holding.{HasItsContents}
+use Rattle.party_threads.specs.depot_commit.Growing.{Chronicle}
+use Rattle.party_threads.specs.depot_commit.Holding.{HasItsContents}
 use Rattle.depot_rows.specs.table_changes.Changed.{AllRows, changed_by, no_rows}
 
 -- The rows after so many changes stand for a depot, and the archive has its contents at their spots, none of which ends behind those of other rows.

@@ -6,7 +6,7 @@ ghost use Rattle.archive_file.specs.Archive.{disk_of as archive_disk_of};
 ghost use Rattle.disk_journal.specs.Stands.{disk_of};
 ghost use Rattle.depot_rows.specs.depot_model.Deeds.{Deed};
 ghost use Rattle.party_threads.specs.replica_turns.Master.{IsMaster};
-ghost use Rattle.party_threads.specs.serial_depot.Growing.{Chronicle};
+ghost use Rattle.party_threads.specs.depot_commit.Growing.{Chronicle};
 ghost use Rattle.party_threads.specs.serial_depot.Running.{CanTake, HasRun};
 ghost use Rattle.session_loop.specs.Served.{AreCaused};
 ghost use Rattle.session_turns.specs.Drawn.{IsDrawn};

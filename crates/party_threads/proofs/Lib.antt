@@ -6,4 +6,4 @@ mod Entries
 mod Finishing
 mod Together
 -- what stands below, for the crates above
-pub use Rattle.run_parties.proofs.serial_depot as serial_depot
+pub use Rattle.run_parties.proofs.depot_commit as depot_commit

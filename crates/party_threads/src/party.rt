@@ -5,12 +5,12 @@ ghost use Rattle.party_threads.specs.Parties.{AreFreshParties, HasRunParty, IsRe
 
 use crate::replicas::answer_commands;
 use crate::session::take_commands;
+use depot_commit::Imaging;
 use depot_model::Request;
 use locked_tables::{Naming, PartyPass};
 use outside_api::{Clock, Disk, Gate, Sink};
 use party_marks::Marking;
 use replica_turns::ReplicaParty;
-use serial_depot::Imaging;
 use session_loop::SessionRun;
 use shared_depot::{BothMarks, Serving, SharedDepot};
 use std::alloc::Global;

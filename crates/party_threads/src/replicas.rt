@@ -4,12 +4,12 @@ ghost use Rattle.std.specs.Prelude.{◌≡◌, ◌≤◌, ◌<◌, ◌+◌, [], 
 ghost use Rattle.party_threads.specs.Replicas.{IsReplicaServed, IsStep};
 ghost use Rattle.party_marks.specs.Marks.{has_marks};
 
+use depot_commit::Imaging;
 use locked_tables::{Naming, PartyPass};
 use outside_api::{Clock, Disk, Sink};
 use party_marks::Marking;
 use replica_turns::{Answered, ReplicaParty};
 use run_parties::give;
-use serial_depot::Imaging;
 use session_loop::SessionRun;
 use shared_depot::{BothMarks, Serving, SharedDepot};
 use std::alloc::{AllocError, Global};

@@ -8,12 +8,12 @@ ghost use Rattle.party_threads.specs.Entries.{AreNumbered, HasTaken, IsAnswered}
 ghost use Rattle.run_parties.specs.Served.{IsEnd};
 ghost use Rattle.session_loop.specs.Taking.{IsProper};
 
+use depot_commit::Imaging;
 use depot_model::{Answer, Request};
 use locked_tables::{Naming, PartyPass};
 use outside_api::{Disk, Gate, Sink};
 use party_marks::Marking;
 use run_parties::give;
-use serial_depot::Imaging;
 use session_loop::SessionRun;
 use shared_depot::{Serving, SharedDepot};
 use std::alloc::{AllocError, Global};

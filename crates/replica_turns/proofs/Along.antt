@@ -13,6 +13,7 @@ use Rattle.depot_rows.specs.depot_model.Places.{Placed}
 use Rattle.depot_rows.specs.depot_model.declared.filter.FilterRule.{FilterRule}
 use Rattle.depot_rows.specs.depot_model.declared.request.Request.{Request}
 use Rattle.disk_journal.specs.Text.{blocks}
+use Rattle.disk_journal.specs.declared.journal.Journal.{Journal}
 use Rattle.journal_groups.specs.Groups.{groups_text}
 use Rattle.recovery.specs.Holding.{group_texts}
 use Rattle.recovery.proofs.Held.{blocks_of}
@@ -22,8 +23,8 @@ use Rattle.replica_pull.proofs.Firsts.{first_changes}
 use Rattle.replica_pull.proofs.Followed.{has_prefix}
 use Rattle.replica_pull.proofs.Moves.{never_falls}
 use Rattle.replica_pull.proofs.Standing.{stands_cut}
-use Rattle.serial_depot.specs.Fetching.{HasTexts}
-use Rattle.serial_depot.specs.Growing.{Chronicle, HasGroups, generations_of}
+use Rattle.depot_commit.specs.Fetching.{HasTexts}
+use Rattle.depot_commit.specs.Growing.{Chronicle, HasGroups, generations_of}
 use Rattle.serial_depot.specs.declared.depot.SerialDepot.{SerialDepot}
 use Rattle.session_loop.specs.Asking.{AreWellFormed}
 use Rattle.session_loop.specs.Requests.{AreRequests}
@@ -45,9 +46,9 @@ texts_of_all [] = refl
 texts_of_all (groups ∷ generations) = λ i. sym (blocks_of 1 groups) i ∷ texts_of_all generations i
 
 -- a journal has the texts of its groups
-pub has_texts : {D : Type 0} (disk_says : DiskSays D) (reads : (disk : D) (files : Files) → disk_says.seen disk files → disk_says.may_leave disk files) (depot : SerialDepot D) (c : Chronicle)
-    → HasGroups disk_says depot.journal c → HasTexts disk_says depot (texts_in c)
-has_texts disk_says reads depot c g =
+pub has_texts : {D : Type 0} (disk_says : DiskSays D) (reads : (disk : D) (files : Files) → disk_says.seen disk files → disk_says.may_leave disk files) (journal : Journal D) (c : Chronicle)
+    → HasGroups disk_says journal c → HasTexts disk_says journal (texts_in c)
+has_texts disk_says reads journal c g =
     let count = g.keeps.count in
     let generation = g.stands.generation in
     record {
@@ -58,7 +59,7 @@ has_texts disk_says reads depot c g =
       stands = g.stands;
       sees = g.keeps.tells.1;
       as_many = count ∙ generation;
-      older = g.keeps.each g.keeps.tells.0 (reads depot.journal.disk g.keeps.tells.0 g.keeps.tells.1);
+      older = g.keeps.each g.keeps.tells.0 (reads journal.disk g.keeps.tells.0 g.keeps.tells.1);
       are = texts_of_all (generations_of c)
           ∙ ap (map blocks) (map-append (group_texts 1) c.closed (c.newest ∷ []) ∙ ap (λ (groups : List (List ℕ)). map (group_texts 1) c.closed ++ groups ∷ []) (sym g.are));
     }
@@ -103,8 +104,8 @@ module _ {D : Type 0} (disk_says : DiskSays D) (reads : (disk : D) (files : File
     turn_told false lost (inr none) = (moments, same_followed none.same, (same_changes none.same, inr (inr none.reply)))
     turn_told true true (inl is) = (moments, same_followed is.0, inr (same_changes is.0, inl is.1))
     turn_told true false (inl is) =
-        let P : SerialDepot D → Type 0 = λ been. HasTexts disk_says been (texts_in c) in
-        let pulled = follows_journal (λ been. been ≡ depot) disk_says old new request.number text is (texts_in c) (subst P (sym is.been) (has_texts disk_says reads depot c master.groups)) in
+        let P : SerialDepot D → Type 0 = λ been. HasTexts disk_says been.journal (texts_in c) in
+        let pulled = follows_journal (λ been. been ≡ depot) disk_says old new request.number text is (texts_in c) (subst P (sym is.been) (has_texts disk_says reads depot.journal c master.groups)) in
         (record { journal = texts_in c; replica = old } ∷ moments, (inl refl, pulled, followed), inl (new.generation, no_fewer is, is.reply))
     turn_told false true (inl is) = (moments, same_followed is.0, (same_changes is.0, inr (inl is.1)))
     turn_told false false (inl is) =

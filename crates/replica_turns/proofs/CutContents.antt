@@ -16,7 +16,7 @@ use Rattle.depot_rows.proofs.CutPairs.{text_as}
 use Rattle.depot_rows.proofs.Cutting.{cut_rev, revisions_cut, revisions_out}
 use Rattle.recovery.specs.Standing.{HasContents}
 use Rattle.replica_pull.specs.Cut.{AreCut}
-use Rattle.serial_depot.proofs.Staying.{path_there}
+use Rattle.depot_commit.proofs.Staying.{path_there}
 use Rattle.depot_rows.specs.table_changes.Changed.{AllRows}
 
 module _ (rules : List FilterRule) (d : List Deed) (sound : IsSound d) where

@@ -8,7 +8,7 @@ use Rattle.outside_api.specs.Says.{DiskSays}
 use Rattle.disk_journal.specs.Text.{blocks}
 use Rattle.replica_pull.specs.Prefix.{HasPulled}
 use Rattle.replica_pull.specs.declared.replica.Replica.{Replica}
-use Rattle.serial_depot.specs.Fetching.{HasTexts}
+use Rattle.depot_commit.specs.Fetching.{HasTexts}
 use Rattle.serial_depot.specs.declared.depot.SerialDepot.{SerialDepot}
 use Rattle.replica_turns.specs.Replying.{Follows, IsPulled}
 
@@ -28,7 +28,7 @@ earlier_self front last =
     }
 
 pub follows_journal : {D : Type 0} (HasBeen : SerialDepot D → Type 0) (disk_says : DiskSays D) (old new : Replica) (number : ℕ) (text : List ℕ)
-    → (pull : IsPulled HasBeen disk_says old new number text) (texts : List (List ℕ)) → HasTexts disk_says pull.depot texts → HasPulled texts old new
+    → (pull : IsPulled HasBeen disk_says old new number text) (texts : List (List ℕ)) → HasTexts disk_says pull.depot.journal texts → HasPulled texts old new
 follows_journal HasBeen disk_says old new number text pull texts has = go pull.follows
   where
     go : Follows old new pull.fetched pull.piece → HasPulled texts old new

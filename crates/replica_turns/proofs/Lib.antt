@@ -8,4 +8,4 @@ pub mod Replies
 pub mod Turns
 pub mod Unmoved
 -- what stands below, for the crates above
-pub use Rattle.serial_depot.proofs as serial_depot
+pub use Rattle.depot_commit.proofs as depot_commit

@@ -7,8 +7,8 @@ use Rattle.std.proofs.lemmas.List.{length-map, map-append, take-append-le}
 use Rattle.outside_api.specs.Link.{IsEarlier, text_of}
 use Rattle.outside_api.specs.Says.{DiskSays}
 use Rattle.archive_file.specs.Archive as archives
-use Rattle.serial_depot.specs.command_core.Outcomes.{IsOutcome}
-use Rattle.serial_depot.specs.command_core.declared.outcome.Outcome.{Outcome}
+use Rattle.depot_commit.specs.command_core.Outcomes.{IsOutcome}
+use Rattle.depot_commit.specs.command_core.declared.outcome.Outcome.{Outcome}
 use Rattle.depot_rows.specs.db_records.declared.change.Change.{Change}
 use Rattle.depot_rows.specs.depot_model.Deeds.{Deed}
 use Rattle.depot_rows.specs.depot_model.Places.{Placed, done_at, taken}
@@ -23,15 +23,15 @@ use Rattle.recovery.specs.Holding.{group_texts, joined}
 use Rattle.replica_pull.specs.Prefix.{HasGrown, begun, first_rows}
 use Rattle.replica_pull.proofs.Counted.{rows_on, with_groups, with_next}
 use Rattle.replica_pull.proofs.Taking.{groups_joined}
-use Rattle.serial_depot.specs.Committing.{AreRowsAfter}
-use Rattle.serial_depot.specs.Growing.{Chronicle, HasGroups, KeepsStored, generations_of, grown, with_changes}
-use Rattle.serial_depot.specs.Holding.{KeepContents, generation_in}
-use Rattle.serial_depot.specs.Opening.{opens_generation}
+use Rattle.depot_commit.specs.Committing.{AreRowsAfter}
+use Rattle.depot_commit.specs.Growing.{Chronicle, HasGroups, KeepsStored, generations_of, grown, with_changes}
+use Rattle.depot_commit.specs.Holding.{KeepContents, generation_in}
+use Rattle.depot_commit.specs.Opening.{opens_generation}
 use Rattle.serial_depot.specs.Running.{HasRun}
 use Rattle.serial_depot.specs.declared.depot.SerialDepot.{SerialDepot}
-use Rattle.serial_depot.proofs.Checkpointed.{next_told, opened_rows, some_differ}
-use Rattle.serial_depot.proofs.Places.{no_difference, same_stand, taken-push}
-use Rattle.serial_depot.proofs.Stored.{contents_kept}
+use Rattle.depot_commit.proofs.Checkpointed.{next_told, opened_rows, some_differ}
+use Rattle.depot_commit.proofs.Places.{no_difference, same_stand, taken-push}
+use Rattle.depot_commit.proofs.Stored.{contents_kept}
 use Rattle.session_loop.specs.Taking.{placed_by}
 use Rattle.depot_rows.specs.table_changes.Changed.{AllRows, changed_by, changed_in, no_rows, rows_of}
 use Rattle.replica_turns.specs.Master.{AreChanges, HasNth, IsMaster, IsNth, Past, all_changes, texts_in}

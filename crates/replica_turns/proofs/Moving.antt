@@ -20,8 +20,8 @@ use Rattle.replica_pull.specs.declared.fault.PullFault.TheVariants as faults
 use Rattle.replica_pull.specs.declared.replica.Replica.{Replica}
 use Rattle.replica_pull.proofs.Followed.{has_prefix}
 use Rattle.replica_pull.proofs.GoodFeeds.{never_bad}
-use Rattle.serial_depot.specs.command_core.Outcomes.{IsFormedBy}
-use Rattle.serial_depot.specs.Growing.{Chronicle, HasGroups, generations_of}
+use Rattle.depot_commit.specs.command_core.Outcomes.{IsFormedBy}
+use Rattle.depot_commit.specs.Growing.{Chronicle, HasGroups, generations_of}
 use Rattle.serial_depot.specs.declared.depot.SerialDepot.{SerialDepot}
 use Rattle.replica_turns.specs.Going.{IsTurned, is_lost, reply_text}
 use Rattle.replica_turns.specs.Master.{texts_in}
@@ -64,7 +64,7 @@ module _ {D : Type 0} (disk_says : DiskSays D) (reads : (disk : D) (files : File
   pulled_of number text pull = go pull.follows
     where
       answers : Answers (texts_in c) old.generation old.at pull.fetched pull.piece
-      answers = pull.answers (texts_in c) (has_texts disk_says reads pull.depot c (subst (λ (d : SerialDepot D). HasGroups disk_says d.journal c) (sym pull.been) groups))
+      answers = pull.answers (texts_in c) (has_texts disk_says reads pull.depot.journal c (subst (λ (d : SerialDepot D). HasGroups disk_says d.journal c) (sym pull.been) groups))
 
       go : Follows old new pull.fetched pull.piece → HasPulledOf (texts_in c) old new
       go (inl did) = record { fetched = pull.fetched; piece = pull.piece; moved = did.0; answers = answers; has = did.1 }

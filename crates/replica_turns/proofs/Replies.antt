@@ -4,7 +4,7 @@ use Rattle.std.specs.Prelude.{IfOk, OnErr}
 use Rattle.outside_api.specs.Disk.{Files}
 use Rattle.outside_api.specs.Says.{DiskSays}
 use Rattle.archive_file.specs.Archive as archives
-use Rattle.serial_depot.specs.command_core.Outcomes.{IsFormedBy}
+use Rattle.depot_commit.specs.command_core.Outcomes.{IsFormedBy}
 use Rattle.depot_rows.specs.depot_model.Deeds.{Deed}
 use Rattle.depot_rows.specs.depot_model.Printed.{printed}
 use Rattle.depot_rows.specs.depot_model.Rows.{disk_row}

@@ -5,7 +5,7 @@ use Rattle.std.specs.List.{AllByRecursion}
 use Rattle.std.proofs.lemmas.List.{reverse-append}
 use Rattle.std.proofs.lemmas.List.Elements.{recursion_from_All}
 use Rattle.outside_api.specs.Says.{DiskSays}
-use Rattle.serial_depot.specs.command_core.Outcomes.{IsFormed, IsFormedBy}
+use Rattle.depot_commit.specs.command_core.Outcomes.{IsFormed, IsFormedBy}
 use Rattle.command_words.specs.WellFormed.{IsWellFormed}
 use Rattle.depot_rows.specs.depot_model.declared.command.Command.{Command}
 use Rattle.depot_rows.specs.depot_model.declared.request.Asked.{Asked}

@@ -5,11 +5,11 @@ use Rattle.archive_file.specs.Archive as archives
 use Rattle.archive_file.specs.declared.archive.Archive.{Archive}
 use Rattle.disk_journal.specs.Stands.{disk_of}
 use Rattle.disk_journal.specs.declared.journal.Journal.{Journal}
-use Rattle.serial_depot.specs.Fetching.{IsFetched, IsRead}
+use Rattle.depot_commit.specs.Fetching.{IsFetched, IsRead}
 use Rattle.serial_depot.specs.declared.depot.SerialDepot.{SerialDepot}
-use Rattle.serial_depot.proofs.Finished.{read_can, read_run}
-use Rattle.serial_depot.proofs.Growing.{stored_read, stored_same}
-use Rattle.serial_depot.proofs.Moved.{over_fetched}
+use Rattle.serial_depot.proofs.Parts.{read_can, read_run}
+use Rattle.depot_commit.proofs.Growing.{stored_read, stored_same}
+use Rattle.depot_commit.proofs.Moved.{over_fetched}
 use Rattle.replica_turns.specs.Turning.{IsUnmoved}
 
 module _ {D : Type 0} (disk_says : DiskSays D) (depot : SerialDepot D) where

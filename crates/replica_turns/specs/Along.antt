@@ -9,7 +9,7 @@ use Rattle.depot_rows.specs.depot_model.declared.request.Request.{Request}
 use Rattle.depot_runs.specs.Replica.{position_row, replica_reply}
 use Rattle.replica_pull.specs.Prefix.{HasFollowed, Moment}
 use Rattle.replica_replies.specs.Prints.{prints}
-use Rattle.serial_depot.specs.Growing.{Chronicle}
+use Rattle.depot_commit.specs.Growing.{Chronicle}
 use Rattle.session_loop.specs.Asking.{AreWellFormed}
 use Rattle.session_loop.specs.Requests.{AreRequests}
 use Rattle.session_loop.specs.declared.reading.ReplicaScript.{ReplicaScript}

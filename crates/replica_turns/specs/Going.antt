@@ -8,7 +8,7 @@ use Rattle.depot_rows.specs.depot_model.Rows.{memory_row}
 use Rattle.depot_rows.specs.depot_model.declared.request.Request.{Request}
 use Rattle.replica_pull.specs.Replica.{IsNew}
 use Rattle.replica_pull.specs.declared.replica.Replica.{Replica}
-use Rattle.serial_depot.specs.command_core.Outcomes.{IsFormedBy}
+use Rattle.depot_commit.specs.command_core.Outcomes.{IsFormedBy}
 use Rattle.session_loop.specs.Asking.{AreWellFormed}
 use Rattle.session_loop.specs.Requests.{AreRequests}
 use Rattle.session_loop.specs.declared.reading.ReplicaScript.{ReplicaScript}

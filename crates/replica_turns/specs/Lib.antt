@@ -6,4 +6,5 @@ pub mod Replying
 pub mod Turning
 -- what stands below, for the crates above
 pub use Rattle.serial_depot.specs as serial_depot
-pub use Rattle.serial_depot.specs.command_core as command_core
+pub use Rattle.depot_commit.specs as depot_commit
+pub use Rattle.depot_commit.specs.command_core as command_core

@@ -16,8 +16,8 @@ use Rattle.depot_rows.specs.depot_model.Commands.{step}
 use Rattle.journal_groups.specs.Groups.{IsGroup, groups_text}
 use Rattle.recovery.specs.Holding.{joined}
 use Rattle.replica_pull.specs.Prefix.{HasGrown, changes_from, first_rows}
-use Rattle.serial_depot.specs.Growing.{Chronicle, HasGroups, generations_of}
-use Rattle.serial_depot.specs.Holding.{KeepContents}
+use Rattle.depot_commit.specs.Growing.{Chronicle, HasGroups, generations_of}
+use Rattle.depot_commit.specs.Holding.{KeepContents}
 use Rattle.serial_depot.specs.declared.depot.SerialDepot.{SerialDepot}
 use Rattle.depot_rows.specs.table_changes.Changed.{AllRows, changed_by, no_rows, rows_of}
 

@@ -23,7 +23,7 @@ use Rattle.replica_pull.specs.declared.fault.PullFault.{PullFault}
 use Rattle.replica_pull.specs.declared.fault.PullFault.TheVariants.{Memory}
 use Rattle.replica_pull.specs.declared.replica.Replica.{Replica}
 use Rattle.replica_replies.specs.Prints.{prints}
-use Rattle.serial_depot.specs.Fetching.{HasTexts}
+use Rattle.depot_commit.specs.Fetching.{HasTexts}
 use Rattle.serial_depot.specs.declared.depot.SerialDepot.{SerialDepot}
 
 -- ---- pull
@@ -56,7 +56,7 @@ pub record IsPulled {D : Type 0} (HasBeen : SerialDepot D → Type 0) (disk_says
   pub been : HasBeen depot
   pub fetched : Fetched
   pub piece : List ℕ
-  pub answers : (texts : List (List ℕ)) → HasTexts disk_says depot texts → Answers texts old.generation old.at fetched piece
+  pub answers : (texts : List (List ℕ)) → HasTexts disk_says depot.journal texts → Answers texts old.generation old.at fetched piece
   pub follows : Follows old new fetched piece
   pub reply : text ≡ printed (position_row new.generation new.changes ∷ []) number
 

@@ -5,7 +5,7 @@ use Rattle.archive_file.specs.Archive as archives
 use Rattle.depot_rows.specs.depot_model.Deeds.{Deed}
 use Rattle.depot_rows.specs.depot_model.Places.{Placed}
 use Rattle.disk_journal.specs.Stands.{disk_of}
-use Rattle.serial_depot.specs.Growing.{Chronicle, HasGroups, KeepsStored}
+use Rattle.depot_commit.specs.Growing.{Chronicle, HasGroups, KeepsStored}
 use Rattle.serial_depot.specs.Running.{CanTake, HasRun}
 use Rattle.serial_depot.specs.declared.depot.SerialDepot.{SerialDepot}
 

@@ -2,8 +2,8 @@
 
 ghost use Rattle.std.specs.Prelude.{◌≡◌, ◌⊎◌, ℕ, Bool, true, List, Result, [], ◌∷◌, ◌++◌, ◌+◌, length};
 ghost use Rattle.archive_file.specs.Archive.{disk_of as archive_disk_of};
-ghost use Rattle.serial_depot.specs.command_core.Outcomes.{IsFormedBy, IsOutcome};
-ghost use Rattle.serial_depot.specs.command_core.declared.outcome.Outcome.{Outcome};
+ghost use Rattle.depot_commit.specs.command_core.Outcomes.{IsFormedBy, IsOutcome};
+ghost use Rattle.depot_commit.specs.command_core.declared.outcome.Outcome.{Outcome};
 ghost use Rattle.depot_rows.specs.db_records.declared.change.Change.{Change};
 ghost use Rattle.depot_rows.specs.depot_model.Deeds.{Deed};
 ghost use Rattle.depot_rows.specs.depot_model.Places.{Placed, taken};
@@ -14,9 +14,9 @@ ghost use Rattle.depot_rows.specs.depot_model.declared.request.Request.{Request}
 ghost use Rattle.depot_rows.specs.depot_model.Commands.{step};
 ghost use Rattle.outside_api.specs.Disk.{Files};
 ghost use Rattle.replica_pull.specs.Prefix.{HasFollowed, IsGoodJournal, Moment};
-ghost use Rattle.serial_depot.specs.Committing.{AreRowsAfter};
-ghost use Rattle.serial_depot.specs.Growing.{Chronicle, HasGroups, KeepsStored, generations_of, grown};
-ghost use Rattle.serial_depot.specs.Opening.{opens_generation};
+ghost use Rattle.depot_commit.specs.Committing.{AreRowsAfter};
+ghost use Rattle.depot_commit.specs.Growing.{Chronicle, HasGroups, KeepsStored, generations_of, grown};
+ghost use Rattle.depot_commit.specs.Opening.{opens_generation};
 ghost use Rattle.serial_depot.specs.Running.{HasRun};
 ghost use Rattle.serial_depot.specs.declared.depot.SerialDepot.{SerialDepot as AnyDepot};
 ghost use Rattle.session_loop.specs.Asking.{AreWellFormed};

@@ -8,17 +8,17 @@ ghost use Rattle.outside_api.specs.Count.{HasRisen};
 ghost use Rattle.outside_api.specs.Link.{Fits};
 ghost use Rattle.replica_turns.specs.Position.{IsRoom};
 ghost use Rattle.replica_turns.specs.Replying.{Follows, IsPullAnswer};
-ghost use Rattle.serial_depot.specs.Fetching.{IsFetched};
+ghost use Rattle.depot_commit.specs.Fetching.{IsFetched};
 ghost use Rattle.serial_depot.specs.declared.depot.SerialDepot.{SerialDepot as AnyDepot};
 
 use crate::answers::{fault_reply, loses, tells};
 use crate::party::Answered;
 use crate::position::Room;
+use depot_commit::fetch_texts;
 use depot_rows::paths::Text;
 use disk_journal::Journal;
 use outside_api::{Disk, Fetched};
 use replica_pull::{PullFault, Replica};
-use serial_depot::fetch_texts;
 use std::alloc::{AllocError, Global};
 
 /// How many bytes of the journal are fetched at a time.

@@ -2,7 +2,7 @@
 
 ghost use Rattle.std.specs.Prelude.{◌≡◌, ◌⊎◌, ◌≤◌, List, [], ◌∷◌, map, true, false, IfOk, OnErr};
 ghost use Rattle.archive_file.specs.Archive.{disk_of as archive_disk_of};
-ghost use Rattle.serial_depot.specs.command_core.Outcomes.{IsFormedBy};
+ghost use Rattle.depot_commit.specs.command_core.Outcomes.{IsFormedBy};
 ghost use Rattle.depot_rows.specs.depot_model.Deeds.{Deed};
 ghost use Rattle.depot_rows.specs.depot_model.Printed.{printed};
 ghost use Rattle.depot_rows.specs.depot_model.Rows.{disk_row};
@@ -18,13 +18,14 @@ ghost use Rattle.depot_rows.specs.table_changes.Changed.{AllRows, rows_of};
 ghost use Rattle.depot_runs.specs.Replica.{replica_reply};
 ghost use Rattle.replica_turns.specs.Replying.{IsAnsweredBy, IsReply, pulls, reads_archive};
 ghost use Rattle.replica_turns.specs.Turning.{IsUnmoved};
-ghost use Rattle.serial_depot.specs.Fetching.{IsFetched, IsRead};
+ghost use Rattle.depot_commit.specs.Fetching.{IsFetched, IsRead};
 ghost use Rattle.serial_depot.specs.declared.depot.SerialDepot.{SerialDepot as AnyDepot};
 
 use crate::answers::{fault_reply, loses, tells};
 use crate::party::Answered;
 use crate::pulling::pull;
 use archive_file::{Archive, ContentFault};
+use depot_commit::read_contents;
 use depot_rows::model::{Command, Reply, Request};
 use depot_rows::paths::{Sequence, Text};
 use disk_journal::Journal;
@@ -32,7 +33,7 @@ use outside_api::Disk;
 use replica_answers::{Answered as Waiting, answer};
 use replica_pull::Replica;
 use reply_rows::filled;
-use serial_depot::{SerialDepot, read_contents};
+use serial_depot::SerialDepot;
 use std::alloc::{AllocError, Global};
 use wire_text::print_reply;
 

@@ -7,4 +7,4 @@ pub mod Replicas
 pub mod Slots
 -- what stands below, for the crates above
 pub use Rattle.replica_turns.proofs as replica_turns
-pub use Rattle.replica_turns.proofs.serial_depot as serial_depot
+pub use Rattle.replica_turns.proofs.depot_commit as depot_commit

@@ -1,18 +1,2 @@
-pub mod Checkpointed
-mod Groups
-pub mod Growing
-pub mod Differences
-pub mod Laws
-pub mod Staying
-pub mod Contents
-pub mod Stored
-pub mod Places
-pub mod Kept
-pub mod Steps
-pub mod Moved
-pub mod Outcomes
-pub mod Finished
-pub mod Beside
-mod Idle
-mod Writings
+pub mod Parts
 mod Quiet

@@ -5,22 +5,8 @@
 //! changes to the journal.
 #![tactic(auto)]
 
-mod counting;
 mod depot;
 mod fetching;
-mod imaging;
-mod landing;
-mod store;
-mod storing;
 mod taking;
-mod telling;
-mod unwritten;
-mod writing;
 
 pub use depot::{Closed, SerialDepot};
-pub use fetching::{fetch_texts, read_contents};
-pub use imaging::Imaging;
-pub use landing::{Landed, place};
-pub use store::{NoArchive, Store};
-pub use telling::{Told, tell, tell_reading};
-pub use unwritten::place_unwritten;

@@ -19,7 +19,7 @@ use Rattle.lock_machine.proofs.Places.{set_here, some_is}
 use Rattle.run_parties.proofs.Replicas.{been_longer, been_now}
 use Rattle.run_parties.proofs.Slots.{also_at, at_set}
 use Rattle.run_parties.specs.Replicas.{HasBeenAt}
-use Rattle.run_parties.specs.serial_depot.Growing.{Chronicle, HasGroups, KeepsStored}
+use Rattle.run_parties.specs.depot_commit.Growing.{Chronicle, HasGroups, KeepsStored}
 use Rattle.run_parties.specs.serial_depot.Running.{HasRun}
 use Rattle.run_parties.specs.serial_depot.declared.depot.SerialDepot.{SerialDepot}
 use Rattle.session_loop.specs.Asking.{replica_commands}

@@ -26,8 +26,8 @@ use Rattle.run_parties.specs.Giving.{Got}
 use Rattle.run_parties.specs.Served.{session_counts}
 use Rattle.run_parties.specs.command_core.declared.outcome.Outcome.{Outcome}
 use Rattle.run_parties.specs.replica_turns.Master.{IsMaster, Past}
-use Rattle.run_parties.specs.serial_depot.Committing.{AreRowsAfter, IsOutcomeOf}
-use Rattle.run_parties.specs.serial_depot.Growing.{Chronicle}
+use Rattle.run_parties.specs.depot_commit.Committing.{AreRowsAfter, IsOutcomeOf}
+use Rattle.run_parties.specs.depot_commit.Growing.{Chronicle}
 use Rattle.run_parties.specs.serial_depot.Running.{HasRun}
 use Rattle.run_parties.specs.serial_depot.declared.depot.SerialDepot.{SerialDepot}
 use Rattle.session_loop.specs.Taking.{IsProper, place_by, placed_by}

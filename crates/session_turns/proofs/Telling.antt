@@ -22,7 +22,7 @@ use Rattle.run_parties.specs.Giving.{Got}
 use Rattle.run_parties.specs.replica_turns.Going.{HasGotTexts, IsFresh, reply_text}
 use Rattle.run_parties.specs.replica_turns.Master.{IsMaster, IsNth, Past}
 use Rattle.run_parties.specs.replica_turns.declared.party.ReplicaParty.{ReplicaParty}
-use Rattle.run_parties.specs.serial_depot.Growing.{Chronicle, HasGroups, KeepsStored}
+use Rattle.run_parties.specs.depot_commit.Growing.{Chronicle, HasGroups, KeepsStored}
 use Rattle.run_parties.specs.serial_depot.declared.depot.SerialDepot.{SerialDepot}
 use Rattle.session_loop.specs.Asking.{AreWellFormed}
 use Rattle.session_loop.specs.declared.reading.ReplicaScript.{ReplicaScript}

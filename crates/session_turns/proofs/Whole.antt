@@ -10,7 +10,7 @@ use Rattle.depot_runs.specs.Run.{placed}
 use Rattle.run_parties.specs.Replicas.{AreReplicasServed, AreReplicasTold}
 use Rattle.run_parties.specs.Served.{AreApart, AreEnds, AreServed}
 use Rattle.run_parties.specs.replica_turns.Master.{IsMaster, Past}
-use Rattle.run_parties.specs.serial_depot.Growing.{Chronicle}
+use Rattle.run_parties.specs.depot_commit.Growing.{Chronicle}
 use Rattle.run_parties.specs.serial_depot.Running.{HasRun}
 use Rattle.run_parties.specs.serial_depot.declared.depot.SerialDepot.{SerialDepot}
 use Rattle.session_loop.specs.Asking.{AreWellFormed, commands_of, replica_commands}

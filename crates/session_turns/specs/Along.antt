@@ -8,7 +8,7 @@ use Rattle.run_parties.specs.replica_turns.Along.{IsAlong}
 use Rattle.run_parties.specs.replica_turns.Going.{HasGotTexts}
 use Rattle.run_parties.specs.replica_turns.Master.{HasGrownTo, IsMaster, IsNth, Past}
 use Rattle.run_parties.specs.replica_turns.declared.party.ReplicaParty.{ReplicaParty}
-use Rattle.run_parties.specs.serial_depot.Growing.{Chronicle}
+use Rattle.run_parties.specs.depot_commit.Growing.{Chronicle}
 use Rattle.run_parties.specs.serial_depot.declared.depot.SerialDepot.{SerialDepot}
 use Rattle.session_loop.specs.Asking.{AreWellFormed}
 use Rattle.session_loop.specs.declared.reading.ReplicaScript.{ReplicaScript}

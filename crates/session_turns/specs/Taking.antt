@@ -17,8 +17,8 @@ use Rattle.lock_core.specs.declared.turn.Finish.TheVariants as ends
 use Rattle.lock_machine.specs.Machine.{Finish, State}
 use Rattle.run_parties.specs.command_core.declared.outcome.Outcome.{Outcome}
 use Rattle.run_parties.specs.replica_turns.Master.{IsMaster, Past}
-use Rattle.run_parties.specs.serial_depot.Committing.{AreRowsAfter}
-use Rattle.run_parties.specs.serial_depot.Growing.{Chronicle}
+use Rattle.run_parties.specs.depot_commit.Committing.{AreRowsAfter}
+use Rattle.run_parties.specs.depot_commit.Growing.{Chronicle}
 use Rattle.run_parties.specs.serial_depot.Running.{CanTake, HasRun}
 use Rattle.run_parties.specs.serial_depot.declared.depot.SerialDepot.{SerialDepot}
 use Rattle.session_loop.specs.Asking.{AreWellFormed, commands_of}

@@ -10,7 +10,7 @@ ghost use Rattle.run_parties.specs.Asking.{AreFresh, left_in};
 ghost use Rattle.run_parties.specs.Giving.{text_of};
 ghost use Rattle.run_parties.specs.Replicas.{HasLost};
 ghost use Rattle.run_parties.specs.replica_turns.declared.party.ReplicaParty.{ReplicaParty as AnyParty};
-ghost use Rattle.run_parties.specs.serial_depot.Growing.{Chronicle, HasGroups, KeepsStored};
+ghost use Rattle.run_parties.specs.depot_commit.Growing.{Chronicle, HasGroups, KeepsStored};
 ghost use Rattle.run_parties.specs.serial_depot.Running.{CanTake, HasRun};
 ghost use Rattle.session_loop.specs.Asking.{replica_commands};
 ghost use Rattle.session_turns.specs.Drawn.{left_after_turn, replica_totals};

@@ -8,7 +8,7 @@ ghost use Rattle.disk_journal.specs.Stands.{disk_of};
 ghost use Rattle.run_parties.specs.Replicas.{AreReplicasServed, AreReplicasTold, OneHasRisen};
 ghost use Rattle.run_parties.specs.Served.{AreApart, AreEnds, AreServed};
 ghost use Rattle.run_parties.specs.replica_turns.Master.{IsMaster, Past};
-ghost use Rattle.run_parties.specs.serial_depot.Growing.{Chronicle};
+ghost use Rattle.run_parties.specs.depot_commit.Growing.{Chronicle};
 ghost use Rattle.run_parties.specs.serial_depot.Running.{CanTake, HasRun};
 ghost use Rattle.session_loop.specs.Asking.{AreWellFormed, commands_of, replica_commands};
 ghost use Rattle.session_loop.specs.Served.{AreCaused};

@@ -22,15 +22,15 @@ use Rattle.order_words.specs.Lanes.{has_lane}
 use Rattle.outside_api.specs.Count.{HasRisen, counted}
 use Rattle.outside_api.specs.Disk.{Files}
 use Rattle.outside_api.specs.Says.{DiskSays}
-use Rattle.serial_depot.specs.Committing.{AreRowsAfter, IsOutcomeOf}
-use Rattle.serial_depot.specs.Placing.{HasRunBeside, StoresBehind}
-use Rattle.serial_depot.specs.Running.{CanCommit}
-use Rattle.serial_depot.specs.Storing.{HasStored, stores_end}
-use Rattle.serial_depot.specs.Telling.{IsReplyOf, IsTold}
-use Rattle.serial_depot.specs.command_core.declared.outcome.Outcome.{Outcome}
-use Rattle.serial_depot.specs.Holding.{KeepContents}
-use Rattle.serial_depot.specs.declared.telling.Told.{Told}
-use Rattle.serial_depot.proofs.Stored.{ends_twice}
+use Rattle.depot_commit.specs.Committing.{AreRowsAfter, IsOutcomeOf}
+use Rattle.depot_commit.specs.Placing.{HasRunBeside, StoresBehind}
+use Rattle.depot_commit.specs.Running.{CanCommit}
+use Rattle.depot_commit.specs.Storing.{HasStored, stores_end}
+use Rattle.depot_commit.specs.Telling.{IsReplyOf, IsTold}
+use Rattle.depot_commit.specs.command_core.declared.outcome.Outcome.{Outcome}
+use Rattle.depot_commit.specs.Holding.{KeepContents}
+use Rattle.depot_commit.specs.declared.telling.Told.{Told}
+use Rattle.depot_commit.proofs.Stored.{ends_twice}
 use Rattle.session_loop.specs.Taking.{IsProper, placed_by, with_place}
 use Rattle.shared_depot.specs.Common.{AreQuiet, GoesOnQuietly, HasRunOrder, IsArchiveAfter, IsEntered, IsQuiet, KeepsOrder, WasRun}
 use Rattle.shared_depot.specs.Room.{IsDueAfter, IsStoredBehind}

@@ -6,8 +6,8 @@ use Rattle.depot_rows.specs.depot_model.Deeds.{Deed}
 use Rattle.locked_tables.specs.declared.taken.Taken.{Taken}
 use Rattle.outside_api.specs.Disk.{Files, NoMore}
 use Rattle.outside_api.specs.Says.{DiskSays}
-use Rattle.serial_depot.specs.Storing.{AreStored, HasStored, stores_end}
-use Rattle.serial_depot.proofs.Stored.{grows}
+use Rattle.depot_commit.specs.Storing.{AreStored, HasStored, stores_end}
+use Rattle.depot_commit.proofs.Stored.{grows}
 use Rattle.shared_depot.specs.Common.{HasAllStored}
 use Rattle.shared_depot.specs.Stored.{stores_of}
 use Rattle.shared_depot.proofs.Stored.{stores_append}

@@ -21,16 +21,17 @@ use Rattle.order_words.specs.Lanes.{has_lane}
 use Rattle.outside_api.specs.Count.{HasRisen, counted}
 use Rattle.outside_api.specs.Disk.{Files, NoMore}
 use Rattle.outside_api.specs.Says.{DiskSays}
-use Rattle.serial_depot.specs.Committing.{AreRowsAfter, IsOutcomeOf}
-use Rattle.serial_depot.specs.Fetching.{IsRead}
-use Rattle.serial_depot.specs.Placing.{HasRunBeside, StoresBehind}
-use Rattle.serial_depot.specs.Running.{CanCommit, CanTake, HasRun}
-use Rattle.serial_depot.specs.Storing.{HasStored, stores_end}
-use Rattle.serial_depot.specs.command_core.declared.outcome.Outcome.{Outcome}
+use Rattle.depot_commit.specs.Committing.{AreRowsAfter, IsOutcomeOf}
+use Rattle.depot_commit.specs.Fetching.{IsRead}
+use Rattle.depot_commit.specs.Placing.{HasRunBeside, StoresBehind}
+use Rattle.serial_depot.specs.Running.{CanTake, HasRun}
+use Rattle.depot_commit.specs.Running.{CanCommit}
+use Rattle.depot_commit.specs.Storing.{HasStored, stores_end}
+use Rattle.depot_commit.specs.command_core.declared.outcome.Outcome.{Outcome}
 use Rattle.serial_depot.specs.declared.depot.SerialDepot.{SerialDepot}
-use Rattle.serial_depot.proofs.Moved.{over_moved}
-use Rattle.serial_depot.proofs.Beside.{among_on, used_on}
-use Rattle.serial_depot.proofs.Stored.{keeps_more}
+use Rattle.depot_commit.proofs.Moved.{over_moved}
+use Rattle.depot_commit.proofs.Beside.{among_on, used_on}
+use Rattle.depot_commit.proofs.Stored.{keeps_more}
 use Rattle.session_loop.specs.Taking.{Answers, place_by, placed_by}
 use Rattle.depot_rows.specs.table_changes.Changed.{AllRows, changed_by, rows_of}
 use Rattle.depot_rows.specs.table_store.declared.tables.Tables.{Tables}

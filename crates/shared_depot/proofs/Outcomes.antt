@@ -3,8 +3,8 @@ use Rattle.std.proofs.Common.{◌≡◌, ◌⊎◌, ◌∙◌, ℕ, Bool, List, 
 use Rattle.std.specs.Prelude.{IfOk, IfSome}
 use Rattle.std.specs.Sync.Mutex.{mutex_guard_value}
 use Rattle.std.specs.declared.sync.MutexGuard.{MutexGuard}
-use Rattle.serial_depot.specs.command_core.Outcomes.{HasNeeded, IsFormed, IsFormedBy, IsOutcome}
-use Rattle.serial_depot.specs.command_core.declared.outcome.Outcome.{Outcome}
+use Rattle.depot_commit.specs.command_core.Outcomes.{HasNeeded, IsFormed, IsFormedBy, IsOutcome}
+use Rattle.depot_commit.specs.command_core.declared.outcome.Outcome.{Outcome}
 use Rattle.command_needs.specs.Sets.{AreOfWords}
 use Rattle.command_needs.specs.declared.needs.Needs.{Needs}
 use Rattle.depot_rows.specs.db_records.declared.change.Change.{Change}
@@ -25,11 +25,11 @@ use Rattle.depot_rows.specs.table_changes.Changed.{AllRows, rows_of}
 use Rattle.table_locks.specs.declared.gathered.Gathered.{Gathered}
 use Rattle.shared_depot.specs.Ready.{IsFoundOver, IsGatheredFor}
 use Rattle.outside_api.specs.Disk.{Files}
-use Rattle.serial_depot.specs.Committing.{IsOutcomeOf}
-use Rattle.serial_depot.specs.Holding.{KeepContents}
-use Rattle.serial_depot.specs.Telling.{IsReplyOf}
-use Rattle.serial_depot.specs.declared.telling.Told.{Told}
-use Rattle.serial_depot.specs.Storing.{HasStored, stores_end}
+use Rattle.depot_commit.specs.Committing.{IsOutcomeOf}
+use Rattle.depot_commit.specs.Holding.{KeepContents}
+use Rattle.depot_commit.specs.Telling.{IsReplyOf}
+use Rattle.depot_commit.specs.declared.telling.Told.{Told}
+use Rattle.depot_commit.specs.Storing.{HasStored, stores_end}
 use Rattle.shared_depot.specs.Room.{IsDueAfter, IsStillSo, IsToldAfter, StandsAfter}
 use Rattle.shared_depot.specs.Stored.{ArchiveKnown, images_after, stored_end, stores_of}
 use Rattle.shared_depot.proofs.Sets.{changes_in_set}

@@ -19,9 +19,9 @@ use Rattle.locked_tables.proofs.Rows.{after_append}
 use Rattle.order_words.specs.Lanes.{has_lane}
 use Rattle.outside_api.specs.Disk.{Files}
 use Rattle.outside_api.specs.Says.{DiskSays}
-use Rattle.serial_depot.specs.Committing.{AreChangesOf}
-use Rattle.serial_depot.specs.Placing.{HasRunBeside, LeavesRows}
-use Rattle.serial_depot.proofs.Steps.{over_faulted, over_idle}
+use Rattle.depot_commit.specs.Committing.{AreChangesOf}
+use Rattle.depot_commit.specs.Placing.{HasRunBeside, LeavesRows}
+use Rattle.depot_commit.proofs.Steps.{over_faulted, over_idle}
 use Rattle.session_loop.specs.Taking.{placed_by}
 use Rattle.shared_depot.specs.Common.{AreQuiet, GoesOnQuietly, IsQuiet}
 use Rattle.shared_depot.specs.Stored.{is_unwritten, stores_of, unwritten_count}

@@ -12,7 +12,7 @@ use Rattle.replica_turns.specs.Going.{is_lost, reply_text}
 use Rattle.replica_turns.specs.Replying.{IsAnswered, IsAnsweredAs, IsAnsweredBy, pulls}
 use Rattle.replica_turns.specs.declared.party.Answered.{Answered}
 use Rattle.replica_turns.specs.declared.party.ReplicaParty.{ReplicaParty}
-use Rattle.serial_depot.specs.command_core.Outcomes.{IsFormedBy}
+use Rattle.depot_commit.specs.command_core.Outcomes.{IsFormedBy}
 use Rattle.serial_depot.specs.declared.depot.SerialDepot.{SerialDepot}
 use Rattle.shared_depot.specs.Replicas.{IsReplicaAnswer, IsReplicaTurn, IsToldOn}
 

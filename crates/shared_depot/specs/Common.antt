@@ -16,9 +16,9 @@ use Rattle.outside_api.specs.Disk.{Files, NoMore}
 use Rattle.outside_api.specs.Says.{DiskSays}
 use Rattle.party_marks.specs.Marks.{is_empty}
 use Rattle.party_marks.specs.declared.mark.Mark.{Mark}
-use Rattle.serial_depot.specs.Placing.{HasRunBeside, LeavesRows}
-use Rattle.serial_depot.specs.Running.{CanCommit}
-use Rattle.serial_depot.specs.Storing.{AllReach}
+use Rattle.depot_commit.specs.Placing.{HasRunBeside, LeavesRows}
+use Rattle.depot_commit.specs.Running.{CanCommit}
+use Rattle.depot_commit.specs.Storing.{AllReach}
 use Rattle.depot_rows.specs.table_changes.Changed.{AllRows, changed_by, rows_of}
 use Rattle.shared_depot.specs.Stored.{ArchiveKnown, images_after, is_lost, is_unwritten, lost_in, stored_end, stores_of, unwritten_count}
 

@@ -10,10 +10,10 @@ use Rattle.command_needs.specs.Sets.{AreOfWords}
 use Rattle.depot_rows.specs.depot_model.declared.request.Request.{Request}
 use Rattle.locked_tables.specs.declared.taken.Taken.{Taken}
 use Rattle.outside_api.specs.Disk.{Files}
-use Rattle.serial_depot.specs.Telling.{IsTold, IsUnwritten}
-use Rattle.serial_depot.specs.command_core.Outcomes.{HasNeeded, IsFormedBy, IsOutcome}
-use Rattle.serial_depot.specs.command_core.declared.outcome.Outcome.{Outcome}
-use Rattle.serial_depot.specs.declared.telling.Told.{Told}
+use Rattle.depot_commit.specs.Telling.{IsTold, IsUnwritten}
+use Rattle.depot_commit.specs.command_core.Outcomes.{HasNeeded, IsFormedBy, IsOutcome}
+use Rattle.depot_commit.specs.command_core.declared.outcome.Outcome.{Outcome}
+use Rattle.depot_commit.specs.declared.telling.Told.{Told}
 use Rattle.depot_rows.specs.table_changes.Changed.{AllRows, rows_of}
 use Rattle.table_locks.specs.Gathered.{Covers, IsShown, tables_held}
 use Rattle.table_locks.specs.Ways.{holds_table}

@@ -18,7 +18,7 @@ use Rattle.replica_turns.specs.Replying.{IsAnswered}
 use Rattle.replica_turns.specs.declared.party.Answered.{Answered}
 use Rattle.replica_turns.specs.declared.party.ReplicaParty.{ReplicaParty}
 use Rattle.serial_depot.specs.Running.{HasRun}
-use Rattle.serial_depot.specs.command_core.Outcomes.{IsFormedBy}
+use Rattle.depot_commit.specs.command_core.Outcomes.{IsFormedBy}
 use Rattle.serial_depot.specs.declared.depot.SerialDepot.{SerialDepot}
 use Rattle.shared_depot.specs.Common.{HasAllStored}
 

@@ -2,7 +2,7 @@
 use Rattle.std.specs.Prelude.{◌≡◌, ◌⊎◌, ◌++◌, ℕ, Bool, true, IsTrue, IfSome, List, [], ◌∷◌, Option}
 use Rattle.std.specs.Sync.Mutex.{mutex_guard_value}
 use Rattle.std.specs.declared.sync.MutexGuard.{MutexGuard}
-use Rattle.serial_depot.specs.command_core.declared.outcome.Outcome.{Outcome}
+use Rattle.depot_commit.specs.command_core.declared.outcome.Outcome.{Outcome}
 use Rattle.depot_rows.specs.Standing.{Stand}
 use Rattle.depot_rows.specs.db_records.declared.change.Change.{Change}
 use Rattle.depot_rows.specs.db_records.declared.table.TableId.{TableId}
@@ -13,10 +13,10 @@ use Rattle.locked_tables.specs.declared.taken.Taken.{Taken}
 use Rattle.order_words.specs.Lanes.{has_lane}
 use Rattle.outside_api.specs.Count.{HasRisen}
 use Rattle.outside_api.specs.Disk.{Files}
-use Rattle.serial_depot.specs.Committing.{IsOutcomeOf}
-use Rattle.serial_depot.specs.Holding.{KeepContents}
-use Rattle.serial_depot.specs.Telling.{IsReplyOf, IsTold}
-use Rattle.serial_depot.specs.declared.telling.Told.{Told}
+use Rattle.depot_commit.specs.Committing.{IsOutcomeOf}
+use Rattle.depot_commit.specs.Holding.{KeepContents}
+use Rattle.depot_commit.specs.Telling.{IsReplyOf, IsTold}
+use Rattle.depot_commit.specs.declared.telling.Told.{Told}
 use Rattle.depot_rows.specs.table_changes.Changed.{AllRows, changed_by, rows_of}
 use Rattle.table_locks.specs.Gathered.{Covers, HasSet}
 use Rattle.table_locks.specs.Prepared.{IsPrepared, are_held}

@@ -4,7 +4,7 @@ use Rattle.locked_tables.specs.Taken.{archive_lane}
 use Rattle.locked_tables.specs.declared.taken.Taken.{Taken}
 use Rattle.order_words.specs.Lanes.{has_lane}
 use Rattle.outside_api.specs.Disk.{Files}
-use Rattle.serial_depot.specs.Storing.{HasStored, stores_end}
+use Rattle.depot_commit.specs.Storing.{HasStored, stores_end}
 
 -- ---- contents
 

@@ -11,12 +11,12 @@ use crate::of_archive::OfArchive;
 use crate::serving::Serving;
 use crate::stored_archive::StoredArchive;
 use crate::written_journal::WrittenJournal;
+use depot_commit::Imaging;
 use depot_rows::model::Request;
 use locked_tables::{Naming, OrderWords, PartyPass};
 use outside_api::Disk;
 use party_marks::{MarkPass, MarkWords, Marking, Marks};
 use replica_turns::{Answered, ReplicaParty};
-use serial_depot::Imaging;
 use std::alloc::{AllocError, Global};
 use std::sync::{Mutex, Wait};
 

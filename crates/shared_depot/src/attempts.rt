@@ -1,8 +1,8 @@
 //! How a command is made ready for its place.
 ghost use Rattle.std.specs.Prelude.{◌≡◌, ◌⊎◌, ℕ, List, None, [], true, false, IfOk, IfSome, IsSome, IsTrue, IsFalse, OnOk};
 ghost use Rattle.std.specs.Sync.Mutex.{mutex_guard_value};
-ghost use Rattle.serial_depot.specs.command_core.Outcomes.{HasNeeded, IsFormedBy, IsOutcome};
-ghost use Rattle.serial_depot.specs.Telling.{IsTold, IsUnwritten};
+ghost use Rattle.depot_commit.specs.command_core.Outcomes.{HasNeeded, IsFormedBy, IsOutcome};
+ghost use Rattle.depot_commit.specs.Telling.{IsTold, IsUnwritten};
 ghost use Rattle.command_needs.specs.Sets.{AreOfWords};
 ghost use Rattle.depot_rows.specs.depot_model.Deeds.{Deed};
 ghost use Rattle.depot_rows.specs.depot_model.Rules.{IsSound};
@@ -29,12 +29,12 @@ use crate::stored_archive::StoredArchive;
 use crate::written_journal::{WrittenJournal, share_tables};
 use command_core::{Outcome, evaluate};
 use command_needs::{Needs, request_needs};
+use depot_commit::{Imaging, Told, tell};
 use depot_rows::model::Request;
 use depot_rows::records::TableId;
 use locked_tables::{Naming, OrderWords};
 use outside_api::{Disk, Gate};
 use party_marks::Marking;
-use serial_depot::{Imaging, Told, tell};
 use std::alloc::{AllocError, Global};
 use std::sync::{MutexGuard, Wait};
 use table_locks::{Confirmed, Gathered, gather};

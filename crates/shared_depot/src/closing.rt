@@ -19,13 +19,14 @@ use crate::shared::SharedDepot;
 use crate::stored_archive::StoredArchive;
 use crate::written_journal::WrittenJournal;
 use archive_file::Archive;
+use depot_commit::Imaging;
 use depot_rows::model::Place;
 use depot_rows::tables::Tables;
 use disk_journal::Journal;
 use locked_tables::{Naming, OrderWords, PartyPass, PlacedOrder};
 use outside_api::Disk;
 use party_marks::{MarkWords, Marking, Marks};
-use serial_depot::{Imaging, SerialDepot};
+use serial_depot::SerialDepot;
 use std::marker::Model;
 
 /// A shared depot, out of its locks. Contracts see the one order of all places, and all marks.

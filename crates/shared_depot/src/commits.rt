@@ -14,11 +14,11 @@ use crate::serving::Serving;
 use crate::shared::SharedDepot;
 use crate::stored_archive::StoredArchive;
 use crate::written_journal::WrittenJournal;
+use depot_commit::{Imaging, Landed, NoArchive, Store, Told, place};
 use depot_rows::model::{Answer, Request};
 use locked_tables::{ArchiveLane, Naming, NoLane, PartyPass, Taken};
 use outside_api::Disk;
 use party_marks::Marking;
-use serial_depot::{Imaging, Landed, NoArchive, Store, Told, place};
 use std::alloc::{AllocError, Global};
 use std::sync::Wait;
 

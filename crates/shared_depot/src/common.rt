@@ -15,10 +15,10 @@ ghost use Rattle.shared_depot.specs.Stored.{lost_count, stores_of};
 
 use crate::serving::Serving;
 use crate::stored_archive::StoredArchive;
+use depot_commit::Imaging;
 use depot_rows::tables::Tables;
 use locked_tables::{LockedJournal, Naming, OrderWords, PlacedOrder};
 use outside_api::Disk;
-use serial_depot::Imaging;
 use std::marker::{Model, PhantomData};
 use table_locks::{Confirmed, Gathered};
 

@@ -11,10 +11,10 @@ ghost use Rattle.table_locks.specs.Prepared.{IsPrepared};
 
 use crate::common::CommonDepot;
 use crate::serving::Serving;
+use depot_commit::Imaging;
 use depot_rows::tables::Tables;
 use locked_tables::{ArchiveLane, LockedJournal, Naming, OrderWords, PartyPass, Taken};
 use outside_api::Disk;
-use serial_depot::Imaging;
 use table_locks::Prepared;
 
 /// The tables that are shown after a place: others, where no disk failed at it.

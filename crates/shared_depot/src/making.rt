@@ -19,6 +19,7 @@ use crate::serving::Serving;
 use crate::shared::SharedDepot;
 use crate::stored_archive::StoredArchive;
 use crate::written_journal::{WrittenJournal, share_tables};
+use depot_commit::Imaging;
 use depot_rows::tables::Tables;
 use locked_tables::{
     LockedArchive, LockedJournal, Naming, OrderWords, PartyPass, PlacedOrder, TableLocks, Taken,
@@ -26,7 +27,7 @@ use locked_tables::{
 use order_words::{LaneSeat, OrderSeat, Orders};
 use outside_api::Disk;
 use party_marks::{Mark, MarkPass, MarkWords, Marking, Marks};
-use serial_depot::{Imaging, SerialDepot};
+use serial_depot::SerialDepot;
 use std::alloc::{AllocError, Global};
 use std::sync::Mutex;
 

@@ -3,7 +3,7 @@ ghost use Rattle.std.specs.Prelude.{◌≡◌, ◌≤◌, ◌-◌, ◌^◌, ℕ,
 ghost use Rattle.depot_rows.specs.depot_model.Deeds.{Deed};
 ghost use Rattle.locked_tables.specs.Known.{HasPlaceLeft};
 ghost use Rattle.locked_tables.specs.Taken.{end_after};
-ghost use Rattle.serial_depot.specs.Telling.{IsUnwritten};
+ghost use Rattle.depot_commit.specs.Telling.{IsUnwritten};
 ghost use Rattle.session_loop.specs.Taking.{IsProper};
 ghost use Rattle.shared_depot.specs.Common.{IsLostPlace};
 ghost use Rattle.shared_depot.specs.Ready.{IsQuietFor};
@@ -13,11 +13,11 @@ ghost use Rattle.shared_depot.specs.Sharing.{IsTakenAt};
 use crate::common::CommonDepot;
 use crate::ready::Quiet;
 use crate::serving::Serving;
+use depot_commit::{Imaging, Told, place_unwritten};
 use depot_rows::model::{Answer, Request};
 use depot_rows::paths::Sequence;
 use locked_tables::{ArchiveLane, Naming, NoLane, OrderWords, PartyPass, Taken};
 use outside_api::Disk;
-use serial_depot::{Imaging, Told, place_unwritten};
 use std::alloc::Global;
 use table_locks::Prepared;
 

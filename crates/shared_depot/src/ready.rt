@@ -7,10 +7,10 @@ use crate::room::Room;
 use crate::serving::Serving;
 use crate::stored_archive::StoredArchive;
 use crate::written_journal::WrittenJournal;
+use depot_commit::{Imaging, Told};
 use locked_tables::Naming;
 use outside_api::Disk;
 use party_marks::Marking;
-use serial_depot::{Imaging, Told};
 use std::sync::MutexGuard;
 
 /// What a command is answered that writes nothing more, with the lock of the order, and that of the

@@ -11,12 +11,12 @@ use crate::of_archive::OfArchive;
 use crate::serving::Serving;
 use crate::stored_archive::StoredArchive;
 use crate::written_journal::WrittenJournal;
+use depot_commit::Imaging;
 use depot_rows::model::{Answer, Request};
 use locked_tables::{Naming, OrderWords, PartyPass, TableLocks};
 use outside_api::{Disk, Gate};
 use party_marks::{MarkWords, Marking};
 use replica_turns::{Answered, ReplicaParty, is_print, is_pull};
-use serial_depot::Imaging;
 use std::alloc::{AllocError, Global};
 use std::sync::{Mutex, Wait};
 

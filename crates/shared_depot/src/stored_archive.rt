@@ -1,7 +1,7 @@
 //! What lies behind the lock of the archive.
 ghost use Rattle.std.specs.Prelude.{◌≡◌, ◌≤◌, ◌-◌, ◌^◌, ◌||◌, ◌&&◌, [], true, false, not, IfOk};
 ghost use Rattle.locked_tables.specs.Taken.{end_after};
-ghost use Rattle.serial_depot.specs.Telling.{IsTold};
+ghost use Rattle.depot_commit.specs.Telling.{IsTold};
 ghost use Rattle.depot_rows.specs.depot_model.declared.request.Request.{Request as AnyRequest};
 ghost use Rattle.shared_depot.specs.Common.{IsArchiveAfter};
 ghost use Rattle.shared_depot.specs.Room.{IsToldAfter};
@@ -10,10 +10,10 @@ use crate::of_archive::OfArchive;
 use crate::serving::Serving;
 use archive_file::Archive;
 use command_core::Outcome;
+use depot_commit::{Imaging, Told, tell_reading};
 use locked_tables::{LockedArchive, Naming};
 use outside_api::Disk;
 use party_marks::Marks;
-use serial_depot::{Imaging, Told, tell_reading};
 use std::alloc::{AllocError, Global};
 use std::marker::Model;
 

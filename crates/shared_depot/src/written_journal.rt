@@ -7,6 +7,7 @@ ghost use Rattle.shared_depot.specs.Common.{GoesOnQuietly, HasRunOrder};
 
 use crate::common::CommonDepot;
 use crate::serving::Serving;
+use depot_commit::Imaging;
 use depot_rows::changes::change_tables;
 use depot_rows::records::Change;
 use depot_rows::tables::Tables;
@@ -14,7 +15,6 @@ use disk_journal::Journal;
 use locked_tables::{LockedJournal, Naming, OrderWords};
 use outside_api::Disk;
 use party_marks::{Marking, Marks};
-use serial_depot::Imaging;
 use std::alloc::{AllocError, Global};
 use std::marker::Model;
 

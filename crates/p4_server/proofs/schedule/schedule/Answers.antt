@@ -2,7 +2,7 @@ use Rattle.std.proofs.Common.{◌∙◌, [], ap, refl, subst, sym, Err}
 use Rattle.archive_file.specs.Archive as archives
 use Rattle.disk_journal.specs.Stands.{disk_of}
 use Rattle.party_threads.specs.replica_turns.Master.{IsMaster, Past}
-use Rattle.party_threads.specs.serial_depot.Growing.{Chronicle}
+use Rattle.party_threads.specs.depot_commit.Growing.{Chronicle}
 use Rattle.party_threads.specs.serial_depot.Running.{HasRun}
 use Rattle.party_threads.specs.serial_depot.declared.depot.SerialDepot.{SerialDepot}
 use Rattle.p4_server.specs.Parties.{parties_of}

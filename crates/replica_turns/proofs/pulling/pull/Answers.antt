@@ -1,4 +1,4 @@
-use Rattle.serial_depot.proofs.Moved.{fetched_none}
+use Rattle.depot_commit.proofs.Moved.{fetched_none}
 use Rattle.replica_turns.proofs.pulling.pull.Goals as goal
 
 pub returns-in_err-of_fault-clause-fetched : goal.returns-in_err-of_fault-clause-fetched

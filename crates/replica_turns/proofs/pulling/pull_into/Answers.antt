@@ -1,5 +1,7 @@
 use Rattle.std.proofs.Common.{◌≡◌, ℕ, [], ◌∷◌, refl, sym, ap, subst, ◌∙◌}
 use Rattle.outside_api.specs.Link.{Answers}
+use Rattle.disk_journal.specs.declared.journal.Journal.{Journal}
+use Rattle.depot_commit.specs.Fetching.{HasTexts}
 use Rattle.depot_runs.specs.Replica.{position_row}
 use Rattle.depot_rows.specs.depot_model.Printed.{printed}
 use Rattle.replica_turns.specs.Replying.{IsPullAnswer}
@@ -15,7 +17,7 @@ returns-in_ok-follow-in-Ok-clause-answered g c = λ depot same.
       fetched = c.in-Ok.fetched;
       piece = c.fetch_texts.new.buffer;
       answers = λ texts has.
-          subst (λ (at : ℕ × ℕ). Answers texts at.0 at.1 c.in-Ok.fetched c.fetch_texts.new.buffer) c.awaits-generation.ensures (c.in-Ok.ensures.answers depot texts same has);
+          subst (λ (at : ℕ × ℕ). Answers texts at.0 at.1 c.in-Ok.fetched c.fetch_texts.new.buffer) c.awaits-generation.ensures (c.in-Ok.ensures.answers texts (subst (λ (journal : Journal g.row.D.Denot). HasTexts g.D.Disk.says journal texts) same has));
       follows = c.in_ok-follow-in-Ok.ensures.follows;
       reply = c.position.ensures ∙ ap (λ (at : ℕ × ℕ). printed (position_row at.0 at.1 ∷ []) c.args.number) c.position-generation.ensures;
     })

@@ -1,5 +1,5 @@
 use Rattle.std.proofs.Common.{◌≡◌, refl, sym, ◌∙◌}
-use Rattle.serial_depot.proofs.Moved.{fetched_none}
+use Rattle.depot_commit.proofs.Moved.{fetched_none}
 use Rattle.replica_turns.proofs.Replies.{by_other, by_pull, of_bare}
 use Rattle.replica_turns.proofs.replying.answer_by_journal.Goals as goal
 

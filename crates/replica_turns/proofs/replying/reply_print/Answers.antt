@@ -1,7 +1,7 @@
 use Rattle.std.proofs.Common.{subst}
 use Rattle.archive_file.specs.Archive.{disk_of}
 use Rattle.archive_file.specs.declared.archive.Archive.{Archive}
-use Rattle.serial_depot.proofs.Moved.{read_none}
+use Rattle.depot_commit.proofs.Moved.{read_none}
 use Rattle.replica_turns.proofs.Replies.{of_print}
 use Rattle.replica_turns.proofs.replying.reply_print.Goals as goal
 

@@ -1,10 +1,10 @@
 use Rattle.std.proofs.Common.{List, sym, ap, subst, ◌∙◌}
 use Rattle.reply_rows.specs.Made.{contents_of}
 use Rattle.reply_rows.specs.declared.content.RowContent.{RowContent}
-use Rattle.serial_depot.specs.Storing.{AreAt}
+use Rattle.depot_commit.specs.Storing.{AreAt}
 use Rattle.replica_turns.specs.declared.party.Answered.{Answered}
-use Rattle.serial_depot.proofs.Contents.{contents_at}
-use Rattle.serial_depot.proofs.Moved.{read_none}
+use Rattle.depot_commit.proofs.Contents.{contents_at}
+use Rattle.depot_commit.proofs.Moved.{read_none}
 use Rattle.replica_turns.proofs.replying.with_contents.Goals as goal
 
 pub returns-clause-told : goal.returns-clause-told

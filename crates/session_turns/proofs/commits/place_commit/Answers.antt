@@ -13,9 +13,9 @@ use Rattle.lock_machine.proofs.Places.{some_is}
 use Rattle.outside_api.specs.Count.{HasRisen}
 use Rattle.run_parties.proofs.replica_turns.Masters.{place_master, texts_grow, unmoved_master}
 use Rattle.run_parties.specs.command_core.declared.outcome.Outcome.{Outcome}
-use Rattle.run_parties.specs.serial_depot.Committing.{IsOutcomeOf}
-use Rattle.run_parties.specs.serial_depot.Growing.{HasGroups, grown}
-use Rattle.run_parties.specs.serial_depot.Opening.{opens_generation}
+use Rattle.run_parties.specs.depot_commit.Committing.{IsOutcomeOf}
+use Rattle.run_parties.specs.depot_commit.Growing.{HasGroups, grown}
+use Rattle.run_parties.specs.depot_commit.Opening.{opens_generation}
 use Rattle.session_loop.proofs.Faults.{caused_once, caused_same}
 use Rattle.session_loop.specs.Served.{AreCaused}
 use Rattle.session_loop.specs.Taking.{IsProper}

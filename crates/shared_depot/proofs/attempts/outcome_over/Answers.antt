@@ -1,7 +1,7 @@
 use Rattle.std.proofs.Common.{List, subst}
 use Rattle.std.specs.Prelude.{IfOk}
-use Rattle.serial_depot.specs.command_core.Outcomes.{HasNeeded, IsFormedBy, IsOutcome}
-use Rattle.serial_depot.specs.command_core.declared.outcome.Outcome.{Outcome}
+use Rattle.depot_commit.specs.command_core.Outcomes.{HasNeeded, IsFormedBy, IsOutcome}
+use Rattle.depot_commit.specs.command_core.declared.outcome.Outcome.{Outcome}
 use Rattle.depot_rows.specs.depot_model.Deeds.{Deed}
 use Rattle.depot_rows.specs.depot_model.Rules.{IsSound}
 use Rattle.depot_rows.specs.table_changes.Changed.{AllFitIn, rows_of}

@@ -1,5 +1,5 @@
 use Rattle.replica_turns.proofs.Replies.{turned_by}
-use Rattle.serial_depot.proofs.Growing.{stored_same}
+use Rattle.depot_commit.proofs.Growing.{stored_same}
 use Rattle.replica_turns.proofs.party.ReplicaParty.answer_next.Goals as goal
 
 pub returns-in-Some-clause-turned : goal.returns-in-Some-clause-turned

@@ -1,5 +1,5 @@
-use Rattle.serial_depot.proofs.Finished.{read_can, read_run}
-use Rattle.serial_depot.proofs.Growing.{stored_read}
+use Rattle.serial_depot.proofs.Parts.{read_can, read_run}
+use Rattle.depot_commit.proofs.Growing.{stored_read}
 use Rattle.serial_depot.proofs.depot.SerialDepot.contents.Goals as goal
 
 pub returns-clause-can : goal.returns-clause-can

@@ -1,11 +1,10 @@
-use Rattle.std.proofs.Common.{refl}
 use Rattle.archive_file.specs.Archive as archives
-use Rattle.serial_depot.proofs.Growing.{stored_same}
-use Rattle.serial_depot.proofs.Moved.{over_fetched}
+use Rattle.depot_commit.proofs.Growing.{stored_same}
+use Rattle.depot_commit.proofs.Moved.{over_fetched}
 use Rattle.serial_depot.proofs.depot.SerialDepot.fetch.Goals as goal
 
 pub returns-clause-answers : goal.returns-clause-answers
-returns-clause-answers g c = λ texts h. c.fetch_texts.ensures.answers c.args.self.now texts refl h
+returns-clause-answers g c = c.fetch_texts.ensures.answers
 
 pub returns-clause-can : goal.returns-clause-can
 returns-clause-can g c = λ can. record {

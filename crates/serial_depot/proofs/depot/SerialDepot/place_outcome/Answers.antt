@@ -1,8 +1,8 @@
 use Rattle.depot_rows.specs.table_changes.Changed.{rows_of}
 use Rattle.depot_rows.specs.depot_model.Commands.{step}
 use Rattle.depot_rows.specs.depot_model.Step.{after}
-use Rattle.serial_depot.proofs.Differences.{no_changes}
-use Rattle.serial_depot.proofs.Finished.{none_read}
+use Rattle.depot_commit.proofs.Differences.{no_changes}
+use Rattle.serial_depot.proofs.Quiet.{none_read}
 use Rattle.serial_depot.proofs.depot.SerialDepot.place_outcome.Goals as goal
 
 pub returns-clause-no_write : goal.returns-clause-no_write

@@ -8,15 +8,15 @@ use Rattle.depot_rows.specs.table_store.declared.tables.Tables.{Tables}
 use Rattle.depot_rows.specs.depot_model.Commands.{step}
 use Rattle.outside_api.specs.Count.{HasRisen}
 use Rattle.session_loop.specs.Taking.{Answers, with_place}
-use Rattle.serial_depot.specs.Committing.{AreRowsAfter}
-use Rattle.serial_depot.specs.Growing.{HasGroups, KeepsStored, grown}
-use Rattle.serial_depot.specs.Opening.{opens_generation}
+use Rattle.depot_commit.specs.Committing.{AreRowsAfter}
+use Rattle.depot_commit.specs.Growing.{HasGroups, KeepsStored, grown}
+use Rattle.depot_commit.specs.Opening.{opens_generation}
 use Rattle.serial_depot.specs.Running.{HasRun}
-use Rattle.serial_depot.specs.Storing.{AllReach, stores_end}
+use Rattle.depot_commit.specs.Storing.{AllReach, stores_end}
 use Rattle.serial_depot.specs.declared.depot.SerialDepot.{SerialDepot}
-use Rattle.serial_depot.proofs.Finished.{read_can, read_run}
-use Rattle.serial_depot.proofs.Growing.{stored_read, stored_two}
-use Rattle.serial_depot.proofs.Beside.{among_now, among_on, beside_now, can_of, cause_of, depot_of_parts, stored_so}
+use Rattle.depot_commit.proofs.Growing.{stored_read, stored_two}
+use Rattle.depot_commit.proofs.Beside.{among_now, among_on, stored_so}
+use Rattle.serial_depot.proofs.Parts.{beside_now, can_of, cause_of, depot_of_parts, read_can, read_run}
 use Rattle.serial_depot.proofs.depot.SerialDepot.take_outcome.Goals as goal
 
 pub place-requires-clause-can : goal.place-requires-clause-can

@@ -1,10 +1,10 @@
 use Rattle.depot_rows.specs.table_changes.Changed.{rows_of}
 use Rattle.depot_rows.specs.depot_model.Commands.{step}
 use Rattle.depot_rows.specs.depot_model.Step.{after}
-use Rattle.serial_depot.proofs.Differences.{no_changes}
-use Rattle.serial_depot.proofs.Finished.{none_read}
-use Rattle.serial_depot.proofs.Laws.{formed_of}
-use Rattle.serial_depot.proofs.Outcomes.{has_needed}
+use Rattle.depot_commit.proofs.Differences.{no_changes}
+use Rattle.serial_depot.proofs.Quiet.{none_read}
+use Rattle.depot_commit.proofs.Laws.{formed_of}
+use Rattle.depot_commit.proofs.Outcomes.{has_needed}
 use Rattle.serial_depot.proofs.depot.SerialDepot.take_request.Goals as goal
 
 pub returns-clause-ran : goal.returns-clause-ran

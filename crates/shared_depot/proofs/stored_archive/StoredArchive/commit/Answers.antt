@@ -1,8 +1,8 @@
 use Rattle.std.proofs.Common.{◌≡◌, List, sym, subst, ◌∙◌, ap}
 use Rattle.archive_file.specs.Archive.{disk_of as archive_disk_of}
 use Rattle.locked_tables.specs.declared.taken.Taken.{Taken}
-use Rattle.serial_depot.specs.Placing.{EndsAt}
-use Rattle.serial_depot.specs.Storing.{AllReach}
+use Rattle.depot_commit.specs.Placing.{EndsAt}
+use Rattle.depot_commit.specs.Storing.{AllReach}
 use Rattle.shared_depot.specs.Stored.{ArchiveKnown, stored_end}
 use Rattle.shared_depot.proofs.Committed.{archive_committed}
 use Rattle.shared_depot.proofs.Marks.{mark_stays}

@@ -8,9 +8,9 @@ use Rattle.party_marks.specs.Known.{PassKnown}
 use Rattle.party_marks.specs.Marks.{has_marks}
 use Rattle.replica_turns.specs.Going.{is_lost}
 use Rattle.serial_depot.specs.Running.{HasRun}
-use Rattle.serial_depot.specs.Storing.{HasStored, stores_end}
+use Rattle.depot_commit.specs.Storing.{HasStored, stores_end}
 use Rattle.serial_depot.specs.declared.depot.SerialDepot.{SerialDepot}
-use Rattle.serial_depot.proofs.Moved.{over_fetched}
+use Rattle.depot_commit.proofs.Moved.{over_fetched}
 use Rattle.shared_depot.specs.Common.{HasAllStored, HasRunOrder, KeepsOrder}
 use Rattle.shared_depot.specs.Stored.{stores_of}
 use Rattle.shared_depot.proofs.Committed.{run_on}

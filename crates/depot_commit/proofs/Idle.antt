@@ -1,0 +1,91 @@
+-- A place at which nothing is written, or was, since a disk failed.
+use Rattle.std.proofs.Common.{◌≡◌, ℕ, Bool, true, false, List, [], ◌∷◌, ◌++◌, refl, sym, ap, subst, ◌∙◌, ⊎_elim}
+use Rattle.std.specs.Prelude.{if◌then◌else◌}
+use Rattle.std.proofs.lemmas.Bool.{true≢false}
+use Rattle.outside_api.specs.Disk.{Files}
+use Rattle.outside_api.specs.Says.{DiskSays}
+use Rattle.command_core.specs.declared.outcome.Outcome.{Outcome}
+use Rattle.disk_journal.specs.declared.journal.Journal.{Journal}
+use Rattle.depot_rows.specs.db_records.declared.change.Change.{Change}
+use Rattle.depot_rows.specs.depot_model.Commands.{step}
+use Rattle.depot_rows.specs.depot_model.Deeds.{Deed}
+use Rattle.depot_rows.specs.depot_model.Places.{Placed, taken}
+use Rattle.depot_rows.specs.depot_model.declared.request.Request.{Request}
+use Rattle.depot_rows.specs.table_changes.Changed.{AllRows, changed_by, rows_of}
+use Rattle.depot_rows.specs.table_store.declared.tables.Tables.{Tables}
+use Rattle.session_loop.specs.Taking.{IsProper, placed_by, with_place}
+use Rattle.sound_requests.specs.Asked.{is_typed}
+use Rattle.depot_commit.specs.Committing.{AreChangesOf, AreRowsAfter, IsOutcomeOf}
+use Rattle.depot_commit.specs.Growing.{Chronicle, HasGroups, grown}
+use Rattle.depot_commit.specs.Opening.{opens_generation}
+use Rattle.depot_commit.specs.Placing.{HasRunBeside}
+use Rattle.depot_commit.specs.Running.{HasRunOver}
+use Rattle.depot_commit.specs.Telling.{IsTold, IsUnwritten}
+use Rattle.depot_commit.specs.declared.landing.Landed.{Landed}
+use Rattle.depot_commit.specs.declared.telling.Told.{Told}
+use Rattle.depot_commit.proofs.Beside.{beside_same}
+use Rattle.depot_commit.proofs.Growing.{grown_fault, grown_none}
+use Rattle.depot_commit.proofs.Outcomes.{told_changes}
+use Rattle.depot_commit.proofs.Steps.{over_faulted, over_idle}
+
+-- where all could be read it changes nothing
+pub none_changed : (told : Told) → IsUnwritten told → told.unread ≡ false → told.changes ≡ []
+none_changed told unwritten read = ⊎_elim (λ none. none) (λ unread. absurd (true≢false (sym unread ∙ read))) unwritten
+
+module _ (told : Told) (unwritten : IsUnwritten told) where
+  -- nothing is changed
+  pub none_kept : [] ≡ (if told.unread then [] else told.changes)
+  none_kept = go told.unread refl
+    where
+      go : (unread : Bool) → told.unread ≡ unread → [] ≡ (if unread then [] else told.changes)
+      go true is = refl
+      go false is = sym (none_changed told unwritten is)
+
+  -- the rows stay
+  pub rows_unwritten : (rows : AllRows) → AreRowsAfter rows told.changes told.unread rows
+  rows_unwritten rows = go told.unread refl
+    where
+      go : (unread : Bool) → told.unread ≡ unread → AreRowsAfter rows told.changes unread rows
+      go true is = refl
+      go false is = ap (changed_by rows) (sym (none_changed told unwritten is))
+
+  -- so do the groups
+  pub grown_unwritten : (opens : Bool) (c : Chronicle) → c ≡ grown opens told.unread told.changes c
+  grown_unwritten opens c = go told.unread refl
+    where
+      go : (unread : Bool) → told.unread ≡ unread → c ≡ grown opens unread told.changes c
+      go true is = grown_fault opens told.changes c
+      go false is = grown_none opens false told.changes c (none_changed told unwritten is)
+
+  -- tables and a journal have run one place more
+  module _ {D : Type 0} (disk_says : DiskSays D) (images : Files → Type 0) (used : ℕ) (tables : Tables) (journal : Journal D) (since : ℕ) (start : List Deed) (places : List Placed) where
+    pub ran_unwritten : HasRunOver disk_says images used tables journal since start places → (request : Request) (outcome : Outcome) → IsProper request → is_typed request ≡ true
+        → IsOutcomeOf (rows_of tables) tables.archive_end request outcome → IsTold outcome request.number told → HasRunOver disk_says images used tables journal since start (places ++ placed_by request told.unread ∷ [])
+    ran_unwritten h request outcome proper typed is t = go told.unread refl
+      where
+        made : AreChangesOf (rows_of tables) request (opens_generation request) told.changes
+        made = told_changes (rows_of tables) tables.archive_end (taken step start places) request outcome told h.stand is t proper typed
+
+        go : (unread : Bool) → told.unread ≡ unread → HasRunOver disk_says images used tables journal since start (places ++ placed_by request unread ∷ [])
+        go true unread = over_faulted disk_says images used tables journal since start places request h
+        go false read =
+            over_idle disk_says images used tables journal since start places request h (opens_generation request)
+            (subst (AreChangesOf (rows_of tables) request (opens_generation request)) (none_changed told unwritten read) made)
+
+-- ---- a command for which nothing counts as stored
+
+module _ (landed : Landed) (f : Bool) (fault : landed.answer.place.fault ≡ f) (none : landed.stored ≡ []) where
+  pub nothing_rows : (rows : AllRows) (changes : List Change) → AreRowsAfter rows changes f rows → AreRowsAfter rows changes landed.answer.place.fault rows
+  nothing_rows rows changes after = subst (λ (b : Bool). AreRowsAfter rows changes b rows) (sym fault) after
+
+  module _ {D : Type 0} (disk_says : DiskSays D) (journal : Journal D) where
+    pub nothing_grows : (opens : Bool) (changes : List Change) (c : Chronicle) → c ≡ grown opens f changes c → HasGroups disk_says journal c → HasGroups disk_says journal (grown opens landed.answer.place.fault changes c)
+    nothing_grows opens changes c same has = subst (λ (b : Bool). HasGroups disk_says journal (grown opens b changes c)) (sym fault) (subst (HasGroups disk_says journal) same has)
+
+    pub nothing_ran : (images : Files → Type 0) (from : ℕ) (before : List (List ℕ)) (tables : Tables) (since : ℕ) (start : List Deed) (places : List Placed) (request : Request)
+        → HasRunBeside disk_says images from before tables journal since start (places ++ placed_by request f ∷ [])
+        → HasRunBeside disk_says images from (before ++ landed.stored) tables journal since start (with_place places request landed.answer)
+    nothing_ran images from before tables since start places request h =
+        let Ran : List (List ℕ) → Bool → Type 0 = λ stored b. HasRunBeside disk_says images from (before ++ stored) tables journal since start (places ++ placed_by request b ∷ []) in
+        subst (λ (stored : List (List ℕ)). Ran stored landed.answer.place.fault) (sym none)
+        (subst (Ran []) (sym fault) (beside_same disk_says images from tables journal since start (places ++ placed_by request f ∷ []) before h))
