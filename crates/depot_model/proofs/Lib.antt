@@ -12,6 +12,8 @@ mod SingleRights
 mod Moves
 mod Shelved
 mod Twelve
+mod Lines
+pub mod InForce
 -- what stands below, for the crates above
 pub use Rattle.db_records.proofs.depot_path as depot_path
 pub use Rattle.db_records.proofs as db_records

@@ -30,6 +30,7 @@ pub mod Cut
 pub mod Tables
 pub mod WellFormed
 pub mod Rules
+pub mod Contents
 -- what stands below, for the crates above
 pub use Rattle.db_records.specs.depot_path as depot_path
 pub use Rattle.db_records.specs as db_records

@@ -5,8 +5,8 @@
 //! stand the types of commands, requests and replies, filters, the reading of file types, and laws of the definitions.
 #![tactic(auto)]
 
-mod block;
 mod command;
+mod contents;
 mod file_type;
 mod filter;
 mod laws;
@@ -17,8 +17,8 @@ mod refusal;
 mod reply;
 mod request;
 
-pub use block::Block;
 pub use command::{Command, FileArgument, Labelling, PatternArgument, Taking};
+pub use contents::{Contents, ScriptContents};
 pub use file_type::{is_file_type, is_printed_type, printed_type};
 pub use filter::{Filter, FilterRule};
 pub use laws::{

@@ -2,8 +2,8 @@
 
 ghost use Rattle.std.specs.Prelude.{◌≡◌, IfOk};
 
-use crate::block::Block;
 use crate::command::Command;
+use crate::contents::Contents;
 use db_records::paths::{DepotPath, Name, PathFault, Sequence, Text};
 use std::alloc::AllocError;
 
@@ -37,7 +37,7 @@ pub struct Content {
     /// The file's path in the workspace.
     pub path: DepotPath,
     /// Its bytes.
-    pub bytes: Block,
+    pub bytes: Text,
 }
 
 /// Why the words of a command line are no command.
@@ -77,7 +77,7 @@ pub struct Asked {
     /// The block of input that stood before the line.
     pub input: Option<Text>,
     /// For a submit or a shelve, the contents of the session's files.
-    pub contents: Sequence<Content>,
+    pub contents: Contents,
 }
 
 /// A session's commands, in the order of its script.
@@ -104,7 +104,7 @@ pub struct Request {
     /// The block of input that stood before the command.
     pub input: Option<Text>,
     /// For a submit or a shelve, the contents of the session's files.
-    pub contents: Sequence<Content>,
+    pub contents: Contents,
 }
 
 impl Drop for Request {

@@ -1,4 +1,3 @@
 pub mod ContentRows
 pub mod Finding
-pub mod Blocking
 pub mod Giving

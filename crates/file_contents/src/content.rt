@@ -13,11 +13,10 @@ ghost use Rattle.depot_rows.specs.depot_model.Steps.Submitting as model;
 ghost use Rattle.depot_rows.specs.Deed.{action_of, opening_of};
 ghost use Rattle.depot_rows.specs.Standing.{HasRows};
 ghost use Rattle.named_files.specs.Asked.{IsAsker};
-ghost use Rattle.file_contents.specs.Blocks.{AreBlocks};
 ghost use Rattle.file_contents.specs.Content.{IsFound, found_in_row, is_absent as absent_test};
 ghost use Rattle.depot_rows.specs.table_changes.Changed.{rows_of};
 
-use crate::blocks::Blocks;
+use depot_rows::model::Contents;
 use depot_rows::paths::{DepotPath, Text};
 use depot_rows::records::{Key, Record, RevRecord, Spot, TableId};
 use depot_rows::tables::Tables;
@@ -130,16 +129,16 @@ pub(crate) fn source_content<'a>(
 pub(crate) fn block_of<'a>(
     alloc: Global,
     asker: &Asker,
-    blocks: &Blocks<'a>,
+    contents: &'a Contents,
     path: &DepotPath,
 ) -> Result<Option<&'a Text>, AllocError>
-    ensures { IfOk result (λ block. (d : List Deed) (request : AnyRequest) → IsAsker d request.caller asker.now → AreBlocks request.contents blocks.now →
+    ensures { IfOk result (λ block. (d : List Deed) (request : AnyRequest) → IsAsker d request.caller asker.now → contents.now ≡ request.contents →
         option_copied block ≡ model.block_of d request request.caller.client path.now) }
 {
     let found = asker.place(alloc, path)?;
     match found {
         Some(place) => {
-            let block = blocks.at(&place);
+            let block = contents.at(&place);
             drop(place);
             Ok(block)
         }
@@ -151,15 +150,15 @@ pub(crate) fn block_of<'a>(
 fn moved_block<'a>(
     alloc: Global,
     asker: &Asker,
-    blocks: &Blocks<'a>,
+    contents: &'a Contents,
     moved: &Option<DepotPath>,
 ) -> Result<Option<&'a Text>, AllocError>
-    ensures { IfOk result (λ block. (d : List Deed) (request : AnyRequest) → IsAsker d request.caller asker.now → AreBlocks request.contents blocks.now →
+    ensures { IfOk result (λ block. (d : List Deed) (request : AnyRequest) → IsAsker d request.caller asker.now → contents.now ≡ request.contents →
         option_copied block ≡ option_and_then (model.block_of d request request.caller.client) moved.now) }
 {
     match moved {
         Some(path) => {
-            let block = block_of(alloc, asker, blocks, path)?;
+            let block = block_of(alloc, asker, contents, path)?;
             Ok(block)
         }
         None => Ok(None),
@@ -171,18 +170,18 @@ fn moved_content<'a>(
     alloc: Global,
     tables: &Tables,
     asker: &Asker,
-    blocks: &Blocks<'a>,
+    contents: &'a Contents,
     opening: &Opening,
 ) -> Result<Found<'a>, AllocError>
     ensures { IfOk result (λ found. (d : List Deed) (request : AnyRequest) → IsSound d → HasRows (rows_of tables.now) d table_ids.Rev → IsAsker d request.caller asker.now →
-        AreBlocks request.contents blocks.now → opening.now.client ≡ request.caller.client →
+        contents.now ≡ request.contents → opening.now.client ≡ request.caller.client →
         IsFound (rows_of tables.now) d found (model.moved_content d request (opening_of opening.now))) }
 {
-    let own = block_of(alloc, asker, blocks, &opening.path)?;
+    let own = block_of(alloc, asker, contents, &opening.path)?;
     if let Some(block) = own {
         return Ok(Found::Block(block));
     }
-    let other = moved_block(alloc, asker, blocks, &opening.moved)?;
+    let other = moved_block(alloc, asker, contents, &opening.moved)?;
     if let Some(block) = other {
         return Ok(Found::Block(block));
     }
@@ -195,14 +194,14 @@ fn block_or_base<'a>(
     alloc: Global,
     tables: &Tables,
     asker: &Asker,
-    blocks: &Blocks<'a>,
+    contents: &'a Contents,
     opening: &Opening,
 ) -> Result<Found<'a>, AllocError>
     ensures { IfOk result (λ found. (d : List Deed) (request : AnyRequest) → IsSound d → HasRows (rows_of tables.now) d table_ids.Rev → IsAsker d request.caller asker.now →
-        AreBlocks request.contents blocks.now → opening.now.client ≡ request.caller.client →
+        contents.now ≡ request.contents → opening.now.client ≡ request.caller.client →
         IsFound (rows_of tables.now) d found (option_or (model.block_of d request opening.now.client opening.now.path) (model.content_at d opening.now.path opening.now.base))) }
 {
-    let own = block_of(alloc, asker, blocks, &opening.path)?;
+    let own = block_of(alloc, asker, contents, &opening.path)?;
     if let Some(block) = own {
         return Ok(Found::Block(block));
     }
@@ -215,16 +214,16 @@ fn own_content<'a>(
     alloc: Global,
     tables: &Tables,
     asker: &Asker,
-    blocks: &Blocks<'a>,
+    contents: &'a Contents,
     opening: &Opening,
 ) -> Result<Found<'a>, AllocError>
     ensures { IfOk result (λ found. (d : List Deed) (request : AnyRequest) → IsSound d → HasRows (rows_of tables.now) d table_ids.Rev → IsAsker d request.caller asker.now →
-        AreBlocks request.contents blocks.now → opening.now.client ≡ request.caller.client →
+        contents.now ≡ request.contents → opening.now.client ≡ request.caller.client →
         IsFound (rows_of tables.now) d found (model.own_content d request (opening_of opening.now))) }
 {
     let source = source_content(alloc, tables, opening)?;
     if source.is_absent() {
-        let found = block_or_base(alloc, tables, asker, blocks, opening)?;
+        let found = block_or_base(alloc, tables, asker, contents, opening)?;
         return Ok(found);
     }
     Ok(source)
@@ -266,21 +265,21 @@ pub fn content_of<'a>(
     alloc: Global,
     tables: &Tables,
     asker: &Asker,
-    blocks: &Blocks<'a>,
+    contents: &'a Contents,
     opening: &Opening,
 ) -> Result<Found<'a>, AllocError>
     ensures { IfOk result (λ found. (d : List Deed) (request : AnyRequest) → IsSound d → HasRows (rows_of tables.now) d table_ids.Rev → IsAsker d request.caller asker.now →
-        AreBlocks request.contents blocks.now → opening.now.client ≡ request.caller.client →
+        contents.now ≡ request.contents → opening.now.client ≡ request.caller.client →
         IsFound (rows_of tables.now) d found (model.content_of d request (opening_of opening.now))) }
 {
     if !is_live_action(opening.action) {
         return Ok(Found::Absent);
     }
     if is_moved_in(opening) {
-        let found = moved_content(alloc, tables, asker, blocks, opening)?;
+        let found = moved_content(alloc, tables, asker, contents, opening)?;
         return Ok(found);
     }
-    let found = own_content(alloc, tables, asker, blocks, opening)?;
+    let found = own_content(alloc, tables, asker, contents, opening)?;
     Ok(found)
 }
 
@@ -289,14 +288,14 @@ pub fn lacks_content(
     alloc: Global,
     tables: &Tables,
     asker: &Asker,
-    blocks: &Blocks,
+    contents: &Contents,
     opening: &Opening,
 ) -> Result<bool, AllocError>
     ensures { IfOk result (λ lacks. (d : List Deed) (request : AnyRequest) → IsSound d → HasRows (rows_of tables.now) d table_ids.Rev → IsAsker d request.caller asker.now →
-        AreBlocks request.contents blocks.now → opening.now.client ≡ request.caller.client →
+        contents.now ≡ request.contents → opening.now.client ≡ request.caller.client →
         lacks ≡ model.lacks_content d request (opening_of opening.now)) }
 {
-    let found = content_of(alloc, tables, asker, blocks, opening)?;
+    let found = content_of(alloc, tables, asker, contents, opening)?;
     let lacks = is_live_action(opening.action) && found.is_absent();
     drop(found);
     Ok(lacks)

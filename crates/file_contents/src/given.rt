@@ -12,11 +12,10 @@ ghost use Rattle.depot_rows.specs.depot_model.Steps.Submitting.{source_content a
 ghost use Rattle.depot_rows.specs.Deed.{opening_of};
 ghost use Rattle.depot_rows.specs.Standing.{HasRows};
 ghost use Rattle.named_files.specs.Asked.{IsAsker};
-ghost use Rattle.file_contents.specs.Blocks.{AreBlocks};
 
-use crate::blocks::Blocks;
 use crate::content::{block_of, is_live_action, source_content};
 use depot_rows::Opening;
+use depot_rows::model::Contents;
 use depot_rows::paths::Text;
 use depot_rows::tables::Tables;
 use named_files::Asker;
@@ -39,11 +38,11 @@ pub fn block_given<'a>(
     alloc: Global,
     tables: &Tables,
     asker: &Asker,
-    blocks: &Blocks<'a>,
+    contents: &'a Contents,
     opening: &Opening,
 ) -> Result<Option<&'a Text>, AllocError>
     ensures { IfOk result (λ block. (d : List Deed) (request : AnyRequest) → IsSound d → HasRows (rows_of tables.now) d table_ids.Rev → IsAsker d request.caller asker.now →
-        AreBlocks request.contents blocks.now → opening.now.client ≡ request.caller.client →
+        contents.now ≡ request.contents → opening.now.client ≡ request.caller.client →
         option_copied block ≡ model.block_given d request (opening_of opening.now)) }
 {
     if !is_live_action(opening.action) {
@@ -53,6 +52,6 @@ pub fn block_given<'a>(
     if has {
         return Ok(None);
     }
-    let block = block_of(alloc, asker, blocks, &opening.path)?;
+    let block = block_of(alloc, asker, contents, &opening.path)?;
     Ok(block)
 }

@@ -4,12 +4,10 @@
 //! call answers what the model says of that depot. The one error is want of memory.
 #![tactic(auto)]
 
-mod blocks;
 mod content;
 mod contents;
 mod given;
 
-pub use blocks::Blocks;
 pub use content::{Found, content_of, is_live_action, lacks_content};
 pub use contents::rows_tell_contents;
 pub use given::block_given;

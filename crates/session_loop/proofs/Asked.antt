@@ -1,14 +1,16 @@
 -- The commands that lines ask are well-formed, and their contents short.
 use Rattle.std.proofs.Common.{◌≡◌, refl, sym, subst, ℕ, Bool, true, false, List, [], ◌∷◌, Option, Some, None}
-use Rattle.std.specs.Prelude.{◌&&◌, map, is_some, if◌then◌else◌}
+use Rattle.std.specs.Prelude.{◌&&◌, map, is_some}
 use Rattle.std.specs.List.{list_all}
 use Rattle.std.proofs.lemmas.List.Elements.{All-nil, All-cons}
 use Rattle.indexmap.specs.IndexMap.{insert_entry, shift_remove_entry}
 use Rattle.depot_model.specs.depot_path.Bytes.{same}
+use Rattle.depot_model.specs.Contents.{content_of}
 use Rattle.depot_model.specs.Filter.{filter_of}
 use Rattle.depot_model.specs.declared.filter.FilterRule.{FilterRule}
 use Rattle.depot_model.specs.declared.request.Asked.{Asked}
 use Rattle.depot_model.specs.declared.request.Session.{Session}
+use Rattle.depot_model.proofs.InForce.{all_inserted, all_removed}
 use Rattle.command_words.specs.Reading.{command_of}
 use Rattle.command_words.proofs.FormedLines.{each_line}
 use Rattle.wire_text.specs.declared.entry.Entry.{Entry}
@@ -17,21 +19,15 @@ use Rattle.wire_text.specs.declared.head.Head.{Head}
 use Rattle.wire_text.specs.declared.head.Head.TheVariants.{Session as SessionHead, Replica}
 use Rattle.wire_text.specs.Script.{script_of, is_short, has_short_content}
 use Rattle.wire_text.proofs.Short.{script_short}
-use Rattle.session_loop.specs.Asking.{asked_by, asked_from, content_of, taken_contents, takes_contents, session_by, session_of, commands_of, rules_of, replica_with, replica_of, replica_commands, asking_of, AreProper, AreWellFormed}
+use Rattle.session_loop.specs.Asking.{asked_by, asked_from, taken_contents, takes_contents, session_by, session_of, commands_of, rules_of, replica_with, replica_of, replica_commands, asking_of, AreProper, AreWellFormed}
 
 abbrev IsAskedWell : Asked → Type 0
 IsAskedWell asked = AreProper asked.command asked.contents
 
 -- ---- contents are short
 
-abbrev is_short_text : List ℕ × List ℕ → Bool
-is_short_text entry = is_short (content_of entry)
-
 abbrev are_short : List (List ℕ × List ℕ) → Bool
-are_short contents = list_all is_short_text contents
-
-both_true : (a b : Bool) → a ≡ true → b ≡ true → (a && b) ≡ true
-both_true a b e f = λ i. e i && f i
+are_short contents = list_all is_short (map content_of contents)
 
 left_true : (a b : Bool) → (a && b) ≡ true → a ≡ true
 left_true true b e = refl
@@ -41,32 +37,8 @@ right_true : (a b : Bool) → (a && b) ≡ true → b ≡ true
 right_true true b e = e
 right_true false b e = absurd cc
 
-inserted_short : (contents : List (List ℕ × List ℕ)) (path bytes : List ℕ) → is_short_text (path, bytes) ≡ true → are_short contents ≡ true
-    → are_short (insert_entry same contents path bytes) ≡ true
-inserted_short [] path bytes one all = both_true (is_short_text (path, bytes)) true one refl
-inserted_short (e ∷ contents) path bytes one all = go (same path e.0) (inserted_short contents path bytes one (right_true (is_short_text e) (are_short contents) all))
-  where
-    go : (b : Bool) → are_short (insert_entry same contents path bytes) ≡ true
-        → are_short (if b then (e.0, bytes) ∷ contents else e ∷ insert_entry same contents path bytes) ≡ true
-    go true later = both_true (is_short_text (e.0, bytes)) (are_short contents) one (right_true (is_short_text e) (are_short contents) all)
-    go false later = both_true (is_short_text e) (are_short (insert_entry same contents path bytes)) (left_true (is_short_text e) (are_short contents) all) later
-
-removed_short : (path : List ℕ) (contents : List (List ℕ × List ℕ)) → are_short contents ≡ true → are_short (shift_remove_entry (same path) contents) ≡ true
-removed_short path [] all = refl
-removed_short path (e ∷ contents) all = go (same path e.0) (removed_short path contents (right_true (is_short_text e) (are_short contents) all))
-  where
-    go : (b : Bool) → are_short (shift_remove_entry (same path) contents) ≡ true
-        → are_short (if b then contents else e ∷ shift_remove_entry (same path) contents) ≡ true
-    go true later = right_true (is_short_text e) (are_short contents) all
-    go false later = both_true (is_short_text e) (are_short (shift_remove_entry (same path) contents)) (left_true (is_short_text e) (are_short contents) all) later
-
-mapped_short : (contents : List (List ℕ × List ℕ)) → are_short contents ≡ true → list_all is_short (map content_of contents) ≡ true
-mapped_short [] all = refl
-mapped_short (e ∷ contents) all = both_true (is_short_text e) (list_all is_short (map content_of contents)) (left_true (is_short_text e) (are_short contents) all)
-    (mapped_short contents (right_true (is_short_text e) (are_short contents) all))
-
 taken_short : (takes : Bool) (contents : List (List ℕ × List ℕ)) → are_short contents ≡ true → list_all is_short (taken_contents takes contents) ≡ true
-taken_short true contents all = mapped_short contents all
+taken_short true contents all = all
 taken_short false contents all = refl
 
 -- ---- what is asked
@@ -76,9 +48,9 @@ entries_ask : (contents : List (List ℕ × List ℕ)) (entries : List Entry) �
 entries_ask contents [] short all = All-nil IsAskedWell
 entries_ask contents (Put content ∷ entries) short all =
     entries_ask (insert_entry same contents content.path content.bytes) entries
-    (inserted_short contents content.path content.bytes (left_true (has_short_content (Put content)) (list_all has_short_content entries) all) short)
+    (all_inserted is_short contents content.path content.bytes (left_true (has_short_content (Put content)) (list_all has_short_content entries) all) short)
     (right_true (has_short_content (Put content)) (list_all has_short_content entries) all)
-entries_ask contents (Clear path ∷ entries) short all = entries_ask (shift_remove_entry (same path) contents) entries (removed_short path contents short) all
+entries_ask contents (Clear path ∷ entries) short all = entries_ask (shift_remove_entry (same path) contents) entries (all_removed is_short contents path short) all
 entries_ask contents (Asks item ∷ entries) short all =
     All-cons IsAskedWell (asked_by contents item) (asked_from contents entries)
     ((each_line item.line (is_some item.input)).value, taken_short (takes_contents (command_of item.line (is_some item.input))) contents short)

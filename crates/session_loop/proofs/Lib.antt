@@ -1,3 +1,4 @@
+mod Passing
 pub mod Asked
 pub mod Faults
 pub mod Orders

@@ -6,6 +6,7 @@ use Rattle.std.specs.List.{All, list_all}
 use Rattle.indexmap.specs.IndexMap.{insert_entry, shift_remove_entry}
 use Rattle.depot_model.specs.depot_path.Bytes.{same}
 use Rattle.depot_model.specs.depot_path.declared.fault.PathFault.{PathFault}
+use Rattle.depot_model.specs.Contents.{content_of}
 use Rattle.depot_model.specs.Filter.{filter_of}
 use Rattle.depot_model.specs.declared.command.Command.{Command}
 use Rattle.depot_model.specs.declared.command.Command.TheVariants.{SubmitChange, SubmitDefault, Shelve}
@@ -34,9 +35,6 @@ takes_contents (Ok (SubmitChange change)) = true
 takes_contents (Ok (SubmitDefault text)) = true
 takes_contents (Ok (Shelve change replaces files)) = true
 takes_contents _ = false
-
-abbrev pub content_of : List ℕ × List ℕ → Content
-content_of entry = record { path = entry.0; bytes = entry.1 }
 
 abbrev pub taken_contents : Bool → List (List ℕ × List ℕ) → List Content
 taken_contents true contents = map content_of contents

@@ -1,4 +1,5 @@
 pub mod Asking
+pub mod Passing
 pub mod Reading
 pub mod Served
 pub mod Taking

@@ -4,17 +4,20 @@ ghost use Rattle.std.specs.Prelude.{◌≡◌, ◌≤◌, ◌+◌, ◌++◌, ◌
 ghost use Rattle.std.specs.List.{list_all};
 ghost use Rattle.wire_text.specs.Script.{has_short_content};
 ghost use Rattle.wire_text.specs.declared.entry.Entry.{Entry};
+ghost use Rattle.std.specs.Arc.{arc_value};
+ghost use Rattle.depot_model.specs.Contents.{contents_after};
 ghost use Rattle.session_loop.specs.Asking as spec;
+ghost use Rattle.session_loop.specs.Passing.{AreBehind, all_asked, asked_in};
 ghost use Rattle.depot_model.specs.Filter.{filter_of as filter_spec};
 ghost use Rattle.session_loop.specs.Reading.{IsReadSession};
 
 use command_words::read_command;
-use depot_model::paths::{ClientPath, PathFault, Sequence, Text};
-use depot_model::{Asked, Block, Caller, Command, Content, Filter, Session, WordFault};
-use indexmap::IndexMap;
+use depot_model::paths::{PathFault, Sequence, Text};
+use depot_model::{Asked, Caller, Command, Contents, Filter, ScriptContents, Session, WordFault};
 use outside_api::Source;
 use std::alloc::{AllocError, Global};
-use wire_text::{Entry, Head, Item, ReadScript, ScriptEnd, pass_entry, read_script};
+use std::sync::Arc;
+use wire_text::{Entry, Head, Item, ReadScript, ScriptEnd, read_script};
 
 /// What the script of a replica asks.
 #[derive(Drop)]
@@ -45,45 +48,6 @@ fn takes_contents(command: &Result<Command, WordFault>) -> bool
     )
 }
 
-/// A content that shares its bytes.
-fn shared_content(path: &ClientPath, bytes: &Block) -> Result<Content, AllocError>
-    ensures { IfOk result (λ content. content ≡ spec.content_of (path.now, bytes.now)) }
-{
-    Ok(Content {
-        path: path.clone()?,
-        bytes: bytes.share()?,
-    })
-}
-
-/// Contents that share their bytes with these.
-fn shared(
-    alloc: Global,
-    contents: &IndexMap<ClientPath, Block>,
-) -> Result<Sequence<Content>, AllocError>
-    ensures { IfOk result (λ shares. shares ≡ map spec.content_of contents.now.entries) }
-{
-    let mut shares = Sequence::new(alloc);
-    for (path, bytes) in contents.iter() {
-        shares.push(shared_content(path, bytes)?)?;
-    }
-    Ok(shares)
-}
-
-/// What a command takes of the contents.
-fn taken_contents(
-    alloc: Global,
-    takes: bool,
-    contents: &IndexMap<ClientPath, Block>,
-) -> Result<Sequence<Content>, AllocError>
-    ensures { IfOk result (λ taken. taken ≡ spec.taken_contents takes contents.now.entries) }
-{
-    if takes {
-        shared(alloc, contents)
-    } else {
-        Ok(Sequence::new(alloc))
-    }
-}
-
 /// Whether no memory was left to read a command.
 fn wants_memory(command: &Result<Command, WordFault>) -> bool
     ensures { IsFalse result → command.now ≢ Err WordFault.Memory }
@@ -91,32 +55,41 @@ fn wants_memory(command: &Result<Command, WordFault>) -> bool
     matches!(command, Err(WordFault::Memory))
 }
 
-/// What a command takes of the contents, where memory was left to read it.
+/// What a command takes of the contents behind so many lines that say something of files, where memory was left to read it.
 fn contents_for(
-    alloc: Global,
     command: &Result<Command, WordFault>,
-    contents: &IndexMap<ClientPath, Block>,
-) -> Result<Sequence<Content>, AllocError>
-    ensures taken { IfOk result (λ taken. taken ≡ spec.taken_contents (spec.takes_contents command.now) contents.now.entries) }
+    script: &Arc<ScriptContents, Global>,
+    lines: usize,
+) -> Result<Contents, AllocError>
+    ensures taken { IfOk result (λ taken. taken ≡ spec.taken_contents (spec.takes_contents command.now) (contents_after lines (arc_value script.now).files)) }
     ensures read { OnOk result (command.now ≢ Err WordFault.Memory) }
 {
     if wants_memory(command) {
         return Err(AllocError);
     }
-    taken_contents(alloc, takes_contents(command), contents)
+    let taken = if takes_contents(command) { lines } else { 0 };
+    Contents::behind(script, taken)
+}
+
+/// A command of a script, with how many lines before it say something of files.
+#[derive(Drop)]
+struct PlacedItem {
+    item: Item,
+    lines: usize,
 }
 
 /// What a line asks.
 fn asked(
     alloc: Global,
-    item: Item,
-    contents: &IndexMap<ClientPath, Block>,
+    placed: PlacedItem,
+    script: &Arc<ScriptContents, Global>,
 ) -> Result<Asked, AllocError>
-    ensures { IfOk result (λ asked. asked ≡ spec.asked_by contents.now.entries item) }
+    ensures { IfOk result (λ asked. asked ≡ asked_in (arc_value script.now).files placed) }
 {
+    let PlacedItem { item, lines } = placed;
     let Item { line, input, .. } = item;
     let command = read_command(alloc, &line, input.is_some());
-    match contents_for(alloc, &command, contents) {
+    match contents_for(&command, script, lines) {
         Ok(contents) => Ok(Asked {
             command,
             input,
@@ -133,16 +106,38 @@ fn asked(
 fn follow(
     alloc: Global,
     entry: Entry,
-    contents: &mut IndexMap<ClientPath, Block>,
-    commands: &mut Sequence<Asked>,
+    script: &mut ScriptContents,
+    items: &mut Sequence<PlacedItem>,
 ) -> Result<(), AllocError>
-    ensures goes { OnOk result ((rest : List Entry) → commands.old ++ spec.asked_from contents.old.entries (entry ∷ rest) ≡ commands.new ++ spec.asked_from contents.new.entries rest) }
-    ensures few { OnOk result (length commands.new ≤ length commands.old + 1) }
+    requires { AreBehind script.old.lines items.old }
+    ensures behind { OnOk result (AreBehind script.new.lines items.new) }
+    ensures goes { OnOk result ((rest : List Entry) → all_asked script.old items.old (entry ∷ rest) ≡ all_asked script.new items.new rest) }
+    ensures few { OnOk result (length items.new ≤ length items.old + 1) }
 {
-    if let Some(item) = pass_entry(contents, Some(entry))? {
-        commands.push(asked(alloc, item, contents)?)?;
+    match entry {
+        Entry::Put(content) => script.put(alloc, content),
+        Entry::Clear(path) => script.clear(alloc, path),
+        Entry::Command(item) => {
+            let lines = script.lines();
+            items.push(PlacedItem { item, lines })
+        }
     }
-    Ok(())
+}
+
+/// What the entries of a script say of files, and the commands among them.
+fn passed(
+    alloc: Global,
+    entries: Sequence<Entry>,
+) -> Result<(ScriptContents, Sequence<PlacedItem>), AllocError>
+    ensures value { IfOk result (λ passed. map (asked_in passed.0.files) passed.1 ≡ spec.asked_from [] entries) }
+    ensures few { IfOk result (λ passed. length passed.1 ≤ length entries) }
+{
+    let mut script = ScriptContents::new(alloc);
+    let mut items = Sequence::new(alloc);
+    for entry in entries.into_vec() {
+        follow(alloc, entry, &mut script, &mut items)?;
+    }
+    Ok((script, items))
 }
 
 /// The commands that the entries of a script ask.
@@ -150,10 +145,11 @@ fn asked_by_entries(alloc: Global, entries: Sequence<Entry>) -> Result<Sequence<
     ensures value { IfOk result (λ commands. commands ≡ spec.asked_from [] entries) }
     ensures few { IfOk result (λ commands. length commands ≤ length entries) }
 {
-    let mut contents = IndexMap::new(alloc);
+    let (said, items) = passed(alloc, entries)?;
+    let script = Arc::new(alloc, said)?;
     let mut commands = Sequence::new(alloc);
-    for entry in entries.into_vec() {
-        follow(alloc, entry, &mut contents, &mut commands)?;
+    for placed in items.into_vec() {
+        commands.push(asked(alloc, placed, &script)?)?;
     }
     Ok(commands)
 }

@@ -19,8 +19,6 @@ use Rattle.depot_rows.specs.depot_model.Steps.Reverting.{is_selected, not_open}
 use Rattle.depot_rows.specs.depot_model.Steps.Shelving.{is_shelvable, opened_in, shelve_file, shelved_row, within_forms}
 use Rattle.depot_rows.specs.depot_model.Steps.Submitting.{lacks_content}
 use Rattle.depot_rows.specs.Standing.{HasRows}
-use Rattle.file_contents.specs.Blocks.{AreBlocks}
-use Rattle.file_contents.specs.declared.blocks.Blocks.{Blocks}
 use Rattle.named_files.specs.Asked.{IsAsker}
 use Rattle.named_files.specs.Sets.{at_head}
 use Rattle.named_files.specs.declared.asker.Asker.{Asker}
@@ -32,11 +30,6 @@ pub record OpenedReads (caller : Caller) (asker : Asker) (rows : AllRows) (d : L
   pub has_domain : HasRows rows d tables.Domain
   pub has_working : HasRows rows d tables.Working
   pub has_rev : HasRows rows d tables.Rev
-
--- and the blocks are those of the request
-pub record ShelvingReads (request : Request) (asker : Asker) (blocks : Blocks) (rows : AllRows) (d : List Deed) : Type 0 where
-  pub opened : OpenedReads request.caller asker rows d
-  pub given : AreBlocks request.contents blocks
 
 -- the client has the file opened in the change, and the argument names it, whichever revision it asks for
 abbrev pub is_at_head : Caller → ℕ → List Deed → FileArgument → List ℕ → Bool

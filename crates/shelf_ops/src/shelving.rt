@@ -19,7 +19,7 @@ ghost use Rattle.depot_rows.specs.Deed.{opening_of};
 ghost use Rattle.depot_rows.specs.Standing.{HasRows};
 ghost use Rattle.reply_rows.specs.Made.{IsMade};
 ghost use Rattle.reply_rows.specs.Refusing.{first_of};
-ghost use Rattle.shelf_ops.specs.Shelved.{OpenedReads, ShelvingReads, keeping, shelve_refusals, shelving as shelving_in};
+ghost use Rattle.shelf_ops.specs.Shelved.{OpenedReads, keeping, shelve_refusals, shelving as shelving_in};
 
 use crate::forms::shelf_form;
 use crate::keeping::{kept_form, shelf_name};
@@ -32,7 +32,7 @@ use depot_rows::paths::{DepotPath, Text};
 use depot_rows::protections::Level;
 use depot_rows::tables::Tables;
 use depot_rows::{Action, Opening};
-use file_contents::{Blocks, block_given, lacks_content};
+use file_contents::{block_given, lacks_content};
 use file_steps::{FileAct, over_all};
 use named_files::Asker;
 use opening_parts::{action_word, right_refusal};
@@ -45,7 +45,6 @@ use std::alloc::{AllocError, Global};
 struct Shelving<'a> {
     request: &'a Request,
     asker: &'a Asker,
-    blocks: &'a Blocks<'a>,
     /// Whether a file that is kept already is kept anew.
     replaces: bool,
 }
@@ -145,11 +144,11 @@ impl<'a> Shelving<'a> {
         tables: &Tables,
         opening: &Opening,
     ) -> Result<Option<Row>, AllocError>
-        ensures { IfOk result (λ row. (d : List ModelDeed) → ShelvingReads self.now.request.now self.now.asker.now self.now.blocks.now (rows_of tables.now) d →
+        ensures { IfOk result (λ row. (d : List ModelDeed) → OpenedReads self.now.request.now.caller self.now.asker.now (rows_of tables.now) d →
             opening.now.client ≡ self.now.request.now.caller.client →
             row ≡ option_map refusal_row (refuse_if (lacks_content_in d self.now.request.now (opening_of opening.now)) (refusals.NoContent opening.now.path))) }
     {
-        let lacks = lacks_content(alloc, tables, self.asker, self.blocks, opening)?;
+        let lacks = lacks_content(alloc, tables, self.asker, &self.request.contents, opening)?;
         if !lacks {
             return Ok(None);
         }
@@ -164,7 +163,7 @@ impl<'a> Shelving<'a> {
         tables: &Tables,
         opening: &Opening,
     ) -> Result<Option<Row>, AllocError>
-        ensures { IfOk result (λ row. (d : List ModelDeed) → ShelvingReads self.now.request.now self.now.asker.now self.now.blocks.now (rows_of tables.now) d →
+        ensures { IfOk result (λ row. (d : List ModelDeed) → OpenedReads self.now.request.now.caller self.now.asker.now (rows_of tables.now) d →
             opening.now.client ≡ self.now.request.now.caller.client →
             row ≡ option_map refusal_row (first_of (shelve_refusals d self.now.request.now self.now.replaces (opening_of opening.now)))) }
     {
@@ -191,11 +190,11 @@ impl<'a> Shelving<'a> {
         tables: &Tables,
         opening: &Opening,
     ) -> Result<Step, AllocError>
-        ensures { IfOk result (λ step. (d e : List ModelDeed) (path : List ℕ) → ShelvingReads self.now.request.now self.now.asker.now self.now.blocks.now (rows_of tables.now) d →
+        ensures { IfOk result (λ step. (d e : List ModelDeed) (path : List ℕ) → OpenedReads self.now.request.now.caller self.now.asker.now (rows_of tables.now) d →
             opened d self.now.request.now.caller.client path ≡ Some (opening_of opening.now) →
             IsMade (rows_of tables.now) d e (keeping self.now.request.now.caller (opening_of opening.now) (model.block_given d self.now.request.now (opening_of opening.now))) step) }
     {
-        let block = block_given(alloc, tables, self.asker, self.blocks, opening)?;
+        let block = block_given(alloc, tables, self.asker, &self.request.contents, opening)?;
         let step = keep(alloc, &self.request.caller, opening, block)?;
         Ok(step)
     }
@@ -207,7 +206,7 @@ impl<'a> Shelving<'a> {
         tables: &Tables,
         opening: &Opening,
     ) -> Result<Step, AllocError>
-        ensures { IfOk result (λ step. (d e : List ModelDeed) (path : List ℕ) → ShelvingReads self.now.request.now self.now.asker.now self.now.blocks.now (rows_of tables.now) d →
+        ensures { IfOk result (λ step. (d e : List ModelDeed) (path : List ℕ) → OpenedReads self.now.request.now.caller self.now.asker.now (rows_of tables.now) d →
             opened d self.now.request.now.caller.client path ≡ Some (opening_of opening.now) →
             IsMade (rows_of tables.now) d e (model.shelve_opening d self.now.request.now self.now.replaces (opening_of opening.now)) step) }
     {
@@ -227,9 +226,9 @@ impl<'a> Shelving<'a> {
 
 impl<'a> FileAct for Shelving<'a> {
     ghost use Rattle.depot_rows.specs.depot_model.Steps.Shelving.{shelve_file};
-    ghost use Rattle.shelf_ops.specs.Shelved.{ShelvingReads};
+    ghost use Rattle.shelf_ops.specs.Shelved.{OpenedReads};
 
-    ghost reads = { λ act rows d. ShelvingReads act.request.now act.asker.now act.blocks.now rows d };
+    ghost reads = { λ act rows d. OpenedReads act.request.now.caller act.asker.now rows d };
 
     ghost acts = { λ act d argument path. shelve_file d act.request.now act.replaces path };
 
@@ -266,12 +265,11 @@ fn shelve_files(
     tables: &Tables,
     request: &Request,
     asker: &Asker,
-    blocks: &Blocks,
     change: u32,
     replaces: bool,
     arguments: &[FileArgument],
 ) -> Result<Step, AllocError>
-    ensures { IfOk result (λ step. (d : List ModelDeed) → list_all asks_head arguments.now ≡ true → ShelvingReads request.now asker.now blocks.now (rows_of tables.now) d →
+    ensures { IfOk result (λ step. (d : List ModelDeed) → list_all asks_head arguments.now ≡ true → OpenedReads request.now.caller asker.now (rows_of tables.now) d →
         IsMade (rows_of tables.now) d d (shelving_in d request.now change replaces arguments.now) step) }
 {
     let files = OpenedHeads {
@@ -282,31 +280,10 @@ fn shelve_files(
     let act = Shelving {
         request,
         asker,
-        blocks,
         replaces,
     };
     let done = over_all(alloc, tables, &files, &act, arguments)?;
     let step = within_forms(alloc, done)?;
-    Ok(step)
-}
-
-/// `shelve` of an asker, where the change isn't refused.
-fn shelve_asked(
-    alloc: Global,
-    tables: &Tables,
-    request: &Request,
-    asker: &Asker,
-    change: u32,
-    replaces: bool,
-    arguments: &[FileArgument],
-) -> Result<Step, AllocError>
-    ensures { IfOk result (λ step. (d : List ModelDeed) → list_all asks_head arguments.now ≡ true → OpenedReads request.now.caller asker.now (rows_of tables.now) d →
-        IsMade (rows_of tables.now) d d (shelving_in d request.now change replaces arguments.now) step) }
-{
-    let blocks = Blocks::of(alloc, request.contents.as_slice())?;
-    let step = shelve_files(
-        alloc, tables, request, asker, &blocks, change, replaces, arguments,
-    )?;
     Ok(step)
 }
 
@@ -336,7 +313,7 @@ pub fn shelve(
         }
         None => {
             let asker = Asker::of(alloc, tables, &request.caller)?;
-            let done = shelve_asked(alloc, tables, request, &asker, change, replaces, arguments);
+            let done = shelve_files(alloc, tables, request, &asker, change, replaces, arguments);
             drop(asker);
             let step = done?;
             Ok(step)

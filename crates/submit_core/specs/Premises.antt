@@ -2,6 +2,7 @@
 use Rattle.std.specs.Prelude.{◌≡◌, ℕ, List, [], ◌∷◌, Some}
 use Rattle.depot_rows.specs.db_records.declared.table.TableId.TheVariants as tables
 use Rattle.depot_rows.specs.table_changes.Changed.{AllRows}
+use Rattle.depot_rows.specs.depot_model.declared.request.Content.{Content}
 use Rattle.depot_rows.specs.depot_model.declared.request.Request.{Request}
 use Rattle.depot_rows.specs.depot_model.Deeds.{Deed}
 use Rattle.depot_rows.specs.depot_model.Opened.{opened}
@@ -11,14 +12,12 @@ use Rattle.depot_rows.specs.Standing.{HasRows}
 use Rattle.depot_rows.specs.declared.deed.Opening.{Opening}
 use Rattle.named_files.specs.Asked.{IsAsker}
 use Rattle.named_files.specs.declared.asker.Asker.{Asker}
-use Rattle.file_contents.specs.Blocks.{AreBlocks}
-use Rattle.file_contents.specs.declared.blocks.Blocks.{Blocks}
 
--- the asker and the blocks are those of the request, and the rows are the depot's
-pub record Reads (all : AllRows) (d : List Deed) (request : Request) (asker : Asker) (blocks : Blocks) : Type 0 where
+-- the asker and the contents are those of the request, and the rows are the depot's
+pub record Reads (all : AllRows) (d : List Deed) (request : Request) (asker : Asker) (contents : List Content) : Type 0 where
   pub sound : IsSound d
   pub asked : IsAsker d request.caller asker
-  pub given : AreBlocks request.contents blocks
+  pub given : contents ≡ request.contents
   pub resolves : HasRows all d tables.Resolve
   pub workings : HasRows all d tables.Working
   pub revisions : HasRows all d tables.Rev

@@ -16,11 +16,12 @@ ghost use Rattle.depot_rows.specs.table_changes.Changed.{rows_of};
 use crate::credits::credits_of;
 use crate::refusals::is_moved_with;
 use archive_file::digest;
+use depot_rows::model::Contents;
 use depot_rows::paths::{DepotPath, Sequence, Text};
 use depot_rows::records::Spot;
 use depot_rows::tables::Tables;
 use depot_rows::{Action, Credit, Entry, How, Opening, Source, Stored};
-use file_contents::{Blocks, Found, content_of};
+use file_contents::{Found, content_of};
 use named_files::Asker;
 use revision_reads::head_of;
 use std::alloc::{AllocError, Global};
@@ -198,15 +199,15 @@ fn add_file(
     alloc: Global,
     tables: &Tables,
     asker: &Asker,
-    blocks: &Blocks,
+    contents: &Contents,
     files: &mut Files,
     opening: &Opening,
 ) -> Result<(), AllocError>
-    ensures { OnOk result ((d : List Deed) (request : AnyRequest) (from : ℕ) (taken : List ModelOpening) → Reads (rows_of tables.now) d request asker.now blocks.now →
+    ensures { OnOk result ((d : List Deed) (request : AnyRequest) (from : ℕ) (taken : List ModelOpening) → Reads (rows_of tables.now) d request asker.now contents.now →
         IsOpened d request.caller.client opening.now → AreFiles (rows_of tables.now) d request from taken files.old →
         AreFiles (rows_of tables.now) d request from (taken ++ opening_said opening.now ∷ []) files.new) }
 {
-    let found = content_of(alloc, tables, asker, blocks, opening)?;
+    let found = content_of(alloc, tables, asker, contents, opening)?;
     let content = place(alloc, &mut files.stores, &mut files.end, found)?;
     let entry = entry_of(alloc, tables, opening, content)?;
     files.entries.push(entry)?;
@@ -218,11 +219,11 @@ pub(crate) fn files_of(
     alloc: Global,
     tables: &Tables,
     asker: &Asker,
-    blocks: &Blocks,
+    contents: &Contents,
     from: u64,
     openings: &[Opening],
 ) -> Result<Files, AllocError>
-    ensures { IfOk result (λ files. (d : List Deed) (request : AnyRequest) → Reads (rows_of tables.now) d request asker.now blocks.now → AreOpened d request.caller.client openings.now →
+    ensures { IfOk result (λ files. (d : List Deed) (request : AnyRequest) → Reads (rows_of tables.now) d request asker.now contents.now → AreOpened d request.caller.client openings.now →
         AreFiles (rows_of tables.now) d request from (map opening_said openings.now) files) }
 {
     let mut files = Files {
@@ -231,7 +232,7 @@ pub(crate) fn files_of(
         end: from,
     };
     for opening in openings {
-        add_file(alloc, tables, asker, blocks, &mut files, opening)?;
+        add_file(alloc, tables, asker, contents, &mut files, opening)?;
     }
     Ok(files)
 }

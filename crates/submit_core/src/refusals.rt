@@ -23,11 +23,11 @@ ghost use Rattle.submit_core.specs.Refusals.{in_same_change, later_refusals, loc
 ghost use Rattle.depot_rows.specs.table_changes.Changed.{rows_of};
 
 use depot_rows::Opening;
-use depot_rows::model::Row;
+use depot_rows::model::{Contents, Row};
 use depot_rows::paths::{DepotPath, Name};
 use depot_rows::protections::Level;
 use depot_rows::tables::Tables;
-use file_contents::{Blocks, lacks_content};
+use file_contents::lacks_content;
 use named_files::Asker;
 use opening_reads::{opening_by, owes_resolve};
 use reply_rows::{
@@ -180,13 +180,13 @@ fn content_refusal(
     alloc: Global,
     tables: &Tables,
     asker: &Asker,
-    blocks: &Blocks,
+    contents: &Contents,
     opening: &Opening,
 ) -> Result<Option<Row>, AllocError>
-    ensures { IfOk result (λ row. (d : List Deed) (request : AnyRequest) → Reads (rows_of tables.now) d request asker.now blocks.now → opening.now.client ≡ request.caller.client →
+    ensures { IfOk result (λ row. (d : List Deed) (request : AnyRequest) → Reads (rows_of tables.now) d request asker.now contents.now → opening.now.client ≡ request.caller.client →
         row ≡ option_map refusal_row (refuse_if (model.lacks_content d request (opening_said opening.now)) (refusals.NoContent opening.now.path))) }
 {
-    let lacks = lacks_content(alloc, tables, asker, blocks, opening)?;
+    let lacks = lacks_content(alloc, tables, asker, contents, opening)?;
     if !lacks {
         return Ok(None);
     }
@@ -222,10 +222,10 @@ fn later_refusal(
     alloc: Global,
     tables: &Tables,
     asker: &Asker,
-    blocks: &Blocks,
+    contents: &Contents,
     opening: &Opening,
 ) -> Result<Option<Row>, AllocError>
-    ensures { IfOk result (λ row. (d : List Deed) (request : AnyRequest) → Reads (rows_of tables.now) d request asker.now blocks.now → IsOpened d request.caller.client opening.now →
+    ensures { IfOk result (λ row. (d : List Deed) (request : AnyRequest) → Reads (rows_of tables.now) d request asker.now contents.now → IsOpened d request.caller.client opening.now →
         row ≡ option_map refusal_row (first_of (later_refusals d request (opening_said opening.now)))) }
 {
     let owed = resolve_refusal(alloc, tables, opening)?;
@@ -236,7 +236,7 @@ fn later_refusal(
     if moved.is_some() {
         return Ok(moved);
     }
-    let lacking = content_refusal(alloc, tables, asker, blocks, opening)?;
+    let lacking = content_refusal(alloc, tables, asker, contents, opening)?;
     Ok(lacking)
 }
 
@@ -245,17 +245,17 @@ fn file_refusal(
     alloc: Global,
     tables: &Tables,
     asker: &Asker,
-    blocks: &Blocks,
+    contents: &Contents,
     opening: &Opening,
 ) -> Result<Option<Row>, AllocError>
-    ensures { IfOk result (λ row. (d : List Deed) (request : AnyRequest) → Reads (rows_of tables.now) d request asker.now blocks.now → IsOpened d request.caller.client opening.now →
+    ensures { IfOk result (λ row. (d : List Deed) (request : AnyRequest) → Reads (rows_of tables.now) d request asker.now contents.now → IsOpened d request.caller.client opening.now →
         row ≡ option_map refusal_row (first_of (model.file_refusals d request (opening_said opening.now)))) }
 {
     let sooner = sooner_refusal(alloc, tables, asker, opening)?;
     if sooner.is_some() {
         return Ok(sooner);
     }
-    let later = later_refusal(alloc, tables, asker, blocks, opening)?;
+    let later = later_refusal(alloc, tables, asker, contents, opening)?;
     Ok(later)
 }
 
@@ -264,14 +264,14 @@ pub(crate) fn files_refusal(
     alloc: Global,
     tables: &Tables,
     asker: &Asker,
-    blocks: &Blocks,
+    contents: &Contents,
     openings: &[Opening],
 ) -> Result<Option<Row>, AllocError>
-    ensures { IfOk result (λ row. (d : List Deed) (request : AnyRequest) → Reads (rows_of tables.now) d request asker.now blocks.now → AreOpened d request.caller.client openings.now →
+    ensures { IfOk result (λ row. (d : List Deed) (request : AnyRequest) → Reads (rows_of tables.now) d request asker.now contents.now → AreOpened d request.caller.client openings.now →
         row ≡ option_map refusal_row (first_of (flat_map (model.file_refusals d request) (map opening_said openings.now)))) }
 {
     for opening in openings {
-        let refusal = file_refusal(alloc, tables, asker, blocks, opening)?;
+        let refusal = file_refusal(alloc, tables, asker, contents, opening)?;
         if refusal.is_some() {
             return Ok(refusal);
         }

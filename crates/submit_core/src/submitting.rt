@@ -31,11 +31,10 @@ use crate::openings::openings_of;
 use crate::refusals::files_refusal;
 use command_parts::change_refusal;
 use depot_rows::Opening;
-use depot_rows::model::{Limit, Request, Row};
+use depot_rows::model::{Contents, Limit, Request, Row};
 use depot_rows::paths::{Sequence, Text};
 use depot_rows::records::ChangeRecord;
 use depot_rows::tables::Tables;
-use file_contents::Blocks;
 use named_files::Asker;
 use reply_rows::{Step, empty_change_row, limit_row};
 use revision_reads::change_of;
@@ -90,20 +89,20 @@ fn submit_refusal(
     alloc: Global,
     tables: &Tables,
     asker: &Asker,
-    blocks: &Blocks,
+    contents: &Contents,
     change: u32,
     number: u64,
     text: &Text,
     openings: &[Opening],
 ) -> Result<Option<Row>, AllocError>
-    ensures { IfOk result (λ row. (d : List Deed) (request : AnyRequest) → Reads (rows_of tables.now) d request asker.now blocks.now → AreOpened d request.caller.client openings.now →
+    ensures { IfOk result (λ row. (d : List Deed) (request : AnyRequest) → Reads (rows_of tables.now) d request asker.now contents.now → AreOpened d request.caller.client openings.now →
         row ≡ option_map refusal_row (first_of (submit_refusals d request change number text.now (map opening_said openings.now)))) }
 {
     let front = front_refusal(alloc, change, text, openings)?;
     if front.is_some() {
         return Ok(front);
     }
-    let files = files_refusal(alloc, tables, asker, blocks, openings)?;
+    let files = files_refusal(alloc, tables, asker, contents, openings)?;
     if files.is_some() {
         return Ok(files);
     }
@@ -117,18 +116,24 @@ fn land(
     tables: &Tables,
     request: &Request,
     asker: &Asker,
-    blocks: &Blocks,
     change: u32,
     number: u32,
     text: &Text,
     openings: &[Opening],
 ) -> Result<Step, AllocError>
-    ensures { IfOk result (λ step. (d : List Deed) → Reads (rows_of tables.now) d request.now asker.now blocks.now → HasRows (rows_of tables.now) d table_ids.Domain →
+    ensures { IfOk result (λ step. (d : List Deed) → Reads (rows_of tables.now) d request.now asker.now request.now.contents → HasRows (rows_of tables.now) d table_ids.Domain →
         AreOpened d request.now.caller.client openings.now → map opening_said openings.now ≡ model.openings_of d request.now.caller change →
         number ≡ model.landing_number d change → MaySubmit d request.now change →
         IsStoring (rows_of tables.now) tables.now.archive_end d (model.landed d request.now change text.now (model.openings_of d request.now.caller change)) step) }
 {
-    let files = files_of(alloc, tables, asker, blocks, tables.archive_end(), openings)?;
+    let files = files_of(
+        alloc,
+        tables,
+        asker,
+        &request.contents,
+        tables.archive_end(),
+        openings,
+    )?;
     let Files {
         entries,
         stores,
@@ -163,18 +168,26 @@ fn land_unless(
     tables: &Tables,
     request: &Request,
     asker: &Asker,
-    blocks: &Blocks,
     change: u32,
     number: u64,
     text: &Text,
     openings: &[Opening],
 ) -> Result<Step, AllocError>
-    ensures { IfOk result (λ step. (d : List Deed) → Reads (rows_of tables.now) d request.now asker.now blocks.now → HasRows (rows_of tables.now) d table_ids.Domain →
+    ensures { IfOk result (λ step. (d : List Deed) → Reads (rows_of tables.now) d request.now asker.now request.now.contents → HasRows (rows_of tables.now) d table_ids.Domain →
         AreOpened d request.now.caller.client openings.now → map opening_said openings.now ≡ model.openings_of d request.now.caller change →
         number ≡ model.landing_number d change → IsAsked d request.now change →
         IsStoring (rows_of tables.now) tables.now.archive_end d (model.submit d request.now change text.now) step) }
 {
-    let refusal = submit_refusal(alloc, tables, asker, blocks, change, number, text, openings)?;
+    let refusal = submit_refusal(
+        alloc,
+        tables,
+        asker,
+        &request.contents,
+        change,
+        number,
+        text,
+        openings,
+    )?;
     match refusal {
         Some(row) => {
             let step = Step::tells(alloc, row)?;
@@ -183,7 +196,7 @@ fn land_unless(
         None => {
             let number = small(number)?;
             let step = land(
-                alloc, tables, request, asker, blocks, change, number, text, openings,
+                alloc, tables, request, asker, change, number, text, openings,
             )?;
             Ok(step)
         }
@@ -204,13 +217,11 @@ fn submit_asked(
 {
     let openings = openings_of(alloc, tables, asker, change)?;
     let number = landing_number(alloc, tables, change)?;
-    let blocks = Blocks::of(alloc, request.contents.as_slice())?;
     let step = land_unless(
         alloc,
         tables,
         request,
         asker,
-        &blocks,
         change,
         number,
         text,

@@ -4,15 +4,14 @@ ghost use Rattle.std.specs.Prelude.{◌≡◌, IfOk};
 ghost use Rattle.wire_text.specs.Commands.{KeepCase};
 
 use crate::entry::{Entry, Item};
-use depot_model::paths::ClientPath;
-use depot_model::{Block, Content};
+use depot_model::Content;
+use depot_model::paths::{ClientPath, Text};
 use indexmap::IndexMap;
 use std::alloc::AllocError;
 
-/// Passes an entry, if there is one: brings the contents up to date, or answers the command that it is. One who has a whole script's entries
-/// gets each command so with the contents that are in force at its line, and each block is moved.
-pub fn pass_entry(
-    contents: &mut IndexMap<ClientPath, Block>,
+/// Passes an entry, if there is one: brings the contents up to date, or answers the command that it is.
+pub(crate) fn pass_entry(
+    contents: &mut IndexMap<ClientPath, Text>,
     entry: Option<Entry>,
 ) -> Result<Option<Item>, AllocError>
     ensures { IfOk result (λ item. KeepCase entry contents.old.entries contents.new.entries item) }

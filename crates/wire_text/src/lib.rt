@@ -17,7 +17,6 @@ mod reader;
 mod script;
 mod words;
 
-pub use contents::pass_entry;
 pub use entry::{Entry, Item};
 pub use fault::{ScriptError, ScriptFault, ScriptFaultKind};
 pub use giving::{GiveFault, give_all, give_memory};

@@ -13,8 +13,8 @@ use crate::intake::{Intake, MAX_SCRIPT, Stop};
 use crate::line_kind::{LineKind, line_kind};
 use crate::lines::{LineRead, read_line};
 use crate::words::read_words;
-use depot_model::paths::{ClientPath, Name, Text};
-use depot_model::{Block, Content};
+use depot_model::Content;
+use depot_model::paths::{Name, Text};
 use outside_api::Source;
 use std::alloc::{AllocError, Global};
 
@@ -71,16 +71,6 @@ fn command(
     }))))
 }
 
-/// What a content says: from here on a file holds these bytes.
-fn put(alloc: Global, path: ClientPath, bytes: Text) -> Result<PartRead, AllocError>
-    ensures { IfOk result (λ read. read ≡ PartRead.Read (Some (Entry.Put (record { path = path; bytes = bytes })))) }
-{
-    match Block::new(alloc, bytes) {
-        Ok(bytes) => Ok(PartRead::Read(Some(Entry::Put(Content { path, bytes })))),
-        Err(error) => Err(error),
-    }
-}
-
 /// Reads the part of a line that was read: its block, where one belongs to it.
 fn read_line_part<S: Source>(
     alloc: Global,
@@ -108,10 +98,10 @@ fn read_line_part<S: Source>(
             Ok(read)
         }
         LineKind::Block(path, size) => match read_block(alloc, source, intake, size)? {
-            BlockRead::Block(bytes) => {
-                let read = put(alloc, path, bytes)?;
-                Ok(read)
-            }
+            BlockRead::Block(bytes) => Ok(PartRead::Read(Some(Entry::Put(Content {
+                path,
+                bytes,
+            })))),
             BlockRead::Bad => Ok(fault(ScriptFaultKind::BadData, start)),
             BlockRead::Stopped(stop) => Ok(stopped(stop, input.is_some(), start, intake.place())),
         },

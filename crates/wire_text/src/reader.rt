@@ -11,7 +11,6 @@ use crate::head::Head;
 use crate::intake::Intake;
 use crate::part::{PartRead, read_part};
 use crate::script::{HeadRead, read_head};
-use depot_model::Block;
 use depot_model::paths::{ClientPath, Name, Text};
 use indexmap::IndexMap;
 use outside_api::Source;
@@ -36,7 +35,7 @@ fn read_item<S: Source>(
     client: &Name,
     number: u32,
     input: &mut Option<Text>,
-    contents: &mut IndexMap<ClientPath, Block>,
+    contents: &mut IndexMap<ClientPath, Text>,
 ) -> Result<ItemRead, AllocError>
     requires number { number ≤ intake.old.place }
     ensures item { IfOk result (ItemCase (S.says.left source.old) (S.says.left source.new) (S.says.faults source.old) (S.says.faults source.new) intake.old intake.new (point_at client.now intake.old.place number input.old) input.new contents.old.entries contents.new.entries) }
@@ -62,7 +61,7 @@ pub struct ScriptReader {
     client: Option<Name>,
     number: u32,
     input: Option<Text>,
-    contents: IndexMap<ClientPath, Block>,
+    contents: IndexMap<ClientPath, Text>,
     ghost numbered: { number ≤ intake.place },
 }
 
@@ -152,7 +151,7 @@ impl ScriptReader {
     }
 
     /// The last block of each file of the client workspace, in the order in which the files were first named since they were last cleared.
-    pub fn contents(&self) -> &IndexMap<ClientPath, Block>
+    pub fn contents(&self) -> &IndexMap<ClientPath, Text>
         ensures { result.now.entries ≡ contents_of self.now }
     {
         &self.contents

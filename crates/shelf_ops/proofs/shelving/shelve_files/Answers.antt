@@ -14,4 +14,4 @@ returns c = λ d asks reads.
     let rows = rows_of c.args.tables.now in
     let act : FileArgument → List ℕ → ModelStep = λ _. shelve_file d request c.args.replaces in
     subst (λ (m : ModelStep). IsMade rows d d (within_forms m) c.in_ok-step.step) (over_opened d request.caller c.args.change not_open act c.args.arguments.now asks)
-    (c.in_ok-step.ensures rows d d _ (c.in_ok-done.ensures d reads.opened reads))
+    (c.in_ok-step.ensures rows d d _ (c.in_ok-done.ensures d reads reads))

@@ -9,5 +9,5 @@ use Rattle.submit_core.proofs.entries.files_of.Given as goal
 
 abbrev pub invariant-loop-opening : goal.invariant-loop-opening
 invariant-loop-opening l =
-    (d : List Deed) (request : Request) → Reads (rows_of l.tables) d request l.asker l.blocks → AreOpened d request.caller.client l.openings
+    (d : List Deed) (request : Request) → Reads (rows_of l.tables) d request l.asker l.contents → AreOpened d request.caller.client l.openings
     → AreFiles (rows_of l.tables) d request l.from (map opening_of (take l.opening-index l.openings)) l.files

@@ -11,6 +11,6 @@ use Rattle.submit_core.proofs.refusals.files_refusal.Given as goal
 
 abbrev pub invariant-loop-opening : goal.invariant-loop-opening
 invariant-loop-opening l =
-    (d : List Deed) (request : Request) → Reads (rows_of l.tables) d request l.asker l.blocks → AreOpened d request.caller.client l.openings
+    (d : List Deed) (request : Request) → Reads (rows_of l.tables) d request l.asker l.contents → AreOpened d request.caller.client l.openings
     → AreOpened d request.caller.client (drop l.opening-index l.openings)
     × (first_of (flat_map (file_refusals d request) (map opening_of (drop l.opening-index l.openings))) ≡ first_of (flat_map (file_refusals d request) (map opening_of l.openings)))

@@ -1,8 +1,6 @@
-use Rattle.std.proofs.Common.{List, sym, ap, subst, ◌∙◌, map}
-use Rattle.depot_rows.specs.depot_model.declared.request.Content.{Content}
+use Rattle.std.proofs.Common.{List, refl, sym, ap, subst, ◌∙◌, map}
 use Rattle.depot_rows.specs.Deed.{opening_of}
 use Rattle.depot_rows.specs.declared.deed.Opening.{Opening}
-use Rattle.file_contents.specs.Blocks.{AreBlocks}
 use Rattle.submit_core.specs.Premises.{AreOpened}
 use Rattle.submit_core.proofs.Ending.{are_opened}
 use Rattle.submit_core.proofs.submitting.submit_asked.Goals as goal
@@ -13,11 +11,10 @@ returns c = λ d has asker asked.
     let change = c.args.change in
     let openings_are = c.in_ok-openings.ensures d request.caller has.sound asker has.workings in
     let opened = are_opened d request.caller change c.in_ok-openings.openings openings_are in
-    let blocks = subst (λ (l : List Content). AreBlocks l c.in_ok-blocks.blocks) c.as_slice.ensures c.in_ok-blocks.ensures in
     c.in_ok-step.ensures d
-    (record { sound = has.sound; asked = asker; given = blocks; resolves = has.resolves; workings = has.workings; revisions = has.revisions })
+    (record { sound = has.sound; asked = asker; given = refl; resolves = has.resolves; workings = has.workings; revisions = has.revisions })
     has.forms
-    (subst (λ (os : List Opening). AreOpened d request.caller.client os) (sym c.as_slice-2.ensures) opened)
-    (ap (λ (os : List Opening). map opening_of os) c.as_slice-2.ensures ∙ openings_are)
+    (subst (λ (os : List Opening). AreOpened d request.caller.client os) (sym c.as_slice.ensures) opened)
+    (ap (λ (os : List Opening). map opening_of os) c.as_slice.ensures ∙ openings_are)
     (c.in_ok-number.ensures d has.counters)
     asked

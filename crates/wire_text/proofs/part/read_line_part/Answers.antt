@@ -48,15 +48,14 @@ returns-in-LongBlock-clause-part g c =
     rw (c.fault-in-LongBlock.ensures, c.place.ensures.place)
     (line_ends a.client.now start a.number a.input.now a.line.now c.requires.free c.requires.short _ is (g.S.Source.says.left a.source.now) 0 0 a.intake.now (omega (arith, c.requires.start)) c.place.ensures.most LongData data_placed (λ y. refl))
 
-pub returns-in_ok-read-in-Block-2-clause-part : goal.returns-in_ok-read-in-Block-2-clause-part
-returns-in_ok-read-in-Block-2-clause-part g c =
+pub returns-in-Block-2-clause-part : goal.returns-in-Block-2-clause-part
+returns-in-Block-2-clause-part g c =
     let a = c.args in
     let start = a.intake.now.place - (length a.line.now + 1) in
     let is = kind_is a.client.now a.line.now a.input.now _ _ _ c.is_some.ensures c.in_ok-line_kind.ensures c.in-Block.is in
     let k = rw c.in-Block-2.is at c.in_ok-bytes-in-Block.ensures.block in
-    rw c.in_ok-read-in-Block-2.ensures
-    (block_goes a.client.now start a.number a.input.now a.line.now c.requires.free c.requires.short _ is (g.S.Source.says.left a.source.now) _ 0 0 a.intake.now _ (omega (arith, c.requires.start)) c.in-Block.size
-    (λ (b : List ℕ). Some (Put (record { path = c.in-Block.path; bytes = b }))) (λ (b : List ℕ). a.input.now) (λ y. refl) c.in-Block-2.bytes k.0 k.1)
+    block_goes a.client.now start a.number a.input.now a.line.now c.requires.free c.requires.short _ is (g.S.Source.says.left a.source.now) _ 0 0 a.intake.now _ (omega (arith, c.requires.start)) c.in-Block.size
+    (λ (b : List ℕ). Some (Put (record { path = c.in-Block.path; bytes = b }))) (λ (b : List ℕ). a.input.now) (λ y. refl) c.in-Block-2.bytes k.0 k.1
 
 pub returns-in-Bad-2-clause-part : goal.returns-in-Bad-2-clause-part
 returns-in-Bad-2-clause-part g c =

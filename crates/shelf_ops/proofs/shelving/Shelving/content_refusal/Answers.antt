@@ -1,4 +1,4 @@
-use Rattle.std.proofs.Common.{sym, ◌∙◌}
+use Rattle.std.proofs.Common.{refl, sym, ◌∙◌}
 use Rattle.depot_rows.specs.depot_model.declared.refusal.Refusal.TheVariants.{NoContent}
 use Rattle.depot_rows.specs.depot_model.Steps.Submitting.{lacks_content}
 use Rattle.depot_rows.specs.Deed.{opening_of}
@@ -9,14 +9,12 @@ pub returns-then-not-lacks : goal.returns-then-not-lacks
 returns-then-not-lacks c = λ d reads client.
     let request = c.args.self.now.request.now in
     let o = opening_of c.args.opening.now in
-    let opens = reads.opened in
     not_refused (lacks_content d request o) (NoContent o.path)
-    (sym (c.in_ok-lacks.ensures d request opens.sound opens.has_rev opens.asked reads.given client) ∙ c.if-not-lacks.true)
+    (sym (c.in_ok-lacks.ensures d request reads.sound reads.has_rev reads.asked refl client) ∙ c.if-not-lacks.true)
 
 pub returns : goal.returns
 returns c = λ d reads client.
     let request = c.args.self.now.request.now in
     let o = opening_of c.args.opening.now in
-    let opens = reads.opened in
     is_refused (lacks_content d request o) (NoContent o.path) c.in_ok-row.row
-    (sym (c.in_ok-lacks.ensures d request opens.sound opens.has_rev opens.asked reads.given client) ∙ c.if-not-lacks.false) c.in_ok-row.ensures
+    (sym (c.in_ok-lacks.ensures d request reads.sound reads.has_rev reads.asked refl client) ∙ c.if-not-lacks.false) c.in_ok-row.ensures

@@ -21,7 +21,7 @@ returns-then-is_some c = λ d reads client.
     let action = refuse_if (not (is_shelvable o)) (NotShelvable o.path) in
     let there = refuse_if (not own.replaces && is_some (kept d o.change o.path)) (AlreadyShelved o.path) in
     let content = refuse_if (lacks_content d request o) (NoContent o.path) in
-    row_here c.in_ok-denied.denied right (action ∷ there ∷ content ∷ []) (sym c.is_some.ensures ∙ c.if-is_some.true) (c.in_ok-denied.ensures d request.caller (reads.opened).asked)
+    row_here c.in_ok-denied.denied right (action ∷ there ∷ content ∷ []) (sym c.is_some.ensures ∙ c.if-is_some.true) (c.in_ok-denied.ensures d request.caller reads.asked)
 
 pub returns-then-is_some-2 : goal.returns-then-is_some-2
 returns-then-is_some-2 c = λ d reads client.
@@ -33,7 +33,7 @@ returns-then-is_some-2 c = λ d reads client.
     let there = refuse_if (not own.replaces && is_some (kept d o.change o.path)) (AlreadyShelved o.path) in
     let content = refuse_if (lacks_content d request o) (NoContent o.path) in
     row_behind c.in_ok-denied.denied c.in_ok-unfit.unfit right (action ∷ there ∷ content ∷ []) (sym c.is_some.ensures ∙ c.if-is_some.false)
-    (c.in_ok-denied.ensures d request.caller (reads.opened).asked)
+    (c.in_ok-denied.ensures d request.caller reads.asked)
     (row_here c.in_ok-unfit.unfit action (there ∷ content ∷ []) (sym c.is_some-2.ensures ∙ c.if-is_some-2.true) c.in_ok-unfit.ensures)
 
 pub returns-then-is_some-3 : goal.returns-then-is_some-3
@@ -46,10 +46,10 @@ returns-then-is_some-3 c = λ d reads client.
     let there = refuse_if (not own.replaces && is_some (kept d o.change o.path)) (AlreadyShelved o.path) in
     let content = refuse_if (lacks_content d request o) (NoContent o.path) in
     row_behind c.in_ok-denied.denied c.in_ok-is_kept.is_kept right (action ∷ there ∷ content ∷ []) (sym c.is_some.ensures ∙ c.if-is_some.false)
-    (c.in_ok-denied.ensures d request.caller (reads.opened).asked)
+    (c.in_ok-denied.ensures d request.caller reads.asked)
     (row_behind c.in_ok-unfit.unfit c.in_ok-is_kept.is_kept action (there ∷ content ∷ []) (sym c.is_some-2.ensures ∙ c.if-is_some-2.false) c.in_ok-unfit.ensures
     (row_here c.in_ok-is_kept.is_kept there (content ∷ []) (sym c.is_some-3.ensures ∙ c.if-is_some-3.true)
-    (c.in_ok-is_kept.ensures d (reads.opened).sound (reads.opened).has_domain)))
+    (c.in_ok-is_kept.ensures d reads.sound reads.has_domain)))
 
 pub returns : goal.returns
 returns c = λ d reads client.
@@ -61,7 +61,7 @@ returns c = λ d reads client.
     let there = refuse_if (not own.replaces && is_some (kept d o.change o.path)) (AlreadyShelved o.path) in
     let content = refuse_if (lacks_content d request o) (NoContent o.path) in
     row_behind c.in_ok-denied.denied c.in_ok-lacking.lacking right (action ∷ there ∷ content ∷ []) (sym c.is_some.ensures ∙ c.if-is_some.false)
-    (c.in_ok-denied.ensures d request.caller (reads.opened).asked)
+    (c.in_ok-denied.ensures d request.caller reads.asked)
     (row_behind c.in_ok-unfit.unfit c.in_ok-lacking.lacking action (there ∷ content ∷ []) (sym c.is_some-2.ensures ∙ c.if-is_some-2.false) c.in_ok-unfit.ensures
     (row_behind c.in_ok-is_kept.is_kept c.in_ok-lacking.lacking there (content ∷ []) (sym c.is_some-3.ensures ∙ c.if-is_some-3.false)
-    (c.in_ok-is_kept.ensures d (reads.opened).sound (reads.opened).has_domain) (row_alone c.in_ok-lacking.lacking content (c.in_ok-lacking.ensures d reads client))))
+    (c.in_ok-is_kept.ensures d reads.sound reads.has_domain) (row_alone c.in_ok-lacking.lacking content (c.in_ok-lacking.ensures d reads client))))

@@ -19,7 +19,7 @@ returns-in_ok-step-in-Some c = λ d e reads later.
     let path = c.args.path.now in
     let rows = rows_of c.args.tables.now in
     let there : Some (opening_of c.in-Some.opening) ≡ opened d request.caller.client path =
-    ap (λ (x : Option Opening). option_map opening_of x) (sym c.in-Some.is) ∙ c.in_ok-found.ensures d (reads.opened).sound (reads.opened).has_working in
+    ap (λ (x : Option Opening). option_map opening_of x) (sym c.in-Some.is) ∙ c.in_ok-found.ensures d reads.sound reads.has_working in
     subst (λ (x : Option ModelOpening). IsMade rows d e (by_opening d request own.replaces x) c.in_ok-step-in-Some.step) there
     (c.in_ok-step-in-Some.ensures d e path reads (sym there))
 
@@ -30,6 +30,6 @@ returns-in-None c = λ d e reads later.
     let path = c.args.path.now in
     let rows = rows_of c.args.tables.now in
     let none : None ≡ opened d request.caller.client path =
-    ap (λ (x : Option Opening). option_map opening_of x) (sym c.in-None.is) ∙ c.in_ok-found.ensures d (reads.opened).sound (reads.opened).has_working in
+    ap (λ (x : Option Opening). option_map opening_of x) (sym c.in-None.is) ∙ c.in_ok-found.ensures d reads.sound reads.has_working in
     subst (λ (x : Option ModelOpening). IsMade rows d e (by_opening d request own.replaces x) c.new-step.result) none
     (subst (λ (s : Step). IsMade rows d e nothing s) (sym c.new-step.ensures) (tells_made rows d e [] tt))
