@@ -28,7 +28,8 @@ pub(crate) fn make_one(
     draft: &mut TablesDraft,
     change: &Change,
 ) -> Result<bool, AllocError>
-    ensures { IfOk result (HasMadeOne (rows_of_draft draft.old) (rows_of_draft draft.new) change.now) }
+    ensures made { IfOk result (HasMadeOne (rows_of_draft draft.old) (rows_of_draft draft.new) change.now) }
+    ensures end { draft.new.archive_end ≡ draft.old.archive_end }
 {
     if !draft.fits(change) {
         return Ok(false);
@@ -77,7 +78,7 @@ fn make_fitting(
 }
 
 /// The place where changes begin that end at a place. The one error is want of memory.
-fn place_before(alloc: Global, end: u64, changes: &[Change]) -> Result<u64, AllocError>
+pub fn place_before(alloc: Global, end: u64, changes: &[Change]) -> Result<u64, AllocError>
     ensures { IfOk result (λ place. place ≡ end - length (body_of changes.now)) }
 {
     let mut place = end;

@@ -36,8 +36,8 @@ const MOST: u64 = 0x7FFF_FFFF_FFFF_FFFF;
 /// The last generation that there can be.
 const LAST: u32 = 4095;
 
-/// The bytes of both.
-fn joined(alloc: Global, rest: &[u8], piece: &[u8]) -> Result<Text, AllocError>
+/// The bytes of a rest and of the piece behind it. The one error is want of memory.
+pub fn joined(alloc: Global, rest: &[u8], piece: &[u8]) -> Result<Text, AllocError>
     ensures { IfOk result (λ text. text ≡ rest.now ++ piece.now) }
 {
     let mut text = Text::from_bytes(alloc, rest)?;
@@ -45,8 +45,13 @@ fn joined(alloc: Global, rest: &[u8], piece: &[u8]) -> Result<Text, AllocError>
     Ok(text)
 }
 
-/// The last bytes of both, so many.
-fn last_bytes(alloc: Global, rest: &[u8], piece: &[u8], count: usize) -> Result<Text, AllocError>
+/// The last bytes of both, so many. The one error is want of memory.
+pub fn last_bytes(
+    alloc: Global,
+    rest: &[u8],
+    piece: &[u8],
+    count: usize,
+) -> Result<Text, AllocError>
     requires { count ≤ length (rest.now ++ piece.now) }
     ensures { IfOk result (λ text. text ≡ drop (length (rest.now ++ piece.now) - count) (rest.now ++ piece.now)) }
 {
@@ -72,7 +77,8 @@ fn counter_change(alloc: Global, op: Op, generation: u32) -> Result<Change, Allo
 
 /// Makes it, if it fits.
 fn tell(alloc: Global, op: Op, generation: u32, draft: &mut TablesDraft) -> Result<bool, AllocError>
-    ensures { IfOk result (HasMadeOne (rows_of_draft draft.old) (rows_of_draft draft.new) (telling op generation)) }
+    ensures made { IfOk result (HasMadeOne (rows_of_draft draft.old) (rows_of_draft draft.new) (telling op generation)) }
+    ensures end { draft.new.archive_end ≡ draft.old.archive_end }
 {
     let change = counter_change(alloc, op, generation)?;
     let made = make_one(alloc, draft, &change)?;
@@ -86,7 +92,8 @@ fn tell_generation(
     generation: u32,
     draft: &mut TablesDraft,
 ) -> Result<(), AllocError>
-    ensures { IfOk result (λ done. rows_of_draft draft.new ≡ changed_in (rows_of_draft draft.old) (beginning generation)) }
+    ensures rows { IfOk result (λ done. rows_of_draft draft.new ≡ changed_in (rows_of_draft draft.old) (beginning generation)) }
+    ensures end { draft.new.archive_end ≡ draft.old.archive_end }
 {
     let put = tell(alloc, Op::Put, generation, draft)?;
     if put {
@@ -96,9 +103,14 @@ fn tell_generation(
     Ok(())
 }
 
-/// The tables with the counter that tells the generation.
-fn begin_generation(alloc: Global, tables: &Tables, generation: u32) -> Result<Tables, AllocError>
-    ensures { IfOk result (λ made. rows_of made ≡ changed_in (rows_of tables.now) (beginning generation)) }
+/// The tables with the counter that tells the generation. The one error is want of memory.
+pub fn begin_generation(
+    alloc: Global,
+    tables: &Tables,
+    generation: u32,
+) -> Result<Tables, AllocError>
+    ensures rows { IfOk result (λ made. rows_of made ≡ changed_in (rows_of tables.now) (beginning generation)) }
+    ensures end { IfOk result (λ made. made.archive_end ≡ tables.now.archive_end) }
 {
     let mut draft = TablesDraft::of(alloc, tables)?;
     tell_generation(alloc, generation, &mut draft)?;
