@@ -4,7 +4,6 @@ use Rattle.std.specs.Prelude.{IfSome, IfNone}
 use Rattle.std.proofs.lemmas.Bool.{true≢false}
 use Rattle.outside_api.specs.Says.{DiskSays, SinkSays}
 use Rattle.depot_rows.specs.depot_model.declared.order.Place.{Place}
-use Rattle.party_threads.specs.replica_turns.Master.{Past}
 use Rattle.session_turns.specs.Drawn.{IsDrawn}
 use Rattle.p4_server.specs.declared.ended.PartyEnd.{PartyEnd}
 use Rattle.p4_server.specs.declared.ended.Cause.{Cause}
@@ -18,11 +17,10 @@ use Rattle.p4_server.specs.Opening.{IsUnopened, IsUnmade, IsDamaged, IsUnread}
 use Rattle.p4_server.specs.Outside.{After, Before, Outside}
 use Rattle.p4_server.specs.Promise.{IsRefused, Keeps, KeepsPromise}
 use Rattle.p4_server.specs.Runs.{RunsParties, IsClosed, IsShut, IsRun}
-use Rattle.p4_server.specs.Serve.{AnyOrder, NotSaid}
+use Rattle.p4_server.specs.Serve.{AnyOrder}
 use Rattle.p4_server.specs.Telling.{IsTold, IsToldAlone}
 use Rattle.program_words.specs.declared.mode.Mode.{Mode}
 use Rattle.program_words.specs.Words.{HasParties, Job, asked, job_of, init, dump, checkpoint, load, schedule, serve}
-use Rattle.p4_server.specs.Written.{AreWritten}
 
 abbrev is_usage : Cause → Bool
 is_usage causes.Usage = true
@@ -101,11 +99,11 @@ module _ {D S K : Type 0} (disk_says : DiskSays D) (sink_says : SinkSays K) (bef
       go (inr (inr (inr is))) = other after.ended.cause causes.Fault is.cause_is refl
 
 module _ {D S K H : Type 0} (outside : Outside D S K H) (old_doors new_doors : H) (before : Before D K) (after : After D S K) where
-  runs_parties : (IsOrdered : Ordering) (began : Past → Type 0) (names : List (List ℕ))
-      → RunsParties outside old_doors new_doors before after IsOrdered began names → after.ended.cause ≢ causes.Usage
-  runs_parties IsOrdered began names it = go it.ends
+  runs_parties : (IsOrdered : Ordering) (names : List (List ℕ))
+      → RunsParties outside old_doors new_doors before after IsOrdered names → after.ended.cause ≢ causes.Usage
+  runs_parties IsOrdered names it = go it.ends
     where
-      shut : (is : IsShut outside old_doors new_doors before after IsOrdered began names) → after.ended.cause ≢ causes.Usage
+      shut : (is : IsShut outside old_doors new_doors before after IsOrdered names) → after.ended.cause ≢ causes.Usage
       shut is = elim is.why [
         | inl fault ↦ other after.ended.cause causes.Fault fault.0 refl
         | inr memory ↦ other after.ended.cause causes.Memory memory refl
@@ -117,15 +115,15 @@ module _ {D S K H : Type 0} (outside : Outside D S K H) (old_doors new_doors : H
         | inr front ↦ other after.ended.cause causes.Fault front.0 refl
       ]
 
-      ran : (is : IsRun outside old_doors new_doors before after IsOrdered began names) → after.ended.cause ≢ causes.Usage
+      ran : (is : IsRun outside old_doors new_doors before after IsOrdered names) → after.ended.cause ≢ causes.Usage
       ran is = elim is.told [
         | inl parties ↦ told is.lost parties.2
         | inr untold ↦ other after.ended.cause causes.Memory untold.cause_is refl
       ]
 
-      go : IsClosed outside old_doors new_doors before after IsOrdered began names
-          ⊎ (IsShut outside old_doors new_doors before after IsOrdered began names
-          ⊎ IsRun outside old_doors new_doors before after IsOrdered began names) → after.ended.cause ≢ causes.Usage
+      go : IsClosed outside old_doors new_doors before after IsOrdered names
+          ⊎ (IsShut outside old_doors new_doors before after IsOrdered names
+          ⊎ IsRun outside old_doors new_doors before after IsOrdered names) → after.ended.cause ≢ causes.Usage
       go (inl is) = unopened outside.disk outside.sink before after is.unopened
       go (inr (inl is)) = shut is
       go (inr (inr is)) = ran is
@@ -136,8 +134,8 @@ module _ {D S K H : Type 0} (outside : Outside D S K H) (old_doors new_doors : H
   keeps dump words it = dumps outside.disk outside.sink before after it.0
   keeps checkpoint words it = checkpoints outside.disk outside.sink before after outside.may_give it.0
   keeps (load seed count) words it = it.0.no_usage
-  keeps (schedule seed names) words it = runs_parties (IsDrawn outside.may_give seed) (AreWritten outside.disk before.journal before.archive) names it
-  keeps (serve names) words it = runs_parties AnyOrder NotSaid names it
+  keeps (schedule seed names) words it = runs_parties (IsDrawn outside.may_give seed) names it
+  keeps (serve names) words it = runs_parties AnyOrder names it
 
   -- ---- the promise
 

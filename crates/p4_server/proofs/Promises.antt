@@ -12,7 +12,6 @@ use Rattle.depot_rows.specs.depot_model.declared.request.Session.{Session}
 use Rattle.wire_text.specs.declared.script.ScriptEnd.{ScriptEnd}
 use Rattle.wire_text.specs.declared.script.ScriptEnd.TheVariants as scripts
 use Rattle.wire_text.specs.Giving.{GotFront}
-use Rattle.party_threads.specs.replica_turns.Master.{Past}
 use Rattle.session_loop.specs.Asking.{Asking}
 use Rattle.session_loop.specs.Reading.{IsAsked}
 use Rattle.session_loop.specs.declared.reading.ReplicaScript.{ReplicaScript}
@@ -93,15 +92,15 @@ not_true : (b : Bool) → ¬ (b ≡ true) → b ≡ false
 not_true true h = absurd (h refl)
 not_true false h = refl
 
-module _ {D S K H : Type 0} (outside : Outside D S K H) (old_doors new_doors : H) (before : Before D K) (after : After D S K) (IsOrdered : Ordering) (began : Past → Type 0) (names : List (List ℕ)) where
+module _ {D S K H : Type 0} (outside : Outside D S K H) (old_doors new_doors : H) (before : Before D K) (after : After D S K) (IsOrdered : Ordering) (names : List (List ℕ)) where
   abbrev pub Promised : Type 0
-  Promised = RunsParties outside old_doors new_doors before after IsOrdered began names
+  Promised = RunsParties outside old_doors new_doors before after IsOrdered names
 
   abbrev pub Ran : Type 0
-  Ran = IsRun outside old_doors new_doors before after IsOrdered began names
+  Ran = IsRun outside old_doors new_doors before after IsOrdered names
 
   abbrev Rose : Type 0
-  Rose = SomeRose outside old_doors new_doors before after IsOrdered began names
+  Rose = SomeRose outside old_doors new_doors before after IsOrdered names
 
   abbrev pub Only : Type 0
   Only = OnlyTheseCome (outside.doors.input old_doors) (outside.doors.output old_doors) (outside.doors.input new_doors) (outside.doors.output new_doors) names
@@ -196,7 +195,7 @@ module _ {D S K H : Type 0} (outside : Outside D S K H) (old_doors new_doors : H
   }
 
   abbrev pub Shut : Type 0
-  Shut = IsShut outside old_doors new_doors before after IsOrdered began names
+  Shut = IsShut outside old_doors new_doors before after IsOrdered names
 
   fault_of_shut : Shut → after.ended.cause ≡ causes.Fault → Rose
   fault_of_shut shut is = elim shut.why [

@@ -18,7 +18,6 @@ use Rattle.recovery.specs.Opening.{IsOpen, HasSynced}
 use Rattle.recovery.specs.Rules.{DeletesAreUnplaced}
 use Rattle.recovery.specs.Standing.{StandFor}
 use Rattle.recovery.specs.declared.open.Opened.{Opened}
-use Rattle.party_threads.specs.replica_turns.Master.{Past}
 use Rattle.party_threads.specs.depot_commit.Holding.{generation_in, AllHaveContents, KeepContents, StandsWith}
 use Rattle.party_threads.specs.serial_depot.Running.{CanTake, HasRun}
 use Rattle.party_threads.specs.serial_depot.declared.depot.SerialDepot.{SerialDepot}
@@ -34,6 +33,7 @@ use Rattle.p4_server.specs.Headline.{AreEnds, IsRunFrom, Ordering}
 use Rattle.p4_server.specs.Outside.{After, Before, Outside}
 use Rattle.p4_server.specs.Runs.{AreKept, IsRun, unrun_cause}
 use Rattle.p4_server.specs.Telling.{IsReport, IsUntold}
+use Rattle.p4_server.specs.Written.{AreWritten}
 use Rattle.p4_server.proofs.FaultPlaces.{caused_since, rose_since}
 use Rattle.p4_server.proofs.Contents.{contents_opened, deletes_opened, pair_stands}
 use Rattle.p4_server.proofs.Openings.{read_at_start}
@@ -139,9 +139,9 @@ module _ {D : Type 0} (disk_says : DiskSays D) where
 
 -- ---- the end
 
-module _ {D S K H : Type 0} (outside : Outside D S K H) (old_doors new_doors : H) (before : Before D K) (after : After D S K) (IsOrdered : Ordering) (began : Past → Type 0) (names : List (List ℕ)) where
+module _ {D S K H : Type 0} (outside : Outside D S K H) (old_doors new_doors : H) (before : Before D K) (after : After D S K) (IsOrdered : Ordering) (names : List (List ℕ)) where
   abbrev Kept : D → List Deed → List Placed → Type 0
-  Kept opened d places = AreKept outside old_doors new_doors before after IsOrdered began names opened d places
+  Kept opened d places = AreKept outside old_doors new_doors before after IsOrdered names opened d places
 
   -- what a depot that has run leaves, once it is closed
   pub are_kept : (depot : SerialDepot D) (opened : D) → after.ended.journal ≡ disk_of depot.journal → after.ended.archive ≡ archives.disk_of depot.archive → (d : List Deed) (places : List Placed) → HasRun outside.disk depot (outside.disk.moment opened) d places → Kept opened d places
@@ -153,14 +153,14 @@ module _ {D S K H : Type 0} (outside : Outside D S K H) (old_doors new_doors : H
   -- the parties were run over the depot
   pub run_of : (depot : SerialDepot D) (opened : D) (opened_faults opened_contents : ℕ) (order : List Place) (lost : Bool) (parties : List (PartyEnd K)) (sources : List S) → after.ended.journal ≡ disk_of depot.journal → after.ended.archive ≡ archives.disk_of depot.archive → HasOpened outside.disk before.journal before.archive opened → after.ended.order ≡ order
       → AreEnds outside.source outside.sink (outside.doors.input old_doors) names parties sources
-      → ((d : List Deed) → IsStart outside.disk before.journal before.archive d → IsRunFrom outside.disk outside.source outside.sink outside.may_give (outside.disk.moment opened) d (HasRun outside.disk depot (outside.disk.moment opened)) IsOrdered began (outside.doors.input old_doors) (outside.doors.output old_doors) names order lost parties sources)
+      → ((d : List Deed) → IsStart outside.disk before.journal before.archive d → IsRunFrom outside.disk outside.source outside.sink outside.may_give (outside.disk.moment opened) d (HasRun outside.disk depot (outside.disk.moment opened)) IsOrdered (AreWritten outside.disk before.journal before.archive) (outside.doors.input old_doors) (outside.doors.output old_doors) names order lost parties sources)
       → outside.disk.faults before.journal ≤ opened_faults → outside.disk.faults before.archive ≤ opened_contents
       → AreCaused opened_faults (outside.disk.faults (disk_of depot.journal)) opened_contents (outside.disk.faults (archives.disk_of depot.archive)) [] order
       → (lost ≡ true → HasRisen opened_faults (outside.disk.faults (disk_of depot.journal)) ⊎ HasRisen opened_contents (outside.disk.faults (archives.disk_of depot.archive)))
       → IsReport outside.sink before.out after.out after.ended order parties sources lost ⊎ IsUntold after.ended
-      → IsRun outside old_doors new_doors before after IsOrdered began names
+      → IsRun outside old_doors new_doors before after IsOrdered names
   run_of depot opened opened_faults opened_contents order lost parties sources journal_is archive_is opens order_is ends runs no_fewer contents_no_fewer counts lost_rose told =
-      let P : List Place → Type 0 = λ o. (d : List Deed) → IsStart outside.disk before.journal before.archive d → IsRunFrom outside.disk outside.source outside.sink outside.may_give (outside.disk.moment opened) d (HasRun outside.disk depot (outside.disk.moment opened)) IsOrdered began (outside.doors.input old_doors) (outside.doors.output old_doors) names o lost parties sources in
+      let P : List Place → Type 0 = λ o. (d : List Deed) → IsStart outside.disk before.journal before.archive d → IsRunFrom outside.disk outside.source outside.sink outside.may_give (outside.disk.moment opened) d (HasRun outside.disk depot (outside.disk.moment opened)) IsOrdered (AreWritten outside.disk before.journal before.archive) (outside.doors.input old_doors) (outside.doors.output old_doors) names o lost parties sources in
       let all = subst P (sym order_is) runs in
       record {
         parties = parties;

@@ -16,6 +16,7 @@ use Rattle.recovery.specs.Holding.{Hold, group_texts, joined, spots_end}
 use Rattle.recovery.specs.Opening.{HasSynced, IsOpen}
 use Rattle.recovery.specs.declared.open.Opened.{Opened}
 use Rattle.party_threads.specs.replica_turns.Master.{HasNth, IsMaster, IsNth, Past, all_changes, first_of}
+use Rattle.party_threads.specs.depot_commit.Growing.{Chronicle}
 use Rattle.party_threads.specs.depot_commit.Holding.{KeepContents}
 use Rattle.party_threads.specs.serial_depot.Running.{HasRun}
 use Rattle.party_threads.specs.serial_depot.declared.depot.SerialDepot.{SerialDepot}
@@ -91,3 +92,14 @@ module _ {D : Type 0} (disk_says : DiskSays D) (journal archive : D) (opened : O
         are_changes = refl;
         each = λ n within. nth n (eq-or-lt_of_le within);
       }
+
+-- so is the depot that is made of them
+pub opened_master : {D : Type 0} (disk_says : DiskSays D) (journal archive : D) (opened : Opened D) (was : Committed) → IsOpen disk_says was opened
+    → HasSynced disk_says journal (disk_of opened.journal) → HasSynced disk_says archive (archives.disk_of opened.archive)
+    → ((disk : D) (files : Files) → disk_says.seen disk files → disk_says.may_leave disk files) → ((j : Files) → disk_says.seen journal j → Hold j (rows_of opened.tables)) → (d : List Deed) → IsStart disk_says journal archive d
+    → (depot : SerialDepot D) → depot ≡ depot_of disk_says opened → HasRun disk_says depot (disk_says.moment (disk_of opened.journal)) d [] → (past : Past) → AreWritten disk_says journal archive past
+    → (c : Chronicle) × IsMaster disk_says past d [] depot c
+opened_master {D} disk_says journal archive opened was is synced archive_synced reads held d start depot made h past w =
+    let Ran : SerialDepot D → Type 0 = λ s. HasRun disk_says s (disk_says.moment (disk_of opened.journal)) d [] in
+    let Master : SerialDepot D → Type 0 = λ s. (c : Chronicle) × IsMaster disk_says past d [] s c in
+    subst Master (sym made) (w.all, written_master disk_says journal archive opened was is synced archive_synced reads held d start (subst Ran made h) past w)

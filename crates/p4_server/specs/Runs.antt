@@ -20,6 +20,7 @@ use Rattle.p4_server.specs.Opening.{IsUnopened}
 use Rattle.p4_server.specs.Outside.{After, Before, Outside}
 use Rattle.p4_server.specs.Parties.{OnlyTheseCome}
 use Rattle.p4_server.specs.Telling.{IsToldAlone, IsTold, IsUntold}
+use Rattle.p4_server.specs.Written.{AreWritten}
 
 -- the cause of an end whose parties weren't run
 abbrev pub unrun_cause : NotRun → Cause
@@ -30,7 +31,7 @@ unrun_cause Memory = causes.Memory
 abbrev pub IsWhole : Option (List ℕ) → Type 0
 IsWhole input = IsSomeAnd input (λ bytes. (asking_of bytes).fault ≡ None)
 
-module _ {D S K H : Type 0} (outside : Outside D S K H) (old_doors new_doors : H) (before : Before D K) (after : After D S K) (IsOrdered : Ordering) (began : Past → Type 0) (names : List (List ℕ)) where
+module _ {D S K H : Type 0} (outside : Outside D S K H) (old_doors new_doors : H) (before : Before D K) (after : After D S K) (IsOrdered : Ordering) (names : List (List ℕ)) where
   -- a count of the doors, of `out`, of a disk, of a party's source or of a party's sink has risen
   abbrev pub SomeRose : Type 0
   SomeRose =
@@ -64,7 +65,7 @@ module _ {D S K H : Type 0} (outside : Outside D S K H) (old_doors new_doors : H
     pub headline : IsHeadline outside.disk outside.source outside.sink outside.may_give (outside.disk.moment opened) d (outside.doors.input old_doors) (outside.doors.output old_doors) names after.ended.order lost parties sources
     pub ordered : IsOrdered headline.sessions headline.replicas d after.ended.order (map run_of parties)
     -- where the files stood as they were written, the replies of replicas are those for numbers of changes
-    pub told : (past : Past) → began past
+    pub told : (past : Past) → AreWritten outside.disk before.journal before.archive past
         → AreRepliesTold outside.disk outside.source outside.sink outside.may_give (outside.disk.moment opened) d past (outside.doors.output old_doors) names headline.sessions headline.replicas after.ended.order parties
     pub kept : AreKept opened d (map (placed headline.sessions) after.ended.order)
 

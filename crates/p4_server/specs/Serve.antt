@@ -1,6 +1,5 @@
 -- What the mode `serve` promises.
 use Rattle.std.specs.Prelude.{ℕ, List}
-use Rattle.party_threads.specs.replica_turns.Master.{Past}
 use Rattle.p4_server.specs.Headline.{Ordering}
 use Rattle.p4_server.specs.Outside.{After, Before, Outside}
 use Rattle.p4_server.specs.Runs.{RunsParties}
@@ -9,11 +8,7 @@ use Rattle.p4_server.specs.Runs.{RunsParties}
 abbrev pub AnyOrder : Ordering
 AnyOrder sessions replicas start order runs = Unit {0}
 
--- for how many changes a replica replies isn't said of threads
-abbrev pub NotSaid : Past → Type 0
-NotSaid past = ⊥
-
 module _ {D S K H : Type 0} (outside : Outside D S K H) (old_doors new_doors : H) (before : Before D K) (after : After D S K) (names : List (List ℕ)) where
   -- The parties are run, whatever order their threads come to.
   abbrev pub Serves : Type 0
-  Serves = RunsParties outside old_doors new_doors before after AnyOrder NotSaid names
+  Serves = RunsParties outside old_doors new_doors before after AnyOrder names

@@ -23,9 +23,9 @@ use Rattle.run_parties.specs.Asking.{left_in}
 use Rattle.run_parties.specs.replica_turns.declared.party.ReplicaParty.{ReplicaParty}
 use Rattle.session_loop.specs.declared.session.SessionRun.{SessionRun}
 use Rattle.shared_depot.proofs.Fronts.{stored_front}
-use Rattle.shared_depot.specs.Common.{OpenedKnown}
+use Rattle.shared_depot.specs.Common.{Masters, OpenedKnown}
 use Rattle.shared_depot.specs.Sharing.{fresh_marks, fresh_passes}
-use Rattle.party_threads.proofs.Answering.{front_longer, output_wider}
+use Rattle.party_threads.proofs.Answering.{front_longer, output_wider, told_wider}
 use Rattle.party_threads.proofs.Entries.{all_push, heard}
 use Rattle.party_threads.specs.Parties.{AreAllServed, AreAsked, AreCollected, AreFreshParties, HaveRun, IsAmong, IsAsked, IsHeard, IsPartyServed, IsReady, is_marked}
 use Rattle.party_threads.specs.Replicas.{HasRunFront}
@@ -119,20 +119,23 @@ among_of run n lanes (entry ∷ order) parties =
     let lane = parties.0.lane in
     ((low, omega (arith, lane, lanes)), among_of run n lanes order parties.1)
 
-module _ {D K : Type 0} (disk_says : DiskSays D) (end : ℕ) (images : Files → Type 0) (may_give : ℕ → Type 0) (sink_says : SinkSays K) (begins : ℕ → List Deed → Type 0) where
+module _ {D K : Type 0} (disk_says : DiskSays D) (end : ℕ) (images : Files → Type 0) (may_give : ℕ → Type 0) (sink_says : SinkSays K) (begins : ℕ → List Deed → Type 0) (masters : Masters) where
   abbrev Served : ℕ → List Request → Option ReplicaParty → SessionRun → Bool → K → K → List Taken → Type 0
-  Served = IsPartyServed disk_says end images may_give sink_says begins
+  Served = IsPartyServed disk_says end images may_give sink_says begins masters
 
   -- what a party was answered is the same over all of an order that its entries begin, if it has no more entries of its own
   served_heard : (party : ℕ) (requests : List Request) (replica : Option ReplicaParty) (run : SessionRun) (lost : Bool) (old new : K) (known order : List Taken) → IsPrefix known order → of_party party order ≡ of_party party known
       → Served party requests replica run lost old new known → Served party requests replica run lost old new order
-  served_heard party requests None run lost old new known order first own s = (record { taken = heard begins party requests run (sink_says.given old) (sink_says.given new) known order s.0.taken first own; end = s.0.end }, s.1)
+  served_heard party requests None run lost old new known order first own s = (record { taken = heard may_give begins party requests run (sink_says.given old) (sink_says.given new) known order s.0.taken first own; end = s.0.end }, s.1)
   served_heard party requests (Some p) run lost old new known order first own s = record {
     gave = λ archive all since start script begun fresh well.
         let before = stored_front disk_says end images begins known order archive first all in
         output_wider (HasRunFront disk_says since start known) (HasRunFront disk_says since start order) disk_says may_give party script
-        (front_longer disk_says end images begins sink_says may_give party p old since start known order first) run.commands run.failed lost (sink_says.given old) (sink_says.given new)
+        (front_longer disk_says end images begins masters sink_says may_give party p old since start known order first) run.commands run.failed lost (sink_says.given old) (sink_says.given new)
         (s.gave archive before since start script begun fresh well);
+    told = λ archive all since past start c script begun follows fresh well.
+        let before = stored_front disk_says end images begins known order archive first all in
+        told_wider may_give party script past start known order first run.commands run.failed (sink_says.given old) (sink_says.given new) (s.told archive before since past start c script begun follows fresh well);
     end = s.end;
     none = own ∙ s.none;
   }
@@ -167,7 +170,7 @@ module _ {D K : Type 0} (disk_says : DiskSays D) (end : ℕ) (images : Files →
     as_many = sym (length-map olds (λ (q : ThreadParty K N). q.requests)) ∙ ap (length {A = Vec Request Global}) fresh.asks
 
     -- behind the last
-    module _ (news : List (ThreadParty K N)) (run : HaveRun disk_says end images may_give sink_says begins olds news) (known : OpenedKnown) (runs : List SessionRun) (left : List K) (lost : Bool) (collected : AreCollected known news runs left lost) where
+    module _ (news : List (ThreadParty K N)) (run : HaveRun disk_says end images may_give sink_says begins masters olds news) (known : OpenedKnown) (runs : List SessionRun) (left : List K) (lost : Bool) (collected : AreCollected known news runs left lost) where
       one_served : (p q : ThreadParty K N) (i : ℕ) → slice_get olds i ≡ Some p → slice_get news i ≡ Some q → Served (i + 1) p.requests.items p.replica q.run (is_marked q) p.sink q.sink known.order
       one_served p q i at_p at_q =
           let one = run i p q at_p at_q in
@@ -177,7 +180,7 @@ module _ {D K : Type 0} (disk_says : DiskSays D) (end : ℕ) (images : Files →
           let Whole : ℕ → Type 0 = λ k. Served k p.requests.items p.replica q.run (is_marked q) p.sink q.sink known.order in
           subst Whole party (served_heard p.pass.party p.requests.items p.replica q.run (is_marked q) p.sink q.sink q.pass.list known.order hears.begins own one.served)
 
-      pub served_all : AreAllServed disk_says end images may_give sink_says begins (map items_of requests) replicas runs (map (λ (r : ThreadParty K N). is_marked r) news) sinks left known.order
+      pub served_all : AreAllServed disk_says end images may_give sink_says begins masters (map items_of requests) replicas runs (map (λ (r : ThreadParty K N). is_marked r) news) sinks left known.order
       served_all i own replica ran old new at_own at_replica at_run at_old at_new =
           let asks = from_map items_of requests i own at_own in
           let p = from_map (λ (r : ThreadParty K N). r.requests) olds i asks.0 (ap (λ (rs : List (Vec Request Global)). slice_get rs i) fresh.asks ∙ asks.1) in

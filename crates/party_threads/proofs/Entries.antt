@@ -27,7 +27,7 @@ use Rattle.session_loop.specs.declared.session.SessionRun.{SessionRun}
 use Rattle.wire_text.proofs.Pieces.{extended-nil}
 use mathlib.Core.List.{IsPrefix}
 use Rattle.party_threads.proofs.Behind.{none_behind, of_party-append, output_behind, unplaced_behind}
-use Rattle.party_threads.specs.Entries.{AreRising, HasTaken, IsAnswered, IsOneOf, IsTold, Names}
+use Rattle.party_threads.specs.Entries.{AreRising, HasTaken, IsAnswered, IsOneOf, IsTold, Names, at_moment}
 
 -- ---- lists
 
@@ -79,20 +79,20 @@ names_are sessions (x ∷ xs) names = λ i. names.0 i ∷ names_are sessions xs 
 
 -- ---- before the first command
 
-pub taken_none : (begins : ℕ → List Deed → Type 0) (party : ℕ) (requests : List Request) (given : Option (List ℕ)) → HasTaken begins party requests fresh given given []
-taken_none begins party requests given = record { own = tt; rising = tt; output = λ since start sessions begun names. sym (extended-nil given) }
+pub taken_none : (may_give : ℕ → Type 0) (begins : ℕ → List Deed → Type 0) (party : ℕ) (requests : List Request) (given : Option (List ℕ)) → HasTaken may_give begins party requests fresh given given []
+taken_none may_give begins party requests given = record { own = tt; rising = tt; output = λ since start sessions begun names. sym (extended-nil given) }
 
 -- ---- over more of the order
 
-module _ (begins : ℕ → List Deed → Type 0) (party : ℕ) (requests : List Request) where
+module _ (may_give : ℕ → Type 0) (begins : ℕ → List Deed → Type 0) (party : ℕ) (requests : List Request) where
   -- what a party was answered is the same over all of an order that its entries begin, if it has no more entries of its own
-  pub heard : (run : SessionRun) (before now : Option (List ℕ)) (known order : List Taken) → HasTaken begins party requests run before now known → IsPrefix known order
-      → of_party party order ≡ of_party party known → HasTaken begins party requests run before now order
+  pub heard : (run : SessionRun) (before now : Option (List ℕ)) (known order : List Taken) → HasTaken may_give begins party requests run before now known → IsPrefix known order
+      → of_party party order ≡ of_party party known → HasTaken may_give begins party requests run before now order
   heard run before now known order h (rest, is) own =
       let none : of_party party rest ≡ [] = none_behind party known rest (ap (of_party party) is ∙ own) in
       let Given : (List (Option Session)) → List Deed → List Taken → Type 0 = λ sessions start entries. IsOutput sessions start (map place_of entries) party run.commands run.failed before now in
       record {
-        own = subst (AllByRecursion (IsOneOf requests run.commands)) (sym own) h.own;
+        own = subst (AllByRecursion (IsOneOf may_give requests run.commands)) (sym own) h.own;
         rising = subst AreRising (sym own) h.rising;
         output = λ since start sessions begun names.
             let front = front_of (Names sessions) known rest (subst (AllByRecursion (Names sessions)) (sym is) names) in
@@ -115,15 +115,15 @@ module _ (begins : ℕ → List Deed → Type 0) (party : ℕ) (requests : List 
     abbrev now_run : SessionRun
     now_run = record { commands = n + 1; failed = failed }
 
-    low_of : (xs : List Taken) → AllByRecursion (IsOneOf requests n) xs → AllByRecursion (λ (x : Taken). x.request.number ≤ n) xs
-    low_of xs own = each_is (IsOneOf requests n) (λ (x : Taken). x.request.number ≤ n) (λ x is. is.last) xs own
+    low_of : (xs : List Taken) → AllByRecursion (IsOneOf may_give requests n) xs → AllByRecursion (λ (x : Taken). x.request.number ≤ n) xs
+    low_of xs own = each_is (IsOneOf may_give requests n) (λ (x : Taken). x.request.number ≤ n) (λ x is. is.last) xs own
 
-    more_of : (xs : List Taken) → AllByRecursion (IsOneOf requests n) xs → AllByRecursion (IsOneOf requests (n + 1)) xs
-    more_of xs own = each_is (IsOneOf requests n) (IsOneOf requests (n + 1)) (λ x is. record { first = is.first; last = (let low = is.last in omega (arith, low)); asks = is.asks }) xs own
+    more_of : (xs : List Taken) → AllByRecursion (IsOneOf may_give requests n) xs → AllByRecursion (IsOneOf may_give requests (n + 1)) xs
+    more_of xs own = each_is (IsOneOf may_give requests n) (IsOneOf may_give requests (n + 1)) (λ x is. record { first = is.first; last = (let low = is.last in omega (arith, low)); request = is.request; asks = is.asks; given = is.given; is = is.is }) xs own
 
     -- it found no memory
-    untaken : (known : List Taken) (text : List ℕ) → text ≡ printed (memory_row ∷ []) request.number → Got failed text mid now → HasTaken begins party requests was before mid known
-        → HasTaken begins party requests now_run before now known
+    untaken : (known : List Taken) (text : List ℕ) → text ≡ printed (memory_row ∷ []) request.number → Got failed text mid now → HasTaken may_give begins party requests was before mid known
+        → HasTaken may_give begins party requests now_run before now known
     untaken known text text_is got h = record {
       own = more_of (of_party party known) h.own;
       rising = h.rising;
@@ -136,21 +136,25 @@ module _ (begins : ℕ → List Deed → Type 0) (party : ℕ) (requests : List 
     }
 
     -- it has the last place
-    placed_last : (known : List Taken) (entry : Taken) (text : List ℕ) → entry.request ≡ request
+    placed_last : (known : List Taken) (entry : Taken) (text : List ℕ) (moment : ℕ) → may_give moment → entry.request ≡ at_moment request moment
         → ((since : ℕ) (start : List Deed) → begins since start → text ≡ printed (told_at step (taken step start (map placed_of known)) (placed_of entry)) request.number)
-        → Got failed text mid now → HasTaken begins party requests was before mid known → HasTaken begins party requests now_run before now (known ++ entry ∷ [])
-    placed_last known entry text asks replies got h =
+        → Got failed text mid now → HasTaken may_give begins party requests was before mid known → HasTaken may_give begins party requests now_run before now (known ++ entry ∷ [])
+    placed_last known entry text moment given asks replies got h =
+        let its_moment : entry.request.moment ≡ moment = ap (λ (r : Request). r.moment) asks in
         let its_party : entry.request.party ≡ party = ap (λ (r : Request). r.party) asks ∙ party_is in
         let its_number : entry.request.number ≡ n + 1 = ap (λ (r : Request). r.number) asks ∙ number_is in
         let behind : of_party party (known ++ entry ∷ []) ≡ of_party party known ++ entry ∷ [] = of_party-push party known entry its_party in
         let its_place : entry.request.number - 1 ≡ n = omega (arith, its_number) in
         let low = low_of (of_party party known) h.own in
         record {
-          own = subst (AllByRecursion (IsOneOf requests (n + 1))) (sym behind) (all_push (IsOneOf requests (n + 1)) (of_party party known) entry (more_of (of_party party known) h.own)
+          own = subst (AllByRecursion (IsOneOf may_give requests (n + 1))) (sym behind) (all_push (IsOneOf may_give requests (n + 1)) (of_party party known) entry (more_of (of_party party known) h.own)
               (record {
                 first = omega (arith, its_number);
                 last = omega (arith, its_number);
-                asks = ap (slice_get requests) its_place ∙ (at ∙ ap (λ (r : Request). Some r) (sym asks));
+                request = request;
+                asks = ap (slice_get requests) its_place ∙ at;
+                given = subst may_give (sym its_moment) given;
+                is = asks ∙ ap (at_moment request) (sym its_moment);
               }));
           rising = subst AreRising (sym behind) (rising_push n (of_party party known) entry h.rising low (omega (arith, its_number)));
           output = λ since start sessions begun names.
@@ -178,20 +182,20 @@ module _ (begins : ℕ → List Deed → Type 0) (party : ℕ) (requests : List 
         map_push (x ∷ xs) y = ap (λ (ps : List Place). place_of x ∷ ps) (map_push xs y)
 
     -- it is answered
-    pub answered : (old new : PartyKnown) → old.party ≡ party → IsAnswered begins old new request mid now failed → HasTaken begins party requests was before mid old.list
-        → (new.party ≡ party) × HasTaken begins party requests now_run before now new.list
+    pub answered : (old new : PartyKnown) → old.party ≡ party → IsAnswered may_give begins old new request mid now failed → HasTaken may_give begins party requests was before mid old.list
+        → (new.party ≡ party) × HasTaken may_give begins party requests now_run before now new.list
     answered old new its_party a h = go a.told
       where
-        go : IsTold begins old new request a.text → (new.party ≡ party) × HasTaken begins party requests now_run before now new.list
+        go : IsTold begins old new (at_moment request a.moment) a.text → (new.party ≡ party) × HasTaken may_give begins party requests now_run before now new.list
         go (inl (answer, t, text_is)) =
-            let entry_is : placed_by request answer.place.fault ≡ placed_of t.entry =
+            let entry_is : placed_by (at_moment request a.moment) answer.place.fault ≡ placed_of t.entry =
             (λ i. record { request = Some (sym t.asks i); fault = ap (λ (p : Place). p.fault) t.place i }) in
             let own : of_party party t.before ≡ of_party party old.list = subst (λ (p : ℕ). of_party p t.before ≡ of_party p old.list) its_party t.own in
             let all = heard was before mid old.list t.before h t.later own in
-            let done = placed_last t.before t.entry a.text t.asks
+            let done = placed_last t.before t.entry a.text a.moment a.given t.asks
             (λ since start begun. text_is ∙ ((t.answers since start begun).reply ∙ ap (λ (p : Placed). printed (told_at step (taken step start (map placed_of t.before)) p) request.number) entry_is)) a.got all in
-            let Whole : List Taken → Type 0 = λ entries. HasTaken begins party requests now_run before now entries in
+            let Whole : List Taken → Type 0 = λ entries. HasTaken may_give begins party requests now_run before now entries in
             (ap (λ (k : PartyKnown). k.party) t.known ∙ its_party, subst Whole (sym (ap (λ (k : PartyKnown). k.list) t.known)) done)
         go (inr (same, text_is)) =
-            let Whole : List Taken → Type 0 = λ entries. HasTaken begins party requests now_run before now entries in
+            let Whole : List Taken → Type 0 = λ entries. HasTaken may_give begins party requests now_run before now entries in
             (ap (λ (k : PartyKnown). k.party) same ∙ its_party, subst Whole (sym (ap (λ (k : PartyKnown). k.list) same)) (untaken old.list a.text text_is a.got h))

@@ -20,9 +20,12 @@ use Rattle.run_parties.proofs.Fresh.{party_at}
 use Rattle.run_parties.proofs.Making.{asked_count, many_of}
 use Rattle.run_parties.proofs.Slots.{all_at, also_at}
 use Rattle.run_parties.specs.Asking.{AreFresh}
-use Rattle.run_parties.specs.Replicas.{AreReplicasServed, HasBeenAt}
+use Rattle.run_parties.specs.Replicas.{AreReplicasServed, AreReplicasTold, HasBeenAt}
 use Rattle.run_parties.specs.Served.{AreApart, AreEnds, AreServed, IsEnd, total_of}
+use Rattle.run_parties.specs.depot_commit.Growing.{Chronicle}
+use Rattle.run_parties.specs.replica_turns.Along.{IsToldOutput}
 use Rattle.run_parties.specs.replica_turns.Going.{IsFresh, IsReplicaOutput}
+use Rattle.run_parties.specs.replica_turns.Master.{IsNth, Past}
 use Rattle.run_parties.specs.replica_turns.declared.party.ReplicaParty.{ReplicaParty}
 use Rattle.run_parties.specs.serial_depot.Running.{HasRun}
 use Rattle.run_parties.specs.serial_depot.declared.depot.SerialDepot.{SerialDepot}
@@ -30,13 +33,14 @@ use Rattle.session_loop.specs.Asking.{AreWellFormed, replica_commands}
 use Rattle.session_loop.specs.Requests.{AreRequestsOf, AreRequestsOfAll}
 use Rattle.session_loop.specs.declared.reading.ReplicaScript.{ReplicaScript}
 use Rattle.session_loop.specs.declared.session.SessionRun.{SessionRun}
+use Rattle.shared_depot.specs.Common.{Masters}
 use Rattle.party_threads.proofs.Answering.{output_wider}
 use Rattle.party_threads.proofs.Collecting.{from_map}
 use Rattle.party_threads.proofs.Entries.{names_are}
 use Rattle.party_threads.proofs.Together.{AllHaveTaken, NoneHasPlace, names, served}
 use Rattle.party_threads.specs.Entries.{HasTaken, Names}
 use Rattle.party_threads.specs.Parties.{HaveRunAll, IsAmong, IsPartyServed}
-use Rattle.party_threads.specs.Replicas.{HasRunFront}
+use Rattle.party_threads.specs.Replicas.{HasRunFront, IsReplicaServed}
 use Rattle.party_threads.specs.declared.run.ThreadsRun.{ThreadsRun}
 
 -- ---- what was asked
@@ -76,8 +80,8 @@ front_taken f xs ys =
 
 module _ {D K : Type 0} (disk_says : DiskSays D) (end : ℕ) (images : Files → Type 0) (sink_says : SinkSays K) (may_give : ℕ → Type 0)
     (sessions : List (Option Session)) (scripts : List (Option ReplicaScript)) (requests : List (List Request)) (asked : AreRequestsOfAll may_give 1 sessions requests) (as_many : length scripts ≡ length sessions) (apart : AreApart sessions scripts)
-    (parties : List (Option ReplicaParty)) (first : AreFresh may_give 1 scripts parties) (begins : ℕ → List Deed → Type 0) (faults_then contents_then : ℕ) (sinks : List K) (sinks_as_many : length sinks ≡ length sessions) (ran : ThreadsRun D K)
-    (s : HaveRunAll disk_says end images may_give sink_says begins faults_then contents_then requests parties sinks ran) where
+    (parties : List (Option ReplicaParty)) (first : AreFresh may_give 1 scripts parties) (begins : ℕ → List Deed → Type 0) (masters : Masters) (faults_then contents_then : ℕ) (sinks : List K) (sinks_as_many : length sinks ≡ length sessions) (ran : ThreadsRun D K)
+    (s : HaveRunAll disk_says end images may_give sink_says begins masters faults_then contents_then requests parties sinks ran) where
   count : length requests ≡ length sessions
   count = asked_count may_give 1 sessions requests asked
 
@@ -91,7 +95,7 @@ module _ {D K : Type 0} (disk_says : DiskSays D) (end : ℕ) (images : Files →
   among = let Among : ℕ → Type 0 = λ n. AllByRecursion (IsAmong n) s.order in subst Among count s.among
 
   abbrev Served : ℕ → List Request → Option ReplicaParty → SessionRun → Bool → K → K → Type 0
-  Served party own replica run lost old new = IsPartyServed disk_says end images may_give sink_says begins party own replica run lost old new s.order
+  Served party own replica run lost old new = IsPartyServed disk_says end images may_give sink_says begins masters party own replica run lost old new s.order
 
   -- a party that is known to have a script, or none
   record IsThere (i : ℕ) (replica : Option ReplicaParty) : Type 0 where
@@ -111,12 +115,12 @@ module _ {D K : Type 0} (disk_says : DiskSays D) (end : ℕ) (images : Files →
 
   -- ---- the sessions
 
-  all_taken : AllHaveTaken begins scripts requests ran.runs.items (map sink_says.given sinks) (map sink_says.given ran.sinks.items) s.order
+  all_taken : AllHaveTaken may_give begins scripts requests ran.runs.items (map sink_says.given sinks) (map sink_says.given ran.sinks.items) s.order
   all_taken i own run had got at_script at_own at_run at_had at_got =
       let old = from_map sink_says.given sinks i had at_had in
       let new = from_map sink_says.given ran.sinks.items i got at_got in
       let one = s.served i own None run old.0 new.0 at_own (none_at may_give 1 scripts parties first i at_script) at_run old.1 new.1 in
-      let Taken : Option (List ℕ) → Option (List ℕ) → Type 0 = λ x y. HasTaken begins (i + 1) own run x y s.order in
+      let Taken : Option (List ℕ) → Option (List ℕ) → Type 0 = λ x y. HasTaken may_give begins (i + 1) own run x y s.order in
       subst (λ (y : Option (List ℕ)). Taken had y) new.2 (subst (λ (x : Option (List ℕ)). Taken x (sink_says.given new.0)) old.2 one.0.taken)
 
   none_placed : NoneHasPlace scripts s.order
@@ -160,6 +164,37 @@ module _ {D K : Type 0} (disk_says : DiskSays D) (end : ℕ) (images : Files →
         ran = subst (λ (places : List Placed). HasRun disk_says depot since start places) taken f.ran;
       }
 
+  -- the replica of a script before its first answer, and how it was served
+  record IsReplicaThere (i : ℕ) (script : ReplicaScript) (run : SessionRun) (had got : Option (List ℕ)) : Type 0 where
+    p : ReplicaParty
+    fresh : IsFresh may_give (i + 1) script p
+    well : AreWellFormed script.session.commands
+    old : K
+    new : K
+    old_is : sink_says.given old ≡ had
+    new_is : sink_says.given new ≡ got
+    served : IsReplicaServed disk_says end images begins masters sink_says may_give (i + 1) p run (get_or s.flags i false) old new s.order
+
+  replica_at : All (λ (script : Option ReplicaScript). AreWellFormed (replica_commands script)) scripts → (i : ℕ) (script : ReplicaScript) (run : SessionRun) (had got : Option (List ℕ)) → slice_get scripts i ≡ Some (Some script)
+      → slice_get ran.runs.items i ≡ Some run → slice_get (map sink_says.given sinks) i ≡ Some had → slice_get (map sink_says.given ran.sinks.items) i ≡ Some got → IsReplicaThere i script run had got
+  replica_at formed i script run had got at_script at_run at_had at_got =
+      let p = party_at may_give 1 scripts parties first i script at_script in
+      let old = from_map sink_says.given sinks i had at_had in
+      let new = from_map sink_says.given ran.sinks.items i got at_got in
+      let own = also_at scripts requests i (Some script) (as_many ∙ sym count) at_script in
+      let number : 1 + i ≡ i + 1 = omega arith in
+      let Well : Option ReplicaScript → Type 0 = λ x. AreWellFormed (replica_commands x) in
+      record {
+        p = p.0;
+        fresh = subst (λ (n : ℕ). IsFresh may_give n script p.0) number p.2.0;
+        well = all_at Well scripts i (Some script) (recursion_from_All Well scripts formed) at_script;
+        old = old.0;
+        new = new.0;
+        old_is = old.2;
+        new_is = new.2;
+        served = s.served i own.0 (Some p.0) run old.0 new.0 own.1 p.1 at_run old.1 new.1;
+      }
+
   pub all_replicas_served : All (λ (script : Option ReplicaScript). AreWellFormed (replica_commands script)) scripts → (since : ℕ) (start : List Deed) → begins since start
       → AreReplicasServed disk_says may_give sessions scripts since start ran.order.items ran.runs.items ran.lost (map sink_says.given sinks) (map sink_says.given ran.sinks.items)
   all_replicas_served formed since start begun = record {
@@ -170,22 +205,25 @@ module _ {D K : Type 0} (disk_says : DiskSays D) (end : ℕ) (images : Files →
       one = s.told;
     };
     each = λ i script run had got at_script at_run at_had at_got.
-        let p = party_at may_give 1 scripts parties first i script at_script in
-        let old = from_map sink_says.given sinks i had at_had in
-        let new = from_map sink_says.given ran.sinks.items i got at_got in
-        let own = also_at scripts requests i (Some script) (as_many ∙ sym count) at_script in
-        let number : 1 + i ≡ i + 1 = omega arith in
-        let one : IsFresh may_give (i + 1) script p.0 = subst (λ (n : ℕ). IsFresh may_give n script p.0) number p.2.0 in
-        let Well : Option ReplicaScript → Type 0 = λ x. AreWellFormed (replica_commands x) in
-        let well = all_at Well scripts i (Some script) (recursion_from_All Well scripts formed) at_script in
+        let r = replica_at formed i script run had got at_script at_run at_had at_got in
         let Front : SerialDepot D → Type 0 = HasRunFront disk_says since start s.order in
         let Been : SerialDepot D → Type 0 = HasBeenAt disk_says sessions since start ran.order.items in
         let flag = get_or s.flags i false in
-        let gave = (s.served i own.0 (Some p.0) run old.0 new.0 own.1 p.1 at_run old.1 new.1).gave ran.depot.archive s.stored since start script begun one well in
+        let gave = r.served.gave ran.depot.archive s.stored since start script begun r.fresh r.well in
         let Output : Option (List ℕ) → Option (List ℕ) → Type 0 = λ x y. IsReplicaOutput Been disk_says may_give (i + 1) script run.commands run.failed flag x y in
-        subst (λ (y : Option (List ℕ)). Output had y) new.2 (subst (λ (x : Option (List ℕ)). Output x (sink_says.given new.0)) old.2
-        (output_wider Front Been disk_says may_give (i + 1) script (front_been since start) run.commands run.failed flag (sink_says.given old.0) (sink_says.given new.0) gave));
+        subst (λ (y : Option (List ℕ)). Output had y) r.new_is (subst (λ (x : Option (List ℕ)). Output x (sink_says.given r.new)) r.old_is
+        (output_wider Front Been disk_says may_give (i + 1) script (front_been since start) run.commands run.failed flag (sink_says.given r.old) (sink_says.given r.new) gave));
   }
+
+  -- along a depot that they follow
+  pub all_replicas_told : All (λ (script : Option ReplicaScript). AreWellFormed (replica_commands script)) scripts → (since : ℕ) (past : Past) (start : List Deed) (c : Chronicle) → begins since start → masters past start c
+      → AreReplicasTold past start sessions scripts may_give ran.order.items ran.runs.items (map sink_says.given sinks) (map sink_says.given ran.sinks.items)
+  all_replicas_told formed since past start c begun follows i script run had got at_script at_run at_had at_got =
+      let r = replica_at formed i script run had got at_script at_run at_had at_got in
+      let told = r.served.told ran.depot.archive s.stored since past start c script begun follows r.fresh r.well in
+      let Output : List Placed → Option (List ℕ) → Option (List ℕ) → Type 0 = λ places x y. IsToldOutput (IsNth past start places) may_give (i + 1) script run.commands run.failed x y in
+      subst (λ (places : List Placed). Output places had got) (sym places_are)
+      (subst (λ (y : Option (List ℕ)). Output (map placed_of s.order) had y) r.new_is (subst (λ (x : Option (List ℕ)). Output (map placed_of s.order) x (sink_says.given r.new)) r.old_is told))
 
   -- ---- the ends
 

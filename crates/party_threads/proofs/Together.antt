@@ -1,5 +1,5 @@
 -- The parties together: what each was answered by itself is what one order of all commands says.
-use Rattle.std.proofs.Common.{◌≡◌, ◌<◌, ◌≤◌, ◌+◌, ◌-◌, ℕ, zero, suc, Bool, true, false, cond, eqb, List, [], ◌∷◌, length, map, Option, Some, None, refl, sym, subst, ◌∙◌, arith}
+use Rattle.std.proofs.Common.{◌≡◌, ◌<◌, ◌≤◌, ◌+◌, ◌-◌, ℕ, zero, suc, Bool, true, false, cond, eqb, List, [], ◌∷◌, length, map, Option, Some, None, refl, sym, ap, subst, ◌∙◌, arith}
 use Rattle.std.specs.Prelude.{AllPairs, slice_get, slice_index_or}
 use Rattle.std.specs.List.{AllByRecursion}
 use Rattle.std.specs.Option.{IsSomeAnd}
@@ -19,7 +19,7 @@ use Rattle.run_parties.specs.Served.{AreApart, AreServed, session_counts}
 use Rattle.session_loop.specs.Requests.{AreRequestsOfAll}
 use Rattle.session_loop.specs.declared.reading.ReplicaScript.{ReplicaScript}
 use Rattle.session_loop.specs.declared.session.SessionRun.{SessionRun}
-use Rattle.party_threads.specs.Entries.{AreRising, HasTaken, IsOneOf, Names}
+use Rattle.party_threads.specs.Entries.{AreRising, HasTaken, IsOneOf, Names, at_moment}
 use Rattle.party_threads.specs.Parties.{IsAmong}
 
 -- ---- from parties to all
@@ -101,13 +101,25 @@ pairs_of (x ∷ xs) ordered = go (pairs_of xs ordered.1)
     go later (suc i) zero d lt within = absurd (omega (arith, lt))
     go later (suc i) (suc j) d lt within = later i j d (omega (arith, lt)) (omega (arith, within))
 
+-- ---- moments
+
+-- a request that was made at another moment is of the same command
+moved : (may_give : ℕ → Type 0) (sessions : List (Option Session)) (i n : ℕ) (request now : Request) → IsOf may_give sessions i n request → may_give now.moment → now ≡ at_moment request now.moment → IsOf may_give sessions i n now
+moved may_give sessions i n request now of given is = record {
+  session = of.session;
+  asked = of.asked;
+  has = of.has;
+  asks = of.asks;
+  is = record { moment = now.moment; given = given; is = is ∙ ap (λ (r : Request). at_moment r now.moment) of.is.is };
+}
+
 -- ---- all parties
 
 -- each session's commands were taken, as far as its run tells
-abbrev pub AllHaveTaken : (ℕ → List Deed → Type 0) → List (Option ReplicaScript) → List (List Request) → List SessionRun → List (Option (List ℕ)) → List (Option (List ℕ)) → List Taken → Type 0
-AllHaveTaken begins scripts requests runs before now order =
+abbrev pub AllHaveTaken : (ℕ → Type 0) → (ℕ → List Deed → Type 0) → List (Option ReplicaScript) → List (List Request) → List SessionRun → List (Option (List ℕ)) → List (Option (List ℕ)) → List Taken → Type 0
+AllHaveTaken may_give begins scripts requests runs before now order =
     (i : ℕ) (own : List Request) (run : SessionRun) (given got : Option (List ℕ)) → slice_get scripts i ≡ Some None → slice_get requests i ≡ Some own → slice_get runs i ≡ Some run → slice_get before i ≡ Some given → slice_get now i ≡ Some got
-    → HasTaken begins (i + 1) own run given got order
+    → HasTaken may_give begins (i + 1) own run given got order
 
 -- a replica has no entry
 abbrev pub NoneHasPlace : List (Option ReplicaScript) → List Taken → Type 0
@@ -115,7 +127,7 @@ NoneHasPlace scripts order = (i : ℕ) (script : ReplicaScript) → slice_get sc
 
 module _ (may_give : ℕ → Type 0) (begins : ℕ → List Deed → Type 0) (sessions : List (Option Session)) (scripts : List (Option ReplicaScript)) (requests : List (List Request)) (asked : AreRequestsOfAll may_give 1 sessions requests)
     (as_many : length scripts ≡ length sessions) (apart : AreApart sessions scripts) (runs : List SessionRun) (before now : List (Option (List ℕ))) (order : List Taken) (requests_count : length requests ≡ length sessions)
-    (runs_count : length runs ≡ length sessions) (before_count : length before ≡ length sessions) (now_count : length now ≡ length sessions) (all : AllHaveTaken begins scripts requests runs before now order) (none : NoneHasPlace scripts order)
+    (runs_count : length runs ≡ length sessions) (before_count : length before ≡ length sessions) (now_count : length now ≡ length sessions) (all : AllHaveTaken may_give begins scripts requests runs before now order) (none : NoneHasPlace scripts order)
     (among : AllByRecursion (IsAmong (length sessions)) order) where
   -- the entries of a party
   record HasOwn (i : ℕ) : Type 0 where
@@ -123,7 +135,7 @@ module _ (may_give : ℕ → Type 0) (begins : ℕ → List Deed → Type 0) (se
     run : SessionRun
     at_own : slice_get requests i ≡ Some own
     at_run : slice_get runs i ≡ Some run
-    are : AllByRecursion (IsOneOf own run.commands) (of_party (i + 1) order)
+    are : AllByRecursion (IsOneOf may_give own run.commands) (of_party (i + 1) order)
     rising : AreRising (of_party (i + 1) order)
 
   own_as : (i : ℕ) (own : List Request) (run : SessionRun) (given got : Option (List ℕ)) (script : Option ReplicaScript) → slice_get scripts i ≡ Some script → slice_get requests i ≡ Some own → slice_get runs i ≡ Some run
@@ -133,7 +145,7 @@ module _ (may_give : ℕ → Type 0) (begins : ℕ → List Deed → Type 0) (se
       record { own = own; run = run; at_own = at_own; at_run = at_run; are = taken.own; rising = taken.rising }
   own_as i own run given got (Some script) at_script at_own at_run at_given at_got =
       let empty = sym (none i script at_script) in
-      record { own = own; run = run; at_own = at_own; at_run = at_run; are = subst (AllByRecursion (IsOneOf own run.commands)) empty tt; rising = subst AreRising empty tt }
+      record { own = own; run = run; at_own = at_own; at_run = at_run; are = subst (AllByRecursion (IsOneOf may_give own run.commands)) empty tt; rising = subst AreRising empty tt }
 
   own_at : (i : ℕ) → i < length sessions → HasOwn i
   own_at i lt =
@@ -151,9 +163,9 @@ module _ (may_give : ℕ → Type 0) (begins : ℕ → List Deed → Type 0) (se
 
   -- ---- what they ask
 
-  module _ (i : ℕ) (a : HasOwn i) (entry : Taken) (one : IsOneOf a.own a.run.commands entry) where
+  module _ (i : ℕ) (a : HasOwn i) (entry : Taken) (one : IsOneOf may_give a.own a.run.commands entry) where
     of : IsOf may_give sessions i (entry.request.number - 1) entry.request
-    of = named may_give sessions requests asked i (entry.request.number - 1) a.own entry.request a.at_own one.asks
+    of = moved may_give sessions i (entry.request.number - 1) one.request entry.request (named may_give sessions requests asked i (entry.request.number - 1) a.own one.request a.at_own one.asks) one.given one.is
 
     its_name : Names sessions entry
     its_name = placed_is may_give sessions i (entry.request.number - 1) entry.request of entry.fault
@@ -174,13 +186,13 @@ module _ (may_give : ℕ → Type 0) (begins : ℕ → List Deed → Type 0) (se
   pub names : AllByRecursion (Names sessions) order
   names = each_entry (Names sessions) (length sessions) order (λ i lt. let a = own_at i lt in each_named i a (of_party (i + 1) order) a.are) among
     where
-      each_named : (i : ℕ) (a : HasOwn i) (xs : List Taken) → AllByRecursion (IsOneOf a.own a.run.commands) xs → AllByRecursion (Names sessions) xs
+      each_named : (i : ℕ) (a : HasOwn i) (xs : List Taken) → AllByRecursion (IsOneOf may_give a.own a.run.commands) xs → AllByRecursion (Names sessions) xs
       each_named i a [] own = tt
       each_named i a (x ∷ xs) own = (its_name i a x own.0, each_named i a xs own.1)
 
   -- ---- the order
 
-  each_placed : (i : ℕ) (a : HasOwn i) (xs : List Taken) → AllByRecursion (IsOneOf a.own a.run.commands) xs → AllByRecursion (λ (x : Taken). IsPlaceOf may_give (session_counts scripts runs) (place_of x)) xs
+  each_placed : (i : ℕ) (a : HasOwn i) (xs : List Taken) → AllByRecursion (IsOneOf may_give a.own a.run.commands) xs → AllByRecursion (λ (x : Taken). IsPlaceOf may_give (session_counts scripts runs) (place_of x)) xs
   each_placed i a [] own = tt
   each_placed i a (x ∷ xs) own = (its_place i a x own.0, each_placed i a xs own.1)
 

@@ -18,15 +18,22 @@ use Rattle.shared_depot.specs.Sharing.{IsTakenAt}
 
 -- ---- entries and requests
 
+-- the request that a command makes when it is taken: that of its party's list, at another moment
+abbrev pub at_moment : Request → ℕ → Request
+at_moment request moment = record request { moment = moment }
+
 -- the place of an entry names what the entry asks, among the commands of these sessions
 abbrev pub Names : List (Option Session) → Taken → Type 0
 Names sessions entry = placed sessions (place_of entry) ≡ placed_of entry
 
--- an entry is of one of the first n of a party's requests
-pub record IsOneOf (requests : List Request) (n : ℕ) (entry : Taken) : Type 0 where
+-- an entry is of one of the first n of a party's requests, at a moment that the clock may give
+pub record IsOneOf (may_give : ℕ → Type 0) (requests : List Request) (n : ℕ) (entry : Taken) : Type 0 where
   pub first : 0 < entry.request.number
   pub last : entry.request.number ≤ n
-  pub asks : slice_get requests (entry.request.number - 1) ≡ Some entry.request
+  pub request : Request
+  pub asks : slice_get requests (entry.request.number - 1) ≡ Some request
+  pub given : may_give entry.request.moment
+  pub is : entry.request ≡ at_moment request entry.request.moment
 
 -- the numbers of entries rise
 abbrev pub AreRising : List Taken → Type 0
@@ -44,18 +51,20 @@ abbrev pub IsTold : (ℕ → List Deed → Type 0) → PartyKnown → PartyKnown
 IsTold begins old new request text =
     ((answer : Answer) × IsTakenAt begins old new request answer × (text ≡ answer.reply)) ⊎ ((new ≡ old) × (text ≡ printed (memory_row ∷ []) request.number))
 
--- its reply went to the party's sink
-pub record IsAnswered (begins : ℕ → List Deed → Type 0) (old new : PartyKnown) (request : Request) (before now : Option (List ℕ)) (failed : Bool) : Type 0 where
+-- it was taken at a moment that the clock gave then, and its reply went to the party's sink
+pub record IsAnswered (may_give : ℕ → Type 0) (begins : ℕ → List Deed → Type 0) (old new : PartyKnown) (request : Request) (before now : Option (List ℕ)) (failed : Bool) : Type 0 where
+  pub moment : ℕ
+  pub given : may_give moment
   pub text : List ℕ
-  pub told : IsTold begins old new request text
+  pub told : IsTold begins old new (at_moment request moment) text
   pub got : Got failed text before now
 
 -- ---- all commands of a party
 
 -- A party's first commands were taken, as many as its run tells: its own entries are those of them that have a place, in order. Its sink got what one
 -- thread replies that takes the commands of all these entries, from each depot from which the run may have begun.
-pub record HasTaken (begins : ℕ → List Deed → Type 0) (party : ℕ) (requests : List Request) (run : SessionRun) (before now : Option (List ℕ)) (entries : List Taken) : Type 0 where
-  pub own : AllByRecursion (IsOneOf requests run.commands) (of_party party entries)
+pub record HasTaken (may_give : ℕ → Type 0) (begins : ℕ → List Deed → Type 0) (party : ℕ) (requests : List Request) (run : SessionRun) (before now : Option (List ℕ)) (entries : List Taken) : Type 0 where
+  pub own : AllByRecursion (IsOneOf may_give requests run.commands) (of_party party entries)
   pub rising : AreRising (of_party party entries)
   pub output : (since : ℕ) (start : List Deed) (sessions : List (Option Session)) → begins since start → AllByRecursion (Names sessions) entries
       → IsOutput sessions start (map place_of entries) party run.commands run.failed before now

@@ -22,7 +22,7 @@ use Rattle.run_parties.specs.serial_depot.Running.{CanTake, HasRun}
 use Rattle.session_loop.specs.Served.{AreCaused}
 use Rattle.session_loop.specs.Taking.{IsProper}
 use Rattle.session_loop.specs.declared.session.SessionRun.{SessionRun}
-use Rattle.shared_depot.specs.Common.{HasAllStored, OpenedKnown}
+use Rattle.shared_depot.specs.Common.{HasAllStored, Masters, OpenedKnown}
 use Rattle.party_threads.specs.Entries.{AreNumbered, HasTaken}
 use Rattle.party_threads.specs.Replicas.{IsReplicaServed}
 use Rattle.party_threads.specs.declared.party.ThreadParty.{ThreadParty}
@@ -31,8 +31,8 @@ use Rattle.party_threads.specs.declared.run.ThreadsRun.{ThreadsRun}
 -- ---- one party
 
 -- its commands were taken, and so it ended
-pub record IsServedAlone {K : Type 0} (sink_says : SinkSays K) (begins : ℕ → List Deed → Type 0) (party : ℕ) (requests : List Request) (run : SessionRun) (old new : K) (entries : List Taken) : Type 0 where
-  pub taken : HasTaken begins party requests run (sink_says.given old) (sink_says.given new) entries
+pub record IsServedAlone {K : Type 0} (may_give : ℕ → Type 0) (sink_says : SinkSays K) (begins : ℕ → List Deed → Type 0) (party : ℕ) (requests : List Request) (run : SessionRun) (old new : K) (entries : List Taken) : Type 0 where
+  pub taken : HasTaken may_give begins party requests run (sink_says.given old) (sink_says.given new) entries
   pub end : IsEnd sink_says (length requests) run old new
 
 -- requests are those of one party, in order
@@ -62,11 +62,11 @@ pub record IsHeard (order : List Taken) (known : PartyKnown) : Type 0 where
   pub begins : IsPrefix known.list order
   pub own : of_party known.party order ≡ of_party known.party known.list
 
-module _ {D K : Type 0} (disk_says : DiskSays D) (end : ℕ) (images : Files → Type 0) (may_give : ℕ → Type 0) (sink_says : SinkSays K) (begins : ℕ → List Deed → Type 0) where
+module _ {D K : Type 0} (disk_says : DiskSays D) (end : ℕ) (images : Files → Type 0) (may_give : ℕ → Type 0) (sink_says : SinkSays K) (begins : ℕ → List Deed → Type 0) (masters : Masters) where
   -- its session's commands were taken, or its replica's answered; only a replica may have been told that a disk failed
   abbrev pub IsPartyServed : ℕ → List Request → Option ReplicaParty → SessionRun → Bool → K → K → List Taken → Type 0
-  IsPartyServed party requests None run lost old new entries = IsServedAlone sink_says begins party requests run old new entries × (lost ≡ false)
-  IsPartyServed party requests (Some p) run lost old new entries = IsReplicaServed disk_says end images begins sink_says may_give party p run lost old new entries
+  IsPartyServed party requests None run lost old new entries = IsServedAlone may_give sink_says begins party requests run old new entries × (lost ≡ false)
+  IsPartyServed party requests (Some p) run lost old new entries = IsReplicaServed disk_says end images begins masters sink_says may_give party p run lost old new entries
 
   -- it ran on its thread
   pub record HasRunParty {N : Type 0} (old new : ThreadParty K N) : Type 0 where
@@ -109,7 +109,7 @@ IsAmong n entry = (1 ≤ entry.request.party) × (entry.request.party ≤ n)
 module _ {D K : Type 0} (disk_says : DiskSays D) (end : ℕ) (images : Files → Type 0) (may_give : ℕ → Type 0) (sink_says : SinkSays K) where
   -- All parties ran on their threads: there is one order, in which each was served, and which the depot has run. The run is told of a failed disk exactly
   -- where a replica was, and then a count of one of the two disks rose.
-  pub record HaveRunAll (begins : ℕ → List Deed → Type 0) (faults_then contents_then : ℕ) (requests : List (List Request)) (replicas : List (Option ReplicaParty)) (sinks : List K) (ran : ThreadsRun D K) : Type 0 where
+  pub record HaveRunAll (begins : ℕ → List Deed → Type 0) (masters : Masters) (faults_then contents_then : ℕ) (requests : List (List Request)) (replicas : List (Option ReplicaParty)) (sinks : List K) (ran : ThreadsRun D K) : Type 0 where
     pub order : List Taken
     pub places : ran.order.items ≡ map place_of order
     pub runs_count : length ran.runs.items ≡ length requests
@@ -117,7 +117,7 @@ module _ {D K : Type 0} (disk_says : DiskSays D) (end : ℕ) (images : Files →
     pub flags : List Bool
     pub flags_count : length flags ≡ length requests
     pub told : ran.lost ≡ list_any (λ flag. flag) flags
-    pub served : AreAllServed disk_says end images may_give sink_says begins requests replicas ran.runs.items flags sinks ran.sinks.items order
+    pub served : AreAllServed disk_says end images may_give sink_says begins masters requests replicas ran.runs.items flags sinks ran.sinks.items order
     pub among : AllByRecursion (IsAmong (length requests)) order
     pub can : CanTake disk_says ran.depot
     pub stored : HasAllStored disk_says end images begins order ran.depot.archive

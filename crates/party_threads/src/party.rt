@@ -20,7 +20,8 @@ use std::sync::Wait;
 /// What a party has on its thread.
 #[derive(Drop)]
 pub(crate) struct ThreadParty<K: Sink, N: Naming + Marking + Serving> {
-    /// The requests of its session, the next one first. A party without a session has none.
+    /// The requests of its session, the next one first, each of which gets another moment when it is
+    /// taken. A party without a session has none.
     pub(crate) requests: Vec<Request>,
     /// Its replica, if it is one; it has no session then.
     pub(crate) replica: Option<ReplicaParty>,
@@ -45,7 +46,7 @@ impl<K: Sink, N: Naming + Marking + Imaging + Serving> ThreadParty<K, N> {
         gate: &G,
     )
         requires { IsReady N.begins self.old }
-        ensures { HasRunParty D.says N.end N.images (C.says.may_give clock.now) K.says N.begins self.old self.new }
+        ensures { HasRunParty D.says N.end N.images (C.says.may_give clock.now) K.says N.begins N.masters self.old self.new }
     {
         match self.replica.take() {
             Some(replica) => {
@@ -66,6 +67,7 @@ impl<K: Sink, N: Naming + Marking + Imaging + Serving> ThreadParty<K, N> {
                     rt,
                     alloc,
                     depot,
+                    clock,
                     gate,
                     &mut self.pass,
                     &mut self.sink,

@@ -27,7 +27,7 @@ fn answer_command<R: Wait, D: Disk, K: Sink, N: Naming + Marking + Imaging + Ser
     replica: &mut ReplicaParty,
 ) -> bool
     requires { 0 < length replica.old.left.items }
-    ensures step { IsStep D.says N.end N.images N.begins K.says number pass.old pass.new marks.old marks.new replica.old replica.new sink.old sink.new result }
+    ensures step { IsStep D.says N.end N.images N.begins N.masters K.says number pass.old pass.new marks.old marks.new replica.old replica.new sink.old sink.new result }
     ensures left { length replica.old.left.items ≡ length replica.new.left.items + 1 }
 {
     match depot.answer_replica(rt, alloc, pass, marks, replica) {
@@ -58,7 +58,7 @@ pub(crate) fn answer_commands<
     requires unmarked { marks.old.list ≡ [] }
     requires few { length replica.left.items ≤ 67108864 }
     ensures party { pass.new.party ≡ pass.old.party }
-    ensures served { IsReplicaServed D.says N.end N.images N.begins K.says (C.says.may_give clock.now) pass.old.party replica result (has_marks marks.new.party marks.new.list) sink.old sink.new pass.new.list }
+    ensures served { IsReplicaServed D.says N.end N.images N.begins N.masters K.says (C.says.may_give clock.now) pass.old.party replica result (has_marks marks.new.party marks.new.list) sink.old sink.new pass.new.list }
 {
     let total = replica.left_count();
     for number in 0..total {

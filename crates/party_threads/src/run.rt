@@ -6,8 +6,10 @@ ghost use Rattle.depot_model.specs.Deeds.{Deed};
 ghost use Rattle.depot_runs.specs.Run.{placed};
 ghost use Rattle.disk_journal.specs.Stands.{disk_of};
 ghost use Rattle.run_parties.specs.Asking.{AreFresh};
-ghost use Rattle.run_parties.specs.Replicas.{AreReplicasServed, OneHasRisen};
+ghost use Rattle.run_parties.specs.Replicas.{AreReplicasServed, AreReplicasTold, OneHasRisen};
 ghost use Rattle.run_parties.specs.Served.{AreApart, AreEnds, AreServed};
+ghost use Rattle.run_parties.specs.depot_commit.Growing.{Chronicle};
+ghost use Rattle.run_parties.specs.replica_turns.Master.{IsMaster, Past};
 ghost use Rattle.run_parties.specs.serial_depot.Running.{CanTake, HasRun};
 ghost use Rattle.session_loop.specs.Asking.{AreWellFormed, commands_of, replica_commands};
 ghost use Rattle.session_loop.specs.Requests.{AreRequestsOfAll};
@@ -114,10 +116,11 @@ fn bring<C: Clock>(
 
 /// Takes the commands of sessions and has replicas answer theirs, each party on a thread of its own where one can be started, and gives each reply to the sink
 /// of its party. Parties are numbered from 1, in the order of both lists, of which each party has a place in either; one whose script has no head is in neither
-/// and asks nothing. All requests are made, and room for their places, before the first thread is started. A command of a session whose commit failed has a
-/// fault place; one that finds no memory is answered so and has no place. A replica has the rows of the files inside its filter, as far as it has followed the
-/// journal of this depot, while sessions commit; its commands have no place. A party whose sink failed takes no further command. Where no thread can be
-/// started, the caller's runs the party. The one error is want of memory before the first thread; it gives back the depot, with which nothing was done.
+/// and asks nothing. All requests are made, and room for their places, before the first thread is started; the moment of a session's command is read when it is
+/// taken, that of a replica's before. A command of a session whose commit failed has a fault place; one that finds no memory is answered so and has no place. A
+/// replica has the rows of the files inside its filter, as far as it has followed the journal of this depot, while sessions commit; its commands have no place.
+/// A party whose sink failed takes no further command. Where no thread can be started, the caller's runs the party. The one error is want of memory before the
+/// first thread; it gives back the depot, with which nothing was done.
 pub fn run_on_threads<
     R: Threads + Wait + Sync,
     D: Disk + Send,
@@ -149,6 +152,11 @@ pub fn run_on_threads<
         IfOk result (λ ran. AreServed (C.says.may_give clock.now) sessions.items replicas.items start ran.runs.items (map K.says.given sinks.items) (map K.says.given ran.sinks.items) ran.order.items) }
     ensures replicas { (since : ℕ) (start : List Deed) → All (λ session. AreWellFormed (commands_of session)) sessions.items → All (λ script. AreWellFormed (replica_commands script)) replicas.items → HasRun D.says depot since start [] →
         IfOk result (λ ran. AreReplicasServed D.says (C.says.may_give clock.now) sessions.items replicas.items since start ran.order.items ran.runs.items ran.lost (map K.says.given sinks.items) (map K.says.given ran.sinks.items)) }
+    // Along a depot that they follow the replies of replicas are, but for those to `pull`, those of the depot after its first changes, as many as the last
+    // `pull` told, cut to their filters.
+    ensures told { (past : Past) (since : ℕ) (start : List Deed) (c : Chronicle) → All (λ session. AreWellFormed (commands_of session)) sessions.items → All (λ script. AreWellFormed (replica_commands script)) replicas.items →
+        HasRun D.says depot since start [] → IsMaster D.says past start [] depot c →
+        IfOk result (λ ran. AreReplicasTold past start sessions.items replicas.items (C.says.may_give clock.now) ran.order.items ran.runs.items (map K.says.given sinks.items) (map K.says.given ran.sinks.items)) }
     ensures ran { (since : ℕ) (start : List Deed) → All (λ session. AreWellFormed (commands_of session)) sessions.items → HasRun D.says depot since start [] →
         IfOk result (λ ran. HasRun D.says ran.depot since start (map (placed sessions.items) ran.order.items)) }
 

@@ -11,7 +11,7 @@ ghost use Rattle.session_loop.specs.Taking.{IsProper};
 use depot_commit::Imaging;
 use depot_model::{Answer, Request};
 use locked_tables::{Naming, PartyPass};
-use outside_api::{Disk, Gate, Sink};
+use outside_api::{Clock, Disk, Gate, Sink};
 use party_marks::Marking;
 use run_parties::give;
 use session_loop::SessionRun;
@@ -19,42 +19,54 @@ use shared_depot::{Serving, SharedDepot};
 use std::alloc::{AllocError, Global};
 use std::sync::Wait;
 
-/// Has a command of a party taken, and gives its reply to the party's sink. Answers whether the sink
-/// has failed.
-fn take_command<R: Wait, D: Disk, K: Sink, G: Gate, N: Naming + Marking + Imaging + Serving>(
-    rt: &R,
-    alloc: Global,
-    depot: &SharedDepot<D, N>,
-    gate: &G,
-    pass: &mut PartyPass<N>,
-    sink: &mut K,
-    request: Request,
-) -> bool
-    requires party { request.party ≡ pass.old.party }
-    requires proper { (since : ℕ) (start : List Deed) → N.begins since start → IsProper request }
-    ensures answered { IsAnswered N.begins pass.old pass.new request (K.says.given sink.old) (K.says.given sink.new) result }
-    ensures counts { K.says.faults sink.old ≤ K.says.faults sink.new }
-    ensures cause { result ≡ true → HasRisen (K.says.faults sink.old) (K.says.faults sink.new) }
-{
-    let number = request.number;
-    match depot.take(rt, alloc, gate, pass, request) {
-        Ok(Answer { place: _, reply }) => give(sink, Ok(reply), number),
-        Err(_) => give(sink, Err(AllocError), number),
-    }
-}
-
-/// Has the commands of a party taken, one after another, as long as its sink takes the replies. A
-/// command that finds no memory is answered so, has no place, and the party goes on.
-pub(crate) fn take_commands<
+/// Has a command of a party taken at the moment that the clock gives now, and gives its reply to the
+/// party's sink. Answers whether the sink has failed.
+fn take_command<
     R: Wait,
     D: Disk,
     K: Sink,
+    C: Clock,
     G: Gate,
     N: Naming + Marking + Imaging + Serving,
 >(
     rt: &R,
     alloc: Global,
     depot: &SharedDepot<D, N>,
+    clock: &C,
+    gate: &G,
+    pass: &mut PartyPass<N>,
+    sink: &mut K,
+    mut request: Request,
+) -> bool
+    requires party { request.party ≡ pass.old.party }
+    requires proper { (since : ℕ) (start : List Deed) → N.begins since start → IsProper request }
+    ensures answered { IsAnswered (C.says.may_give clock.now) N.begins pass.old pass.new request (K.says.given sink.old) (K.says.given sink.new) result }
+    ensures counts { K.says.faults sink.old ≤ K.says.faults sink.new }
+    ensures cause { result ≡ true → HasRisen (K.says.faults sink.old) (K.says.faults sink.new) }
+{
+    let number = request.number;
+    request.moment = clock.now();
+    match depot.take(rt, alloc, gate, pass, request) {
+        Ok(Answer { place: _, reply }) => give(sink, Ok(reply), number),
+        Err(_) => give(sink, Err(AllocError), number),
+    }
+}
+
+/// Has the commands of a party taken, one after another, each at the moment that the clock gives then,
+/// as long as its sink takes the replies. A command that finds no memory is answered so, has no place,
+/// and the party goes on.
+pub(crate) fn take_commands<
+    R: Wait,
+    D: Disk,
+    K: Sink,
+    C: Clock,
+    G: Gate,
+    N: Naming + Marking + Imaging + Serving,
+>(
+    rt: &R,
+    alloc: Global,
+    depot: &SharedDepot<D, N>,
+    clock: &C,
     gate: &G,
     pass: &mut PartyPass<N>,
     sink: &mut K,
@@ -65,13 +77,13 @@ pub(crate) fn take_commands<
     requires numbered { AreNumbered pass.old.party requests.items }
     requires proper { (since : ℕ) (start : List Deed) → N.begins since start → AllByRecursion IsProper requests.items }
     ensures party { pass.new.party ≡ pass.old.party }
-    ensures taken { HasTaken N.begins pass.old.party requests.items result (K.says.given sink.old) (K.says.given sink.new) pass.new.list }
+    ensures taken { HasTaken (C.says.may_give clock.now) N.begins pass.old.party requests.items result (K.says.given sink.old) (K.says.given sink.new) pass.new.list }
     ensures end { IsEnd K.says (length requests.items) result sink.old sink.new }
 {
     let mut commands = 0;
     for request in requests {
         commands += 1;
-        if take_command(rt, alloc, depot, gate, pass, sink, request) {
+        if take_command(rt, alloc, depot, clock, gate, pass, sink, request) {
             return SessionRun {
                 commands,
                 failed: true,

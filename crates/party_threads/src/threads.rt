@@ -12,6 +12,8 @@ ghost use Rattle.party_threads.specs.Parties.{AreAsked, AreCollected, HasRunPart
 ghost use Rattle.party_threads.specs.Rooms.{IsRoom};
 ghost use Rattle.party_threads.specs.Words.{AreFreshWords};
 ghost use Rattle.run_parties.specs.Asking.{left_in};
+ghost use Rattle.run_parties.specs.depot_commit.Growing.{Chronicle};
+ghost use Rattle.run_parties.specs.replica_turns.Master.{IsMaster, Past};
 ghost use Rattle.run_parties.specs.serial_depot.Running.{CanTake, HasRun};
 ghost use Rattle.shared_depot.specs.Sharing.{fresh_marks, fresh_passes, places_in};
 ghost use Rattle.table_changes.specs.Changed.{rows_of};
@@ -49,7 +51,7 @@ fn run_parties<
     parties: &mut [ThreadParty<K, N>],
 )
     requires { All (IsReady N.begins) parties.old }
-    ensures run { HaveRun D.says N.end N.images (C.says.may_give clock.now) K.says N.begins parties.old parties.new }
+    ensures run { HaveRun D.says N.end N.images (C.says.may_give clock.now) K.says N.begins N.masters parties.old parties.new }
     ensures count { length parties.new ≡ length parties.old }
 {
     let threads = parties.len().max(1);
@@ -59,7 +61,7 @@ fn run_parties<
         threads,
         &|_, party: &mut ThreadParty<K, N>|
             requires { IsReady N.begins party.now }
-            ensures { HasRunParty D.says N.end N.images (C.says.may_give clock.entry.now) K.says N.begins party.entry.now party.exit.now }
+            ensures { HasRunParty D.says N.end N.images (C.says.may_give clock.entry.now) K.says N.begins N.masters party.entry.now party.exit.now }
         { party.run(rt, alloc, depot, clock, gate) },
     );
 }
@@ -178,7 +180,7 @@ fn run_and_close<
     requires asked { AreAsked N.begins (map (λ own. own.items) requests.items) }
     requires few { All (λ replica. length (left_in replica) ≤ 67108864) replicas.items }
     requires room { IsRoom (length requests.items) room }
-    ensures { HaveRunAll D.says N.end N.images (C.says.may_give clock.now) K.says N.begins N.faults N.content_faults (map (λ own. own.items) requests.items) replicas.items sinks.items result }
+    ensures { HaveRunAll D.says N.end N.images (C.says.may_give clock.now) K.says N.begins N.masters N.faults N.content_faults (map (λ own. own.items) requests.items) replicas.items sinks.items result }
 {
     let Room {
         mut parties,
@@ -234,13 +236,14 @@ pub(crate) fn run_named<
     requires images { (files : Files) → N.images files ↔ D.says.may_leave (archive_disk_of depot.archive) files }
     requires can { CanTake D.says depot }
     requires begins { (since : ℕ) (start : List Deed) → N.begins since start → HasRun D.says depot since start [] }
+    requires masters { (past : Past) (start : List Deed) (c : Chronicle) → N.masters past start c → IsMaster D.says past start [] depot c }
     requires faults { N.faults ≡ D.says.faults (disk_of depot.journal) }
     requires content_faults { N.content_faults ≡ D.says.faults (archive_disk_of depot.archive) }
     requires as_many { length sinks.items ≡ length brought.requests.items }
     requires as_many_replicas { length brought.replicas.items ≡ length brought.requests.items }
     requires asked { AreAsked N.begins (map (λ own. own.items) brought.requests.items) }
     requires few { All (λ replica. length (left_in replica) ≤ 67108864) brought.replicas.items }
-    ensures run { IfOk result (HaveRunAll D.says N.end N.images (C.says.may_give clock.now) K.says N.begins N.faults N.content_faults (map (λ own. own.items) brought.requests.items) brought.replicas.items sinks.items) }
+    ensures run { IfOk result (HaveRunAll D.says N.end N.images (C.says.may_give clock.now) K.says N.begins N.masters N.faults N.content_faults (map (λ own. own.items) brought.requests.items) brought.replicas.items sinks.items) }
     ensures kept { IfErr result (λ kept. kept ≡ depot) }
 {
     let Brought {

@@ -11,6 +11,7 @@ use Rattle.depot_rows.specs.depot_model.Deeds.{Deed}
 use Rattle.depot_rows.specs.depot_model.Places.{Placed, taken}
 use Rattle.depot_rows.specs.depot_model.declared.order.Answer.{Answer}
 use Rattle.depot_rows.specs.depot_model.declared.request.Request.{Request}
+use Rattle.depot_rows.specs.Standing.{Stand}
 use Rattle.depot_rows.specs.table_changes.Changed.{AllRows, changed_by, rows_of}
 use Rattle.depot_rows.specs.table_store.declared.tables.Tables.{Tables}
 use Rattle.disk_journal.specs.Stands.{disk_of}
@@ -23,6 +24,8 @@ use Rattle.outside_api.specs.Count.{HasRisen, counted}
 use Rattle.outside_api.specs.Disk.{Files}
 use Rattle.outside_api.specs.Says.{DiskSays}
 use Rattle.depot_commit.specs.Committing.{AreRowsAfter, IsOutcomeOf}
+use Rattle.depot_commit.specs.Growing.{Chronicle, HasGroups, grown}
+use Rattle.depot_commit.specs.Opening.{opens_generation}
 use Rattle.depot_commit.specs.Placing.{HasRunBeside, StoresBehind}
 use Rattle.depot_commit.specs.Running.{CanCommit}
 use Rattle.depot_commit.specs.Storing.{HasStored, stores_end}
@@ -32,9 +35,10 @@ use Rattle.depot_commit.specs.Holding.{KeepContents}
 use Rattle.depot_commit.specs.declared.telling.Told.{Told}
 use Rattle.depot_commit.proofs.Stored.{ends_twice}
 use Rattle.session_loop.specs.Taking.{IsProper, placed_by, with_place}
-use Rattle.shared_depot.specs.Common.{AreQuiet, GoesOnQuietly, HasRunOrder, IsArchiveAfter, IsEntered, IsQuiet, KeepsOrder, WasRun}
+use Rattle.shared_depot.specs.Common.{AreQuiet, GoesOnQuietly, HasRunOrder, IsArchiveAfter, IsEntered, IsQuiet, KeepsOrder, Masters, WasRun}
 use Rattle.shared_depot.specs.Room.{IsDueAfter, IsStoredBehind}
 use Rattle.shared_depot.specs.Stored.{is_lost, is_unwritten, stores_of}
+use Rattle.shared_depot.proofs.Followed.{followed_more, followed_on}
 use Rattle.shared_depot.proofs.Order.{all_rows, archive_then, changed_here, outcome_here, run_more, stored_there}
 use Rattle.shared_depot.proofs.Outcomes.{reply_here}
 use Rattle.shared_depot.proofs.Quietly.{goes_on_quietly, quiet_more}
@@ -63,9 +67,9 @@ stored_behind Learns held stores faults order now entry lane lane' store store' 
 }
 
 module _ {D : Type 0} (disk_says : DiskSays D)
-    (rows : AllRows) (end : ℕ) (images : Files → Type 0) (begins : ℕ → List Deed → Type 0) (faults_then : ℕ) where
+    (rows : AllRows) (end : ℕ) (images : Files → Type 0) (begins : ℕ → List Deed → Type 0) (masters : Masters) (faults_then : ℕ) where
   abbrev Ran : List Taken → Tables → Journal D → Type 0
-  Ran order tables journal = HasRunOrder disk_says rows end images begins faults_then order tables journal
+  Ran order tables journal = HasRunOrder disk_says rows end images begins masters faults_then order tables journal
 
   module _ (known order : List Taken) (on : GoesOnQuietly disk_says rows end images begins known order) where
     -- tables and a journal that have run the beginning have run the order
@@ -78,6 +82,7 @@ module _ {D : Type 0} (disk_says : DiskSays D)
       ran = λ since start at.
           subst (λ (l : List (List ℕ)). HasRunBeside disk_says images end l tables journal since start (map placed_of order)) (sym on.stores)
           (on.runs tables journal was.rows_are since start at (was.ran since start at));
+      followed = followed_on disk_says rows end images begins masters faults_then known order on tables journal was;
       caused = subst (λ (n : ℕ). counted n faults_then ≤ disk_says.faults (disk_of journal)) (sym on.unwritten) was.caused;
       no_fewer = was.no_fewer;
     }
@@ -95,7 +100,7 @@ module _ {D : Type 0} (disk_says : DiskSays D)
     }
 
   abbrev Keeps : List Taken → Tables → Type 0
-  Keeps order tables = KeepsOrder disk_says rows end images begins faults_then order tables
+  Keeps order tables = KeepsOrder disk_says rows end images begins masters faults_then order tables
 
   module _ (order : List Taken) (tables : Tables) (was : Keeps order tables) (entry : Taken) where
     -- one more place at which nothing is written
@@ -113,7 +118,7 @@ module _ {D : Type 0} (disk_says : DiskSays D)
     -- one more at which something was to be written
     pub keeps_written : (used : ℕ) → IsEntered rows end order entry used → (tables' : Tables) → (entry.fault ≡ true → tables' ≡ tables) → (entry.fault ≡ true → entry.changes ≡ [])
         → (entry.fault ≡ false → (table : TableId) → rows_of tables' table ≡ changed_by (rows_after rows order) entry.changes table)
-        → WasRun disk_says rows end images begins faults_then (order ++ entry ∷ []) → Keeps (order ++ entry ∷ []) tables'
+        → WasRun disk_says rows end images begins masters faults_then (order ++ entry ∷ []) → Keeps (order ++ entry ∷ []) tables'
     keeps_written used entered tables' same none shown run = record {
       shown = λ table. go entry.fault refl table ∙ sym (entered.rows_are table);
       quiet = quiet_more begins rows end order entry was.quiet (λ silent. absurd (true≢false (sym entered.writes ∙ silent)));
@@ -132,30 +137,33 @@ module _ {D : Type 0} (disk_says : DiskSays D)
       → (since : ℕ) (start : List Deed) → begins since start → IsReplyOf (taken step start (map placed_of order)) request told
   reply_after order tables journal was request told due since start at =
       reply_here rows end images begins order order refl request told due since start at (taken step start (map placed_of order)) (rows_of tables)
-      (all_rows disk_says rows end images begins faults_then order tables journal was) (was.ran since start at).stand (was.ran since start at).kept
+      (all_rows disk_says rows end images begins masters faults_then order tables journal was) (was.ran since start at).stand (was.ran since start at).kept
 
   -- a command was committed behind the order, with its contents
   module _ (order : List Taken) (tables : Tables) (journal : Journal D) (was : Ran order tables journal) (tables' : Tables) (journal' : Journal D) (can : CanCommit disk_says journal') (le : disk_says.faults (disk_of journal) ≤ disk_says.faults (disk_of journal'))
-      (request : Request) (changes : List Change) (answer : Answer) (entry : Taken) (stored : List (List ℕ)) (asks : placed_of entry ≡ placed_by request answer.place.fault) (fault : entry.fault ≡ answer.place.fault)
-      (own : entry.changes ≡ (if entry.fault then [] else changes)) (rows_now : AreRowsAfter (rows_of tables) changes answer.place.fault (rows_of tables')) (entered : IsEntered rows end order entry tables'.archive_end)
+      (request : Request) (outcome : Outcome) (answer : Answer) (entry : Taken) (stored : List (List ℕ)) (asks : entry.request ≡ request) (fault : entry.fault ≡ answer.place.fault)
+      (own : entry.changes ≡ (if entry.fault then [] else outcome.changes)) (rows_now : AreRowsAfter (rows_of tables) outcome.changes answer.place.fault (rows_of tables')) (entered : IsEntered rows end order entry tables'.archive_end)
       (ends : tables'.archive_end ≡ stores_end (stores_of order ++ stored) end) (stores_are : stores_of (order ++ entry ∷ []) ≡ stores_of order ++ stored)
+      (stands : (since : ℕ) (start : List Deed) → begins since start → IsOutcomeOf (rows_of tables) tables.archive_end request outcome)
       (ran : (since : ℕ) (start : List Deed) → begins since start
       → HasRunBeside disk_says images end (stores_of order ++ stored) tables' journal' since start (with_place (map placed_of order) request answer))
+      (grows : (since : ℕ) (start : List Deed) → begins since start → (c : Chronicle) → HasGroups disk_says journal c → HasGroups disk_says journal' (grown (opens_generation request) answer.place.fault outcome.changes c))
       (risen : is_unwritten entry ≡ true → HasRisen (disk_says.faults (disk_of journal)) (disk_says.faults (disk_of journal'))) where
     pub committed : Ran (order ++ entry ∷ []) tables' journal'
     committed =
         let Beside : ℕ → List Deed → Placed → Type 0 = λ since start p.
         HasRunBeside disk_says images end (stores_of order ++ stored) tables' journal' since start (map placed_of order ++ p ∷ []) in
-        run_more disk_says rows end images begins faults_then order tables journal was tables' journal' can le entry changes stored
-        (subst (λ (b : Bool). AreRowsAfter (rows_of tables) changes b (rows_of tables')) (sym fault) rows_now) own entered.rows_are entered.end_is ends stores_are
-        (λ since start at. subst (λ (p : Placed). Beside since start p) (sym asks) (ran since start at)) risen
+        run_more disk_says rows end images begins masters faults_then order tables journal was tables' journal' can le entry outcome.changes stored
+        (subst (λ (b : Bool). AreRowsAfter (rows_of tables) outcome.changes b (rows_of tables')) (sym fault) rows_now) own entered.rows_are entered.end_is ends stores_are
+        (λ since start at. subst (λ (p : Placed). Beside since start p) (λ i. placed_by (sym asks i) (sym fault i)) (ran since start at))
+        (followed_more disk_says rows end images begins masters faults_then order tables journal was tables' journal' request outcome answer.place.fault entry stored asks fault own rows_now stores_are stands ran grows) risen
 
   -- ---- what follows a commit over tables and a journal that have run a beginning of the order
 
   module _ (known : List Taken) (tables : Tables) (journal : Journal D) (was : Ran known tables journal) (request : Request) (told : Told) (due : IsDueAfter rows end images begins known request told)
       (proper : (since : ℕ) (start : List Deed) → begins since start → IsProper request) (after : Tables) (made : (table : TableId) → rows_of after table ≡ changed_by (rows_after rows known) told.changes table)
       (tables' : Tables) (journal' : Journal D) (can : CanCommit disk_says journal') (le : disk_says.faults (disk_of journal) ≤ disk_says.faults (disk_of journal')) (answer : Answer) (entry : Taken)
-      (asks : placed_of entry ≡ placed_by request answer.place.fault) (fault : entry.fault ≡ answer.place.fault) (own : entry.changes ≡ (if answer.place.fault then [] else told.changes))
+      (asks : entry.request ≡ request) (fault : entry.fault ≡ answer.place.fault) (own : entry.changes ≡ (if answer.place.fault then [] else told.changes))
       (rows_now : (outcome : Outcome) → IsTold outcome request.number told → rows_of after ≡ changed_by (rows_of tables) outcome.changes → AreRowsAfter (rows_of tables) outcome.changes answer.place.fault (rows_of tables'))
       (order : List Taken) (on : GoesOnQuietly disk_says rows end images begins known order) (lanes : ℕ) where
     abbrev placed : Taken
@@ -169,12 +177,12 @@ module _ {D : Type 0} (disk_says : DiskSays D)
 
     given : rows_of after ≡ changed_by (rows_of tables) due.outcome.changes
     given =
-        changed_here disk_says rows end images begins faults_then known tables journal was known refl (rows_of after) told.changes made
+        changed_here disk_says rows end images begins masters faults_then known tables journal was known refl (rows_of after) told.changes made
         ∙ ap (changed_by (rows_of tables)) due.tells.changes
 
     stands : (since : ℕ) (start : List Deed) → begins since start → IsOutcomeOf (rows_of tables) tables.archive_end request due.outcome
     unfolding due_on
-    stands since start at = outcome_here disk_says rows end images begins faults_then order tables journal now order refl request due.outcome here.stands since start at
+    stands since start at = outcome_here disk_says rows end images begins masters faults_then order tables journal now order refl request due.outcome here.stands since start at
 
     own_changes : entry.changes ≡ (if entry.fault then [] else due.outcome.changes)
     own_changes =
@@ -183,7 +191,7 @@ module _ {D : Type 0} (disk_says : DiskSays D)
         ∙ ap (λ (b : Bool). if b then [] else due.outcome.changes) (sym fault))
 
     at_end : tables.archive_end ≡ stores_end (stores_of order) end
-    at_end = stored_there disk_says rows end images begins faults_then order tables journal now
+    at_end = stored_there disk_says rows end images begins masters faults_then order tables journal now
 
     -- the reply is that of the depot that has run the order
     pub reply_then : (since : ℕ) (start : List Deed) → begins since start → IsReplyOf (taken step start (map placed_of order)) request told
@@ -195,14 +203,17 @@ module _ {D : Type 0} (disk_says : DiskSays D)
         → ((from : ℕ) (before : List (List ℕ)) (since : ℕ) (start : List Deed) (places : List Placed) (outcome : Outcome) → HasRunBeside disk_says images from before tables journal since start places
         → tables.archive_end ≡ stores_end before from → IsProper request → IsOutcomeOf (rows_of tables) tables.archive_end request outcome → IsTold outcome request.number told
         → rows_of after ≡ changed_by (rows_of tables) outcome.changes → HasRunBeside disk_says images from (before ++ stored) tables' journal' since start (with_place places request answer))
+        → ((d : List Deed) (c : Chronicle) (outcome : Outcome) → Stand (rows_of tables) d → IsProper request → IsOutcomeOf (rows_of tables) tables.archive_end request outcome → IsTold outcome request.number told
+        → HasGroups disk_says journal c → HasGroups disk_says journal' (grown (opens_generation request) answer.place.fault outcome.changes c))
         → (answer.place.fault ≡ true → entry.lost ≡ false → HasRisen (disk_says.faults (disk_of journal)) (disk_says.faults (disk_of journal')))
         → Ran (order ++ placed ∷ []) tables' journal'
-    committed_then held stored none new_end stores said kept touches entered ran cause =
-        committed order tables journal now tables' journal' can le request due.outcome.changes answer placed stored asks fault own_changes (rows_now due.outcome due.tells given)
+    committed_then held stored none new_end stores said kept touches entered ran grows cause =
+        committed order tables journal now tables' journal' can le request due.outcome answer placed stored asks fault own_changes (rows_now due.outcome due.tells given)
         (record { writes = entered.writes; rows_are = entered.rows_are; end_is = entered.end_is ∙ used_is held refl })
         (new_end ∙ (ap (stores_end stored) at_end ∙ sym (ends_twice images end (stores_of order) stored)))
-        (stores_are held refl)
+        (stores_are held refl) stands
         (λ since start at. ran end (stores_of order) since start (map placed_of order) due.outcome (now.ran since start at) at_end (proper since start at) (stands since start at) due.tells given)
+        (λ since start at c has. grows (taken step start (map placed_of order)) c due.outcome (now.ran since start at).stand (proper since start at) (stands since start at) due.tells has)
         (λ failed. cause (sym fault ∙ unwritten_fails placed failed) (lost_is held refl failed))
       where
         used_is : (b : Bool) → held ≡ b → (if held then entry.end else end_after end order) ≡ tables'.archive_end

@@ -1,10 +1,11 @@
 pub mod Stored
-mod Quietly
+pub mod Quietly
 mod Seats
 mod Sets
 mod Outcomes
 pub mod Order
 pub mod Fronts
+mod Followed
 mod Committed
 mod Ended
 mod Held

@@ -23,6 +23,7 @@ use Rattle.outside_api.specs.Disk.{Files, NoMore}
 use Rattle.outside_api.specs.Says.{DiskSays}
 use Rattle.depot_commit.specs.Committing.{AreRowsAfter, IsOutcomeOf}
 use Rattle.depot_commit.specs.Fetching.{IsRead}
+use Rattle.depot_commit.specs.Growing.{Chronicle, HasGroups}
 use Rattle.depot_commit.specs.Placing.{HasRunBeside, StoresBehind}
 use Rattle.serial_depot.specs.Running.{CanTake, HasRun}
 use Rattle.depot_commit.specs.Running.{CanCommit}
@@ -32,19 +33,31 @@ use Rattle.serial_depot.specs.declared.depot.SerialDepot.{SerialDepot}
 use Rattle.depot_commit.proofs.Moved.{over_moved}
 use Rattle.depot_commit.proofs.Beside.{among_on, used_on}
 use Rattle.depot_commit.proofs.Stored.{keeps_more}
+use Rattle.replica_turns.proofs.Masters.{unmoved_master}
+use Rattle.replica_turns.specs.Master.{IsMaster, Past}
 use Rattle.session_loop.specs.Taking.{Answers, place_by, placed_by}
 use Rattle.depot_rows.specs.table_changes.Changed.{AllRows, changed_by, rows_of}
 use Rattle.depot_rows.specs.table_store.declared.tables.Tables.{Tables}
-use Rattle.shared_depot.specs.Common.{HasAllStored, HasRunOrder, IsArchiveAfter, IsLostPlace}
+use Rattle.shared_depot.specs.Common.{HasAllStored, HasRunOrder, IsArchiveAfter, IsFollowed, IsLostPlace, Masters, chronicle_after}
 use Rattle.shared_depot.specs.Room.{StandsAfter}
 use Rattle.shared_depot.specs.Sharing.{IsTakenAt}
 use Rattle.shared_depot.specs.Stored.{ArchiveKnown, images_after, is_lost, is_unwritten, lost_count, lost_in, stored_end, stores_of, unwritten_count}
 use Rattle.shared_depot.proofs.Stored.{count_caused, count_one, lost_kept, lost_risen, stores_kept, stores_touched}
 
+-- beside an archive in which the contents of an order were stored tables and a journal are a depot that has run what they have run
+pub beside_ran : {D : Type 0} (disk_says : DiskSays D) (end : ℕ) (images : Files → Type 0) (begins : ℕ → List Deed → Type 0) (order : List Taken) (tables : Tables) (journal : Journal D) (archive : Archive D)
+    → HasAllStored disk_says end images begins order archive → (since : ℕ) (start : List Deed) → begins since start → (places : List Placed)
+    → HasRunBeside disk_says images end (stores_of order) tables journal since start places → HasRun disk_says (record { tables = tables; journal = journal; archive = archive }) since start places
+beside_ran disk_says end images begins order tables journal archive all since start at places ran = record {
+  tells = all.tells since start at;
+  over = over_moved disk_says (images_after images end order) (stored_end end order) tables journal since start places ran
+      (disk_says.may_leave (archive_disk_of archive)) (used_of archive) all.used (keeps_more (images_after images end order) (disk_says.may_leave (archive_disk_of archive)) (stored_end end order) all.among);
+}
+
 module _ {D : Type 0} (disk_says : DiskSays D)
-    (rows : AllRows) (end : ℕ) (images : Files → Type 0) (begins : ℕ → List Deed → Type 0) (faults_then : ℕ) where
+    (rows : AllRows) (end : ℕ) (images : Files → Type 0) (begins : ℕ → List Deed → Type 0) (masters : Masters) (faults_then : ℕ) where
   abbrev Ran : List Taken → Tables → Journal D → Type 0
-  Ran order tables journal = HasRunOrder disk_says rows end images begins faults_then order tables journal
+  Ran order tables journal = HasRunOrder disk_says rows end images begins masters faults_then order tables journal
 
   module _ (order : List Taken) (tables : Tables) (journal : Journal D) (was : Ran order tables journal) where
     -- the rows are those after the order
@@ -79,9 +92,11 @@ module _ {D : Type 0} (disk_says : DiskSays D)
         → end_after end (order ++ entry ∷ []) ≡ tables'.archive_end → tables'.archive_end ≡ stores_end (stores_of order ++ stored) end
         → stores_of (order ++ entry ∷ []) ≡ stores_of order ++ stored
         → ((since : ℕ) (start : List Deed) → begins since start → HasRunBeside disk_says images end (stores_of order ++ stored) tables' journal' since start (map placed_of order ++ placed_of entry ∷ []))
+        → ((archive : Archive D) → HasAllStored disk_says end images begins (order ++ entry ∷ []) archive
+        → IsFollowed disk_says begins masters (order ++ entry ∷ []) (record { tables = tables'; journal = journal'; archive = archive }))
         → (is_unwritten entry ≡ true → HasRisen (disk_says.faults (disk_of journal)) (disk_says.faults (disk_of journal')))
         → Ran (order ++ entry ∷ []) tables' journal'
-    run_more tables' journal' can le entry changes stored rows_now own rows_placed end_placed ends stores_are ran risen = record {
+    run_more tables' journal' can le entry changes stored rows_now own rows_placed end_placed ends stores_are ran followed risen = record {
       can = can;
       rows_are = λ table. left table entry.fault entry.changes own rows_now ∙ sym (rows_placed table);
       end_is = sym end_placed;
@@ -89,6 +104,7 @@ module _ {D : Type 0} (disk_says : DiskSays D)
       ran = λ since start at.
           subst (HasRunBeside disk_says images end (stores_of (order ++ entry ∷ [])) tables' journal' since start) (sym (map-append placed_of order (entry ∷ [])))
           (subst (λ (l : List (List ℕ)). HasRunBeside disk_says images end l tables' journal' since start (map placed_of order ++ placed_of entry ∷ [])) (sym stores_are) (ran since start at));
+      followed = followed;
       caused = subst (λ (n : ℕ). counted n faults_then ≤ disk_says.faults (disk_of journal')) (sym (count_one is_unwritten order entry))
           (count_caused (unwritten_count order) faults_then (disk_says.faults (disk_of journal)) (disk_says.faults (disk_of journal')) (is_unwritten entry) was.caused le risen);
       no_fewer = let before = was.no_fewer in omega (arith, before, le);
@@ -105,23 +121,23 @@ module _ {D : Type 0} (disk_says : DiskSays D)
     -- beside an archive in which the contents of the order were stored they are a depot that has run it
     pub depot_ran : (archive : Archive D) → HasAllStored disk_says end images begins order archive → (since : ℕ) (start : List Deed) → begins since start
         → HasRun disk_says (record { tables = tables; journal = journal; archive = archive }) since start (map placed_of order)
-    depot_ran archive all since start at = record {
-      tells = all.tells since start at;
-      over = over_moved disk_says (images_after images end order) (stored_end end order) tables journal since start (map placed_of order) (was.ran since start at)
-          (disk_says.may_leave (archive_disk_of archive)) (used_of archive) all.used (keeps_more (images_after images end order) (disk_says.may_leave (archive_disk_of archive)) (stored_end end order) all.among);
-    }
+    depot_ran archive all since start at = beside_ran disk_says end images begins order tables journal archive all since start at (map placed_of order) (was.ran since start at)
 
   -- a journal of which bytes were read, or none, is as good
   pub run_fetched : (order : List Taken) (tables : Tables) (journal journal' : Journal D) → Ran order tables journal → CanCommit disk_says journal' → disk_says.faults (disk_of journal) ≤ disk_says.faults (disk_of journal')
       → ((since : ℕ) (start : List Deed) (places : List Placed) → HasRunBeside disk_says images end (stores_of order) tables journal since start places
       → HasRunBeside disk_says images end (stores_of order) tables journal' since start places)
-      → Ran order tables journal'
-  run_fetched order tables journal journal' was can le same = record {
+      → ((c : Chronicle) → HasGroups disk_says journal c → HasGroups disk_says journal' c) → Ran order tables journal'
+  run_fetched order tables journal journal' was can le same groups = record {
     can = can;
     rows_are = was.rows_are;
     end_is = was.end_is;
     ends = was.ends;
     ran = λ since start at. same since start (map placed_of order) (was.ran since start at);
+    followed = λ archive all since past start c at begun.
+        let master = was.followed archive all since past start c at begun in
+        unmoved_master disk_says past start (map placed_of order) (record { tables = tables; journal = journal; archive = archive }) (record { tables = tables; journal = journal'; archive = archive })
+        (chronicle_after c order) master (record { below = λ spot bytes le has. has; more = omega arith }) refl (groups (chronicle_after c order) master.groups);
     caused = let before = was.caused in omega (arith, before, le);
     no_fewer = let before = was.no_fewer in omega (arith, before, le);
   }
@@ -248,8 +264,9 @@ module _ {D : Type 0} (disk_says : DiskSays D) (rows : AllRows) (end : ℕ) (ima
   there : used_of depot.archive ≡ end
   there = sym can.end ∙ end_is
 
-  pub fresh_run : (faults_then : ℕ) → faults_then ≡ disk_says.faults (disk_of depot.journal) → HasRunOrder disk_says rows end images begins faults_then [] depot.tables depot.journal
-  fresh_run faults_then same = record {
+  pub fresh_run : (masters : Masters) → ((past : Past) (start : List Deed) (c : Chronicle) → masters past start c → IsMaster disk_says past start [] depot c)
+      → (faults_then : ℕ) → faults_then ≡ disk_says.faults (disk_of depot.journal) → HasRunOrder disk_says rows end images begins masters faults_then [] depot.tables depot.journal
+  fresh_run masters first faults_then same = record {
     can = (can.was, (can.doubt, can.stands));
     rows_are = rows_are;
     end_is = end_is;
@@ -258,6 +275,12 @@ module _ {D : Type 0} (disk_says : DiskSays D) (rows : AllRows) (end : ℕ) (ima
         let used = used_of depot.archive in
         over_moved disk_says (disk_says.may_leave (archive_disk_of depot.archive)) used depot.tables depot.journal since start [] (ran since start at).over (HasStored images end []) end (omega (arith, there))
         (λ spot bytes le all image has. has.below spot bytes (omega (arith, le, there)) (λ c left. all c (fewer c left)));
+    followed = λ archive all since past start c at begun.
+        let master = first past start c begun in
+        let used = all.used in
+        unmoved_master disk_says past start [] depot (record { tables = depot.tables; journal = depot.journal; archive = archive }) c master
+        (record { below = λ spot bytes le has image left. (all.among image left).below spot bytes (omega (arith, le, there)) (λ other may. has other (fewer other may)); more = omega (arith, used, there) })
+        refl master.groups;
     caused = omega (arith, same);
     no_fewer = omega (arith, same);
   }
@@ -275,15 +298,15 @@ module _ {D : Type 0} (disk_says : DiskSays D) (rows : AllRows) (end : ℕ) (ima
 
 -- ---- the parts put together
 
-module _ {D : Type 0} (disk_says : DiskSays D) (rows : AllRows) (end : ℕ) (images : Files → Type 0) (begins : ℕ → List Deed → Type 0) (faults_then contents_then : ℕ)
-    (order : List Taken) (failed : Bool) (tables : Tables) (journal : Journal D) (archive : Archive D) (was : HasRunOrder disk_says rows end images begins faults_then order tables journal)
+module _ {D : Type 0} (disk_says : DiskSays D) (rows : AllRows) (end : ℕ) (images : Files → Type 0) (begins : ℕ → List Deed → Type 0) (masters : Masters) (faults_then contents_then : ℕ)
+    (order : List Taken) (failed : Bool) (tables : Tables) (journal : Journal D) (archive : Archive D) (was : HasRunOrder disk_says rows end images begins masters faults_then order tables journal)
     (kept : IsArchiveAfter disk_says end images begins contents_then (record { list = order; failed = failed }) archive) where
   pub closed_can : CanTake disk_says (record { tables = tables; journal = journal; archive = archive })
   closed_can = record {
     was = was.can.0;
     doubt = was.can.1.0;
     stands = was.can.1.1;
-    end = stored_there disk_says rows end images begins faults_then order tables journal was ∙ sym kept.used;
+    end = stored_there disk_says rows end images begins masters faults_then order tables journal was ∙ sym kept.used;
     room = kept.room;
   }
 
@@ -291,4 +314,4 @@ module _ {D : Type 0} (disk_says : DiskSays D) (rows : AllRows) (end : ℕ) (ima
   closed_stored = has_all disk_says end images begins contents_then (record { list = order; failed = failed }) archive kept
 
   pub closed_run : (since : ℕ) (start : List Deed) → begins since start → HasRun disk_says (record { tables = tables; journal = journal; archive = archive }) since start (map placed_of order)
-  closed_run = depot_ran disk_says rows end images begins faults_then order tables journal was archive closed_stored
+  closed_run = depot_ran disk_says rows end images begins masters faults_then order tables journal was archive closed_stored

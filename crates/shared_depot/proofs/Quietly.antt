@@ -1,13 +1,18 @@
--- Places at which nothing is written leave the rows, the contents and the run of tables and a journal.
-use Rattle.std.proofs.Common.{◌≡◌, ℕ, Bool, true, false, cond, List, [], ◌∷◌, ◌++◌, map, refl, sym, ap, subst, ◌∙◌, append_assoc, append-nil, arith}
+-- Places at which nothing is written leave the rows, the contents, the groups and the run of tables and a journal.
+use Rattle.std.proofs.Common.{◌≡◌, ℕ, Bool, true, false, cond, List, [], ◌∷◌, ◌++◌, inl, inr, map, refl, sym, ap, subst, ◌∙◌, append_assoc, append-nil, arith}
 use Rattle.std.specs.Prelude.{if◌then◌else◌}
 use Rattle.std.specs.List.{AllByRecursion}
+use Rattle.std.proofs.lemmas.Bool.{true≢false}
 use mathlib.Core.List.{map-append}
 use Rattle.depot_rows.specs.db_records.Table.{table_number}
 use Rattle.depot_rows.specs.db_records.declared.change.Change.{Change}
 use Rattle.depot_rows.specs.db_records.declared.table.TableId.{TableId}
 use Rattle.depot_rows.specs.depot_model.Deeds.{Deed}
-use Rattle.depot_rows.specs.depot_model.Places.{Placed}
+use Rattle.depot_rows.specs.depot_model.Commands.{step}
+use Rattle.depot_rows.specs.depot_model.Places.{Placed, done_at, taken}
+use Rattle.depot_rows.specs.depot_model.Step.{after}
+use Rattle.depot_rows.specs.Standing.{Stand}
+use Rattle.depot_runs.specs.Kept.{IsChange, NoChange}
 use Rattle.depot_rows.specs.table_changes.Changed.{AllRows, changed_by, rows_of}
 use Rattle.depot_rows.specs.table_store.declared.tables.Tables.{Tables}
 use Rattle.disk_journal.specs.declared.journal.Journal.{Journal}
@@ -20,10 +25,15 @@ use Rattle.order_words.specs.Lanes.{has_lane}
 use Rattle.outside_api.specs.Disk.{Files}
 use Rattle.outside_api.specs.Says.{DiskSays}
 use Rattle.depot_commit.specs.Committing.{AreChangesOf}
+use Rattle.depot_commit.specs.Growing.{Chronicle, grown}
+use Rattle.depot_commit.specs.Opening.{opens_generation}
 use Rattle.depot_commit.specs.Placing.{HasRunBeside, LeavesRows}
+use Rattle.depot_commit.proofs.Growing.{grown_none}
+use Rattle.depot_commit.proofs.Places.{no_difference, same_stand}
 use Rattle.depot_commit.proofs.Steps.{over_faulted, over_idle}
+use Rattle.replica_turns.specs.Master.{AreChanges}
 use Rattle.session_loop.specs.Taking.{placed_by}
-use Rattle.shared_depot.specs.Common.{AreQuiet, GoesOnQuietly, IsQuiet}
+use Rattle.shared_depot.specs.Common.{AreQuiet, GoesOnQuietly, IsQuiet, chronicle_after}
 use Rattle.shared_depot.specs.Stored.{is_unwritten, stores_of, unwritten_count}
 use Rattle.shared_depot.proofs.Stored.{count_append, count_first, stores_append}
 
@@ -31,6 +41,23 @@ use Rattle.shared_depot.proofs.Stored.{count_append, count_first, stores_append}
 
 pub rows_append : (rows : AllRows) (xs ys : List Taken) → rows_after rows (xs ++ ys) ≡ rows_after (rows_after rows xs) ys
 rows_append rows xs ys = λ k table. after_append table xs ys rows k table
+
+pub chronicle_append : (c : Chronicle) (xs ys : List Taken) → chronicle_after c (xs ++ ys) ≡ chronicle_after (chronicle_after c xs) ys
+chronicle_append c [] ys = refl
+chronicle_append c (x ∷ xs) ys = chronicle_append (grown (opens_generation x.request) x.fault x.changes c) xs ys
+
+-- ---- places of which none is a change
+
+all_idle : (n : ℕ) (d : List Deed) (places : List Placed) → n ≡ 0 → NoChange d places → AreChanges n d places
+all_idle n d [] same none = same
+all_idle n d (p ∷ places) same none = inl (none.0, all_idle n (after d (done_at step d p)) places same none.1)
+
+changes_behind : (n : ℕ) (d : List Deed) (places more : List Placed) → AreChanges n d places → NoChange (taken step d places) more → AreChanges n d (places ++ more)
+changes_behind n d [] more are none = all_idle n d more are none
+changes_behind n d (p ∷ places) more (inl are) none = inl (are.0, changes_behind n (after d (done_at step d p)) places more are.1 none)
+changes_behind n d (p ∷ places) more (inr are) none = inr (are.0, are.1, are.2, changes_behind are.1 (after d (done_at step d p)) places more are.3 none)
+
+-- ---- quiet places
 
 module _ (begins : ℕ → List Deed → Type 0) where
   -- those behind an order are quiet where all are
@@ -107,6 +134,26 @@ module _ (begins : ℕ → List Deed → Type 0) where
         let here = ap (λ (b : Bool). let n : ℕ = cond b 1 0 in n) all.0.written in
         omega (arith, rest, first, here)
 
+    chronicle_stays : (c : Chronicle) (order : List Taken) → AllQuiet order → chronicle_after c order ≡ c
+    chronicle_stays c [] all = refl
+    chronicle_stays c (entry ∷ order) all =
+        ap (λ (now : Chronicle). chronicle_after now order) (sym (grown_none (opens_generation entry.request) entry.fault entry.changes c all.0.unchanged)) ∙ chronicle_stays c order all.1
+
+    -- none of them is a change
+    abbrev NoneIs : List Deed → Taken → List Taken → Bool → Type 0
+    NoneIs d entry order fault = (IsChange d (placed_by entry.request fault) → ⊥) × NoChange (after d (done_at step d (placed_by entry.request fault))) (map placed_of order)
+
+    none_changes : (since : ℕ) (start : List Deed) → begins since start → (d : List Deed) → Stand rows d → (order : List Taken) → AllQuiet order → NoChange d (map placed_of order)
+    none_changes since start at d stand [] all = tt
+    none_changes since start at d stand (entry ∷ order) all = go entry.fault refl (λ next there. none_changes since start at next there order all.1)
+      where
+        go : (fault : Bool) → entry.fault ≡ fault → ((next : List Deed) → Stand rows next → NoChange next (map placed_of order)) → NoneIs d entry order entry.fault
+        go true failed later = subst (NoneIs d entry order) (sym failed) (λ change. true≢false change.0, later d stand)
+        go false fine later =
+            let next : List Deed = after d (step d entry.request).deeds in
+            let there : Stand rows next = all.0.leaves since start at fine d stand in
+            subst (NoneIs d entry order) (sym fine) (λ change. no_difference d next (same_stand rows d next stand there) change.1, later next there)
+
     -- tables and a journal that have run some places have run these behind them
     module _ {D : Type 0} (disk_says : DiskSays D) (images : Files → Type 0) (from : ℕ) (stores : List (List ℕ))
         (tables : Tables) (journal : Journal D) (same : rows_of tables ≡ rows) (since : ℕ) (start : List Deed) (at : begins since start) where
@@ -151,6 +198,13 @@ module _ {D : Type 0} (disk_says : DiskSays D) (rows : AllRows) (end : ℕ) (ima
             ∙ (stores_append known behind
             ∙ (ap (λ (l : List (List ℕ)). stores_of known ++ l) (none_stored begins (rows_after rows known) (end_after end known) behind here)
             ∙ append-nil (stores_of known)));
+        chronicle = λ c.
+            ap (chronicle_after c) on.parts
+            ∙ (chronicle_append c known behind ∙ chronicle_stays begins (rows_after rows known) (end_after end known) (chronicle_after c known) behind here);
+        idle = λ n since start at stand are.
+            subst (AreChanges n start) (sym (ap (map placed_of) on.parts ∙ map-append placed_of known behind))
+            (changes_behind n start (map placed_of known) (map placed_of behind) are
+            (none_changes begins (rows_after rows known) (end_after end known) since start at (taken step start (map placed_of known)) stand behind here));
         unwritten =
             let parts = ap unwritten_count on.parts ∙ count_append is_unwritten known behind in
             let none = none_unwritten begins (rows_after rows known) (end_after end known) behind here in

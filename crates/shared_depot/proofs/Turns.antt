@@ -14,6 +14,7 @@ use Rattle.replica_turns.specs.declared.party.Answered.{Answered}
 use Rattle.replica_turns.specs.declared.party.ReplicaParty.{ReplicaParty}
 use Rattle.depot_commit.specs.command_core.Outcomes.{IsFormedBy}
 use Rattle.serial_depot.specs.declared.depot.SerialDepot.{SerialDepot}
+use Rattle.shared_depot.specs.Common.{Masters}
 use Rattle.shared_depot.specs.Replicas.{IsReplicaAnswer, IsReplicaTurn, IsToldOn}
 
 module _ {D : Type 0} (disk_says : DiskSays D) (depot : SerialDepot D) (old new : ReplicaParty) (request : Request) where
@@ -52,15 +53,15 @@ module _ (before mid after : ReplicaParty) (request : Request) (taken : before.l
   left_so : before.left.items ≡ after.left.items ++ request ∷ []
   left_so = taken ∙ ap (λ (rest : Vec Request Global). rest.items ++ request ∷ []) (sym left)
 
-  module _ {D E : Type 0} (disk_says : DiskSays D) (end : ℕ) (images : Files → Type 0) (begins : ℕ → List Deed → Type 0) (old new : PartyKnown) (old_marks new_marks : PassKnown)
+  module _ {D E : Type 0} (disk_says : DiskSays D) (end : ℕ) (images : Files → Type 0) (begins : ℕ → List Deed → Type 0) (masters : Masters) (old new : PartyKnown) (old_marks new_marks : PassKnown)
       (same : mid.replica ≡ before.replica) where
-    pub turn_so : (result : Result Answered E) → IsReplicaAnswer disk_says end images begins old new old_marks new_marks request mid after result
-        → IsReplicaTurn disk_says end images begins old new old_marks new_marks before after result
+    pub turn_so : (result : Result Answered E) → IsReplicaAnswer disk_says end images begins masters old new old_marks new_marks request mid after result
+        → IsReplicaTurn disk_says end images begins masters old new old_marks new_marks before after result
     turn_so result is = record {
       turned = λ archive all.
           let over = is.answered archive all in
-          let answered = λ (formed : IsFormedBy request). subst (λ first. IsAnswered (λ been. been ≡ over.0) disk_says first after.replica request (reply_text result request.number) (is_lost result)) same (over.1.1 formed) in
-          (over.0, (over.1.0, record { request = request; left = left_so; answered = answered }));
+          let answered = λ (formed : IsFormedBy request). subst (λ first. IsAnswered (λ been. been ≡ over.0) disk_says first after.replica request (reply_text result request.number) (is_lost result)) same (over.1.2 formed) in
+          (over.0, (over.1.0, over.1.1, record { request = request; left = left_so; answered = answered }));
       heard = is.heard;
     }
 

@@ -16,10 +16,17 @@ use Rattle.outside_api.specs.Disk.{Files, NoMore}
 use Rattle.outside_api.specs.Says.{DiskSays}
 use Rattle.party_marks.specs.Marks.{is_empty}
 use Rattle.party_marks.specs.declared.mark.Mark.{Mark}
+use Rattle.depot_commit.specs.Growing.{Chronicle, grown}
+use Rattle.depot_commit.specs.Opening.{opens_generation}
 use Rattle.depot_commit.specs.Placing.{HasRunBeside, LeavesRows}
 use Rattle.depot_commit.specs.Running.{CanCommit}
 use Rattle.depot_commit.specs.Storing.{AllReach}
 use Rattle.depot_rows.specs.table_changes.Changed.{AllRows, changed_by, rows_of}
+use Rattle.depot_rows.specs.depot_model.Commands.{step}
+use Rattle.depot_rows.specs.depot_model.Places.{taken}
+use Rattle.depot_rows.specs.Standing.{Stand}
+use Rattle.replica_turns.specs.Master.{AreChanges, IsMaster, Past}
+use Rattle.serial_depot.specs.declared.depot.SerialDepot.{SerialDepot}
 use Rattle.shared_depot.specs.Stored.{ArchiveKnown, images_after, is_lost, is_unwritten, lost_in, stored_end, stores_of, unwritten_count}
 
 module _ {D : Type 0} (disk_says : DiskSays D) where
@@ -29,16 +36,34 @@ module _ {D : Type 0} (disk_says : DiskSays D) where
     pub among : NoMore (images_after images end order) (disk_says.may_leave (archive_disk_of archive))
     pub tells : (since : ℕ) (start : List Deed) → begins since start → (files : Files) × disk_says.seen (archive_disk_of archive) files
 
+-- ---- what was written
+
+-- the groups of a journal after the places of an order, from those that it had before them
+abbrev pub chronicle_after : Chronicle → List Taken → Chronicle
+chronicle_after c [] = c
+chronicle_after c (entry ∷ order) = chronicle_after (grown (opens_generation entry.request) entry.fault entry.changes c) order
+
+-- from which depots that replicas follow a run may have begun: what was done before it, the depot, and the groups of its journal
+abbrev pub Masters : Type 1
+Masters = Past → List Deed → Chronicle → Type 0
+
 module _ {D : Type 0} (disk_says : DiskSays D) where
+  -- From each such depot on, replicas follow this one after the places of an order: each image of the journal's disk has the groups that were written at
+  -- these places, behind those before them.
+  abbrev pub IsFollowed : (ℕ → List Deed → Type 0) → Masters → List Taken → SerialDepot D → Type 0
+  IsFollowed begins masters order depot =
+      (since : ℕ) (past : Past) (start : List Deed) (c : Chronicle) → begins since start → masters past start c → IsMaster disk_says past start (map placed_of order) depot (chronicle_after c order)
+
   -- Tables and a journal have run the places of an order: the rows and the end of the archive are those after it, from each moment and depot from which
-  -- they began it they have taken the commands of these places, beside an archive in which the contents of these places were stored, and no more of them
-  -- are faults of the journal's disk than its count rose.
-  pub record HasRunOrder (rows : AllRows) (end : ℕ) (images : Files → Type 0) (begins : ℕ → List Deed → Type 0) (faults_then : ℕ) (order : List Taken) (tables : Tables) (journal : Journal D) : Type 0 where
+  -- they began it they have taken the commands of these places, beside an archive in which the contents of these places were stored, replicas follow them
+  -- beside each such archive, and no more of the places are faults of the journal's disk than its count rose.
+  pub record HasRunOrder (rows : AllRows) (end : ℕ) (images : Files → Type 0) (begins : ℕ → List Deed → Type 0) (masters : Masters) (faults_then : ℕ) (order : List Taken) (tables : Tables) (journal : Journal D) : Type 0 where
     pub can : CanCommit disk_says journal
     pub rows_are : (table : TableId) → rows_of tables table ≡ rows_after rows order table
     pub end_is : tables.archive_end ≡ end_after end order
     pub ends : end_after end order ≡ stored_end end order
     pub ran : (since : ℕ) (start : List Deed) → begins since start → HasRunBeside disk_says images end (stores_of order) tables journal since start (map placed_of order)
+    pub followed : (archive : Archive D) → HasAllStored disk_says end images begins order archive → IsFollowed begins masters order (record { tables = tables; journal = journal; archive = archive })
     pub caused : counted (unwritten_count order) faults_then ≤ disk_says.faults (disk_of journal)
     pub no_fewer : faults_then ≤ disk_says.faults (disk_of journal)
 
@@ -53,8 +78,8 @@ module _ {D : Type 0} (disk_says : DiskSays D) where
     pub no_fewer : faults_then ≤ disk_says.faults (archive_disk_of archive)
 
   -- some tables and a journal have run the places of an order
-  abbrev pub WasRun : AllRows → ℕ → (Files → Type 0) → (ℕ → List Deed → Type 0) → ℕ → List Taken → Type 0
-  WasRun rows end images begins faults_then order = (tables : Tables) × ((journal : Journal D) × HasRunOrder rows end images begins faults_then order tables journal)
+  abbrev pub WasRun : AllRows → ℕ → (Files → Type 0) → (ℕ → List Deed → Type 0) → Masters → ℕ → List Taken → Type 0
+  WasRun rows end images begins masters faults_then order = (tables : Tables) × ((journal : Journal D) × HasRunOrder rows end images begins masters faults_then order tables journal)
 
 -- ---- places at which nothing is written
 
@@ -82,10 +107,10 @@ pub record IsLostPlace (before after : List Taken) : Type 0 where
 
 module _ {D : Type 0} (disk_says : DiskSays D) where
   -- What is kept of an order: tables show the rows after it, the places that don't touch the journal's lane are quiet, and it was run.
-  pub record KeepsOrder (rows : AllRows) (end : ℕ) (images : Files → Type 0) (begins : ℕ → List Deed → Type 0) (faults_then : ℕ) (order : List Taken) (tables : Tables) : Type 0 where
+  pub record KeepsOrder (rows : AllRows) (end : ℕ) (images : Files → Type 0) (begins : ℕ → List Deed → Type 0) (masters : Masters) (faults_then : ℕ) (order : List Taken) (tables : Tables) : Type 0 where
     pub shown : (table : TableId) → rows_of tables table ≡ rows_after rows order table
     pub quiet : AreQuiet begins rows end order
-    pub run : WasRun disk_says rows end images begins faults_then order
+    pub run : WasRun disk_says rows end images begins masters faults_then order
 
 -- Behind an order and a place at which something was to be written the rows are those after its changes, and so much of the archive is used.
 pub record IsEntered (rows : AllRows) (end : ℕ) (order : List Taken) (entry : Taken) (used : ℕ) : Type 0 where
@@ -93,14 +118,17 @@ pub record IsEntered (rows : AllRows) (end : ℕ) (order : List Taken) (entry : 
   pub rows_are : (table : TableId) → rows_after rows (order ++ entry ∷ []) table ≡ changed_by (rows_after rows order) entry.changes table
   pub end_is : end_after end (order ++ entry ∷ []) ≡ used
 
--- Behind a beginning of an order nothing was written: the rows, the contents and the faults of the journal's disk are the same, and tables and a journal
--- that have run the beginning have run the order.
+-- Behind a beginning of an order nothing was written: the rows, the contents, the groups and the faults of the journal's disk are the same, as many of the
+-- places are changes, and tables and a journal that have run the beginning have run the order.
 module _ {D : Type 0} (disk_says : DiskSays D) where
   pub record GoesOnQuietly (rows : AllRows) (end : ℕ) (images : Files → Type 0) (begins : ℕ → List Deed → Type 0) (known order : List Taken) : Type 0 where
     pub begins_it : IsPrefix known order
     pub rows_are : rows_after rows order ≡ rows_after rows known
     pub end_is : end_after end order ≡ end_after end known
     pub stores : stores_of order ≡ stores_of known
+    pub chronicle : (c : Chronicle) → chronicle_after c order ≡ chronicle_after c known
+    pub idle : (n since : ℕ) (start : List Deed) → begins since start → Stand (rows_after rows known) (taken step start (map placed_of known)) → AreChanges n start (map placed_of known)
+        → AreChanges n start (map placed_of order)
     pub unwritten : unwritten_count order ≡ unwritten_count known
     pub runs : (tables : Tables) (journal : Journal D) → ((table : TableId) → rows_of tables table ≡ rows_after rows known table) → (since : ℕ) (start : List Deed) → begins since start
         → HasRunBeside disk_says images end (stores_of known) tables journal since start (map placed_of known)

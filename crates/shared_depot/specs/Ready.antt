@@ -1,5 +1,5 @@
 -- What a command has whose place is at hand. This project's own choice.
-use Rattle.std.specs.Prelude.{◌≡◌, ℕ, true, false, List, [], filter, map, Bool, IfSome, IsTrue, None, Option}
+use Rattle.std.specs.Prelude.{◌≡◌, ℕ, true, false, List, [], filter, Bool, IfSome, IsTrue, None, Option}
 use Rattle.std.specs.Sync.Mutex.{mutex_guard_value}
 use Rattle.std.specs.declared.sync.MutexGuard.{MutexGuard}
 use Rattle.command_needs.specs.declared.needs.Needs.{Needs}

@@ -20,7 +20,7 @@ use Rattle.replica_turns.specs.declared.party.ReplicaParty.{ReplicaParty}
 use Rattle.serial_depot.specs.Running.{HasRun}
 use Rattle.depot_commit.specs.command_core.Outcomes.{IsFormedBy}
 use Rattle.serial_depot.specs.declared.depot.SerialDepot.{SerialDepot}
-use Rattle.shared_depot.specs.Common.{HasAllStored}
+use Rattle.shared_depot.specs.Common.{HasAllStored, IsFollowed, Masters}
 
 -- an answer is told on as it is; or, where it tells that a disk failed, maybe as want of memory
 abbrev pub IsToldOn : {E : Type 0} → Result Answered E → Result Answered E → Type 0
@@ -34,15 +34,15 @@ IsMarkedBy old new answer = has_marks new.party new.list ≡ (has_marks old.part
 abbrev pub AreMarkedBy : {E : Type 0} → List Mark → List Mark → Result Answered E → Type 0
 AreMarkedBy old new answer = is_empty new ≡ false → (is_empty old ≡ false) ⊎ (is_lost answer ≡ true)
 
-module _ {D : Type 0} (disk_says : DiskSays D) (end : ℕ) (images : Files → Type 0) (begins : ℕ → List Deed → Type 0) (known : List Taken) where
-  -- Over a depot in files that had run all places that the party knows now, from each moment and depot from which it began. Where it isn't said which archive
-  -- that depot has, since none was asked, it is any in which the contents of these places were stored.
+module _ {D : Type 0} (disk_says : DiskSays D) (end : ℕ) (images : Files → Type 0) (begins : ℕ → List Deed → Type 0) (masters : Masters) (known : List Taken) where
+  -- Over a depot in files that had run all places that the party knows now, from each moment and depot from which it began, and that replicas follow. Where it
+  -- isn't said which archive that depot has, since none was asked, it is any in which the contents of these places were stored.
   abbrev pub OverDepot : (SerialDepot D → Type 0) → Type 0
   OverDepot Answers =
       (archive : Archive D) → HasAllStored disk_says end images begins known archive
-      → (depot : SerialDepot D) × (((since : ℕ) (start : List Deed) → begins since start → HasRun disk_says depot since start (map placed_of known)) × Answers depot)
+      → (depot : SerialDepot D) × (((since : ℕ) (start : List Deed) → begins since start → HasRun disk_says depot since start (map placed_of known)) × IsFollowed disk_says begins masters known depot × Answers depot)
 
-module _ {D E : Type 0} (disk_says : DiskSays D) (end : ℕ) (images : Files → Type 0) (begins : ℕ → List Deed → Type 0) (old new : PartyKnown) (old_marks new_marks : PassKnown) where
+module _ {D E : Type 0} (disk_says : DiskSays D) (end : ℕ) (images : Files → Type 0) (begins : ℕ → List Deed → Type 0) (masters : Masters) (old new : PartyKnown) (old_marks new_marks : PassKnown) where
   -- The party has learnt places, which are others'. It has marks now where it had, or where the answer tells that a disk failed.
   pub record HasHeard (result : Result Answered E) : Type 0 where
     pub party : new.party ≡ old.party
@@ -53,10 +53,10 @@ module _ {D E : Type 0} (disk_says : DiskSays D) (end : ℕ) (images : Files →
 
   -- A command of a replica was answered over such a depot.
   pub record IsReplicaAnswer (request : Request) (old_replica new_replica : ReplicaParty) (result : Result Answered E) : Type 0 where
-    pub answered : OverDepot disk_says end images begins new.list (λ depot. IsFormedBy request → IsAnswered (λ been. been ≡ depot) disk_says old_replica.replica new_replica.replica request (reply_text result request.number) (is_lost result))
+    pub answered : OverDepot disk_says end images begins masters new.list (λ depot. IsFormedBy request → IsAnswered (λ been. been ≡ depot) disk_says old_replica.replica new_replica.replica request (reply_text result request.number) (is_lost result))
     pub heard : HasHeard result
 
   -- A replica's next command was.
   pub record IsReplicaTurn (old_replica new_replica : ReplicaParty) (result : Result Answered E) : Type 0 where
-    pub turned : OverDepot disk_says end images begins new.list (λ depot. IsTurned disk_says depot old_replica new_replica result)
+    pub turned : OverDepot disk_says end images begins masters new.list (λ depot. IsTurned disk_says depot old_replica new_replica result)
     pub heard : HasHeard result

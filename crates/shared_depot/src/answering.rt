@@ -75,7 +75,7 @@ impl<D: Disk, N: Naming + Imaging + Serving> CommonDepot<D, N> {
         request: &Request,
     ) -> Result<Answered, AllocError>
         requires { (reads_archive request.now ≡ false) × (pulls request.now.command ≡ false) }
-        ensures answer { (marks : PassKnown) → IsReplicaAnswer D.says N.end N.images N.begins pass.old pass.new marks marks request.now replica.now replica.now result }
+        ensures answer { (marks : PassKnown) → IsReplicaAnswer D.says N.end N.images N.begins N.masters pass.old pass.new marks marks request.now replica.now replica.now result }
     {
         let answer = replica.answer_alone::<D>(alloc, request);
         self.order.tell(words, pass);
@@ -100,7 +100,7 @@ impl<D: Disk, N: Naming + Marking + Imaging + Serving> WrittenJournal<D, N> {
         request: &Request,
     ) -> Result<Answered, AllocError>
         requires { reads_archive request.now ≡ false }
-        ensures answer { IsReplicaAnswer D.says N.end N.images N.begins pass.old pass.new marks.old marks.new request.now replica.old replica.new result }
+        ensures answer { IsReplicaAnswer D.says N.end N.images N.begins N.masters pass.old pass.new marks.old marks.new request.now replica.old replica.new result }
         ensures left { replica.new.left ≡ replica.old.left }
     {
         let answer = replica.answer_by_journal(alloc, &mut self.journal, request);
@@ -129,7 +129,7 @@ impl<D: Disk, N: Naming + Marking + Imaging + Serving> StoredArchive<D, N> {
         request: &Request,
     ) -> Result<Answered, AllocError>
         requires { reads_archive request.now ≡ true }
-        ensures answer { IsReplicaAnswer D.says N.end N.images N.begins pass.old pass.new marks.old marks.new request.now replica.now replica.now result }
+        ensures answer { IsReplicaAnswer D.says N.end N.images N.begins N.masters pass.old pass.new marks.old marks.new request.now replica.now replica.now result }
     {
         let answer = replica.answer_print(alloc, &mut self.archive, request);
         let mut guard = common.lock(rt);

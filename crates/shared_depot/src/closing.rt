@@ -53,7 +53,7 @@ impl<D: Disk, N: Naming + Marking + Imaging + Serving> Model for OpenedDepot<D, 
 
     ghost view = { λ o. record { order = o.order; marks = o.marks.list ++ o.content_marks.list } };
 
-    ghost invariant = { λ o. HasRunOrder D.says N.rows N.end N.images N.begins N.faults o.order o.tables o.journal ×
+    ghost invariant = { λ o. HasRunOrder D.says N.rows N.end N.images N.begins N.masters N.faults o.order o.tables o.journal ×
         IsArchiveAfter D.says N.end N.images N.begins N.content_faults (record { list = o.order; failed = false }) o.archive ×
         IsMarkCaused N.faults (D.says.faults (disk_of o.journal)) o.marks.list × IsMarkCaused N.content_faults (D.says.faults (archive_disk_of o.archive)) o.content_marks.list };
 }

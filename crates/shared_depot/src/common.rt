@@ -41,7 +41,7 @@ impl<D: Disk, N: Naming + Imaging + Serving> Model for CommonDepot<D, N> {
 
     ghost view = { λ c. c.order };
 
-    ghost invariant = { λ c. KeepsOrder D.says N.rows N.end N.images N.begins N.faults c.order c.tables };
+    ghost invariant = { λ c. KeepsOrder D.says N.rows N.end N.images N.begins N.masters N.faults c.order c.tables };
 }
 
 impl<D: Disk, N: Naming + Imaging + Serving> CommonDepot<D, N> {
@@ -49,7 +49,7 @@ impl<D: Disk, N: Naming + Imaging + Serving> CommonDepot<D, N> {
     pub(crate) fn new(order: PlacedOrder<N>, tables: Tables) -> CommonDepot<D, N>
         requires order { order ≡ [] }
         requires rows { (table : TableId) → rows_of tables table ≡ N.rows table }
-        requires run { WasRun D.says N.rows N.end N.images N.begins N.faults [] }
+        requires run { WasRun D.says N.rows N.end N.images N.begins N.masters N.faults [] }
         ensures { result ≡ [] }
     {
         CommonDepot {

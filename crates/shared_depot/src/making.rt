@@ -2,11 +2,13 @@
 ghost use Rattle.std.specs.Prelude.{◌≡◌, ◌≤◌, ◌-◌, ◌+◌, ◌++◌, ◌↔◌, ℕ, List, [], length, IfOk, OnOk};
 ghost use Rattle.std.specs.Result.{IfErr};
 ghost use Rattle.archive_file.specs.Archive.{disk_of as archive_disk_of};
+ghost use Rattle.depot_commit.specs.Growing.{Chronicle};
 ghost use Rattle.depot_rows.specs.db_records.declared.table.TableId.{TableId};
 ghost use Rattle.depot_rows.specs.depot_model.Deeds.{Deed};
 ghost use Rattle.disk_journal.specs.Stands.{disk_of};
 ghost use Rattle.outside_api.specs.Disk.{Files};
 ghost use Rattle.order_words.specs.Seats.{fresh_lanes, fresh_order, lane_count};
+ghost use Rattle.replica_turns.specs.Master.{IsMaster, Past};
 ghost use Rattle.serial_depot.specs.Running.{CanTake, HasRun};
 ghost use Rattle.depot_rows.specs.table_changes.Changed.{rows_of};
 ghost use Rattle.locked_tables.specs.Known.{all_places};
@@ -267,6 +269,7 @@ impl<D: Disk, N: Naming + Marking + Imaging + Serving> SharedDepot<D, N> {
         requires images { (files : Files) → N.images files ↔ D.says.may_leave (archive_disk_of depot.archive) files }
         requires can { CanTake D.says depot }
         requires begins { (since : ℕ) (start : List Deed) → N.begins since start → HasRun D.says depot since start [] }
+        requires masters { (past : Past) (start : List Deed) (c : Chronicle) → N.masters past start c → IsMaster D.says past start [] depot c }
         requires faults { N.faults ≡ D.says.faults (disk_of depot.journal) }
         requires content_faults { N.content_faults ≡ D.says.faults (archive_disk_of depot.archive) }
         ensures passes { IfOk result (λ shared. shared.passes.items ≡ fresh_passes (length places.now)) }

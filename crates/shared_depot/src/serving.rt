@@ -6,10 +6,15 @@ pub trait Serving {
     ghost use Rattle.std.specs.Prelude.{ℕ, List};
     ghost use Rattle.depot_rows.specs.depot_model.Deeds.{Deed};
     ghost use Rattle.order_words.specs.Seats.{Run};
+    ghost use Rattle.shared_depot.specs.Common.{Masters};
 
     /// From which moments of the journal's disk, and from which depots, the depot in files had run
     /// no place then.
     ghost begins: { ℕ → List Deed → Type 0 };
+
+    /// From which depots that replicas follow it had: what had been done before, the depot, and the groups
+    /// of its journal.
+    ghost masters: { Masters };
 
     /// How often the journal's disk had failed then.
     ghost faults: { ℕ };
@@ -27,6 +32,8 @@ impl Serving for Brand {
     ghost use Rattle.order_words.specs.Seats.{no_run};
 
     ghost begins = { λ since start. Unit {0} };
+
+    ghost masters = { λ past start c. Unit {0} };
 
     ghost faults = { 0 };
 

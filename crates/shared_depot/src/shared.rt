@@ -85,7 +85,7 @@ impl<D: Disk, N: Naming + Marking + Imaging + Serving> SharedDepot<D, N> {
         replica: &mut ReplicaParty,
     ) -> Result<Answered, AllocError>
         requires { 0 < length replica.old.left.items }
-        ensures turn { IsReplicaTurn D.says N.end N.images N.begins pass.old pass.new marks.old marks.new replica.old replica.new result }
+        ensures turn { IsReplicaTurn D.says N.end N.images N.begins N.masters pass.old pass.new marks.old marks.new replica.old replica.new result }
         ensures left { length replica.old.left.items ≡ length replica.new.left.items + 1 }
     {
         let request = replica.take_next().unwrap();

@@ -39,7 +39,7 @@ impl<D: Disk, N: Naming + Marking + Imaging + Serving> Model for WrittenJournal<
 
     ghost view = { λ w. w.lane };
 
-    ghost invariant = { λ w. HasRunOrder D.says N.rows N.end N.images N.begins N.faults w.lane w.tables w.journal ×
+    ghost invariant = { λ w. HasRunOrder D.says N.rows N.end N.images N.begins N.masters N.faults w.lane w.tables w.journal ×
         IsMarkCaused N.faults (D.says.faults (disk_of w.journal)) w.marks.list };
 }
 
@@ -60,7 +60,7 @@ impl<D: Disk, N: Naming + Marking + Imaging + Serving> WrittenJournal<D, N> {
     ) -> WrittenJournal<D, N>
         requires lane { lane ≡ [] }
         requires marks { marks.list ≡ [] }
-        requires run { HasRunOrder D.says N.rows N.end N.images N.begins N.faults [] tables journal }
+        requires run { HasRunOrder D.says N.rows N.end N.images N.begins N.masters N.faults [] tables journal }
         ensures { result ≡ [] }
     {
         WrittenJournal {

@@ -2,7 +2,6 @@ use Rattle.std.proofs.Common.{ℕ, List, arith}
 use Rattle.std.proofs.lemmas.List.{length-map}
 use Rattle.std.specs.Borrow.{Bor}
 use Rattle.p4_server.proofs.Readings.{are_apart}
-use Rattle.p4_server.specs.Serve.{NotSaid}
 use Rattle.p4_server.proofs.Ran.{ends_count, ends_of, run_from, runs_count, sinks_count}
 use Rattle.p4_server.proofs.serving.serve_parties.Goals as goal
 
@@ -55,7 +54,8 @@ returns-in-Ok-run_on_threads-clause-run g c = λ since start ran.
     let formed = c.in-Ok-read_scripts.ensures.formed.sessions_formed in
     let replicas_formed = c.in-Ok-read_scripts.ensures.formed.replicas_formed in
     let run = c.in-Ok-run_on_threads.ensures in
-    rw c.from_vec.ensures (run_from _ _ _ _ _ _ _ _ _ _ _ _ _ c.in-Ok.ensures.came c.in-Ok-read_scripts.ensures.read run.ends _ _ since start _ _ (run.served since start formed ran) (run.replicas since start formed replicas_formed ran) NotSaid (λ past said. absurd said) _ _
+    rw c.from_vec.ensures (run_from _ _ _ _ _ _ _ _ _ _ _ _ _ c.in-Ok.ensures.came c.in-Ok-read_scripts.ensures.read run.ends _ _ since start _ _ (run.served since start formed ran) (run.replicas since start formed replicas_formed ran) _
+    (λ past began. run.told past since start began.0 formed replicas_formed ran began.1) _ _
     (run.ran since start formed ran) tt)
 
 pub returns-in-Ok-run_on_threads-clause-faults : goal.returns-in-Ok-run_on_threads-clause-faults

@@ -12,7 +12,7 @@ loop-number-init g c =
     record {
       total = total;
       left = omega (arith, total);
-      answered = answered_none D.says g.N.Naming.end g.N.Imaging.images g.N.Serving.begins g.K.Sink.says (g.C.Clock.says.may_give c.args.clock.now) c.args.pass.now.party c.args.replica c.args.sink.now
+      answered = answered_none D.says g.N.Naming.end g.N.Imaging.images g.N.Serving.begins g.N.Serving.masters g.K.Sink.says (g.C.Clock.says.may_give c.args.clock.now) c.args.pass.now.party c.args.replica c.args.sink.now
           c.args.pass.now c.args.marks.now refl c.requires.fresh c.requires.unmarked;
     }
 
@@ -23,14 +23,14 @@ loop-number-preserved g c =
     let was = at.invariant in
     let next = c.answer_command.ensures in
     let new = c.answer_command.new in
-    let Step : Bool → Type 0 = λ failed. IsStep D.says g.N.Naming.end g.N.Imaging.images g.N.Serving.begins g.K.Sink.says (at.number + 1) at.pass new.pass at.marks new.marks at.replica new.replica at.sink new.sink failed in
+    let Step : Bool → Type 0 = λ failed. IsStep D.says g.N.Naming.end g.N.Imaging.images g.N.Serving.begins g.N.Serving.masters g.K.Sink.says (at.number + 1) at.pass new.pass at.marks new.marks at.replica new.replica at.sink new.sink failed in
     let all = was.left in
     let fewer = next.left in
     record {
       total = was.total;
       left = omega (arith, all, fewer);
-      answered = answered_more D.says g.N.Naming.end g.N.Imaging.images g.N.Serving.begins g.K.Sink.says (g.C.Clock.says.may_give c.args.clock.now) c.args.pass.now.party c.args.replica c.args.sink.now
-          at.number false at.pass new.pass at.marks new.marks at.replica new.replica at.sink new.sink was.answered (subst Step c.if-answer_command.false next.step);
+      answered = answered_more D.says g.N.Naming.end g.N.Imaging.images g.N.Serving.begins g.N.Serving.masters g.K.Sink.says (g.C.Clock.says.may_give c.args.clock.now) c.args.pass.now.party c.args.replica c.args.sink.now
+          g.met.D.Disk.reads_an_image at.number false at.pass new.pass at.marks new.marks at.replica new.replica at.sink new.sink was.answered (subst Step c.if-answer_command.false next.step);
     }
 
 pub returns-then-answer_command-clause-served : goal.returns-then-answer_command-clause-served
@@ -44,13 +44,13 @@ returns-then-answer_command-clause-served g c =
     let begins = g.N.Serving.begins in
     let may_give = g.C.Clock.says.may_give c.args.clock.now in
     let party = c.args.pass.now.party in
-    let Step : Bool → Type 0 = λ failed. IsStep D.says end images begins g.K.Sink.says (at.number + 1) at.pass new.pass at.marks new.marks at.replica new.replica at.sink new.sink failed in
+    let Step : Bool → Type 0 = λ failed. IsStep D.says end images begins g.N.Serving.masters g.K.Sink.says (at.number + 1) at.pass new.pass at.marks new.marks at.replica new.replica at.sink new.sink failed in
     let step : Step true = subst Step c.if-answer_command.true c.answer_command.ensures.step in
     let total = was.total in
     let test = c.loop-number-test.true in
-    replica_served D.says end images begins g.K.Sink.says may_give party c.args.replica c.args.sink.now (at.number + 1) true new.pass new.marks new.replica new.sink
-    (answered_more D.says end images begins g.K.Sink.says may_give party c.args.replica c.args.sink.now at.number true at.pass new.pass at.marks new.marks at.replica new.replica at.sink new.sink was.answered step)
-    (failed_end D.says end images begins g.K.Sink.says may_give party c.args.replica c.args.sink.now at.number true at.pass new.pass at.marks new.marks at.replica new.replica at.sink new.sink was.answered step
+    replica_served D.says end images begins g.N.Serving.masters g.K.Sink.says may_give party c.args.replica c.args.sink.now (at.number + 1) true new.pass new.marks new.replica new.sink
+    (answered_more D.says end images begins g.N.Serving.masters g.K.Sink.says may_give party c.args.replica c.args.sink.now g.met.D.Disk.reads_an_image at.number true at.pass new.pass at.marks new.marks at.replica new.replica at.sink new.sink was.answered step)
+    (failed_end D.says end images begins g.N.Serving.masters g.K.Sink.says may_give party c.args.replica c.args.sink.now g.met.D.Disk.reads_an_image at.number true at.pass new.pass at.marks new.marks at.replica new.replica at.sink new.sink was.answered step
     (omega (arith, test, total)) refl)
 
 pub returns-then-answer_command-clause-party : goal.returns-then-answer_command-clause-party
@@ -70,9 +70,9 @@ returns-clause-served g c =
     let total = was.total in
     let test = c.loop-number-test.false in
     let last : at.number ≡ c.left_count-total.result = omega (arith, all, test) in
-    let Served : ℕ → Type 0 = λ n. IsReplicaServed D.says end images begins g.K.Sink.says may_give party c.args.replica (record { commands = n; failed = false }) (has_marks at.marks.party at.marks.list) c.args.sink.now at.sink at.pass.list in
+    let Served : ℕ → Type 0 = λ n. IsReplicaServed D.says end images begins g.N.Serving.masters g.K.Sink.says may_give party c.args.replica (record { commands = n; failed = false }) (has_marks at.marks.party at.marks.list) c.args.sink.now at.sink at.pass.list in
     subst Served last
-    (replica_served D.says end images begins g.K.Sink.says may_give party c.args.replica c.args.sink.now at.number false at.pass at.marks at.replica at.sink was.answered
+    (replica_served D.says end images begins g.N.Serving.masters g.K.Sink.says may_give party c.args.replica c.args.sink.now at.number false at.pass at.marks at.replica at.sink was.answered
     (record { all = λ whole. omega (arith, last, total); within = omega (arith, last, total); counts = was.answered.counts; cause = λ failed. absurd cc }))
 
 pub returns-clause-party : goal.returns-clause-party

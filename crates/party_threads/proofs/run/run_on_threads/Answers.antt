@@ -8,7 +8,7 @@ use Rattle.depot_runs.specs.Run.{placed}
 use Rattle.disk_journal.specs.Stands.{disk_of}
 use Rattle.run_parties.proofs.Fresh.{few_left}
 use Rattle.run_parties.specs.Asking.{left_in}
-use Rattle.run_parties.specs.Replicas.{AreReplicasServed, OneHasRisen}
+use Rattle.run_parties.specs.Replicas.{AreReplicasServed, AreReplicasTold, OneHasRisen}
 use Rattle.run_parties.specs.Served.{AreEnds, AreServed}
 use Rattle.run_parties.specs.replica_turns.declared.party.ReplicaParty.{ReplicaParty}
 use Rattle.run_parties.specs.serial_depot.Running.{CanTake, HasRun}
@@ -16,7 +16,7 @@ use Rattle.session_loop.specs.Asking.{replica_commands}
 use Rattle.session_loop.specs.Served.{AreCaused}
 use Rattle.session_loop.specs.declared.reading.ReplicaScript.{ReplicaScript}
 use Rattle.party_threads.proofs.Asked.{all_proper, are_asked, as_many, items_of}
-use Rattle.party_threads.proofs.Finishing.{all_ends, all_replicas_served, all_served, depot_ran, fresh_count}
+use Rattle.party_threads.proofs.Finishing.{all_ends, all_replicas_served, all_replicas_told, all_served, depot_ran, fresh_count}
 use Rattle.party_threads.specs.Words.{AreFreshWords}
 use Rattle.party_threads.specs.declared.run.ThreadsRun.{ThreadsRun}
 use Rattle.party_threads.proofs.run.run_on_threads.Goals as goal
@@ -67,7 +67,7 @@ returns-in-Ok-clause-served g c = λ since start formed h.
     let Ran : Type 0 = ThreadsRun g.row.D.Denot g.row.K.Denot in
     IfOk-weaker c.run_named.result _ (λ (ran : Ran). AreServed may_give sessions scripts start ran.runs.items (map g.K.Sink.says.given c.args.sinks.items) (map g.K.Sink.says.given ran.sinks.items) ran.order.items)
     (λ ran s. all_served D.says c.args.depot.tables.archive_end (D.says.may_leave (archive_disk_of c.args.depot.archive)) g.K.Sink.says may_give sessions scripts (map items_of requests) asked c.requires.as_many_replicas c.requires.apart
-    c.in-Ok.brought.replicas.items c.in-Ok.ensures.replicas _ _ _ c.args.sinks.items c.requires.as_many ran s since start (all_proper may_give sessions requests asked formed, h))
+    c.in-Ok.brought.replicas.items c.in-Ok.ensures.replicas _ _ _ _ c.args.sinks.items c.requires.as_many ran s since start (all_proper may_give sessions requests asked formed, h))
     c.run_named.ensures.run
 
 pub returns-in-Ok-clause-replicas : goal.returns-in-Ok-clause-replicas
@@ -81,7 +81,21 @@ returns-in-Ok-clause-replicas g c = λ since start formed well_formed h.
     let Ran : Type 0 = ThreadsRun g.row.D.Denot g.row.K.Denot in
     IfOk-weaker c.run_named.result _ (λ (ran : Ran). AreReplicasServed D.says may_give sessions scripts since start ran.order.items ran.runs.items ran.lost (map g.K.Sink.says.given c.args.sinks.items) (map g.K.Sink.says.given ran.sinks.items))
     (λ ran s. all_replicas_served D.says c.args.depot.tables.archive_end (D.says.may_leave (archive_disk_of c.args.depot.archive)) g.K.Sink.says may_give sessions scripts (map items_of requests) asked c.requires.as_many_replicas c.requires.apart
-    c.in-Ok.brought.replicas.items c.in-Ok.ensures.replicas _ _ _ c.args.sinks.items c.requires.as_many ran s well_formed since start (all_proper may_give sessions requests asked formed, h))
+    c.in-Ok.brought.replicas.items c.in-Ok.ensures.replicas _ _ _ _ c.args.sinks.items c.requires.as_many ran s well_formed since start (all_proper may_give sessions requests asked formed, h))
+    c.run_named.ensures.run
+
+pub returns-in-Ok-clause-told : goal.returns-in-Ok-clause-told
+returns-in-Ok-clause-told g c = λ past since start all formed well_formed h master.
+    let D = g.D.Disk in
+    let may_give = g.C.Clock.says.may_give c.args.clock.now in
+    let sessions = c.args.sessions.items in
+    let scripts = c.args.replicas.items in
+    let requests = c.in-Ok.brought.requests.items in
+    let asked = c.in-Ok.ensures.requests in
+    let Ran : Type 0 = ThreadsRun g.row.D.Denot g.row.K.Denot in
+    IfOk-weaker c.run_named.result _ (λ (ran : Ran). AreReplicasTold past start sessions scripts may_give ran.order.items ran.runs.items (map g.K.Sink.says.given c.args.sinks.items) (map g.K.Sink.says.given ran.sinks.items))
+    (λ ran s. all_replicas_told D.says c.args.depot.tables.archive_end (D.says.may_leave (archive_disk_of c.args.depot.archive)) g.K.Sink.says may_give sessions scripts (map items_of requests) asked c.requires.as_many_replicas c.requires.apart
+    c.in-Ok.brought.replicas.items c.in-Ok.ensures.replicas _ _ _ _ c.args.sinks.items c.requires.as_many ran s well_formed since past start all (all_proper may_give sessions requests asked formed, h) master)
     c.run_named.ensures.run
 
 pub returns-in-Ok-clause-ran : goal.returns-in-Ok-clause-ran
@@ -95,7 +109,7 @@ returns-in-Ok-clause-ran g c = λ since start formed h.
     let Ran : Type 0 = ThreadsRun g.row.D.Denot g.row.K.Denot in
     IfOk-weaker c.run_named.result _ (λ (ran : Ran). HasRun D.says ran.depot since start (map (placed sessions) ran.order.items))
     (λ ran s. depot_ran D.says c.args.depot.tables.archive_end (D.says.may_leave (archive_disk_of c.args.depot.archive)) g.K.Sink.says may_give sessions scripts (map items_of requests) asked c.requires.as_many_replicas c.requires.apart
-    c.in-Ok.brought.replicas.items c.in-Ok.ensures.replicas _ _ _ c.args.sinks.items c.requires.as_many ran s since start (all_proper may_give sessions requests asked formed, h))
+    c.in-Ok.brought.replicas.items c.in-Ok.ensures.replicas _ _ _ _ c.args.sinks.items c.requires.as_many ran s since start (all_proper may_give sessions requests asked formed, h))
     c.run_named.ensures.run
 
 pub returns-in-Ok-clause-ends : goal.returns-in-Ok-clause-ends
@@ -109,7 +123,7 @@ returns-in-Ok-clause-ends g c =
     let Ran : Type 0 = ThreadsRun g.row.D.Denot g.row.K.Denot in
     IfOk-weaker c.run_named.result _ (λ (ran : Ran). AreEnds g.K.Sink.says sessions scripts ran.runs.items c.args.sinks.items ran.sinks.items)
     (λ ran s. all_ends D.says c.args.depot.tables.archive_end (D.says.may_leave (archive_disk_of c.args.depot.archive)) g.K.Sink.says may_give sessions scripts (map items_of requests) asked c.requires.as_many_replicas c.requires.apart
-    c.in-Ok.brought.replicas.items c.in-Ok.ensures.replicas _ _ _ c.args.sinks.items c.requires.as_many ran s)
+    c.in-Ok.brought.replicas.items c.in-Ok.ensures.replicas _ _ _ _ c.args.sinks.items c.requires.as_many ran s)
     c.run_named.ensures.run
 
 pub returns-in-Ok-clause-can : goal.returns-in-Ok-clause-can

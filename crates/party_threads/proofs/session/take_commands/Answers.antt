@@ -24,10 +24,10 @@ next_is requests before left rest request count s e n =
 
 pub loop-request-init : goal.loop-request-init
 loop-request-init g c =
-    let Whole : List Taken → Type 0 = HasTaken g.N.Serving.begins c.args.pass.now.party c.args.requests.items fresh (g.K.Sink.says.given c.args.sink.now) (g.K.Sink.says.given c.args.sink.now) in
+    let Whole : List Taken → Type 0 = HasTaken (g.C.Clock.says.may_give c.args.clock.now) g.N.Serving.begins c.args.pass.now.party c.args.requests.items fresh (g.K.Sink.says.given c.args.sink.now) (g.K.Sink.says.given c.args.sink.now) in
     record {
       party = refl;
-      taken = subst Whole (sym c.requires.fresh) (taken_none g.N.Serving.begins c.args.pass.now.party c.args.requests.items (g.K.Sink.says.given c.args.sink.now));
+      taken = subst Whole (sym c.requires.fresh) (taken_none (g.C.Clock.says.may_give c.args.clock.now) g.N.Serving.begins c.args.pass.now.party c.args.requests.items (g.K.Sink.says.given c.args.sink.now));
       items = search rules;
       left = search rules;
       count = refl;
@@ -59,8 +59,8 @@ loop-request-preserved g c =
     let steps : into_iter_items at.request-iterator ≡ request ∷ rest = c.in-Some.ensures.steps.0 in
     let is = next_is c.args.requests.items at.yielded (into_iter_items at.request-iterator) rest request at.commands steps was.items was.count in
     let who = c.requires.numbered at.commands request is in
-    let Answered : Bool → Type 0 = λ failed. IsAnswered g.N.Serving.begins at.pass new.pass request (g.K.Sink.says.given at.sink) (g.K.Sink.says.given new.sink) failed in
-    let one = answered g.N.Serving.begins c.args.pass.now.party c.args.requests.items at.commands request is who.0 who.1 (g.K.Sink.says.given c.args.sink.now) (g.K.Sink.says.given at.sink) (g.K.Sink.says.given new.sink) false
+    let Answered : Bool → Type 0 = λ failed. IsAnswered (g.C.Clock.says.may_give c.args.clock.now) g.N.Serving.begins at.pass new.pass request (g.K.Sink.says.given at.sink) (g.K.Sink.says.given new.sink) failed in
+    let one = answered (g.C.Clock.says.may_give c.args.clock.now) g.N.Serving.begins c.args.pass.now.party c.args.requests.items at.commands request is who.0 who.1 (g.K.Sink.says.given c.args.sink.now) (g.K.Sink.says.given at.sink) (g.K.Sink.says.given new.sink) false
     at.pass new.pass was.party (subst Answered c.if-take_command.false next.answered) was.taken in
     let counts = was.counts in
     let more = next.counts in
@@ -86,8 +86,8 @@ returns-then-take_command-clause-taken g c =
     let new = c.take_command.new in
     let is = next_is c.args.requests.items at.yielded (into_iter_items at.request-iterator) (into_iter_items c.next.new.self) request at.commands c.in-Some.ensures.steps.0 was.items was.count in
     let who = c.requires.numbered at.commands request is in
-    let Answered : Bool → Type 0 = λ failed. IsAnswered g.N.Serving.begins at.pass new.pass request (g.K.Sink.says.given at.sink) (g.K.Sink.says.given new.sink) failed in
-    (answered g.N.Serving.begins c.args.pass.now.party c.args.requests.items at.commands request is who.0 who.1 (g.K.Sink.says.given c.args.sink.now) (g.K.Sink.says.given at.sink) (g.K.Sink.says.given new.sink) true
+    let Answered : Bool → Type 0 = λ failed. IsAnswered (g.C.Clock.says.may_give c.args.clock.now) g.N.Serving.begins at.pass new.pass request (g.K.Sink.says.given at.sink) (g.K.Sink.says.given new.sink) failed in
+    (answered (g.C.Clock.says.may_give c.args.clock.now) g.N.Serving.begins c.args.pass.now.party c.args.requests.items at.commands request is who.0 who.1 (g.K.Sink.says.given c.args.sink.now) (g.K.Sink.says.given at.sink) (g.K.Sink.says.given new.sink) true
     at.pass new.pass was.party (subst Answered c.if-take_command.true next.answered) was.taken).1
 
 pub returns-then-take_command-clause-party : goal.returns-then-take_command-clause-party
@@ -99,6 +99,6 @@ returns-then-take_command-clause-party g c =
     let new = c.take_command.new in
     let is = next_is c.args.requests.items at.yielded (into_iter_items at.request-iterator) (into_iter_items c.next.new.self) request at.commands c.in-Some.ensures.steps.0 was.items was.count in
     let who = c.requires.numbered at.commands request is in
-    let Answered : Bool → Type 0 = λ failed. IsAnswered g.N.Serving.begins at.pass new.pass request (g.K.Sink.says.given at.sink) (g.K.Sink.says.given new.sink) failed in
-    (answered g.N.Serving.begins c.args.pass.now.party c.args.requests.items at.commands request is who.0 who.1 (g.K.Sink.says.given c.args.sink.now) (g.K.Sink.says.given at.sink) (g.K.Sink.says.given new.sink) true
+    let Answered : Bool → Type 0 = λ failed. IsAnswered (g.C.Clock.says.may_give c.args.clock.now) g.N.Serving.begins at.pass new.pass request (g.K.Sink.says.given at.sink) (g.K.Sink.says.given new.sink) failed in
+    (answered (g.C.Clock.says.may_give c.args.clock.now) g.N.Serving.begins c.args.pass.now.party c.args.requests.items at.commands request is who.0 who.1 (g.K.Sink.says.given c.args.sink.now) (g.K.Sink.says.given at.sink) (g.K.Sink.says.given new.sink) true
     at.pass new.pass was.party (subst Answered c.if-take_command.true next.answered) was.taken).0

@@ -7,7 +7,7 @@ use Rattle.party_threads.proofs.session.take_commands.Given as goal
 abbrev pub invariant-loop-request : goal.invariant-loop-request
 invariant-loop-request g l = record {
   party : l.pass.party ≡ l.fn.pass.party;
-  taken : HasTaken g.N.Serving.begins l.fn.pass.party l.fn.requests.items (record { commands = l.commands; failed = false }) (g.K.Sink.says.given l.fn.sink) (g.K.Sink.says.given l.sink) l.pass.list;
+  taken : HasTaken (g.C.Clock.says.may_give l.clock) g.N.Serving.begins l.fn.pass.party l.fn.requests.items (record { commands = l.commands; failed = false }) (g.K.Sink.says.given l.fn.sink) (g.K.Sink.says.given l.sink) l.pass.list;
   items : l.yielded ++ into_iter_items l.request-iterator ≡ l.fn.requests.items;
   left : into_iter_len l.request-iterator ≡ length (into_iter_items l.request-iterator);
   count : l.commands ≡ length l.yielded;

@@ -42,7 +42,7 @@ run_parties-requires-after_bounds g c = λ κs bounds.
     let fresh : Fresh (fresh_passes (length requests)) (fresh_marks (length requests)) =
     subst (λ (marks : List PassKnown). Fresh (fresh_passes (length requests)) marks) c.requires.marks (subst (λ (passes : List PartyKnown). Fresh passes c.args.shared.marks.items) c.requires.passes c.put_parties.ensures) in
     subst (λ (ps : List Party). All (IsReady g.N.Serving.begins) ps) (sym c.deref_mut.ensures.value)
-    (ready D.says g.N.Naming.end g.N.Imaging.images (g.C.Clock.says.may_give c.args.clock.now) g.K.Sink.says g.N.Serving.begins requests replicas sinks olds fresh c.requires.asked c.requires.few)
+    (ready D.says g.N.Naming.end g.N.Imaging.images (g.C.Clock.says.may_give c.args.clock.now) g.K.Sink.says g.N.Serving.begins g.N.Serving.masters requests replicas sinks olds fresh c.requires.asked c.requires.few)
 
 pub collect-lost-requires-clause-room : goal.collect-lost-requires-clause-room
 collect-lost-requires-clause-room g c =
@@ -82,7 +82,7 @@ returns g c =
     let Fresh : List PartyKnown → List PassKnown → Type 0 = λ passes marks. AreFreshParties requests replicas passes marks sinks olds in
     let fresh : Fresh (fresh_passes (length requests)) (fresh_marks (length requests)) =
     subst (λ (marks : List PassKnown). Fresh (fresh_passes (length requests)) marks) c.requires.marks (subst (λ (passes : List PartyKnown). Fresh passes c.args.shared.marks.items) c.requires.passes c.put_parties.ensures) in
-    let Ran : List Party → Type 0 = λ ps. HaveRun D.says end images may_give g.K.Sink.says begins ps news in
+    let Ran : List Party → Type 0 = λ ps. HaveRun D.says end images may_give g.K.Sink.says begins g.N.Serving.masters ps news in
     let run : Ran olds = subst Ran c.deref_mut.ensures.value c.run_parties.ensures.run in
     let as_long : length news ≡ length olds = c.run_parties.ensures.count ∙ ap (length {A = Party}) c.deref_mut.ensures.value in
     let back = ran_back olds news c.put_parties.new.parties.len as_long c.put_parties.new.parties.ok.0 in
@@ -91,7 +91,7 @@ returns g c =
     let items : Vec Request Global → List Request = λ own. own.items in
     let asked : length (map items requests) ≡ length requests = length-map requests items in
     let many : length news ≡ length (map items requests) =
-    as_long ∙ (as_many D.says end images may_give g.K.Sink.says begins requests replicas sinks olds fresh ∙ sym asked) in
+    as_long ∙ (as_many D.says end images may_give g.K.Sink.says begins g.N.Serving.masters requests replicas sinks olds fresh ∙ sym asked) in
     let Among : ℕ → Type 0 = λ n. AllByRecursion (IsAmong n) known.order in
     record {
       order = known.order;
@@ -101,7 +101,7 @@ returns g c =
       flags = map (λ (p : Party). is_marked p) news;
       flags_count = length-map news (λ (p : Party). is_marked p) ∙ many;
       told = collected.told ∙ any_map (λ (p : Party). is_marked p) news;
-      served = served_all D.says end images may_give g.K.Sink.says begins requests replicas sinks olds fresh news run known runs left lost collected;
+      served = served_all D.says end images may_give g.K.Sink.says begins g.N.Serving.masters requests replicas sinks olds fresh news run known runs left lost collected;
       among = subst Among (sym asked) (among_of g.N.Naming.run (length requests) c.requires.lanes known.order c.close-depot.ensures.parties);
       can = c.close-depot.ensures.can;
       stored = c.close-depot.ensures.stored;

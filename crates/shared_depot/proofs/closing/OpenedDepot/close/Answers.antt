@@ -19,7 +19,7 @@ returns-clause-can g c =
     let D = g.D.Disk in
     let parts = c.self.inside in
     subst (λ (depot : SerialDepot g.row.D.Denot). CanTake D.says depot) (sym c.new.ensures)
-    (closed_can D.says g.N.Naming.rows g.N.Naming.end g.N.Imaging.images g.N.Serving.begins g.N.Serving.faults g.N.Serving.content_faults parts.order false parts.tables parts.journal parts.archive c.self.invariant.0 c.self.invariant.1)
+    (closed_can D.says g.N.Naming.rows g.N.Naming.end g.N.Imaging.images g.N.Serving.begins g.N.Serving.masters g.N.Serving.faults g.N.Serving.content_faults parts.order false parts.tables parts.journal parts.archive c.self.invariant.0 c.self.invariant.1)
 
 pub returns-clause-ran : goal.returns-clause-ran
 returns-clause-ran g c = λ since start at.
@@ -28,7 +28,7 @@ returns-clause-ran g c = λ since start at.
     let order = parts.order in
     subst (λ (o : OpenedKnown). HasRun D.says c.new.result since start (map placed_of o.order)) c.self.view_is
     (subst (λ (depot : SerialDepot g.row.D.Denot). HasRun D.says depot since start (map placed_of order)) (sym c.new.ensures)
-    (closed_run D.says g.N.Naming.rows g.N.Naming.end g.N.Imaging.images g.N.Serving.begins g.N.Serving.faults g.N.Serving.content_faults order false parts.tables parts.journal parts.archive c.self.invariant.0 c.self.invariant.1 since start at))
+    (closed_run D.says g.N.Naming.rows g.N.Naming.end g.N.Imaging.images g.N.Serving.begins g.N.Serving.masters g.N.Serving.faults g.N.Serving.content_faults order false parts.tables parts.journal parts.archive c.self.invariant.0 c.self.invariant.1 since start at))
 
 pub returns-clause-stored : goal.returns-clause-stored
 returns-clause-stored g c =
@@ -40,7 +40,7 @@ returns-clause-stored g c =
     let order = parts.order in
     subst (λ (o : OpenedKnown). HasAllStored D.says end images begins o.order c.new.result.archive) c.self.view_is
     (subst (λ (depot : SerialDepot g.row.D.Denot). HasAllStored D.says end images begins order depot.archive) (sym c.new.ensures)
-    (closed_stored D.says g.N.Naming.rows end images begins g.N.Serving.faults g.N.Serving.content_faults order false parts.tables parts.journal parts.archive c.self.invariant.0 c.self.invariant.1))
+    (closed_stored D.says g.N.Naming.rows end images begins g.N.Serving.masters g.N.Serving.faults g.N.Serving.content_faults order false parts.tables parts.journal parts.archive c.self.invariant.0 c.self.invariant.1))
 
 pub returns-clause-faults : goal.returns-clause-faults
 returns-clause-faults g c =

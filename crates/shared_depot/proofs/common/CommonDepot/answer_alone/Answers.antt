@@ -7,7 +7,7 @@ use Rattle.party_marks.specs.Marks.{has_marks}
 use Rattle.replica_turns.specs.Going.{is_lost}
 use Rattle.serial_depot.specs.Running.{HasRun}
 use Rattle.serial_depot.specs.declared.depot.SerialDepot.{SerialDepot}
-use Rattle.shared_depot.specs.Common.{HasAllStored, KeepsOrder}
+use Rattle.shared_depot.specs.Common.{HasAllStored, IsFollowed, KeepsOrder}
 use Rattle.shared_depot.proofs.Marks.{marked_still}
 use Rattle.shared_depot.proofs.Order.{depot_ran}
 use Rattle.shared_depot.proofs.Turns.{answered_so, kept_so, never_lost}
@@ -16,7 +16,7 @@ use Rattle.shared_depot.proofs.common.CommonDepot.answer_alone.Goals as goal
 pub invariant_of-self : goal.invariant_of-self
 invariant_of-self g c =
     let D = g.D.Disk in
-    subst (λ (l : List Taken). KeepsOrder D.says g.N.Naming.rows g.N.Naming.end g.N.Imaging.images g.N.Serving.begins g.N.Serving.faults l c.self.inside.tables)
+    subst (λ (l : List Taken). KeepsOrder D.says g.N.Naming.rows g.N.Naming.end g.N.Imaging.images g.N.Serving.begins g.N.Serving.masters g.N.Serving.faults l c.self.inside.tables)
     (sym c.tell.ensures.same) c.self.invariant
 
 pub returns : goal.returns
@@ -42,7 +42,8 @@ returns g c =
               (
                 λ since start at.
                     subst (λ (l : List Taken). HasRun D.says depot since start (map placed_of l)) (sym known)
-                    (depot_ran D.says rows end images begins g.N.Serving.faults order run.0 run.1.0 run.1.1 archive here since start at),
+                    (depot_ran D.says rows end images begins g.N.Serving.masters g.N.Serving.faults order run.0 run.1.0 run.1.1 archive here since start at),
+                subst (λ (l : List Taken). IsFollowed D.says begins g.N.Serving.masters l depot) (sym known) (run.1.1.followed archive here),
                 λ formed. answered_so D.says depot replica replica request answer (c.answer_alone-answer.ensures.answered depot formed) (kept_so answer replica.replica),
               ),
             );

@@ -1,4 +1,4 @@
-use Rattle.std.proofs.Common.{◌≡◌, ◌∷◌, ◌++◌, List, [], sym, ap, subst, ◌∙◌}
+use Rattle.std.proofs.Common.{List, sym, ap, subst, ◌∙◌}
 use Rattle.std.specs.Prelude.{ℕ, if◌then◌else◌}
 use Rattle.depot_rows.specs.table_changes.Changed.{AllRows, changed_by, rows_of}
 use Rattle.depot_rows.specs.table_store.declared.tables.Tables.{Tables}
@@ -23,8 +23,8 @@ invariant_of-self g c =
     let used : ℕ = if g.A.ArchiveLane.is_held then c.args.taken.end else end_after end order in
     let on : GoesOnQuietly D.says rows end images begins c.args.lane.now order = goes_on_quietly D.says rows end images begins c.args.lane.now order c.self.invariant.quiet placing.journal.behind in
     let entered : IsEntered rows end order entry used = entered_by rows end order c.place-lanes.new.order entry used placing.placed placing.of_journal placing.rows placing.end in
-    subst (λ (l : List Taken). KeepsOrder D.says rows end images begins faults_then l c.show.new.tables) (sym placing.placed)
-    (keeps_written D.says rows end images begins faults_then order c.self.inside.tables c.self.invariant entry used entered c.show.new.tables
+    subst (λ (l : List Taken). KeepsOrder D.says rows end images begins g.N.Serving.masters faults_then l c.show.new.tables) (sym placing.placed)
+    (keeps_written D.says rows end images begins g.N.Serving.masters faults_then order c.self.inside.tables c.self.invariant entry used entered c.show.new.tables
     c.show.ensures.same c.requires.unchanged
     (λ fine table.
     ap (λ (t : Tables). rows_of t table) (c.show.ensures.shown fine)

@@ -28,8 +28,8 @@ invariant_of-self g c =
       written = written_so entry touches refl;
       leaves = λ since start at fine. unwritten.leaves (rows_after rows order) (end_after end order) due.outcome (c.requires.proper since start at) (due.stands since start at) due.tells (sym unwritten.fault ∙ fine);
     } in
-    subst (λ (l : List Taken). KeepsOrder D.says rows end images begins g.N.Serving.faults l c.self.inside.tables) (sym c.place.ensures.placed)
-    (keeps_quiet D.says rows end images begins g.N.Serving.faults order c.self.inside.tables c.self.invariant entry c.place.ensures.of_journal quiet)
+    subst (λ (l : List Taken). KeepsOrder D.says rows end images begins g.N.Serving.masters g.N.Serving.faults l c.self.inside.tables) (sym c.place.ensures.placed)
+    (keeps_quiet D.says rows end images begins g.N.Serving.masters g.N.Serving.faults order c.self.inside.tables c.self.invariant entry c.place.ensures.of_journal quiet)
 
 pub returns-clause-taken : goal.returns-clause-taken
 returns-clause-taken g c =
@@ -48,7 +48,7 @@ returns-clause-taken g c =
     refl refl (λ k. record { place = c.place-place.ensures k; reply = answer.reply })
     (λ since start at.
     c.place_unwritten-answer.ensures.answers start (map placed_of order) due.outcome due.tells
-    (reply_after D.says rows end images begins g.N.Serving.faults order run.0 run.1.0 run.1.1 c.args.request c.args.told due since start at))
+    (reply_after D.says rows end images begins g.N.Serving.masters g.N.Serving.faults order run.0 run.1.0 run.1.1 c.args.request c.args.told due since start at))
 
 pub returns-clause-lost : goal.returns-clause-lost
 returns-clause-lost g c = λ is.

@@ -34,18 +34,18 @@ returns-clause-turn g c =
     let taken : before.left.items ≡ mid.left.items ++ request ∷ [] =
     subst (λ (o : Option Request). IfSome o (λ r. before.left.items ≡ mid.left.items ++ r ∷ [])) c.unwrap-request.ensures c.take_next.ensures.left in
     let Turn : PartyKnown → PassKnown → ReplicaParty → Result Answered AllocError → Type 0 = λ pass marks replica answer.
-    IsReplicaTurn D.says end images begins old pass old_marks marks before replica answer in
+    IsReplicaTurn D.says end images begins g.N.Serving.masters old pass old_marks marks before replica answer in
     elim c.if-is_print.branch [
       | then-is_print w ↦
           let new = w.answer_print-answer.new in
           turn_as Turn c.if-is_print.pass new.pass c.if-is_print.marks new.marks c.if-is_print.replica mid c.if-is_print.answer w.answer_print-answer.result w.pass-is w.marks-is w.replica-is w.answer-is
-          (turn_so before mid mid request taken refl D.says end images begins old new.pass old_marks new.marks c.take_next.ensures.same w.answer_print-answer.result w.answer_print-answer.ensures.answer)
+          (turn_so before mid mid request taken refl D.says end images begins g.N.Serving.masters old new.pass old_marks new.marks c.take_next.ensures.same w.answer_print-answer.result w.answer_print-answer.ensures.answer)
       | else-is_print+then-is_pull w ↦
           let new = w.answer_pull.new in
           turn_as Turn c.if-is_print.pass new.pass c.if-is_print.marks new.marks c.if-is_print.replica new.replica c.if-is_print.answer w.answer_pull.result w.pass-is w.marks-is w.replica-is w.answer-is
-          (turn_so before mid new.replica request taken w.answer_pull.ensures.left D.says end images begins old new.pass old_marks new.marks c.take_next.ensures.same w.answer_pull.result w.answer_pull.ensures.answer)
+          (turn_so before mid new.replica request taken w.answer_pull.ensures.left D.says end images begins g.N.Serving.masters old new.pass old_marks new.marks c.take_next.ensures.same w.answer_pull.result w.answer_pull.ensures.answer)
       | else-is_print+else-is_pull w ↦
           let new = w.answer_alone.new in
           turn_as Turn c.if-is_print.pass new.pass c.if-is_print.marks old_marks c.if-is_print.replica mid c.if-is_print.answer w.answer_alone.result w.pass-is w.marks-is w.replica-is w.answer-is
-          (turn_so before mid mid request taken refl D.says end images begins old new.pass old_marks old_marks c.take_next.ensures.same w.answer_alone.result (w.answer_alone.ensures.answer old_marks))
+          (turn_so before mid mid request taken refl D.says end images begins g.N.Serving.masters old new.pass old_marks old_marks c.take_next.ensures.same w.answer_alone.result (w.answer_alone.ensures.answer old_marks))
     ]

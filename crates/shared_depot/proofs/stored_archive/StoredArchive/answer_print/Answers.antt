@@ -9,7 +9,7 @@ use Rattle.party_marks.specs.Marks.{has_marks}
 use Rattle.replica_turns.specs.Going.{is_lost}
 use Rattle.serial_depot.specs.Running.{HasRun}
 use Rattle.serial_depot.specs.declared.depot.SerialDepot.{SerialDepot}
-use Rattle.shared_depot.specs.Common.{IsArchiveAfter, KeepsOrder}
+use Rattle.shared_depot.specs.Common.{IsArchiveAfter, IsFollowed, KeepsOrder}
 use Rattle.shared_depot.specs.Stored.{ArchiveKnown, lost_in}
 use Rattle.shared_depot.proofs.Marks.{lost_caused, mark_caused, marked_behind}
 use Rattle.shared_depot.proofs.Order.{archive_learnt, archive_read, depot_ran, has_all}
@@ -21,7 +21,7 @@ pub invariant_of-held : goal.invariant_of-held
 invariant_of-held g c =
     let D = g.D.Disk in
     let same = c.tell.ensures.same ∙ c.learn_archive.ensures.same in
-    subst (λ (l : List Taken). KeepsOrder D.says g.N.Naming.rows g.N.Naming.end g.N.Imaging.images g.N.Serving.begins g.N.Serving.faults l c.held.inside.tables) (sym same) c.held.invariant
+    subst (λ (l : List Taken). KeepsOrder D.says g.N.Naming.rows g.N.Naming.end g.N.Imaging.images g.N.Serving.begins g.N.Serving.masters g.N.Serving.faults l c.held.inside.tables) (sym same) c.held.invariant
 
 pub invariant_of-self : goal.invariant_of-self
 invariant_of-self g c =
@@ -85,7 +85,8 @@ returns g c =
           (
             λ since start at.
                 subst (λ (l : List Taken). HasRun D.says depot since start (map placed_of l)) (sym known)
-                (depot_ran D.says rows end images begins g.N.Serving.faults order tables journal was archive all since start at),
+                (depot_ran D.says rows end images begins g.N.Serving.masters g.N.Serving.faults order tables journal was archive all since start at),
+            subst (λ (l : List Taken). IsFollowed D.says begins g.N.Serving.masters l depot) (sym known) (was.followed archive all),
             λ formed.
                 told_on D.says depot replica replica request answer c.mark_lost.result c.mark_lost.ensures.told
                 (answered_so D.says depot replica replica request answer (c.answer_print-answer.ensures.answered depot refl formed) (kept_so answer replica.replica)),

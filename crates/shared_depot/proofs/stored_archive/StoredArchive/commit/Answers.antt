@@ -1,6 +1,5 @@
-use Rattle.std.proofs.Common.{◌≡◌, List, sym, subst, ◌∙◌, ap}
+use Rattle.std.proofs.Common.{◌≡◌, subst, ◌∙◌, ap}
 use Rattle.archive_file.specs.Archive.{disk_of as archive_disk_of}
-use Rattle.locked_tables.specs.declared.taken.Taken.{Taken}
 use Rattle.depot_commit.specs.Placing.{EndsAt}
 use Rattle.depot_commit.specs.Storing.{AllReach}
 use Rattle.shared_depot.specs.Stored.{ArchiveKnown, stored_end}

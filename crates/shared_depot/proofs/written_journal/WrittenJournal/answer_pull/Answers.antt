@@ -11,7 +11,7 @@ use Rattle.serial_depot.specs.Running.{HasRun}
 use Rattle.depot_commit.specs.Storing.{HasStored, stores_end}
 use Rattle.serial_depot.specs.declared.depot.SerialDepot.{SerialDepot}
 use Rattle.depot_commit.proofs.Moved.{over_fetched}
-use Rattle.shared_depot.specs.Common.{HasAllStored, HasRunOrder, KeepsOrder}
+use Rattle.shared_depot.specs.Common.{HasAllStored, HasRunOrder, IsFollowed, KeepsOrder}
 use Rattle.shared_depot.specs.Stored.{stores_of}
 use Rattle.shared_depot.proofs.Committed.{run_on}
 use Rattle.shared_depot.proofs.Marks.{lost_caused, mark_caused, marked_before}
@@ -22,7 +22,7 @@ use Rattle.shared_depot.proofs.written_journal.WrittenJournal.answer_pull.Goals 
 pub invariant_of-held : goal.invariant_of-held
 invariant_of-held g c =
     let D = g.D.Disk in
-    subst (λ (l : List Taken). KeepsOrder D.says g.N.Naming.rows g.N.Naming.end g.N.Imaging.images g.N.Serving.begins g.N.Serving.faults l c.held.inside.tables)
+    subst (λ (l : List Taken). KeepsOrder D.says g.N.Naming.rows g.N.Naming.end g.N.Imaging.images g.N.Serving.begins g.N.Serving.masters g.N.Serving.faults l c.held.inside.tables)
     (sym c.tell.ensures.same) c.held.invariant
 
 pub invariant_of-self : goal.invariant_of-self
@@ -37,11 +37,11 @@ invariant_of-self g c =
     let tables = c.self.inside.tables in
     let old = c.self.inside.journal in
     let new = c.answer_by_journal-answer.new.journal in
-    let was = run_on D.says rows end images begins g.N.Serving.faults c.self.inside.lane order c.learn_journal.ensures.on tables old c.self.invariant.0 in (
-      subst (λ (l : List Taken). HasRunOrder D.says rows end images begins g.N.Serving.faults l tables new) (sym c.learn_journal.ensures.learnt)
-          (run_fetched D.says rows end images begins g.N.Serving.faults order tables old new was
+    let was = run_on D.says rows end images begins g.N.Serving.masters g.N.Serving.faults c.self.inside.lane order c.learn_journal.ensures.on tables old c.self.invariant.0 in (
+      subst (λ (l : List Taken). HasRunOrder D.says rows end images begins g.N.Serving.masters g.N.Serving.faults l tables new) (sym c.learn_journal.ensures.learnt)
+          (run_fetched D.says rows end images begins g.N.Serving.masters g.N.Serving.faults order tables old new was
           (was.can.0, (was.can.1.0, next.fetched.stands was.can.0 was.can.1.0 was.can.1.1)) next.never_falls
-          (λ since start places h. over_fetched D.says (HasStored images end (stores_of order)) (stores_end (stores_of order) end) tables old since start places h new next.fetched)),
+          (λ since start places h. over_fetched D.says (HasStored images end (stores_of order)) (stores_end (stores_of order) end) tables old since start places h new next.fetched) next.fetched.groups),
       mark_caused g.N.Serving.faults (D.says.faults (disk_of old)) (D.says.faults (disk_of new)) was.no_fewer next.never_falls _ (lost_caused c.answer_by_journal-answer.result _ next.cause) c.self.inside.marks.list c.mark_lost.new.all.list
           c.mark_lost.ensures.caused c.self.invariant.1,
     )
@@ -59,7 +59,7 @@ returns-clause-answer g c =
     let order = c.deref_mut-held.result.now in
     let tables = c.self.inside.tables in
     let journal = c.self.inside.journal in
-    let was = run_on D.says rows end images begins g.N.Serving.faults c.self.inside.lane order c.learn_journal.ensures.on tables journal c.self.invariant.0 in
+    let was = run_on D.says rows end images begins g.N.Serving.masters g.N.Serving.faults c.self.inside.lane order c.learn_journal.ensures.on tables journal c.self.invariant.0 in
     let request = c.args.request.now in
     let replica = c.args.replica.now in
     let replica' = c.answer_by_journal-answer.new.self in
@@ -79,7 +79,8 @@ returns-clause-answer g c =
             (
               λ since start at.
                   subst (λ (l : List Taken). HasRun D.says depot since start (map placed_of l)) (sym known)
-                  (depot_ran D.says rows end images begins g.N.Serving.faults order tables journal was archive here since start at),
+                  (depot_ran D.says rows end images begins g.N.Serving.masters g.N.Serving.faults order tables journal was archive here since start at),
+              subst (λ (l : List Taken). IsFollowed D.says begins g.N.Serving.masters l depot) (sym known) (was.followed archive here),
               λ formed.
                   told_on D.says depot replica replica' request answer c.mark_lost.result c.mark_lost.ensures.told
                   (answered_so D.says depot replica replica' request answer (c.answer_by_journal-answer.ensures.answered depot refl formed) c.answer_by_journal-answer.ensures.kept),

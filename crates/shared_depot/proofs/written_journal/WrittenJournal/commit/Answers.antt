@@ -1,4 +1,4 @@
-use Rattle.std.proofs.Common.{◌≡◌, ◌<◌, Bool, true, false, List, [], ◌∷◌, ◌++◌, refl, sym, ap, subst, ◌∙◌, arith}
+use Rattle.std.proofs.Common.{◌≡◌, Bool, List, [], refl, sym, ap, subst, ◌∙◌}
 use Rattle.std.specs.Prelude.{if◌then◌else◌}
 use Rattle.depot_rows.specs.db_records.declared.change.Change.{Change}
 use Rattle.depot_rows.specs.table_changes.Changed.{AllRows, changed_by}
@@ -7,7 +7,7 @@ use Rattle.disk_journal.specs.Stands.{disk_of}
 use Rattle.locked_tables.specs.Taken.{rows_after}
 use Rattle.locked_tables.specs.declared.taken.Taken.{Taken}
 use Rattle.shared_depot.specs.Common.{HasRunOrder}
-use Rattle.shared_depot.specs.Room.{IsDueAfter, IsStoredBehind}
+use Rattle.shared_depot.specs.Room.{IsDueAfter}
 use Rattle.shared_depot.specs.Stored.{stored_end}
 use Rattle.shared_depot.proofs.Committed.{committed_then, reply_then, stored_behind}
 use Rattle.shared_depot.proofs.Marks.{mark_stays}
@@ -24,7 +24,7 @@ place-requires-clause-used g c =
     let end = g.N.Naming.end in
     subst (g.S.Store.ends_at c.args.store.now)
     (ap (stored_end end) (sym c.self.view_is)
-    ∙ sym (stored_there D.says g.N.Naming.rows end g.N.Imaging.images g.N.Serving.begins g.N.Serving.faults c.self.inside.lane c.self.inside.tables c.self.inside.journal c.self.invariant.0))
+    ∙ sym (stored_there D.says g.N.Naming.rows end g.N.Imaging.images g.N.Serving.begins g.N.Serving.masters g.N.Serving.faults c.self.inside.lane c.self.inside.tables c.self.inside.journal c.self.invariant.0))
     c.requires.used
 
 pub place-requires-clause-some : goal.place-requires-clause-some
@@ -36,8 +36,8 @@ pub invariant_of-self : goal.invariant_of-self
 invariant_of-self g c =
     let D = g.D.Disk in
     let same = c.in-Err.ensures.nothing in (
-      subst (λ (tables : Tables). HasRunOrder D.says g.N.Naming.rows g.N.Naming.end g.N.Imaging.images g.N.Serving.begins g.N.Serving.faults c.self.inside.lane tables c.place.new.journal) (sym same.0)
-          (subst (HasRunOrder D.says g.N.Naming.rows g.N.Naming.end g.N.Imaging.images g.N.Serving.begins g.N.Serving.faults c.self.inside.lane c.self.inside.tables) (sym same.1) c.self.invariant.0),
+      subst (λ (tables : Tables). HasRunOrder D.says g.N.Naming.rows g.N.Naming.end g.N.Imaging.images g.N.Serving.begins g.N.Serving.masters g.N.Serving.faults c.self.inside.lane tables c.place.new.journal) (sym same.0)
+          (subst (HasRunOrder D.says g.N.Naming.rows g.N.Naming.end g.N.Imaging.images g.N.Serving.begins g.N.Serving.masters g.N.Serving.faults c.self.inside.lane c.self.inside.tables) (sym same.1) c.self.invariant.0),
       mark_stays g.N.Serving.faults (D.says.faults (disk_of c.self.inside.journal)) (D.says.faults (disk_of c.place.new.journal)) c.place.ensures.never_falls c.self.inside.marks.list c.self.invariant.1,
     )
 
@@ -64,7 +64,7 @@ enter-requires-clause-ran g c = λ order lanes on touches entered.
       c.place.new.tables,
       (
         c.place.new.journal,
-        committed_then D.says g.N.Naming.rows g.N.Naming.end g.N.Imaging.images g.N.Serving.begins g.N.Serving.faults
+        committed_then D.says g.N.Naming.rows g.N.Naming.end g.N.Imaging.images g.N.Serving.begins g.N.Serving.masters g.N.Serving.faults
             c.self.inside.lane c.self.inside.tables c.self.inside.journal c.self.invariant.0 c.args.request c.args.told
             (subst (λ (l : List Taken). IsDueAfter g.N.Naming.rows g.N.Naming.end g.N.Imaging.images g.N.Serving.begins l c.args.request c.args.told) (sym c.self.view_is) c.requires.due)
             c.requires.proper c.args.room.after
@@ -72,7 +72,7 @@ enter-requires-clause-ran g c = λ order lanes on touches entered.
             c.place.new.tables c.place.new.journal c.place.ensures.can c.place.ensures.never_falls landed.answer entry refl refl c.in-Ok.ensures.changes c.in-Ok.ensures.rows order on lanes
             g.A.ArchiveLane.is_held landed.stored (λ none. c.in-Ok.ensures.none (c.requires.some none)) c.in-Ok.ensures.end refl c.archive_end.ensures.end
             (λ none. never_fails (g.S.Store.faults c.args.store.now) (g.S.Store.faults c.place.new.store) landed.lost (g.met.S.Store.unfailing c.args.store.now (c.requires.held ∙ none)) (g.met.S.Store.unfailing c.place.new.store (c.requires.held ∙ none)) (λ lost. c.in-Ok.ensures.cause_contents lost c.requires.read))
-            touches entered c.in-Ok.ensures.ran c.in-Ok.ensures.cause,
+            touches entered c.in-Ok.ensures.ran c.in-Ok.ensures.grows c.in-Ok.ensures.cause,
       ),
     )
 
@@ -81,8 +81,8 @@ invariant_of-self-in-Ok g c =
     let D = g.D.Disk in
     let landed = c.in-Ok.landed in
     let entry : Taken = record { request = c.args.request; fault = landed.answer.place.fault; lost = landed.lost; lanes = 0; changes = landed.changes; end = c.archive_end.result; stores = landed.stored } in (
-      subst (λ (l : List Taken). HasRunOrder D.says g.N.Naming.rows g.N.Naming.end g.N.Imaging.images g.N.Serving.begins g.N.Serving.faults l c.place.new.tables c.place.new.journal) (sym (c.enter.ensures.lane ∙ c.enter.ensures.placed))
-          (committed_then D.says g.N.Naming.rows g.N.Naming.end g.N.Imaging.images g.N.Serving.begins g.N.Serving.faults
+      subst (λ (l : List Taken). HasRunOrder D.says g.N.Naming.rows g.N.Naming.end g.N.Imaging.images g.N.Serving.begins g.N.Serving.masters g.N.Serving.faults l c.place.new.tables c.place.new.journal) (sym (c.enter.ensures.lane ∙ c.enter.ensures.placed))
+          (committed_then D.says g.N.Naming.rows g.N.Naming.end g.N.Imaging.images g.N.Serving.begins g.N.Serving.masters g.N.Serving.faults
           c.self.inside.lane c.self.inside.tables c.self.inside.journal c.self.invariant.0 c.args.request c.args.told
           (subst (λ (l : List Taken). IsDueAfter g.N.Naming.rows g.N.Naming.end g.N.Imaging.images g.N.Serving.begins l c.args.request c.args.told) (sym c.self.view_is) c.requires.due)
           c.requires.proper c.args.room.after
@@ -90,7 +90,7 @@ invariant_of-self-in-Ok g c =
           c.place.new.tables c.place.new.journal c.place.ensures.can c.place.ensures.never_falls landed.answer entry refl refl c.in-Ok.ensures.changes c.in-Ok.ensures.rows _ c.enter.ensures.on c.enter.result
           g.A.ArchiveLane.is_held landed.stored (λ none. c.in-Ok.ensures.none (c.requires.some none)) c.in-Ok.ensures.end refl c.archive_end.ensures.end
           (λ none. never_fails (g.S.Store.faults c.args.store.now) (g.S.Store.faults c.place.new.store) landed.lost (g.met.S.Store.unfailing c.args.store.now (c.requires.held ∙ none)) (g.met.S.Store.unfailing c.place.new.store (c.requires.held ∙ none)) (λ lost. c.in-Ok.ensures.cause_contents lost c.requires.read))
-          c.enter.ensures.of_archive c.enter.ensures.entered c.in-Ok.ensures.ran c.in-Ok.ensures.cause),
+          c.enter.ensures.of_archive c.enter.ensures.entered c.in-Ok.ensures.ran c.in-Ok.ensures.grows c.in-Ok.ensures.cause),
       mark_stays g.N.Serving.faults (D.says.faults (disk_of c.self.inside.journal)) (D.says.faults (disk_of c.place.new.journal)) c.place.ensures.never_falls c.self.inside.marks.list c.self.invariant.1,
     )
 
@@ -103,7 +103,7 @@ returns-in-Ok-clause-taken g c =
     taken_so g.N.Serving.begins _ c.enter.new.self c.args.pass.now c.enter.new.pass entry c.args.request landed.answer _ c.enter.ensures.placed c.enter.ensures.pass c.enter.ensures.own
     refl refl (λ k. record { place = c.place-at.ensures k; reply = landed.answer.reply })
     (λ since start at. c.in-Ok.ensures.answers start _ c.requires.due.outcome c.requires.due.tells
-    (reply_then D.says g.N.Naming.rows g.N.Naming.end g.N.Imaging.images g.N.Serving.begins g.N.Serving.faults
+    (reply_then D.says g.N.Naming.rows g.N.Naming.end g.N.Imaging.images g.N.Serving.begins g.N.Serving.masters g.N.Serving.faults
     c.self.inside.lane c.self.inside.tables c.self.inside.journal c.self.invariant.0 c.args.request c.args.told
     (subst (λ (l : List Taken). IsDueAfter g.N.Naming.rows g.N.Naming.end g.N.Imaging.images g.N.Serving.begins l c.args.request c.args.told) (sym c.self.view_is) c.requires.due)
     c.requires.proper c.args.room.after

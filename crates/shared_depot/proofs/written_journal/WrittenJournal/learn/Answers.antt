@@ -13,7 +13,7 @@ invariant_of-self g c =
     let begins = g.N.Serving.begins in
     let then = g.N.Serving.faults in
     let w = c.self.inside in (
-      subst (λ (l : List Taken). HasRunOrder D.says rows end images begins then l w.tables w.journal) (sym c.learn_journal.ensures.learnt)
-          (run_on D.says rows end images begins then w.lane c.args.common.now c.learn_journal.ensures.on w.tables w.journal c.self.invariant.0),
+      subst (λ (l : List Taken). HasRunOrder D.says rows end images begins g.N.Serving.masters then l w.tables w.journal) (sym c.learn_journal.ensures.learnt)
+          (run_on D.says rows end images begins g.N.Serving.masters then w.lane c.args.common.now c.learn_journal.ensures.on w.tables w.journal c.self.invariant.0),
       c.self.invariant.1,
     )
