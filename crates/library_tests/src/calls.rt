@@ -22,7 +22,7 @@ const JOURNAL: &[u8] = b"@ex@\n@nx@ 1 31\n@pv@ 1 @db.counters@ @build@ 7\n";
 const MANY: u64 = 1000;
 
 /// A link to a journal of one generation with this committed text.
-fn link_to(alloc: Global, text: &[u8]) -> Result<MemoryLink, AllocError> {
+pub fn link_to(alloc: Global, text: &[u8]) -> Result<MemoryLink, AllocError> {
     let text = Text::from_bytes(alloc, text)?;
     Ok(MemoryLink::new(vec![in alloc; text]?, Vec::new(alloc)))
 }

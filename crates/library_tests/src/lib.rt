@@ -10,6 +10,9 @@ mod callers;
 /// Calls that no program makes, with ample memory (`replica_pull`, `journal_groups`, `table_store`, `wire_text`, `command_needs`).
 #[cfg(test)]
 mod calls;
+/// A node that follows a journal and copies contents, both in memory (`replica_chain`).
+#[cfg(test)]
+mod chains;
 /// Disks in folders, step by step, as the tests ask them.
 #[cfg(test)]
 mod disks;

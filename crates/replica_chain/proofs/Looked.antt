@@ -1,0 +1,102 @@
+-- Nodes whose journals were only looked at, and whose archives were only read.
+use Rattle.std.proofs.Common.{◌≡◌, ℕ, arith, sym, subst}
+use Rattle.std.specs.Prelude.{map}
+use Rattle.outside_api.specs.Says.{DiskSays}
+use Rattle.archive_file.specs.Archive.{disk_of as archive_disk_of, used_of}
+use Rattle.archive_file.specs.declared.archive.Archive.{Archive}
+use Rattle.depot_rows.specs.table_changes.Changed.{AllRows}
+use Rattle.disk_journal.specs.declared.journal.Journal.{Journal}
+use Rattle.recovery.specs.Holding.{group_texts}
+use Rattle.recovery.specs.Looking.{OnlyReads}
+use Rattle.replica_chain.specs.Chronicle.{Chronicle, rows_made}
+use Rattle.replica_chain.specs.Ends.{IsLooked}
+use Rattle.replica_chain.specs.Node.{CanFollow, HasContentsOf, HasFrontTo, IsNode, reach_of}
+use Rattle.replica_chain.specs.declared.node.Node.{Node}
+
+module _ {D : Type 0} (disk_says : DiskSays D) (old : Node D) where
+  -- ---- the journal
+
+  module _ (journal : Journal D) (looked : IsLooked disk_says old.link.journal journal) where
+    pub looked_node : (c : Chronicle) → IsNode disk_says old c → IsNode disk_says (record old { link = record { journal = journal } }) c
+    looked_node c n = record {
+      was = n.was;
+      doubt = n.doubt;
+      stands = looked.stands n.was n.doubt n.stands;
+      keeps = looked.keeps (map (group_texts 1) c.closed) n.keeps;
+      are = n.are;
+      are_groups = n.are_groups;
+      has = n.has;
+      pending = n.pending;
+      is_pending = n.is_pending;
+      pending_has = n.pending_has;
+      rows = n.rows;
+      tells = n.tells;
+      contents = n.contents;
+      before = n.before;
+      at = n.at;
+      number = n.number;
+      changes = n.changes;
+    }
+
+    pub looked_can : CanFollow disk_says old → CanFollow disk_says (record old { link = record { journal = journal } })
+    looked_can can =
+        let stands = looked.stands can.was can.doubt can.stands in
+        record {
+          was = can.was;
+          doubt = can.doubt;
+          stands = stands;
+          archive_end = can.archive_end;
+          room = can.room;
+          short = can.short;
+          numbered = can.numbered;
+          counted = (let before = can.stands.generation in let now = stands.generation in let counted = can.counted in omega (arith, before, now, counted));
+        }
+
+  -- ---- the archive
+
+  module _ (archive : Archive D) (reads : OnlyReads disk_says (archive_disk_of old.archive) (archive_disk_of archive)) (used : used_of archive ≡ used_of old.archive) where
+    read_contents : (rows pending : AllRows) → HasContentsOf disk_says old.archive rows pending → HasContentsOf disk_says archive rows pending
+    read_contents rows pending contents = record {
+      bytes = contents.bytes;
+      front = (let front = contents.front in let same : reach_of archive pending ≡ reach_of old.archive pending = omega (arith, used) in
+          subst (λ (place : ℕ). HasFrontTo (disk_says.may_leave (archive_disk_of archive)) place contents.bytes) (sym same) (record {
+            within = front.within;
+            has = λ image left. front.has image (reads.no_more image left);
+          }));
+      ends = (let ends = contents.ends in omega (arith, used, ends));
+      whole = contents.whole;
+      pending_whole = contents.pending_whole;
+    }
+
+    pub read_node : (c : Chronicle) → IsNode disk_says old c → IsNode disk_says (record old { archive = archive }) c
+    read_node c n = record {
+      was = n.was;
+      doubt = n.doubt;
+      stands = n.stands;
+      keeps = n.keeps;
+      are = n.are;
+      are_groups = n.are_groups;
+      has = n.has;
+      pending = n.pending;
+      is_pending = n.is_pending;
+      pending_has = n.pending_has;
+      rows = n.rows;
+      tells = (n.tells.0, reads.same.kept n.tells.0 n.tells.1);
+      contents = read_contents (rows_made c) (rows_made n.pending) n.contents;
+      before = n.before;
+      at = n.at;
+      number = n.number;
+      changes = n.changes;
+    }
+
+    pub read_can : CanFollow disk_says old → CanFollow disk_says (record old { archive = archive })
+    read_can can = record {
+      was = can.was;
+      doubt = can.doubt;
+      stands = can.stands;
+      archive_end = (let end = can.archive_end in omega (arith, end, used));
+      room = λ image left. (let room = can.room image (reads.no_more image left) in omega (arith, room, used));
+      short = can.short;
+      numbered = can.numbered;
+      counted = can.counted;
+    }

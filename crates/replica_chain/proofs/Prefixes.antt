@@ -1,0 +1,217 @@
+-- Nodes behind nodes, and nodes behind a master, which open to the depots after the first of its changes.
+use Rattle.std.proofs.Common.{◌≡◌, inl, inr, ℕ, suc, ◌+◌, ◌^◌, ◌≤◌, ◌<◌, max, Bool, true, false, cond, List, [], ◌∷◌, ◌++◌, length, take, drop, Some, refl, sym, ap, subst, ◌∙◌, append_assoc, arith, length-append}
+use Rattle.std.specs.Prelude.{map}
+use Rattle.std.specs.List.{AllByRecursion}
+use Rattle.std.proofs.Math.Seq.{take-append_seam}
+use Rattle.std.proofs.lemmas.List.{append-nil, take-append-drop, length-map}
+use Rattle.outside_api.specs.Disk.{Files}
+use Rattle.outside_api.specs.Link.{IsEarlier, text_of}
+use Rattle.outside_api.specs.Says.{DiskSays}
+use Rattle.archive_file.specs.Archive.{Has, disk_of as archive_disk_of, used_of}
+use Rattle.archive_file.specs.Contents.{IsTold}
+use Rattle.depot_rows.specs.depot_path.Path.{printed}
+use Rattle.depot_rows.specs.db_records.declared.change.Change.{Change}
+use Rattle.depot_rows.specs.db_records.declared.key.Key.{Key}
+use Rattle.depot_rows.specs.db_records.declared.key.Key.TheVariants as keys
+use Rattle.depot_rows.specs.db_records.declared.record.Record.{Record}
+use Rattle.depot_rows.specs.db_records.declared.record.Record.TheVariants.{Rev as RevRow}
+use Rattle.depot_rows.specs.db_records.declared.table.TableId.TheVariants.{Rev}
+use Rattle.depot_rows.specs.depot_model.Deeds.{Deed}
+use Rattle.depot_rows.specs.Standing.{Stand}
+use Rattle.depot_rows.specs.table_changes.Changed.{AllRows, changed_by, no_rows}
+use Rattle.depot_rows.specs.table_store.Rows.{is_at, row_at}
+use Rattle.disk_journal.specs.Images.{Committed, HasCommitted, with_generation, with_group}
+use Rattle.disk_journal.specs.Stands.{Doubtful, nothing, group, opening, HasWithOrWithout}
+use Rattle.journal_groups.specs.Groups.{IsGroup, groups_text}
+use Rattle.recovery.specs.Holding.{HasAllRows, joined, spot_end, spots_end}
+use Rattle.recovery.specs.Rules.{DeletesAreUnplaced}
+use Rattle.recovery.specs.Standing.{HasContent, HasContents, StandFor}
+use Rattle.replica_pull.specs.Prefix.{begun, changes_from, first_rows}
+use Rattle.replica_pull.specs.Replica.{beginning}
+use Rattle.replica_pull.proofs.Firsts.{begins}
+use Rattle.replica_chain.specs.Chronicle.{Chronicle, changes_of, generations_of, rows_made, texts_of, with_beginning, with_changes}
+use Rattle.replica_chain.specs.Ends.{HasTexts}
+use Rattle.replica_chain.specs.Masters.{IsBehind, IsDepotThen, IsMaster, OpensToAPrefix, StandsAfter, Upstream}
+use Rattle.replica_chain.specs.Node.{HasFrontTo, IsPending, reach_of, with_doubt}
+use Rattle.replica_chain.specs.declared.node.Node.{Node}
+use Rattle.replica_chain.proofs.Chains.{at_spot, earlier_on, front_on, shorter}
+use Rattle.replica_chain.proofs.Following.{front_of, has_later}
+use Rattle.replica_chain.proofs.Groups.{all-push}
+use Rattle.replica_chain.proofs.Growing.{changes_begun, changes_push, groups_push}
+use Rattle.replica_chain.proofs.Steps.{all_earlier, its_generation}
+use Rattle.replica_chain.proofs.Told.{told_texts}
+
+-- ---- changes at the front of others
+
+no_text : (n : ℕ) (later : List (List Change)) → [] ≡ groups_text n later → later ≡ []
+no_text n [] is = refl
+no_text n (x ∷ later) is = absurd cc
+
+-- texts of groups are those of no others
+one_text : (one other : List (List Change)) → AllByRecursion IsGroup one → AllByRecursion IsGroup other → groups_text 1 other ≡ groups_text 1 one → other ≡ one
+one_text one other are both same =
+    let on = begins 1 one other [] are both (same ∙ sym (append-nil (groups_text 1 one))) in
+    on.is ∙ ap (λ (l : List (List Change)). one ++ l) (no_text (1 + length one) on.later on.text) ∙ append-nil one
+
+first_changes : (g : ℕ) (closed : List (List (List Change))) (newest : List (List Change)) (all : List (List (List Change))) (n : ℕ)
+    → AllByRecursion (AllByRecursion IsGroup) (closed ++ newest ∷ []) → AllByRecursion (AllByRecursion IsGroup) all
+    → map (groups_text 1) closed ≡ take (length closed) (map (groups_text 1) all) → groups_text 1 newest ≡ take n (text_of (map (groups_text 1) all) (length closed)) → length closed + 1 ≤ length all
+    → (more : List (List Change)) × (changes_from g all ≡ changes_from g (closed ++ newest ∷ []) ++ more)
+first_changes g [] newest [] n are both same text there = absurd (omega (arith, there))
+first_changes g (x ∷ closed) newest [] n are both same text there = absurd (omega (arith, there))
+first_changes g [] newest (a ∷ all) n are both same text there =
+    let split : groups_text 1 a ≡ groups_text 1 newest ++ drop n (groups_text 1 a) = sym (take-append-drop n (groups_text 1 a)) ∙ ap (λ (l : List ℕ). l ++ drop n (groups_text 1 a)) (sym text) in
+    let on = begins 1 newest a (drop n (groups_text 1 a)) are.0 both.0 split in
+    let behind = changes_from (suc g) all in (
+      on.later ++ behind,
+      ap (λ (l : List (List Change)). begun g ++ (l ++ behind)) on.is
+          ∙ ap (λ (l : List (List Change)). begun g ++ l) (append_assoc newest on.later behind)
+          ∙ sym (append_assoc (begun g) newest (on.later ++ behind))
+          ∙ ap (λ (l : List (List Change)). (begun g ++ l) ++ (on.later ++ behind)) (sym (append-nil newest)),
+    )
+first_changes g (x ∷ closed) newest (a ∷ all) n are both same text there =
+    let one : groups_text 1 a ≡ groups_text 1 x = cc in
+    let tail : map (groups_text 1) closed ≡ take (length closed) (map (groups_text 1) all) = cc in
+    let here : a ≡ x = one_text x a are.0 both.0 one in
+    let on = first_changes (suc g) closed newest all n are.1 both.1 tail text (omega (arith, there)) in
+    let behind = changes_from (suc g) (closed ++ newest ∷ []) in (
+      on.0,
+      (λ i. begun g ++ (here i ++ on.1 i))
+          ∙ ap (λ (l : List (List Change)). begun g ++ l) (sym (append_assoc x behind on.0))
+          ∙ sym (append_assoc (begun g) (x ++ behind) on.0),
+    )
+
+-- the changes of an earlier journal are the first ones
+pub earlier_changes : (c later : Chronicle) → AllByRecursion (AllByRecursion IsGroup) (generations_of c) → AllByRecursion (AllByRecursion IsGroup) (generations_of later) → IsEarlier (texts_of c) (texts_of later)
+    → (more : List (List Change)) × (changes_of later ≡ changes_of c ++ more)
+earlier_changes c later are both e =
+    let f = front_of c (texts_of later) e in
+    first_changes 0 c.closed c.newest (generations_of later) (length (groups_text 1 c.newest)) are both f.closed f.newest
+    (let there = f.there in omega (arith, there, length-map (generations_of later) (groups_text 1), length-append later.closed (later.newest ∷ [])))
+
+-- ---- where spots end
+
+row_end : (rows : List Record) (key : Key) (row : Record) → row_at key rows ≡ Some row → spot_end row ≤ spots_end rows
+row_end [] key row e = absurd cc
+row_end (x ∷ rows) key row e = go (is_at key x) e (row_end rows key row)
+  where
+    go : (b : Bool) → cond b (Some x) (row_at key rows) ≡ Some row → (row_at key rows ≡ Some row → spot_end row ≤ spots_end rows) → spot_end row ≤ max (spot_end x) (spots_end rows)
+    go true e rest = let one : x ≡ row = cc in let same : spot_end x ≡ spot_end row = ap spot_end one in omega (arith, same)
+    go false e rest = let le = rest e in omega (arith, le)
+
+-- ---- depots after the first changes
+
+module _ (theirs : Chronicle) (bytes : List ℕ) (after : ℕ → List Deed) (master : IsMaster theirs bytes after) where
+  module _ (c : Chronicle) (are : AllByRecursion (AllByRecursion IsGroup) (generations_of c)) (earlier : IsEarlier (texts_of c) (texts_of theirs)) where
+    few : length (changes_of c) ≤ length (changes_of theirs)
+    few = let first = earlier_changes c theirs are master.are_groups earlier in omega (arith, ap length first.1, length-append (changes_of c) first.0)
+
+    rows_are : first_rows (length (changes_of c)) (generations_of theirs) ≡ rows_made c
+    rows_are =
+        let first = earlier_changes c theirs are master.are_groups earlier in
+        ap (λ (l : List (List Change)). changed_by no_rows (joined l)) (ap (take (length (changes_of c))) first.1 ∙ take-append_seam (changes_of c) first.0)
+
+    then : IsDepotThen (generations_of theirs) bytes (length (changes_of c)) (after (length (changes_of c)))
+    then = master.each (length (changes_of c)) few
+
+    -- files that have these changes, and the first of the bytes as far as the spots of the rows
+    stands_then : (was : Committed) (journal archive : Files) (place : ℕ) → HasCommitted was journal → HasAllRows was (rows_made c) → was.generation ≡ length c.closed
+        → Has (archive 0) (record { at = 0; length = place }) (take place bytes) → place ≤ length bytes → spots_end (rows_made c Rev) ≤ place → StandFor (after (length (changes_of c))) journal archive
+    stands_then was journal archive place committed has generation front within ends = record {
+      was = was;
+      committed = committed;
+      rows = rows_made c;
+      has = has;
+      stand = subst (λ (rows : AllRows). Stand rows (after (length (changes_of c)))) rows_are then.stand;
+      deletes = subst (λ (rows : AllRows). DeletesAreUnplaced (rows Rev)) rows_are then.deletes;
+      generation = master.generation c earlier ∙ sym generation;
+      within = (let reach = front.within in omega (arith, ends, reach));
+      contents = contents;
+    }
+      where
+        there : HasContents bytes (rows_made c) (after (length (changes_of c)))
+        there = subst (λ (rows : AllRows). HasContents bytes rows (after (length (changes_of c)))) rows_are then.contents
+
+        contents : HasContents (archive 0) (rows_made c) (after (length (changes_of c)))
+        contents path n r content is has_it =
+            let found = there path n r content is has_it in
+            let row = found.0 in
+            let end = row_end (rows_made c Rev) (keys.Rev (printed path) n) (RevRow row) found.1 in (
+              row,
+              found.1,
+              subst (λ (l : List ℕ). HasContent (archive 0) row l) found.2.is (at_spot (archive 0) bytes place row.at row.length front within (omega (arith, end, ends))),
+            )
+
+  module _ {D : Type 0} (disk_says : DiskSays D) (node : Node D) (mine : Chronicle) (b : IsBehind disk_says node mine (record { texts = texts_of theirs; bytes = bytes })) where
+    module _ (journal archive : Files) (front : Has (archive 0) (record { at = 0; length = reach_of node.archive (rows_made (b.is_node.pending)) }) (take (reach_of node.archive (rows_made (b.is_node.pending))) bytes)) where
+      after_then : (c : Chronicle) (was : Committed) → AllByRecursion (AllByRecursion IsGroup) (generations_of c) → IsEarlier (texts_of c) (texts_of theirs) → length (changes_of mine) ≤ length (changes_of c)
+          → HasCommitted was journal → HasAllRows was (rows_made c) → was.generation ≡ length c.closed → spots_end (rows_made c Rev) ≤ reach_of node.archive (rows_made (b.is_node.pending))
+          → StandsAfter after (length (changes_of theirs)) (length (changes_of mine)) journal archive
+      after_then c was are earlier fewer committed has generation ends = record {
+        changes = length (changes_of c);
+        no_fewer = fewer;
+        no_more = few c are earlier;
+        stands = stands_then c are earlier was journal archive (reach_of node.archive (rows_made (b.is_node.pending))) committed has generation front b.front.within ends;
+      }
+
+      -- what is committed alone
+      without : HasCommitted (b.is_node.was) journal → StandsAfter after (length (changes_of theirs)) (length (changes_of mine)) journal archive
+      without committed =
+          let m = b.is_node in
+          after_then mine m.was m.are_groups (all_earlier disk_says node mine (record { texts = texts_of theirs; bytes = bytes }) b) (omega arith) committed m.has (its_generation disk_says node mine m)
+          (let ends = m.contents.ends in omega (arith, ends))
+
+      -- and with what is in doubt
+      with_it : (c : Chronicle) (was : Committed) → b.is_node.pending ≡ c → AllByRecursion (AllByRecursion IsGroup) (generations_of c) → length (changes_of mine) ≤ length (changes_of c)
+          → HasCommitted was journal → HasAllRows was (rows_made (b.is_node.pending)) → was.generation ≡ length c.closed → StandsAfter after (length (changes_of theirs)) (length (changes_of mine)) journal archive
+      with_it c was is are fewer committed has generation =
+          after_then c was are (subst (λ (p : Chronicle). IsEarlier (texts_of p) (texts_of theirs)) is b.earlier) fewer committed (subst (λ (p : Chronicle). HasAllRows was (rows_made p)) is has) generation
+          (let same = ap (λ (p : Chronicle). spots_end (rows_made p Rev)) is in omega (arith, same))
+
+      stands_doubted : (doubt : Doubtful) → IsPending mine doubt (b.is_node.pending) → HasAllRows (with_doubt (b.is_node.was) doubt) (rows_made (b.is_node.pending)) → HasWithOrWithout (b.is_node.was) doubt journal
+          → StandsAfter after (length (changes_of theirs)) (length (changes_of mine)) journal archive
+      stands_doubted nothing is has image = without image
+      stands_doubted (group text) of has (inl image) = without image
+      stands_doubted (group text) of has (inr image) =
+          let m = b.is_node in
+          with_it (with_changes mine of.0) (with_group m.was text) of.3 (groups_push mine of.0 m.are_groups of.1)
+          (omega (arith, ap length (changes_push mine of.0), length-append (changes_of mine) (of.0 ∷ []))) image has (its_generation disk_says node mine m)
+      stands_doubted (opening checkpoint) is has (inl image) = without image
+      stands_doubted (opening checkpoint) is has (inr image) =
+          let m = b.is_node in
+          with_it (with_beginning mine) (with_generation m.was checkpoint) is (all-push (AllByRecursion IsGroup) (generations_of mine) [] m.are_groups tt)
+          (omega (arith, ap length (changes_begun mine), length-append (changes_of mine) ((beginning (1 + length mine.closed) ∷ []) ∷ []))) image has
+          (omega (arith, its_generation disk_says node mine m, length-append mine.closed (mine.newest ∷ [])))
+
+    -- each pair of images stands for such a depot
+    pub opens : OpensToAPrefix disk_says node after (length (changes_of theirs)) (length (changes_of mine))
+    opens journal archive left there =
+        let m = b.is_node in
+        stands_doubted journal archive (b.front.has archive there) m.doubt m.is_pending m.pending_has (m.stands.holds journal left)
+
+-- ---- nodes behind nodes
+
+module _ {D : Type 0} (disk_says : DiskSays D) (image : (disk : D) (files : Files) → disk_says.seen disk files → disk_says.may_leave disk files)
+    (short : (disk : D) (files : Files) (file : ℕ) → disk_says.seen disk files → length (files file) < 2 ^ 63) where
+  -- behind what a node tells that is behind a master
+  pub behind_on : (node up : Node D) (mine theirs : Chronicle) (told master : Upstream) → HasTexts disk_says up.link.journal told.texts → IsTold disk_says up.archive told.bytes
+      → IsBehind disk_says node mine told → IsBehind disk_says up theirs master → IsBehind disk_says node mine master
+  behind_on node up mine theirs told master texts bytes first second =
+      let m = first.is_node in
+      let u = second.is_node in
+      let disk = archive_disk_of up.archive in
+      let used = used_of up.archive in
+      let place = reach_of node.archive (rows_made m.pending) in
+      let same : told.texts ≡ texts_of theirs = told_texts disk_says image short up theirs u told.texts texts in
+      let later : IsEarlier told.texts master.texts = subst (λ (l : List (List ℕ)). IsEarlier l master.texts) (sym same) (all_earlier disk_says up theirs master second) in
+      let least = shorter (disk_says.may_leave disk) (reach_of up.archive (rows_made u.pending)) used master.bytes (omega arith) second.front in
+      let same_bytes : take used (bytes.files 0) ≡ take used master.bytes = (least.has bytes.files (image disk bytes.files bytes.sees)).is in
+      record {
+        is_node = m;
+        earlier = earlier_on (texts_of m.pending) told.texts master.texts first.earlier later;
+        rest = has_later told.texts master.texts (length mine.closed) node.rest node.at (length node.rest) later first.rest;
+        no_group = first.no_group;
+        front =
+            front_on (disk_says.may_leave (archive_disk_of node.archive)) (bytes.files 0) master.bytes place used same_bytes least.within
+            (subst (HasFrontTo (disk_says.may_leave (archive_disk_of node.archive)) place) bytes.are first.front);
+      }

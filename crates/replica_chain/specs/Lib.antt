@@ -1,0 +1,11 @@
+pub mod Apart
+pub mod Chronicle
+pub mod Copying
+pub mod Counting
+pub mod Ends
+pub mod Faults
+pub mod Feed
+pub mod Masters
+pub mod Node
+pub mod Opening
+pub mod Pulling

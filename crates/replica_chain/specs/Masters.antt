@@ -1,0 +1,108 @@
+-- Nodes behind a master: each has the first of its changes, and opens to the depot after them (Server Administrator Guide, "Replication", on replicas that take
+-- over). That the groups of a journal are the changes of its depot is this project's own choice.
+use Rattle.std.specs.Prelude.{◌≡◌, ◌≤◌, ℕ, List, length, codes}
+use Rattle.std.specs.List.{AllByRecursion}
+use Rattle.outside_api.specs.Disk.{Files}
+use Rattle.outside_api.specs.Link.{IsEarlier, text_of}
+use Rattle.outside_api.specs.Moments.{LeavesOnly}
+use Rattle.outside_api.specs.Says.{DiskSays}
+use Rattle.archive_file.specs.Archive.{Has, disk_of as archive_disk_of}
+use Rattle.depot_rows.specs.db_records.declared.change.Change.{Change}
+use Rattle.depot_rows.specs.db_records.declared.key.Key.TheVariants as keys
+use Rattle.depot_rows.specs.db_records.declared.table.TableId.TheVariants.{Rev}
+use Rattle.depot_rows.specs.depot_model.Deeds.{Deed}
+use Rattle.depot_rows.specs.depot_model.Records.{record_of}
+use Rattle.depot_rows.specs.depot_model.Rules.{value_of}
+use Rattle.depot_rows.specs.Standing.{Stand}
+use Rattle.disk_journal.specs.Images.{Committed, HasCommitted}
+use Rattle.disk_journal.specs.Stands.{disk_of}
+use Rattle.journal_groups.specs.Groups.{IsGroup}
+use Rattle.recovery.specs.Holding.{group_texts, spots_end}
+use Rattle.recovery.specs.Rules.{DeletesAreUnplaced}
+use Rattle.recovery.specs.Standing.{HasContents, StandFor}
+use Rattle.replica_pull.specs.Prefix.{HasGrown, HasNoGroup, IsJournalOf, first_rows}
+use Rattle.replica_chain.specs.Chronicle.{Chronicle, changes_of, generations_of, rows_made, texts_of}
+use Rattle.replica_chain.specs.Node.{HasFrontTo, IsNode, reach_of}
+use Rattle.replica_chain.specs.declared.node.Node.{Node}
+
+-- ---- a master
+
+-- The rows that the first n changes make stand for a depot, and the bytes have its contents at their spots.
+pub record IsDepotThen (generations : List (List (List Change))) (bytes : List ℕ) (n : ℕ) (d : List Deed) : Type 0 where
+  pub stand : Stand (first_rows n generations) d
+  pub deletes : DeletesAreUnplaced (first_rows n generations Rev)
+  pub within : spots_end (first_rows n generations Rev) ≤ length bytes
+  pub contents : HasContents bytes (first_rows n generations) d
+
+-- A master with these changes and these bytes in its archive: after each number of changes there was a depot, which tells its generation.
+pub record IsMaster (c : Chronicle) (bytes : List ℕ) (after : ℕ → List Deed) : Type 0 where
+  pub are_groups : AllByRecursion (AllByRecursion IsGroup) (generations_of c)
+  pub each : (n : ℕ) → n ≤ length (changes_of c) → IsDepotThen (generations_of c) bytes n (after n)
+  -- before a generation's first group and behind its last one the depot tells it
+  pub generation : (then : Chronicle) → IsEarlier (texts_of then) (texts_of c) →
+      value_of (record_of (after (length (changes_of then))) (keys.Counter (codes "journal"))) ≡ length then.closed
+
+-- ---- a node behind it
+
+-- what a node follows: the committed texts of a journal, and the bytes of an archive as far as it is used
+pub record Upstream : Type 0 where
+  pub texts : List (List ℕ)
+  pub bytes : List ℕ
+
+-- The node's changes, and what is in doubt, are the first ones upstream; what it keeps of the next one, which isn't whole yet, stands there behind them; and its
+-- archive has the first of the bytes there.
+pub record IsBehind {D : Type 0} (disk_says : DiskSays D) (node : Node D) (c : Chronicle) (up : Upstream) : Type 0 where
+  pub is_node : IsNode disk_says node c
+  pub earlier : IsEarlier (texts_of is_node.pending) up.texts
+  pub rest : Has (text_of up.texts (length c.closed)) (record { at = node.at; length = length node.rest }) node.rest
+  pub no_group : HasNoGroup node.number node.rest
+  pub front : HasFrontTo (disk_says.may_leave (archive_disk_of node.archive)) (reach_of node.archive (rows_made is_node.pending)) up.bytes
+
+-- a pair of images stands for the depot after so many changes of a master, no fewer than n
+pub record StandsAfter (after : ℕ → List Deed) (most n : ℕ) (journal archive : Files) : Type 0 where
+  pub changes : ℕ
+  pub no_fewer : n ≤ changes
+  pub no_more : changes ≤ most
+  pub stands : StandFor (after changes) journal archive
+
+-- each pair of a node's images does
+abbrev pub OpensToAPrefix : {D : Type 0} → DiskSays D → Node D → (ℕ → List Deed) → ℕ → ℕ → Type 0
+OpensToAPrefix disk_says node after most n =
+    (journal archive : Files) → disk_says.may_leave (disk_of node.link.journal) journal → disk_says.may_leave (archive_disk_of node.archive) archive → StandsAfter after most n journal archive
+
+-- ---- pulls
+
+-- an image of the journal's disk has the groups of these changes, and nothing in doubt
+pub record HasGroupsOf (c : Chronicle) (image : Files) : Type 0 where
+  pub was : Committed
+  pub committed : HasCommitted was image
+  pub generation : was.generation ≡ length c.closed
+  pub are : was.groups ≡ group_texts 1 c.newest
+
+-- an image of some moment: it has whole changes, no fewer than these, of those with the texts
+pub record HasSomeOf (c : Chronicle) (texts : List (List ℕ)) (image : Files) : Type 0 where
+  pub then : Chronicle
+  pub no_fewer : IsEarlier (texts_of c) (texts_of then)
+  pub earlier : IsEarlier (texts_of then) texts
+  pub has : HasGroupsOf then image
+
+-- each journal that is told is one of whole groups
+abbrev pub TellsGroups : (List (List ℕ) → Type 0) → Type 0
+TellsGroups told = (texts : List (List ℕ)) → told texts → (generations : List (List (List Change))) × IsJournalOf texts generations
+
+-- A node that had these changes, and was behind what it followed, is behind what it is told now, and has no fewer; and so has its journal at every moment since.
+pub record GoesOnBehind {D : Type 0} (disk_says : DiskSays D) (old new : Node D) (c : Chronicle) (up : Upstream) (told_texts : List (List ℕ) → Type 0) (told_bytes : List ℕ → Type 0) : Type 0 where
+  pub now : Chronicle
+  pub no_fewer : IsEarlier (texts_of c) (texts_of now)
+  pub later : Upstream
+  pub grown : HasGrown up.texts later.texts
+  pub texts_told : told_texts later.texts
+  pub bytes_told : told_bytes later.bytes
+  pub behind : IsBehind disk_says new now later
+  pub any_moment : LeavesOnly disk_says (disk_of old.link.journal) (disk_of new.link.journal) (HasSomeOf c later.texts)
+
+-- a node that had these changes has them, and perhaps more
+pub record HasNoFewer {D : Type 0} (disk_says : DiskSays D) (new : Node D) (c : Chronicle) : Type 0 where
+  pub now : Chronicle
+  pub no_fewer : IsEarlier (texts_of c) (texts_of now)
+  pub is_node : IsNode disk_says new now
