@@ -144,12 +144,13 @@ module _ (theirs : Chronicle) (bytes : List ℕ) (after : ℕ → List Deed) (ma
 
   module _ {D : Type 0} (disk_says : DiskSays D) (node : Node D) (mine : Chronicle) (b : IsBehind disk_says node mine (record { texts = texts_of theirs; bytes = bytes })) where
     module _ (journal archive : Files) (front : Has (archive 0) (record { at = 0; length = reach_of node.archive (rows_made (b.is_node.pending)) }) (take (reach_of node.archive (rows_made (b.is_node.pending))) bytes)) where
-      after_then : (c : Chronicle) (was : Committed) → AllByRecursion (AllByRecursion IsGroup) (generations_of c) → IsEarlier (texts_of c) (texts_of theirs) → length (changes_of mine) ≤ length (changes_of c)
+      after_then : (c : Chronicle) (was : Committed) → AllByRecursion (AllByRecursion IsGroup) (generations_of c) → IsEarlier (texts_of c) (texts_of theirs) → length (changes_of mine) ≤ length (changes_of c) → length (changes_of c) ≤ length (changes_of mine) + 1
           → HasCommitted was journal → HasAllRows was (rows_made c) → was.generation ≡ length c.closed → spots_end (rows_made c Rev) ≤ reach_of node.archive (rows_made (b.is_node.pending))
           → StandsAfter after (length (changes_of theirs)) (length (changes_of mine)) journal archive
-      after_then c was are earlier fewer committed has generation ends = record {
+      after_then c was are earlier fewer more committed has generation ends = record {
         changes = length (changes_of c);
         no_fewer = fewer;
+        one_more = more;
         no_more = few c are earlier;
         stands = stands_then c are earlier was journal archive (reach_of node.archive (rows_made (b.is_node.pending))) committed has generation front b.front.within ends;
       }
@@ -158,14 +159,14 @@ module _ (theirs : Chronicle) (bytes : List ℕ) (after : ℕ → List Deed) (ma
       without : HasCommitted (b.is_node.was) journal → StandsAfter after (length (changes_of theirs)) (length (changes_of mine)) journal archive
       without committed =
           let m = b.is_node in
-          after_then mine m.was m.are_groups (all_earlier disk_says node mine (record { texts = texts_of theirs; bytes = bytes }) b) (omega arith) committed m.has (its_generation disk_says node mine m)
+          after_then mine m.was m.are_groups (all_earlier disk_says node mine (record { texts = texts_of theirs; bytes = bytes }) b) (omega arith) (omega arith) committed m.has (its_generation disk_says node mine m)
           (let ends = m.contents.ends in omega (arith, ends))
 
       -- and with what is in doubt
-      with_it : (c : Chronicle) (was : Committed) → b.is_node.pending ≡ c → AllByRecursion (AllByRecursion IsGroup) (generations_of c) → length (changes_of mine) ≤ length (changes_of c)
+      with_it : (c : Chronicle) (was : Committed) → b.is_node.pending ≡ c → AllByRecursion (AllByRecursion IsGroup) (generations_of c) → length (changes_of mine) ≤ length (changes_of c) → length (changes_of c) ≤ length (changes_of mine) + 1
           → HasCommitted was journal → HasAllRows was (rows_made (b.is_node.pending)) → was.generation ≡ length c.closed → StandsAfter after (length (changes_of theirs)) (length (changes_of mine)) journal archive
-      with_it c was is are fewer committed has generation =
-          after_then c was are (subst (λ (p : Chronicle). IsEarlier (texts_of p) (texts_of theirs)) is b.earlier) fewer committed (subst (λ (p : Chronicle). HasAllRows was (rows_made p)) is has) generation
+      with_it c was is are fewer more committed has generation =
+          after_then c was are (subst (λ (p : Chronicle). IsEarlier (texts_of p) (texts_of theirs)) is b.earlier) fewer more committed (subst (λ (p : Chronicle). HasAllRows was (rows_made p)) is has) generation
           (let same = ap (λ (p : Chronicle). spots_end (rows_made p Rev)) is in omega (arith, same))
 
       stands_doubted : (doubt : Doubtful) → IsPending mine doubt (b.is_node.pending) → HasAllRows (with_doubt (b.is_node.was) doubt) (rows_made (b.is_node.pending)) → HasWithOrWithout (b.is_node.was) doubt journal
@@ -175,12 +176,12 @@ module _ (theirs : Chronicle) (bytes : List ℕ) (after : ℕ → List Deed) (ma
       stands_doubted (group text) of has (inr image) =
           let m = b.is_node in
           with_it (with_changes mine of.0) (with_group m.was text) of.3 (groups_push mine of.0 m.are_groups of.1)
-          (omega (arith, ap length (changes_push mine of.0), length-append (changes_of mine) (of.0 ∷ []))) image has (its_generation disk_says node mine m)
+          (omega (arith, ap length (changes_push mine of.0), length-append (changes_of mine) (of.0 ∷ []))) (omega (arith, ap length (changes_push mine of.0), length-append (changes_of mine) (of.0 ∷ []))) image has (its_generation disk_says node mine m)
       stands_doubted (opening checkpoint) is has (inl image) = without image
       stands_doubted (opening checkpoint) is has (inr image) =
           let m = b.is_node in
           with_it (with_beginning mine) (with_generation m.was checkpoint) is (all-push (AllByRecursion IsGroup) (generations_of mine) [] m.are_groups tt)
-          (omega (arith, ap length (changes_begun mine), length-append (changes_of mine) ((beginning (1 + length mine.closed) ∷ []) ∷ []))) image has
+          (omega (arith, ap length (changes_begun mine), length-append (changes_of mine) ((beginning (1 + length mine.closed) ∷ []) ∷ []))) (omega (arith, ap length (changes_begun mine), length-append (changes_of mine) ((beginning (1 + length mine.closed) ∷ []) ∷ []))) image has
           (omega (arith, its_generation disk_says node mine m, length-append mine.closed (mine.newest ∷ [])))
 
     -- each pair of images stands for such a depot

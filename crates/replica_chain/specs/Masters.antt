@@ -1,6 +1,6 @@
 -- Nodes behind a master: each has the first of its changes, and opens to the depot after them (Server Administrator Guide, "Replication", on replicas that take
 -- over). That the groups of a journal are the changes of its depot is this project's own choice.
-use Rattle.std.specs.Prelude.{◌≡◌, ◌≤◌, ℕ, List, length, codes}
+use Rattle.std.specs.Prelude.{◌≡◌, ◌≤◌, ℕ, ◌+◌, List, length, codes}
 use Rattle.std.specs.List.{AllByRecursion}
 use Rattle.outside_api.specs.Disk.{Files}
 use Rattle.outside_api.specs.Link.{IsEarlier, text_of}
@@ -58,10 +58,11 @@ pub record IsBehind {D : Type 0} (disk_says : DiskSays D) (node : Node D) (c : C
   pub no_group : HasNoGroup node.number node.rest
   pub front : HasFrontTo (disk_says.may_leave (archive_disk_of node.archive)) (reach_of node.archive (rows_made is_node.pending)) up.bytes
 
--- a pair of images stands for the depot after so many changes of a master, no fewer than n
+-- a pair of images stands for the depot after so many changes of a master, n or one more
 pub record StandsAfter (after : ℕ → List Deed) (most n : ℕ) (journal archive : Files) : Type 0 where
   pub changes : ℕ
   pub no_fewer : n ≤ changes
+  pub one_more : changes ≤ n + 1
   pub no_more : changes ≤ most
   pub stands : StandFor (after changes) journal archive
 

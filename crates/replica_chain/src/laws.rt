@@ -17,7 +17,7 @@ pub fn nodes_behind_nodes<D: Disk>(node: &Node<D>, up: &Node<D>)
         IsBehind D.says node.now mine told → IsBehind D.says up.now theirs master → IsBehind D.says node.now mine master }
 {}
 
-/// Each pair of images of a node's disks that is behind a master stands for the depot after some of the master's first changes, no fewer than the node has. So
+/// Each pair of images of a node's disks that is behind a master stands for the depot after so many of the master's changes as the node has, or one more. So
 /// it does at every stop, and files that read so are those of a depot, to which the node's files are promoted.
 pub fn nodes_open_to_prefixes<D: Disk>(node: &Node<D>)
     ensures { (mine theirs : Chronicle) (bytes : List ℕ) (after : ℕ → List Deed) → IsMaster theirs bytes after →
