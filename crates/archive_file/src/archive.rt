@@ -5,7 +5,7 @@ ghost use Rattle.outside_api.specs.Count.{HasCause, counted};
 ghost use Rattle.outside_api.specs.Disk.{Files, NoMore, Same, StillTells};
 ghost use Rattle.outside_api.specs.Moments.{LeavesOnly};
 ghost use Rattle.db_records.specs.declared.change.Spot.{Spot};
-ghost use Rattle.archive_file.specs.Archive.{disk_of, used_of, end_of, Has, AllHave, HasMemoryOr};
+ghost use Rattle.archive_file.specs.Archive.{disk_of, used_of, end_of, Has, AllHave, HasMemoryOr, RisesForFaults};
 ghost use Rattle.md5.specs.Md5.{md5};
 ghost use Rattle.hex.specs.Hex.{encode_upper as digits_of};
 
@@ -73,6 +73,7 @@ impl<D: Disk> Archive<D> {
         ensures used { used_of self.new ≡ used_of self.old }
         ensures asked { OnOk result (D.says.calls (disk_of self.new) ≡ counted 2 (D.says.calls (disk_of self.old))) }
         ensures at_most { D.says.calls (disk_of self.new) ≤ counted 2 (D.says.calls (disk_of self.old)) }
+        ensures only { OnOk result (D.says.faults (disk_of self.new) ≡ D.says.faults (disk_of self.old)) }
         ensures cause { HasCause (D.says.faults (disk_of self.old)) (D.says.faults (disk_of self.new)) result }
     {
         let spot = self.write(at, content)?;
@@ -96,6 +97,7 @@ impl<D: Disk> Archive<D> {
         ensures told { StillTells (D.says.seen (disk_of self.old)) (D.says.seen (disk_of self.new)) }
         ensures used { used_of self.new ≡ used_of self.old }
         ensures asked { D.says.calls (disk_of self.new) ≡ counted 1 (D.says.calls (disk_of self.old)) }
+        ensures only { OnOk result (D.says.faults (disk_of self.new) ≡ D.says.faults (disk_of self.old)) }
         ensures cause { HasCause (D.says.faults (disk_of self.old)) (D.says.faults (disk_of self.new)) result }
     {
         self.disk.write_at(FILE, at, content)?;
@@ -115,6 +117,7 @@ impl<D: Disk> Archive<D> {
         ensures told { StillTells (D.says.seen (disk_of self.old)) (D.says.seen (disk_of self.new)) }
         ensures used { used_of self.new ≡ used_of self.old }
         ensures asked { D.says.calls (disk_of self.new) ≡ counted 1 (D.says.calls (disk_of self.old)) }
+        ensures only { OnOk result (D.says.faults (disk_of self.new) ≡ D.says.faults (disk_of self.old)) }
         ensures cause { HasCause (D.says.faults (disk_of self.old)) (D.says.faults (disk_of self.new)) result }
     {
         self.disk.sync()?;
@@ -139,6 +142,7 @@ impl<D: Disk> Archive<D> {
         ensures crash { NoMore (D.says.may_leave (disk_of self.old)) (D.says.may_leave (disk_of self.new)) }
         ensures any_moment { LeavesOnly D.says (disk_of self.old) (disk_of self.new) (D.says.may_leave (disk_of self.old)) }
         ensures used { used_of self.new ≡ used_of self.old }
+        ensures only { RisesForFaults (D.says.faults (disk_of self.old)) (D.says.faults (disk_of self.new)) result }
         ensures cause { HasMemoryOr (D.says.faults (disk_of self.old)) (D.says.faults (disk_of self.new)) result }
     {
         prove!(spot.at <= self.used);
@@ -164,6 +168,7 @@ impl<D: Disk> Archive<D> {
         ensures crash { NoMore (D.says.may_leave (disk_of self.old)) (D.says.may_leave (disk_of self.new)) }
         ensures any_moment { LeavesOnly D.says (disk_of self.old) (disk_of self.new) (D.says.may_leave (disk_of self.old)) }
         ensures used { used_of self.new ≡ used_of self.old }
+        ensures only { RisesForFaults (D.says.faults (disk_of self.old)) (D.says.faults (disk_of self.new)) result }
         ensures cause { HasMemoryOr (D.says.faults (disk_of self.old)) (D.says.faults (disk_of self.new)) result }
     {
         digest_on_disk(alloc, &mut self.disk, spot, &mut [0u8; 4096])

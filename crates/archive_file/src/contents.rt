@@ -2,7 +2,7 @@
 
 ghost use Rattle.std.specs.Prelude.{◌≡◌, ◌↔◌, ◌≤◌, ◌<◌, ℕ, List, length, Err, IfOk, IsTrue};
 ghost use Rattle.archive_file.specs.Archive.{Has, end_of};
-ghost use Rattle.archive_file.specs.Contents.{HasContentsCause, IsFront, IsTold};
+ghost use Rattle.archive_file.specs.Contents.{HasContentsCause, IsFront, IsLooked, IsTold, RisesForFailures};
 ghost use Rattle.archive_file.specs.declared.contents.ContentsFault.TheVariants.{Absent};
 
 use crate::archive::{Archive, ContentFault};
@@ -34,6 +34,9 @@ pub trait Contents {
     /// doesn't tell its archive has none.
     ghost tells: { Self → List ℕ → Type 0 };
 
+    /// What a call leaves of it.
+    ghost keeps: { Self → Self → Type 0 };
+
     /// The bytes at a spot, of at most 8,388,608 bytes.
     fn content(&mut self, alloc: Global, spot: Spot) -> Result<Text, ContentsFault>
         requires { spot.length ≤ 8388608 }
@@ -42,6 +45,8 @@ pub trait Contents {
         ensures absent { (bytes : List ℕ) → tells self.new bytes → result ≡ Err Absent → length bytes < end_of spot }
         ensures whole { IfOk result (λ text. length text ≡ spot.length) }
         ensures grows { (before : List ℕ) → tells self.old before → (now : List ℕ) × tells self.new now × IsFront before now }
+        ensures keeps { keeps self.old self.new }
+        ensures only { RisesForFailures (faults self.old) (faults self.new) result }
         ensures cause { HasContentsCause (faults self.old) (faults self.new) result };
 }
 
@@ -58,6 +63,8 @@ impl<D: Disk> Contents for Archive<D> {
     ghost faults = { λ archive. D.says.faults (disk_of archive) };
 
     ghost tells = { λ archive bytes. IsTold D.says archive bytes };
+
+    ghost keeps = { λ old new. IsLooked D.says old new };
 
     /// Bytes that the disk doesn't have, though they are counted as used, are answered as want of memory.
     #[tactic(auto, using(crate::proofs::Fronts::told_same))]

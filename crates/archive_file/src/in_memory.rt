@@ -1,6 +1,6 @@
 //! The contents of an archive in memory.
 
-ghost use Rattle.std.specs.Prelude.{◌≡◌, ◌≤◌, ◌<◌, length, IfSome, IsTrue, None};
+ghost use Rattle.std.specs.Prelude.{◌≡◌, ◌≤◌, ◌<◌, length, IfSome, IsFalse, IsTrue, None};
 ghost use Rattle.outside_api.specs.Count.{HasRisen};
 ghost use Rattle.archive_file.specs.Archive.{Has, end_of};
 
@@ -39,6 +39,7 @@ impl MemoryContents {
         ensures bytes { contents_bytes self.new ≡ contents_bytes self.old }
         ensures later { contents_faults self.old ≤ contents_faults self.new }
         ensures risen { IsTrue result → HasRisen (contents_faults self.old) (contents_faults self.new) }
+        ensures stands { IsFalse result → contents_faults self.new ≡ contents_faults self.old }
     {
         self.calls = self.calls.saturating_add(1);
         let fails = self.fails.contains(&self.calls);
@@ -67,6 +68,8 @@ impl Contents for MemoryContents {
     ghost faults = { contents_faults };
 
     ghost tells = { λ contents bytes. bytes ≡ contents_bytes contents };
+
+    ghost keeps = { λ old new. contents_bytes new ≡ contents_bytes old };
 
     #[tactic(auto, using(crate::proofs::Fronts::stays, crate::proofs::Fronts::has_length))]
     fn content(&mut self, alloc: Global, spot: Spot) -> Result<Text, ContentsFault> {

@@ -112,6 +112,7 @@ fn note(log: &mut Vec<Call>, call: Call) -> Result<(), AllocError>
 // A call that changes nothing.
 fn look(failing: &mut Failing, log: &mut Vec<Call>) -> Result<(), Failed>
     ensures log { (log.new.items ≡ log.old.items) ⊎ (log.new.items ≡ log.old.items ++ Look ∷ []) }
+    ensures only { OnOk result (failing.new.faults ≡ failing.old.faults) }
     ensures cause { HasCause failing.old.faults failing.new.faults result }
     ensures fails { IsTrue (fails_next (calls_of failing.old)) → IsErr result }
     ensures calls { calls_of failing.new ≡ one_more (calls_of failing.old) }
@@ -182,6 +183,7 @@ impl Disk for MemoryDisk {
         ensures crash { NoMore (may_be_left self.old) (may_be_left self.new) }
         ensures time { Elapses (moment_of self.old) (moment_of self.new) (left_since self.old) (left_since self.new) (may_be_left self.new) }
         ensures asked { (disk_calls self.new).count ≡ counted 1 (disk_calls self.old).count }
+        ensures only { OnOk result (disk_faults self.new ≡ disk_faults self.old) }
         ensures cause { HasCause (disk_faults self.old) (disk_faults self.new) result }
         ensures fails { IsTrue (fails_next (disk_calls self.old)) → IsErr result }
         ensures calls { disk_calls self.new ≡ one_more (disk_calls self.old) }
@@ -197,6 +199,7 @@ impl Disk for MemoryDisk {
         ensures crash { NoMore (may_be_left self.old) (may_be_left self.new) }
         ensures time { Elapses (moment_of self.old) (moment_of self.new) (left_since self.old) (left_since self.new) (may_be_left self.new) }
         ensures asked { (disk_calls self.new).count ≡ counted 1 (disk_calls self.old).count }
+        ensures only { OnOk result (disk_faults self.new ≡ disk_faults self.old) }
         ensures cause { HasCause (disk_faults self.old) (disk_faults self.new) result }
         ensures fails { IsTrue (fails_next (disk_calls self.old)) → IsErr result }
         ensures calls { disk_calls self.new ≡ one_more (disk_calls self.old) }
@@ -213,6 +216,7 @@ impl Disk for MemoryDisk {
         ensures crash { Follows (OnFile file (Torn at (length piece.now))) (may_be_left self.old) (may_be_left self.new) }
         ensures time { Elapses (moment_of self.old) (moment_of self.new) (left_since self.old) (left_since self.new) (may_be_left self.new) }
         ensures asked { (disk_calls self.new).count ≡ counted 1 (disk_calls self.old).count }
+        ensures only { OnOk result (disk_faults self.new ≡ disk_faults self.old) }
         ensures cause { HasCause (disk_faults self.old) (disk_faults self.new) result }
         ensures fails { IsTrue (fails_next (disk_calls self.old)) → IsErr result }
         ensures calls { disk_calls self.new ≡ one_more (disk_calls self.old) }
@@ -238,6 +242,7 @@ impl Disk for MemoryDisk {
         ensures crash { Follows (OnFile file (Cut length)) (may_be_left self.old) (may_be_left self.new) }
         ensures time { Elapses (moment_of self.old) (moment_of self.new) (left_since self.old) (left_since self.new) (may_be_left self.new) }
         ensures asked { (disk_calls self.new).count ≡ counted 1 (disk_calls self.old).count }
+        ensures only { OnOk result (disk_faults self.new ≡ disk_faults self.old) }
         ensures cause { HasCause (disk_faults self.old) (disk_faults self.new) result }
         ensures fails { IsTrue (fails_next (disk_calls self.old)) → IsErr result }
         ensures calls { disk_calls self.new ≡ one_more (disk_calls self.old) }
@@ -265,6 +270,7 @@ impl Disk for MemoryDisk {
         ensures crash { NoMore (may_be_left self.old) (may_be_left self.new) }
         ensures time { Elapses (moment_of self.old) (moment_of self.new) (left_since self.old) (left_since self.new) (may_be_left self.new) }
         ensures asked { (disk_calls self.new).count ≡ counted 1 (disk_calls self.old).count }
+        ensures only { OnOk result (disk_faults self.new ≡ disk_faults self.old) }
         ensures cause { HasCause (disk_faults self.old) (disk_faults self.new) result }
         ensures fails { IsTrue (fails_next (disk_calls self.old)) → IsErr result }
         ensures calls { disk_calls self.new ≡ one_more (disk_calls self.old) }

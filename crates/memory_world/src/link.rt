@@ -152,13 +152,14 @@ impl MemoryLink {
 impl Link for MemoryLink {
     ghost use Rattle.memory_world.specs.Link.{link_journal, link_faults, link_calls};
 
-    ghost says = { record { tells = λ link now. now ≡ link_journal link; faults = link_faults } };
+    ghost says = { record { tells = λ link now. now ≡ link_journal link; faults = link_faults; keeps = λ old new. link_journal new ≡ link_journal old } };
 
     fn fetch(&mut self, generation: u32, at: u64, buffer: &mut [u8]) -> Result<Fetched, Failed>
         requires { 0 < length buffer.old }
         ensures answer { (now : List (List ℕ)) → now ≡ link_journal self.new → IfOk result (λ fetched. (earlier : List (List ℕ)) × IsEarlier earlier now × Answers earlier generation at fetched buffer.new) }
         ensures fits { IfOk result (λ fetched. Fits fetched (length buffer.old)) }
         ensures grows { (before : List (List ℕ)) → before ≡ link_journal self.old → (now : List (List ℕ)) × (now ≡ link_journal self.new) × IsEarlier before now }
+        ensures keeps { link_journal self.new ≡ link_journal self.old }
         ensures cause { HasCause (link_faults self.old) (link_faults self.new) result }
         ensures newest { IfOk result (λ fetched. Answers (link_journal self.old) generation at fetched buffer.new) }
         ensures exactly { is_err result ≡ fails_next (link_calls self.old) }

@@ -64,13 +64,14 @@ impl LossyLink {
 impl Link for LossyLink {
     ghost use Rattle.memory_world.specs.Lossy.{lossy_journal, lossy_faults, lossy_calls, losses_left, begins_with_fail, Passes};
 
-    ghost says = { record { tells = λ link now. now ≡ lossy_journal link; faults = lossy_faults } };
+    ghost says = { record { tells = λ link now. now ≡ lossy_journal link; faults = lossy_faults; keeps = λ old new. lossy_journal new ≡ lossy_journal old } };
 
     fn fetch(&mut self, generation: u32, at: u64, buffer: &mut [u8]) -> Result<Fetched, Failed>
         requires { 0 < length buffer.old }
         ensures answer { (now : List (List ℕ)) → now ≡ lossy_journal self.new → IfOk result (λ fetched. (earlier : List (List ℕ)) × IsEarlier earlier now × Answers earlier generation at fetched buffer.new) }
         ensures fits { IfOk result (λ fetched. Fits fetched (length buffer.old)) }
         ensures grows { (before : List (List ℕ)) → before ≡ lossy_journal self.old → (now : List (List ℕ)) × (now ≡ lossy_journal self.new) × IsEarlier before now }
+        ensures keeps { lossy_journal self.new ≡ lossy_journal self.old }
         ensures cause { HasCause (lossy_faults self.old) (lossy_faults self.new) result }
         ensures exactly { is_err result ≡ (fails_next (lossy_calls self.old) || begins_with_fail (losses_left self.old)) }
         ensures calls { lossy_calls self.new ≡ one_more (lossy_calls self.old) }

@@ -5,3 +5,4 @@ pub mod Says
 pub mod Moments
 pub mod Steps
 pub mod Link
+pub mod Reaching

@@ -41,6 +41,8 @@ pub record LinkSays (L : Type 0) : Type 1 where
   pub tells : L → List (List ℕ) → Type 0
   -- how often it has failed
   pub faults : L → ℕ
+  -- a call may leave it so
+  pub keeps : L → L → Type 0
 
 pub record ClockSays (C : Type 0) : Type 1 where
   -- it may give this moment

@@ -15,7 +15,8 @@ use crate::stream::Failed;
 /// of these is a set of files. A disk that tells nothing has no files in any of them, and then the
 /// clauses on content say nothing. Between two syncs a range that was written may hold any bytes, and
 /// so may all bytes past the least length that the file had; the length may be any that the file had
-/// or passed through. A failed call leaves its range in doubt.
+/// or passed through. A failed call leaves its range in doubt,
+/// and its count rises with a failed call alone.
 pub trait Disk {
     /// What it says.
     ghost says: { DiskSays Self };
@@ -28,6 +29,7 @@ pub trait Disk {
         ensures crash { NoMore (says.may_leave self.old) (says.may_leave self.new) }
         ensures time { Passes says self.old self.new }
         ensures asked { says.calls self.new ≡ counted 1 (says.calls self.old) }
+        ensures only { OnOk result (says.faults self.new ≡ says.faults self.old) }
         ensures cause { HasCause (says.faults self.old) (says.faults self.new) result };
 
     /// Puts bytes of a file from a place on at the front of the buffer, and answers how many: at
@@ -39,6 +41,7 @@ pub trait Disk {
         ensures crash { NoMore (says.may_leave self.old) (says.may_leave self.new) }
         ensures time { Passes says self.old self.new }
         ensures asked { says.calls self.new ≡ counted 1 (says.calls self.old) }
+        ensures only { OnOk result (says.faults self.new ≡ says.faults self.old) }
         ensures cause { HasCause (says.faults self.old) (says.faults self.new) result };
 
     /// Writes over what is there, and past the end. Until a sync, a crash may leave any bytes in the range.
@@ -50,6 +53,7 @@ pub trait Disk {
         ensures crash { Follows (OnFile file (Torn at (length piece.now))) (says.may_leave self.old) (says.may_leave self.new) }
         ensures time { Passes says self.old self.new }
         ensures asked { says.calls self.new ≡ counted 1 (says.calls self.old) }
+        ensures only { OnOk result (says.faults self.new ≡ says.faults self.old) }
         ensures cause { HasCause (says.faults self.old) (says.faults self.new) result };
 
     /// Cuts a file to a length. Until a sync, a crash may leave a longer file.
@@ -60,6 +64,7 @@ pub trait Disk {
         ensures crash { Follows (OnFile file (Cut length)) (says.may_leave self.old) (says.may_leave self.new) }
         ensures time { Passes says self.old self.new }
         ensures asked { says.calls self.new ≡ counted 1 (says.calls self.old) }
+        ensures only { OnOk result (says.faults self.new ≡ says.faults self.old) }
         ensures cause { HasCause (says.faults self.old) (says.faults self.new) result };
 
     /// After it, a crash leaves what a read gives.
@@ -70,6 +75,7 @@ pub trait Disk {
         ensures crash { NoMore (says.may_leave self.old) (says.may_leave self.new) }
         ensures time { Passes says self.old self.new }
         ensures asked { says.calls self.new ≡ counted 1 (says.calls self.old) }
+        ensures only { OnOk result (says.faults self.new ≡ says.faults self.old) }
         ensures cause { HasCause (says.faults self.old) (says.faults self.new) result };
 
     /// What the disk reads is one of its images.

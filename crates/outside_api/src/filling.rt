@@ -1,6 +1,6 @@
 //! Reading as far as a buffer and a file go.
 
-ghost use Rattle.std.specs.Prelude.{◌≡◌, ◌+◌, ◌<◌, ◌≤◌, ◌^◌, length, take, drop, IfOk};
+ghost use Rattle.std.specs.Prelude.{◌≡◌, ◌+◌, ◌<◌, ◌≤◌, ◌^◌, length, take, drop, IfOk, OnOk};
 ghost use Rattle.outside_api.specs.Count.{HasCause};
 ghost use Rattle.outside_api.specs.Disk.{Files, NoMore, Same};
 ghost use Rattle.outside_api.specs.Moments.{LeavesOnly};
@@ -17,6 +17,7 @@ pub fn fill<D: Disk>(disk: &mut D, file: u32, at: u64, buffer: &mut [u8]) -> Res
     ensures same { Same (D.says.seen disk.old) (D.says.seen disk.new) }
     ensures crash { NoMore (D.says.may_leave disk.old) (D.says.may_leave disk.new) }
     ensures any_moment { LeavesOnly D.says disk.old disk.new (D.says.may_leave disk.old) }
+    ensures only { OnOk result (D.says.faults disk.new ≡ D.says.faults disk.old) }
     ensures cause { HasCause (D.says.faults disk.old) (D.says.faults disk.new) result }
 {
     let mut done = 0;

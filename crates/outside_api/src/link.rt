@@ -30,5 +30,6 @@ pub trait Link {
         ensures answer { (now : List (List ℕ)) → says.tells self.new now → IfOk result (λ fetched. (earlier : List (List ℕ)) × IsEarlier earlier now × Answers earlier generation at fetched buffer.new) }
         ensures fits { IfOk result (λ fetched. Fits fetched (length buffer.old)) }
         ensures grows { (before : List (List ℕ)) → says.tells self.old before → (now : List (List ℕ)) × says.tells self.new now × IsEarlier before now }
+        ensures keeps { says.keeps self.old self.new }
         ensures cause { HasCause (says.faults self.old) (says.faults self.new) result };
 }

@@ -20,6 +20,7 @@ pub fn write_through<D: Disk>(disk: &mut D, file: u32, at: u64, piece: &[u8]) ->
     ensures any_moment { LeavesOnly D.says disk.old disk.new (After (OnFile file (Torn at (length piece.now))) (D.says.may_leave disk.old)) }
     ensures asked { OnOk result (D.says.calls disk.new ≡ counted 2 (D.says.calls disk.old)) }
     ensures at_most { D.says.calls disk.new ≤ counted 2 (D.says.calls disk.old) }
+    ensures only { OnOk result (D.says.faults disk.new ≡ D.says.faults disk.old) }
     ensures cause { HasCause (D.says.faults disk.old) (D.says.faults disk.new) result }
 {
     disk.write_at(file, at, piece)?;

@@ -1,6 +1,6 @@
 //! Numbered files in a folder.
 
-ghost use Rattle.std.specs.Prelude.{◌≡◌, ◌≤◌, ◌<◌, ◌^◌, length, Ok, IfOk};
+ghost use Rattle.std.specs.Prelude.{◌≡◌, ◌≤◌, ◌<◌, ◌^◌, length, Ok, IfOk, OnOk};
 ghost use Rattle.outside_api.specs.Count.{HasCause};
 
 use crate::count::Faults;
@@ -55,6 +55,7 @@ impl<'a, R: Files<File = File>> FolderDisk<'a, R> {
 /// An answer of the machine, whose error is counted.
 fn counted<T: Drop>(faults: &mut Faults<io::Error>, answer: io::Result<T>) -> Result<T, Failed>
     ensures value { IfOk result (λ value. answer ≡ Ok value) }
+    ensures only { OnOk result (faults.new.count ≡ faults.old.count) }
     ensures cause { HasCause faults.old.count faults.new.count result }
 {
     match answer {

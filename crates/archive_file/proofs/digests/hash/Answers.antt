@@ -35,5 +35,5 @@ loop-done-preserved g c =
       same = record { kept = λ f read. c.fill.ensures.same.kept f (inv.same.kept f read); no_more = λ f read. inv.same.no_more f (c.fill.ensures.same.no_more f read) };
       crash = λ f left. inv.crash f (c.fill.ensures.crash f left);
       any_moment = then g.D.Disk.says c.args.disk.now c.loop-done.disk c.fill.new.disk (g.D.Disk.says.may_leave c.args.disk.now) inv.any_moment (weaker g.D.Disk.says c.loop-done.disk c.fill.new.disk (g.D.Disk.says.may_leave c.loop-done.disk) (g.D.Disk.says.may_leave c.args.disk.now) inv.crash c.fill.ensures.any_moment);
-      faults = omega (arith, inv.faults, c.fill.ensures.cause.never_falls);
+      faults = c.in_ok-count.ensures.only ∙ inv.faults;
     }

@@ -1,4 +1,4 @@
-use Rattle.std.proofs.Common.{◌+◌, ◌-◌, ◌≤◌, length, take, drop}
+use Rattle.std.proofs.Common.{◌≡◌, ◌+◌, ◌-◌, ◌≤◌, length, take, drop}
 use Rattle.md5.specs.Md5.{Holds}
 use Rattle.outside_api.specs.Disk.{Files, NoMore, Same}
 use Rattle.outside_api.specs.Moments.{LeavesOnly}
@@ -11,7 +11,7 @@ invariant-loop-done g l = record {
   same : Same (g.D.Disk.says.seen l.fn.disk) (g.D.Disk.says.seen l.disk);
   crash : NoMore (g.D.Disk.says.may_leave l.fn.disk) (g.D.Disk.says.may_leave l.disk);
   any_moment : LeavesOnly g.D.Disk.says l.fn.disk l.disk (g.D.Disk.says.may_leave l.fn.disk);
-  faults : g.D.Disk.says.faults l.fn.disk ≤ g.D.Disk.says.faults l.disk;
+  faults : g.D.Disk.says.faults l.disk ≡ g.D.Disk.says.faults l.fn.disk;
 }
 
 abbrev pub decreases-loop-done : goal.decreases-loop-done

@@ -1,4 +1,4 @@
-use Rattle.std.proofs.Common.{◌+◌, ◌-◌, ◌≤◌, length, drop, arith, rules, length-drop}
+use Rattle.std.proofs.Common.{◌∙◌, ◌+◌, ◌-◌, ◌≤◌, length, drop, arith, rules, length-drop}
 use Rattle.outside_api.specs.Disk.{Files}
 use Rattle.outside_api.specs.Moments.{goes_on}
 use Rattle.outside_api.proofs.Reading.{more_read}
@@ -22,5 +22,5 @@ loop-done-preserved g c =
       same = record { kept = λ f read. c.read.ensures.same.kept f (so_far.same.kept f read); no_more = λ f read. so_far.same.no_more f (c.read.ensures.same.no_more f read) };
       crash = λ f left. so_far.crash f (c.read.ensures.crash f left);
       any_moment = goes_on g.D.Disk.says c.args.disk.now c.loop-done.disk c.read.new.self P so_far.any_moment c.read.ensures.time (λ f left. so_far.crash f (c.read.ensures.crash f left));
-      faults = omega (arith, so_far.faults, c.read.ensures.cause.never_falls);
+      faults = c.in_ok-count.ensures.only ∙ so_far.faults;
     }

@@ -10,7 +10,7 @@ invariant-loop-done g l = record {
   same : Same (g.D.Disk.says.seen l.initial.disk) (g.D.Disk.says.seen l.disk);
   crash : NoMore (g.D.Disk.says.may_leave l.initial.disk) (g.D.Disk.says.may_leave l.disk);
   any_moment : LeavesOnly g.D.Disk.says l.initial.disk l.disk (g.D.Disk.says.may_leave l.initial.disk);
-  faults : g.D.Disk.says.faults l.initial.disk ≤ g.D.Disk.says.faults l.disk;
+  faults : g.D.Disk.says.faults l.disk ≡ g.D.Disk.says.faults l.initial.disk;
 }
 
 abbrev pub decreases-loop-done : goal.decreases-loop-done
