@@ -1,13 +1,17 @@
 -- What a scan of a closed generation's file meets, block by block.
-use Rattle.std.proofs.Common.{◌≡◌, ◌≢◌, ℕ, ◌+◌, ◌-◌, ◌^◌, ◌<◌, ◌≤◌, List, [], ◌∷◌, ◌++◌, length, take, drop, Option, Some, None, inl, inr, refl, sym, ◌∙◌, ap, subst, arith, append_assoc, length-append}
+use Rattle.std.proofs.Common.{◌≡◌, ◌≢◌, ℕ, ◌+◌, ◌-◌, ◌*◌, ◌^◌, ◌<◌, ◌≤◌, List, [], ◌∷◌, ◌++◌, length, take, drop, Option, Some, None, inl, inr, refl, sym, ◌∙◌, ap, subst, arith, append_assoc, length-append}
 use Rattle.std.specs.Prelude.{decimal}
 use Rattle.std.proofs.Math.Seq.{take-append-add}
 use Rattle.std.proofs.lemmas.List.{drop_at, append-nil}
 use Rattle.std.proofs.lemmas.Fmt.{length-decimal-le}
+use Rattle.outside_api.specs.Disk.{Files, NoMore}
+use Rattle.outside_api.specs.Says.{DiskSays}
 use Rattle.disk_journal.specs.Text.{head, mark, blocks, IsGroup, AreGroupsFrom}
 use Rattle.disk_journal.specs.Head.{HasBlock}
 use Rattle.disk_journal.specs.Older.{IsClosed}
-use Rattle.disk_journal.specs.Fetch.{IsBlockAt, ReachesTo}
+use Rattle.disk_journal.specs.Scanned.{HasScanned}
+use Rattle.disk_journal.specs.declared.scanned.Scanned.{Scanned}
+use Rattle.disk_journal.specs.Fetch.{IsBlockAt, IsReached, ReachesTo}
 use Rattle.disk_journal.proofs.Blocks.{length_push, length-blocks, blocks-append, are_groups-behind}
 use Rattle.disk_journal.proofs.Heads.{long_is}
 
@@ -51,13 +55,6 @@ block_seen bytes front found is block closed = record {
 }
 
 -- ---- the blocks of a closed generation
-
--- this place lies behind some of the blocks
-pub record IsReached (groups : List (List ℕ)) (at : ℕ) : Type 0 where
-  pub done : List (List ℕ)
-  pub left : List (List ℕ)
-  pub parts : groups ≡ done ++ left
-  pub place : at ≡ length (blocks done)
 
 pub from_start : (groups : List (List ℕ)) → IsReached groups 0
 from_start groups = record { done = []; left = groups; parts = refl; place = refl }
@@ -142,3 +139,13 @@ reaches_end groups file enough at is small reached seen =
 
 pub reaches_enough : (groups : List (List ℕ)) (enough at : ℕ) → IsReached groups at → enough ≤ at → ReachesTo groups enough at
 reaches_enough groups enough at reached le = (within_text groups at reached, inr le)
+
+-- a scan that went on from where an earlier one came to, of a generation's file that a later disk reads as well
+pub scanned_on : {D : Type 0} (disk_says : DiskSays D) (old new : D) (was : Scanned) (generation file from place : ℕ) → file ≡ 1 + 2 * generation → NoMore (disk_says.seen old) (disk_says.seen new)
+    → ((groups : List (List ℕ)) → (generation ≡ was.generation → IsReached groups was.place) → IsReached groups from)
+    → ((groups : List (List ℕ)) (files : Files) → disk_says.seen old files → IsClosed groups (files file) → IsReached groups from → IsReached groups place)
+    → HasScanned disk_says old was → (files : Files) → disk_says.seen new files → (groups : List (List ℕ)) → IsClosed groups (files (1 + 2 * generation)) → IsReached groups place
+scanned_on disk_says old new was generation file from place file_is more begins goes has files read groups is =
+    let before = more files read in
+    goes groups files before (subst (λ f. IsClosed groups (files f)) (sym file_is) is)
+    (begins groups (λ same. has files before groups (subst (λ g. IsClosed groups (files (1 + 2 * g))) same is)))

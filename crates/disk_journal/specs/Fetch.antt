@@ -19,3 +19,10 @@ pub record IsBlockAt (bytes : List ℕ) (found : Option ℕ) : Type 0 where
 -- the length of the text of these groups, or of some of it that reaches far enough
 abbrev pub ReachesTo : List (List ℕ) → ℕ → ℕ → Type 0
 ReachesTo groups enough n = (n ≤ length (blocks groups)) × ((n ≡ length (blocks groups)) ⊎ (enough ≤ n))
+
+-- this place lies behind some of the groups, each with its mark
+pub record IsReached (groups : List (List ℕ)) (at : ℕ) : Type 0 where
+  pub done : List (List ℕ)
+  pub left : List (List ℕ)
+  pub parts : groups ≡ done ++ left
+  pub place : at ≡ length (blocks done)

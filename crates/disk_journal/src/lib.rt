@@ -9,6 +9,8 @@ mod fetch;
 mod head;
 mod journal;
 mod make;
+mod scanned;
 
 pub use journal::{Journal, Prepared, Receipt};
 pub use make::make_files;
+pub use scanned::Scanned;
