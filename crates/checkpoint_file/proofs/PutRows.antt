@@ -12,6 +12,7 @@ use Rattle.depot_rows.specs.db_records.declared.record.Record.{Record}
 use Rattle.depot_rows.specs.db_records.declared.table.TableId.{TableId}
 use Rattle.depot_rows.specs.db_records.declared.table.TableId.TheVariants as ids
 use Rattle.recovery.proofs.Fits.{changed_joined}
+use Rattle.recovery.proofs.OnePut.{rows_joined}
 use Rattle.recovery.specs.Holding.{rows_put}
 use Rattle.depot_rows.specs.table_changes.Changed.{AllRows, changed_by, changed_in, no_rows}
 use Rattle.depot_rows.specs.table_store.Rows.{AllOfTable, IsRising, changed_once}
@@ -122,10 +123,6 @@ put_all rows are table = present rows are table 0 all_tables no_rows all_rise (a
 rows_of_puts : (xs : List Record) → rows_put (puts xs) ≡ xs
 rows_of_puts [] = refl
 rows_of_puts (x ∷ xs) = ap (λ (l : List Record). x ∷ l) (rows_of_puts xs)
-
-rows_joined : (xs ys : List Change) → rows_put (xs ++ ys) ≡ rows_put xs ++ rows_put ys
-rows_joined [] ys = refl
-rows_joined (x ∷ xs) ys = ap (λ (l : List Record). x.row ∷ l) (rows_joined xs ys)
 
 pub rows_in_puts : (rows : AllRows) (tables : List TableId) → rows_put (puts_in rows tables) ≡ flat_map rows tables
 rows_in_puts rows [] = refl

@@ -1,27 +1,26 @@
 -- The places at which the files of a depot are damaged.
-use Rattle.std.proofs.Common.{◌≡◌, replicate, ◌≢◌, ◌⊎◌, ◌≤◌, ◌<◌, ◌+◌, ◌*◌, ◌^◌, ℕ, zero, suc, List, [], ◌∷◌, ◌++◌, length, take, drop, Some, inl, inr, refl, sym, ap, subst, ◌∙◌, arith, append_assoc}
+use Rattle.std.proofs.Common.{◌≡◌, ◌⊎◌, ◌≤◌, ◌<◌, ◌+◌, ◌*◌, ◌^◌, ℕ, zero, suc, List, [], ◌∷◌, ◌++◌, length, take, drop, Some, inl, inr, refl, sym, ap, subst, ◌∙◌, arith, append_assoc}
 use Rattle.std.proofs.lemmas.Bool.{cases_lt}
-use Rattle.std.proofs.lemmas.Bool.Decides.{nat_tests}
 use Rattle.std.proofs.lemmas.List.{take-append-drop}
 use Rattle.outside_api.specs.Disk.{Files}
-use Rattle.disk_journal.specs.Images.{Begins, IsRoot, IsTail, generation_of}
+use Rattle.disk_journal.specs.Images.{Begins, IsRoot, generation_of}
 use Rattle.disk_journal.specs.Text.{blocks}
 use Rattle.depot_rows.specs.db_records.declared.change.Change.{Change}
 use Rattle.depot_rows.specs.db_records.declared.record.Record.{Record}
 use Rattle.depot_rows.specs.db_records.declared.record.Record.TheVariants.{Rev}
-use Rattle.depot_rows.specs.db_records.declared.rows.RevRecord.{RevRecord}
 use Rattle.depot_rows.specs.db_records.declared.table.TableId.TheVariants as tables
-use Rattle.depot_rows.specs.depot_model.Records.{digest}
 use Rattle.depot_rows.specs.table_changes.Changed.{AllRows, changed_by, no_rows}
 use Rattle.journal_groups.specs.Groups.{group_text}
 use Rattle.journal_groups.proofs.Committed.{groups_are}
-use Rattle.recovery.specs.Contents.{IsWhole, AreWhole, IsBadSpot, IsBadAt, IsSpotDamage}
+use Rattle.recovery.specs.Contents.{AreWhole, IsBadAt, IsSpotDamage}
 use Rattle.recovery.specs.Damage.{BeginsRoot, IsRootDamage, IsCheckpointDamage, IsJournalDamage, IsRulesDamage, IsJournalDiskDamage, of_root, of_checkpoint, of_journal, of_rules, IsArchiveDamage, IsDamage}
 use Rattle.recovery.specs.Holding.{Hold, group_texts, spot_end, spots_end}
 use Rattle.recovery.specs.Reading.{IsCheckpoint}
 use Rattle.recovery.specs.Rules.{SuitFiles}
 use Rattle.recovery.specs.declared.fault.DepotDisk.{DepotDisk}
 use Rattle.recovery.specs.declared.fault.DepotDisk.TheVariants.{Journal, Archive}
+use Rattle.recovery.proofs.Damaged.{open_bytes}
+use Rattle.recovery.proofs.GoodSpots.{end_at, whole_at, whole_row}
 use Rattle.recovery.proofs.Groups.{one_group}
 use Rattle.recovery.proofs.Held.{last_generation, held_root, held_checkpoint, held_begins, held_groups, held_puts, held_fit, rows_once}
 use Rattle.damage_places.proofs.Fronts.{parted, IsBefore}
@@ -70,11 +69,6 @@ root_once bytes place other a b = elim (cases_lt place other) [
   ]
 ]
 
-open_bytes : (n : ℕ) (tail : List ℕ) → IsTail tail → generation_of (replicate n 101 ++ tail) ≡ n
-open_bytes zero [] shut = refl
-open_bytes zero (byte ∷ rest) shut = let other : byte ≢ 101 = shut.0 in grind (arith, nat_tests)
-open_bytes (suc n) tail shut = ap suc (open_bytes n tail shut)
-
 root_holds : (generation : ℕ) (root : List ℕ) → IsRoot generation root → generation_of root ≡ generation
 root_holds generation root is = ap generation_of is.is ∙ open_bytes generation is.tail is.shut
 
@@ -82,24 +76,6 @@ one_generation : (root : List ℕ) (n m : ℕ) → IsRoot n root → IsRoot m ro
 one_generation root n m a b = sym (root_holds n root a) ∙ root_holds m root b
 
 -- ---- the archive
-
-whole_at : (file : List ℕ) (front : List Record) (row : Record) (after : List Record) → AreWhole file (front ++ row ∷ after) → IsWhole file row
-whole_at file [] row after whole = whole.0
-whole_at file (r ∷ front) row after whole = whole_at file front row after whole.1
-
-end_at : (front : List Record) (row : Record) (after : List Record) → spot_end row ≤ spots_end (front ++ row ∷ after)
-end_at [] row after = omega arith
-end_at (r ∷ front) row after = let later = end_at front row after in omega (arith, later)
-
-whole_spot : (file : List ℕ) (row : RevRecord) → IsWhole file (Rev row) → row.at + row.length ≤ length file → IsBadSpot file row → ⊥
-whole_spot file row whole within (inl behind) = omega (arith, within, behind)
-whole_spot file row whole within (inr other) =
-    let has = whole other.0 in
-    other.1 (has.digested ∙ ap digest (sym has.there.is))
-
-whole_row : (file : List ℕ) (row : Record) (place : ℕ) → IsWhole file row → spot_end row ≤ length file → IsBadAt file row place → ⊥
-whole_row file (Rev row) place whole within bad = whole_spot file row whole within bad.1
-whole_row file _ place whole within bad = absurd bad
 
 abbrev place_of : Record → ℕ
 place_of (Rev row) = row.at

@@ -16,7 +16,8 @@ use Rattle.journal_groups.specs.Groups.{IsGroup, group_text}
 use Rattle.recovery.specs.Holding.{group_texts}
 use Rattle.depot_commit.specs.Growing.{Chronicle, HasGroups, IsWritten, KeepsStored, generations_of, grown, landed, older_after, with_changes}
 use Rattle.depot_commit.specs.Writing.{StandsBy, with_doubtful}
-use Rattle.depot_commit.proofs.Groups.{all-push, group_texts-push, length-group_texts}
+use Rattle.recovery.proofs.Held.{length_texts}
+use Rattle.recovery.proofs.OneGroup.{all-push, all_but_last, group_texts-push, last_of}
 use Rattle.depot_commit.proofs.Stored.{keeps_more, keeps_same}
 
 -- ---- contents
@@ -35,14 +36,6 @@ stored_two disk_says old mid new first second = record {
 
 -- ---- groups
 
-all_but_last : {A : Type 0} (P : A → Type 0) (front : List A) (last new : A) → AllByRecursion P (front ++ last ∷ []) → P new → AllByRecursion P (front ++ new ∷ [])
-all_but_last P [] last new all here = (here, tt)
-all_but_last P (x ∷ front) last new all here = (all.0, all_but_last P front last new all.1 here)
-
-last_of : {A : Type 0} (P : A → Type 0) (front : List A) (last : A) → AllByRecursion P (front ++ last ∷ []) → P last
-last_of P [] last all = all.0
-last_of P (x ∷ front) last all = last_of P front last all.1
-
 module _ {D : Type 0} (disk_says : DiskSays D) (journal : Journal D) (was : Committed) (c : Chronicle) (are : was.groups ≡ group_texts 1 c.newest)
     (are_groups : AllByRecursion (AllByRecursion IsGroup) (generations_of c)) where
   -- the same groups stand on a disk
@@ -53,7 +46,7 @@ module _ {D : Type 0} (disk_says : DiskSays D) (journal : Journal D) (was : Comm
   group_written : (changes : List Change) → IsGroup changes → Stands disk_says journal (with_group was (group_text (length was.groups + 1) changes)) nothing
       → KeepsOlder disk_says journal (map (group_texts 1) c.closed) → HasGroups disk_says journal (with_changes false changes c)
   group_written changes is_group stands keeps =
-      let number : length was.groups + 1 ≡ 1 + length c.newest = (let long = ap (length {A = List ℕ}) are ∙ length-group_texts 1 c.newest in omega (arith, long)) in
+      let number : length was.groups + 1 ≡ 1 + length c.newest = (let long = ap (length {A = List ℕ}) are ∙ length_texts 1 c.newest in omega (arith, long)) in
       record {
         was = with_group was (group_text (length was.groups + 1) changes);
         doubt = nothing;

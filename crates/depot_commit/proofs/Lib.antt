@@ -1,5 +1,4 @@
 pub mod Checkpointed
-mod Groups
 pub mod Growing
 pub mod Differences
 pub mod Laws

@@ -1,5 +1,5 @@
 -- Contents that are stored, and those that stay.
-use Rattle.std.proofs.Common.{◌≡◌, ℕ, zero, suc, ◌≤◌, ◌<◌, ◌+◌, max, get_or, Bool, true, false, cond, eqb, List, [], ◌∷◌, ◌++◌, length, take, Some, Result, Ok, Err, inl, inr, refl, sym, ap, subst, ◌∙◌, arith}
+use Rattle.std.proofs.Common.{◌≡◌, ℕ, zero, suc, ◌≤◌, ◌<◌, ◌+◌, get_or, Bool, true, false, cond, eqb, List, [], ◌∷◌, ◌++◌, length, take, Result, Ok, Err, inl, inr, refl, sym, ap, subst, ◌∙◌, arith}
 use Rattle.std.specs.Prelude.{OnErr, option_and_then}
 use Rattle.std.specs.List.{AllByRecursion, filter}
 use Rattle.std.proofs.lemmas.List.{take_more}
@@ -12,20 +12,20 @@ use Rattle.depot_rows.specs.db_records.declared.change.Change.{Change}
 use Rattle.depot_rows.specs.db_records.declared.change.Op.{Op}
 use Rattle.depot_rows.specs.db_records.declared.change.Op.TheVariants.{Put, Replace, Remove}
 use Rattle.depot_rows.specs.db_records.declared.change.Spot.{Spot}
-use Rattle.depot_rows.specs.db_records.declared.key.Key.{Key}
 use Rattle.depot_rows.specs.db_records.declared.key.Key.TheVariants as keys
 use Rattle.depot_rows.specs.db_records.declared.record.Record.{Record}
 use Rattle.depot_rows.specs.db_records.declared.record.Record.TheVariants.{Rev as RevRow}
 use Rattle.depot_rows.specs.db_records.declared.rows.RevRecord.{RevRecord}
 use Rattle.depot_rows.specs.db_records.declared.table.TableId.TheVariants.{Rev}
-use Rattle.depot_rows.specs.table_store.Rows.{changed_once, is_above, is_at, is_below, left_by, row_at}
+use Rattle.depot_rows.specs.table_store.Rows.{changed_once, is_above, is_below, left_by}
 use Rattle.depot_rows.specs.db_records.Record.{key_of}
 use Rattle.depot_rows.specs.table_changes.Changed.{AllRows, changed_by, changed_in}
 use Rattle.depot_rows.specs.depot_model.Deeds.{Deed}
 use Rattle.depot_rows.specs.depot_model.Revisions.{Revision, revision}
 use Rattle.depot_rows.specs.depot_model.Rules.{IsSound}
 use Rattle.depot_rows.specs.Standing.{Stand}
-use Rattle.recovery.specs.Holding.{spot_end, spots_end}
+use Rattle.recovery.proofs.GoodSpots.{row_end}
+use Rattle.recovery.specs.Holding.{spots_end}
 use Rattle.recovery.specs.Rules.{DeletesAreUnplaced}
 use Rattle.recovery.specs.Standing.{HasContent}
 use Rattle.reply_rows.specs.declared.content.RowContent.{RowContent}
@@ -60,14 +60,6 @@ keeps_reach old new used place le keeps reach image left =
     omega (arith, within)
 
 -- ---- where spots end
-
-pub row_end : (rows : List Record) (key : Key) (row : Record) → row_at key rows ≡ Some row → spot_end row ≤ spots_end rows
-row_end [] key row e = absurd cc
-row_end (x ∷ rows) key row e = go (is_at key x) e (row_end rows key row)
-  where
-    go : (b : Bool) → cond b (Some x) (row_at key rows) ≡ Some row → (row_at key rows ≡ Some row → spot_end row ≤ spots_end rows) → spot_end row ≤ max (spot_end x) (spots_end rows)
-    go true e rest = let one : x ≡ row = cc in let same : spot_end x ≡ spot_end row = ap spot_end one in omega (arith, same)
-    go false e rest = let le = rest e in omega (arith, le)
 
 ends_append : (xs ys : List Record) (place : ℕ) → spots_end xs ≤ place → spots_end ys ≤ place → spots_end (xs ++ ys) ≤ place
 ends_append [] ys place first second = second

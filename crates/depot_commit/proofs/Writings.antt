@@ -14,7 +14,7 @@ use Rattle.depot_rows.specs.table_changes.Changed.{AllFitIn, AllRows, changed_by
 use Rattle.depot_commit.specs.Writing.{CanWrite, IsWritingOf, StandsBy}
 use Rattle.depot_commit.specs.declared.writing.Writing.{Writing}
 use Rattle.depot_commit.specs.declared.writing.Writing.TheVariants.{Group, Generation}
-use Rattle.depot_commit.proofs.Groups.{group_added}
+use Rattle.recovery.proofs.OneGroup.{group_added}
 
 -- a journal that stands with the same committed has the same generation
 pub same_generation : {D : Type 0} (disk_says : DiskSays D) (old new : Journal D) (was : Committed) (one other : Doubtful) → Stands disk_says old was one → Stands disk_says new was other

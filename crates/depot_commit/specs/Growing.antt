@@ -10,18 +10,11 @@ use Rattle.disk_journal.specs.Keeping.{KeepsOlder}
 use Rattle.disk_journal.specs.Stands.{Doubtful, nothing, group, opening, Stands}
 use Rattle.disk_journal.specs.declared.journal.Journal.{Journal}
 use Rattle.journal_groups.specs.Groups.{IsGroup, group_text}
+pub use Rattle.recovery.specs.Chronicle.{Chronicle, generations_of}
 use Rattle.recovery.specs.Holding.{group_texts}
 use Rattle.depot_commit.specs.Storing.{KeepsBelow}
 
 -- ---- the groups of all generations
-
--- the groups of the generations that are closed, from 0 on, and those of the newest
-pub record Chronicle : Type 0 where
-  pub closed : List (List (List Change))
-  pub newest : List (List Change)
-
-abbrev pub generations_of : Chronicle → List (List (List Change))
-generations_of c = c.closed ++ c.newest ∷ []
 
 -- The journal's disk tells what it reads, and each image of it has these groups in the file of each generation. What is in doubt is none of them.
 pub record HasGroups {D : Type 0} (disk_says : DiskSays D) (journal : Journal D) (c : Chronicle) : Type 0 where

@@ -15,7 +15,8 @@ use Rattle.recovery.specs.Faults.{IsOfArchive, IsOfFile, IfDamaged, SaysNothing,
 use Rattle.recovery.specs.Holding.{Hold, HasAllRows}
 use Rattle.recovery.specs.Rules.{SuitFiles, TellsEnd}
 
-open_bytes : (n : ℕ) (tail : List ℕ) → IsTail tail → generation_of (replicate n 101 ++ tail) ≡ n
+-- the open bytes of a root count its generation
+pub open_bytes : (n : ℕ) (tail : List ℕ) → IsTail tail → generation_of (replicate n 101 ++ tail) ≡ n
 open_bytes zero [] shut = refl
 open_bytes zero (byte ∷ rest) shut = let other : byte ≢ 101 = shut.0 in grind (arith, nat_tests)
 open_bytes (suc n) tail shut = ap suc (open_bytes n tail shut)

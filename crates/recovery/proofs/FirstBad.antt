@@ -23,7 +23,8 @@ first_of [] n within = absurd (omega (arith, within))
 first_of (change ∷ changes) zero within = (change, (changes, refl))
 first_of (change ∷ changes) (suc n) within = first_of changes n (omega (arith, within))
 
-first_bad : (good : List Change → Type 0) (changes : List Change) (n : ℕ) → n < length changes → good (take n changes) → (good (take (n + 1) changes) → ⊥) → IsFirstBad good changes (length (body_of (drop n changes)))
+-- of which so many are good, and one more aren't
+pub first_bad : (good : List Change → Type 0) (changes : List Change) (n : ℕ) → n < length changes → good (take n changes) → (good (take (n + 1) changes) → ⊥) → IsFirstBad good changes (length (body_of (drop n changes)))
 first_bad good changes n within are none =
     let first = first_of changes n within in
     let bad = first.0 in

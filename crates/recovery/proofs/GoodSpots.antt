@@ -1,11 +1,13 @@
 -- Spots that are good in all rows, and the damage that one is not.
-use Rattle.std.proofs.Common.{◌≡◌, ℕ, ◌+◌, ◌≤◌, max, inl, inr, List, [], ◌∷◌, ◌++◌, length, Err, refl, sym, ◌∙◌, ap, subst, arith, append_assoc}
+use Rattle.std.proofs.Common.{◌≡◌, ℕ, ◌+◌, ◌≤◌, max, Bool, true, false, cond, Some, inl, inr, List, [], ◌∷◌, ◌++◌, length, Err, refl, sym, ◌∙◌, ap, subst, arith, append_assoc}
 use Rattle.std.proofs.lemmas.List.{append-nil}
 use Rattle.outside_api.specs.Disk.{Files}
 use Rattle.depot_rows.specs.db_records.declared.record.Record.{Record}
 use Rattle.depot_rows.specs.db_records.declared.record.Record.TheVariants.{Rev}
 use Rattle.depot_rows.specs.db_records.declared.rows.RevRecord.{RevRecord}
+use Rattle.depot_rows.specs.db_records.declared.key.Key.{Key}
 use Rattle.depot_rows.specs.depot_model.Records.{digest}
+use Rattle.depot_rows.specs.table_store.Rows.{is_at, row_at}
 use Rattle.recovery.specs.declared.fault.DepotDisk.TheVariants.{Journal, Archive}
 use Rattle.recovery.specs.declared.fault.OpenFault.{OpenFault}
 use Rattle.recovery.specs.declared.fault.OpenFault.TheVariants.{Unmade, Damaged, DiskFault, Memory}
@@ -20,17 +22,27 @@ whole_spot file row whole within (inr other) =
     let has = whole other.0 in
     other.1 (has.digested ∙ ap digest (sym has.there.is))
 
-whole_row : (file : List ℕ) (row : Record) (place : ℕ) → IsWhole file row → spot_end row ≤ length file → IsBadAt file row place → ⊥
+pub whole_row : (file : List ℕ) (row : Record) (place : ℕ) → IsWhole file row → spot_end row ≤ length file → IsBadAt file row place → ⊥
 whole_row file (Rev row) place whole within bad = whole_spot file row whole within bad.1
 whole_row file _ place whole within bad = absurd bad
 
-whole_at : (file : List ℕ) (front : List Record) (row : Record) (after : List Record) → AreWhole file (front ++ row ∷ after) → IsWhole file row
+-- a row of some that are whole, and where its spot ends
+pub whole_at : (file : List ℕ) (front : List Record) (row : Record) (after : List Record) → AreWhole file (front ++ row ∷ after) → IsWhole file row
 whole_at file [] row after whole = whole.0
 whole_at file (r ∷ front) row after whole = whole_at file front row after whole.1
 
-end_at : (front : List Record) (row : Record) (after : List Record) → spot_end row ≤ spots_end (front ++ row ∷ after)
+pub end_at : (front : List Record) (row : Record) (after : List Record) → spot_end row ≤ spots_end (front ++ row ∷ after)
 end_at [] row after = omega arith
 end_at (r ∷ front) row after = let later = end_at front row after in omega (arith, later)
+
+-- a row that stands at a key
+pub row_end : (rows : List Record) (key : Key) (row : Record) → row_at key rows ≡ Some row → spot_end row ≤ spots_end rows
+row_end [] key row e = absurd cc
+row_end (x ∷ rows) key row e = go (is_at key x) e (row_end rows key row)
+  where
+    go : (b : Bool) → cond b (Some x) (row_at key rows) ≡ Some row → (row_at key rows ≡ Some row → spot_end row ≤ spots_end rows) → spot_end row ≤ max (spot_end x) (spots_end rows)
+    go true e rest = let one : x ≡ row = cc in let same : spot_end x ≡ spot_end row = ap spot_end one in omega (arith, same)
+    go false e rest = let le = rest e in omega (arith, le)
 
 never_bad : (file : List ℕ) (rows : List Record) (place : ℕ) → AreWhole file rows → spots_end rows ≤ length file → IsSpotDamage file rows place → ⊥
 never_bad file rows place whole within bad =
@@ -57,7 +69,7 @@ end_more : (rows : List Record) (row : Record) → spots_end (rows ++ row ∷ []
 end_more [] row = omega arith
 end_more (r ∷ rows) row = let more = end_more rows row in omega (arith, more)
 
-whole_more : (file : List ℕ) (rows : List Record) (row : Record) → AreWhole file rows → IsWhole file row → AreWhole file (rows ++ row ∷ [])
+pub whole_more : (file : List ℕ) (rows : List Record) (row : Record) → AreWhole file rows → IsWhole file row → AreWhole file (rows ++ row ∷ [])
 whole_more file [] row whole one = (one, tt)
 whole_more file (r ∷ rows) row whole one = (whole.0, whole_more file rows row whole.1 one)
 

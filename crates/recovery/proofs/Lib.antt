@@ -1,6 +1,7 @@
 pub mod Reading
 pub mod Empty
 pub mod Groups
+pub mod OneGroup
 pub mod Fits
 pub mod Roots
 pub mod RootDamage

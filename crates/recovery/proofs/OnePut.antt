@@ -65,7 +65,7 @@ puts_left : (xs ys : List Change) → AllByRecursion (λ (c : Change). c.op ≡ 
 puts_left [] ys all = tt
 puts_left (x ∷ xs) ys all = (all.0, puts_left xs ys all.1)
 
-rows_joined : (xs ys : List Change) → rows_put (xs ++ ys) ≡ rows_put xs ++ rows_put ys
+pub rows_joined : (xs ys : List Change) → rows_put (xs ++ ys) ≡ rows_put xs ++ rows_put ys
 rows_joined [] ys = refl
 rows_joined (x ∷ xs) ys = ap (λ (l : List Record). x.row ∷ l) (rows_joined xs ys)
 

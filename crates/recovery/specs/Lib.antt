@@ -1,4 +1,6 @@
 pub mod Holding
+pub mod Chronicle
+pub mod Texts
 pub mod Contents
 pub mod Faults
 pub mod Pieces

@@ -16,3 +16,4 @@ mod spots;
 pub use fault::{DepotDisk, MakeFault, OpenFault};
 pub use make::make_files;
 pub use open::{NotOpened, Opened, open_files};
+pub use rows::make_fitting;

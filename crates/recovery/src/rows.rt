@@ -43,8 +43,9 @@ fn empty_draft(alloc: Global) -> Result<TablesDraft, AllocError>
     TablesDraft::of(alloc, &tables)
 }
 
-/// Makes changes one after another as far as they fit, and answers how many it made.
-fn make_fitting(
+/// Makes changes in a draft one after another as far as they fit, and answers how many it made. The one error is want of memory, after which
+/// nothing is said of the draft.
+pub fn make_fitting(
     alloc: Global,
     draft: &mut TablesDraft,
     changes: &[Change],

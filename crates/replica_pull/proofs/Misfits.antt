@@ -1,37 +1,14 @@
 -- The first change that doesn't fit, and its place in a feed.
-use Rattle.std.proofs.Common.{◌≡◌, ◌⊎◌, inl, inr, ℕ, zero, suc, ◌+◌, ◌-◌, ◌<◌, ◌≤◌, List, [], ◌∷◌, ◌++◌, length, take, drop, get_or, Result, Ok, Err, refl, sym, ap, subst, ◌∙◌, arith, length-append}
+use Rattle.std.proofs.Common.{◌≡◌, ◌⊎◌, inl, inr, ℕ, ◌+◌, ◌-◌, ◌<◌, ◌≤◌, List, [], ◌∷◌, ◌++◌, length, take, drop, Result, Ok, Err, sym, ap, subst, ◌∙◌, arith, length-append}
 use Rattle.std.specs.Result.{IsErrAnd}
-use Rattle.std.proofs.lemmas.List.{take_more, take-append-drop, get_or-drop}
 use Rattle.depot_rows.specs.db_records.declared.change.Change.{Change}
 use Rattle.journal_groups.specs.Groups.{body_of, head_of}
 use Rattle.journal_groups.specs.Reader.{BeginsAt, HasRecords}
 use Rattle.recovery.specs.Pieces.{IsFirstBad, IsBadRecord, AreAllGood}
-use Rattle.recovery.proofs.FirstBad.{bad_within}
+use Rattle.recovery.proofs.FirstBad.{bad_within, first_bad}
 use Rattle.replica_pull.specs.Feed.{IsFirstMisfit, IfBadFeed}
 use Rattle.replica_pull.specs.declared.fault.PullFault.{PullFault}
 use Rattle.replica_pull.specs.declared.fault.PullFault.TheVariants.{LinkFault, BadFeed, NoGeneration, Memory}
-
-first_of : (changes : List Change) (n : ℕ) → n < length changes → (bad : Change) × ((after : List Change) × (drop n changes ≡ bad ∷ after))
-first_of [] n within = absurd (omega (arith, within))
-first_of (change ∷ changes) zero within = (change, (changes, refl))
-first_of (change ∷ changes) (suc n) within = first_of changes n (omega (arith, within))
-
--- of which so many are good, and one more aren't
-pub first_bad : (good : List Change → Type 0) (changes : List Change) (n : ℕ) → n < length changes → good (take n changes) → (good (take (n + 1) changes) → ⊥) → IsFirstBad good changes (length (body_of (drop n changes)))
-first_bad good changes n within are none =
-    let first = first_of changes n within in
-    let bad = first.0 in
-    let same : n ≡ n + 0 = omega arith in
-    let at : get_or changes n bad ≡ bad = ap (λ (k : ℕ). get_or changes k bad) same ∙ sym (get_or-drop n changes 0 bad) ∙ ap (λ (l : List Change). get_or l 0 bad) first.1.1 in
-    record {
-      front = take n changes;
-      bad = bad;
-      after = first.1.0;
-      parts = sym (take-append-drop n changes) ∙ ap (λ (l : List Change). take n changes ++ l) first.1.1;
-      good_front = are;
-      none = λ more. none (subst good (sym (take_more changes n bad within ∙ ap (λ (c : Change). take n changes ++ c ∷ []) at)) more);
-      left_is = ap (λ (l : List Change). length (body_of l)) first.1.1;
-    }
 
 pub misfit_at : (good : List Change → Type 0) (changes others : List Change) (n end place : ℕ) → others ≡ drop n changes → n < length changes → good (take n changes) → (good (take (n + 1) changes) → ⊥) → place ≡ end - length (body_of others) → IsFirstMisfit good changes end place
 misfit_at good changes others n end place is within are none told =
