@@ -62,7 +62,7 @@ impl<'a> FileSet for ChosenFiles<'a> {
             && let RevSpec::Only(change) = end
             && has_wildcard(pattern)
         {
-            let made = files_made(alloc, tables, *change)?;
+            let made = files_made(alloc, tables, self.asker, *change, pattern)?;
             return Ok(made);
         }
         let found = candidates(alloc, tables, self.asker, self.listing, pattern)?;

@@ -21,7 +21,7 @@ loop-row-init c =
     ap (λ (l : List Record). c.args.paths.now ++ listed listing l)
     (ap (leading listing beginning)
     (c.into_iter-row-iterator.ensures.into_iter_gives ∙ c.of_client_from-row-items.ensures ∙ ap (λ (k : Key). filter (is_of_client client) (rows_from k rows)) c.in_ok-first.ensures)
-    ∙ walk_own listing beginning client rows table.rising of
+    ∙ walk_own listing beginning (is_of_client client) rows table.rising of
     ∙ ap (λ (v : TableRows). filter (is_in_front listing beginning) (filter (is_of_client client) v.rows)) (c.version-version.ensures.rows ∙ ap (version_of c.args.tables.now) c.table.ensures))
 
 pub returns-then-not-stands_in : goal.returns-then-not-stands_in

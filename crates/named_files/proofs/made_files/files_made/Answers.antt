@@ -1,19 +1,28 @@
-use Rattle.std.proofs.Common.{ℕ, List, ◌++◌, append_assoc, append-nil, ap, sym, ◌∙◌}
-use Rattle.std.specs.Prelude.{flat_map}
-use Rattle.depot_rows.specs.db_records.declared.record.Record.{Record}
+use Rattle.std.proofs.Common.{ℕ, List, ap, subst, sym, ◌∙◌}
+use Rattle.std.specs.Prelude.{filter, flat_map}
+use Rattle.std.specs.List.{list_any}
+use Rattle.depot_rows.specs.db_records.declared.table.TableId.TheVariants as table_ids
+use Rattle.depot_rows.specs.table_changes.Changed.{rows_of}
+use Rattle.depot_rows.specs.table_store.Marks.{is_of_change}
+use Rattle.depot_rows.specs.depot_model.Arguments.{submitted}
+use Rattle.depot_rows.specs.depot_model.Choice.{made_by}
+use Rattle.depot_rows.specs.depot_model.Revisions.{revisions}
+use Rattle.named_files.specs.Beginnings.{has_one, in_turn}
 use Rattle.named_files.specs.Listed.{path_revised}
+use Rattle.named_files.specs.declared.listing.Listing.TheVariants.{Submitted}
+use Rattle.named_files.proofs.Joining.{joined}
+use Rattle.named_files.proofs.Rising.{Rise, filter_rises}
+use Rattle.named_files.proofs.Sifting.{sifted}
+use Rattle.named_files.proofs.Told.{files_rise}
 use Rattle.named_files.proofs.made_files.files_made.Goals as goal
 
-pub loop-row-preserved : goal.loop-row-preserved
-loop-row-preserved c =
-    let more = flat_map path_revised c.next.new.self in
-    ap (λ (paths : List (List ℕ)). paths ++ more) c.in_ok-add_made.ensures
-    ∙ append_assoc c.loop-row.paths (path_revised c.in-Some.row.now) more
-    ∙ ap (λ (rows : List Record). c.loop-row.paths ++ flat_map path_revised rows) (sym c.in-Some.ensures.steps)
-    ∙ c.loop-row.invariant
-
 pub returns : goal.returns
-returns c = λ d sound has.
-    sym (append-nil c.loop-row.paths)
-    ∙ ap (λ (rows : List Record). c.loop-row.paths ++ flat_map path_revised rows) (sym c.in-None.ensures.steps.0)
-    ∙ c.loop-row.invariant ∙ c.rows_tell_made.ensures d c.args.change sound has
+returns c = λ d sound has test passes.
+    let change = c.args.change in
+    let files = flat_map path_revised (filter (is_of_change change) (rows_of c.args.tables.now table_ids.Rev)) in
+    let told = c.rows_tell_made.ensures d change sound has in
+    let beginnings = c.in_ok-beginnings.beginnings in
+    let rise : Rise files = subst Rise (sym told) (filter_rises (λ path. list_any (made_by change) (revisions d path)) (submitted d) (files_rise Submitted d sound)) in
+    sifted (has_one beginnings) test (λ path e. c.in_ok-beginnings.ensures.every path (passes path e)) c.in_ok-paths.paths files
+    (c.in_ok-paths.ensures ∙ ap (λ (texts : List (List ℕ)). in_turn texts files) c.as_slice.ensures ∙ joined files rise beginnings c.in_ok-beginnings.ensures.apart)
+    ∙ ap (filter test) told

@@ -1,4 +1,4 @@
-use Rattle.std.proofs.Common.{◌≡◌, false, sym, ap, ◌∙◌}
+use Rattle.std.proofs.Common.{◌≡◌, false, refl, sym, ap, ◌∙◌}
 use Rattle.std.specs.Prelude.{filter, is_some}
 use Rattle.std.specs.List.{list_any}
 use Rattle.depot_rows.specs.depot_path.declared.revision.RevSpec.TheVariants.{Only}
@@ -6,6 +6,7 @@ use Rattle.depot_rows.specs.depot_path.declared.revision.Wanted.TheVariants.{One
 use Rattle.depot_rows.specs.depot_model.Arguments.{names, submitted}
 use Rattle.depot_rows.specs.depot_model.Choice.{made_by}
 use Rattle.depot_rows.specs.depot_model.Revisions.{revisions}
+use Rattle.depot_rows.specs.depot_model.Steps.Changing.{files_of_change}
 use Rattle.depot_rows.specs.depot_model.Steps.Listing.{chosen_revision}
 use Rattle.depot_rows.proofs.Keys.{left-true, right-true}
 use Rattle.named_files.specs.declared.listing.Listing.{Listing}
@@ -23,10 +24,13 @@ returns c = λ d reads.
     let change = c.in-Only.change in
     let only : argument.spec.wanted ≡ One (Only change) = c.in-One.is ∙ ap One c.in-Only.is in
     let test = is_listed own.caller.now d argument in
-    sifted (λ path. list_any (made_by change) (revisions d path)) test
+    c.in_ok-made.ensures d reads.sound reads.has_rev test
+    (λ path e. placed_if_shown d own.caller.now own.asker.now reads.asked argument.spec path
+    (left-true (names false d own.caller.now argument.spec path) (is_some (chosen_revision d own.caller.now argument path)) e))
+    ∙ sifted (λ path. list_any (made_by change) (revisions d path)) test
     (λ path e. chosen_made d own.caller.now path argument.spec.wanted change only
     (right-true (names false d own.caller.now argument.spec path) (is_some (chosen_revision d own.caller.now argument path)) e))
-    c.in_ok-made.made (submitted d) (c.in_ok-made.ensures d reads.sound reads.has_rev)
+    (files_of_change d change) (submitted d) refl
     ∙ ap (λ (listing : Listing). filter test (files_of listing d)) (sym c.in-Submitted.is)
 
 pub returns-2 : goal.returns-2
