@@ -2,6 +2,5 @@ pub mod Told
 pub mod Onward
 pub mod Owed
 pub mod Sizes
-pub mod NewestRead
 pub mod Numbers
 pub mod Synced

@@ -1,5 +1,4 @@
 pub mod Having
-pub mod Heads
 pub mod Newest
 pub mod Places
 pub mod Placing

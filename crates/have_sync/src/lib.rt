@@ -2,7 +2,6 @@
 #![tactic(auto)]
 
 mod having;
-mod heads;
 mod newest;
 mod place;
 mod placing;

@@ -1,35 +1,30 @@
 //! The newest revision of a file, and what a client has of it, by what was seen as the files were found, and from the place of the file before.
 
-ghost use Rattle.std.specs.Prelude.{◌≡◌, List, map, IfOk, Ok};
-ghost use Rattle.std.specs.List.{All};
+ghost use Rattle.std.specs.Prelude.{◌≡◌, List, false, filter, IfOk, Ok};
 ghost use Rattle.std.specs.Option.{option_copied};
 ghost use Rattle.depot_rows.specs.depot_path.Path.{path_of, printed};
 ghost use Rattle.depot_rows.specs.db_records.declared.key.Key.TheVariants as keys;
 ghost use Rattle.depot_rows.specs.db_records.declared.table.TableId.TheVariants as table_ids;
 ghost use Rattle.depot_rows.specs.table_changes.Changed.{AllRows, rows_of};
+ghost use Rattle.depot_rows.specs.depot_model.Arguments.{names as names_file};
 ghost use Rattle.depot_rows.specs.depot_model.Deeds.{Deed};
 ghost use Rattle.depot_rows.specs.depot_model.Latest.{have};
 ghost use Rattle.depot_rows.specs.depot_model.Revisions.{head, is_live_at as live_at};
 ghost use Rattle.depot_rows.specs.depot_model.Rules.{IsSound};
 ghost use Rattle.depot_rows.specs.Standing.{HasRows};
 ghost use Rattle.row_reads.specs.Found.{have_in};
-ghost use Rattle.named_files.specs.HeadRows.{IsHead};
-ghost use Rattle.have_sync.specs.Newest.{AreOf, Tells};
+ghost use Rattle.named_files.specs.Listed.{files_of};
+ghost use Rattle.named_files.specs.Sets.{ShownReads};
+ghost use Rattle.have_sync.specs.Newest.{AreOf};
 
-use crate::heads::Heads;
 use crate::place::Place;
-use depot_rows::paths::{DepotPath, Name, Text};
+use depot_rows::model::FileArgument;
+use depot_rows::paths::{DepotPath, Name, Sequence, Text};
 use depot_rows::records::{Key, Record, TableId};
 use depot_rows::tables::Tables;
-use revision_reads::{head_of, is_live_at};
+use named_files::ShownFiles;
+use newest_revisions::{Heads, Revision};
 use std::alloc::{AllocError, Global};
-
-/// The newest revision of a file, 0 where it has none, and whether it isn't deleted there.
-#[derive(Clone, Copy)]
-pub(crate) struct Newest {
-    pub rev: u32,
-    pub live: bool,
-}
 
 /// The places of the files before, in the rows of newest revisions that were seen and in the table of have lists.
 #[derive(Drop)]
@@ -48,46 +43,21 @@ pub(crate) fn places_of(alloc: Global, tables: &Tables) -> Places<'_>
     Places { heads, haves }
 }
 
-/// The text of a path.
-fn text_of(alloc: Global, path: &DepotPath) -> Result<Text, AllocError>
-    ensures text { IfOk result (λ text. text ≡ printed path.now) }
-    ensures read_again { path_of (printed path.now) ≡ Ok path.now }
-{
-    path.print(alloc)
-}
-
-/// What the row of a newest revision tells.
-fn newest_in(row: &Record) -> Newest
-    ensures { Tells row.now result }
-{
-    match row {
-        Record::Rev(revision) => Newest {
-            rev: revision.rev,
-            live: row.live(),
-        },
-        _ => Newest {
-            rev: 0,
-            live: false,
-        },
-    }
-}
-
-/// The newest revision of a file, by a search.
-fn newest_by_search(alloc: Global, tables: &Tables, path: &DepotPath) -> Result<Newest, AllocError>
-    ensures { IfOk result (λ newest. (d : List Deed) → IsSound d → HasRows (rows_of tables.now) d table_ids.Rev →
-        (newest.rev ≡ head d path.now) × (newest.live ≡ live_at d path.now newest.rev)) }
-{
-    let rev = head_of(alloc, tables, path)?;
-    let live = is_live_at(alloc, tables, path, rev)?;
-    Ok(Newest { rev, live })
-}
-
 impl<'a> Places<'a> {
-    /// Goes by these rows of newest revisions from now on.
-    pub(crate) fn see(&mut self, rows: Vec<&'a Record>)
-        ensures { (all : AllRows) → AreOf all self.old → All (IsHead (all table_ids.Rev)) (map (λ r. r.now) rows.entry.items) → AreOf all self.new }
+    /// Among the files of a set, in their order, at least those that an argument names, as [`Heads::find`] finds them.
+    pub(crate) fn find(
+        &mut self,
+        alloc: Global,
+        tables: &'a Tables,
+        set: &ShownFiles<'_>,
+        argument: &FileArgument,
+    ) -> Result<Sequence<DepotPath>, AllocError>
+        ensures paths { IfOk result (λ paths. (d : List Deed) → ShownReads set.now.caller.now set.now.asker.now set.now.listing.now (rows_of tables.now) d →
+            filter (names_file false d set.now.caller.now argument.now.spec) paths ≡ filter (names_file false d set.now.caller.now argument.now.spec) (files_of set.now.listing.now d)) }
+        ensures places { IfOk result (λ _. AreOf (rows_of tables.now) self.old → AreOf (rows_of tables.now) self.new) }
     {
-        self.heads = Heads::of(rows);
+        let paths = self.heads.find(alloc, tables, set, argument)?;
+        Ok(paths)
     }
 
     /// The newest revision of a file: by its row, where that was seen behind those of the files before, or else by a search.
@@ -96,21 +66,13 @@ impl<'a> Places<'a> {
         alloc: Global,
         tables: &Tables,
         path: &DepotPath,
-    ) -> Result<Newest, AllocError>
+    ) -> Result<Revision, AllocError>
         ensures places { IfOk result (λ _. (rows : AllRows) → AreOf rows self.old → AreOf rows self.new) }
         ensures newest { IfOk result (λ newest. (d : List Deed) → AreOf (rows_of tables.now) self.old → IsSound d → HasRows (rows_of tables.now) d table_ids.Rev →
             (newest.rev ≡ head d path.now) × (newest.live ≡ live_at d path.now newest.rev)) }
     {
-        let text = text_of(alloc, path)?;
-        let row = self.heads.go_to(&text);
-        drop(text);
-        match row {
-            Some(row) => Ok(newest_in(row)),
-            None => {
-                let newest = newest_by_search(alloc, tables, path)?;
-                Ok(newest)
-            }
-        }
+        let newest = self.heads.newest(alloc, tables, path)?;
+        Ok(newest)
     }
 
     /// The revision of a file that a client has, 0 where it has none. Where the files come in path order, its have list is passed in one walk.

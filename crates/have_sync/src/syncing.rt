@@ -1,6 +1,6 @@
 //! `sync` (Command-Line Reference, "p4 sync").
 
-ghost use Rattle.std.specs.Prelude.{◌≡◌, ◌<◌, ◌&&◌, List, IfOk, is_some};
+ghost use Rattle.std.specs.Prelude.{◌≡◌, ◌<◌, List, IfOk, is_some};
 ghost use Rattle.std.specs.Option.{option_copied};
 ghost use Rattle.depot_rows.specs.db_records.declared.table.TableId.TheVariants as table_ids;
 ghost use Rattle.depot_rows.specs.table_changes.Changed.{AllRows, rows_of};
@@ -13,7 +13,7 @@ ghost use Rattle.depot_rows.specs.depot_model.Step.{Step as ModelStep};
 ghost use Rattle.depot_rows.specs.depot_model.Steps.Syncing as model;
 ghost use Rattle.depot_rows.specs.Standing.{HasRows};
 ghost use Rattle.reply_rows.specs.Made.{IsMade};
-ghost use Rattle.have_sync.specs.Newest.{AreOf, asks_for_none, is_submitted as submitted_test};
+ghost use Rattle.have_sync.specs.Newest.{AreOf};
 ghost use Rattle.have_sync.specs.Syncing.{Reads, get_step, owe_step, reaches as reaches_in};
 
 use crate::newest::{Places, places_of};
@@ -21,13 +21,14 @@ use crate::rows::{changed_row, shown_row};
 use deed_list::Deeds;
 use depot_rows::Owing;
 use depot_rows::model::{Caller, FileArgument};
-use depot_rows::paths::{DepotPath, Name, Sequence, Wanted};
+use depot_rows::paths::{DepotPath, Name, Sequence};
 use depot_rows::protections::Level;
 use depot_rows::records::ResolveRecord;
 use depot_rows::tables::Tables;
 use file_openings::opening_of;
-use file_steps::{FileSet, WalkAct, walk_over_all, within_files};
-use named_files::{Asker, HeadedFiles, Listing, ShownFiles};
+use file_steps::{WalkAct, walk_over_all, within_files};
+use named_files::{Asker, Listing, ShownFiles};
+use newest_revisions::{Revision, asks_for_none};
 use opening_reads::{held, owed_of};
 use reply_rows::{Step, denied_row};
 use revision_reads::{Chosen, chosen_of, is_live_at, shown_by};
@@ -217,17 +218,16 @@ fn wanted_rev(
     asker: &Asker,
     argument: &FileArgument,
     path: &DepotPath,
-    rev: u32,
-    live: bool,
+    found: Revision,
 ) -> Result<u32, AllocError>
-    ensures { IfOk result (λ wanted. (d : List Deed) → Reads caller.now asker.now (rows_of tables.now) d → live ≡ live_at d path.now rev →
-        wanted ≡ model.wanted_rev d caller.now argument.now path.now rev) }
+    ensures { IfOk result (λ wanted. (d : List Deed) → Reads caller.now asker.now (rows_of tables.now) d → found.live ≡ live_at d path.now found.rev →
+        wanted ≡ model.wanted_rev d caller.now argument.now path.now found.rev) }
 {
-    if !live {
+    if !found.live {
         return Ok(0);
     }
     let shown = is_shown(alloc, tables, caller, asker, argument, path)?;
-    if shown { Ok(rev) } else { Ok(0) }
+    if shown { Ok(found.rev) } else { Ok(0) }
 }
 
 /// What is done with a file where a revision is chosen, 0 for none, by whether it isn't deleted there.
@@ -240,21 +240,20 @@ fn sync_at(
     places: &mut Places<'_>,
     argument: &FileArgument,
     path: &DepotPath,
-    rev: u32,
-    live: bool,
+    found: Revision,
 ) -> Result<Step, AllocError>
     ensures places { IfOk result (λ _. (rows : AllRows) → AreOf rows places.old → AreOf rows places.new) }
-    ensures step { IfOk result (λ step. (d e : List Deed) → Reads caller.now asker.now (rows_of tables.now) d → AreOf (rows_of tables.now) places.old → live ≡ live_at d path.now rev →
-        IsMade (rows_of tables.now) d e (model.sync_to again d caller.now argument.now path.now (choices.At rev)) step) }
+    ensures step { IfOk result (λ step. (d e : List Deed) → Reads caller.now asker.now (rows_of tables.now) d → AreOf (rows_of tables.now) places.old → found.live ≡ live_at d path.now found.rev →
+        IsMade (rows_of tables.now) d e (model.sync_to again d caller.now argument.now path.now (choices.At found.rev)) step) }
 {
     let row = opening_of(alloc, tables, &caller.client, path)?;
     match row {
         Some(row) => {
-            let step = sync_opened(alloc, tables, caller, asker, path, row.base, rev)?;
+            let step = sync_opened(alloc, tables, caller, asker, path, row.base, found.rev)?;
             Ok(step)
         }
         None => {
-            let wanted = wanted_rev(alloc, tables, caller, asker, argument, path, rev, live)?;
+            let wanted = wanted_rev(alloc, tables, caller, asker, argument, path, found)?;
             let step = sync_have(alloc, tables, caller, asker, again, places, path, wanted)?;
             Ok(step)
         }
@@ -278,16 +277,7 @@ fn sync_newest(
 {
     let newest = places.newest(alloc, tables, path)?;
     let step = sync_at(
-        alloc,
-        tables,
-        caller,
-        asker,
-        again,
-        places,
-        argument,
-        path,
-        newest.rev,
-        newest.live,
+        alloc, tables, caller, asker, again, places, argument, path, newest,
     )?;
     Ok(step)
 }
@@ -316,22 +306,12 @@ fn sync_chosen(
         }
         Chosen::At(rev) => {
             let live = is_live_at(alloc, tables, path, rev)?;
+            let found = Revision { rev, live };
             let step = sync_at(
-                alloc, tables, caller, asker, again, places, argument, path, rev, live,
+                alloc, tables, caller, asker, again, places, argument, path, found,
             )?;
             Ok(step)
         }
-    }
-}
-
-/// Whether no revision is asked for.
-fn is_head(wanted: &Wanted) -> bool
-    ensures { result ≡ asks_for_none wanted.now }
-{
-    match wanted {
-        Wanted::Head => true,
-        Wanted::One(_) => false,
-        Wanted::Range(_, _) => false,
     }
 }
 
@@ -351,31 +331,13 @@ fn sync_to(
         IsMade (rows_of tables.now) d e
         (model.sync_to again d caller.now argument.now path.now (chosen d caller.now path.now argument.now.spec.wanted)) step) }
 {
-    if is_head(&argument.spec.wanted) {
+    if asks_for_none(&argument.spec.wanted) {
         let newest = sync_newest(alloc, tables, caller, asker, again, places, argument, path)?;
         Ok(newest)
     } else {
         let step = sync_chosen(alloc, tables, caller, asker, again, places, argument, path)?;
         Ok(step)
     }
-}
-
-/// Whether a list is that of the submitted files.
-fn is_submitted(listing: &Listing) -> bool
-    ensures { result ≡ submitted_test listing.now }
-{
-    match listing {
-        Listing::Submitted => true,
-        Listing::Had { .. } => false,
-        Listing::OpenedBy { .. } => false,
-    }
-}
-
-/// Whether an argument asks for the newest revisions of submitted files.
-fn asks_heads(argument: &FileArgument, listing: &Listing) -> bool
-    ensures { result ≡ (asks_for_none argument.now.spec.wanted && submitted_test listing.now) }
-{
-    is_head(&argument.spec.wanted) && is_submitted(listing)
 }
 
 impl<'a> WalkAct<'a, ShownFiles<'a>> for Syncing<'a> {
@@ -394,14 +356,7 @@ impl<'a> WalkAct<'a, ShownFiles<'a>> for Syncing<'a> {
         set: &ShownFiles<'a>,
         argument: &FileArgument,
     ) -> Result<Sequence<DepotPath>, AllocError> {
-        let sees = asks_heads(argument, set.listing);
-        if !sees {
-            let candidates = set.candidates(alloc, tables, argument)?;
-            return Ok(candidates);
-        }
-        let found = set.headed(alloc, tables, argument)?;
-        let HeadedFiles { paths, heads } = found;
-        self.places.see(heads);
+        let paths = self.places.find(alloc, tables, set, argument)?;
         Ok(paths)
     }
 

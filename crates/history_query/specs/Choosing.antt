@@ -1,10 +1,23 @@
--- What is read for the choice of a revision. Which tables are read is this project's own choice.
-use Rattle.std.specs.Prelude.{List}
+-- What is read for the choice of a revision, and what is chosen. Which tables are read is this project's own choice.
+use Rattle.std.specs.Prelude.{◌≡◌, ℕ, Bool, false, List, if◌then◌else◌, Option, Some, option_map}
+use Rattle.depot_rows.specs.depot_path.Path.{printed}
+use Rattle.depot_rows.specs.depot_path.declared.revision.Wanted.{Wanted}
+use Rattle.depot_rows.specs.db_records.declared.key.Key.TheVariants as keys
+use Rattle.depot_rows.specs.db_records.declared.record.Record.TheVariants as records
+use Rattle.depot_rows.specs.db_records.declared.rows.RevRecord.{RevRecord}
 use Rattle.depot_rows.specs.db_records.declared.table.TableId.TheVariants as tables
 use Rattle.depot_rows.specs.table_changes.Changed.{AllRows}
+use Rattle.depot_rows.specs.depot_model.declared.command.FileArgument.{FileArgument}
+use Rattle.depot_rows.specs.depot_model.declared.request.Caller.{Caller}
+use Rattle.depot_rows.specs.depot_model.Arguments.{names}
+use Rattle.depot_rows.specs.depot_model.Choice.{chosen}
 use Rattle.depot_rows.specs.depot_model.Deeds.{Deed}
 use Rattle.depot_rows.specs.depot_model.Rules.{IsSound}
-use Rattle.depot_rows.specs.Standing.{HasRows}
+use Rattle.depot_rows.specs.depot_model.Steps.Listing.{numbered}
+use Rattle.depot_rows.specs.Standing.{HasRows, row_in}
+use Rattle.named_files.specs.Sets.{is_listed}
+use Rattle.revision_reads.specs.History.{numbered_record, seen}
+use Rattle.newest_revisions.specs.Newest.{asks_for_none}
 
 -- the depot is sound, and the rows of the tables for which a choice may ask are its
 pub record ChoiceReads (rows : AllRows) (d : List Deed) : Type 0 where
@@ -14,3 +27,12 @@ pub record ChoiceReads (rows : AllRows) (d : List Deed) : Type 0 where
   pub has_label : HasRows rows d tables.Label
   pub has_change : HasRows rows d tables.Change
   pub has_rev : HasRows rows d tables.Rev
+
+-- the argument names the file, and where it asks for a revision, it chooses one of the file's
+abbrev pub is_sought : Caller → List Deed → FileArgument → List ℕ → Bool
+is_sought caller d argument path = if asks_for_none argument.spec.wanted then names false d caller argument.spec path else is_listed caller d argument path
+
+-- a row is that of the revision which is chosen of a file, if there is one, with the place of its content
+pub record IsChoice (rows : AllRows) (d : List Deed) (caller : Caller) (wanted : Wanted) (path : List ℕ) (row : Option RevRecord) : Type 0 where
+  pub row_is : option_map seen row ≡ option_map numbered_record (numbered d path (chosen d caller path wanted))
+  pub stored : (r : RevRecord) → row ≡ Some r → row_in rows (keys.Rev (printed path) r.rev) ≡ Some (records.Rev r)

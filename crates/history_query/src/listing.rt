@@ -14,21 +14,19 @@ ghost use Rattle.history_query.specs.Choosing.{ChoiceReads};
 ghost use Rattle.history_query.specs.Listing.{file_row_of, rows_told};
 ghost use Rattle.history_query.specs.Telling.{told_records};
 
-use crate::choosing::over_chosen;
+use crate::choosing::{ChoiceAct, over_chosen};
 use crate::telling::{Told, told_of};
 use depot_rows::model::{Caller, FileArgument, Row};
 use depot_rows::paths::DepotPath;
 use depot_rows::records::{ChangeRecord, RevRecord};
 use depot_rows::tables::Tables;
-use file_steps::FileAct;
 use named_files::Asker;
 use reply_rows::{RowBuilder, Step};
 use std::alloc::{AllocError, Global};
 
 /// What `files` tells of a file.
 #[derive(Drop)]
-struct Listed<'a> {
-    caller: &'a Caller,
+struct Listed {
     /// Revisions that are deleted have no row.
     live: bool,
 }
@@ -82,31 +80,26 @@ fn tell_file(
     }
 }
 
-impl<'a> FileAct for Listed<'a> {
+impl ChoiceAct for Listed {
     ghost use Rattle.depot_rows.specs.depot_model.Steps.Listing.{tells_file};
     ghost use Rattle.history_query.specs.Choosing.{ChoiceReads as Reads};
 
-    ghost reads = { λ listed rows d. Reads rows d };
+    ghost reads = { λ listed caller rows d. Reads rows d };
 
-    ghost acts = { λ listed d argument path. tells_file listed.live d listed.caller.now argument path };
-
-    ghost is_later = { λ listed d e. Unit {0} };
+    ghost acts = { λ listed d caller argument path. tells_file listed.live d caller argument path };
 
     fn act(
         &self,
         alloc: Global,
         tables: &Tables,
-        argument: &FileArgument,
+        _caller: &Caller,
         path: &DepotPath,
+        row: Option<&RevRecord>,
     ) -> Result<Step, AllocError> {
-        let told = told_of(alloc, tables, self.caller, path, &argument.spec.wanted)?;
+        let told = told_of(tables, path, row);
         let step = tell_file(alloc, self.live, path, told)?;
         Ok(step)
     }
-
-    ghost first = { λ listed d. tt };
-
-    ghost next = { λ listed d e argument path later. tt };
 }
 
 /// `files` of an asker.
@@ -121,7 +114,7 @@ fn files_asked(
     ensures { IfOk result (λ step. (d : List Deed) → IsAsker d caller.now asker.now → ChoiceReads (rows_of tables.now) d →
         IsMade (rows_of tables.now) d d (model.files d caller.now live arguments.now) step) }
 {
-    let act = Listed { caller, live };
+    let act = Listed { live };
     let step = over_chosen(alloc, tables, caller, asker, &act, arguments)?;
     Ok(step)
 }

@@ -18,23 +18,21 @@ ghost use Rattle.history_query.specs.Choosing.{ChoiceReads};
 ghost use Rattle.history_query.specs.Crediting.{credited};
 ghost use Rattle.history_query.specs.Logging.{LogReads, credit_fields, credits_in, digest_fields, fields_by, fields_of, log_row, logged, logged_from, revision_fields, rows_logged, size_fields};
 
-use crate::choosing::over_chosen;
+use crate::choosing::{ChoiceAct, over_chosen};
 use crate::crediting::{Credits, credits_of, range_of, rows_are_records};
 use depot_rows::model::{Caller, FileArgument, Row};
 use depot_rows::paths::{DepotPath, Text};
 use depot_rows::records::{ChangeRecord, IntegedRecord, RevRecord};
 use depot_rows::tables::Tables;
-use file_steps::FileAct;
 use itoa::Buffer;
 use named_files::Asker;
 use reply_rows::{RowBuilder, Step};
-use revision_reads::{change_of, chosen_revision, revisions_up_to};
+use revision_reads::{change_of, revisions_up_to};
 use std::alloc::{AllocError, Global};
 
 /// What `filelog` tells of a file.
 #[derive(Drop)]
 struct Logged<'a> {
-    caller: &'a Caller,
     asker: &'a Asker,
 }
 
@@ -359,33 +357,27 @@ fn tell_chosen(
     }
 }
 
-impl<'a> FileAct for Logged<'a> {
+impl<'a> ChoiceAct for Logged<'a> {
     ghost use Rattle.depot_rows.specs.depot_model.Steps.History.{log_file};
     ghost use Rattle.history_query.specs.Logging.{LogReads as Reads};
 
-    ghost reads = { λ logged rows d. Reads logged.caller.now logged.asker.now rows d };
+    ghost reads = { λ logged caller rows d. Reads caller logged.asker.now rows d };
 
-    ghost acts = { λ logged d argument path. log_file d logged.caller.now argument path };
-
-    ghost is_later = { λ logged d e. Unit {0} };
+    ghost acts = { λ logged d caller argument path. log_file d caller argument path };
 
     fn act(
         &self,
         alloc: Global,
         tables: &Tables,
-        argument: &FileArgument,
+        _caller: &Caller,
         path: &DepotPath,
+        row: Option<&RevRecord>,
     ) -> Result<Step, AllocError> {
         // the bytes of a path are one
         let _bytes = path.as_bytes();
-        let row = chosen_revision(alloc, tables, self.caller, path, &argument.spec.wanted)?;
         let step = tell_chosen(alloc, tables, self.asker, path, row)?;
         Ok(step)
     }
-
-    ghost first = { λ logged d. tt };
-
-    ghost next = { λ logged d e argument path later. tt };
 }
 
 /// `filelog` of an asker.
@@ -399,7 +391,7 @@ fn filelog_asked(
     ensures { IfOk result (λ step. (d : List Deed) → IsAsker d caller.now asker.now → ChoiceReads (rows_of tables.now) d → HasRows (rows_of tables.now) d table_ids.Integed →
         IsMade (rows_of tables.now) d d (model.filelog d caller.now arguments.now) step) }
 {
-    let act = Logged { caller, asker };
+    let act = Logged { asker };
     let step = over_chosen(alloc, tables, caller, asker, &act, arguments)?;
     Ok(step)
 }

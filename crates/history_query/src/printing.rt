@@ -16,22 +16,19 @@ ghost use Rattle.reply_rows.specs.Made.{IsMade, told as told_rows};
 ghost use Rattle.history_query.specs.Choosing.{ChoiceReads};
 ghost use Rattle.history_query.specs.Printing.{awaited, length_fields, print_row_of, prints, places as places_in};
 
-use crate::choosing::over_chosen;
+use crate::choosing::{ChoiceAct, over_chosen};
 use depot_rows::model::{Caller, FileArgument, Row};
 use depot_rows::paths::{DepotPath, Sequence, Text};
 use depot_rows::protections::Level;
 use depot_rows::records::{RevRecord, Spot};
 use depot_rows::tables::Tables;
-use file_steps::FileAct;
 use named_files::Asker;
 use reply_rows::{RowBuilder, RowContent, Step, denied_row};
-use revision_reads::stored_choice;
 use std::alloc::{AllocError, Global};
 
 /// What `print` tells of a file.
 #[derive(Drop)]
 struct Printed<'a> {
-    caller: &'a Caller,
     asker: &'a Asker,
 }
 
@@ -117,38 +114,32 @@ fn deny(alloc: Global, path: &DepotPath) -> Result<Step, AllocError>
     Ok(step)
 }
 
-impl<'a> FileAct for Printed<'a> {
+impl<'a> ChoiceAct for Printed<'a> {
     ghost use Rattle.depot_rows.specs.depot_model.Step.{unless};
     ghost use Rattle.depot_rows.specs.depot_model.Asking.{to_read};
     ghost use Rattle.depot_rows.specs.depot_model.Steps.History.{print_chosen};
     ghost use Rattle.depot_rows.specs.depot_model.Steps.Opening.{right_refusal};
     ghost use Rattle.history_query.specs.Printing.{PrintReads};
 
-    ghost reads = { λ printed rows d. PrintReads printed.caller.now printed.asker.now rows d };
+    ghost reads = { λ printed caller rows d. PrintReads caller printed.asker.now rows d };
 
-    ghost acts = { λ printed d argument path. unless (right_refusal to_read d printed.caller.now path ∷ []) (print_chosen d printed.caller.now argument path) };
-
-    ghost is_later = { λ printed d e. Unit {0} };
+    ghost acts = { λ printed d caller argument path. unless (right_refusal to_read d caller path ∷ []) (print_chosen d caller argument path) };
 
     fn act(
         &self,
         alloc: Global,
         tables: &Tables,
-        argument: &FileArgument,
+        _caller: &Caller,
         path: &DepotPath,
+        row: Option<&RevRecord>,
     ) -> Result<Step, AllocError> {
         if !self.asker.may(path, Level(2)) {
             let step = deny(alloc, path)?;
             return Ok(step);
         }
-        let row = stored_choice(alloc, tables, self.caller, path, &argument.spec.wanted)?;
         let step = print_revision(alloc, path, row)?;
         Ok(step)
     }
-
-    ghost first = { λ printed d. tt };
-
-    ghost next = { λ printed d e argument path later. tt };
 }
 
 /// `print` of an asker.
@@ -162,7 +153,7 @@ fn print_asked(
     ensures { IfOk result (λ step. (d : List Deed) → IsAsker d caller.now asker.now → ChoiceReads (rows_of tables.now) d →
         IsMade (rows_of tables.now) d d (model.print d caller.now arguments.now) step) }
 {
-    let act = Printed { caller, asker };
+    let act = Printed { asker };
     let step = over_chosen(alloc, tables, caller, asker, &act, arguments)?;
     Ok(step)
 }

@@ -16,14 +16,13 @@ ghost use Rattle.history_query.specs.Choosing.{ChoiceReads};
 ghost use Rattle.history_query.specs.Stating.{have_fields, head_fields, stat_row_of, stats_told};
 ghost use Rattle.history_query.specs.Telling.{told_records};
 
-use crate::choosing::over_chosen;
+use crate::choosing::{ChoiceAct, over_chosen};
 use crate::telling::{Told, told_of};
 use depot_rows::model::{Caller, FileArgument, Row};
 use depot_rows::paths::{ClientPath, DepotPath};
 use depot_rows::records::{ChangeRecord, RevRecord, WorkingRecord};
 use depot_rows::tables::Tables;
 use file_openings::opening_of;
-use file_steps::FileAct;
 use named_files::Asker;
 use reply_rows::{RowBuilder, Step};
 use row_reads::have_of;
@@ -32,7 +31,6 @@ use std::alloc::{AllocError, Global};
 /// What `fstat` tells of a file.
 #[derive(Drop)]
 struct Stated<'a> {
-    caller: &'a Caller,
     asker: &'a Asker,
 }
 
@@ -131,36 +129,31 @@ fn stat_file(
     }
 }
 
-impl<'a> FileAct for Stated<'a> {
+impl<'a> ChoiceAct for Stated<'a> {
     ghost use Rattle.depot_rows.specs.depot_model.Steps.History.{stat_file as step_of_file};
     ghost use Rattle.history_query.specs.Stating.{StatReads};
 
-    ghost reads = { λ stated rows d. StatReads stated.caller.now stated.asker.now rows d };
+    ghost reads = { λ stated caller rows d. StatReads caller stated.asker.now rows d };
 
-    ghost acts = { λ stated d argument path. step_of_file d stated.caller.now argument path };
-
-    ghost is_later = { λ stated d e. Unit {0} };
+    ghost acts = { λ stated d caller argument path. step_of_file d caller argument path };
 
     fn act(
         &self,
         alloc: Global,
         tables: &Tables,
-        argument: &FileArgument,
+        caller: &Caller,
         path: &DepotPath,
+        row: Option<&RevRecord>,
     ) -> Result<Step, AllocError> {
-        let told = told_of(alloc, tables, self.caller, path, &argument.spec.wanted)?;
-        let have = have_of(alloc, tables, &self.caller.client, path)?;
-        let opening = opening_of(alloc, tables, &self.caller.client, path)?;
+        let told = told_of(tables, path, row);
+        let have = have_of(alloc, tables, &caller.client, path)?;
+        let opening = opening_of(alloc, tables, &caller.client, path)?;
         let place = self.asker.place(alloc, path)?;
         let done = stat_file(alloc, path, &place, have, opening, told);
         drop(place);
         let step = done?;
         Ok(step)
     }
-
-    ghost first = { λ stated d. tt };
-
-    ghost next = { λ stated d e argument path later. tt };
 }
 
 /// `fstat` of an asker.
@@ -174,7 +167,7 @@ fn stat_asked(
     ensures { IfOk result (λ step. (d : List Deed) → IsAsker d caller.now asker.now → ChoiceReads (rows_of tables.now) d → HasRows (rows_of tables.now) d table_ids.Working →
         IsMade (rows_of tables.now) d d (model.fstat d caller.now arguments.now) step) }
 {
-    let act = Stated { caller, asker };
+    let act = Stated { asker };
     let step = over_chosen(alloc, tables, caller, asker, &act, arguments)?;
     Ok(step)
 }

@@ -1,24 +1,22 @@
 //! The chosen revision of a file with its change.
 
-ghost use Rattle.std.specs.Prelude.{◌≡◌, List, IfOk, option_map};
+ghost use Rattle.std.specs.Prelude.{◌≡◌, List, option_map};
 ghost use Rattle.std.specs.Option.{option_copied};
 ghost use Rattle.depot_rows.specs.db_records.declared.table.TableId.TheVariants as table_ids;
 ghost use Rattle.depot_rows.specs.db_records.declared.record.Record.TheVariants.{Change};
 ghost use Rattle.depot_rows.specs.table_changes.Changed.{rows_of};
-ghost use Rattle.depot_rows.specs.depot_model.Choice.{chosen};
+ghost use Rattle.depot_rows.specs.depot_model.Choice.{Choice};
 ghost use Rattle.depot_rows.specs.depot_model.Deeds.{Deed};
 ghost use Rattle.depot_rows.specs.depot_model.Steps.Listing.{numbered};
 ghost use Rattle.depot_rows.specs.Standing.{HasRows};
-ghost use Rattle.revision_reads.specs.History.{seen};
+ghost use Rattle.revision_reads.specs.History.{numbered_record, seen};
 ghost use Rattle.history_query.specs.Choosing.{ChoiceReads};
 ghost use Rattle.history_query.specs.Telling.{revision_records, told_records, with_landed};
 
-use depot_rows::model::Caller;
-use depot_rows::paths::{DepotPath, Wanted};
+use depot_rows::paths::DepotPath;
 use depot_rows::records::{ChangeRecord, RevRecord};
 use depot_rows::tables::Tables;
-use revision_reads::{change_of, chosen_revision};
-use std::alloc::{AllocError, Global};
+use revision_reads::change_of;
 
 /// The row of a revision and that of the change that made it.
 #[derive(Drop)]
@@ -51,20 +49,16 @@ fn with_change<'a>(tables: &'a Tables, row: Option<&'a RevRecord>) -> Option<Tol
     }
 }
 
-/// The revision that a file specification chooses of a file, with its change.
+/// The row of the revision that is chosen of a file, with its change.
 pub(crate) fn told_of<'a>(
-    alloc: Global,
     tables: &'a Tables,
-    caller: &Caller,
     path: &DepotPath,
-    wanted: &Wanted,
-) -> Result<Option<Told<'a>>, AllocError>
-    ensures { IfOk result (λ told. (d : List Deed) → ChoiceReads (rows_of tables.now) d →
-        option_map told_records told ≡ option_map revision_records (numbered d path.now (chosen d caller.now path.now wanted.now))) }
+    row: Option<&'a RevRecord>,
+) -> Option<Told<'a>>
+    ensures { (d : List Deed) (choice : Choice) → ChoiceReads (rows_of tables.now) d → option_map seen (option_copied row.entry) ≡ option_map numbered_record (numbered d path.now choice) →
+        option_map told_records result ≡ option_map revision_records (numbered d path.now choice) }
 {
     // the bytes of a path are one
     let _bytes = path.as_bytes();
-    let row = chosen_revision(alloc, tables, caller, path, wanted)?;
-    let told = with_change(tables, row);
-    Ok(told)
+    with_change(tables, row)
 }

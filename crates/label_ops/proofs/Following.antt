@@ -1,5 +1,5 @@
 -- Deeds that put files into labels may follow whatever depot.
-use Rattle.std.proofs.Common.{◌≡◌, ℕ, zero, suc, Bool, true, false, List, [], ◌∷◌, Some, None, refl, sym, ap, subst, ◌∙◌}
+use Rattle.std.proofs.Common.{◌≡◌, ℕ, zero, suc, Bool, true, false, List, [], ◌∷◌, refl, sym, subst}
 use Rattle.std.specs.Prelude.{◌==◌, if◌then◌else◌}
 use Rattle.std.specs.List.{list_all}
 use Rattle.depot_rows.specs.depot_model.declared.command.FileArgument.{FileArgument}
@@ -10,7 +10,7 @@ use Rattle.depot_rows.specs.depot_model.Asking.{to_open}
 use Rattle.depot_rows.specs.depot_model.Deeds.{Deed, Tag}
 use Rattle.depot_rows.specs.depot_model.Latest.{labelled}
 use Rattle.depot_rows.specs.depot_model.Records.{record_of}
-use Rattle.depot_rows.specs.depot_model.Step.{Step as ModelStep, does, nothing}
+use Rattle.depot_rows.specs.depot_model.Step.{does, nothing}
 use Rattle.depot_rows.specs.depot_model.Steps.Opening.{right_refusal}
 use Rattle.depot_rows.specs.depot_model.Steps.Tagging.{tag_file, tag_files, tag_to, tagged_rev}
 use Rattle.depot_rows.specs.Deed.{IsDeed}

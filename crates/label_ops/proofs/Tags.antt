@@ -1,6 +1,7 @@
 -- What becomes of a file in a label, and the revision that a label is to have, are the model's.
-use Rattle.std.proofs.Common.{◌≡◌, ℕ, zero, suc, Bool, true, false, List, [], ◌∷◌, refl, sym, ap, subst, ◌∙◌, arith}
-use Rattle.std.specs.Prelude.{◌==◌, ◌&&◌, codes, if◌then◌else◌}
+use Rattle.std.proofs.Common.{◌≡◌, length, ℕ, zero, suc, Bool, true, false, List, [], ◌∷◌, refl, sym, ap, subst, ◌∙◌, arith}
+use Rattle.std.specs.Prelude.{◌==◌, ◌&&◌, codes, if◌then◌else◌, not}
+use Rattle.std.proofs.lemmas.Bool.{false≢true, true≢false}
 use Rattle.std.proofs.lemmas.Bool.Decides.{nat_tests}
 use Rattle.depot_rows.specs.depot_path.Path.{is_path}
 use Rattle.depot_rows.specs.depot_path.declared.revision.Wanted.{Wanted}
@@ -13,23 +14,25 @@ use Rattle.depot_rows.specs.depot_model.Arguments.{named, no_file, over, over_al
 use Rattle.depot_rows.specs.depot_model.Choice.{Choice, PassedOver, At, chosen}
 use Rattle.depot_rows.specs.depot_model.Deeds.{Deed, Tag}
 use Rattle.depot_rows.specs.depot_model.Latest.{have}
-use Rattle.depot_rows.specs.depot_model.Revisions.{is_live_at}
+use Rattle.depot_rows.specs.depot_model.Revisions.{head, is_live_at}
 use Rattle.depot_rows.specs.depot_model.Step.{Step as ModelStep, does, nothing}
-use Rattle.depot_rows.specs.depot_model.Steps.Tagging.{live_choice, synced_rev, tag_file, tag_files, tag_row, tag_to}
+use Rattle.depot_rows.specs.depot_model.Steps.Tagging.{synced_rev, tag_file, tag_files, tag_row, tag_to}
 use Rattle.depot_rows.proofs.Keys.{number-is, number-self}
 use Rattle.depot_rows.specs.Effects.{Follow}
 use Rattle.depot_rows.specs.declared.deed.Deed.TheVariants as dones
+use Rattle.newest_revisions.specs.Newest.{asks_for_none}
+use Rattle.newest_revisions.proofs.NewestRead.{chosen_head}
 use Rattle.label_ops.specs.Tagged.{asked, is_head, labelling_of, live_at_choice, synced, tag_step, taken}
 
 -- ---- a revision in a label becomes another one, or stays
+
+some_is : (n : ℕ) → (suc n == 0) ≡ false
+some_is n = grind (arith, nat_tests)
 
 module _ (label path : List ℕ) where
   abbrev step_by : ℕ → ℕ → Bool → Bool → ModelStep
   step_by old new none_old none_new = does (Tag label path new ∷ [])
       (tag_row path (if none_new then old else new) (if none_old then codes "added" else if none_new then codes "deleted" else codes "updated"))
-
-  some_is : (n : ℕ) → (suc n == 0) ≡ false
-  some_is n = grind (arith, nat_tests)
 
   abbrev updated_unless : ℕ → Bool → ModelStep
   updated_unless new b = if b then nothing else does (Tag label path (suc new) ∷ []) (tag_row path (suc new) (codes "updated"))
@@ -77,11 +80,28 @@ asked_is d caller path true Head = refl
 asked_is d caller path true (One end) = refl
 asked_is d caller path true (Range first second) = refl
 
+-- where neither a revision nor that is asked for
+pub asked_newest : (d : List Deed) (caller : Caller) (path : List ℕ) (stands : Bool) (wanted : Wanted) → (not stands && asks_for_none wanted) ≡ true
+    → chosen d caller path (asked stands wanted) ≡ At (head d path)
+asked_newest d caller path false wanted asks = chosen_head d caller path wanted asks
+asked_newest d caller path true wanted asks = absurd (false≢true asks)
+
 -- what `tag` and `labelsync` do with files
 pub tags : (d : List Deed) (caller : Caller) (label : List ℕ) (removes : Bool) (arguments : List FileArgument)
     → over (named false d caller (submitted d)) no_file (taken (labelling_of removes) false d caller label) [] arguments ≡ tag_files d caller label removes arguments
 tags d caller label true arguments = refl
 tags d caller label false arguments = refl
+
+-- where there are arguments, and where there are none
+pub over_some : (files : FileArgument → List (List ℕ)) (missing : FileArgument → ModelStep) (act : FileArgument → List ℕ → ModelStep) (arguments : List FileArgument)
+    → (length arguments == 0) ≡ false → over_all files missing act arguments ≡ over files missing act [] arguments
+over_some files missing act [] some = absurd (true≢false some)
+over_some files missing act (a ∷ arguments) some = refl
+
+pub over_none : (files : FileArgument → List (List ℕ)) (missing : FileArgument → ModelStep) (act : FileArgument → List ℕ → ModelStep) (arguments : List FileArgument)
+    → (length arguments == 0) ≡ true → nothing ≡ over files missing act [] arguments
+over_none files missing act [] none = refl
+over_none files missing act (a ∷ arguments) none = absurd (true≢false (sym none ∙ some_is (length arguments)))
 
 pub syncs : (d : List Deed) (caller : Caller) (label : List ℕ) (labelling : Labelling) (arguments : List FileArgument)
     → synced d caller label labelling arguments

@@ -12,23 +12,24 @@ ghost use Rattle.named_files.specs.Sets.{ShownReads};
 ghost use Rattle.reply_rows.specs.Made.{IsMade};
 ghost use Rattle.label_ops.specs.Tagged.{synced};
 
-use crate::taking::Taking;
+use crate::taking::{Taking, TakingFiles};
 use depot_rows::model::{Caller, FileArgument, Labelling};
 use depot_rows::paths::Name;
 use depot_rows::tables::Tables;
-use file_steps::{over_all, within_files};
+use file_steps::{walk_over_all, within_files};
 use named_files::{Asker, Listing, ShownFiles};
+use newest_revisions::Heads;
 use reply_rows::{Step, label_locked_row, no_such_label_row};
 use row_reads::{is_label, is_locked_label};
 use std::alloc::{AllocError, Global};
 
 /// What `labelsync` does with files, where the label isn't refused.
-fn sync_files(
+fn sync_files<'a>(
     alloc: Global,
-    tables: &Tables,
-    caller: &Caller,
-    asker: &Asker,
-    label: &Name,
+    tables: &'a Tables,
+    caller: &'a Caller,
+    asker: &'a Asker,
+    label: &'a Name,
     labelling: Labelling,
     arguments: &[FileArgument],
 ) -> Result<Step, AllocError>
@@ -41,14 +42,18 @@ fn sync_files(
         asker,
         listing: &listing,
     };
-    let taking = Taking {
-        caller,
-        asker,
-        label,
-        labelling,
-        have: true,
+    let mut taking = TakingFiles {
+        taking: Taking {
+            caller,
+            asker,
+            label,
+            labelling,
+            have: true,
+        },
+        heads: Heads::none(alloc),
     };
-    let done = over_all(alloc, tables, &files, &taking, arguments);
+    let done = walk_over_all(alloc, tables, &files, &mut taking, arguments);
+    drop(taking);
     drop(listing);
     let whole = done?;
     let step = within_files(alloc, whole)?;

@@ -13,43 +13,51 @@ ghost use Rattle.reply_rows.specs.Made.{IsMade};
 ghost use Rattle.label_ops.specs.Tagged.{tagged};
 
 use crate::making::make_label;
-use crate::taking::{Taking, labelling_of};
+use crate::taking::{Taking, TakingFiles, labelling_of};
 use depot_rows::model::{Caller, FileArgument};
 use depot_rows::paths::Name;
 use depot_rows::tables::Tables;
-use file_steps::{over, within_files};
+use file_steps::{walk_over_all, within_files};
 use named_files::{Asker, Listing, ShownFiles};
+use newest_revisions::Heads;
 use reply_rows::{Step, label_locked_row};
 use row_reads::is_locked_label;
 use std::alloc::{AllocError, Global};
 
 /// What `tag` does with files.
-fn tag_files(
+fn tag_files<'a>(
     alloc: Global,
-    tables: &Tables,
-    caller: &Caller,
-    asker: &Asker,
-    label: &Name,
+    tables: &'a Tables,
+    caller: &'a Caller,
+    asker: &'a Asker,
+    label: &'a Name,
     removes: bool,
     arguments: &[FileArgument],
 ) -> Result<Step, AllocError>
     ensures { IfOk result (λ step. (d : List Deed) → ShownReads caller.now asker.now Submitted (rows_of tables.now) d →
         IsMade (rows_of tables.now) d d (model.tag_files d caller.now label.now removes arguments.now) step) }
 {
+    if arguments.is_empty() {
+        return Ok(Step::new(alloc));
+    }
     let listing = Listing::Submitted;
     let files = ShownFiles {
         caller,
         asker,
         listing: &listing,
     };
-    let taking = Taking {
-        caller,
-        asker,
-        label,
-        labelling: labelling_of(removes),
-        have: false,
+    let mut taking = TakingFiles {
+        taking: Taking {
+            caller,
+            asker,
+            label,
+            labelling: labelling_of(removes),
+            have: false,
+        },
+        heads: Heads::none(alloc),
     };
-    let done = over(alloc, tables, &files, &taking, arguments);
+    let done = walk_over_all(alloc, tables, &files, &mut taking, arguments);
+    drop(taking);
     drop(listing);
     let step = done?;
     Ok(step)

@@ -1,25 +1,31 @@
 //! What `tag` and `labelsync` do with a file.
 
-ghost use Rattle.std.specs.Prelude.{◌≡◌, ◌==◌, ◌&&◌, List, IfOk, if◌then◌else◌};
+ghost use Rattle.std.specs.Prelude.{◌≡◌, ◌==◌, ◌&&◌, not, List, IfOk, if◌then◌else◌};
+ghost use Rattle.depot_rows.specs.db_records.declared.record.Record.{Record as Stored};
 ghost use Rattle.depot_rows.specs.db_records.declared.table.TableId.TheVariants as table_ids;
 ghost use Rattle.depot_rows.specs.table_changes.Changed.{AllRows, rows_of};
-ghost use Rattle.depot_rows.specs.depot_model.Choice.{chosen};
+ghost use Rattle.depot_rows.specs.depot_model.Choice.{At, chosen};
 ghost use Rattle.depot_rows.specs.depot_model.Deeds.{Deed};
 ghost use Rattle.depot_rows.specs.depot_model.Latest.{labelled};
+ghost use Rattle.depot_rows.specs.depot_model.Revisions.{head};
+ghost use Rattle.depot_rows.specs.depot_model.Rules.{IsSound};
 ghost use Rattle.depot_rows.specs.depot_model.Steps.Tagging as model;
 ghost use Rattle.depot_rows.specs.Standing.{HasRows};
 ghost use Rattle.named_files.specs.declared.listing.Listing.TheVariants.{Submitted};
 ghost use Rattle.named_files.specs.Sets.{ShownReads};
+ghost use Rattle.newest_revisions.specs.Heads.{AreHeads};
+ghost use Rattle.newest_revisions.specs.Newest.{asks_for_none as asks_none};
 ghost use Rattle.reply_rows.specs.Made.{IsMade};
 ghost use Rattle.revision_reads.specs.Choice.{choice_of};
 ghost use Rattle.label_ops.specs.Tagged.{asked, is_head, labelling_of as labelling_by, live_at_choice, rev_by, tag_step, told_rev as rev_told, word_of as word_between};
 
 use depot_rows::model::{Caller, FileArgument, Labelling, Row};
-use depot_rows::paths::{DepotPath, Name, Wanted};
+use depot_rows::paths::{DepotPath, Name, Sequence, Wanted};
 use depot_rows::protections::Level;
 use depot_rows::tables::Tables;
-use file_steps::FileAct;
-use named_files::Asker;
+use file_steps::WalkAct;
+use named_files::{Asker, ShownFiles};
+use newest_revisions::{Heads, asks_for_none};
 use reply_rows::{RowBuilder, Step, denied_row};
 use revision_reads::{Chosen, chosen_of, is_live_at};
 use row_reads::{have_of, label_of};
@@ -35,6 +41,13 @@ pub(crate) struct Taking<'a> {
     pub(crate) labelling: Labelling,
     /// Whether an argument without a revision asks for that of the have list.
     pub(crate) have: bool,
+}
+
+/// What is done with the files that a label takes or loses, with the newest revisions that the walk saw which found them.
+#[derive(Drop)]
+pub(crate) struct TakingFiles<'a> {
+    pub(crate) taking: Taking<'a>,
+    pub(crate) heads: Heads<'a>,
 }
 
 /// What `tag` does with a file of which no live revision is chosen: it leaves it, and with `-d` it removes all files that are named.
@@ -180,20 +193,50 @@ fn live_rev(
     }
 }
 
+/// Whether an argument asks for the newest revision.
+fn asks_newest(have: bool, wanted: &Wanted) -> bool
+    ensures { result ≡ (not have && asks_none wanted.now) }
+{
+    !have && asks_for_none(wanted)
+}
+
+/// The newest revision of a file, where it is live there, 0 for none.
+fn newest_live(
+    alloc: Global,
+    tables: &Tables,
+    heads: &mut Heads<'_>,
+    path: &DepotPath,
+) -> Result<u32, AllocError>
+    ensures heads { IfOk result (λ _. (rows : List Stored) → AreHeads rows heads.old → AreHeads rows heads.new) }
+    ensures rev { IfOk result (λ rev. (d : List Deed) → AreHeads (rows_of tables.now table_ids.Rev) heads.old → IsSound d → HasRows (rows_of tables.now) d table_ids.Rev →
+        rev ≡ live_at_choice d path.now (At (head d path.now))) }
+{
+    let newest = heads.newest(alloc, tables, path)?;
+    if newest.live { Ok(newest.rev) } else { Ok(0) }
+}
+
 /// The revision that an argument chooses of a file, where it is live there, 0 for none.
 fn live_choice(
     alloc: Global,
     tables: &Tables,
+    heads: &mut Heads<'_>,
     taking: &Taking<'_>,
     path: &DepotPath,
     wanted: &Wanted,
 ) -> Result<u32, AllocError>
-    ensures { IfOk result (λ rev. (d : List Deed) → ShownReads taking.now.caller.now taking.now.asker.now Submitted (rows_of tables.now) d →
-        rev ≡ model.live_choice d taking.now.caller.now (asked taking.now.have wanted.now) path.now) }
+    ensures heads { IfOk result (λ _. (rows : List Stored) → AreHeads rows heads.old → AreHeads rows heads.new) }
+    ensures rev { IfOk result (λ rev. (d : List Deed) → ShownReads taking.now.caller.now taking.now.asker.now Submitted (rows_of tables.now) d →
+        AreHeads (rows_of tables.now table_ids.Rev) heads.old → rev ≡ model.live_choice d taking.now.caller.now (asked taking.now.have wanted.now) path.now) }
 {
-    let chosen = choice(alloc, tables, taking, path, wanted)?;
-    let rev = live_rev(alloc, tables, path, chosen)?;
-    Ok(rev)
+    let newest = asks_newest(taking.have, wanted);
+    if newest {
+        let rev = newest_live(alloc, tables, heads, path)?;
+        Ok(rev)
+    } else {
+        let chosen = choice(alloc, tables, taking, path, wanted)?;
+        let rev = live_rev(alloc, tables, path, chosen)?;
+        Ok(rev)
+    }
 }
 
 /// A revision, or for none another one.
@@ -207,23 +250,25 @@ fn or_old(rev: u32, old: u32) -> u32
 fn new_rev(
     alloc: Global,
     tables: &Tables,
+    heads: &mut Heads<'_>,
     taking: &Taking<'_>,
     path: &DepotPath,
     wanted: &Wanted,
     old: u32,
 ) -> Result<u32, AllocError>
-    ensures { IfOk result (λ rev. (d : List Deed) → ShownReads taking.now.caller.now taking.now.asker.now Submitted (rows_of tables.now) d →
-        old ≡ labelled d taking.now.label.now path.now →
+    ensures heads { IfOk result (λ _. (rows : List Stored) → AreHeads rows heads.old → AreHeads rows heads.new) }
+    ensures rev { IfOk result (λ rev. (d : List Deed) → ShownReads taking.now.caller.now taking.now.asker.now Submitted (rows_of tables.now) d →
+        AreHeads (rows_of tables.now table_ids.Rev) heads.old → old ≡ labelled d taking.now.label.now path.now →
         rev ≡ rev_by taking.now.labelling d taking.now.caller.now taking.now.label.now (asked taking.now.have wanted.now) path.now) }
 {
     match taking.labelling {
         Labelling::Removing => Ok(0),
         Labelling::Exact => {
-            let rev = live_choice(alloc, tables, taking, path, wanted)?;
+            let rev = live_choice(alloc, tables, heads, taking, path, wanted)?;
             Ok(rev)
         }
         Labelling::Adding => {
-            let rev = live_choice(alloc, tables, taking, path, wanted)?;
+            let rev = live_choice(alloc, tables, heads, taking, path, wanted)?;
             Ok(or_old(rev, old))
         }
     }
@@ -233,41 +278,56 @@ fn new_rev(
 fn take(
     alloc: Global,
     tables: &Tables,
+    heads: &mut Heads<'_>,
     taking: &Taking<'_>,
     path: &DepotPath,
     wanted: &Wanted,
 ) -> Result<Step, AllocError>
-    ensures { IfOk result (λ step. (d e : List Deed) → ShownReads taking.now.caller.now taking.now.asker.now Submitted (rows_of tables.now) d →
+    ensures heads { IfOk result (λ _. (rows : List Stored) → AreHeads rows heads.old → AreHeads rows heads.new) }
+    ensures step { IfOk result (λ step. (d e : List Deed) → ShownReads taking.now.caller.now taking.now.asker.now Submitted (rows_of tables.now) d →
+        AreHeads (rows_of tables.now table_ids.Rev) heads.old →
         IsMade (rows_of tables.now) d e (model.tag_to taking.now.label.now path.now (labelled d taking.now.label.now path.now)
         (rev_by taking.now.labelling d taking.now.caller.now taking.now.label.now (asked taking.now.have wanted.now) path.now)) step) }
 {
     let old = label_of(alloc, tables, taking.label, path)?;
-    let new = new_rev(alloc, tables, taking, path, wanted, old)?;
+    let new = new_rev(alloc, tables, heads, taking, path, wanted, old)?;
     let step = tag_to(alloc, taking.label, path, old, new)?;
     Ok(step)
 }
 
-impl<'a> FileAct for Taking<'a> {
+impl<'a> WalkAct<'a, ShownFiles<'a>> for TakingFiles<'a> {
+    ghost use Rattle.depot_rows.specs.db_records.declared.table.TableId.TheVariants as table_ids;
     ghost use Rattle.named_files.specs.declared.listing.Listing.TheVariants.{Submitted};
     ghost use Rattle.named_files.specs.Sets.{ShownReads};
+    ghost use Rattle.newest_revisions.specs.Heads.{AreHeads};
     ghost use Rattle.label_ops.specs.Tagged.{taken};
 
-    ghost reads = { λ taking rows d. ShownReads taking.caller.now taking.asker.now Submitted rows d };
+    ghost stands = { λ it rows d e. ShownReads it.taking.caller.now it.taking.asker.now Submitted rows d × AreHeads (rows table_ids.Rev) it.heads };
 
-    ghost acts = { λ taking d argument path. taken taking.labelling taking.have d taking.caller.now taking.label.now argument path };
+    ghost acts = { λ it d argument path. taken it.taking.labelling it.taking.have d it.taking.caller.now it.taking.label.now argument path };
 
-    ghost is_later = { λ taking d e. Unit {0} };
+    fn find(
+        &mut self,
+        alloc: Global,
+        tables: &'a Tables,
+        set: &ShownFiles<'a>,
+        argument: &FileArgument,
+    ) -> Result<Sequence<DepotPath>, AllocError> {
+        let paths = self.heads.find(alloc, tables, set, argument)?;
+        Ok(paths)
+    }
 
     fn act(
-        &self,
+        &mut self,
         alloc: Global,
-        tables: &Tables,
+        tables: &'a Tables,
         argument: &FileArgument,
         path: &DepotPath,
     ) -> Result<Step, AllocError> {
-        let may = self.asker.may(path, Level(3));
+        let may = self.taking.asker.may(path, Level(3));
         if may {
-            let step = take(alloc, tables, self, path, &argument.spec.wanted)?;
+            let wanted = &argument.spec.wanted;
+            let step = take(alloc, tables, &mut self.heads, &self.taking, path, wanted)?;
             Ok(step)
         } else {
             let row = denied_row(alloc, path, Level(3))?;
@@ -275,8 +335,4 @@ impl<'a> FileAct for Taking<'a> {
             Ok(step)
         }
     }
-
-    ghost first = { λ taking d. tt };
-
-    ghost next = { λ taking d e argument path later. tt };
 }

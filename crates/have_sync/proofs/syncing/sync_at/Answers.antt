@@ -10,7 +10,7 @@ use Rattle.have_sync.proofs.syncing.sync_at.Goals as goal
 
 pub returns-in_ok-step-in-Some-clause-step : goal.returns-in_ok-step-in-Some-clause-step
 returns-in_ok-step-in-Some-clause-step c = λ d e reads of is.
-    where_opened (rows_of c.args.tables.now) d e c.args.caller.now c.args.again c.args.argument.now c.args.path.now c.args.rev c.in_ok-step-in-Some.step c.in-Some.row.now
+    where_opened (rows_of c.args.tables.now) d e c.args.caller.now c.args.again c.args.argument.now c.args.path.now c.args.found.rev c.in_ok-step-in-Some.step c.in-Some.row.now
     (ap (λ r. option_map Working (option_copied r)) (sym c.in-Some.is) ∙ c.in_ok-row.ensures d reads.working)
     (λ o base. c.in_ok-step-in-Some.ensures d e o reads base)
 
@@ -20,7 +20,7 @@ returns-in_ok-step-in-None-clause-step c = λ d e reads of is.
     let path = c.args.path.now in
     let rows = rows_of c.args.tables.now in
     let step = c.in_ok-step-in-None.step in
-    where_not rows d e caller c.args.again c.args.argument.now path c.args.rev step
+    where_not rows d e caller c.args.again c.args.argument.now path c.args.found.rev step
     (ap (λ r. option_map Working (option_copied r)) (sym c.in-None.is) ∙ c.in_ok-row.ensures d reads.working)
     (subst (λ (n : ℕ). IsMade rows d e (sync_have c.args.again d caller path n) step) (c.in_ok-wanted-in-None.ensures d reads is) (c.in_ok-step-in-None.ensures.step d e reads of))
 

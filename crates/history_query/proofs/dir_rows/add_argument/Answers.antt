@@ -1,4 +1,4 @@
-use Rattle.std.proofs.Common.{ℕ, List, ◌++◌, sym, ap, ◌∙◌, append_assoc}
+use Rattle.std.proofs.Common.{ℕ, List, ◌++◌, ap, ◌∙◌, append_assoc}
 use Rattle.depot_rows.specs.depot_model.declared.reply.Row.{Row}
 use Rattle.history_query.specs.Directories.{missing_rows, new_rows, taken_after, texts_of}
 use Rattle.history_query.proofs.dir_rows.add_argument.Goals as goal

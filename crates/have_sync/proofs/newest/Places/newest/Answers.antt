@@ -1,39 +1,8 @@
-use Rattle.std.proofs.Common.{ℕ, List, Option, map, sym, subst, Bor}
-use Rattle.std.specs.Prelude.{IfSome}
-use Rattle.std.specs.List.{All}
-use Rattle.depot_rows.specs.db_records.declared.record.Record.{Record}
 use Rattle.depot_rows.specs.db_records.declared.table.TableId.TheVariants as tables
-use Rattle.depot_rows.specs.table_changes.Changed.{rows_of}
-use Rattle.named_files.specs.HeadRows.{IsHead}
-use Rattle.have_sync.specs.Heads.{IsHeadOf}
-use Rattle.have_sync.proofs.NewestRead.{live_is, rev_read}
 use Rattle.have_sync.proofs.newest.Places.newest.Goals as goal
 
-pub returns-in-Some-clause-places : goal.returns-in-Some-clause-places
-returns-in-Some-clause-places c = λ rows of. record {
-  heads = subst (λ heads. All (IsHead (rows tables.Rev)) (map (λ r. r.now) heads.items)) (sym c.go_to-row.ensures.rows) of.heads;
-  haves = of.haves;
-  haves_are = of.haves_are;
-}
+pub returns-clause-places : goal.returns-clause-places
+returns-clause-places c = λ rows of. record { heads = c.in_ok-newest.ensures.heads (rows tables.Rev) of.heads; haves = of.haves; haves_are = of.haves_are }
 
-pub returns-in_ok-newest-in-None-clause-places : goal.returns-in_ok-newest-in-None-clause-places
-returns-in_ok-newest-in-None-clause-places c = λ rows of. record {
-  heads = subst (λ heads. All (IsHead (rows tables.Rev)) (map (λ r. r.now) heads.items)) (sym c.go_to-row.ensures.rows) of.heads;
-  haves = of.haves;
-  haves_are = of.haves_are;
-}
-
-pub returns-in-Some-clause-newest : goal.returns-in-Some-clause-newest
-returns-in-Some-clause-newest c = λ d of sound has.
-    let rows = rows_of c.args.tables.now tables.Rev in
-    let path = c.args.path.now in
-    let row = c.in-Some.row.now in
-    let own = c.in_ok-text.ensures.read_again in
-    let P : Option (Bor Record) → Type 0 = λ o. IfSome o (λ r. (all : List Record) → All (IsHead all) (map (λ r. r.now) c.args.self.now.heads.rows.items) → IsHeadOf all c.in_ok-text.text r.now) in
-    let found = subst (λ (text : List ℕ). IsHeadOf rows text row) c.in_ok-text.ensures.text (subst P c.in-Some.is c.go_to-row.ensures.found rows of.heads) in (
-      rev_read d path own rows has row found c.newest_in.result c.newest_in.ensures sound,
-      live_is d path own rows has row found c.newest_in.result c.newest_in.ensures,
-    )
-
-pub returns-in_ok-newest-in-None-clause-newest : goal.returns-in_ok-newest-in-None-clause-newest
-returns-in_ok-newest-in-None-clause-newest c = λ d of sound has. c.in_ok-newest-in-None.ensures d sound has
+pub returns-clause-newest : goal.returns-clause-newest
+returns-clause-newest c = λ d of sound has. c.in_ok-newest.ensures.newest d of.heads sound has
