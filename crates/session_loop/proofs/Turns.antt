@@ -1,5 +1,5 @@
 -- One more command of a party.
-use Rattle.std.proofs.Common.{◌≡◌, ℕ, ◌+◌, ◌-◌, Bool, true, false, eqb, ◌&&◌, List, [], ◌∷◌, ◌++◌, map, get_or, Option, Some, Result, Ok, Err, refl, sym, ap, subst, ◌∙◌, arith, inl, inr, add-one}
+use Rattle.std.proofs.Common.{◌≡◌, ◌⊎◌, ℕ, ◌+◌, ◌-◌, Bool, true, false, eqb, ◌&&◌, List, [], ◌∷◌, ◌++◌, map, get_or, Option, Some, Result, Ok, Err, refl, sym, ap, subst, ◌∙◌, arith, inl, inr, add-one}
 use Rattle.std.specs.Prelude.{All, AllPairs, slice_get}
 use Rattle.std.specs.Prelude.{option_map}
 use Rattle.std.specs.Option.{option_flatten}
@@ -10,8 +10,10 @@ use Rattle.std.proofs.lemmas.List.Quantifiers.{all_pairs_push}
 use Rattle.outside_api.specs.Told.{extended}
 use Rattle.depot_model.specs.Deeds.{Deed}
 use Rattle.depot_model.specs.declared.reply.Row.{Row}
+use Rattle.depot_model.specs.declared.order.Answer.{Answer}
 use Rattle.depot_model.specs.declared.order.Place.{Place}
 use Rattle.depot_model.specs.declared.request.Asked.{Asked}
+use Rattle.depot_model.specs.declared.request.Caller.{Caller}
 use Rattle.depot_model.specs.Places.{Placed, taken, told_at}
 use Rattle.depot_model.specs.Printed.{printed}
 use Rattle.depot_model.specs.declared.request.Request.{Request}
@@ -22,7 +24,7 @@ use Rattle.depot_runs.specs.Run.{request_of, request_at, request_by, placed, is_
 use Rattle.session_loop.proofs.Orders.{IsUnplaced, reply_to-unplaced, reply_to-last, outputs-other}
 use Rattle.wire_text.proofs.Pieces.{both, extended-nil, extended-extended}
 use Rattle.session_loop.specs.Served.{IsTaken, IsUntaken, IsAnswered, IsTurn, IsServed}
-use Rattle.session_loop.specs.Taking.{placed_by}
+use Rattle.session_loop.specs.Taking.{Answers, placed_by, with_place}
 
 -- a party's first n commands were taken, each at its place
 pub record HasRun (may_give : ℕ → Type 0) (has_run : List Deed → List Placed → Type 0) (sessions : List (Option Session)) (start : List Deed) (party n : ℕ) (order : List Place) : Type 0 where
@@ -153,3 +155,34 @@ module _ {E : Type 0} (may_give : ℕ → Type 0) (was_run has_run : List Deed �
         },
         more.0.ran,
       )
+
+-- what was answered at the place of a request was taken there
+pub taken_at : (has_run : List Deed → List Placed → Type 0) (place : Place) (caller : Caller) (asked : Asked) (start : List Deed) (places : List Placed) (old_order new_order : List Place) (answer : Answer)
+    → Answers start places (request_of place caller asked) answer → has_run start (with_place places (request_of place caller asked) answer) → new_order ≡ old_order ++ answer.place ∷ []
+    → IsTaken (λ (m : ℕ). m ≡ place.moment) has_run place.party place.number caller asked start places old_order new_order answer.reply
+taken_at has_run place caller asked start places old_order new_order answer a ran order =
+    let request : Request = request_of place caller asked in
+    let fault = answer.place.fault in
+    let same : request ≡ request_of answer.place caller asked = sym (ap (λ (p : Place). request_of p caller asked) a.place) in
+    let Ran : Request → Type 0 = λ r. has_run start (places ++ placed_by r fault ∷ []) in
+    let Told : Request → Type 0 = λ r. answer.reply ≡ printed (told_at step (taken step start places) (placed_by r fault)) place.number in
+    record {
+      place = answer.place;
+      party_is = ap (λ (p : Place). p.party) a.place;
+      number_is = ap (λ (p : Place). p.number) a.place;
+      moment = ap (λ (p : Place). p.moment) a.place;
+      order = order;
+      ran = subst Ran same ran;
+      reply = subst Told same a.reply;
+    }
+
+-- what was answered at a moment that may be given was answered at one that may be given
+pub answered_given : {E : Type 0} (may_give : ℕ → Type 0) (has_run : List Deed → List Placed → Type 0) (party number moment : ℕ) (caller : Caller) (asked : Asked) (start : List Deed) (places : List Placed) (old_order new_order : List Place) (before now : Option (List ℕ)) (result : Result (Unit {0}) E)
+    → may_give moment → IsAnswered (λ (m : ℕ). m ≡ moment) has_run party number caller asked start places old_order new_order before now result
+    → IsAnswered may_give has_run party number caller asked start places old_order new_order before now result
+answered_given may_give has_run party number moment caller asked start places old_order new_order before now result given a = record { text = a.text; taken = go a.taken; given = a.given }
+  where
+    go : IsTaken (λ (m : ℕ). m ≡ moment) has_run party number caller asked start places old_order new_order a.text ⊎ IsUntaken has_run number start places old_order new_order a.text
+        → IsTaken may_give has_run party number caller asked start places old_order new_order a.text ⊎ IsUntaken has_run number start places old_order new_order a.text
+    go (inl t) = inl (record { place = t.place; party_is = t.party_is; number_is = t.number_is; moment = subst may_give (sym t.moment) given; order = t.order; ran = t.ran; reply = t.reply })
+    go (inr u) = inr u

@@ -38,13 +38,11 @@ fn with_room<T: Drop>(order: &mut Vec<Place>, value: T) -> Result<T, AllocError>
 
 /// Takes a command: it gets its place, which goes to the end of the order, and its reply. Without
 /// memory for all of that nothing is done.
-fn take_command<T: Taker, C: Clock, G: Gate>(
+fn take_command<T: Taker, G: Gate>(
     alloc: Global,
-    party: u32,
-    number: u32,
+    place: Place,
     caller: &Caller,
     asked: Asked,
-    clock: &C,
     gate: &G,
     taker: &mut T,
     order: &mut Vec<Place>,
@@ -52,17 +50,11 @@ fn take_command<T: Taker, C: Clock, G: Gate>(
     requires { T.can_take taker.old }
     ensures can { T.can_take taker.new }
     ensures ok { (since : ℕ) (start : List Deed) (places : List Placed) → T.has_run taker.old since start places → AreProper asked.command asked.contents →
-        IfOk result (IsTaken (C.says.may_give clock.now) (T.has_run taker.new since) party number caller.now asked start places order.old.items order.new.items) }
+        IfOk result (IsTaken (λ moment. moment ≡ place.moment) (T.has_run taker.new since) place.party place.number caller.now asked start places order.old.items order.new.items) }
     ensures nothing { (since : ℕ) (start : List Deed) (places : List Placed) → T.has_run taker.old since start places → OnErr result (T.has_run taker.new since start places) }
     ensures same_order { OnErr result (order.new.items ≡ order.old.items) }
     ensures cause { AreCaused (T.faults taker.old) (T.faults taker.new) (T.content_faults taker.old) (T.content_faults taker.new) order.old.items order.new.items }
 {
-    let place = Place {
-        party,
-        number,
-        moment: clock.now(),
-        fault: false,
-    };
     let request = with_room(order, request(&place, caller, asked)?)?;
     let Answer { place, reply } = taker.take(alloc, gate, request)?;
     order.push(place).unwrap();
@@ -70,13 +62,11 @@ fn take_command<T: Taker, C: Clock, G: Gate>(
 }
 
 /// Takes a command and gives its reply.
-fn answer<T: Taker, K: Sink, C: Clock, G: Gate>(
+fn answer<T: Taker, K: Sink, G: Gate>(
     alloc: Global,
-    party: u32,
-    number: u32,
+    place: Place,
     caller: &Caller,
     asked: Asked,
-    clock: &C,
     gate: &G,
     sink: &mut K,
     taker: &mut T,
@@ -85,13 +75,12 @@ fn answer<T: Taker, K: Sink, C: Clock, G: Gate>(
     requires { T.can_take taker.old }
     ensures can { T.can_take taker.new }
     ensures answered { (since : ℕ) (start : List Deed) (places : List Placed) → T.has_run taker.old since start places → AreProper asked.command asked.contents →
-        IsAnswered (C.says.may_give clock.now) (T.has_run taker.new since) party number caller.now asked start places order.old.items order.new.items (K.says.given sink.old) (K.says.given sink.new) result }
+        IsAnswered (λ moment. moment ≡ place.moment) (T.has_run taker.new since) place.party place.number caller.now asked start places order.old.items order.new.items (K.says.given sink.old) (K.says.given sink.new) result }
     ensures places { AreCaused (T.faults taker.old) (T.faults taker.new) (T.content_faults taker.old) (T.content_faults taker.new) order.old.items order.new.items }
     ensures cause { HasCause (K.says.faults sink.old) (K.says.faults sink.new) result }
 {
-    match take_command(
-        alloc, party, number, caller, asked, clock, gate, taker, order,
-    ) {
+    let number = place.number;
+    match take_command(alloc, place, caller, asked, gate, taker, order) {
         Ok(text) => give_all(sink, text.as_bytes()),
         Err(_) => give_memory(sink, number),
     }
@@ -133,9 +122,13 @@ pub fn run_session<T: Taker, K: Sink, C: Clock, G: Gate>(
     let mut count = 0;
     for asked in commands.into_vec() {
         count += 1;
-        match answer(
-            alloc, party, count, &caller, asked, clock, gate, sink, taker, order,
-        ) {
+        let place = Place {
+            party,
+            number: count,
+            moment: clock.now(),
+            fault: false,
+        };
+        match answer(alloc, place, &caller, asked, gate, sink, taker, order) {
             Ok(()) => {}
             Err(_) => {
                 return SessionRun {

@@ -6,7 +6,7 @@ use Rattle.std.proofs.lemmas.List.Elements.{recursion_from_All}
 use Rattle.std.proofs.lemmas.List.{length_push}
 use Rattle.depot_model.specs.declared.request.Asked.{Asked}
 use Rattle.session_loop.specs.Asking.{AreProper, AreWellFormed}
-use Rattle.session_loop.proofs.Turns.{served_none, served_more, served_last}
+use Rattle.session_loop.proofs.Turns.{answered_given, served_none, served_more, served_last}
 use Rattle.session_loop.proofs.Faults.{caused_none, caused_more}
 use Rattle.session_loop.proofs.session.run_session.Goals as goal
 
@@ -50,7 +50,7 @@ returns-in-Err-clause-served g c =
     c.in-Some.ensures.steps.0 at.invariant.items at.invariant.count in
     λ sessions since start has formed ran.
     let before = at.invariant.served sessions since start has formed ran in
-    (served_last _ _ _ sessions _ _ _ c.args.session asked _ _ _ _ _ has is before c.in-Err.field-0 (c.in-Err.ensures.answered since start _ before.ran.ran (formed_at _ _ _ formed is))).0
+    (served_last _ _ _ sessions _ _ _ c.args.session asked _ _ _ _ _ has is before c.in-Err.field-0 (answered_given (g.C.Clock.says.may_give c.args.clock.now) _ _ _ _ _ _ _ _ _ _ _ _ _ c.now.ensures (c.in-Err.ensures.answered since start _ before.ran.ran (formed_at _ _ _ formed is)))).0
 
 pub returns-in-Err-clause-ran : goal.returns-in-Err-clause-ran
 returns-in-Err-clause-ran g c =
@@ -60,7 +60,7 @@ returns-in-Err-clause-ran g c =
     c.in-Some.ensures.steps.0 at.invariant.items at.invariant.count in
     λ sessions since start has formed ran.
     let before = at.invariant.served sessions since start has formed ran in
-    (served_last _ _ _ sessions _ _ _ c.args.session asked _ _ _ _ _ has is before c.in-Err.field-0 (c.in-Err.ensures.answered since start _ before.ran.ran (formed_at _ _ _ formed is))).1
+    (served_last _ _ _ sessions _ _ _ c.args.session asked _ _ _ _ _ has is before c.in-Err.field-0 (answered_given (g.C.Clock.says.may_give c.args.clock.now) _ _ _ _ _ _ _ _ _ _ _ _ _ c.now.ensures (c.in-Err.ensures.answered since start _ before.ran.ran (formed_at _ _ _ formed is)))).1
 
 pub loop-asked-preserved : goal.loop-asked-preserved
 loop-asked-preserved g c =
@@ -73,7 +73,7 @@ loop-asked-preserved g c =
       can = c.answer.ensures.can;
       served = λ sessions since start has formed ran.
           let before = at.invariant.served sessions since start has formed ran in
-          served_more _ _ _ sessions _ _ _ c.args.session asked _ _ _ _ _ has is before c.in-Ok.field-0 (c.in-Ok.ensures.answered since start _ before.ran.ran (formed_at _ _ _ formed is));
+          served_more _ _ _ sessions _ _ _ c.args.session asked _ _ _ _ _ has is before c.in-Ok.field-0 (answered_given (g.C.Clock.says.may_give c.args.clock.now) _ _ _ _ _ _ _ _ _ _ _ _ _ c.now.ensures (c.in-Ok.ensures.answered since start _ before.ran.ran (formed_at _ _ _ formed is)));
       items = append_assoc at.yielded (asked ∷ []) _ ∙ rw (← steps) at.invariant.items;
       left =
           let was = at.invariant.left in
