@@ -1,5 +1,5 @@
 -- A replica's answers, one after another, each over a depot that had run the places of all that its party knew then, and that it follows.
-use Rattle.std.proofs.Common.{◌≡◌, ◌≤◌, ◌+◌, ◌||◌, ℕ, Bool, true, false, List, [], ◌∷◌, ◌++◌, length, map, Option, Result, Ok, Err, inl, refl, sym, ap, subst, ◌∙◌, arith}
+use Rattle.std.proofs.Common.{◌≡◌, ◌≤◌, ◌+◌, ◌||◌, ℕ, Bool, true, false, List, [], ◌∷◌, ◌++◌, length, map, Option, Result, Ok, Err, refl, sym, ap, subst, ◌∙◌, arith}
 use Rattle.std.proofs.lemmas.List.{length-append, map-append}
 use mathlib.Core.List.{IsPrefix}
 use Rattle.archive_file.specs.declared.archive.Archive.{Archive}
@@ -8,7 +8,6 @@ use Rattle.depot_model.specs.Places.{Placed}
 use Rattle.locked_tables.specs.Known.{PartyKnown}
 use Rattle.locked_tables.specs.Taken.{of_party, placed_of}
 use Rattle.locked_tables.specs.declared.taken.Taken.{Taken}
-use Rattle.order_words.proofs.Prefixes.{prefix_self, prefix_trans}
 use Rattle.outside_api.specs.Count.{HasRisen}
 use Rattle.outside_api.specs.Disk.{Files}
 use Rattle.outside_api.specs.Says.{DiskSays, SinkSays}
@@ -16,19 +15,18 @@ use Rattle.party_marks.specs.Known.{PassKnown}
 use Rattle.party_marks.specs.Marks.{has_marks}
 use Rattle.run_parties.proofs.Outputs.{got_more}
 use Rattle.run_parties.proofs.Replicas.{plain, turned_plain}
-use Rattle.run_parties.proofs.replica_turns.Along.{along_first, along_grown, along_turned}
-use Rattle.run_parties.proofs.replica_turns.Masters.{nth_longer, texts_grow}
-use Rattle.run_parties.proofs.replica_turns.Turns.{begins as fresh_goes, goes_on, widened}
+use Rattle.run_parties.proofs.replica_turns.Along.{along_first, along_later, along_longer, along_turned}
+use Rattle.run_parties.proofs.replica_turns.Masters.{texts_grow}
+use Rattle.run_parties.proofs.replica_turns.Turns.{begins as fresh_goes, goes_on, going_longer}
 use Rattle.run_parties.specs.Giving.{Got, HasGiven}
 use Rattle.run_parties.specs.Served.{IsEnd}
 use Rattle.run_parties.specs.depot_commit.Growing.{Chronicle, grown}
 use Rattle.run_parties.specs.depot_commit.Opening.{opens_generation}
 use Rattle.run_parties.specs.replica_turns.Along.{IsAlong, IsToldOutput}
 use Rattle.run_parties.specs.replica_turns.Going.{HasGotTexts, IsFresh, IsGoing, IsReplicaOutput, is_lost, reply_text}
-use Rattle.run_parties.specs.replica_turns.Master.{IsNth, Past}
+use Rattle.run_parties.specs.replica_turns.Master.{Past}
 use Rattle.run_parties.specs.replica_turns.declared.party.Answered.{Answered}
 use Rattle.run_parties.specs.replica_turns.declared.party.ReplicaParty.{ReplicaParty}
-use Rattle.run_parties.specs.serial_depot.declared.depot.SerialDepot.{SerialDepot}
 use Rattle.session_loop.specs.Asking.{AreWellFormed}
 use Rattle.session_loop.specs.declared.reading.ReplicaScript.{ReplicaScript}
 use Rattle.session_loop.specs.declared.session.SessionRun.{SessionRun}
@@ -37,7 +35,7 @@ use Rattle.shared_depot.proofs.Quietly.{chronicle_append}
 use Rattle.shared_depot.specs.Common.{HasAllStored, Masters, chronicle_after}
 use Rattle.shared_depot.specs.Replicas.{IsReplicaTurn}
 use Rattle.wire_text.proofs.Pieces.{extended-nil}
-use Rattle.party_threads.specs.Replicas.{HasRunFront, IsReplicaServed, IsStep}
+use Rattle.party_threads.specs.Replicas.{IsReplicaServed, IsStep}
 
 -- ---- answers
 
@@ -59,76 +57,72 @@ turn_plain disk_says end images begins masters old new old_marks new_marks p q r
   };
 }
 
--- ---- over more depots
+-- ---- over more places
 
-module _ {D : Type 0} (HasBeen Other : SerialDepot D → Type 0) (disk_says : DiskSays D) (may_give : ℕ → Type 0) (party : ℕ) (script : ReplicaScript) (more : (depot : SerialDepot D) → HasBeen depot → Other depot) where
-  given_wider : (p : ReplicaParty) (run : SessionRun) (lost : Bool) (before now : Option (List ℕ)) → HasGiven HasBeen disk_says may_give party script p run lost before now → HasGiven Other disk_says may_give party script p run lost before now
-  given_wider p run lost before now g = record { texts = g.texts; count = g.count; going = widened HasBeen disk_says may_give party script Other more p g.texts lost g.going; got = g.got }
+-- the places of a longer order
+longer : (known order : List Taken) (first : IsPrefix known order) → map placed_of known ++ map placed_of first.0 ≡ map placed_of order
+longer known order first = sym (map-append placed_of known first.0) ∙ ap (map placed_of) first.1
 
-  pub output_wider : (commands : ℕ) (failed lost : Bool) (before now : Option (List ℕ)) → IsReplicaOutput HasBeen disk_says may_give party script commands failed lost before now
-      → IsReplicaOutput Other disk_says may_give party script commands failed lost before now
+module _ {D : Type 0} (disk_says : DiskSays D) (since : ℕ) (start : List Deed) (may_give : ℕ → Type 0) (party : ℕ) (script : ReplicaScript) (known order : List Taken) (first : IsPrefix known order) where
+  going_wider : (p : ReplicaParty) (texts : List (List ℕ)) (lost : Bool) → IsGoing disk_says since start (map placed_of known) may_give party script p texts lost
+      → IsGoing disk_says since start (map placed_of order) may_give party script p texts lost
+  going_wider p texts lost going =
+      subst (λ (places : List Placed). IsGoing disk_says since start places may_give party script p texts lost) (longer known order first)
+      (going_longer disk_says since start (map placed_of known) may_give party script (map placed_of first.0) p texts lost going)
+
+  pub output_wider : (commands : ℕ) (failed lost : Bool) (before now : Option (List ℕ)) → IsReplicaOutput disk_says since start (map placed_of known) may_give party script commands failed lost before now
+      → IsReplicaOutput disk_says since start (map placed_of order) may_give party script commands failed lost before now
   output_wider commands failed lost before now o =
-      record { replica = o.replica; texts = o.texts; count = o.count; going = widened HasBeen disk_says may_give party script Other more o.replica o.texts lost o.going; got = o.got }
+      record { replica = o.replica; texts = o.texts; count = o.count; going = going_wider o.replica o.texts lost o.going; got = o.got }
 
 -- ---- along a depot that is followed
 
--- the same numbers of changes among the places of a longer order
-nth_on : (past : Past) (start : List Deed) (known order : List Taken) → IsPrefix known order → (n : ℕ) (d : List Deed) → IsNth past start (map placed_of known) n d → IsNth past start (map placed_of order) n d
-nth_on past start known order (rest, is) n d nth =
-    subst (λ (places : List Placed). IsNth past start places n d) (sym (map-append placed_of known rest) ∙ ap (map placed_of) is) (nth_longer past start (map placed_of known) (map placed_of rest) n d nth)
-
-module _ (may_give : ℕ → Type 0) (party : ℕ) (script : ReplicaScript) where
+module _ (may_give : ℕ → Type 0) (party : ℕ) (script : ReplicaScript) (past : Past) (start : List Deed) where
   -- the journal grew by more places
-  along_places : (Known : ℕ → List Deed → Type 0) (q : ReplicaParty) (c : Chronicle) (rest : List Taken) (texts : List (List ℕ)) → IsAlong Known may_give party script q c texts
-      → IsAlong Known may_give party script q (chronicle_after c rest) texts
-  along_places Known q c [] texts along = along
-  along_places Known q c (entry ∷ rest) texts along =
+  along_places : (places : List Placed) (q : ReplicaParty) (c : Chronicle) (rest : List Taken) (texts : List (List ℕ)) → IsAlong past start places may_give party script q c texts
+      → IsAlong past start places may_give party script q (chronicle_after c rest) texts
+  along_places places q c [] texts along = along
+  along_places places q c (entry ∷ rest) texts along =
       let next = grown (opens_generation entry.request) entry.fault entry.changes c in
-      along_places Known q next rest texts
-      (along_grown Known Known (λ n d is. is) may_give party script q c next (texts_grow (opens_generation entry.request) entry.fault entry.changes c) texts along)
+      along_places places q next rest texts
+      (along_later past start places may_give party script q c next (texts_grow (opens_generation entry.request) entry.fault entry.changes c) texts along)
 
-  along_on : (past : Past) (start : List Deed) (known order : List Taken) → IsPrefix known order → (q : ReplicaParty) (c : Chronicle) (texts : List (List ℕ)) → IsAlong (IsNth past start (map placed_of known)) may_give party script q (chronicle_after c known) texts
-      → IsAlong (IsNth past start (map placed_of order)) may_give party script q (chronicle_after c order) texts
-  along_on past start known order first q c texts along =
-      let Known : ℕ → List Deed → Type 0 = IsNth past start (map placed_of order) in
-      let before = chronicle_after c known in
-      let wider = along_grown (IsNth past start (map placed_of known)) Known (nth_on past start known order first) may_give party script q before before (inl refl) texts along in
-      subst (λ (now : Chronicle). IsAlong Known may_give party script q now texts) (sym (chronicle_append c known first.0) ∙ ap (chronicle_after c) first.1) (along_places Known q before first.0 texts wider)
+  module _ (known order : List Taken) (first : IsPrefix known order) where
+    -- it goes on over a longer order
+    along_longer_order : (q : ReplicaParty) (c : Chronicle) (texts : List (List ℕ)) → IsAlong past start (map placed_of known) may_give party script q c texts
+        → IsAlong past start (map placed_of order) may_give party script q c texts
+    along_longer_order q c texts along =
+        subst (λ (places : List Placed). IsAlong past start places may_give party script q c texts) (longer known order first) (along_longer past start (map placed_of known) may_give party script q c (map placed_of first.0) texts along)
 
-  -- what was told is told over a longer order too
-  pub told_wider : (past : Past) (start : List Deed) (known order : List Taken) → IsPrefix known order → (commands : ℕ) (failed : Bool) (before now : Option (List ℕ)) → IsToldOutput (IsNth past start (map placed_of known)) may_give party script commands failed before now
-      → IsToldOutput (IsNth past start (map placed_of order)) may_give party script commands failed before now
-  told_wider past start known order first commands failed before now o = record {
-    replica = o.replica;
-    journal = o.journal;
-    texts = o.texts;
-    count = o.count;
-    along = along_grown (IsNth past start (map placed_of known)) (IsNth past start (map placed_of order)) (nth_on past start known order first) may_give party script o.replica o.journal o.journal (inl refl) o.texts o.along;
-    got = o.got;
-  }
+    along_on : (q : ReplicaParty) (c : Chronicle) (texts : List (List ℕ)) → IsAlong past start (map placed_of known) may_give party script q (chronicle_after c known) texts
+        → IsAlong past start (map placed_of order) may_give party script q (chronicle_after c order) texts
+    along_on q c texts along =
+        let before = chronicle_after c known in
+        subst (λ (now : Chronicle). IsAlong past start (map placed_of order) may_give party script q now texts) (sym (chronicle_append c known first.0) ∙ ap (chronicle_after c) first.1)
+        (along_places (map placed_of order) q before first.0 texts (along_longer_order q before texts along))
+
+    -- what was told is told over it too
+    pub told_wider : (commands : ℕ) (failed : Bool) (before now : Option (List ℕ)) → IsToldOutput past start (map placed_of known) may_give party script commands failed before now
+        → IsToldOutput past start (map placed_of order) may_give party script commands failed before now
+    told_wider commands failed before now o =
+        record { replica = o.replica; journal = o.journal; texts = o.texts; count = o.count; along = along_longer_order o.replica o.journal o.texts o.along; got = o.got }
 
 module _ {D K : Type 0} (disk_says : DiskSays D) (end : ℕ) (images : Files → Type 0) (begins : ℕ → List Deed → Type 0) (masters : Masters) (sink_says : SinkSays K) (may_give : ℕ → Type 0) (party : ℕ) (p : ReplicaParty)
     (first : K) where
-  abbrev Front : ℕ → List Deed → List Taken → SerialDepot D → Type 0
-  Front since start order depot = HasRunFront disk_says since start order depot
-
   abbrev Stored : List Taken → Archive D → Type 0
   Stored order archive = HasAllStored disk_says end images begins order archive
-
-  pub front_longer : (since : ℕ) (start : List Deed) (known order : List Taken) → IsPrefix known order → (depot : SerialDepot D) → Front since start known depot → Front since start order depot
-  front_longer since start known order begins depot f = record { front = f.front; begins = prefix_trans f.front known order f.begins begins; ran = f.ran }
 
   -- the replies to the first commands, so many, along the depot that the replica follows, which the sink got
   abbrev Told : Past → List Deed → Chronicle → ReplicaScript → ℕ → Bool → List Taken → ReplicaParty → K → Type 0
   Told past start c script n failed known q sink =
-      (texts : List (List ℕ)) × (length texts ≡ n) × IsAlong (IsNth past start (map placed_of known)) may_give party script q (chronicle_after c known) texts × HasGotTexts failed texts (sink_says.given first) (sink_says.given sink)
+      (texts : List (List ℕ)) × (length texts ≡ n) × IsAlong past start (map placed_of known) may_give party script q (chronicle_after c known) texts × HasGotTexts failed texts (sink_says.given first) (sink_says.given sink)
 
   -- The replica answered its first commands, so many, and the sink got the replies.
   pub record HasAnswered (n : ℕ) (failed : Bool) (known : PartyKnown) (marks : PassKnown) (q : ReplicaParty) (sink : K) : Type 0 where
     pub party_is : known.party ≡ party
     pub none : of_party party known.list ≡ []
     pub gave : (archive : Archive D) → Stored known.list archive → (since : ℕ) (start : List Deed) (script : ReplicaScript) → begins since start → IsFresh may_give party script p → AreWellFormed script.session.commands
-        → HasGiven (Front since start known.list) disk_says may_give party script q (record { commands = n; failed = failed }) (has_marks marks.party marks.list) (sink_says.given first) (sink_says.given sink)
+        → HasGiven disk_says since start (map placed_of known.list) may_give party script q (record { commands = n; failed = failed }) (has_marks marks.party marks.list) (sink_says.given first) (sink_says.given sink)
     pub told : (archive : Archive D) → Stored known.list archive → (since : ℕ) (past : Past) (start : List Deed) (c : Chronicle) (script : ReplicaScript) → begins since start → masters past start c → IsFresh may_give party script p
         → AreWellFormed script.session.commands → Told past start c script n failed known.list q sink
     pub counts : sink_says.faults first ≤ sink_says.faults sink
@@ -138,11 +132,11 @@ module _ {D K : Type 0} (disk_says : DiskSays D) (end : ℕ) (images : Files →
     party_is = party_is;
     none = ap (of_party party) none;
     gave = λ archive all since start script begun fresh well.
-        let Given : Bool → Type 0 = λ lost. HasGiven (Front since start known.list) disk_says may_give party script p (record { commands = 0; failed = false }) lost (sink_says.given first) (sink_says.given first) in
+        let Given : Bool → Type 0 = λ lost. HasGiven disk_says since start (map placed_of known.list) may_give party script p (record { commands = 0; failed = false }) lost (sink_says.given first) (sink_says.given first) in
         subst Given (sym (ap (has_marks marks.party) unmarked))
-        (record { texts = []; count = refl; going = fresh_goes (Front since start known.list) disk_says may_give party script p fresh well; got = sym (extended-nil (sink_says.given first)) });
+        (record { texts = []; count = refl; going = fresh_goes disk_says since start (map placed_of known.list) may_give party script p fresh well; got = sym (extended-nil (sink_says.given first)) });
     told = λ archive all since past start c script begun follows fresh well.
-        ([], refl, along_first (IsNth past start (map placed_of known.list)) may_give party script p (chronicle_after c known.list) fresh well, sym (extended-nil (sink_says.given first)));
+        ([], refl, along_first past start (map placed_of known.list) may_give party script p (chronicle_after c known.list) fresh well, sym (extended-nil (sink_says.given first)));
     counts = omega arith;
   }
 
@@ -162,23 +156,22 @@ module _ {D K : Type 0} (disk_says : DiskSays D) (end : ℕ) (images : Files →
     one_longer texts text count = let long = length-append texts (text ∷ []) in omega (arith, long, count)
 
     more_given : (archive : Archive D) → Stored new.list archive → (since : ℕ) (start : List Deed) (script : ReplicaScript) → begins since start
-        → HasGiven (Front since start old.list) disk_says may_give party script q (record { commands = n; failed = false }) (has_marks old_marks.party old_marks.list) (sink_says.given first) (sink_says.given sink)
-        → HasGiven (Front since start new.list) disk_says may_give party script r (record { commands = n + 1; failed = failed }) (has_marks new_marks.party new_marks.list) (sink_says.given first) (sink_says.given now)
+        → HasGiven disk_says since start (map placed_of old.list) may_give party script q (record { commands = n; failed = false }) (has_marks old_marks.party old_marks.list) (sink_says.given first) (sink_says.given sink)
+        → HasGiven disk_says since start (map placed_of new.list) may_give party script r (record { commands = n + 1; failed = failed }) (has_marks new_marks.party new_marks.list) (sink_says.given first) (sink_says.given now)
     more_given archive all since start script begun was =
-        let Been : SerialDepot D → Type 0 = Front since start new.list in
+        let places = map placed_of new.list in
         let heard = step.turn.heard in
         let over = step.turn.turned archive all in
         let before = has_marks old_marks.party old_marks.list in
-        let g = given_wider (Front since start old.list) Been disk_says may_give party script (front_longer since start old.list new.list heard.later) q (record { commands = n; failed = false }) before (sink_says.given first) (sink_says.given sink) was in
+        let going = going_wider disk_says since start may_give party script old.list new.list heard.later q was.texts before was.going in
         let result = step.result in
-        let text = reply_text result (length g.texts + 1) in
-        let here : Been over.0 = record { front = new.list; begins = prefix_self new.list; ran = over.1.0 since start begun } in
-        let Goes : Bool → Type 0 = IsGoing Been disk_says may_give party script r (g.texts ++ text ∷ []) in
+        let text = reply_text result (length was.texts + 1) in
+        let Goes : Bool → Type 0 = IsGoing disk_says since start places may_give party script r (was.texts ++ text ∷ []) in
         record {
-          texts = g.texts ++ text ∷ [];
-          count = one_longer g.texts text g.count;
-          going = subst Goes (sym heard.marked) (goes_on Been disk_says may_give party script over.0 q r g.texts before result here g.going over.1.2);
-          got = more_got g.texts g.count g.got;
+          texts = was.texts ++ text ∷ [];
+          count = one_longer was.texts text was.count;
+          going = subst Goes (sym heard.marked) (goes_on disk_says since start places may_give party script over.0 q r was.texts before result (over.1.0 since start begun) going over.1.2);
+          got = more_got was.texts was.count was.got;
         }
 
     more_told : (archive : Archive D) → Stored new.list archive → (since : ℕ) (past : Past) (start : List Deed) (c : Chronicle) (script : ReplicaScript) → begins since start → masters past start c

@@ -25,10 +25,9 @@ use Rattle.session_loop.specs.declared.session.SessionRun.{SessionRun}
 use Rattle.shared_depot.proofs.Fronts.{stored_front}
 use Rattle.shared_depot.specs.Common.{Masters, OpenedKnown}
 use Rattle.shared_depot.specs.Sharing.{fresh_marks, fresh_passes}
-use Rattle.party_threads.proofs.Answering.{front_longer, output_wider, told_wider}
+use Rattle.party_threads.proofs.Answering.{output_wider, told_wider}
 use Rattle.party_threads.proofs.Entries.{all_push, heard}
 use Rattle.party_threads.specs.Parties.{AreAllServed, AreAsked, AreCollected, AreFreshParties, HaveRun, IsAmong, IsAsked, IsHeard, IsPartyServed, IsReady, is_marked}
-use Rattle.party_threads.specs.Replicas.{HasRunFront}
 use Rattle.party_threads.specs.declared.party.ThreadParty.{ThreadParty}
 
 -- ---- places of lists
@@ -130,9 +129,7 @@ module _ {D K : Type 0} (disk_says : DiskSays D) (end : ℕ) (images : Files →
   served_heard party requests (Some p) run lost old new known order first own s = record {
     gave = λ archive all since start script begun fresh well.
         let before = stored_front disk_says end images begins known order archive first all in
-        output_wider (HasRunFront disk_says since start known) (HasRunFront disk_says since start order) disk_says may_give party script
-        (front_longer disk_says end images begins masters sink_says may_give party p old since start known order first) run.commands run.failed lost (sink_says.given old) (sink_says.given new)
-        (s.gave archive before since start script begun fresh well);
+        output_wider disk_says since start may_give party script known order first run.commands run.failed lost (sink_says.given old) (sink_says.given new) (s.gave archive before since start script begun fresh well);
     told = λ archive all since past start c script begun follows fresh well.
         let before = stored_front disk_says end images begins known order archive first all in
         told_wider may_give party script past start known order first run.commands run.failed (sink_says.given old) (sink_says.given new) (s.told archive before since past start c script begun follows fresh well);

@@ -1,9 +1,8 @@
 -- A run whose parties have ended, and what it leaves.
-use Rattle.std.proofs.Common.{◌≡◌, ◌+◌, ◌++◌, ℕ, zero, suc, Bool, false, List, [], ◌∷◌, length, map, take, Option, Some, None, refl, sym, ap, subst, ◌∙◌, arith}
+use Rattle.std.proofs.Common.{◌≡◌, ◌+◌, ℕ, zero, suc, Bool, false, List, [], ◌∷◌, length, map, Option, Some, None, refl, sym, ap, subst, ◌∙◌, arith}
 use Rattle.std.specs.Prelude.{All, get_or, slice_get}
 use Rattle.std.specs.List.{AllByRecursion}
-use Rattle.std.proofs.Math.Seq.{take-append_seam}
-use Rattle.std.proofs.lemmas.List.{length-map, map-append}
+use Rattle.std.proofs.lemmas.List.{length-map}
 use Rattle.std.proofs.lemmas.List.Elements.{recursion_from_All}
 use Rattle.std.proofs.lemmas.Option.{same_Some}
 use Rattle.outside_api.specs.Disk.{Files}
@@ -14,33 +13,30 @@ use Rattle.depot_model.specs.declared.order.Place.{Place}
 use Rattle.depot_model.specs.declared.request.Request.{Request}
 use Rattle.depot_model.specs.declared.request.Session.{Session}
 use Rattle.depot_runs.specs.Run.{placed}
-use Rattle.locked_tables.specs.Taken.{place_of, placed_of}
-use Rattle.order_words.proofs.Prefixes.{prefix_length}
+use Rattle.locked_tables.specs.Taken.{placed_of}
 use Rattle.run_parties.proofs.Fresh.{party_at}
 use Rattle.run_parties.proofs.Making.{asked_count, many_of}
 use Rattle.run_parties.proofs.Slots.{all_at, also_at}
 use Rattle.run_parties.specs.Asking.{AreFresh}
-use Rattle.run_parties.specs.Replicas.{AreReplicasServed, AreReplicasTold, HasBeenAt}
+use Rattle.run_parties.specs.Replicas.{AreReplicasServed, AreReplicasTold}
 use Rattle.run_parties.specs.Served.{AreApart, AreEnds, AreServed, IsEnd, total_of}
 use Rattle.run_parties.specs.depot_commit.Growing.{Chronicle}
 use Rattle.run_parties.specs.replica_turns.Along.{IsToldOutput}
 use Rattle.run_parties.specs.replica_turns.Going.{IsFresh, IsReplicaOutput}
-use Rattle.run_parties.specs.replica_turns.Master.{IsNth, Past}
+use Rattle.run_parties.specs.replica_turns.Master.{Past}
 use Rattle.run_parties.specs.replica_turns.declared.party.ReplicaParty.{ReplicaParty}
 use Rattle.run_parties.specs.serial_depot.Running.{HasRun}
-use Rattle.run_parties.specs.serial_depot.declared.depot.SerialDepot.{SerialDepot}
 use Rattle.session_loop.specs.Asking.{AreWellFormed, replica_commands}
 use Rattle.session_loop.specs.Requests.{AreRequestsOf, AreRequestsOfAll}
 use Rattle.session_loop.specs.declared.reading.ReplicaScript.{ReplicaScript}
 use Rattle.session_loop.specs.declared.session.SessionRun.{SessionRun}
 use Rattle.shared_depot.specs.Common.{Masters}
-use Rattle.party_threads.proofs.Answering.{output_wider}
 use Rattle.party_threads.proofs.Collecting.{from_map}
 use Rattle.party_threads.proofs.Entries.{names_are}
 use Rattle.party_threads.proofs.Together.{AllHaveTaken, NoneHasPlace, names, served}
 use Rattle.party_threads.specs.Entries.{HasTaken, Names}
 use Rattle.party_threads.specs.Parties.{HaveRunAll, IsAmong, IsPartyServed}
-use Rattle.party_threads.specs.Replicas.{HasRunFront, IsReplicaServed}
+use Rattle.party_threads.specs.Replicas.{IsReplicaServed}
 use Rattle.party_threads.specs.declared.run.ThreadsRun.{ThreadsRun}
 
 -- ---- what was asked
@@ -71,12 +67,6 @@ fresh_count may_give party (s ∷ scripts) [] all = absurd all
 fresh_count may_give party (s ∷ scripts) (q ∷ parties) all = ap suc (fresh_count may_give (suc party) scripts parties all.1)
 
 -- ---- the parties
-
--- the first of a list are those of a beginning
-front_taken : {X Y : Type 0} (f : X → Y) (xs ys : List X) → take (length xs) (map f (xs ++ ys)) ≡ map f xs
-front_taken f xs ys =
-    ap (λ (n : ℕ). take n (map f (xs ++ ys))) (sym (length-map xs f))
-    ∙ (ap (take (length (map f xs))) (map-append f xs ys) ∙ take-append_seam (map f xs) (map f ys))
 
 module _ {D K : Type 0} (disk_says : DiskSays D) (end : ℕ) (images : Files → Type 0) (sink_says : SinkSays K) (may_give : ℕ → Type 0)
     (sessions : List (Option Session)) (scripts : List (Option ReplicaScript)) (requests : List (List Request)) (asked : AreRequestsOfAll may_give 1 sessions requests) (as_many : length scripts ≡ length sessions) (apart : AreApart sessions scripts)
@@ -150,20 +140,6 @@ module _ {D K : Type 0} (disk_says : DiskSays D) (end : ℕ) (images : Files →
 
   -- ---- the replicas
 
-  -- what had run a beginning of the order had run the first places
-  front_been : (since : ℕ) (start : List Deed) (depot : SerialDepot D) → HasRunFront disk_says since start s.order depot → HasBeenAt disk_says sessions since start ran.order.items depot
-  front_been since start depot f =
-      let few = prefix_length f.front s.order f.begins in
-      let many = length-map s.order place_of in
-      let all = ap (length {A = Place}) s.places in
-      let whole : map placed_of (f.front ++ f.begins.0) ≡ map (placed sessions) ran.order.items = ap (map placed_of) f.begins.1 ∙ sym places_are in
-      let taken : map placed_of f.front ≡ take (length f.front) (map (placed sessions) ran.order.items) = sym (front_taken placed_of f.front f.begins.0) ∙ ap (take (length f.front)) whole in
-      record {
-        count = length f.front;
-        within = omega (arith, few, many, all);
-        ran = subst (λ (places : List Placed). HasRun disk_says depot since start places) taken f.ran;
-      }
-
   -- the replica of a script before its first answer, and how it was served
   record IsReplicaThere (i : ℕ) (script : ReplicaScript) (run : SessionRun) (had got : Option (List ℕ)) : Type 0 where
     p : ReplicaParty
@@ -206,13 +182,11 @@ module _ {D K : Type 0} (disk_says : DiskSays D) (end : ℕ) (images : Files →
     };
     each = λ i script run had got at_script at_run at_had at_got.
         let r = replica_at formed i script run had got at_script at_run at_had at_got in
-        let Front : SerialDepot D → Type 0 = HasRunFront disk_says since start s.order in
-        let Been : SerialDepot D → Type 0 = HasBeenAt disk_says sessions since start ran.order.items in
         let flag = get_or s.flags i false in
         let gave = r.served.gave ran.depot.archive s.stored since start script begun r.fresh r.well in
-        let Output : Option (List ℕ) → Option (List ℕ) → Type 0 = λ x y. IsReplicaOutput Been disk_says may_give (i + 1) script run.commands run.failed flag x y in
-        subst (λ (y : Option (List ℕ)). Output had y) r.new_is (subst (λ (x : Option (List ℕ)). Output x (sink_says.given r.new)) r.old_is
-        (output_wider Front Been disk_says may_give (i + 1) script (front_been since start) run.commands run.failed flag (sink_says.given r.old) (sink_says.given r.new) gave));
+        let Output : List Placed → Option (List ℕ) → Option (List ℕ) → Type 0 = λ places x y. IsReplicaOutput disk_says since start places may_give (i + 1) script run.commands run.failed flag x y in
+        subst (λ (places : List Placed). Output places had got) (sym places_are)
+        (subst (λ (y : Option (List ℕ)). Output (map placed_of s.order) had y) r.new_is (subst (λ (x : Option (List ℕ)). Output (map placed_of s.order) x (sink_says.given r.new)) r.old_is gave));
   }
 
   -- along a depot that they follow
@@ -221,7 +195,7 @@ module _ {D K : Type 0} (disk_says : DiskSays D) (end : ℕ) (images : Files →
   all_replicas_told formed since past start c begun follows i script run had got at_script at_run at_had at_got =
       let r = replica_at formed i script run had got at_script at_run at_had at_got in
       let told = r.served.told ran.depot.archive s.stored since past start c script begun follows r.fresh r.well in
-      let Output : List Placed → Option (List ℕ) → Option (List ℕ) → Type 0 = λ places x y. IsToldOutput (IsNth past start places) may_give (i + 1) script run.commands run.failed x y in
+      let Output : List Placed → Option (List ℕ) → Option (List ℕ) → Type 0 = λ places x y. IsToldOutput past start places may_give (i + 1) script run.commands run.failed x y in
       subst (λ (places : List Placed). Output places had got) (sym places_are)
       (subst (λ (y : Option (List ℕ)). Output (map placed_of s.order) had y) r.new_is (subst (λ (x : Option (List ℕ)). Output (map placed_of s.order) x (sink_says.given r.new)) r.old_is told))
 

@@ -5,11 +5,9 @@ ghost use Rattle.party_threads.specs.Parties.{AreFreshParties, HasRunParty, IsRe
 
 use crate::replicas::answer_commands;
 use crate::session::take_commands;
-use depot_commit::Imaging;
 use depot_model::Request;
-use locked_tables::{Naming, PartyPass};
+use locked_tables::PartyPass;
 use outside_api::{Clock, Disk, Gate, Sink};
-use party_marks::Marking;
 use replica_turns::ReplicaParty;
 use session_loop::SessionRun;
 use shared_depot::{BothMarks, Serving, SharedDepot};
@@ -19,7 +17,7 @@ use std::sync::Wait;
 
 /// What a party has on its thread.
 #[derive(Drop)]
-pub(crate) struct ThreadParty<K: Sink, N: Naming + Marking + Serving> {
+pub(crate) struct ThreadParty<K: Sink, N: Serving> {
     /// The requests of its session, the next one first, each of which gets another moment when it is
     /// taken. A party without a session has none.
     pub(crate) requests: Vec<Request>,
@@ -35,7 +33,7 @@ pub(crate) struct ThreadParty<K: Sink, N: Naming + Marking + Serving> {
     pub(crate) run: SessionRun,
 }
 
-impl<K: Sink, N: Naming + Marking + Imaging + Serving> ThreadParty<K, N> {
+impl<K: Sink, N: Serving> ThreadParty<K, N> {
     /// Has the commands of its session taken, or those of its replica answered.
     pub(crate) fn run<R: Wait, D: Disk, C: Clock, G: Gate>(
         &mut self,
@@ -79,7 +77,7 @@ impl<K: Sink, N: Naming + Marking + Imaging + Serving> ThreadParty<K, N> {
 }
 
 /// A party that has had no command taken.
-fn fresh_party<K: Sink, N: Naming + Marking + Serving>(
+fn fresh_party<K: Sink, N: Serving>(
     requests: Vec<Request>,
     replica: Option<ReplicaParty>,
     pass: PartyPass<N>,
@@ -106,7 +104,7 @@ fn fresh_party<K: Sink, N: Naming + Marking + Serving>(
 }
 
 /// Puts the parties of a run into a list with room for them, in order. It takes no memory.
-pub(crate) fn put_parties<K: Sink + Drop, N: Naming + Marking + Serving>(
+pub(crate) fn put_parties<K: Sink + Drop, N: Serving>(
     requests: Vec<Vec<Request>>,
     replicas: Vec<Option<ReplicaParty>>,
     passes: Vec<PartyPass<N>>,

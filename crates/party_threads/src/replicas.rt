@@ -4,10 +4,8 @@ ghost use Rattle.std.specs.Prelude.{◌≡◌, ◌≤◌, ◌<◌, ◌+◌, [], 
 ghost use Rattle.party_threads.specs.Replicas.{IsReplicaServed, IsStep};
 ghost use Rattle.party_marks.specs.Marks.{has_marks};
 
-use depot_commit::Imaging;
-use locked_tables::{Naming, PartyPass};
+use locked_tables::PartyPass;
 use outside_api::{Clock, Disk, Sink};
-use party_marks::Marking;
 use replica_turns::{Answered, ReplicaParty};
 use run_parties::give;
 use session_loop::SessionRun;
@@ -16,7 +14,7 @@ use std::alloc::{AllocError, Global};
 use std::sync::Wait;
 
 /// Answers the next command of a replica, which has this number, and gives its sink the reply. Answers whether the sink has failed.
-fn answer_command<R: Wait, D: Disk, K: Sink, N: Naming + Marking + Imaging + Serving>(
+fn answer_command<R: Wait, D: Disk, K: Sink, N: Serving>(
     rt: &R,
     alloc: Global,
     depot: &SharedDepot<D, N>,
@@ -38,13 +36,7 @@ fn answer_command<R: Wait, D: Disk, K: Sink, N: Naming + Marking + Imaging + Ser
 
 /// Answers the commands of a replica, one after another, as long as its sink takes the replies. The party makes a mark where an answer tells that a disk
 /// failed.
-pub(crate) fn answer_commands<
-    R: Wait,
-    D: Disk,
-    K: Sink,
-    C: Clock,
-    N: Naming + Marking + Imaging + Serving,
->(
+pub(crate) fn answer_commands<R: Wait, D: Disk, K: Sink, C: Clock, N: Serving>(
     rt: &R,
     alloc: Global,
     depot: &SharedDepot<D, N>,

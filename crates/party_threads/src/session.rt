@@ -8,11 +8,9 @@ ghost use Rattle.party_threads.specs.Entries.{AreNumbered, HasTaken, IsAnswered}
 ghost use Rattle.run_parties.specs.Served.{IsEnd};
 ghost use Rattle.session_loop.specs.Taking.{IsProper};
 
-use depot_commit::Imaging;
 use depot_model::{Answer, Request};
-use locked_tables::{Naming, PartyPass};
+use locked_tables::PartyPass;
 use outside_api::{Clock, Disk, Gate, Sink};
-use party_marks::Marking;
 use run_parties::give;
 use session_loop::SessionRun;
 use shared_depot::{Serving, SharedDepot};
@@ -21,14 +19,7 @@ use std::sync::Wait;
 
 /// Has a command of a party taken at the moment that the clock gives now, and gives its reply to the
 /// party's sink. Answers whether the sink has failed.
-fn take_command<
-    R: Wait,
-    D: Disk,
-    K: Sink,
-    C: Clock,
-    G: Gate,
-    N: Naming + Marking + Imaging + Serving,
->(
+fn take_command<R: Wait, D: Disk, K: Sink, C: Clock, G: Gate, N: Serving>(
     rt: &R,
     alloc: Global,
     depot: &SharedDepot<D, N>,
@@ -55,14 +46,7 @@ fn take_command<
 /// Has the commands of a party taken, one after another, each at the moment that the clock gives then,
 /// as long as its sink takes the replies. A command that finds no memory is answered so, has no place,
 /// and the party goes on.
-pub(crate) fn take_commands<
-    R: Wait,
-    D: Disk,
-    K: Sink,
-    C: Clock,
-    G: Gate,
-    N: Naming + Marking + Imaging + Serving,
->(
+pub(crate) fn take_commands<R: Wait, D: Disk, K: Sink, C: Clock, G: Gate, N: Serving>(
     rt: &R,
     alloc: Global,
     depot: &SharedDepot<D, N>,

@@ -21,11 +21,8 @@ ghost use Rattle.table_changes.specs.Changed.{rows_of};
 use crate::party::{ThreadParty, put_parties};
 use crate::run::{Brought, ThreadsRun};
 use crate::words::RunWords;
-use depot_commit::Imaging;
 use depot_model::Request;
-use locked_tables::Naming;
 use outside_api::{Clock, Disk, Gate, Sink};
-use party_marks::Marking;
 use replica_turns::ReplicaParty;
 use serial_depot::SerialDepot;
 use session_loop::SessionRun;
@@ -41,7 +38,7 @@ fn run_parties<
     K: Sink + Send + Drop,
     C: Clock + Sync,
     G: Gate + Sync,
-    N: Naming + Marking + Imaging + Serving + Send + Sync,
+    N: Serving + Send + Sync,
 >(
     rt: &R,
     alloc: Global,
@@ -67,7 +64,7 @@ fn run_parties<
 }
 
 /// Hears what a party knows, and puts what it leaves behind what others left. Answers whether it was told that a disk failed. It takes no memory.
-fn hear_party<D: Disk, K: Sink + Drop, N: Naming + Marking + Imaging + Serving>(
+fn hear_party<D: Disk, K: Sink + Drop, N: Serving>(
     depot: &mut OpenedDepot<D, N>,
     party: ThreadParty<K, N>,
     runs: &mut Vec<SessionRun>,
@@ -111,7 +108,7 @@ fn either(first: bool, second: bool) -> bool
 }
 
 /// Hears what each party knows, and puts together what the parties leave. Answers whether one was told that a disk failed. It takes no memory.
-fn collect<D: Disk, K: Sink + Drop, N: Naming + Marking + Imaging + Serving>(
+fn collect<D: Disk, K: Sink + Drop, N: Serving>(
     depot: &mut OpenedDepot<D, N>,
     parties: Vec<ThreadParty<K, N>>,
     runs: &mut Vec<SessionRun>,
@@ -134,13 +131,13 @@ fn collect<D: Disk, K: Sink + Drop, N: Naming + Marking + Imaging + Serving>(
 
 /// Room for the parties, and for what they leave.
 #[derive(Drop)]
-struct Room<K: Sink, N: Naming + Marking + Serving> {
+struct Room<K: Sink, N: Serving> {
     parties: Vec<ThreadParty<K, N>>,
     runs: Vec<SessionRun>,
     sinks: Vec<K>,
 }
 
-impl<K: Sink + Drop, N: Naming + Marking + Serving> Room<K, N> {
+impl<K: Sink + Drop, N: Serving> Room<K, N> {
     /// Room for so many parties. The one error is want of memory.
     fn new(alloc: Global, parties: usize) -> Result<Room<K, N>, AllocError>
         ensures { IfOk result (IsRoom parties) }
@@ -160,7 +157,7 @@ fn run_and_close<
     K: Sink + Send + Drop,
     C: Clock + Sync,
     G: Gate + Sync,
-    N: Naming + Marking + Imaging + Serving + Send + Sync,
+    N: Serving + Send + Sync,
 >(
     rt: &R,
     alloc: Global,
@@ -214,7 +211,7 @@ pub(crate) fn run_named<
     K: Sink + Send + Drop,
     C: Clock + Sync,
     G: Gate + Sync,
-    N: Naming + Marking + Imaging + Serving + Send + Sync,
+    N: Serving + Send + Sync,
 >(
     rt: &R,
     alloc: Global,

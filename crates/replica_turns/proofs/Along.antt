@@ -1,22 +1,17 @@
 -- A replica's replies turn by turn, by the depot that it follows.
 use Rattle.std.proofs.Common.{◌≡◌, ◌⊎◌, ◌≤◌, ◌+◌, ◌++◌, ◌∷◌, [], ℕ, suc, List, Bool, true, false, Result, Ok, length, inl, inr, refl, sym, ap, subst, ◌∙◌, append_assoc, arith}
-use Rattle.std.specs.Prelude.{map, reverse}
-use Rattle.std.proofs.lemmas.List.{map-append, reverse-append}
+use Rattle.std.specs.Prelude.{reverse}
+use Rattle.std.proofs.Math.Seq.{take-length}
+use Rattle.std.proofs.lemmas.List.{length-append, reverse-append, take-append-le}
 use Rattle.std.proofs.lemmas.List.Elements.{recursion_from_All}
 use Rattle.outside_api.specs.Disk.{Files}
 use Rattle.outside_api.specs.Says.{DiskSays}
 use Rattle.archive_file.specs.Archive as archives
-use Rattle.depot_rows.specs.db_records.declared.change.Change.{Change}
 use Rattle.depot_rows.specs.depot_model.Cut.{cut}
 use Rattle.depot_rows.specs.depot_model.Deeds.{Deed}
 use Rattle.depot_rows.specs.depot_model.Places.{Placed}
 use Rattle.depot_rows.specs.depot_model.declared.filter.FilterRule.{FilterRule}
 use Rattle.depot_rows.specs.depot_model.declared.request.Request.{Request}
-use Rattle.disk_journal.specs.Text.{blocks}
-use Rattle.disk_journal.specs.declared.journal.Journal.{Journal}
-use Rattle.journal_groups.specs.Groups.{groups_text}
-use Rattle.recovery.specs.Holding.{group_texts}
-use Rattle.recovery.proofs.Held.{blocks_of}
 use Rattle.replica_pull.specs.Prefix.{HasFirst, HasFollowed, HasGrown, IsJournalOf, Moment, first_rows}
 use Rattle.replica_pull.specs.declared.replica.Replica.{Replica}
 use Rattle.replica_pull.proofs.Firsts.{first_changes}
@@ -24,47 +19,35 @@ use Rattle.replica_pull.proofs.Followed.{has_prefix}
 use Rattle.replica_pull.proofs.Moves.{never_falls}
 use Rattle.replica_pull.proofs.Standing.{stands_cut}
 use Rattle.depot_commit.specs.Fetching.{HasTexts}
-use Rattle.depot_commit.specs.Growing.{Chronicle, HasGroups, generations_of}
+use Rattle.depot_commit.specs.Growing.{Chronicle, generations_of}
 use Rattle.serial_depot.specs.declared.depot.SerialDepot.{SerialDepot}
 use Rattle.session_loop.specs.Asking.{AreWellFormed}
 use Rattle.session_loop.specs.Requests.{AreRequests}
 use Rattle.session_loop.specs.declared.reading.ReplicaScript.{ReplicaScript}
 use Rattle.depot_rows.specs.table_changes.Changed.{rows_of}
-use Rattle.replica_turns.specs.Along.{AreTold, IsAlong, IsToldAs}
+use Rattle.replica_turns.specs.Along.{AreTold, HasPulledAfter, IsAlong, IsToldAs}
 use Rattle.replica_turns.specs.Going.{IsFresh, IsTurned, is_lost, reply_text}
-use Rattle.replica_turns.specs.Master.{HasNth, IsMaster, IsNth, Past, texts_in}
+use Rattle.replica_turns.specs.Master.{HasNth, IsJournalAfter, IsMaster, IsNth, Past, texts_in}
 use Rattle.replica_turns.specs.Replying.{Follows, IsAnsweredAs, IsPulled, IsWithoutMemory, pulls}
 use Rattle.replica_turns.specs.declared.party.Answered.{Answered}
 use Rattle.replica_turns.specs.declared.party.ReplicaParty.{ReplicaParty}
 use Rattle.replica_turns.proofs.CutContents.{cut_contents}
-use Rattle.replica_turns.proofs.Following.{follows_journal}
+use Rattle.replica_turns.proofs.Following.{follows_journal, has_texts, takes_journal}
+use Rattle.replica_turns.proofs.Moving.{pulled_of}
 use Rattle.replica_turns.proofs.Turns.{IsAskedWell, at_place, formed_of}
 
--- the texts of groups, generation by generation
-texts_of_all : (generations : List (List (List Change))) → map (groups_text 1) generations ≡ map blocks (map (group_texts 1) generations)
-texts_of_all [] = refl
-texts_of_all (groups ∷ generations) = λ i. sym (blocks_of 1 groups) i ∷ texts_of_all generations i
-
--- a journal has the texts of its groups
-pub has_texts : {D : Type 0} (disk_says : DiskSays D) (reads : (disk : D) (files : Files) → disk_says.seen disk files → disk_says.may_leave disk files) (journal : Journal D) (c : Chronicle)
-    → HasGroups disk_says journal c → HasTexts disk_says journal (texts_in c)
-has_texts disk_says reads journal c g =
-    let count = g.keeps.count in
-    let generation = g.stands.generation in
-    record {
-      was = g.was;
-      doubt = g.doubt;
-      before = map (group_texts 1) c.closed;
-      files = g.keeps.tells.0;
-      stands = g.stands;
-      sees = g.keeps.tells.1;
-      as_many = count ∙ generation;
-      older = g.keeps.each g.keeps.tells.0 (reads journal.disk g.keeps.tells.0 g.keeps.tells.1);
-      are = texts_of_all (generations_of c)
-          ∙ ap (map blocks) (map-append (group_texts 1) c.closed (c.newest ∷ []) ∙ ap (λ (groups : List (List ℕ)). map (group_texts 1) c.closed ++ groups ∷ []) (sym g.are));
-    }
-
 -- ---- one turn over a depot that replicas follow
+
+-- the journal of such a depot
+journal_after : {D : Type 0} (disk_says : DiskSays D) (past : Past) (start : List Deed) (places : List Placed) (depot : SerialDepot D) (c : Chronicle) → IsMaster disk_says past start places depot c → IsJournalAfter past start places c
+journal_after disk_says past start places depot c master = record {
+  are_groups = master.groups.are_groups;
+  changes = master.changes;
+  count = master.count;
+  are_changes = master.are_changes;
+  each = λ n within. let nth = master.each n within in (nth.depot, nth.is, nth.stand);
+  fit = master.fit;
+}
 
 module _ {D : Type 0} (disk_says : DiskSays D) (reads : (disk : D) (files : Files) → disk_says.seen disk files → disk_says.may_leave disk files) (past : Past) (start : List Deed) (places : List Placed)
     (depot : SerialDepot D) (c : Chronicle) (master : IsMaster disk_says past start places depot c) (tells : (files : Files) × disk_says.seen (archives.disk_of depot.archive) files) where
@@ -72,24 +55,18 @@ module _ {D : Type 0} (disk_says : DiskSays D) (reads : (disk : D) (files : File
   journal_of = (refl, master.groups.are_groups)
 
   module _ (rules : List FilterRule) (old new : Replica) (moments : List Moment) (followed : HasFollowed rules (texts_in c) old moments) (request : Request) (text : List ℕ) where
-    abbrev Known : ℕ → List Deed → Type 0
-    Known = IsNth past start places
-
     -- what a turn leaves
     abbrev pub Turned : Bool → Type 0
-    Turned pull = (now : List Moment) × HasFollowed rules (texts_in c) new now × IsToldAs Known rules old.changes new.changes request text pull
+    Turned pull = (now : List Moment) × HasFollowed rules (texts_in c) new now × IsToldAs past start places rules old new request text pull
 
     same_followed : new ≡ old → HasFollowed rules (texts_in c) new moments
     same_followed same = subst (λ (r : Replica). HasFollowed rules (texts_in c) r moments) (sym same) followed
-
-    same_changes : new ≡ old → new.changes ≡ old.changes
-    same_changes same = ap (λ (r : Replica). r.changes) same
 
     -- the changes that it has make the rows of a depot, cut
     found : HasFirst rules (generations_of c) old
     found = first_changes rules (texts_in c) (generations_of c) old (has_prefix rules (texts_in c) old moments followed) journal_of
 
-    nth : HasNth disk_says depot.archive (Known old.changes) c old.changes
+    nth : HasNth disk_says depot.archive (IsNth past start places old.changes) c old.changes
     nth = master.each old.changes found.within
 
     no_fewer : (pull : IsPulled (λ been. been ≡ depot) disk_says old new request.number text) → old.changes ≤ new.changes
@@ -97,79 +74,123 @@ module _ {D : Type 0} (disk_says : DiskSays D) (reads : (disk : D) (files : File
       where
         go : Follows old new pull.fetched pull.piece → old.changes ≤ new.changes
         go (inl did) = never_falls old new pull.piece pull.fetched (Ok did.0) did.1 tt
-        go (inr stopped) = let same = same_changes stopped.0 in omega (arith, same)
+        go (inr stopped) = let same = ap (λ (r : Replica). r.changes) stopped.0 in omega (arith, same)
+
+    -- a pull that is answered by a position
+    module _ (pull : IsPulled (λ been. been ≡ depot) disk_says old new request.number text) where
+      its_texts : HasTexts disk_says pull.depot.journal (texts_in c)
+      its_texts =
+          let P : SerialDepot D → Type 0 = λ been. HasTexts disk_says been.journal (texts_in c) in
+          subst P (sym pull.been) (has_texts disk_says reads depot.journal c master.groups)
+
+      pulled : HasPulledAfter past start places old new
+      pulled = record {
+        journal = c;
+        is = journal_after disk_says past start places depot c master;
+        follows = takes_journal (λ been. been ≡ depot) disk_says old new request.number text pull (texts_in c) its_texts;
+        moves = λ fits short.
+            pulled_of disk_says reads depot c master.groups (record { of_groups = journal_of; fit = master.fit fits; short = short }) rules moments old new followed request.number text pull;
+        no_fewer = no_fewer pull;
+      }
 
     pub turn_told : (pull lost : Bool) → IsAnsweredAs (λ been. been ≡ depot) disk_says old new request text lost pull ⊎ IsWithoutMemory old new request text lost → Turned pull
-    turn_told true lost (inr none) = (moments, same_followed none.same, inr (same_changes none.same, inr none.reply))
-    turn_told false lost (inr none) = (moments, same_followed none.same, (same_changes none.same, inr (inr none.reply)))
-    turn_told true true (inl is) = (moments, same_followed is.0, inr (same_changes is.0, inl is.1))
-    turn_told true false (inl is) =
-        let P : SerialDepot D → Type 0 = λ been. HasTexts disk_says been.journal (texts_in c) in
-        let pulled = follows_journal (λ been. been ≡ depot) disk_says old new request.number text is (texts_in c) (subst P (sym is.been) (has_texts disk_says reads depot.journal c master.groups)) in
-        (record { journal = texts_in c; replica = old } ∷ moments, (inl refl, pulled, followed), inl (new.generation, no_fewer is, is.reply))
-    turn_told false true (inl is) = (moments, same_followed is.0, (same_changes is.0, inr (inl is.1)))
+    turn_told true lost (inr none) = (moments, same_followed none.same, inr (none.same, inr none.reply))
+    turn_told false lost (inr none) = (moments, same_followed none.same, (none.same, inr (inr none.reply)))
+    turn_told true true (inl is) = (moments, same_followed is.0, inr (is.0, inl is.1))
+    turn_told true false (inl is) = (
+      record { journal = texts_in c; replica = old } ∷ moments,
+      (inl refl, follows_journal (λ been. been ≡ depot) disk_says old new request.number text is (texts_in c) (its_texts is), followed),
+      inl (pulled is, is.reply),
+    )
+    turn_told false true (inl is) = (moments, same_followed is.0, (is.0, inr (inl is.1)))
     turn_told false false (inl is) =
         let files = tells.0 in
         let P : SerialDepot D → Type 0 = λ been. disk_says.seen (archives.disk_of been.archive) files in
         let has = (nth.kept.contents files (reads (archives.disk_of depot.archive) files tells.1)).contents in
         let contents = cut_contents rules nth.depot nth.stand.sound (first_rows old.changes (generations_of c)) (rows_of old.tables) (files 0) found.rows has in
-        (moments, same_followed is.0, (same_changes is.0, inl (nth.depot, nth.is, is.1.reply (cut rules nth.depot) files (stands_cut rules (generations_of c) old nth.depot found nth.stand) (subst P (sym is.1.been) tells.1) contents)))
+        (moments, same_followed is.0, (is.0, inl (nth.depot, nth.is, is.1.reply (cut rules nth.depot) (stands_cut rules (generations_of c) old nth.depot found nth.stand) (λ prints. (files, subst P (sym is.1.been) tells.1, contents)))))
 
 -- ---- replies one after another
 
-module _ (Known : ℕ → List Deed → Type 0) (rules : List FilterRule) where
-  told_many : (n : ℕ) (requests : List Request) (texts : List (List ℕ)) (last : ℕ) → AreTold Known rules n requests texts last → length requests ≡ length texts
-  told_many n [] [] last are = refl
-  told_many n [] (text ∷ texts) last are = absurd are
-  told_many n (request ∷ requests) [] last are = absurd are
-  told_many n (request ∷ requests) (text ∷ texts) last are = ap suc (told_many are.0 requests texts last are.2)
+module _ (past : Past) (start : List Deed) (places : List Placed) (rules : List FilterRule) where
+  abbrev Told : ℕ → Replica → List Request → List (List ℕ) → Replica → Type 0
+  Told before old requests texts new = AreTold past start places rules before old requests texts new
 
-  told_more : (n : ℕ) (requests : List Request) (texts : List (List ℕ)) (last now : ℕ) (request : Request) (text : List ℕ) → AreTold Known rules n requests texts last
-      → IsToldAs Known rules last now request text (pulls request.command) → AreTold Known rules n (requests ++ request ∷ []) (texts ++ text ∷ []) now
-  told_more n [] [] last now request text are is = (now, subst (λ (k : ℕ). IsToldAs Known rules k now request text (pulls request.command)) are is, refl)
-  told_more n [] (t ∷ texts) last now request text are is = absurd are
-  told_more n (r ∷ requests) [] last now request text are is = absurd are
-  told_more n (r ∷ requests) (t ∷ texts) last now request text are is = (are.0, are.1, told_more are.0 requests texts last now request text are.2 is)
+  told_many : (before : ℕ) (old new : Replica) (requests : List Request) (texts : List (List ℕ)) → Told before old requests texts new → length requests ≡ length texts
+  told_many before old new [] [] are = refl
+  told_many before old new [] (text ∷ texts) are = absurd are
+  told_many before old new (request ∷ requests) [] are = absurd are
+  told_many before old new (request ∷ requests) (text ∷ texts) are = ap suc (told_many are.0 are.1 new requests texts are.5)
 
-module _ (Known More : ℕ → List Deed → Type 0) (rules : List FilterRule) (more : (n : ℕ) (d : List Deed) → Known n d → More n d) where
-  told_wider : (n m : ℕ) (request : Request) (text : List ℕ) (pull : Bool) → IsToldAs Known rules n m request text pull → IsToldAs More rules n m request text pull
-  told_wider n m request text true is = is
-  told_wider n m request text false (same, inl is) = (same, inl (is.0, more n is.0 is.1, is.2))
-  told_wider n m request text false (same, inr is) = (same, inr is)
+  -- one more, when all places were taken
+  told_more : (before : ℕ) (old mid new : Replica) (requests : List Request) (texts : List (List ℕ)) (request : Request) (text : List ℕ) → before ≤ length places → Told before old requests texts mid
+      → IsToldAs past start places rules mid new request text (pulls request.command) → Told before old (requests ++ request ∷ []) (texts ++ text ∷ []) new
+  told_more before old mid new [] [] request text low are is =
+      let As : List Placed → Replica → Type 0 = λ all r. IsToldAs past start all rules r new request text (pulls request.command) in
+      (length places, new, low, omega arith, subst (λ (all : List Placed). As all old) (sym (take-length places)) (subst (As places) are is), refl)
+  told_more before old mid new [] (t ∷ texts) request text low are is = absurd are
+  told_more before old mid new (r ∷ requests) [] request text low are is = absurd are
+  told_more before old mid new (r ∷ requests) (t ∷ texts) request text low are is =
+      (are.0, are.1, are.2, are.3, are.4, told_more are.0 are.1 mid new requests texts request text are.3 are.5 is)
 
-  all_wider : (n : ℕ) (requests : List Request) (texts : List (List ℕ)) (last : ℕ) → AreTold Known rules n requests texts last → AreTold More rules n requests texts last
-  all_wider n [] [] last are = are
-  all_wider n [] (text ∷ texts) last are = absurd are
-  all_wider n (request ∷ requests) [] last are = absurd are
-  all_wider n (request ∷ requests) (text ∷ texts) last are =
-      (are.0, told_wider n are.0 request text (pulls request.command) are.1, all_wider are.0 requests texts last are.2)
+  -- so it was among more places
+  told_longer : (more : List Placed) (before : ℕ) (old new : Replica) (requests : List Request) (texts : List (List ℕ)) → Told before old requests texts new
+      → AreTold past start (places ++ more) rules before old requests texts new
+  told_longer more before old new [] [] are = are
+  told_longer more before old new [] (text ∷ texts) are = absurd are
+  told_longer more before old new (request ∷ requests) [] are = absurd are
+  told_longer more before old new (request ∷ requests) (text ∷ texts) are =
+      let within = are.3 in
+      let long = length-append places more in
+      let As : List Placed → Type 0 = λ all. IsToldAs past start all rules old are.1 request text (pulls request.command) in
+      (are.0, are.1, are.2, omega (arith, within, long), subst As (sym (take-append-le are.0 places more within)) are.4, told_longer more are.0 are.1 new requests texts are.5)
 
 -- ---- a party
 
--- a new replica has told nothing
-pub along_first : (Known : ℕ → List Deed → Type 0) (may_give : ℕ → Type 0) (party : ℕ) (script : ReplicaScript) (p : ReplicaParty) (c : Chronicle) → IsFresh may_give party script p
-    → AreWellFormed script.session.commands → IsAlong Known may_give party script p c []
-along_first Known may_give party script p c fresh formed =
-    record { formed = formed; answered = []; asked = fresh.asked; moments = []; followed = fresh.is_new; told = fresh.is_new.changes }
+module _ (past : Past) (start : List Deed) (places : List Placed) (may_give : ℕ → Type 0) (party : ℕ) (script : ReplicaScript) (p : ReplicaParty) where
+  -- a new replica has told nothing
+  pub along_first : (c : Chronicle) → IsFresh may_give party script p → AreWellFormed script.session.commands → IsAlong past start places may_give party script p c []
+  along_first c fresh formed =
+      record { formed = formed; answered = []; asked = fresh.asked; moments = []; followed = fresh.is_new; first = p.replica; is_new = fresh.is_new; told = refl }
 
--- the journal grew
-pub along_grown : (Known More : ℕ → List Deed → Type 0) → ((n : ℕ) (d : List Deed) → Known n d → More n d) → (may_give : ℕ → Type 0) (party : ℕ) (script : ReplicaScript) (p : ReplicaParty) (c now : Chronicle)
-    → HasGrown (texts_in c) (texts_in now) → (texts : List (List ℕ)) → IsAlong Known may_give party script p c texts → IsAlong More may_give party script p now texts
-along_grown Known More more may_give party script p c now grown texts along = record {
-  formed = along.formed;
-  answered = along.answered;
-  asked = along.asked;
-  moments = record { journal = texts_in c; replica = p.replica } ∷ along.moments;
-  followed = (grown, inl refl, along.followed);
-  told = all_wider Known More script.filter more 0 along.answered texts p.replica.changes along.told;
-}
+  -- the journal grew
+  pub along_later : (c now : Chronicle) → HasGrown (texts_in c) (texts_in now) → (texts : List (List ℕ)) → IsAlong past start places may_give party script p c texts
+      → IsAlong past start places may_give party script p now texts
+  along_later c now grown texts along = record {
+    formed = along.formed;
+    answered = along.answered;
+    asked = along.asked;
+    moments = record { journal = texts_in c; replica = p.replica } ∷ along.moments;
+    followed = (grown, inl refl, along.followed);
+    first = along.first;
+    is_new = along.is_new;
+    told = along.told;
+  }
+
+  -- there are more places
+  pub along_longer : (c : Chronicle) (more : List Placed) (texts : List (List ℕ)) → IsAlong past start places may_give party script p c texts
+      → IsAlong past start (places ++ more) may_give party script p c texts
+  along_longer c more texts along = record {
+    formed = along.formed;
+    answered = along.answered;
+    asked = along.asked;
+    moments = along.moments;
+    followed = along.followed;
+    first = along.first;
+    is_new = along.is_new;
+    told = told_longer past start places script.filter more 0 along.first p.replica along.answered texts along.told;
+  }
+
+  pub along_grown : (c now : Chronicle) (more : List Placed) → HasGrown (texts_in c) (texts_in now) → (texts : List (List ℕ)) → IsAlong past start places may_give party script p c texts
+      → IsAlong past start (places ++ more) may_give party script p now texts
+  along_grown c now more grown texts along = along_longer now more texts (along_later c now grown texts along)
 
 module _ {D E : Type 0} (disk_says : DiskSays D) (reads : (disk : D) (files : Files) → disk_says.seen disk files → disk_says.may_leave disk files) (past : Past) (start : List Deed) (places : List Placed)
     (depot : SerialDepot D) (c : Chronicle) (master : IsMaster disk_says past start places depot c) (tells : (files : Files) × disk_says.seen (archives.disk_of depot.archive) files)
     (may_give : ℕ → Type 0) (party : ℕ) (script : ReplicaScript) where
   -- it took its turn
-  pub along_turned : (old new : ReplicaParty) (texts : List (List ℕ)) (result : Result Answered E) → IsAlong (IsNth past start places) may_give party script old c texts → IsTurned disk_says depot old new result
-      → IsAlong (IsNth past start places) may_give party script new c (texts ++ reply_text result (length texts + 1) ∷ [])
+  pub along_turned : (old new : ReplicaParty) (texts : List (List ℕ)) (result : Result Answered E) → IsAlong past start places may_give party script old c texts → IsTurned disk_says depot old new result
+      → IsAlong past start places may_give party script new c (texts ++ reply_text result (length texts + 1) ∷ [])
   along_turned old new texts result along turn =
       let request = turn.request in
       let left : reverse old.left.items ≡ request ∷ reverse new.left.items = ap reverse turn.left ∙ reverse-append new.left.items (request ∷ []) in
@@ -177,16 +198,18 @@ module _ {D E : Type 0} (disk_says : DiskSays D) (reads : (disk : D) (files : Fi
       subst (λ (behind : List Request). AreRequests may_give party 1 script.session.caller script.session.commands (along.answered ++ behind)) left along.asked in
       let here = at_place may_give party 1 script.session.caller script.session.commands along.answered request (reverse new.left.items) asked
       (recursion_from_All IsAskedWell script.session.commands along.formed) in
-      let many = told_many (IsNth past start places) script.filter 0 along.answered texts old.replica.changes along.told in
+      let many = told_many past start places script.filter 0 along.first old.replica along.answered texts along.told in
       let number : request.number ≡ length texts + 1 = let is = here.0 in omega (arith, is, many) in
       let told = turn_told disk_says reads past start places depot c master tells script.filter old.replica new.replica along.moments along.followed request (reply_text result request.number)
       (pulls request.command) (is_lost result) (turn.answered (formed_of request here.1)) in
-      let P : ℕ → Type 0 = λ n. IsToldAs (IsNth past start places) script.filter old.replica.changes new.replica.changes request (reply_text result n) (pulls request.command) in
+      let P : ℕ → Type 0 = λ n. IsToldAs past start places script.filter old.replica new.replica request (reply_text result n) (pulls request.command) in
       record {
         formed = along.formed;
         answered = along.answered ++ request ∷ [];
         asked = subst (AreRequests may_give party 1 script.session.caller script.session.commands) (sym (append_assoc along.answered (request ∷ []) (reverse new.left.items))) asked;
         moments = told.0;
         followed = told.1;
-        told = told_more (IsNth past start places) script.filter 0 along.answered texts old.replica.changes new.replica.changes request (reply_text result (length texts + 1)) along.told (subst P number told.2);
+        first = along.first;
+        is_new = along.is_new;
+        told = told_more past start places script.filter 0 along.first old.replica new.replica along.answered texts request (reply_text result (length texts + 1)) (omega arith) along.told (subst P number told.2);
       }

@@ -1,5 +1,6 @@
 pub mod Along
 pub mod CutContents
+pub mod Fits
 pub mod Following
 pub mod Masters
 pub mod Moving

@@ -33,8 +33,9 @@ use Rattle.depot_commit.proofs.Checkpointed.{next_told, opened_rows, some_differ
 use Rattle.depot_commit.proofs.Places.{no_difference, same_stand, taken-push}
 use Rattle.depot_commit.proofs.Stored.{contents_kept}
 use Rattle.session_loop.specs.Taking.{placed_by}
-use Rattle.depot_rows.specs.table_changes.Changed.{AllRows, changed_by, changed_in, no_rows, rows_of}
-use Rattle.replica_turns.specs.Master.{AreChanges, HasNth, IsMaster, IsNth, Past, all_changes, texts_in}
+use Rattle.depot_rows.specs.table_changes.Changed.{AllFitIn, AllRows, changed_by, changed_in, no_rows, rows_of}
+use Rattle.replica_turns.specs.Master.{AllFit, AreChanges, HasNth, IsMaster, IsNth, Past, all_changes, texts_in}
+use Rattle.replica_turns.proofs.Fits.{fit_next, fit_with}
 
 -- ---- places that are changes
 
@@ -144,6 +145,7 @@ module _ {D : Type 0} (disk_says : DiskSays D) (past : Past) (start : List Deed)
     count = master.count;
     are_changes = master.are_changes;
     each = λ n within. nth_kept (IsNth past start places) (λ k d is. is) c n refl within;
+    fit = master.fit;
   }
 
 -- ---- a place
@@ -162,11 +164,13 @@ module _ {D : Type 0} (disk_says : DiskSays D) (past : Past) (start : List Deed)
     count = master.count;
     are_changes = changes_idle master.changes start places p master.are_changes idle;
     each = λ n within. nth_kept disk_says past start places old new c master stored (IsNth past start (places ++ p ∷ [])) (nth_longer past start places (p ∷ [])) c n refl within;
+    fit = master.fit;
   }
 
   -- one change more
   module _ (p : Placed) (is : IsChange current p) (now : Chronicle) (groups : HasGroups disk_says new.journal now) (ran : HasRun disk_says new since start (places ++ p ∷ []))
-      (extra : List (List Change)) (more : all_changes now ≡ all_changes c ++ extra) (one : length extra ≡ 1) (rows : changed_by (rows_of old.tables) (joined extra) ≡ rows_of new.tables) where
+      (extra : List (List Change)) (more : all_changes now ≡ all_changes c ++ extra) (one : length extra ≡ 1) (rows : changed_by (rows_of old.tables) (joined extra) ≡ rows_of new.tables)
+      (fit : AllFit c → AllFit now) where
     rows_now : rows_of new.tables ≡ changed_by no_rows (joined (all_changes now))
     rows_now =
         sym rows
@@ -207,6 +211,7 @@ module _ {D : Type 0} (disk_says : DiskSays D) (past : Past) (start : List Deed)
       count = counted;
       are_changes = now_changes;
       each = λ n within. nth_now n (eq-or-lt_of_le within);
+      fit = λ first. fit (master.fit first);
     }
 
   -- ---- the place of a request
@@ -221,6 +226,11 @@ module _ {D : Type 0} (disk_says : DiskSays D) (past : Past) (start : List Deed)
         let same = length-map c.closed (group_texts 1) in
         omega (arith, told, stands, count, same)
 
+    -- the changes of its group fit
+    group_fits : AllFitIn (changed_by no_rows (joined (all_changes c))) (joined (outcome.changes ∷ []))
+    group_fits =
+        subst (AllFitIn (changed_by no_rows (joined (all_changes c)))) (sym (append-nil outcome.changes)) (subst (λ (r : AllRows). AllFitIn r outcome.changes) master.rows is.changes.fit)
+
     written : (opens : Bool) → opens_generation request ≡ opens → outcome.changes ≢ [] → HasRun disk_says new since start (places ++ placed_by request false ∷ [])
         → rows_of new.tables ≡ changed_by (rows_of old.tables) outcome.changes → HasGroups disk_says new.journal (with_changes opens outcome.changes c)
         → IsMaster disk_says past start (places ++ placed_by request false ∷ []) new (with_changes opens outcome.changes c)
@@ -228,12 +238,14 @@ module _ {D : Type 0} (disk_says : DiskSays D) (past : Past) (start : List Deed)
         changed_place (placed_by request false) (refl, some_differ (rows_of old.tables) old.tables.archive_end current request outcome h.over.stand is some) (with_changes false outcome.changes c) groups ran
         (outcome.changes ∷ []) (with_groups 0 c.closed c.newest (outcome.changes ∷ [])) refl
         (ap (changed_by (rows_of old.tables)) (append-nil outcome.changes) ∙ sym rows)
+        (λ fits. fit_with 0 no_rows c.closed c.newest (outcome.changes ∷ []) fits group_fits)
     written true opening some ran rows groups =
         let index : suc (length c.closed) ≡ 0 + length (c.closed ++ c.newest ∷ []) = (let all = length-append c.closed (c.newest ∷ []) in omega (arith, all)) in
         let opened = opened_rows (rows_of old.tables) old.tables.archive_end current request outcome h.over.stand is some opening in
         changed_place (placed_by request false) (refl, some_differ (rows_of old.tables) old.tables.archive_end current request outcome h.over.stand is some) (with_changes true outcome.changes c) groups ran
         (begun (suc (length c.closed))) (with_next 0 (c.closed ++ c.newest ∷ []) (suc (length c.closed)) index) refl
         (ap (λ (n : ℕ). changed_by (rows_of old.tables) (joined (begun n))) (sym generation_is) ∙ (again (generation_in current) ∙ (sym opened ∙ sym rows)))
+        (λ fits. fit_next 0 no_rows (c.closed ++ c.newest ∷ []) fits)
       where
         one_on : (n : ℕ) → n + 1 ≡ suc n
         one_on n = omega arith

@@ -28,8 +28,7 @@ use Rattle.replica_turns.specs.Master.{texts_in}
 use Rattle.replica_turns.specs.Replying.{Follows, HasPulledOf, IsAnsweredAs, IsPulled, IsWithoutMemory, pulls}
 use Rattle.replica_turns.specs.declared.party.Answered.{Answered}
 use Rattle.replica_turns.specs.declared.party.ReplicaParty.{ReplicaParty}
-use Rattle.replica_turns.proofs.Along.{has_texts}
-use Rattle.replica_turns.proofs.Following.{earlier_self}
+use Rattle.replica_turns.proofs.Following.{earlier_self, has_texts}
 
 module _ {D : Type 0} (disk_says : DiskSays D) (reads : (disk : D) (files : Files) → disk_says.seen disk files → disk_says.may_leave disk files) (depot : SerialDepot D) (c : Chronicle)
     (groups : HasGroups disk_says depot.journal c) (good : IsGoodJournal (texts_in c) (generations_of c)) (rules : List FilterRule) (moments : List Moment) (old new : Replica)
@@ -60,7 +59,7 @@ module _ {D : Type 0} (disk_says : DiskSays D) (reads : (disk : D) (files : File
   never_stopped Next piece faults.NoGeneration answers other stopped = let most = few in omega (arith, stopped, answers.1, most)
   never_stopped Next piece faults.Memory answers other stopped = other refl
 
-  pulled_of : (number : ℕ) (text : List ℕ) → IsPulled (λ been. been ≡ depot) disk_says old new number text → HasPulledOf (texts_in c) old new
+  pub pulled_of : (number : ℕ) (text : List ℕ) → IsPulled (λ been. been ≡ depot) disk_says old new number text → HasPulledOf (texts_in c) old new
   pulled_of number text pull = go pull.follows
     where
       answers : Answers (texts_in c) old.generation old.at pull.fetched pull.piece

@@ -48,7 +48,7 @@ module _ {D E : Type 0} (depot : SerialDepot D) (disk_says : DiskSays D) (replic
           by_case false e = record {
             depot = depot;
             been = refl;
-            reply = λ d files stand sees has. told (rows_of replica.tables) d files (replica_reply d request) (answer d stand) sees has e;
+            reply = λ d stand has. let there = has is in told (rows_of replica.tables) d there.0 (replica_reply d request) (answer d stand) there.1 there.2 e;
           }
 
 module _ {D E : Type 0} (depot : SerialDepot D) (disk_says : DiskSays D) (replica : Replica) (request : Request) (result : Result Answered E) where
@@ -63,7 +63,7 @@ module _ {D E : Type 0} (depot : SerialDepot D) (disk_says : DiskSays D) (replic
           → IfOk r (λ answered. IsReply (λ been. been ≡ depot) disk_says replica request answered.text answered.lost)
       go (Err error) kept told = tt
       go (Ok answered) kept told =
-          subst (IsReply (λ been. been ≡ depot) disk_says replica request answered.text) (sym kept) (record { depot = depot; been = refl; reply = λ d files stand sees has. told d stand })
+          subst (IsReply (λ been. been ≡ depot) disk_says replica request answered.text) (sym kept) (record { depot = depot; been = refl; reply = λ d stand has. told d stand })
 
 -- a command that prints doesn't pull
 pub prints_no_pull : (command : Result Command WordFault) → prints command ≡ true → pulls command ≡ false

@@ -1,8 +1,10 @@
 -- How far a replica among the parties of a run is. This project's own choice.
-use Rattle.std.specs.Prelude.{◌≡◌, ◌||◌, ℕ, Bool, true, false, List, [], ◌∷◌, ◌++◌, reverse, length, Option, Result, Ok, Err}
+use Rattle.std.specs.Prelude.{◌≡◌, ◌≤◌, ◌||◌, ℕ, Bool, true, false, List, [], ◌∷◌, ◌++◌, reverse, length, take, Option, Result, Ok, Err}
 use Rattle.std.specs.List.{flat_map}
 use Rattle.outside_api.specs.Says.{DiskSays}
 use Rattle.outside_api.specs.Told.{extended}
+use Rattle.depot_rows.specs.depot_model.Deeds.{Deed}
+use Rattle.depot_rows.specs.depot_model.Places.{Placed}
 use Rattle.depot_rows.specs.depot_model.Printed.{printed}
 use Rattle.depot_rows.specs.depot_model.Rows.{memory_row}
 use Rattle.depot_rows.specs.depot_model.declared.request.Request.{Request}
@@ -12,6 +14,7 @@ use Rattle.depot_commit.specs.command_core.Outcomes.{IsFormedBy}
 use Rattle.session_loop.specs.Asking.{AreWellFormed}
 use Rattle.session_loop.specs.Requests.{AreRequests}
 use Rattle.session_loop.specs.declared.reading.ReplicaScript.{ReplicaScript}
+use Rattle.serial_depot.specs.Running.{HasRun}
 use Rattle.serial_depot.specs.declared.depot.SerialDepot.{SerialDepot}
 use Rattle.wire_text.specs.Giving.{IsProperFront}
 use Rattle.replica_turns.specs.Replying.{IsAnswered}
@@ -20,22 +23,29 @@ use Rattle.replica_turns.specs.declared.party.ReplicaParty.{ReplicaParty}
 
 -- ---- commands one after another
 
--- These commands were answered with these texts, one after another, and whether one of them tells that a disk failed.
-abbrev pub AreAnswered : {D : Type 0} → (SerialDepot D → Type 0) → DiskSays D → Replica → Replica → List Request → List (List ℕ) → Bool → Type 0
-AreAnswered HasBeen disk_says old new [] [] lost = (new ≡ old) × (lost ≡ false)
-AreAnswered HasBeen disk_says old new (request ∷ requests) (text ∷ texts) lost =
-    (next : Replica) × (first : Bool) × (later : Bool) × (lost ≡ first || later) × IsAnswered HasBeen disk_says old next request text first × AreAnswered HasBeen disk_says next new requests texts later
-AreAnswered HasBeen disk_says old new _ _ lost = ⊥
+-- a depot has run the first of these places, so many
+abbrev pub HasRunFirst : {D : Type 0} → DiskSays D → ℕ → List Deed → List Placed → ℕ → SerialDepot D → Type 0
+HasRunFirst disk_says since start places count depot = HasRun disk_says depot since start (take count places)
+
+-- These commands were answered with these texts, one after another, each over a depot that had run the first of these places, so many, and no fewer than at the
+-- command before; and whether one of the texts tells that a disk failed.
+abbrev pub AreAnswered : {D : Type 0} → DiskSays D → ℕ → List Deed → List Placed → ℕ → Replica → Replica → List Request → List (List ℕ) → Bool → Type 0
+AreAnswered disk_says since start places before old new [] [] lost = (new ≡ old) × (lost ≡ false)
+AreAnswered disk_says since start places before old new (request ∷ requests) (text ∷ texts) lost =
+    (count : ℕ) × (next : Replica) × (first : Bool) × (later : Bool) × (before ≤ count) × (count ≤ length places) × (lost ≡ first || later)
+    × IsAnswered (HasRunFirst disk_says since start places count) disk_says old next request text first × AreAnswered disk_says since start places count next new requests texts later
+AreAnswered disk_says since start places before old new _ _ lost = ⊥
 
 -- The party has answered the first commands of its script, as many as there are texts, with these printed replies, from a new replica with the script's
--- filter on, over depots that have been; the others are left, the next one last. Whether one of the replies tells that a disk failed.
-pub record IsGoing {D : Type 0} (HasBeen : SerialDepot D → Type 0) (disk_says : DiskSays D) (may_give : ℕ → Type 0) (party : ℕ) (script : ReplicaScript) (p : ReplicaParty) (texts : List (List ℕ)) (lost : Bool) : Type 0 where
+-- filter on, over depots that had run more and more of these places; the others are left, the next one last. Whether one of the replies tells that a disk
+-- failed.
+pub record IsGoing {D : Type 0} (disk_says : DiskSays D) (since : ℕ) (start : List Deed) (places : List Placed) (may_give : ℕ → Type 0) (party : ℕ) (script : ReplicaScript) (p : ReplicaParty) (texts : List (List ℕ)) (lost : Bool) : Type 0 where
   pub formed : AreWellFormed script.session.commands
   pub answered : List Request
   pub asked : AreRequests may_give party 1 script.session.caller script.session.commands (answered ++ reverse p.left.items)
   pub first : Replica
   pub is_new : IsNew script.filter first
-  pub are : AreAnswered HasBeen disk_says first p.replica answered texts lost
+  pub are : AreAnswered disk_says since start places 0 first p.replica answered texts lost
 
 -- a party that has answered nothing yet
 pub record IsFresh (may_give : ℕ → Type 0) (party : ℕ) (script : ReplicaScript) (p : ReplicaParty) : Type 0 where
@@ -70,10 +80,10 @@ HasGotTexts false texts before now = now ≡ extended before (all_of texts)
 HasGotTexts true texts before now =
     (given : List (List ℕ)) × (last : List ℕ) × (texts ≡ given ++ last ∷ []) × (front : List ℕ) × IsProperFront front last × (now ≡ extended before (all_of given ++ front))
 
--- A replica's first commands were answered, so many, and its sink got the replies.
-pub record IsReplicaOutput {D : Type 0} (HasBeen : SerialDepot D → Type 0) (disk_says : DiskSays D) (may_give : ℕ → Type 0) (party : ℕ) (script : ReplicaScript) (commands : ℕ) (failed lost : Bool) (before now : Option (List ℕ)) : Type 0 where
+-- A replica's first commands were answered so, as many, and its sink got the replies.
+pub record IsReplicaOutput {D : Type 0} (disk_says : DiskSays D) (since : ℕ) (start : List Deed) (places : List Placed) (may_give : ℕ → Type 0) (party : ℕ) (script : ReplicaScript) (commands : ℕ) (failed lost : Bool) (before now : Option (List ℕ)) : Type 0 where
   pub replica : ReplicaParty
   pub texts : List (List ℕ)
   pub count : length texts ≡ commands
-  pub going : IsGoing HasBeen disk_says may_give party script replica texts lost
+  pub going : IsGoing disk_says since start places may_give party script replica texts lost
   pub got : HasGotTexts failed texts before now

@@ -15,7 +15,7 @@ use Rattle.depot_runs.specs.Replica.{IsAfterChanges}
 use Rattle.depot_rows.specs.depot_model.Commands.{step}
 use Rattle.journal_groups.specs.Groups.{IsGroup, groups_text}
 use Rattle.recovery.specs.Holding.{joined}
-use Rattle.replica_pull.specs.Prefix.{HasGrown, changes_from, first_rows}
+use Rattle.replica_pull.specs.Prefix.{FitFrom, HasGrown, changes_from, first_rows}
 use Rattle.depot_commit.specs.Growing.{Chronicle, HasGroups, generations_of}
 use Rattle.depot_commit.specs.Holding.{KeepContents}
 use Rattle.serial_depot.specs.declared.depot.SerialDepot.{SerialDepot}
@@ -35,6 +35,10 @@ AreGroupsOf c = AllByRecursion (AllByRecursion IsGroup) (generations_of c)
 abbrev pub first_of : ℕ → Chronicle → AllRows
 first_of n c = first_rows n (generations_of c)
 
+-- its changes fit, one after another
+abbrev pub AllFit : Chronicle → Type 0
+AllFit c = FitFrom no_rows 0 (generations_of c)
+
 -- its texts
 abbrev pub texts_in : Chronicle → List (List ℕ)
 texts_in c = map (groups_text 1) (generations_of c)
@@ -45,10 +49,11 @@ HasGrownTo c now = HasGrown (texts_in c) (texts_in now)
 
 -- ---- the first changes
 
--- what a depot has done before a run: how many changes, and the depot after each of them
+-- what a depot has done before a run: how many changes, the depot after each of them, and the groups of its journal
 pub record Past : Type 0 where
   pub count : ℕ
   pub after : ℕ → List Deed
+  pub journal : Chronicle
 
 -- the depot after the first n changes: those before the run, and then those among its places
 abbrev pub IsNth : Past → List Deed → List Placed → ℕ → List Deed → Type 0
@@ -62,6 +67,18 @@ AreChanges n d (p ∷ places) =
     ((IsChange d p → ⊥) × AreChanges n (after d (done_at step d p)) places)
     ⊎ (IsChange d p × (m : ℕ) × (n ≡ suc m) × AreChanges m (after d (done_at step d p)) places)
 
+-- ---- the journal after places
+
+-- A journal after the places of a run: it has whole groups, as many changes as were done before the run and then among the places, and the rows that the
+-- first n of them make stand for the depot after n changes. They fit where those before the run did.
+pub record IsJournalAfter (past : Past) (start : List Deed) (places : List Placed) (c : Chronicle) : Type 0 where
+  pub are_groups : AreGroupsOf c
+  pub changes : ℕ
+  pub count : length (all_changes c) ≡ past.count + changes
+  pub are_changes : AreChanges changes start places
+  pub each : (n : ℕ) → n ≤ length (all_changes c) → (d : List Deed) × IsNth past start places n d × Stand (first_of n c) d
+  pub fit : AllFit past.journal → AllFit c
+
 -- ---- a depot in files
 
 -- The rows that its first n changes make stand for the depot after these, whose contents each image of the archive's disk has.
@@ -72,7 +89,7 @@ pub record HasNth {D : Type 0} (disk_says : DiskSays D) (archive : Archive D) (I
   pub kept : KeepContents (disk_says.may_leave (disk_of archive)) (used_of archive) (first_rows n (generations_of c)) depot
 
 -- The journal has these groups, which make the rows of the tables; of its changes there are those before the run and those among the places that were taken,
--- and after each number of them it had a depot that is known.
+-- and after each number of them it had a depot that is known. They fit where those before the run did.
 pub record IsMaster {D : Type 0} (disk_says : DiskSays D) (past : Past) (start : List Deed) (places : List Placed) (depot : SerialDepot D) (c : Chronicle) : Type 0 where
   pub groups : HasGroups disk_says depot.journal c
   pub rows : rows_of depot.tables ≡ changed_by no_rows (joined (all_changes c))
@@ -80,3 +97,4 @@ pub record IsMaster {D : Type 0} (disk_says : DiskSays D) (past : Past) (start :
   pub count : length (all_changes c) ≡ past.count + changes
   pub are_changes : AreChanges changes start places
   pub each : (n : ℕ) → n ≤ length (all_changes c) → HasNth disk_says depot.archive (IsNth past start places n) c n
+  pub fit : AllFit past.journal → AllFit c

@@ -71,11 +71,13 @@ IsPullAnswer HasBeen disk_says old new number text false = IsPulled HasBeen disk
 abbrev pub reads_archive : Request → Bool
 reads_archive request = prints request.command
 
--- The reply is a replica's for each depot for which its rows stand, and whose contents are at their spots in the archive of a depot of the run.
+-- The reply is a replica's for each depot for which its rows stand, and, where it prints contents, whose contents are at their spots in the archive of a depot
+-- of the run.
 pub record IsReplied {D : Type 0} (HasBeen : SerialDepot D → Type 0) (disk_says : DiskSays D) (replica : Replica) (request : Request) (text : List ℕ) : Type 0 where
   pub depot : SerialDepot D
   pub been : HasBeen depot
-  pub reply : (d : List Deed) (files : Files) → Stand (rows_of replica.tables) d → disk_says.seen (archives.disk_of depot.archive) files → HasContents (files 0) (rows_of replica.tables) d
+  pub reply : (d : List Deed) → Stand (rows_of replica.tables) d
+      → (IsTrue (prints request.command) → (files : Files) × disk_says.seen (archives.disk_of depot.archive) files × HasContents (files 0) (rows_of replica.tables) d)
       → text ≡ printed (replica_reply d request) request.number
 
 -- the same, or the archive's disk failed for a `print`

@@ -25,7 +25,7 @@ ghost use Rattle.session_loop.specs.declared.reading.ReplicaScript.{ReplicaScrip
 ghost use Rattle.depot_rows.specs.table_changes.Changed.{rows_of};
 ghost use Rattle.replica_turns.specs.Along.{IsAlong};
 ghost use Rattle.replica_turns.specs.Going.{IsFresh, IsTurned, is_lost, reply_text};
-ghost use Rattle.replica_turns.specs.Master.{HasGrownTo, IsMaster, IsNth, Past, texts_in};
+ghost use Rattle.replica_turns.specs.Master.{HasGrownTo, IsMaster, Past, texts_in};
 ghost use Rattle.replica_turns.specs.Replying.{HasPulledOf, pulls};
 ghost use Rattle.replica_turns.specs.declared.party.Answered.{Answered};
 ghost use Rattle.replica_turns.specs.declared.party.ReplicaParty.{ReplicaParty};
@@ -47,15 +47,16 @@ pub fn depots_grow_by_their_changes<D: Disk>()
 {}
 
 /// A replica that follows it goes on telling what it told: each reply other than to `pull` is that of a replica of the depot after the first n changes, cut to
-/// its filter, where n is what its last `pull` told, and 0 before one.
+/// its filter, where n is what its last `pull` told, and 0 before one. Its commands are answered after numbers of places that don't fall, and each `pull` that
+/// tells a position took of the journal as it is after so many.
 pub fn replicas_reply_for_their_last_pull<D: Disk, C: Clock>(clock: &C)
     ensures first { (past : Past) (start : List Deed) (places : List Placed) (party : ℕ) (script : ReplicaScript) (p : ReplicaParty) (c : Chronicle) →
-        IsFresh (C.says.may_give clock.now) party script p → AreWellFormed script.session.commands → IsAlong (IsNth past start places) (C.says.may_give clock.now) party script p c [] }
+        IsFresh (C.says.may_give clock.now) party script p → AreWellFormed script.session.commands → IsAlong past start places (C.says.may_give clock.now) party script p c [] }
     ensures grown { (past : Past) (start : List Deed) (places more : List Placed) (party : ℕ) (script : ReplicaScript) (p : ReplicaParty) (c now : Chronicle) (texts : List (List ℕ)) →
-        HasGrownTo c now → IsAlong (IsNth past start places) (C.says.may_give clock.now) party script p c texts → IsAlong (IsNth past start (places ++ more)) (C.says.may_give clock.now) party script p now texts }
+        HasGrownTo c now → IsAlong past start places (C.says.may_give clock.now) party script p c texts → IsAlong past start (places ++ more) (C.says.may_give clock.now) party script p now texts }
     ensures turned { (past : Past) (start : List Deed) (places : List Placed) (depot : AnyDepot D) (files : Files) (party : ℕ) (script : ReplicaScript) (old new : ReplicaParty) (c : Chronicle) (texts : List (List ℕ)) (result : Result Answered (Unit {0})) →
-        IsMaster D.says past start places depot c → D.says.seen (archive_disk_of depot.archive) files → IsAlong (IsNth past start places) (C.says.may_give clock.now) party script old c texts →
-        IsTurned D.says depot old new result → IsAlong (IsNth past start places) (C.says.may_give clock.now) party script new c (texts ++ reply_text result (length texts + 1) ∷ []) }
+        IsMaster D.says past start places depot c → D.says.seen (archive_disk_of depot.archive) files → IsAlong past start places (C.says.may_give clock.now) party script old c texts →
+        IsTurned D.says depot old new result → IsAlong past start places (C.says.may_give clock.now) party script new c (texts ++ reply_text result (length texts + 1) ∷ []) }
 {
     let _clock = clock;
 }

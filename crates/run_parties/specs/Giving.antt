@@ -1,12 +1,13 @@
 -- What the parties of a run are given. This project's own choice.
 use Rattle.std.specs.Prelude.{◌≡◌, ℕ, Bool, true, false, List, [], ◌∷◌, length, Option, Result, Ok, Err}
+use Rattle.depot_model.specs.Deeds.{Deed}
+use Rattle.depot_model.specs.Places.{Placed}
 use Rattle.depot_model.specs.Printed.{printed}
 use Rattle.depot_model.specs.Rows.{memory_row}
 use Rattle.outside_api.specs.Says.{DiskSays}
 use Rattle.outside_api.specs.Told.{extended}
 use Rattle.replica_turns.specs.Going.{HasGotTexts, IsGoing}
 use Rattle.replica_turns.specs.declared.party.ReplicaParty.{ReplicaParty}
-use Rattle.replica_turns.specs.serial_depot.declared.depot.SerialDepot.{SerialDepot}
 use Rattle.session_loop.specs.declared.reading.ReplicaScript.{ReplicaScript}
 use Rattle.session_loop.specs.declared.session.SessionRun.{SessionRun}
 use Rattle.wire_text.specs.Giving.{GotFront}
@@ -26,8 +27,8 @@ Got true text before now = GotFront before now text
 -- ---- a replica
 
 -- The sink has the replies of a replica to the commands that its run tells of. Whether one of them tells that a disk failed.
-pub record HasGiven {D : Type 0} (HasBeen : SerialDepot D → Type 0) (disk_says : DiskSays D) (may_give : ℕ → Type 0) (party : ℕ) (script : ReplicaScript) (p : ReplicaParty) (run : SessionRun) (lost : Bool) (before now : Option (List ℕ)) : Type 0 where
+pub record HasGiven {D : Type 0} (disk_says : DiskSays D) (since : ℕ) (start : List Deed) (places : List Placed) (may_give : ℕ → Type 0) (party : ℕ) (script : ReplicaScript) (p : ReplicaParty) (run : SessionRun) (lost : Bool) (before now : Option (List ℕ)) : Type 0 where
   pub texts : List (List ℕ)
   pub count : length texts ≡ run.commands
-  pub going : IsGoing HasBeen disk_says may_give party script p texts lost
+  pub going : IsGoing disk_says since start places may_give party script p texts lost
   pub got : HasGotTexts run.failed texts before now

@@ -1,6 +1,6 @@
 -- What the replicas among the parties of a run are answered (Server Administrator Guide, on filtered replicas; that they follow the journal of the run itself
 -- is this project's own choice).
-use Rattle.std.specs.Prelude.{◌≡◌, ◌≤◌, ◌+◌, ◌⊎◌, ℕ, Bool, true, false, List, length, map, take, get_or, slice_get, Option, Some, None}
+use Rattle.std.specs.Prelude.{◌≡◌, ◌+◌, ◌⊎◌, ℕ, Bool, true, false, List, length, map, get_or, slice_get, Option, Some, None}
 use Rattle.std.specs.List.{list_any}
 use Rattle.outside_api.specs.Count.{HasRisen}
 use Rattle.outside_api.specs.Says.{DiskSays}
@@ -10,9 +10,7 @@ use Rattle.depot_model.specs.declared.request.Session.{Session}
 use Rattle.depot_runs.specs.Run.{placed}
 use Rattle.replica_turns.specs.Along.{IsToldOutput}
 use Rattle.replica_turns.specs.Going.{IsReplicaOutput}
-use Rattle.replica_turns.specs.Master.{IsNth, Past}
-use Rattle.replica_turns.specs.serial_depot.Running.{HasRun}
-use Rattle.replica_turns.specs.serial_depot.declared.depot.SerialDepot.{SerialDepot}
+use Rattle.replica_turns.specs.Master.{Past}
 use Rattle.session_loop.specs.declared.reading.ReplicaScript.{ReplicaScript}
 use Rattle.session_loop.specs.declared.session.SessionRun.{SessionRun}
 
@@ -26,30 +24,24 @@ pub record AreLost (replicas : List (Option ReplicaScript)) (flags : List Bool) 
 
 -- ---- outputs
 
-module _ {D : Type 0} (disk_says : DiskSays D) where
-  -- a depot as it was between two turns of a run: it had run the first places of the order
-  pub record HasBeenAt (sessions : List (Option Session)) (since : ℕ) (start : List Deed) (order : List Place) (depot : SerialDepot D) : Type 0 where
-    pub count : ℕ
-    pub within : count ≤ length order
-    pub ran : HasRun disk_says depot since start (take count (map (placed sessions) order))
+-- Each replica's sink got what a replica answers to its first commands, as many as its run tells, that followed the journal of the run's depot: each over that
+-- depot when it had run so many places of the order, no fewer than at the command before. The run is told exactly where one of its replies is that of a failed
+-- disk.
+pub record AreReplicasServed {D : Type 0} (disk_says : DiskSays D) (may_give : ℕ → Type 0) (sessions : List (Option Session)) (replicas : List (Option ReplicaScript)) (since : ℕ) (start : List Deed) (order : List Place) (runs : List SessionRun) (lost : Bool) (before now : List (Option (List ℕ))) : Type 0 where
+  pub flags : List Bool
+  pub told : AreLost replicas flags lost
+  pub each : (i : ℕ) (script : ReplicaScript) (run : SessionRun) (given got : Option (List ℕ)) → slice_get replicas i ≡ Some (Some script) → slice_get runs i ≡ Some run
+      → slice_get before i ≡ Some given → slice_get now i ≡ Some got
+      → IsReplicaOutput disk_says since start (map (placed sessions) order) may_give (i + 1) script run.commands run.failed (get_or flags i false) given got
 
-  -- Each replica's sink got what a replica answers to its first commands, as many as its run tells, that followed the journal of the run's depot. The run is
-  -- told exactly where one of its replies is that of a failed disk.
-  pub record AreReplicasServed (may_give : ℕ → Type 0) (sessions : List (Option Session)) (replicas : List (Option ReplicaScript)) (since : ℕ) (start : List Deed) (order : List Place) (runs : List SessionRun) (lost : Bool) (before now : List (Option (List ℕ))) : Type 0 where
-    pub flags : List Bool
-    pub told : AreLost replicas flags lost
-    pub each : (i : ℕ) (script : ReplicaScript) (run : SessionRun) (given got : Option (List ℕ)) → slice_get replicas i ≡ Some (Some script) → slice_get runs i ≡ Some run
-        → slice_get before i ≡ Some given → slice_get now i ≡ Some got
-        → IsReplicaOutput (HasBeenAt sessions since start order) disk_says may_give (i + 1) script run.commands run.failed (get_or flags i false) given got
-
--- Each replica's sink got the replies to its first commands, as many as its run tells: each but those to `pull` is that of a replica of the depot after the
--- first n changes, those before the run and then those among the places of the order, cut to its filter, where n is what its last `pull` told, and 0 before
--- one.
+-- Each replica's sink got the replies to its first commands, as many as its run tells, each when so many places of the order were taken, no fewer than at the
+-- command before: each but those to `pull` is that of a replica of the depot after the first n changes, those before the run and then those among these places,
+-- cut to its filter, where n is what its last `pull` told, and 0 before one; and each `pull` that tells a position took of the journal as it is after them.
 abbrev pub AreReplicasTold : Past → List Deed → List (Option Session) → List (Option ReplicaScript) → (ℕ → Type 0) → List Place → List SessionRun → List (Option (List ℕ)) → List (Option (List ℕ)) → Type 0
 AreReplicasTold past start sessions replicas may_give order runs before now =
     (i : ℕ) (script : ReplicaScript) (run : SessionRun) (given got : Option (List ℕ)) → slice_get replicas i ≡ Some (Some script) → slice_get runs i ≡ Some run
     → slice_get before i ≡ Some given → slice_get now i ≡ Some got
-    → IsToldOutput (IsNth past start (map (placed sessions) order)) may_give (i + 1) script run.commands run.failed given got
+    → IsToldOutput past start (map (placed sessions) order) may_give (i + 1) script run.commands run.failed given got
 
 -- a count of one of the two disks has risen
 abbrev pub OneHasRisen : ℕ → ℕ → ℕ → ℕ → Type 0

@@ -4,7 +4,7 @@ use Rattle.std.specs.Prelude.{slice_get, option_map}
 use Rattle.std.specs.Option.{IsSomeAnd}
 use Rattle.std.proofs.lemmas.Bool.{lt-ltb, ltb-true}
 use Rattle.std.proofs.lemmas.Option.{get_or_from_slice_get, slice_get-map, slice_get_cases}
-use Rattle.std.proofs.lemmas.List.{get_or_past}
+use Rattle.std.proofs.lemmas.List.{get_or_past, map-append}
 use Rattle.outside_api.specs.Disk.{Files}
 use Rattle.outside_api.specs.Says.{DiskSays, SinkSays}
 use Rattle.depot_rows.specs.depot_model.Places.{Placed}
@@ -16,9 +16,7 @@ use Rattle.lock_core.specs.Drawing.{has_other}
 use Rattle.lock_core.specs.declared.machine.LockCore.{LockCore}
 use Rattle.lock_machine.specs.Machine.{Fault}
 use Rattle.lock_machine.proofs.Places.{set_here, some_is}
-use Rattle.run_parties.proofs.Replicas.{been_longer, been_now}
 use Rattle.run_parties.proofs.Slots.{also_at, at_set}
-use Rattle.run_parties.specs.Replicas.{HasBeenAt}
 use Rattle.run_parties.specs.depot_commit.Growing.{Chronicle, HasGroups, KeepsStored}
 use Rattle.run_parties.specs.serial_depot.Running.{HasRun}
 use Rattle.run_parties.specs.serial_depot.declared.depot.SerialDepot.{SerialDepot}
@@ -26,7 +24,7 @@ use Rattle.session_loop.specs.Asking.{replica_commands}
 use Rattle.session_loop.specs.Requests.{AreRequestsOfAll}
 use Rattle.session_loop.specs.declared.reading.ReplicaScript.{ReplicaScript}
 use Rattle.session_loop.specs.declared.session.SessionRun.{SessionRun}
-use Rattle.session_turns.proofs.Following.{IsReplicaTurn, following_stays, following_turned, following_wider}
+use Rattle.session_turns.proofs.Following.{IsReplicaTurn, following_longer, following_stays, following_turned}
 use Rattle.session_turns.proofs.Telling.{along_replica, along_session}
 use Rattle.session_turns.proofs.Within.{served_other, stay_more}
 use Rattle.session_turns.specs.Answering.{has_more_at}
@@ -116,8 +114,8 @@ module _ {D K : Type 0} (disk_says : DiskSays D) (sink_says : SinkSays K) (may_g
 
 module _ {D K : Type 0} (disk_says : DiskSays D) (sink_says : SinkSays K) (may_give : ℕ → Type 0) (scene : Scene) (p : Progress) (old new : Turns D K)
     (r : AreGoing disk_says sink_says may_give scene p old) (i : ℕ) where
-  abbrev Been : List Place → SerialDepot D → Type 0
-  Been = HasBeenAt disk_says scene.sessions scene.since scene.start
+  abbrev placed_all : List Place → List Placed
+  placed_all o = map (placed scene.sessions) o
 
   abbrev Going : Progress → Type 0
   Going q = AreGoing disk_says sink_says may_give scene q new
@@ -131,21 +129,21 @@ module _ {D K : Type 0} (disk_says : DiskSays D) (sink_says : SinkSays K) (may_g
       ap (λ (b : Bool). cond b (record p { others = others_turned p.others turn }) (record p { machine = turned p.machine turn })) none in
       let now = map sink_says.given old.sinks.items in
       let now' = map sink_says.given new.sinks.items in
-      let F : List Place → Replicas → Type 0 = λ o rs. AreFollowing (Been o) disk_says may_give scene.scripts rs new.runs.items scene.before now' in
-      let stays = following_stays (Been old.order.items) disk_says may_give scene.scripts old.replicas old.runs.items new.runs.items scene.before now now'
+      let F : List Placed → Replicas → Type 0 = λ places rs. AreFollowing disk_says scene.since scene.start places may_give scene.scripts rs new.runs.items scene.before now' in
+      let stays = following_stays disk_says scene.since scene.start (placed_all old.order.items) may_give scene.scripts old.replicas old.runs.items new.runs.items scene.before now now'
       (λ j script at_script.
       let one = t.others j script at_script in
       (one.0, slice_get-map sink_says.given new.sinks.items j ∙ (ap (option_map sink_says.given) one.1 ∙ sym (slice_get-map sink_says.given old.sinks.items j)))) r.following in
-      let longer = old.order.items ++ t.grown.0 in
-      let wider = following_wider (Been old.order.items) disk_says may_give scene.scripts (Been longer)
-      (λ d been. been_longer disk_says scene.sessions scene.since scene.start old.order.items t.grown.0 d been) old.replicas new.runs.items scene.before now' stays in
+      let all : placed_all old.order.items ++ placed_all t.grown.0 ≡ placed_all new.order.items =
+      sym (map-append (placed scene.sessions) old.order.items t.grown.0) ∙ ap (map (placed scene.sessions)) (sym t.grown.1) in
+      let longer = following_longer disk_says scene.since scene.start (placed_all old.order.items) may_give scene.scripts (placed_all t.grown.0) old.replicas new.runs.items scene.before now' stays in
       record {
         how = t.how;
         stops = t.stops;
         going = subst Going (sym is) (record {
           running = t.running;
           others = r.others ∙ ap (λ (rs : Replicas). rs.others.items) (sym same);
-          following = subst (λ (o : List Place). F o new.replicas) (sym t.grown.1) (subst (F longer) (sym same) wider);
+          following = subst (F (placed_all new.order.items)) (sym same) (subst (λ (places : List Placed). F places old.replicas) all longer);
         });
         failed = t.failed;
         stay = t.stay;
@@ -167,15 +165,15 @@ module _ {D K : Type 0} (disk_says : DiskSays D) (sink_says : SinkSays K) (may_g
       let here_is = r.following.left i here.script t.answered.run here.at_script t.answered.at_run in
       let same_other : here_is.other ≡ here.left.other = some_is (sym here_is.at_other ∙ here.left.at_other) in
       let some = here.some in
-      let F : List Place → Type 0 = λ o. AreFollowing (Been o) disk_says may_give scene.scripts new.replicas new.runs.items scene.before (map sink_says.given new.sinks.items) in
+      let F : List Place → Type 0 = λ o. AreFollowing disk_says scene.since scene.start (placed_all o) may_give scene.scripts new.replicas new.runs.items scene.before (map sink_says.given new.sinks.items) in
       record {
         how = Fault;
         stops = t.failed;
         going = subst Going (sym is) (record {
           running = running t here.at_script;
           others = ap (λ (os : List ℕ). others_turned os turn) r.others ∙ sym t.others;
-          following = subst F (ap (λ (o : Vec Place Global). o.items) (sym t.order)) (following_turned (Been old.order.items) disk_says may_give scene.scripts sink_says old new
-              (been_now disk_says scene.sessions scene.since scene.start old.order.items old.depot r.running.ran) i here.script here.at_script here.left.p here.left.at_party scene.before t whole r.following (omega (arith, some, same_other)));
+          following = subst F (ap (λ (o : Vec Place Global). o.items) (sym t.order)) (following_turned disk_says scene.since scene.start (placed_all old.order.items) may_give scene.scripts sink_says old new
+              r.running.ran i here.script here.at_script here.left.p here.left.at_party scene.before t whole r.following (omega (arith, some, same_other)));
         });
         failed = λ bad.
             let run' : SessionRun = record { commands = t.answered.run.commands + 1; failed = t.failed } in

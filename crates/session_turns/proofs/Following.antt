@@ -5,15 +5,17 @@ use Rattle.std.specs.List.{list_any}
 use Rattle.std.proofs.lemmas.List.{get_or-set_other, get_or-set_same, length-append, length-set, map-set}
 use Rattle.std.proofs.lemmas.Option.{get_or_from_slice_get, slice_get-map, slice_get_within}
 use Rattle.outside_api.specs.Says.{DiskSays, SinkSays}
+use Rattle.depot_rows.specs.depot_model.Deeds.{Deed}
+use Rattle.depot_rows.specs.depot_model.Places.{Placed}
 use Rattle.lock_machine.proofs.Places.{set_here, set_there, some_is}
 use Rattle.run_parties.proofs.Outputs.{got_more}
 use Rattle.run_parties.proofs.Slots.{at_set}
-use Rattle.run_parties.proofs.replica_turns.Turns.{goes_on, widened}
+use Rattle.run_parties.proofs.replica_turns.Turns.{goes_on, going_longer}
 use Rattle.run_parties.specs.Giving.{Got, HasGiven}
 use Rattle.run_parties.specs.Replicas.{AreLost}
 use Rattle.run_parties.specs.replica_turns.Going.{HasGotTexts, IsGoing, is_lost, reply_text}
 use Rattle.run_parties.specs.replica_turns.declared.party.ReplicaParty.{ReplicaParty}
-use Rattle.run_parties.specs.serial_depot.declared.depot.SerialDepot.{SerialDepot}
+use Rattle.run_parties.specs.serial_depot.Running.{HasRun}
 use Rattle.session_loop.specs.Asking.{AreWellFormed}
 use Rattle.session_loop.specs.declared.reading.ReplicaScript.{ReplicaScript}
 use Rattle.session_loop.specs.declared.session.SessionRun.{SessionRun}
@@ -59,14 +61,14 @@ pub record IsReplicaTurn {D K : Type 0} (disk_says : DiskSays D) (sink_says : Si
 
 -- ---- all replicas
 
-module _ {D : Type 0} (HasBeen : SerialDepot D → Type 0) (disk_says : DiskSays D) (may_give : ℕ → Type 0) (scripts : List (Option ReplicaScript)) where
+module _ {D : Type 0} (disk_says : DiskSays D) (since : ℕ) (start : List Deed) (places : List Placed) (may_give : ℕ → Type 0) (scripts : List (Option ReplicaScript)) where
   abbrev Following : Replicas → List SessionRun → List (Option (List ℕ)) → List (Option (List ℕ)) → Type 0
-  Following replicas runs before now = AreFollowing HasBeen disk_says may_give scripts replicas runs before now
+  Following replicas runs before now = AreFollowing disk_says since start places may_give scripts replicas runs before now
 
-  -- over more depots
-  pub following_wider : (Other : SerialDepot D → Type 0) → ((depot : SerialDepot D) → HasBeen depot → Other depot) → (replicas : Replicas) (runs : List SessionRun) (before now : List (Option (List ℕ)))
-      → Following replicas runs before now → AreFollowing Other disk_says may_give scripts replicas runs before now
-  following_wider Other more replicas runs before now h = record {
+  -- over more places
+  pub following_longer : (more : List Placed) (replicas : Replicas) (runs : List SessionRun) (before now : List (Option (List ℕ))) → Following replicas runs before now
+      → AreFollowing disk_says since start (places ++ more) may_give scripts replicas runs before now
+  following_longer more replicas runs before now h = record {
     count = h.count;
     none = h.none;
     left = h.left;
@@ -77,7 +79,7 @@ module _ {D : Type 0} (HasBeen : SerialDepot D → Type 0) (disk_says : DiskSays
         record {
           texts = g.texts;
           count = g.count;
-          going = widened HasBeen disk_says may_give (i + 1) script Other more p g.texts (get_or h.flags i false) g.going;
+          going = going_longer disk_says since start places may_give (i + 1) script more p g.texts (get_or h.flags i false) g.going;
           got = g.got;
         };
   }
@@ -98,7 +100,7 @@ module _ {D : Type 0} (HasBeen : SerialDepot D → Type 0) (disk_says : DiskSays
 
   -- ---- a turn of one of them
 
-  module _ {K : Type 0} (sink_says : SinkSays K) (old new : Turns D K) (been : HasBeen old.depot) (i : ℕ) (script : ReplicaScript) (at_script : slice_get scripts i ≡ Some (Some script)) (p : ReplicaParty)
+  module _ {K : Type 0} (sink_says : SinkSays K) (old new : Turns D K) (ran : HasRun disk_says old.depot since start places) (i : ℕ) (script : ReplicaScript) (at_script : slice_get scripts i ≡ Some (Some script)) (p : ReplicaParty)
       (at_party : slice_get old.replicas.parties.items i ≡ Some (Some p)) (before : List (Option (List ℕ))) (t : IsReplicaTurn disk_says sink_says i p old new) (whole : t.answered.run.failed ≡ false)
       (h : Following old.replicas old.runs.items before (map sink_says.given old.sinks.items)) where
     abbrev run' : SessionRun
@@ -158,7 +160,7 @@ module _ {D : Type 0} (HasBeen : SerialDepot D → Type 0) (disk_says : DiskSays
               omega (arith, one, before_it, some);
         }
 
-    gave_here : (had : Option (List ℕ)) → slice_get before i ≡ Some had → AreWellFormed script.session.commands → HasGiven HasBeen disk_says may_give (i + 1) script next run' (get_or flags' i false) had (sink_says.given t.answered.new)
+    gave_here : (had : Option (List ℕ)) → slice_get before i ≡ Some had → AreWellFormed script.session.commands → HasGiven disk_says since start places may_give (i + 1) script next run' (get_or flags' i false) had (sink_says.given t.answered.new)
     gave_here had at_had formed =
         let got_at : slice_get (map sink_says.given old.sinks.items) i ≡ Some (sink_says.given t.answered.sink) = slice_get-map sink_says.given old.sinks.items i ∙ ap (option_map sink_says.given) t.answered.at_sink in
         let g = h.gave i script t.answered.run p had (sink_says.given t.answered.sink) at_script t.answered.at_run at_party at_had got_at formed in
@@ -171,8 +173,8 @@ module _ {D : Type 0} (HasBeen : SerialDepot D → Type 0) (disk_says : DiskSays
           texts = g.texts ++ text ∷ [];
           count = (let long = length-append g.texts (text ∷ []) in let same = g.count in omega (arith, long, same));
           going =
-              subst (IsGoing HasBeen disk_says may_give (i + 1) script next (g.texts ++ text ∷ [])) (sym flag_here)
-              (goes_on HasBeen disk_says may_give (i + 1) script old.depot p next g.texts (get_or h.flags i false) result been g.going t.stepped.turned);
+              subst (IsGoing disk_says since start places may_give (i + 1) script next (g.texts ++ text ∷ [])) (sym flag_here)
+              (goes_on disk_says since start places may_give (i + 1) script old.depot p next g.texts (get_or h.flags i false) result ran g.going t.stepped.turned);
           got = got_more t.failed g.texts text had (sink_says.given t.answered.sink) (sink_says.given t.answered.new) (subst P whole g.got) gives;
         }
 
@@ -215,13 +217,13 @@ module _ {D : Type 0} (HasBeen : SerialDepot D → Type 0) (disk_says : DiskSays
                 let got_is : sink_says.given t.answered.new ≡ got =
                 some_is (sym (set_here (map sink_says.given old.sinks.items) i (sink_says.given t.answered.sink) (sink_says.given t.answered.new) (slice_get-map sink_says.given old.sinks.items i ∙ ap (option_map sink_says.given) t.answered.at_sink))
                 ∙ (sym (ap (λ (os : List (Option (List ℕ))). slice_get os i) sinks_are) ∙ (ap (slice_get (map sink_says.given new.sinks.items)) here.0 ∙ at_got))) in
-                let G : ℕ → ReplicaScript → ReplicaParty → SessionRun → Option (List ℕ) → Type 0 = λ k s r x o. HasGiven HasBeen disk_says may_give (k + 1) s r x (get_or flags' k false) had o in
+                let G : ℕ → ReplicaScript → ReplicaParty → SessionRun → Option (List ℕ) → Type 0 = λ k s r x o. HasGiven disk_says since start places may_give (k + 1) s r x (get_or flags' k false) had o in
                 let first : G i script next run' (sink_says.given t.answered.new) = gave_here had (ap (slice_get before) here.0 ∙ at_had) (subst (λ (s : ReplicaScript). AreWellFormed s.session.commands) (sym same) formed) in
                 subst (λ (x : SessionRun). G j script' q x got) (sym here.1) (subst (λ (k : ℕ). G k script' q run' got) here.0 (subst (λ (s : ReplicaScript). G i s q run' got) same
                 (subst (λ (r : ReplicaParty). G i script r run' got) party (subst (λ (o : Option (List ℕ)). G i script next run' o) got_is first))))
             | inr there ↦
                 let g = h.gave j script' run q had got at_script' there.1 (sym (set_there old.replicas.parties.items i j (Some next) there.0) ∙ (sym (ap (λ (ps : List (Option ReplicaParty)). slice_get ps j) parties_are) ∙ at_q)) at_had
                 (sym (set_there (map sink_says.given old.sinks.items) i j (sink_says.given t.answered.new) there.0) ∙ (sym (ap (λ (os : List (Option (List ℕ))). slice_get os j) sinks_are) ∙ at_got)) formed in
-                subst (λ (b : Bool). HasGiven HasBeen disk_says may_give (j + 1) script' q run b had got) (sym (flag_there j there.0)) g
+                subst (λ (b : Bool). HasGiven disk_says since start places may_give (j + 1) script' q run b had got) (sym (flag_there j there.0)) g
           ];
     }

@@ -5,6 +5,8 @@ use Rattle.std.specs.List.{list_any}
 use Rattle.std.proofs.lemmas.List.{length-map}
 use Rattle.std.proofs.lemmas.Option.{slice_get-map}
 use Rattle.outside_api.specs.Says.{DiskSays}
+use Rattle.depot_rows.specs.depot_model.Deeds.{Deed}
+use Rattle.depot_rows.specs.depot_model.Places.{Placed}
 use Rattle.lock_machine.proofs.Places.{some_is}
 use Rattle.run_parties.proofs.Fresh.{party_at}
 use Rattle.run_parties.proofs.replica_turns.Turns.{begins}
@@ -12,7 +14,6 @@ use Rattle.run_parties.specs.Asking.{AreFresh, IsFreshParty, fresh, left_in}
 use Rattle.run_parties.specs.Giving.{HasGiven}
 use Rattle.run_parties.specs.replica_turns.Going.{IsFresh, IsGoing}
 use Rattle.run_parties.specs.replica_turns.declared.party.ReplicaParty.{ReplicaParty}
-use Rattle.run_parties.specs.serial_depot.declared.depot.SerialDepot.{SerialDepot}
 use Rattle.session_loop.specs.Asking.{AreWellFormed, replica_commands}
 use Rattle.session_loop.specs.declared.reading.ReplicaScript.{ReplicaScript}
 use Rattle.session_loop.specs.declared.session.SessionRun.{SessionRun}
@@ -54,7 +55,7 @@ none_raised : (scripts : List (Option ReplicaScript)) → list_any (λ (flag : B
 none_raised [] = refl
 none_raised (script ∷ scripts) = none_raised scripts
 
-module _ {D : Type 0} (HasBeen : SerialDepot D → Type 0) (disk_says : DiskSays D) (may_give : ℕ → Type 0) (scripts : List (Option ReplicaScript)) (replicas : Replicas) (bounds : List ℕ) (before : List (Option (List ℕ)))
+module _ {D : Type 0} (disk_says : DiskSays D) (since : ℕ) (start : List Deed) (places : List Placed) (may_give : ℕ → Type 0) (scripts : List (Option ReplicaScript)) (replicas : Replicas) (bounds : List ℕ) (before : List (Option (List ℕ)))
     (are : AreFresh may_give 1 scripts replicas.parties.items) (others : replicas.others.items ≡ replica_totals scripts) where
   other_at : (i : ℕ) (script : Option ReplicaScript) → slice_get scripts i ≡ Some script → slice_get replicas.others.items i ≡ Some (length (replica_commands script))
   other_at i script at =
@@ -75,7 +76,7 @@ module _ {D : Type 0} (HasBeen : SerialDepot D → Type 0) (disk_says : DiskSays
       }
 
   fresh_given : (i : ℕ) (script : ReplicaScript) (q : ReplicaParty) (had got : Option (List ℕ)) → AreWellFormed script.session.commands → slice_get scripts i ≡ Some (Some script)
-      → slice_get replicas.parties.items i ≡ Some (Some q) → had ≡ got → HasGiven HasBeen disk_says may_give (i + 1) script q fresh (get_or (unraised scripts) i false) had got
+      → slice_get replicas.parties.items i ≡ Some (Some q) → had ≡ got → HasGiven disk_says since start places may_give (i + 1) script q fresh (get_or (unraised scripts) i false) had got
   fresh_given i script q had got well at at_q same =
       let p = party_at may_give 1 scripts replicas.parties.items are i script at in
       let is : p.0 ≡ q = some_is (some_is (sym p.1 ∙ at_q)) in
@@ -85,11 +86,11 @@ module _ {D : Type 0} (HasBeen : SerialDepot D → Type 0) (disk_says : DiskSays
       record {
         texts = [];
         count = refl;
-        going = subst (IsGoing HasBeen disk_says may_give (i + 1) script q []) (sym (unraised_at scripts i)) (begins HasBeen disk_says may_give (i + 1) script q one well);
+        going = subst (IsGoing disk_says since start places may_give (i + 1) script q []) (sym (unraised_at scripts i)) (begins disk_says since start places may_give (i + 1) script q one well);
         got = sym same ∙ sym (extended-nil had);
       }
 
-  pub following_first : replicas.lost ≡ false → AreFollowing HasBeen disk_says may_give scripts replicas (fresh_runs bounds) before before
+  pub following_first : replicas.lost ≡ false → AreFollowing disk_says since start places may_give scripts replicas (fresh_runs bounds) before before
   following_first none = record {
     count = ap (length {A = ℕ}) others ∙ length-map scripts (λ (s : Option ReplicaScript). length (replica_commands s));
     none = λ i other at_none at_other. some_is (sym at_other ∙ other_at i None at_none);
@@ -99,6 +100,6 @@ module _ {D : Type 0} (HasBeen : SerialDepot D → Type 0) (disk_says : DiskSays
     flags = unraised scripts;
     told = record { count = length-map scripts (λ (script : Option ReplicaScript). false); none = λ i at_none. unraised_at scripts i; one = none ∙ sym (none_raised scripts) };
     gave = λ i script run p given got at_script at_run at_party at_given at_got well.
-        let P : SessionRun → Type 0 = λ r. HasGiven HasBeen disk_says may_give (i + 1) script p r (get_or (unraised scripts) i false) given got in
+        let P : SessionRun → Type 0 = λ r. HasGiven disk_says since start places may_give (i + 1) script p r (get_or (unraised scripts) i false) given got in
         subst P (sym (fresh_at bounds i run at_run)) (fresh_given i script p given got well at_script at_party (some_is (sym at_given ∙ at_got)));
   }

@@ -12,7 +12,6 @@ use Rattle.depot_rows.specs.depot_model.declared.request.Session.{Session}
 use Rattle.depot_runs.specs.Run.{placed}
 use Rattle.lock_machine.specs.Runs.{beginning}
 use Rattle.run_parties.proofs.Making.{asked_count}
-use Rattle.run_parties.specs.Replicas.{HasBeenAt}
 use Rattle.run_parties.specs.Served.{AreApart}
 use Rattle.run_parties.specs.replica_turns.Master.{IsMaster, Past}
 use Rattle.run_parties.specs.depot_commit.Growing.{Chronicle}
@@ -58,10 +57,10 @@ module _ {D K : Type 0} (disk_says : DiskSays D) (sink_says : SinkSays K) (may_g
         → AreGoing disk_says sink_says may_give scene_of progress_at_first turns_at_first
     begins formed as_many apart ran =
         let before = map sink_says.given sinks.items in
-        let HasBeen = HasBeenAt disk_says sessions since start order.items in
+        let places = map (placed sessions) order.items in
         let U : List SessionRun → List Place → Type 0 = λ rs o. IsUnderWay may_give scene_of (beginning b.requests) rs before o in
         let R : List Place → Type 0 = λ o. HasRun disk_says depot since start (map (placed sessions) o) in
-        let F : List SessionRun → Type 0 = λ rs. AreFollowing HasBeen disk_says may_give scripts new.replicas rs before before in
+        let F : List SessionRun → Type 0 = λ rs. AreFollowing disk_says since start places may_give scripts new.replicas rs before before in
         record {
           running = record {
             formed = formed;
@@ -74,7 +73,7 @@ module _ {D K : Type 0} (disk_says : DiskSays D) (sink_says : SinkSays K) (may_g
             ran = subst R (sym none) ran;
           };
           others = sym b.others;
-          following = subst F (sym b.runs) (following_first HasBeen disk_says may_give scripts new.replicas new.totals.items before b.fresh b.others b.lost);
+          following = subst F (sym b.runs) (following_first disk_says since start places may_give scripts new.replicas new.totals.items before b.fresh b.others b.lost);
         }
 
     pub along_first : (past : Past) (c : Chronicle) → IsMaster disk_says past start [] depot c → AreAlong disk_says sink_says may_give past scene_of turns_at_first

@@ -16,11 +16,12 @@ use Rattle.run_parties.proofs.Fresh.{party_at}
 use Rattle.run_parties.proofs.Outputs.{got_more}
 use Rattle.run_parties.proofs.Slots.{at_set}
 use Rattle.run_parties.proofs.replica_turns.Along.{along_first, along_grown, along_turned}
-use Rattle.run_parties.proofs.replica_turns.Masters.{nth_longer, unmoved_master}
+use Rattle.run_parties.proofs.replica_turns.Masters.{unmoved_master}
 use Rattle.run_parties.specs.Asking.{AreFresh}
 use Rattle.run_parties.specs.Giving.{Got}
+use Rattle.run_parties.specs.replica_turns.Along.{IsAlong}
 use Rattle.run_parties.specs.replica_turns.Going.{HasGotTexts, IsFresh, reply_text}
-use Rattle.run_parties.specs.replica_turns.Master.{IsMaster, IsNth, Past}
+use Rattle.run_parties.specs.replica_turns.Master.{IsMaster, Past}
 use Rattle.run_parties.specs.replica_turns.declared.party.ReplicaParty.{ReplicaParty}
 use Rattle.run_parties.specs.depot_commit.Growing.{Chronicle, HasGroups, KeepsStored}
 use Rattle.run_parties.specs.serial_depot.declared.depot.SerialDepot.{SerialDepot}
@@ -38,11 +39,12 @@ use Rattle.depot_rows.specs.table_changes.Changed.{rows_of}
 use Rattle.wire_text.proofs.Pieces.{extended-nil}
 
 module _ {D K : Type 0} (disk_says : DiskSays D) (sink_says : SinkSays K) (may_give : ℕ → Type 0) (past : Past) (scene : Scene) (old new : Turns D K) (h : AreAlong disk_says sink_says may_give past scene old) where
-  abbrev Known : List Place → ℕ → List Deed → Type 0
-  Known o = IsNth past scene.start (map (placed scene.sessions) o)
-
   abbrev order : List Place
   order = old.order.items
+
+  -- what they were placed by
+  abbrev places : List Placed
+  places = map (placed scene.sessions) order
 
   -- ---- a session's turn, at which no replica got anything
 
@@ -58,15 +60,11 @@ module _ {D K : Type 0} (disk_says : DiskSays D) (sink_says : SinkSays K) (may_g
         record {
           texts = t.texts;
           count = t.count;
-          along = along_grown (Known order) (Known new.order.items) wider may_give (i + 1) script p h.all grows.0 grows.2 t.texts t.along;
+          along = subst (λ (ps : List Placed). IsAlong past scene.start ps may_give (i + 1) script p grows.0 t.texts) (sym (ap (map (placed scene.sessions)) longer ∙ map-append (placed scene.sessions) order more))
+              (along_grown past scene.start places may_give (i + 1) script p h.all grows.0 (map (placed scene.sessions) more) grows.2 t.texts t.along);
           got = t.got;
         };
   }
-    where
-      wider : (n : ℕ) (d : List Deed) → Known order n d → Known new.order.items n d
-      wider n d is =
-          let P : List Placed → Type 0 = λ ps. IsNth past scene.start ps n d in
-          subst P (sym (ap (map (placed scene.sessions)) longer ∙ map-append (placed scene.sessions) order more)) (nth_longer past scene.start (map (placed scene.sessions) order) (map (placed scene.sessions) more) n d is)
 
   -- ---- a replica's turn
 
@@ -88,7 +86,7 @@ module _ {D K : Type 0} (disk_says : DiskSays D) (sink_says : SinkSays K) (may_g
     got_at : slice_get (map sink_says.given old.sinks.items) i ≡ Some (sink_says.given t.answered.sink)
     got_at = slice_get-map sink_says.given old.sinks.items i ∙ ap (option_map sink_says.given) t.answered.at_sink
 
-    told_here : (had : Option (List ℕ)) → slice_get scene.before i ≡ Some had → AreWellFormed script.session.commands → HasToldAlong (Known order) may_give (i + 1) script next run' h.all had (sink_says.given t.answered.new)
+    told_here : (had : Option (List ℕ)) → slice_get scene.before i ≡ Some had → AreWellFormed script.session.commands → HasToldAlong past scene.start places may_give (i + 1) script next run' h.all had (sink_says.given t.answered.new)
     told_here had at_had formed =
         let g = h.told i script t.answered.run p had (sink_says.given t.answered.sink) at_script t.answered.at_run at_party at_had got_at formed in
         let result = t.stepped.result in
@@ -100,7 +98,7 @@ module _ {D K : Type 0} (disk_says : DiskSays D) (sink_says : SinkSays K) (may_g
           texts = g.texts ++ text ∷ [];
           count = (let long = length-append g.texts (text ∷ []) in let same = g.count in omega (arith, long, same));
           along =
-              along_turned disk_says reads past scene.start (map (placed scene.sessions) order) old.depot h.all h.master tells may_give (i + 1) script p next g.texts result g.along t.stepped.turned;
+              along_turned disk_says reads past scene.start places old.depot h.all h.master tells may_give (i + 1) script p next g.texts result g.along t.stepped.turned;
           got = got_more t.failed g.texts text had (sink_says.given t.answered.sink) (sink_says.given t.answered.new) (subst P whole g.got) gives;
         }
 
@@ -109,7 +107,7 @@ module _ {D K : Type 0} (disk_says : DiskSays D) (sink_says : SinkSays K) (may_g
         let Now : Vec Place Global → Type 0 = λ o. AreAlong disk_says sink_says may_give past scene (record new { order = o }) in
         subst Now (sym t.order) (record {
           all = h.all;
-          master = unmoved_master disk_says past scene.start (map (placed scene.sessions) order) old.depot new.depot h.all h.master stored (ap rows_of t.tables) groups;
+          master = unmoved_master disk_says past scene.start places old.depot new.depot h.all h.master stored (ap rows_of t.tables) groups;
           told = λ j script' run q had got at_script' at_run at_q at_had at_got formed.
               elim (at_set old.runs.items i j run' run (ap (λ (rs : List SessionRun). slice_get rs j) (sym t.answered.runs) ∙ at_run)) [
                 | inl here ↦
@@ -118,7 +116,7 @@ module _ {D K : Type 0} (disk_says : DiskSays D) (sink_says : SinkSays K) (may_g
                     let got_is : sink_says.given t.answered.new ≡ got =
                     some_is (sym (set_here (map sink_says.given old.sinks.items) i (sink_says.given t.answered.sink) (sink_says.given t.answered.new) got_at)
                     ∙ (sym (ap (λ (os : List (Option (List ℕ))). slice_get os i) sinks_are) ∙ (ap (slice_get (map sink_says.given new.sinks.items)) here.0 ∙ at_got))) in
-                    let G : ℕ → ReplicaScript → ReplicaParty → SessionRun → Option (List ℕ) → Type 0 = λ k s r x o. HasToldAlong (Known order) may_give (k + 1) s r x h.all had o in
+                    let G : ℕ → ReplicaScript → ReplicaParty → SessionRun → Option (List ℕ) → Type 0 = λ k s r x o. HasToldAlong past scene.start places may_give (k + 1) s r x h.all had o in
                     let first : G i script next run' (sink_says.given t.answered.new) = told_here had (ap (slice_get scene.before) here.0 ∙ at_had) (subst (λ (s : ReplicaScript). AreWellFormed s.session.commands) (sym same) formed) in
                     subst (λ (x : SessionRun). G j script' q x got) (sym here.1) (subst (λ (k : ℕ). G k script' q run' got) here.0 (subst (λ (s : ReplicaScript). G i s q run' got) same
                     (subst (λ (r : ReplicaParty). G i script r run' got) party (subst (λ (o : Option (List ℕ)). G i script next run' o) got_is first))))
@@ -136,18 +134,18 @@ along_begins disk_says sink_says may_give past scene turns all are runs_are befo
   all = all;
   master = master;
   told = λ i script run p had got at_script at_run at_party at_had at_got formed.
-      let Known = IsNth past scene.start (map (placed scene.sessions) turns.order.items) in
+      let places = map (placed scene.sessions) turns.order.items in
       let q = party_at may_give 1 scene.scripts turns.replicas.parties.items are i script at_script in
       let is : q.0 ≡ p = some_is (some_is (sym q.1 ∙ at_party)) in
       let e : 1 + i ≡ i + 1 = omega arith in
       let F : ℕ → ReplicaParty → Type 0 = λ n r. IsFresh may_give n script r in
       let one : IsFresh may_give (i + 1) script p = subst (λ (n : ℕ). F n p) e (subst (F (1 + i)) is q.2.0) in
       let same : had ≡ got = some_is (sym at_had ∙ (ap (λ (os : List (Option (List ℕ))). slice_get os i) before_is ∙ at_got)) in
-      let P : SessionRun → Type 0 = λ r. HasToldAlong Known may_give (i + 1) script p r all had got in
+      let P : SessionRun → Type 0 = λ r. HasToldAlong past scene.start places may_give (i + 1) script p r all had got in
       subst P (sym (fresh_at turns.totals.items i run (ap (λ (rs : List SessionRun). slice_get rs i) (sym runs_are) ∙ at_run))) (record {
         texts = [];
         count = refl;
-        along = along_first Known may_give (i + 1) script p all one formed;
+        along = along_first past scene.start places may_give (i + 1) script p all one formed;
         got = sym same ∙ sym (extended-nil had);
       });
 }

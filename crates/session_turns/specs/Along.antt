@@ -6,7 +6,7 @@ use Rattle.depot_rows.specs.depot_model.Places.{Placed}
 use Rattle.depot_runs.specs.Run.{placed}
 use Rattle.run_parties.specs.replica_turns.Along.{IsAlong}
 use Rattle.run_parties.specs.replica_turns.Going.{HasGotTexts}
-use Rattle.run_parties.specs.replica_turns.Master.{HasGrownTo, IsMaster, IsNth, Past}
+use Rattle.run_parties.specs.replica_turns.Master.{HasGrownTo, IsMaster, Past}
 use Rattle.run_parties.specs.replica_turns.declared.party.ReplicaParty.{ReplicaParty}
 use Rattle.run_parties.specs.depot_commit.Growing.{Chronicle}
 use Rattle.run_parties.specs.serial_depot.declared.depot.SerialDepot.{SerialDepot}
@@ -21,10 +21,10 @@ abbrev pub GrowsTo : {D : Type 0} → DiskSays D → Past → List Deed → List
 GrowsTo disk_says past start places depot c = (now : Chronicle) × IsMaster disk_says past start places depot now × HasGrownTo c now
 
 -- The sink has the replies of a replica to the commands that its run tells of, as it tells them along the depot that it follows.
-pub record HasToldAlong (Known : ℕ → List Deed → Type 0) (may_give : ℕ → Type 0) (party : ℕ) (script : ReplicaScript) (p : ReplicaParty) (run : SessionRun) (c : Chronicle) (before now : Option (List ℕ)) : Type 0 where
+pub record HasToldAlong (past : Past) (start : List Deed) (places : List Placed) (may_give : ℕ → Type 0) (party : ℕ) (script : ReplicaScript) (p : ReplicaParty) (run : SessionRun) (c : Chronicle) (before now : Option (List ℕ)) : Type 0 where
   pub texts : List (List ℕ)
   pub count : length texts ≡ run.commands
-  pub along : IsAlong Known may_give party script p c texts
+  pub along : IsAlong past start places may_give party script p c texts
   pub got : HasGotTexts run.failed texts before now
 
 -- The depot is one that replicas follow, and each of them tells along it, where its commands are well-formed.
@@ -33,4 +33,4 @@ pub record AreAlong {D K : Type 0} (disk_says : DiskSays D) (sink_says : SinkSay
   pub master : IsMaster disk_says past scene.start (map (placed scene.sessions) turns.order.items) turns.depot all
   pub told : (i : ℕ) (script : ReplicaScript) (run : SessionRun) (p : ReplicaParty) (had got : Option (List ℕ)) → slice_get scene.scripts i ≡ Some (Some script) → slice_get turns.runs.items i ≡ Some run
       → slice_get turns.replicas.parties.items i ≡ Some (Some p) → slice_get scene.before i ≡ Some had → slice_get (map sink_says.given turns.sinks.items) i ≡ Some got → AreWellFormed script.session.commands
-      → HasToldAlong (IsNth past scene.start (map (placed scene.sessions) turns.order.items)) may_give (i + 1) script p run all had got
+      → HasToldAlong past scene.start (map (placed scene.sessions) turns.order.items) may_give (i + 1) script p run all had got

@@ -3,12 +3,15 @@ use Rattle.std.specs.Prelude.{◌≡◌, ◌||◌, ◌+◌, ℕ, Bool, true, fal
 use Rattle.std.specs.List.{sum}
 use Rattle.outside_api.specs.Says.{DiskSays, SinkSays}
 use Rattle.archive_file.specs.Archive as archives
+use Rattle.depot_rows.specs.depot_model.Deeds.{Deed}
+use Rattle.depot_rows.specs.depot_model.Places.{Placed}
 use Rattle.depot_rows.specs.depot_model.Tables.{needs_of}
+use Rattle.depot_runs.specs.Run.{placed}
 use Rattle.disk_journal.specs.Stands.{disk_of}
 use Rattle.lock_machine.specs.Machine.{Finish}
 use Rattle.lock_machine.specs.Turns.{turns_left}
 use Rattle.run_parties.specs.Giving.{HasGiven}
-use Rattle.run_parties.specs.Replicas.{AreLost, HasBeenAt, HasLost}
+use Rattle.run_parties.specs.Replicas.{AreLost, HasLost}
 use Rattle.run_parties.specs.replica_turns.Going.{IsTurned, is_lost, reply_text}
 use Rattle.run_parties.specs.replica_turns.Master.{Past}
 use Rattle.run_parties.specs.replica_turns.declared.party.Answered.{Answered}
@@ -39,7 +42,7 @@ pub record IsLeft (script : ReplicaScript) (replicas : Replicas) (i : ℕ) (run 
 
 -- Each replica's sink has the replies to the commands that its run tells of, where its commands are well-formed; and no other party has commands left as one. A
 -- flag a party tells whether one of its replies is that of a failed disk.
-pub record AreFollowing {D : Type 0} (HasBeen : SerialDepot D → Type 0) (disk_says : DiskSays D) (may_give : ℕ → Type 0) (scripts : List (Option ReplicaScript)) (replicas : Replicas) (runs : List SessionRun) (before now : List (Option (List ℕ))) : Type 0 where
+pub record AreFollowing {D : Type 0} (disk_says : DiskSays D) (since : ℕ) (start : List Deed) (places : List Placed) (may_give : ℕ → Type 0) (scripts : List (Option ReplicaScript)) (replicas : Replicas) (runs : List SessionRun) (before now : List (Option (List ℕ))) : Type 0 where
   pub count : length replicas.others.items ≡ length scripts
   pub none : (i other : ℕ) → slice_get scripts i ≡ Some None → slice_get replicas.others.items i ≡ Some other → other ≡ 0
   pub left : (i : ℕ) (script : ReplicaScript) (run : SessionRun) → slice_get scripts i ≡ Some (Some script) → slice_get runs i ≡ Some run → IsLeft script replicas i run
@@ -47,13 +50,13 @@ pub record AreFollowing {D : Type 0} (HasBeen : SerialDepot D → Type 0) (disk_
   pub told : AreLost scripts flags replicas.lost
   pub gave : (i : ℕ) (script : ReplicaScript) (run : SessionRun) (p : ReplicaParty) (given got : Option (List ℕ)) → slice_get scripts i ≡ Some (Some script) → slice_get runs i ≡ Some run
       → slice_get replicas.parties.items i ≡ Some (Some p) → slice_get before i ≡ Some given → slice_get now i ≡ Some got → AreWellFormed script.session.commands
-      → HasGiven HasBeen disk_says may_give (i + 1) script p run (get_or flags i false) given got
+      → HasGiven disk_says since start places may_give (i + 1) script p run (get_or flags i false) given got
 
 -- The sessions are running, and the replicas are following.
 pub record AreGoing {D K : Type 0} (disk_says : DiskSays D) (sink_says : SinkSays K) (may_give : ℕ → Type 0) (scene : Scene) (progress : Progress) (turns : Turns D K) : Type 0 where
   pub running : IsRunning disk_says sink_says may_give scene progress.machine turns
   pub others : progress.others ≡ turns.replicas.others.items
-  pub following : AreFollowing (HasBeenAt disk_says scene.sessions scene.since scene.start turns.order.items) disk_says may_give scene.scripts turns.replicas turns.runs.items scene.before (map sink_says.given turns.sinks.items)
+  pub following : AreFollowing disk_says scene.since scene.start (map (placed scene.sessions) turns.order.items) may_give scene.scripts turns.replicas turns.runs.items scene.before (map sink_says.given turns.sinks.items)
 
 -- ---- a replica's turn
 

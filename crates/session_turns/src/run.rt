@@ -79,7 +79,7 @@ pub fn run_sessions<D: Disk, K: Sink + Drop, C: Clock, G: Gate>(
     ensures replicas { (since : ℕ) (start : List Deed) → All (λ session. AreWellFormed (commands_of session)) sessions.items → All (λ script. AreWellFormed (replica_commands script)) replicas.items → HasRun D.says depot since start [] →
         IfOk result (λ ran. AreReplicasServed D.says (C.says.may_give clock.now) sessions.items replicas.items since start ran.order.items ran.runs.items ran.lost (map K.says.given sinks.items) (map K.says.given ran.sinks.items)) }
     // Along a depot that they follow the replies of replicas are, but for those to `pull`, those of the depot after its first changes, as many as the last
-    // `pull` told, cut to their filters.
+    // `pull` told, cut to their filters; and each `pull` that tells a position took of the journal as it was then.
     ensures told { (past : Past) (since : ℕ) (start : List Deed) (c : Chronicle) → All (λ session. AreWellFormed (commands_of session)) sessions.items → All (λ script. AreWellFormed (replica_commands script)) replicas.items →
         HasRun D.says depot since start [] → IsMaster D.says past start [] depot c →
         IfOk result (λ ran. AreReplicasTold past start sessions.items replicas.items (C.says.may_give clock.now) ran.order.items ran.runs.items (map K.says.given sinks.items) (map K.says.given ran.sinks.items)) }

@@ -44,6 +44,7 @@ master_idle disk_says past start places more depot c master idle = record {
   each = λ n within.
       let was = master.each n within in
       record { depot = was.depot; is = nth_longer past start places more n was.depot was.is; stand = was.stand; kept = was.kept };
+  fit = master.fit;
 }
 
 -- what grew by a place is what it changed, and nothing where a disk failed

@@ -11,9 +11,8 @@ use crate::of_archive::OfArchive;
 use crate::serving::Serving;
 use crate::stored_archive::StoredArchive;
 use crate::written_journal::WrittenJournal;
-use depot_commit::Imaging;
 use depot_rows::model::Request;
-use locked_tables::{Naming, OrderWords, PartyPass};
+use locked_tables::{OrderWords, PartyPass};
 use outside_api::Disk;
 use party_marks::{MarkPass, MarkWords, Marking, Marks};
 use replica_turns::{Answered, ReplicaParty};
@@ -63,7 +62,7 @@ fn mark_lost<N: Marking>(
     }
 }
 
-impl<D: Disk, N: Naming + Imaging + Serving> CommonDepot<D, N> {
+impl<D: Disk, N: Serving> CommonDepot<D, N> {
     /// Answers a command of a replica that is neither a `pull` nor a `print`, from the replica's own rows.
     /// The party learns all places so far.
     pub(crate) fn answer_alone(
@@ -83,7 +82,7 @@ impl<D: Disk, N: Naming + Imaging + Serving> CommonDepot<D, N> {
     }
 }
 
-impl<D: Disk, N: Naming + Marking + Imaging + Serving> WrittenJournal<D, N> {
+impl<D: Disk, N: Serving> WrittenJournal<D, N> {
     /// Answers a `pull` of a replica, which fetches of the journal, and makes a mark where the answer tells
     /// that its disk failed. Then the lock of the order is taken too, and the party learns all places so
     /// far.
@@ -112,7 +111,7 @@ impl<D: Disk, N: Naming + Marking + Imaging + Serving> WrittenJournal<D, N> {
     }
 }
 
-impl<D: Disk, N: Naming + Marking + Imaging + Serving> StoredArchive<D, N> {
+impl<D: Disk, N: Serving> StoredArchive<D, N> {
     /// Answers a `print` of a replica, with the contents that it reads, and makes a mark where the answer
     /// tells that the archive's disk failed. Then the lock of the order is taken too, and the party learns
     /// all places so far.

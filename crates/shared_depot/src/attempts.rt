@@ -29,12 +29,11 @@ use crate::stored_archive::StoredArchive;
 use crate::written_journal::{WrittenJournal, share_tables};
 use command_core::{Outcome, evaluate};
 use command_needs::{Needs, request_needs};
-use depot_commit::{Imaging, Told, tell};
+use depot_commit::{Told, tell};
 use depot_rows::model::Request;
 use depot_rows::records::TableId;
 use locked_tables::{Naming, OrderWords};
 use outside_api::{Disk, Gate};
-use party_marks::Marking;
 use std::alloc::{AllocError, Global};
 use std::sync::{MutexGuard, Wait};
 use table_locks::{Confirmed, Gathered, gather};
@@ -51,7 +50,7 @@ fn may_store_so(told: &Told, may: bool) -> bool
 }
 
 /// The lock of the archive, which is given back where it isn't needed any more.
-fn kept_where<'a, D: Disk, N: Naming + Imaging + Serving>(
+fn kept_where<'a, D: Disk, N: Serving>(
     archive: Option<MutexGuard<'a, StoredArchive<D, N>>>,
     needed: bool,
 ) -> Option<MutexGuard<'a, StoredArchive<D, N>>>
@@ -68,7 +67,7 @@ fn kept_where<'a, D: Disk, N: Naming + Imaging + Serving>(
 
 /// Prints the reply of an outcome, with the contents that it waits for, if the lock of the archive is
 /// held. The one error is that of `tell`.
-fn tell_over<'a, D: Disk, N: Naming + Imaging + Serving>(
+fn tell_over<'a, D: Disk, N: Serving>(
     alloc: Global,
     archive: Option<MutexGuard<'a, StoredArchive<D, N>>>,
     outcome: Outcome,
@@ -96,12 +95,12 @@ fn tell_over<'a, D: Disk, N: Naming + Imaging + Serving>(
 
 /// What is confirmed of what a command has gathered, and the lock of the archive, where it is held.
 #[derive(Drop)]
-struct Settled<'a, D: Disk, N: Naming + Imaging + Serving> {
+struct Settled<'a, D: Disk, N: Serving> {
     confirmed: Confirmed<'a, N>,
     archive: Option<MutexGuard<'a, StoredArchive<D, N>>>,
 }
 
-impl<D: Disk, N: Naming + Imaging + Serving> CommonDepot<D, N> {
+impl<D: Disk, N: Serving> CommonDepot<D, N> {
     /// Looks at the tables of a set that aren't held, as they are after the whole order. The one error is
     /// want of memory.
     fn look<'a>(
@@ -181,7 +180,7 @@ impl<D: Disk, N: Naming + Imaging + Serving> CommonDepot<D, N> {
     }
 }
 
-impl<D: Disk, N: Naming + Marking + Imaging + Serving> WrittenJournal<D, N> {
+impl<D: Disk, N: Serving> WrittenJournal<D, N> {
     /// Makes room for what is told, where the tables that it changes are held. The one error is want of
     /// memory.
     fn room_for<'a>(
@@ -220,7 +219,7 @@ fn outcome_over<N: Naming>(
     evaluate(alloc, gathered.tables(), request)
 }
 
-impl<D: Disk, N: Naming + Marking + Imaging + Serving> SharedDepot<D, N> {
+impl<D: Disk, N: Serving> SharedDepot<D, N> {
     /// Gathers a set. Where contents may be stored, takes the lock of the archive too, and sees where
     /// the archive ends: a command that stores some writes the table of revisions.
     fn reach<'a, R: Wait>(

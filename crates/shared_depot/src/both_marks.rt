@@ -4,18 +4,18 @@ ghost use Rattle.party_marks.specs.Marks.{has_marks};
 
 use crate::of_archive::OfArchive;
 use crate::serving::Serving;
-use party_marks::{MarkPass, Marking};
+use party_marks::MarkPass;
 use std::marker::Model;
 
 /// What a party knows of its marks: of those that it made since the journal's disk failed, and of those
 /// that it made since the archive's did. Contracts see the two lists, one behind the other.
 #[derive(Drop)]
-pub struct BothMarks<N: Marking + Serving> {
+pub struct BothMarks<N: Serving> {
     pub(crate) journal: MarkPass<N>,
     pub(crate) archive: MarkPass<OfArchive<N>>,
 }
 
-impl<N: Marking + Serving> Model for BothMarks<N> {
+impl<N: Serving> Model for BothMarks<N> {
     ghost use Rattle.std.specs.Prelude.{◌≡◌, ◌++◌};
     ghost use Rattle.party_marks.specs.Known.{PassKnown};
 
@@ -26,7 +26,7 @@ impl<N: Marking + Serving> Model for BothMarks<N> {
     ghost invariant = { λ b. b.archive.party ≡ b.journal.party };
 }
 
-impl<N: Marking + Serving> BothMarks<N> {
+impl<N: Serving> BothMarks<N> {
     /// Those of a party that has made no mark.
     pub(crate) fn new(journal: MarkPass<N>, archive: MarkPass<OfArchive<N>>) -> BothMarks<N>
         requires party { archive.party ≡ journal.party }

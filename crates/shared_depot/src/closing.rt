@@ -19,19 +19,18 @@ use crate::shared::SharedDepot;
 use crate::stored_archive::StoredArchive;
 use crate::written_journal::WrittenJournal;
 use archive_file::Archive;
-use depot_commit::Imaging;
 use depot_rows::model::Place;
 use depot_rows::tables::Tables;
 use disk_journal::Journal;
-use locked_tables::{Naming, OrderWords, PartyPass, PlacedOrder};
+use locked_tables::{OrderWords, PartyPass, PlacedOrder};
 use outside_api::Disk;
-use party_marks::{MarkWords, Marking, Marks};
+use party_marks::{MarkWords, Marks};
 use serial_depot::SerialDepot;
 use std::marker::Model;
 
 /// A shared depot, out of its locks. Contracts see the one order of all places, and all marks.
 #[derive(Drop)]
-pub struct OpenedDepot<D: Disk, N: Naming + Marking + Imaging + Serving> {
+pub struct OpenedDepot<D: Disk, N: Serving> {
     words: OrderWords<N>,
     mark_words: MarkWords<N>,
     content_words: MarkWords<OfArchive<N>>,
@@ -43,7 +42,7 @@ pub struct OpenedDepot<D: Disk, N: Naming + Marking + Imaging + Serving> {
     content_marks: Marks<OfArchive<N>>,
 }
 
-impl<D: Disk, N: Naming + Marking + Imaging + Serving> Model for OpenedDepot<D, N> {
+impl<D: Disk, N: Serving> Model for OpenedDepot<D, N> {
     ghost use Rattle.std.specs.Prelude.{◌++◌, false};
     ghost use Rattle.archive_file.specs.Archive.{disk_of as archive_disk_of};
     ghost use Rattle.disk_journal.specs.Stands.{disk_of};
@@ -67,7 +66,7 @@ pub struct Closed<D: Disk> {
     pub order: Vec<Place>,
 }
 
-impl<D: Disk, N: Naming + Marking + Imaging + Serving> SharedDepot<D, N> {
+impl<D: Disk, N: Serving> SharedDepot<D, N> {
     /// Takes the depot out of its locks. What its order is, the passes of the parties tell.
     pub fn open(self) -> OpenedDepot<D, N> {
         let SharedDepot {
@@ -117,7 +116,7 @@ impl<D: Disk, N: Naming + Marking + Imaging + Serving> SharedDepot<D, N> {
     }
 }
 
-impl<D: Disk, N: Naming + Marking + Imaging + Serving> OpenedDepot<D, N> {
+impl<D: Disk, N: Serving> OpenedDepot<D, N> {
     /// A party learns the whole order, which begins with what it knew; each of its own places was
     /// known to it. Where it has marks, they are among all.
     pub fn hear(&mut self, pass: &mut PartyPass<N>, marks: &mut BothMarks<N>)

@@ -14,15 +14,14 @@ use crate::serving::Serving;
 use crate::shared::SharedDepot;
 use crate::stored_archive::StoredArchive;
 use crate::written_journal::WrittenJournal;
-use depot_commit::{Imaging, Landed, NoArchive, Store, Told, place};
+use depot_commit::{Landed, NoArchive, Store, Told, place};
 use depot_rows::model::{Answer, Request};
-use locked_tables::{ArchiveLane, Naming, NoLane, PartyPass, Taken};
+use locked_tables::{ArchiveLane, NoLane, PartyPass, Taken};
 use outside_api::Disk;
-use party_marks::Marking;
 use std::alloc::{AllocError, Global};
 use std::sync::Wait;
 
-impl<D: Disk, N: Naming + Marking + Imaging + Serving> WrittenJournal<D, N> {
+impl<D: Disk, N: Serving> WrittenJournal<D, N> {
     /// Stores what is told, where there is something to store, and commits its changes; takes the lock of
     /// the order, gives the command the next place, and the locks of the tables back. The one error is want
     /// of memory, and then nothing is done.
@@ -109,7 +108,7 @@ impl<D: Disk, N: Naming + Marking + Imaging + Serving> WrittenJournal<D, N> {
     }
 }
 
-impl<D: Disk, N: Naming + Marking + Imaging + Serving> StoredArchive<D, N> {
+impl<D: Disk, N: Serving> StoredArchive<D, N> {
     /// Has a command committed whose contents are stored in it.
     fn commit<R: Wait>(
         &mut self,
@@ -146,7 +145,7 @@ impl<D: Disk, N: Naming + Marking + Imaging + Serving> StoredArchive<D, N> {
     }
 }
 
-impl<'a, D: Disk, N: Naming + Marking + Imaging + Serving> Writing<'a, D, N> {
+impl<'a, D: Disk, N: Serving> Writing<'a, D, N> {
     /// Commits it, gives it its place, and all locks back. The one error is want of memory, and then
     /// nothing is done.
     fn commit<R: Wait>(
@@ -189,7 +188,7 @@ impl<'a, D: Disk, N: Naming + Marking + Imaging + Serving> Writing<'a, D, N> {
     }
 }
 
-impl<'a, D: Disk, N: Naming + Marking + Imaging + Serving> Ready<'a, D, N> {
+impl<'a, D: Disk, N: Serving> Ready<'a, D, N> {
     /// Gives the command its place, once what it writes is committed, and all locks back. The one error
     /// is want of memory, and then nothing is done.
     pub(crate) fn take<R: Wait>(

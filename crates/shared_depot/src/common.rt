@@ -15,9 +15,8 @@ ghost use Rattle.shared_depot.specs.Stored.{lost_count, stores_of};
 
 use crate::serving::Serving;
 use crate::stored_archive::StoredArchive;
-use depot_commit::Imaging;
 use depot_rows::tables::Tables;
-use locked_tables::{LockedJournal, Naming, OrderWords, PlacedOrder};
+use locked_tables::{LockedJournal, OrderWords, PlacedOrder};
 use outside_api::Disk;
 use std::marker::{Model, PhantomData};
 use table_locks::{Confirmed, Gathered};
@@ -26,13 +25,13 @@ use table_locks::{Confirmed, Gathered};
 /// commands of these places, and those at which nothing is written are the ones that don't touch the
 /// journal's lane. Contracts see the order.
 #[derive(Drop)]
-pub(crate) struct CommonDepot<D: Disk, N: Naming + Imaging + Serving> {
+pub(crate) struct CommonDepot<D: Disk, N: Serving> {
     pub(crate) order: PlacedOrder<N>,
     pub(crate) tables: Tables,
     of: PhantomData<D>,
 }
 
-impl<D: Disk, N: Naming + Imaging + Serving> Model for CommonDepot<D, N> {
+impl<D: Disk, N: Serving> Model for CommonDepot<D, N> {
     ghost use Rattle.std.specs.Prelude.{List};
     ghost use Rattle.locked_tables.specs.declared.taken.Taken.{Taken};
     ghost use Rattle.shared_depot.specs.Common.{KeepsOrder};
@@ -44,7 +43,7 @@ impl<D: Disk, N: Naming + Imaging + Serving> Model for CommonDepot<D, N> {
     ghost invariant = { λ c. KeepsOrder D.says N.rows N.end N.images N.begins N.masters N.faults c.order c.tables };
 }
 
-impl<D: Disk, N: Naming + Imaging + Serving> CommonDepot<D, N> {
+impl<D: Disk, N: Serving> CommonDepot<D, N> {
     /// An order without a place, and tables that have run none, as others did with a journal.
     pub(crate) fn new(order: PlacedOrder<N>, tables: Tables) -> CommonDepot<D, N>
         requires order { order ≡ [] }

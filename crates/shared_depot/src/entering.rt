@@ -11,9 +11,8 @@ ghost use Rattle.table_locks.specs.Prepared.{IsPrepared};
 
 use crate::common::CommonDepot;
 use crate::serving::Serving;
-use depot_commit::Imaging;
 use depot_rows::tables::Tables;
-use locked_tables::{ArchiveLane, LockedJournal, Naming, OrderWords, PartyPass, Taken};
+use locked_tables::{ArchiveLane, LockedJournal, OrderWords, PartyPass, Taken};
 use outside_api::Disk;
 use table_locks::Prepared;
 
@@ -29,7 +28,7 @@ fn show(tables: &mut Tables, shown: Tables, fault: bool)
     }
 }
 
-impl<D: Disk, N: Naming + Imaging + Serving> CommonDepot<D, N> {
+impl<D: Disk, N: Serving> CommonDepot<D, N> {
     /// Gives a command that was committed, or for which a disk failed, the next place, and the locks of the
     /// tables back. The journal's lane learns the whole order, and so does the archive's, if it is held:
     /// the archive ends then where the entry says.

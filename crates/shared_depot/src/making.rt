@@ -21,7 +21,6 @@ use crate::serving::Serving;
 use crate::shared::SharedDepot;
 use crate::stored_archive::StoredArchive;
 use crate::written_journal::{WrittenJournal, share_tables};
-use depot_commit::Imaging;
 use depot_rows::tables::Tables;
 use locked_tables::{
     LockedArchive, LockedJournal, Naming, OrderWords, PartyPass, PlacedOrder, TableLocks, Taken,
@@ -35,7 +34,7 @@ use std::sync::Mutex;
 
 /// A depot that threads share, and the passes of the parties, which are numbered from 1.
 #[derive(Drop)]
-pub struct Shared<D: Disk, N: Naming + Marking + Imaging + Serving> {
+pub struct Shared<D: Disk, N: Serving> {
     pub depot: SharedDepot<D, N>,
     pub passes: Vec<PartyPass<N>>,
     pub marks: Vec<BothMarks<N>>,
@@ -127,7 +126,7 @@ fn mark_passes<N: Marking>(
 }
 
 /// The passes of parties for both kinds of marks, party by party.
-fn pair_passes<N: Marking + Serving>(
+fn pair_passes<N: Serving>(
     alloc: Global,
     journal: Vec<MarkPass<N>>,
     archive: Vec<MarkPass<OfArchive<N>>>,
@@ -145,7 +144,7 @@ fn pair_passes<N: Marking + Serving>(
 }
 
 /// Pairs the passes of the first so many parties, which are the last of the two lists.
-fn pair_first<N: Marking + Serving>(
+fn pair_first<N: Serving>(
     journal: &mut Vec<MarkPass<N>>,
     archive: &mut Vec<MarkPass<OfArchive<N>>>,
     passes: &mut Vec<BothMarks<N>>,
@@ -222,7 +221,7 @@ fn make_parts<N: Naming>(
 }
 
 /// The passes for both kinds of marks of so many parties. The one error is want of memory.
-fn both_passes<N: Marking + Serving>(
+fn both_passes<N: Serving>(
     alloc: Global,
     journal: Vec<LaneSeat<Mark>>,
     archive: Vec<LaneSeat<Mark>>,
@@ -238,7 +237,7 @@ fn both_passes<N: Marking + Serving>(
     pair_passes(alloc, journal, archive, count)
 }
 
-impl<D: Disk, N: Naming + Marking + Imaging + Serving> SharedDepot<D, N> {
+impl<D: Disk, N: Serving> SharedDepot<D, N> {
     /// Shares a depot in files among parties, up to 16, each of which may have so many places, with the
     /// words that were made for them: those of `Orders::new` with 13 lanes more than parties, and for the
     /// marks of each of the two disks with one more. Where memory is wanting, the depot is given back as it

@@ -13,15 +13,15 @@ ghost use Rattle.shared_depot.specs.Sharing.{IsTakenAt};
 use crate::common::CommonDepot;
 use crate::ready::Quiet;
 use crate::serving::Serving;
-use depot_commit::{Imaging, Told, place_unwritten};
+use depot_commit::{Told, place_unwritten};
 use depot_rows::model::{Answer, Request};
 use depot_rows::paths::Sequence;
-use locked_tables::{ArchiveLane, Naming, NoLane, OrderWords, PartyPass, Taken};
+use locked_tables::{ArchiveLane, NoLane, OrderWords, PartyPass, Taken};
 use outside_api::Disk;
 use std::alloc::Global;
 use table_locks::Prepared;
 
-impl<D: Disk, N: Naming + Imaging + Serving> CommonDepot<D, N> {
+impl<D: Disk, N: Serving> CommonDepot<D, N> {
     /// Gives a command its place that writes nothing more. Where a content couldn't be read it is that of a
     /// fault, and it touches the archive's lane, which is held then; the archive ends where it did.
     fn place_quiet<A: ArchiveLane<N>>(
@@ -69,7 +69,7 @@ impl<D: Disk, N: Naming + Imaging + Serving> CommonDepot<D, N> {
     }
 }
 
-impl<'a, D: Disk, N: Naming + Imaging + Serving> Quiet<'a, D, N> {
+impl<'a, D: Disk, N: Serving> Quiet<'a, D, N> {
     /// Gives the command its place, and all locks back.
     pub(crate) fn take(
         self,

@@ -7,16 +7,14 @@ use crate::room::Room;
 use crate::serving::Serving;
 use crate::stored_archive::StoredArchive;
 use crate::written_journal::WrittenJournal;
-use depot_commit::{Imaging, Told};
-use locked_tables::Naming;
+use depot_commit::Told;
 use outside_api::Disk;
-use party_marks::Marking;
 use std::sync::MutexGuard;
 
 /// What a command is answered that writes nothing more, with the lock of the order, and that of the
 /// archive where a content couldn't be read.
 #[derive(Drop)]
-pub(crate) struct Quiet<'a, D: Disk, N: Naming + Imaging + Serving> {
+pub(crate) struct Quiet<'a, D: Disk, N: Serving> {
     pub(crate) common: MutexGuard<'a, CommonDepot<D, N>>,
     pub(crate) archive: Option<MutexGuard<'a, StoredArchive<D, N>>>,
     pub(crate) told: Told,
@@ -25,7 +23,7 @@ pub(crate) struct Quiet<'a, D: Disk, N: Naming + Imaging + Serving> {
 /// What a command is answered and does, with the lock of the journal and the room that is made under it,
 /// and the lock of the archive where it stores contents.
 #[derive(Drop)]
-pub(crate) struct Writing<'a, D: Disk, N: Naming + Marking + Imaging + Serving> {
+pub(crate) struct Writing<'a, D: Disk, N: Serving> {
     pub(crate) journal: MutexGuard<'a, WrittenJournal<D, N>>,
     pub(crate) archive: Option<MutexGuard<'a, StoredArchive<D, N>>>,
     pub(crate) room: Room<'a, N>,
@@ -58,7 +56,7 @@ impl Attempt {
 
 /// A command that can be given its place: at once, or once it is committed.
 #[derive(Drop)]
-pub(crate) enum Ready<'a, D: Disk, N: Naming + Marking + Imaging + Serving> {
+pub(crate) enum Ready<'a, D: Disk, N: Serving> {
     Quiet(Quiet<'a, D, N>),
     Writing(Writing<'a, D, N>),
 }

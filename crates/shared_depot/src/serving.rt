@@ -1,8 +1,12 @@
 //! What a run of many threads began with.
+use depot_commit::Imaging;
+use locked_tables::Naming;
+use party_marks::Marking;
 use std::marker::Brand;
 
-/// Names what a run began with, beside its words and tables. Each call of a program picks it.
-pub trait Serving {
+/// Names what a run over a shared depot began with: its words and tables, the words of its marks, the
+/// images of its archive, and what follows. Each call of a program picks all of it.
+pub trait Serving: Naming + Marking + Imaging {
     ghost use Rattle.std.specs.Prelude.{ℕ, List};
     ghost use Rattle.depot_rows.specs.depot_model.Deeds.{Deed};
     ghost use Rattle.order_words.specs.Seats.{Run};

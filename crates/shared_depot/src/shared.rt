@@ -11,18 +11,17 @@ use crate::of_archive::OfArchive;
 use crate::serving::Serving;
 use crate::stored_archive::StoredArchive;
 use crate::written_journal::WrittenJournal;
-use depot_commit::Imaging;
 use depot_rows::model::{Answer, Request};
-use locked_tables::{Naming, OrderWords, PartyPass, TableLocks};
+use locked_tables::{OrderWords, PartyPass, TableLocks};
 use outside_api::{Disk, Gate};
-use party_marks::{MarkWords, Marking};
+use party_marks::MarkWords;
 use replica_turns::{Answered, ReplicaParty, is_print, is_pull};
 use std::alloc::{AllocError, Global};
 use std::sync::{Mutex, Wait};
 
 /// A depot in files whose tables, archive, journal and order lie behind locks of their own.
 #[derive(Drop)]
-pub struct SharedDepot<D: Disk, N: Naming + Marking + Imaging + Serving> {
+pub struct SharedDepot<D: Disk, N: Serving> {
     pub(crate) words: OrderWords<N>,
     pub(crate) tables: TableLocks<N>,
     pub(crate) archive: Mutex<StoredArchive<D, N>>,
@@ -32,7 +31,7 @@ pub struct SharedDepot<D: Disk, N: Naming + Marking + Imaging + Serving> {
     pub(crate) content_words: MarkWords<OfArchive<N>>,
 }
 
-impl<D: Disk, N: Naming + Marking + Imaging + Serving> SharedDepot<D, N> {
+impl<D: Disk, N: Serving> SharedDepot<D, N> {
     /// Has the command of a party's request taken. It gets a place behind all that the party knew, and is
     /// answered as one thread would be that took the commands of all places before it; at a fault place
     /// the commit failed, or a content couldn't be read or stored, and the command did nothing. The one

@@ -10,8 +10,8 @@ use crate::of_archive::OfArchive;
 use crate::serving::Serving;
 use archive_file::Archive;
 use command_core::Outcome;
-use depot_commit::{Imaging, Told, tell_reading};
-use locked_tables::{LockedArchive, Naming};
+use depot_commit::{Told, tell_reading};
+use locked_tables::LockedArchive;
 use outside_api::Disk;
 use party_marks::Marks;
 use std::alloc::{AllocError, Global};
@@ -22,7 +22,7 @@ use std::marker::Model;
 /// contents of these places were stored in it, and none of a place behind them was; and whether its disk
 /// failed for a command that has no place yet.
 #[derive(Drop)]
-pub(crate) struct StoredArchive<D: Disk, N: Naming + Imaging + Serving> {
+pub(crate) struct StoredArchive<D: Disk, N: Serving> {
     pub(crate) lane: LockedArchive<N>,
     pub(crate) archive: Archive<D>,
     pub(crate) failed: bool,
@@ -36,7 +36,7 @@ fn either(before: bool, now: bool) -> bool
     before || now
 }
 
-impl<D: Disk, N: Naming + Imaging + Serving> Model for StoredArchive<D, N> {
+impl<D: Disk, N: Serving> Model for StoredArchive<D, N> {
     ghost use Rattle.archive_file.specs.Archive.{disk_of};
     ghost use Rattle.shared_depot.specs.Common.{IsArchiveAfter, IsMarkCaused};
     ghost use Rattle.shared_depot.specs.Stored.{ArchiveKnown};
@@ -49,7 +49,7 @@ impl<D: Disk, N: Naming + Imaging + Serving> Model for StoredArchive<D, N> {
         IsMarkCaused N.content_faults (D.says.faults (disk_of a.archive)) a.marks.list };
 }
 
-impl<D: Disk, N: Naming + Imaging + Serving> StoredArchive<D, N> {
+impl<D: Disk, N: Serving> StoredArchive<D, N> {
     /// An archive in which no place stored a content, where there is no mark.
     pub(crate) fn new(
         lane: LockedArchive<N>,

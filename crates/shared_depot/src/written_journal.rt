@@ -7,14 +7,13 @@ ghost use Rattle.shared_depot.specs.Common.{GoesOnQuietly, HasRunOrder};
 
 use crate::common::CommonDepot;
 use crate::serving::Serving;
-use depot_commit::Imaging;
 use depot_rows::changes::change_tables;
 use depot_rows::records::Change;
 use depot_rows::tables::Tables;
 use disk_journal::Journal;
-use locked_tables::{LockedJournal, Naming, OrderWords};
+use locked_tables::{LockedJournal, OrderWords};
 use outside_api::Disk;
-use party_marks::{Marking, Marks};
+use party_marks::Marks;
 use std::alloc::{AllocError, Global};
 use std::marker::Model;
 
@@ -22,14 +21,14 @@ use std::marker::Model;
 /// with the seat of the journal's lane, and the marks of parties that were told that the journal's disk
 /// failed: while there is one, the count of the disk has risen. Contracts see that beginning.
 #[derive(Drop)]
-pub(crate) struct WrittenJournal<D: Disk, N: Naming + Marking + Imaging + Serving> {
+pub(crate) struct WrittenJournal<D: Disk, N: Serving> {
     pub(crate) lane: LockedJournal<N>,
     pub(crate) tables: Tables,
     pub(crate) journal: Journal<D>,
     pub(crate) marks: Marks<N>,
 }
 
-impl<D: Disk, N: Naming + Marking + Imaging + Serving> Model for WrittenJournal<D, N> {
+impl<D: Disk, N: Serving> Model for WrittenJournal<D, N> {
     ghost use Rattle.std.specs.Prelude.{List};
     ghost use Rattle.disk_journal.specs.Stands.{disk_of};
     ghost use Rattle.locked_tables.specs.declared.taken.Taken.{Taken};
@@ -50,7 +49,7 @@ pub(crate) fn share_tables(alloc: Global, tables: &Tables) -> Result<Tables, All
     change_tables(alloc, tables, &[])
 }
 
-impl<D: Disk, N: Naming + Marking + Imaging + Serving> WrittenJournal<D, N> {
+impl<D: Disk, N: Serving> WrittenJournal<D, N> {
     /// A journal and tables that have run no place, where there is no mark.
     pub(crate) fn new(
         lane: LockedJournal<N>,

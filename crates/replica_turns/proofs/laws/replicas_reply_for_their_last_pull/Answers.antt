@@ -1,16 +1,12 @@
-use Rattle.std.proofs.Common.{◌++◌}
-use Rattle.replica_turns.specs.Master.{IsNth}
 use Rattle.replica_turns.proofs.Along.{along_first, along_grown, along_turned}
-use Rattle.replica_turns.proofs.Masters.{nth_longer}
 use Rattle.replica_turns.proofs.laws.replicas_reply_for_their_last_pull.Goals as goal
 
 pub returns-clause-first : goal.returns-clause-first
-returns-clause-first g c = λ past start places party script p all fresh formed.
-    along_first (IsNth past start places) (g.C.Clock.says.may_give c.args.clock.now) party script p all fresh formed
+returns-clause-first g c = λ past start places party script p all fresh formed. along_first past start places (g.C.Clock.says.may_give c.args.clock.now) party script p all fresh formed
 
 pub returns-clause-grown : goal.returns-clause-grown
 returns-clause-grown g c = λ past start places more party script p all now texts grown along.
-    along_grown (IsNth past start places) (IsNth past start (places ++ more)) (nth_longer past start places more) (g.C.Clock.says.may_give c.args.clock.now) party script p all now grown texts along
+    along_grown past start places (g.C.Clock.says.may_give c.args.clock.now) party script p all now more grown texts along
 
 pub returns-clause-turned : goal.returns-clause-turned
 returns-clause-turned g c = λ past start places depot files party script old new all texts result master sees along turn.
