@@ -5,12 +5,13 @@ use Rattle.std.proofs.lemmas.Bool.{true≢false}
 use Rattle.outside_api.specs.Says.{DiskSays, SinkSays}
 use Rattle.depot_rows.specs.depot_model.declared.order.Place.{Place}
 use Rattle.session_turns.specs.Drawn.{IsDrawn}
+use Rattle.end_lines.specs.Causes.{status_of}
+use Rattle.end_lines.specs.declared.cause.Cause.{Cause}
+use Rattle.end_lines.specs.declared.cause.Cause.TheVariants as causes
 use Rattle.p4_server.specs.declared.ended.PartyEnd.{PartyEnd}
-use Rattle.p4_server.specs.declared.ended.Cause.{Cause}
-use Rattle.p4_server.specs.declared.ended.Cause.TheVariants as causes
 use Rattle.p4_server.specs.Checkpoint.{Checkpoints, IsUntaken, IsTaken, IsInDoubt}
 use Rattle.p4_server.specs.Dump.{Dumps, IsDumped}
-use Rattle.p4_server.specs.Ends.{status_of, ends_cause, has_fault_place, has_failed_party, has_faulty_party}
+use Rattle.p4_server.specs.Ends.{ends_cause, has_fault_place, has_failed_party, has_faulty_party}
 use Rattle.p4_server.specs.Headline.{Ordering}
 use Rattle.p4_server.specs.Init.{Inits, IsInited, IsThere, IsFailed}
 use Rattle.p4_server.specs.Opening.{IsUnopened, IsUnmade, IsDamaged, IsUnread}

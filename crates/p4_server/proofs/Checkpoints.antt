@@ -19,13 +19,14 @@ use Rattle.recovery.specs.Opening.{IsOpen, HasSynced, LooksOnly}
 use Rattle.recovery.specs.Standing.{StandFor}
 use Rattle.recovery.specs.declared.open.Opened.{Opened}
 use Rattle.depot_rows.specs.table_changes.Changed.{rows_of}
-use Rattle.p4_server.specs.declared.ended.Cause.TheVariants as causes
+use Rattle.end_lines.specs.Lines.{cause_line, generation_line}
+use Rattle.end_lines.specs.Telling.{OutGot}
+use Rattle.end_lines.specs.declared.cause.Cause.TheVariants as causes
 use Rattle.p4_server.specs.Checkpoint.{Checkpoints, IsInDoubt, IsLine, IsPlaced, IsTaken, IsUntaken}
 use Rattle.p4_server.specs.Files.{IsStart, DiskRose, HasOpened}
-use Rattle.p4_server.specs.Lines.{cause_line, generation_line}
 use Rattle.p4_server.specs.Opening.{IsUnopened}
 use Rattle.p4_server.specs.Outside.{After, Before}
-use Rattle.p4_server.specs.Telling.{IsUnrun, OutGot}
+use Rattle.p4_server.specs.Telling.{IsUnrun}
 use Rattle.p4_server.proofs.Contents.{contents_opened, deletes_opened}
 use Rattle.p4_server.proofs.Openings.{fault_of_unopened, complete_of_unopened, opened_of, read_at_start}
 

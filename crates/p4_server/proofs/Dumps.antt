@@ -8,7 +8,7 @@ use Rattle.depot_rows.specs.Standing.{Stand}
 use Rattle.recovery.specs.Contents.{HoldWhole}
 use Rattle.recovery.specs.Holding.{Hold}
 use Rattle.depot_rows.specs.table_changes.Changed.{AllRows}
-use Rattle.p4_server.specs.declared.ended.Cause.TheVariants as causes
+use Rattle.end_lines.specs.declared.cause.Cause.TheVariants as causes
 use Rattle.p4_server.specs.Dump.{IsPrinted, Dumps}
 use Rattle.p4_server.specs.Files.{IsStart, DiskOrOutRose, BothSynced}
 use Rattle.p4_server.specs.Opening.{IsUnopened}

@@ -1,4 +1,3 @@
-pub mod Tellings
 pub mod RowsLemmas
 pub mod Openings
 pub mod Dumps

@@ -21,13 +21,13 @@ use Rattle.depot_rows.specs.table_changes.Changed.{AllRows, rows_of}
 use Rattle.depot_rows.specs.Standing.{Stand}
 use Rattle.wire_text.specs.declared.script.ScriptEnd.{ScriptEnd}
 use Rattle.wire_text.specs.declared.script.ScriptEnd.TheVariants.{Whole, Fault, ReadFault}
-use Rattle.p4_server.specs.declared.ended.Cause.{Cause}
-use Rattle.p4_server.specs.declared.ended.Cause.TheVariants as causes
+use Rattle.end_lines.specs.Lines.{cause_line}
+use Rattle.end_lines.specs.Telling.{OutGot}
+use Rattle.end_lines.specs.declared.cause.Cause.{Cause}
+use Rattle.end_lines.specs.declared.cause.Cause.TheVariants as causes
 use Rattle.p4_server.specs.Ends.{has_fault_place}
 use Rattle.p4_server.specs.Files.{IsStart, DiskOrOutRose, DiskRose, HasOpened}
-use Rattle.p4_server.specs.Lines.{cause_line}
 use Rattle.p4_server.specs.Opening.{IsUnopened}
-use Rattle.p4_server.specs.Telling.{OutGot}
 use Rattle.p4_server.specs.Load.{AreKept, IsBegun, IsLoadRun, IsUnbegun, IsLoadTold, IsUnloaded, Loads, LoadsFiles, WereMade, WereThere, depot_after, end_cause, figures_in, load_cause, load_commands}
 use Rattle.p4_server.specs.Outside.{After, Before}
 use Rattle.p4_server.proofs.Openings.{fault_of_unopened, complete_of_unopened}

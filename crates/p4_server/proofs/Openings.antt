@@ -15,10 +15,11 @@ use Rattle.recovery.specs.Standing.{StandFor}
 use Rattle.recovery.specs.declared.open.Opened.{Opened}
 use Rattle.recovery.specs.declared.fault.OpenFault.{OpenFault}
 use Rattle.recovery.specs.declared.fault.OpenFault.TheVariants.{Unmade, Damaged, DiskFault, Memory}
-use Rattle.p4_server.specs.declared.ended.Cause.TheVariants as causes
+use Rattle.end_lines.specs.Causes.{cause_by}
+use Rattle.end_lines.specs.declared.cause.Cause.TheVariants as causes
 use Rattle.p4_server.specs.Files.{IsStart, DiskRose, BothSynced, HasOpened}
 use Rattle.p4_server.specs.Telling.{IsToldAlone}
-use Rattle.p4_server.specs.Opening.{cause_by, IsUnmade, IsDamaged, IsUnread, IsUnopened}
+use Rattle.p4_server.specs.Opening.{IsUnmade, IsDamaged, IsUnread, IsUnopened}
 use Rattle.p4_server.specs.Outside.{After, Before}
 
 module _ {D S K : Type 0} (disk_says : DiskSays D) (sink_says : SinkSays K) (before : Before D K) (after : After D S K) where

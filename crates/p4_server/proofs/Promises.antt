@@ -16,10 +16,10 @@ use Rattle.session_loop.specs.Asking.{Asking}
 use Rattle.session_loop.specs.Reading.{IsAsked}
 use Rattle.session_loop.specs.declared.reading.ReplicaScript.{ReplicaScript}
 use Rattle.wire_text.proofs.Pieces.{front_before}
+use Rattle.end_lines.specs.declared.cause.Cause.{Cause}
+use Rattle.end_lines.specs.declared.cause.Cause.TheVariants as causes
 use Rattle.p4_server.specs.declared.ended.Ended.{Ended}
 use Rattle.p4_server.specs.declared.ended.PartyEnd.{PartyEnd}
-use Rattle.p4_server.specs.declared.ended.Cause.{Cause}
-use Rattle.p4_server.specs.declared.ended.Cause.TheVariants as causes
 use Rattle.p4_server.specs.Ends.{ends_cause, is_failed, is_faulty, party_end, has_fault_place, has_failed_party, has_faulty_party}
 use Rattle.p4_server.specs.Headline.{IsPartyEnd, Ordering}
 use Rattle.p4_server.specs.Lines.{run_lines, place_lines, end_lines, fault_line}

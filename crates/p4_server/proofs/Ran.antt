@@ -11,7 +11,7 @@ use Rattle.depot_rows.specs.depot_model.declared.order.Place.{Place}
 use Rattle.depot_rows.specs.depot_model.declared.request.Session.{Session}
 use Rattle.depot_runs.specs.Run.{placed}
 use Rattle.party_threads.specs.replica_turns.Along.{IsToldOutput}
-use Rattle.party_threads.specs.replica_turns.Master.{IsNth, Past}
+use Rattle.party_threads.specs.replica_turns.Master.{Past}
 use Rattle.party_threads.specs.run_parties.Replicas.{AreReplicasServed, AreReplicasTold}
 use Rattle.party_threads.specs.run_parties.Served.{AreServed, IsEnd, AreEnds as TurnsEnd, session_counts, total_of}
 use Rattle.session_loop.specs.Reading.{IsAsked}
@@ -162,7 +162,7 @@ module _ {S K : Type 0} (source_says : SourceSays S) (sink_says : SinkSays K) wh
             let f = found i name source.0 party name_at source.1 party_at in
             let its_run : run_of party ≡ f.run = ap (λ (p : PartyEnd K). run_of p) f.is ∙ run_is f.place f.run f.end f.sink in
             let sink_is : sink_says.given party.sink ≡ sink_says.given f.sink = ap (λ (p : PartyEnd K). sink_says.given p.sink) f.is in
-            let T : SessionRun → Option (List ℕ) → Option (List ℕ) → Type 0 = λ r was now. IsToldOutput (IsNth past start (map (placed sessions) order)) may_give (i + 1) script r.commands r.failed was now in
+            let T : SessionRun → Option (List ℕ) → Option (List ℕ) → Type 0 = λ r was now. IsToldOutput past start (map (placed sessions) order) may_give (i + 1) script r.commands r.failed was now in
             let own : T f.run (sink_says.given f.first) (sink_says.given f.sink) = copies_told past b i script f.run (sink_says.given f.first) (sink_says.given f.sink) script_at f.run_at (given_at firsts i f.first f.first_at) (given_at sinks i f.sink f.sink_at) in
             subst (λ (r : SessionRun). T r (outputs name) (sink_says.given party.sink)) (sym its_run)
             (subst (λ (o : Option (List ℕ)). T f.run (outputs name) o) (sym sink_is) (subst (λ (o : Option (List ℕ)). T f.run o (sink_says.given f.sink)) f.pair.gives own))

@@ -2,10 +2,10 @@
 use Rattle.std.proofs.Common.{◌≡◌, ℕ, ◌≤◌, List, ◌∷◌, ◌++◌, Option, Err, arith}
 use Rattle.std.specs.List.{flat_map}
 use Rattle.outside_api.specs.Told.{extended}
+use Rattle.end_lines.proofs.Tellings.{front_last}
 use Rattle.p4_server.specs.declared.rows.RowsFault.{RowsFault}
 use Rattle.p4_server.specs.declared.rows.RowsFault.TheVariants.{Sink, Memory}
 use Rattle.p4_server.specs.Rows.{Prints}
-use Rattle.p4_server.proofs.Tellings.{front_last}
 
 module _ {A : Type 0} (text_of : A → List ℕ) where
   pub prints_last : (before mid now : Option (List ℕ)) (faults_before faults_mid faults_now : ℕ) (xs ys : List A) (x : A) (fault : RowsFault) → faults_before ≤ faults_mid

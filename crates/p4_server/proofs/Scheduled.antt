@@ -23,9 +23,9 @@ use Rattle.party_threads.specs.serial_depot.Running.{CanTake, HasRun}
 use Rattle.party_threads.specs.serial_depot.declared.depot.SerialDepot.{SerialDepot}
 use Rattle.party_threads.proofs.depot_commit.Kept.{kept_leads, kept_now}
 use Rattle.party_threads.proofs.depot_commit.Places.{kept_whole}
+use Rattle.end_lines.specs.declared.cause.Cause.{Cause}
+use Rattle.end_lines.specs.declared.cause.Cause.TheVariants as causes
 use Rattle.p4_server.specs.declared.ended.PartyEnd.{PartyEnd}
-use Rattle.p4_server.specs.declared.ended.Cause.{Cause}
-use Rattle.p4_server.specs.declared.ended.Cause.TheVariants as causes
 use Rattle.p4_server.specs.declared.party.NotRun.{NotRun}
 use Rattle.p4_server.specs.declared.party.NotRun.TheVariants.{Doors, Memory}
 use Rattle.p4_server.specs.Files.{IsStart, HasOpened, PairIsKept}

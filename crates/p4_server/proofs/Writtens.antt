@@ -36,13 +36,13 @@ module _ {D : Type 0} (disk_says : DiskSays D) (journal archive : D) (opened : O
   committed : HasCommitted was start.journal_files
   committed = is.stands.holds start.journal_files (reads (disk_of opened.journal) start.journal_files (synced.same.kept start.journal_files start.journal_reads))
 
-  rows_are : rows_of opened.tables ≡ changed_by no_rows (joined (all_changes w.all))
+  rows_are : rows_of opened.tables ≡ changed_by no_rows (joined (all_changes past.journal))
   rows_are = w.rows start.journal_files (rows_of opened.tables) start.journal_reads (held start.journal_files start.journal_reads)
 
-  nth : (n : ℕ) → (n ≡ length (all_changes w.all)) ⊎ (n < length (all_changes w.all)) → HasNth disk_says depot.archive (IsNth past d [] n) w.all n
+  nth : (n : ℕ) → (n ≡ length (all_changes past.journal)) ⊎ (n < length (all_changes past.journal)) → HasNth disk_says depot.archive (IsNth past d [] n) past.journal n
   nth n (inl last) =
-      let whole : take n (all_changes w.all) ≡ all_changes w.all = ap (λ (k : ℕ). take k (all_changes w.all)) last ∙ take-length (all_changes w.all) in
-      let same : first_of n w.all ≡ rows_of opened.tables = ap (λ (l : List (List Change)). changed_by no_rows (joined l)) whole ∙ sym rows_are in
+      let whole : take n (all_changes past.journal) ≡ all_changes past.journal = ap (λ (k : ℕ). take k (all_changes past.journal)) last ∙ take-length (all_changes past.journal) in
+      let same : first_of n past.journal ≡ rows_of opened.tables = ap (λ (l : List (List Change)). changed_by no_rows (joined l)) whole ∙ sym rows_are in
       let count : n ≡ past.count + 0 = (let all = w.count in omega (arith, last, all)) in
       record {
         depot = d;
@@ -54,7 +54,7 @@ module _ {D : Type 0} (disk_says : DiskSays D) (journal archive : D) (opened : O
       let low : n < past.count = (let all = w.count in omega (arith, less, all)) in
       let then = w.each n low in
       let used : archives.used_of opened.archive ≡ spots_end (rows_of opened.tables Rev) = is.used ∙ is.archive_end in
-      let ends : spots_end (changed_by no_rows (joined (all_changes w.all)) Rev) ≡ spots_end (rows_of opened.tables Rev) = ap (λ (r : AllRows). spots_end (r Rev)) (sym rows_are) in
+      let ends : spots_end (changed_by no_rows (joined (all_changes past.journal)) Rev) ≡ spots_end (rows_of opened.tables Rev) = ap (λ (r : AllRows). spots_end (r Rev)) (sym rows_are) in
       let within = then.within in
       record {
         depot = past.after n;
@@ -67,11 +67,11 @@ module _ {D : Type 0} (disk_says : DiskSays D) (journal archive : D) (opened : O
         };
       }
 
-  pub written_master : IsMaster disk_says past d [] depot w.all
+  pub written_master : IsMaster disk_says past d [] depot past.journal
   written_master =
       let newest = w.newest start.journal_files was start.journal_reads committed in
       let generation = is.stands.generation in
-      let same = length-map w.all.closed (group_texts 1) in
+      let same = length-map past.journal.closed (group_texts 1) in
       let closed = newest.0 in
       record {
         groups = record {
@@ -91,6 +91,7 @@ module _ {D : Type 0} (disk_says : DiskSays D) (journal archive : D) (opened : O
         count = (let all = w.count in omega (arith, all));
         are_changes = refl;
         each = λ n within. nth n (eq-or-lt_of_le within);
+        fit = λ fits. fits;
       }
 
 -- so is the depot that is made of them
@@ -102,4 +103,4 @@ pub opened_master : {D : Type 0} (disk_says : DiskSays D) (journal archive : D) 
 opened_master {D} disk_says journal archive opened was is synced archive_synced reads held d start depot made h past w =
     let Ran : SerialDepot D → Type 0 = λ s. HasRun disk_says s (disk_says.moment (disk_of opened.journal)) d [] in
     let Master : SerialDepot D → Type 0 = λ s. (c : Chronicle) × IsMaster disk_says past d [] s c in
-    subst Master (sym made) (w.all, written_master disk_says journal archive opened was is synced archive_synced reads held d start (subst Ran made h) past w)
+    subst Master (sym made) (past.journal, written_master disk_says journal archive opened was is synced archive_synced reads held d start (subst Ran made h) past w)

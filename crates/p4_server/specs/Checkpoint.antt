@@ -10,13 +10,14 @@ use Rattle.disk_journal.specs.Images.{generation_of}
 use Rattle.recovery.specs.Standing.{StandFor}
 use Rattle.depot_checkpoint.specs.Taking.{StandsBeforeOrAfter, checkpointed, next_generation}
 use Rattle.wire_text.specs.Giving.{GotFront}
+use Rattle.end_lines.specs.Lines.{cause_line, generation_line}
+use Rattle.end_lines.specs.Telling.{OutGot}
+use Rattle.end_lines.specs.declared.cause.Cause.TheVariants as causes
 use Rattle.p4_server.specs.declared.ended.Ended.{Ended}
-use Rattle.p4_server.specs.declared.ended.Cause.TheVariants as causes
 use Rattle.p4_server.specs.Files.{IsStart, EachPair, HasOpened, DiskOrOutRose, DiskRose}
-use Rattle.p4_server.specs.Lines.{cause_line, generation_line}
 use Rattle.p4_server.specs.Opening.{IsUnopened}
 use Rattle.p4_server.specs.Outside.{After, Before}
-use Rattle.p4_server.specs.Telling.{IsUnrun, OutGot}
+use Rattle.p4_server.specs.Telling.{IsUnrun}
 
 -- The order has one place: that of the first command of party 0, at a moment that the clock may give. No party has an end.
 pub record IsPlaced {D S K : Type 0} (may_give : ℕ → Type 0) (ended : Ended D S K) (fault : Bool) : Type 0 where

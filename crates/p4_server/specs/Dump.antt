@@ -12,8 +12,8 @@ use Rattle.recovery.specs.Contents.{HoldWhole}
 use Rattle.recovery.specs.Holding.{Hold}
 use Rattle.depot_rows.specs.table_changes.Changed.{AllRows}
 use Rattle.wire_text.specs.Giving.{GotFront}
+use Rattle.end_lines.specs.declared.cause.Cause.TheVariants as causes
 use Rattle.p4_server.specs.declared.ended.Ended.{Ended}
-use Rattle.p4_server.specs.declared.ended.Cause.TheVariants as causes
 use Rattle.p4_server.specs.Files.{IsStart, DiskOrOutRose, BothSynced}
 use Rattle.p4_server.specs.Opening.{IsUnopened}
 use Rattle.p4_server.specs.Outside.{After, Before}

@@ -5,21 +5,11 @@ use Rattle.depot_rows.specs.depot_model.declared.order.Place.{Place}
 use Rattle.session_loop.specs.declared.session.SessionRun.{SessionRun}
 use Rattle.wire_text.specs.declared.script.ScriptEnd.{ScriptEnd}
 use Rattle.wire_text.specs.declared.script.ScriptEnd.TheVariants as scripts
+use Rattle.end_lines.specs.declared.cause.Cause.{Cause}
+use Rattle.end_lines.specs.declared.cause.Cause.TheVariants as causes
 use Rattle.p4_server.specs.declared.ended.PartyEnd.{PartyEnd}
 use Rattle.p4_server.specs.declared.ended.PartyCause.{PartyCause}
 use Rattle.p4_server.specs.declared.ended.PartyCause.TheVariants as ends
-use Rattle.p4_server.specs.declared.ended.Cause.{Cause}
-use Rattle.p4_server.specs.declared.ended.Cause.TheVariants as causes
-
-abbrev pub status_of : Cause → ℕ
-status_of causes.Done = 0
-status_of causes.Usage = 1
-status_of causes.Made = 2
-status_of causes.Unmade = 2
-status_of (causes.Damaged disk file place) = 2
-status_of causes.Script = 3
-status_of causes.Fault = 4
-status_of causes.Memory = 5
 
 -- a failed sink ends the party, whatever the reading of its script found
 abbrev pub party_end : Bool → ScriptEnd → PartyCause

@@ -10,8 +10,8 @@ use Rattle.depot_rows.specs.depot_model.declared.request.Session.{Session}
 use Rattle.depot_rows.specs.depot_model.Order.{IsOrder}
 use Rattle.party_threads.specs.replica_turns.Along.{IsToldOutput}
 use Rattle.party_threads.specs.replica_turns.Going.{IsReplicaOutput}
-use Rattle.party_threads.specs.replica_turns.Master.{IsNth, Past}
-use Rattle.party_threads.specs.run_parties.Replicas.{AreLost, HasBeenAt}
+use Rattle.party_threads.specs.replica_turns.Master.{Past}
+use Rattle.party_threads.specs.run_parties.Replicas.{AreLost}
 use Rattle.party_threads.specs.run_parties.Served.{session_counts, total_of}
 use Rattle.session_loop.specs.declared.reading.ReadSession.{ReadSession}
 use Rattle.session_loop.specs.declared.reading.ReplicaScript.{ReplicaScript}
@@ -50,10 +50,11 @@ pub record AreEnds {S K : Type 0} (source_says : SourceSays S) (sink_says : Sink
       → IsPartyEnd source_says sink_says (inputs name) (i + 1) source party
 
 module _ {D S K : Type 0} (disk_says : DiskSays D) (source_says : SourceSays S) (sink_says : SinkSays K) (may_give : ℕ → Type 0) (since : ℕ) (start : List Deed) where
-  -- What the sink of a replica got: the replies to its first commands, in order, where each `pull` took what the journal answered of a depot in files that had
-  -- run a beginning of the order, and each other reply is that of the rows which it had then. Whether a reply says that a disk failed is told.
+  -- What the sink of a replica got: the replies to its first commands, in order, each over a depot in files that had run so many places of the order, no fewer
+  -- than at the command before: each `pull` took what the journal of it answered, and each other reply is that of the rows which the replica had then. Whether a
+  -- reply says that a disk failed is told.
   pub record IsReplicaPart (sessions : List (Option Session)) (order : List Place) (lost : Bool) (number : ℕ) (script : ReplicaScript) (commands : ℕ) (failed : Bool) (before now : Option (List ℕ)) : Type 0 where
-    pub output : IsReplicaOutput (HasBeenAt disk_says sessions since start order) disk_says may_give number script commands failed lost before now
+    pub output : IsReplicaOutput disk_says since start (map (placed sessions) order) may_give number script commands failed lost before now
 
   -- What a party's sink got. A session's has what one thread answers to its commands, in order, when it takes the commands of all sessions in the order, from
   -- the depot `start` on. So has that of a script without a head, which has no commands.
@@ -84,12 +85,15 @@ module _ {D S K : Type 0} (disk_says : DiskSays D) (source_says : SourceSays S) 
     pub each : (i : ℕ) (name : List ℕ) (session : Option Session) (replica : Option ReplicaScript) (source : S) (party : PartyEnd K) → slice_get names i ≡ Some name → slice_get sessions i ≡ Some session → slice_get replicas i ≡ Some replica
         → slice_get sources i ≡ Some source → slice_get parties i ≡ Some party → IsPartyOf sessions order (get_or flags i false) (inputs name) (outputs name) (i + 1) session replica source party
 
-  -- Each reply of a replica other than to `pull` is that of a replica of the depot after the first n changes, those before the run and then those among the
-  -- places of the order, cut to its filter, where n is what its last `pull` told, and 0 before one; n never falls.
+  -- A replica's commands were answered one after another, each when so many places of the order were taken, no fewer than at the command before. Each reply
+  -- other than to `pull` is that of a replica of the depot after the first n changes, those before the run and then those among these places, cut to its filter,
+  -- where n is what its last `pull` told, and 0 before one; n never falls. Each `pull` that tells a position took at least one byte of the journal as it is
+  -- after these places, passed to the next generation, or found all of its generation taken, where the changes before the run fit, one after another, and the
+  -- journal has fewer than 2 ^ 63 bytes.
   abbrev pub AreRepliesTold : Past → (List ℕ → Option (List ℕ)) → List (List ℕ) → List (Option Session) → List (Option ReplicaScript) → List Place → List (PartyEnd K) → Type 0
   AreRepliesTold past outputs names sessions replicas order parties =
       (i : ℕ) (name : List ℕ) (script : ReplicaScript) (party : PartyEnd K) → slice_get names i ≡ Some name → slice_get replicas i ≡ Some (Some script) → slice_get parties i ≡ Some party
-      → IsToldOutput (IsNth past start (map (placed sessions) order)) may_give (i + 1) script (run_of party).commands (run_of party).failed (outputs name) (sink_says.given party.sink)
+      → IsToldOutput past start (map (placed sessions) order) may_give (i + 1) script (run_of party).commands (run_of party).failed (outputs name) (sink_says.given party.sink)
 
   -- The headline, who took the commands has run their places, and the order came about so. Where the run began over a depot with such changes before it, the
   -- replies of replicas are those for numbers of changes.

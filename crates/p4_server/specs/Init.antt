@@ -10,8 +10,8 @@ use Rattle.recovery.specs.Opening.{LooksOnly}
 use Rattle.recovery.specs.Standing.{StandFor}
 use Rattle.recovery.specs.declared.fault.MakeFault.{MakeFault}
 use Rattle.recovery.specs.declared.fault.MakeFault.TheVariants.{Made, DiskFault}
-use Rattle.p4_server.specs.declared.ended.Cause.{Cause}
-use Rattle.p4_server.specs.declared.ended.Cause.TheVariants as causes
+use Rattle.end_lines.specs.declared.cause.Cause.{Cause}
+use Rattle.end_lines.specs.declared.cause.Cause.TheVariants as causes
 use Rattle.p4_server.specs.Files.{EachPair, DiskRose, BothOnlyRead}
 use Rattle.p4_server.specs.Outside.{After, Before}
 use Rattle.p4_server.specs.Telling.{IsToldAlone}

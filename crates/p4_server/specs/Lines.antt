@@ -1,16 +1,14 @@
 -- The lines that tell the order and the ends.
-use Rattle.std.specs.Prelude.{ℕ, List, [], ◌++◌, Option, Some, None, codes, decimal, if◌then◌else◌}
+use Rattle.std.specs.Prelude.{ℕ, List, [], ◌++◌, codes, decimal, if◌then◌else◌}
 use Rattle.std.specs.List.{flat_map}
 use Rattle.depot_rows.specs.depot_model.declared.order.Place.{Place}
-use Rattle.recovery.specs.declared.fault.DepotDisk.{DepotDisk}
-use Rattle.recovery.specs.declared.fault.DepotDisk.TheVariants.{Journal, Archive}
 use Rattle.wire_text.specs.declared.fault.ScriptFaultKind.{ScriptFaultKind}
 use Rattle.wire_text.specs.declared.fault.ScriptFaultKind.TheVariants.{BadHead, LongLine, BadData, Cut, LongData}
+use Rattle.end_lines.specs.declared.cause.Cause.{Cause}
+use Rattle.end_lines.specs.declared.cause.Cause.TheVariants as causes
 use Rattle.p4_server.specs.declared.ended.PartyEnd.{PartyEnd}
 use Rattle.p4_server.specs.declared.ended.PartyCause.{PartyCause}
 use Rattle.p4_server.specs.declared.ended.PartyCause.TheVariants as ends
-use Rattle.p4_server.specs.declared.ended.Cause.{Cause}
-use Rattle.p4_server.specs.declared.ended.Cause.TheVariants as causes
 
 abbrev pub faulted_line : Place → List ℕ
 faulted_line place = codes "fault " ++ decimal place.party ++ codes " " ++ decimal place.number ++ codes "\n"
@@ -51,32 +49,3 @@ fault_line _ = []
 -- the lines of a run: its places, the faults of its scripts, and whether the outside failed
 abbrev pub run_lines : {K : Type 0} → List Place → List (PartyEnd K) → Cause → List ℕ
 run_lines order parties cause = place_lines order ++ end_lines parties ++ fault_line cause
-
--- ---- where no party was run
-
-abbrev pub disk_word : DepotDisk → List ℕ
-disk_word Journal = codes "journal"
-disk_word Archive = codes "archive"
-
--- `damaged DISK FILE PLACE`
-abbrev pub damage_words : List ℕ → List ℕ → List ℕ → List ℕ
-damage_words disk file place = codes "damaged " ++ (disk ++ (codes " " ++ (file ++ (codes " " ++ (place ++ codes "\n")))))
-
-abbrev pub damage_line : DepotDisk → ℕ → ℕ → List ℕ
-damage_line disk file place = damage_words (disk_word disk) (decimal file) (decimal place)
-
--- `usage`, `made`, `unmade`, `damaged DISK FILE PLACE` or `fault`
-abbrev pub cause_line : Cause → List ℕ
-cause_line causes.Usage = codes "usage\n"
-cause_line causes.Made = codes "made\n"
-cause_line causes.Unmade = codes "unmade\n"
-cause_line (causes.Damaged disk file place) = damage_line disk file place
-cause_line causes.Fault = codes "fault\n"
-cause_line causes.Done = []
-cause_line causes.Script = []
-cause_line causes.Memory = []
-
--- `journal N` for the generation that a checkpoint began, or `limit generation 4095` where there is none behind the last one
-abbrev pub generation_line : Option ℕ → List ℕ
-generation_line (Some generation) = codes "journal " ++ (decimal generation ++ codes "\n")
-generation_line None = codes "limit generation 4095\n"

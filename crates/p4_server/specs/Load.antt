@@ -22,15 +22,16 @@ use Rattle.session_loop.specs.Served.{AreCaused}
 use Rattle.wire_text.specs.Giving.{GotFront}
 use Rattle.wire_text.specs.declared.script.ScriptEnd.{ScriptEnd}
 use Rattle.wire_text.specs.declared.script.ScriptEnd.TheVariants.{Whole, Fault, ReadFault}
-use Rattle.p4_server.specs.declared.ended.Cause.{Cause}
-use Rattle.p4_server.specs.declared.ended.Cause.TheVariants as causes
+use Rattle.end_lines.specs.Lines.{cause_line}
+use Rattle.end_lines.specs.Telling.{OutGot}
+use Rattle.end_lines.specs.declared.cause.Cause.{Cause}
+use Rattle.end_lines.specs.declared.cause.Cause.TheVariants as causes
 use Rattle.p4_server.specs.Ends.{has_fault_place}
 use Rattle.p4_server.specs.Files.{IsStart, EachPair, HasOpened, PairIsKept, DiskOrOutRose, DiskRose, BothOnlyRead}
 use Rattle.p4_server.specs.Init.{HasOnlyMade}
-use Rattle.p4_server.specs.Lines.{cause_line}
 use Rattle.p4_server.specs.Opening.{IsUnopened}
 use Rattle.p4_server.specs.Outside.{After, Before}
-use Rattle.p4_server.specs.Telling.{IsToldAlone, OutGot}
+use Rattle.p4_server.specs.Telling.{IsToldAlone}
 
 -- the commands of the script
 abbrev pub load_commands : ℕ → ℕ → ℕ

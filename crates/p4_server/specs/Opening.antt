@@ -6,21 +6,11 @@ use Rattle.outside_api.specs.Says.{DiskSays, SinkSays}
 use Rattle.depot_rows.specs.depot_model.Deeds.{Deed}
 use Rattle.recovery.specs.Damage.{IsDamage}
 use Rattle.recovery.specs.declared.fault.DepotDisk.{DepotDisk}
-use Rattle.recovery.specs.declared.fault.OpenFault.{OpenFault}
-use Rattle.recovery.specs.declared.fault.OpenFault.TheVariants.{Unmade, Damaged, DiskFault, Memory}
 use Rattle.recovery.specs.Standing.{StandFor}
-use Rattle.p4_server.specs.declared.ended.Cause.{Cause}
-use Rattle.p4_server.specs.declared.ended.Cause.TheVariants as causes
+use Rattle.end_lines.specs.declared.cause.Cause.TheVariants as causes
 use Rattle.p4_server.specs.Files.{DiskRose, BothSynced}
 use Rattle.p4_server.specs.Outside.{After, Before}
 use Rattle.p4_server.specs.Telling.{IsToldAlone}
-
--- the cause of an end whose files weren't opened
-abbrev pub cause_by : OpenFault → Cause
-cause_by Unmade = causes.Unmade
-cause_by (Damaged disk file place) = causes.Damaged disk file place
-cause_by DiskFault = causes.Fault
-cause_by Memory = causes.Memory
 
 module _ {D S K : Type 0} (disk_says : DiskSays D) (sink_says : SinkSays K) (before : Before D K) (after : After D S K) where
   -- the root is empty, and both disks read as before

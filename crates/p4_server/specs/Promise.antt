@@ -1,11 +1,11 @@
 -- What a run of the program promises, whatever its words, its outside and its files.
 use Rattle.std.specs.Prelude.{◌≡◌, ◌⊎◌, ℕ, List, Some, None}
 use Rattle.outside_api.specs.Says.{SinkSays}
-use Rattle.p4_server.specs.declared.ended.Cause.{Cause}
-use Rattle.p4_server.specs.declared.ended.Cause.TheVariants as causes
+use Rattle.end_lines.specs.Causes.{status_of}
+use Rattle.end_lines.specs.declared.cause.Cause.{Cause}
+use Rattle.end_lines.specs.declared.cause.Cause.TheVariants as causes
 use Rattle.p4_server.specs.Checkpoint.{Checkpoints}
 use Rattle.p4_server.specs.Dump.{Dumps}
-use Rattle.p4_server.specs.Ends.{status_of}
 use Rattle.p4_server.specs.Init.{Inits}
 use Rattle.p4_server.specs.Load.{Loads}
 use Rattle.p4_server.specs.Outside.{After, Before, Outside}

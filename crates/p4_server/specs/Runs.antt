@@ -8,9 +8,9 @@ use Rattle.depot_runs.specs.Run.{placed}
 use Rattle.party_threads.specs.replica_turns.Master.{Past}
 use Rattle.session_loop.specs.Asking.{asking_of}
 use Rattle.session_loop.specs.Served.{AreCaused}
+use Rattle.end_lines.specs.declared.cause.Cause.{Cause}
+use Rattle.end_lines.specs.declared.cause.Cause.TheVariants as causes
 use Rattle.p4_server.specs.declared.ended.PartyEnd.{PartyEnd}
-use Rattle.p4_server.specs.declared.ended.Cause.{Cause}
-use Rattle.p4_server.specs.declared.ended.Cause.TheVariants as causes
 use Rattle.p4_server.specs.declared.party.NotRun.{NotRun}
 use Rattle.p4_server.specs.declared.party.NotRun.TheVariants.{Doors, Memory}
 use Rattle.p4_server.specs.Ends.{run_of}

@@ -1,20 +1,17 @@
 -- What `out` gets of the end of a run.
-use Rattle.std.specs.Prelude.{◌≡◌, ◌⊎◌, ℕ, Bool, List, [], Option}
+use Rattle.std.specs.Prelude.{◌≡◌, ◌⊎◌, Bool, List, []}
 use Rattle.outside_api.specs.Count.{HasRisen}
 use Rattle.outside_api.specs.Says.{SinkSays}
 use Rattle.outside_api.specs.Told.{extended}
 use Rattle.depot_rows.specs.depot_model.declared.order.Place.{Place}
 use Rattle.wire_text.specs.Giving.{GotFront}
+use Rattle.end_lines.specs.Lines.{cause_line}
+use Rattle.end_lines.specs.Telling.{OutGot}
+use Rattle.end_lines.specs.declared.cause.Cause.TheVariants as causes
 use Rattle.p4_server.specs.declared.ended.Ended.{Ended}
 use Rattle.p4_server.specs.declared.ended.PartyEnd.{PartyEnd}
-use Rattle.p4_server.specs.declared.ended.Cause.TheVariants as causes
 use Rattle.p4_server.specs.Ends.{ends_cause}
-use Rattle.p4_server.specs.Lines.{run_lines, cause_line}
-
--- `out` got these lines, or, where its count rose, a proper front of them
-abbrev pub OutGot : Option (List ℕ) → Option (List ℕ) → ℕ → ℕ → List ℕ → Type 0
-OutGot before now faults_before faults_now lines =
-    (now ≡ extended before lines) ⊎ (HasRisen faults_before faults_now × GotFront before now lines)
+use Rattle.p4_server.specs.Lines.{run_lines}
 
 -- nothing was run
 pub record IsUnrun {D S K : Type 0} (ended : Ended D S K) : Type 0 where

@@ -2,17 +2,19 @@
 
 ghost use Rattle.std.specs.Prelude.{◌≡◌, ◌∷◌, [], true, false, IfOk};
 ghost use Rattle.depot_checkpoint.specs.declared.fault.TakingFault.TheVariants as faults;
+ghost use Rattle.end_lines.specs.Causes.{status_of};
+ghost use Rattle.end_lines.specs.Lines.{cause_line, generation_line};
+ghost use Rattle.end_lines.specs.Telling.{OutGot};
 ghost use Rattle.p4_server.specs.Checkpoint.{Checkpoints, IsLine};
-ghost use Rattle.p4_server.specs.Ends.{status_of};
-ghost use Rattle.p4_server.specs.Lines.{cause_line, generation_line};
-ghost use Rattle.p4_server.specs.Telling.{IsUnrun, OutGot};
+ghost use Rattle.p4_server.specs.Telling.{IsUnrun};
 
-use crate::ended::{Cause, Ended, status_code};
+use crate::ended::Ended;
 use crate::opening::end_unopened;
-use crate::telling::{ended_alone, give_cause, give_generation};
+use crate::telling::ended_alone;
 use depot_checkpoint::{TakingFault, take_checkpoint};
 use depot_rows::model::Place;
 use depot_rows::paths::Sequence;
+use end_lines::{Cause, give_cause, give_generation, status_code};
 use outside_api::{Clock, Disk, Sink};
 use recovery::{Opened, open_files};
 use std::alloc::{AllocError, Global};

@@ -1,11 +1,11 @@
 //! How a run of the program ends.
 
 ghost use Rattle.std.specs.Prelude.{◌≡◌, ◌≤◌, ◌<◌, ◌+◌, ◌∷◌, List, drop, length, IfOk};
-ghost use Rattle.p4_server.specs.Ends.{status_of, is_failed as failed_test, is_faulty as faulty_test, has_fault_place, has_failed_party, has_faulty_party, ends_cause, party_end, ended_parties};
+ghost use Rattle.p4_server.specs.Ends.{is_failed as failed_test, is_faulty as faulty_test, has_fault_place, has_failed_party, has_faulty_party, ends_cause, party_end, ended_parties};
 
 use depot_rows::model::Place;
 use depot_rows::paths::Sequence;
-use recovery::DepotDisk;
+use end_lines::Cause;
 use session_loop::SessionRun;
 use std::alloc::{AllocError, Global};
 use wire_text::{ScriptEnd, ScriptFault};
@@ -36,31 +36,6 @@ pub struct PartyEnd<K> {
     pub end: PartyCause,
 }
 
-/// Why the program ends.
-#[derive(Clone, Copy, PartialEq, Eq)]
-pub enum Cause {
-    /// All is done.
-    Done,
-    /// The words are those of no mode.
-    Usage,
-    /// Files are there already, where none were to be.
-    Made,
-    /// No files are there.
-    Unmade,
-    /// The files hold no rows: the first byte of a file from which on nothing stands is at this place, counted from 0.
-    Damaged {
-        disk: DepotDisk,
-        file: u32,
-        place: u64,
-    },
-    /// A script has a fault.
-    Script,
-    /// The outside has failed.
-    Fault,
-    /// There was no memory.
-    Memory,
-}
-
 /// What a run of the program leaves.
 #[derive(Drop)]
 pub struct Ended<D, S, K> {
@@ -79,20 +54,6 @@ pub struct Ended<D, S, K> {
     pub journal: D,
     /// The archive's disk.
     pub archive: D,
-}
-
-/// The status of a cause.
-pub fn status_code(cause: Cause) -> u8
-    ensures { result ≡ status_of cause }
-{
-    match cause {
-        Cause::Done => 0,
-        Cause::Usage => 1,
-        Cause::Made | Cause::Unmade | Cause::Damaged { .. } => 2,
-        Cause::Script => 3,
-        Cause::Fault => 4,
-        Cause::Memory => 5,
-    }
 }
 
 /// How a party ends of which a script was read so, and whose sink failed or not.

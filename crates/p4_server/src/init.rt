@@ -1,11 +1,12 @@
 //! The mode `init`.
 
 ghost use Rattle.std.specs.Prelude.{◌≡◌};
-ghost use Rattle.p4_server.specs.Ends.{status_of};
+ghost use Rattle.end_lines.specs.Causes.{status_of};
 ghost use Rattle.p4_server.specs.Init.{Inits, cause_by};
 
-use crate::ended::{Cause, Ended};
+use crate::ended::Ended;
 use crate::telling::end_alone;
+use end_lines::Cause;
 use outside_api::{Disk, Sink};
 use recovery::{MakeFault, make_files};
 use std::alloc::Global;

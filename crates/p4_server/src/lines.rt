@@ -3,9 +3,10 @@
 ghost use Rattle.std.specs.Prelude.{◌≡◌, ◌++◌, OnOk, IfOk, decimal};
 ghost use Rattle.p4_server.specs.Lines.{faulted_line, placed_line, place_line, place_lines, end_line, end_lines, fault_code, fault_line, run_lines};
 
-use crate::ended::{Cause, PartyCause, PartyEnd};
+use crate::ended::{PartyCause, PartyEnd};
 use depot_rows::model::Place;
 use depot_rows::paths::Text;
+use end_lines::Cause;
 use itoa::Buffer;
 use std::alloc::{AllocError, Global};
 use wire_text::ScriptFaultKind;

@@ -1,27 +1,15 @@
 //! Runs whose files weren't opened.
 
 ghost use Rattle.std.specs.Prelude.{◌≡◌};
-ghost use Rattle.p4_server.specs.Ends.{status_of};
-ghost use Rattle.p4_server.specs.Opening.{cause_by};
+ghost use Rattle.end_lines.specs.Causes.{cause_by, status_of};
 ghost use Rattle.p4_server.specs.Telling.{IsToldAlone};
 
-use crate::ended::{Cause, Ended};
+use crate::ended::Ended;
 use crate::telling::end_alone;
+use end_lines::cause_of_fault;
 use outside_api::{Disk, Sink};
-use recovery::{NotOpened, OpenFault};
+use recovery::NotOpened;
 use std::alloc::Global;
-
-/// The cause of an end whose files weren't opened.
-fn cause_of_fault(fault: OpenFault) -> Cause
-    ensures { result ≡ cause_by fault }
-{
-    match fault {
-        OpenFault::Unmade => Cause::Unmade,
-        OpenFault::Damaged { disk, file, place } => Cause::Damaged { disk, file, place },
-        OpenFault::DiskFault => Cause::Fault,
-        OpenFault::Memory => Cause::Memory,
-    }
-}
 
 /// The end of a run whose files weren't opened.
 pub fn end_unopened<D: Disk, S, K: Sink>(

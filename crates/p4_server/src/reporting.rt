@@ -4,17 +4,19 @@ ghost use Rattle.std.specs.Prelude.{◌≡◌, ◌≤◌, ◌⊎◌, length, IfO
 ghost use Rattle.outside_api.specs.Count.{HasRisen};
 ghost use Rattle.outside_api.specs.Told.{extended};
 ghost use Rattle.wire_text.specs.Giving.{GotFront};
-ghost use Rattle.p4_server.specs.Ends.{status_of, ends_cause, ended_parties};
+ghost use Rattle.end_lines.specs.Causes.{status_of};
+ghost use Rattle.p4_server.specs.Ends.{ends_cause, ended_parties};
 ghost use Rattle.p4_server.specs.Lines.{run_lines};
 ghost use Rattle.p4_server.specs.Parties.{CanBeTold, parties_of};
 ghost use Rattle.p4_server.specs.Runs.{unrun_cause};
 ghost use Rattle.p4_server.specs.Telling.{IsReport, IsUntold};
 
-use crate::ended::{Cause, Ended, PartyEnd, all_ends, cause_of, status_code};
+use crate::ended::{Ended, PartyEnd, all_ends, cause_of};
 use crate::lines::lines;
 use crate::party::{NotRun, PartiesRun};
 use depot_rows::model::Place;
 use depot_rows::paths::{Sequence, Text};
+use end_lines::{Cause, status_code};
 use outside_api::Sink;
 use session_loop::SessionRun;
 use std::alloc::{AllocError, Global};

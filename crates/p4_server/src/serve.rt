@@ -1,7 +1,7 @@
 //! The mode `serve`: the run of the parties over the files of the depot, each on a thread of its own.
 
 ghost use Rattle.std.specs.Prelude.{◌≡◌, ◌≤◌, length};
-ghost use Rattle.p4_server.specs.Ends.{status_of};
+ghost use Rattle.end_lines.specs.Causes.{status_of};
 ghost use Rattle.p4_server.specs.Parties.{AreDifferent};
 ghost use Rattle.p4_server.specs.Serve.{Serves};
 ghost use Rattle.program_words.specs.Words.{words_of};

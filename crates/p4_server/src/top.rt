@@ -6,12 +6,13 @@ ghost use Rattle.program_words.specs.Words.{asks_alone, words_of};
 
 use crate::checkpoint::checkpoint;
 use crate::dump::dump;
-use crate::ended::{Cause, Ended};
+use crate::ended::Ended;
 use crate::init::init;
 use crate::load::load;
 use crate::schedule::schedule;
 use crate::serve::serve;
 use crate::telling::end_alone;
+use end_lines::Cause;
 use outside_api::{Clock, Disk, Doors, Gate};
 use program_words::{Mode, mode_of, served_names};
 use std::alloc::Global;

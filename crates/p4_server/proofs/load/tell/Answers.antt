@@ -1,6 +1,6 @@
 use Rattle.std.proofs.Common.{refl}
+use Rattle.end_lines.proofs.Tellings.{got_lines}
 use Rattle.p4_server.proofs.Loadings.{told_other}
-use Rattle.p4_server.proofs.Tellings.{got_lines}
 use Rattle.p4_server.proofs.load.tell.Goals as goal
 
 pub returns-in_default : goal.returns-in_default

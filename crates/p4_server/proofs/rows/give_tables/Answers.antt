@@ -2,11 +2,11 @@ use Rattle.std.proofs.Common.{subst, Err, ◌≡◌, ◌+◌, ◌++◌, ◌∷�
 use Rattle.depot_rows.specs.db_records.Table.{all_tables}
 use Rattle.depot_rows.specs.db_records.declared.table.TableId.{TableId}
 use Rattle.depot_rows.specs.db_records.declared.table.TableId.TheVariants.{Counter}
+use Rattle.end_lines.proofs.Tellings.{parted}
 use Rattle.p4_server.specs.Rows.{Prints, rows_text, tables_text}
 use Rattle.depot_rows.specs.table_store.Rows.{TableRows}
 use Rattle.depot_rows.specs.table_store.Tables.{version_of}
 use Rattle.p4_server.proofs.RowsLemmas.{prints_last}
-use Rattle.p4_server.proofs.Tellings.{parted}
 use Rattle.p4_server.proofs.rows.give_tables.Goals as goal
 
 pub returns-in-Err-clause-prints : goal.returns-in-Err-clause-prints

@@ -1,7 +1,7 @@
 use Rattle.std.proofs.Common.{sym, subst}
-use Rattle.p4_server.specs.Lines.{cause_line}
-use Rattle.p4_server.specs.Telling.{OutGot}
-use Rattle.p4_server.proofs.Tellings.{got_lines}
+use Rattle.end_lines.specs.Lines.{cause_line}
+use Rattle.end_lines.specs.Telling.{OutGot}
+use Rattle.end_lines.proofs.Tellings.{got_lines}
 use Rattle.p4_server.proofs.telling.end_alone.Goals as goal
 
 pub returns-clause-told : goal.returns-clause-told

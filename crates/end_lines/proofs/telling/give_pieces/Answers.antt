@@ -2,8 +2,8 @@ use Rattle.std.proofs.Common.{ℕ, ◌+◌, List, take, drop, subst}
 use Rattle.std.specs.Borrow.{Bor}
 use Rattle.std.specs.List.{flat_map}
 use Rattle.wire_text.specs.Giving.{GotFront}
-use Rattle.p4_server.proofs.Tellings.{parted, front_last}
-use Rattle.p4_server.proofs.telling.give_pieces.Goals as goal
+use Rattle.end_lines.proofs.Tellings.{parted, front_last}
+use Rattle.end_lines.proofs.telling.give_pieces.Goals as goal
 
 pub returns-in-Err-clause-given : goal.returns-in-Err-clause-given
 returns-in-Err-clause-given g c =

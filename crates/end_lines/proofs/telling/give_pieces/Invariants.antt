@@ -1,7 +1,7 @@
 use Rattle.std.proofs.Common.{◌≡◌, ◌≤◌, take}
 use Rattle.std.specs.List.{flat_map}
 use Rattle.outside_api.specs.Told.{extended}
-use Rattle.p4_server.proofs.telling.give_pieces.Given as goal
+use Rattle.end_lines.proofs.telling.give_pieces.Given as goal
 
 abbrev pub invariant-loop-piece : goal.invariant-loop-piece
 invariant-loop-piece g l =

@@ -6,7 +6,7 @@ use Rattle.outside_api.specs.Count.{HasCause}
 use Rattle.outside_api.specs.Told.{extended}
 use Rattle.wire_text.specs.Giving.{GotFront, GivesAll}
 use Rattle.wire_text.proofs.Pieces.{front_behind, front_before}
-use Rattle.p4_server.specs.Telling.{OutGot}
+use Rattle.end_lines.specs.Telling.{OutGot}
 
 module _ {A : Type 0} (text_of : A → List ℕ) where
   texts-append : (xs ys : List A) → flat_map text_of (xs ++ ys) ≡ flat_map text_of xs ++ flat_map text_of ys
