@@ -16,7 +16,8 @@ use Rattle.replica_chain.specs.Masters.{IsBehind, Upstream}
 use Rattle.replica_chain.specs.Node.{IsNode}
 use Rattle.replica_chain.specs.declared.node.Node.{Node}
 use Rattle.replica_chain.proofs.Following.{IsFrontOf, front_of}
-use Rattle.replica_chain.proofs.Growing.{last_of, texts_are}
+use Rattle.recovery.proofs.OneGroup.{last_of}
+use Rattle.replica_chain.proofs.Growing.{texts_are}
 use Rattle.replica_chain.proofs.Steps.{all_earlier, its_generation}
 
 -- the text of a generation before the newest is whole

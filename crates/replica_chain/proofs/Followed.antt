@@ -11,7 +11,6 @@ use Rattle.archive_file.specs.Archive.{Has}
 use Rattle.depot_rows.specs.db_records.declared.change.Change.{Change}
 use Rattle.depot_rows.specs.table_changes.Changed.{changed_in, rows_of}
 use Rattle.disk_journal.specs.Stands.{disk_of, generation_of_journal}
-use Rattle.disk_journal.specs.declared.journal.Journal.{Journal}
 use Rattle.journal_groups.specs.Reader.{State}
 use Rattle.journal_groups.specs.declared.moved.Moved.{Moved}
 use Rattle.journal_groups.specs.declared.moved.Moved.TheVariants as moves
@@ -24,10 +23,11 @@ use Rattle.replica_chain.specs.Node.{IsNode}
 use Rattle.replica_chain.specs.Pulling.{HasFollowed, HasMoved, HasStopped, HasTakenGroups, IsFetched, IsStopped, IsStoppedBy, IsUnpassed, IsUnread, IsUntaken, IsWhereItWas}
 use Rattle.replica_chain.specs.declared.fault.NodeFault.{NodeFault}
 use Rattle.replica_chain.specs.declared.fault.NodeFault.TheVariants.{LinkFault, ContentsFailed, DiskFault, BadFeed, BadContent, NoBytes, NoGeneration, Memory}
+use Rattle.replica_chain.specs.declared.link.NodeLink.{NodeLink}
 use Rattle.replica_chain.specs.declared.node.Node.{Node}
 use Rattle.replica_chain.proofs.Chains.{earlier_on}
 use Rattle.replica_chain.proofs.Following.{has_later, piece_has}
-use Rattle.replica_chain.proofs.Rests.{with_journal, with_rest}
+use Rattle.replica_chain.proofs.Rests.{with_link, with_rest}
 use Rattle.replica_chain.proofs.Steps.{at_first, grown_on, its_generation}
 
 -- ---- causes
@@ -119,11 +119,11 @@ pub unmoved_goes : {D : Type 0} (disk_says : DiskSays D) (node : Node D) (c : Ch
 unmoved_goes disk_says node c up T B only bytes b now told more =
     goes_later disk_says c up now more node node T B told (at_first disk_says node c (told_now disk_says c up now more) B only bytes (behind_later disk_says c up now more node b))
 
--- ---- another journal of the same generation before
+-- ---- another link, of the same generation, before
 
-module _ {D : Type 0} (old : Node D) (journal : Journal D) (same : generation_of_journal journal ≡ generation_of_journal old.link.journal) where
+module _ {D : Type 0} (old : Node D) (own : NodeLink D) (same : generation_of_journal own.journal ≡ generation_of_journal old.link.journal) where
   abbrev settled : Node D
-  settled = with_journal old journal
+  settled = with_link old own
 
   pub where_from : (new : Node D) → IsWhereItWas settled new → IsWhereItWas old new
   where_from new w = record { generation = w.generation ∙ same; rows = w.rows; before = w.before; at = w.at; number = w.number; changes = w.changes }

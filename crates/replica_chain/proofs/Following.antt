@@ -17,7 +17,7 @@ use Rattle.replica_chain.proofs.Growing.{as_many, texts_are}
 
 -- ---- lists with a last item
 
-last_same : {A : Type 0} (front other : List A) (x y : A) → length front ≡ length other → front ++ x ∷ [] ≡ other ++ y ∷ [] → (front ≡ other) × (x ≡ y)
+pub last_same : {A : Type 0} (front other : List A) (x y : A) → length front ≡ length other → front ++ x ∷ [] ≡ other ++ y ∷ [] → (front ≡ other) × (x ≡ y)
 last_same [] [] x y long is = (refl, cc)
 last_same [] (o ∷ other) x y long is = absurd (omega (arith, long))
 last_same (f ∷ front) [] x y long is = absurd (omega (arith, long))

@@ -25,11 +25,12 @@ use Rattle.replica_pull.specs.Prefix.{HasNoGroup}
 use Rattle.replica_pull.specs.Replica.{beginning}
 use Rattle.replica_pull.proofs.Counted.{empty_no_group}
 use Rattle.replica_chain.specs.Chronicle.{Chronicle, changes_of, generations_of, rows_made, texts_of, with_beginning}
+use Rattle.replica_chain.specs.Ends.{KeepsScanned}
 use Rattle.replica_chain.specs.Masters.{HasSomeOf, IsBehind, Upstream}
 use Rattle.replica_chain.specs.Node.{HasContentsOf, HasFrontTo, IsNode, IsSettled, reach_of}
 use Rattle.replica_chain.specs.Pulling.{HasPassed, IsWhereItWas}
 use Rattle.replica_chain.specs.declared.node.Node.{Node}
-use Rattle.replica_chain.proofs.Groups.{all-push}
+use Rattle.recovery.proofs.OneGroup.{all-push}
 use Rattle.replica_chain.proofs.Grouping.{settled_contents}
 use Rattle.replica_chain.proofs.Growing.{changes_begun, rows_begun, texts_are}
 use Rattle.replica_chain.proofs.Nodes.{no_doubt, none_pending, same_node}
@@ -90,24 +91,25 @@ module _ {D : Type 0} (disk_says : DiskSays D) (old new : Node D) (c : Chronicle
   pub generation_is : generation_of_journal old.link.journal ≡ length c.closed
   generation_is = let one = n.stands.generation in let two = its_generation disk_says old c n in omega (arith, one, two)
 
-  module _ (older : (before : List (List (List ℕ))) → KeepsOlder disk_says old.link.journal before → KeepsOlder disk_says new.link.journal before) (where_is : IsWhereItWas old new) where
+  module _ (older : (before : List (List (List ℕ))) → KeepsOlder disk_says old.link.journal before → KeepsOlder disk_says new.link.journal before) (scanned : KeepsScanned disk_says old.link new.link) (where_is : IsWhereItWas old new) where
     -- nothing was written
     pub unpassed_node : Stands disk_says new.link.journal n.was nothing → IsNode disk_says new c
-    unpassed_node stands = same_node disk_says old new c n where_is nothing c stands older refl n.has sees.0 sees.1 its_contents
+    unpassed_node stands = same_node disk_says old new c n where_is nothing c stands older scanned refl n.has sees.0 sees.1 its_contents
 
     -- the next generation is in doubt
     pub opening_node : (text : List ℕ) → Stands disk_says new.link.journal n.was (opening text) → HasAllRows (with_generation n.was text) (rows_made next) → IsNode disk_says new c
     opening_node text stands has =
-        same_node disk_says old new c n where_is (opening text) next stands older refl has sees.0 sees.1 (contents_of_same disk_says new.archive (rows_made c) (rows_made c) (rows_made next) revisions its_contents)
+        same_node disk_says old new c n where_is (opening text) next stands older scanned refl has sees.0 sees.1 (contents_of_same disk_says new.archive (rows_made c) (rows_made c) (rows_made next) revisions its_contents)
 
   -- it begins
   pub passed_node : (text : List ℕ) → HasPassed old new → Stands disk_says new.link.journal (with_generation n.was text) nothing
-      → KeepsOlder disk_says new.link.journal (map (group_texts 1) c.closed ++ n.was.groups ∷ []) → HasAllRows (with_generation n.was text) (rows_made next) → IsNode disk_says new next
-  passed_node text passed stands closes has = record {
+      → KeepsOlder disk_says new.link.journal (map (group_texts 1) c.closed ++ n.was.groups ∷ []) → KeepsScanned disk_says old.link new.link → HasAllRows (with_generation n.was text) (rows_made next) → IsNode disk_says new next
+  passed_node text passed stands closes scanned has = record {
     was = with_generation n.was text;
     doubt = nothing;
     stands = stands;
     keeps = subst (KeepsOlder disk_says new.link.journal) (ap (λ (groups : List (List ℕ)). map (group_texts 1) c.closed ++ groups ∷ []) n.are ∙ sym (map-append (group_texts 1) c.closed (c.newest ∷ []))) closes;
+    scanned = scanned n.scanned;
     are = refl;
     are_groups = all_push_last (generations_of c) n.are_groups;
     has = has;
@@ -154,7 +156,7 @@ module _ {D : Type 0} (disk_says : DiskSays D) (old new : Node D) (c : Chronicle
   pub passed_moment : (text : List ℕ) → IsEarlier (texts_of (with_beginning c)) up.texts → (image : Files) → HasEither n.was (with_generation n.was text) image → HasSomeOf c up.texts image
   passed_moment text next = some_doubted c n.was up.texts (its_generation disk_says old c n) n.are (opening text) (with_beginning c) refl next
 
-  module _ (older : (before : List (List (List ℕ))) → KeepsOlder disk_says old.link.journal before → KeepsOlder disk_says new.link.journal before) (where_is : IsWhereItWas old new) (rest : new.rest ≡ old.rest) where
+  module _ (older : (before : List (List (List ℕ))) → KeepsOlder disk_says old.link.journal before → KeepsOlder disk_says new.link.journal before) (scanned : KeepsScanned disk_says old.link new.link) (where_is : IsWhereItWas old new) (rest : new.rest ≡ old.rest) where
     its_rest : Has (text_of up.texts (length c.closed)) (record { at = new.at; length = length new.rest }) new.rest
     its_rest =
         subst (λ (at : ℕ). Has (text_of up.texts (length c.closed)) (record { at = at; length = length new.rest }) new.rest) (sym where_is.at)
@@ -167,7 +169,7 @@ module _ {D : Type 0} (disk_says : DiskSays D) (old new : Node D) (c : Chronicle
     pub unpassed_behind : Stands disk_says new.link.journal n.was nothing → IsBehind disk_says new c up
     unfolding unpassed_node same_node
     unpassed_behind stands = record {
-      is_node = unpassed_node disk_says old new c n settled same older where_is stands;
+      is_node = unpassed_node disk_says old new c n settled same older scanned where_is stands;
       earlier = all_earlier disk_says old c up b;
       rest = its_rest;
       no_group = its_none;
@@ -179,7 +181,7 @@ module _ {D : Type 0} (disk_says : DiskSays D) (old new : Node D) (c : Chronicle
         → Stands disk_says new.link.journal n.was (opening text) → IsBehind disk_says new c up
     unfolding opening_node same_node
     opening_behind text next has stands = record {
-      is_node = opening_node disk_says old new c n settled same older where_is text stands has;
+      is_node = opening_node disk_says old new c n settled same older scanned where_is text stands has;
       earlier = next;
       rest = its_rest;
       no_group = its_none;
@@ -188,10 +190,10 @@ module _ {D : Type 0} (disk_says : DiskSays D) (old new : Node D) (c : Chronicle
 
   -- it begins
   pub passed_behind : (text : List ℕ) → IsEarlier (texts_of (with_beginning c)) up.texts → HasAllRows (with_generation n.was text) (rows_made (with_beginning c)) → HasPassed old new
-      → Stands disk_says new.link.journal (with_generation n.was text) nothing → KeepsOlder disk_says new.link.journal (map (group_texts 1) c.closed ++ n.was.groups ∷ []) → IsBehind disk_says new (with_beginning c) up
+      → Stands disk_says new.link.journal (with_generation n.was text) nothing → KeepsOlder disk_says new.link.journal (map (group_texts 1) c.closed ++ n.was.groups ∷ []) → KeepsScanned disk_says old.link new.link → IsBehind disk_says new (with_beginning c) up
   unfolding passed_node
-  passed_behind text next has passed stands closes = record {
-    is_node = passed_node disk_says old new c n settled same text passed stands closes has;
+  passed_behind text next has passed stands closes scanned = record {
+    is_node = passed_node disk_says old new c n settled same text passed stands closes scanned has;
     earlier = next;
     rest =
         subst (λ (at : ℕ). Has (text_of up.texts (length (generations_of c))) (record { at = at; length = length new.rest }) new.rest) (sym passed.at)

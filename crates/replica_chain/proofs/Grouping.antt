@@ -18,6 +18,7 @@ use Rattle.recovery.specs.Holding.{group_texts, spots_end}
 use Rattle.replica_pull.specs.Prefix.{HasNoGroup}
 use Rattle.replica_chain.specs.Chronicle.{Chronicle, rows_made, texts_of, with_changes}
 use Rattle.replica_chain.specs.Copying.{AreBrought, KeepsUsed, named_ends}
+use Rattle.replica_chain.specs.Ends.{KeepsScanned}
 use Rattle.replica_chain.specs.Masters.{IsBehind, Upstream}
 use Rattle.replica_chain.specs.Node.{HasContentsOf, HasFrontTo, IsNode, IsSettled, reach_of}
 use Rattle.replica_chain.specs.Pulling.{HasTakenGroup, IsWhereItWas}
@@ -54,9 +55,9 @@ module _ {D : Type 0} (disk_says : DiskSays D) (old : Node D) (c : Chronicle) (n
     sees = keeps.tells n.tells.0 n.tells.1
 
     -- nothing was committed, and nothing is in doubt
-    unfoldable pub still_node : IsWhereItWas old new → Stands disk_says new.link.journal n.was nothing → IsNode disk_says new c
-    still_node where_is stands =
-        same_node disk_says old new c n where_is nothing c stands older refl n.has sees.0 sees.1 (kept_contents disk_says old.archive new.archive keeps (rows_made c) settled_contents)
+    unfoldable pub still_node : IsWhereItWas old new → KeepsScanned disk_says old.link new.link → Stands disk_says new.link.journal n.was nothing → IsNode disk_says new c
+    still_node where_is scanned stands =
+        same_node disk_says old new c n where_is nothing c stands older scanned refl n.has sees.0 sees.1 (kept_contents disk_says old.archive new.archive keeps (rows_made c) settled_contents)
 
     module _ (image : (files : Files) → disk_says.seen (archive_disk_of new.archive) files → disk_says.may_leave (archive_disk_of new.archive) files) (told_before told_now : List ℕ → Type 0)
         (changes : List Change) (is_group : IsGroup changes) (fit : AllFitIn (rows_of old.tables) changes) (brought : AreBrought disk_says told_before told_now old.archive new.archive changes) where
@@ -64,17 +65,17 @@ module _ {D : Type 0} (disk_says : DiskSays D) (old : Node D) (c : Chronicle) (n
       text = group_text (length n.was.groups + 1) changes
 
       -- the group is in doubt
-      unfoldable pub doubted_node : IsWhereItWas old new → Stands disk_says new.link.journal n.was (group text) → IsNode disk_says new c
-      doubted_node where_is stands =
-          same_node disk_says old new c n where_is (group text) (with_changes c changes) stands older (pushed_pending disk_says old new c n changes is_group fit) (pushed_has disk_says old new c n changes is_group fit) sees.0 sees.1
+      unfoldable pub doubted_node : IsWhereItWas old new → KeepsScanned disk_says old.link new.link → Stands disk_says new.link.journal n.was (group text) → IsNode disk_says new c
+      doubted_node where_is scanned stands =
+          same_node disk_says old new c n where_is (group text) (with_changes c changes) stands older scanned (pushed_pending disk_says old new c n changes is_group fit) (pushed_has disk_says old new c n changes is_group fit) sees.0 sees.1
           (subst (HasContentsOf disk_says new.archive (rows_made c)) (sym (rows_push c changes)) (doubted_contents disk_says old.archive new.archive keeps (rows_made c) settled_contents told_before told_now changes image sees.0 sees.1 brought))
 
       -- it was committed, and its contents are counted as used
       unfoldable pub taken_node : (kept : Node D) (end : ℕ) → HasTakenGroup old kept changes end → end ≡ old.at + (5 + length (group_text old.number changes))
           → Stands disk_says kept.link.journal (with_group n.was text) nothing → KeepsOlder disk_says kept.link.journal (map (group_texts 1) c.closed)
-          → archive_disk_of kept.archive ≡ archive_disk_of new.archive → used_of kept.archive ≡ max (used_of old.archive) (named_ends changes) → IsNode disk_says kept (with_changes c changes)
-      taken_node kept end taken end_is stands keeps_older same used =
-          grown_node disk_says old kept c n changes is_group fit end taken end_is stands keeps_older sees.0 (subst (λ (disk : D). disk_says.seen disk sees.0) (sym same) sees.1)
+          → KeepsScanned disk_says old.link kept.link → archive_disk_of kept.archive ≡ archive_disk_of new.archive → used_of kept.archive ≡ max (used_of old.archive) (named_ends changes) → IsNode disk_says kept (with_changes c changes)
+      taken_node kept end taken end_is stands keeps_older scanned same used =
+          grown_node disk_says old kept c n changes is_group fit end taken end_is stands keeps_older scanned sees.0 (subst (λ (disk : D). disk_says.seen disk sees.0) (sym same) sees.1)
           (grown_contents disk_says old.archive new.archive keeps (rows_made c) settled_contents told_before told_now changes image sees.0 sees.1 brought kept.archive same used)
 
 -- ---- behind what it follows
@@ -90,7 +91,7 @@ module _ {D : Type 0} (disk_says : DiskSays D) (old : Node D) (c : Chronicle) (u
   now_with bytes = record { texts = up.texts; bytes = bytes }
 
   module _ (new : Node D) (keeps : KeepsUsed disk_says old.archive new.archive) (older : (before : List (List (List ℕ))) → KeepsOlder disk_says old.link.journal before → KeepsOlder disk_says new.link.journal before)
-      (where_is : IsWhereItWas old new) (rest : new.rest ≡ old.rest) where
+      (scanned : KeepsScanned disk_says old.link new.link) (where_is : IsWhereItWas old new) (rest : new.rest ≡ old.rest) where
     same_none : HasNoGroup new.number new.rest
     same_none = subst (λ (number : ℕ). HasNoGroup number new.rest) (sym where_is.number) (subst (HasNoGroup old.number) (sym rest) b.no_group)
 
@@ -103,7 +104,7 @@ module _ {D : Type 0} (disk_says : DiskSays D) (old : Node D) (c : Chronicle) (u
     pub still_behind : (bytes : List ℕ) → IsFront up.bytes bytes → Stands disk_says new.link.journal n.was nothing → IsBehind disk_says new c (now_with bytes)
     unfolding still_node same_node
     still_behind bytes front stands = record {
-      is_node = still_node disk_says old c n settled new keeps older where_is stands;
+      is_node = still_node disk_says old c n settled new keeps older where_is scanned stands;
       earlier = all_earlier disk_says old c up b;
       rest = same_rest;
       no_group = same_none;
@@ -127,7 +128,7 @@ module _ {D : Type 0} (disk_says : DiskSays D) (old : Node D) (c : Chronicle) (u
       pub doubted_behind : Stands disk_says new.link.journal n.was (group (group_text (length n.was.groups + 1) changes)) → IsBehind disk_says new c (now_with bytes_now.0)
       unfolding doubted_node same_node
       doubted_behind stands = record {
-        is_node = doubted_node disk_says old c n settled new keeps older image told_before told_now changes is_group fit brought where_is stands;
+        is_node = doubted_node disk_says old c n settled new keeps older image told_before told_now changes is_group fit brought where_is scanned stands;
         earlier = next;
         rest = same_rest;
         no_group = same_none;
@@ -151,11 +152,11 @@ module _ {D : Type 0} (disk_says : DiskSays D) (old : Node D) (c : Chronicle) (u
 
     pub taken_behind : (end : ℕ) → HasTakenGroup old kept changes end → end ≡ old.at + (5 + length (group_text old.number changes))
         → Stands disk_says kept.link.journal (with_group n.was (group_text (length n.was.groups + 1) changes)) nothing → KeepsOlder disk_says kept.link.journal (map (group_texts 1) c.closed)
-        → archive_disk_of kept.archive ≡ archive_disk_of new.archive → used_of kept.archive ≡ max (used_of old.archive) (named_ends changes)
+        → KeepsScanned disk_says old.link kept.link → archive_disk_of kept.archive ≡ archive_disk_of new.archive → used_of kept.archive ≡ max (used_of old.archive) (named_ends changes)
         → Has (text_of up.texts (length c.closed)) (record { at = kept.at; length = length kept.rest }) kept.rest → HasNoGroup kept.number kept.rest → IsBehind disk_says kept (with_changes c changes) (now_with taken_now.0)
     unfolding taken_node grown_node
-    taken_behind end taken end_is stands keeps_older same used rest none = record {
-      is_node = taken_node disk_says old c n settled new keeps older image told_before told_now changes is_group taken.fit brought kept end taken end_is stands keeps_older same used;
+    taken_behind end taken end_is stands keeps_older scanned same used rest none = record {
+      is_node = taken_node disk_says old c n settled new keeps older image told_before told_now changes is_group taken.fit brought kept end taken end_is stands keeps_older scanned same used;
       earlier = next;
       rest = rest;
       no_group = none;

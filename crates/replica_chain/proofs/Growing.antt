@@ -13,17 +13,9 @@ use Rattle.replica_pull.specs.Replica.{beginning}
 use Rattle.replica_pull.proofs.Counted.{rows_on, with_groups, with_next}
 use Rattle.replica_pull.proofs.Taking.{groups_joined}
 use Rattle.replica_chain.specs.Chronicle.{Chronicle, changes_of, generations_of, rows_made, texts_of, with_beginning, with_changes}
-use Rattle.replica_chain.proofs.Groups.{all-push}
+use Rattle.recovery.proofs.OneGroup.{all-push, all_but_last, last_of}
 
 -- ---- one group more
-
-pub all_but_last : {A : Type 0} (P : A → Type 0) (front : List A) (last new : A) → AllByRecursion P (front ++ last ∷ []) → P new → AllByRecursion P (front ++ new ∷ [])
-all_but_last P [] last new all here = (here, tt)
-all_but_last P (x ∷ front) last new all here = (all.0, all_but_last P front last new all.1 here)
-
-pub last_of : {A : Type 0} (P : A → Type 0) (front : List A) (last : A) → AllByRecursion P (front ++ last ∷ []) → P last
-last_of P [] last all = all.0
-last_of P (x ∷ front) last all = last_of P front last all.1
 
 pub groups_push : (c : Chronicle) (changes : List Change) → AllByRecursion (AllByRecursion IsGroup) (generations_of c) → IsGroup changes → AllByRecursion (AllByRecursion IsGroup) (generations_of (with_changes c changes))
 groups_push c changes are is_group =

@@ -3,12 +3,12 @@ pub mod Brought
 pub mod Chains
 pub mod Closing
 pub mod Copied
+pub mod Copies
 pub mod Counts
 pub mod Followed
 pub mod Following
 pub mod Generations
 pub mod Grouping
-pub mod Groups
 pub mod Growing
 pub mod Looked
 pub mod Named
@@ -18,6 +18,7 @@ pub mod Parting
 pub mod PassedOn
 pub mod Pieces
 pub mod Prefixes
+pub mod Reached
 pub mod Refusals
 pub mod Rests
 pub mod Settled
@@ -28,3 +29,4 @@ pub mod Taking
 pub mod Told
 pub mod Tried
 pub mod Verified
+pub mod Whole

@@ -9,20 +9,27 @@ use Rattle.disk_journal.specs.declared.journal.Journal.{Journal}
 use Rattle.recovery.specs.Holding.{group_texts}
 use Rattle.recovery.specs.Looking.{OnlyReads}
 use Rattle.replica_chain.specs.Chronicle.{Chronicle, rows_made}
-use Rattle.replica_chain.specs.Ends.{IsLooked}
+use Rattle.replica_chain.specs.Ends.{IsLinkLooked, IsLooked}
+use Rattle.replica_chain.specs.Masters.{IsBehind, Upstream}
 use Rattle.replica_chain.specs.Node.{CanFollow, HasContentsOf, HasFrontTo, IsNode, reach_of}
+use Rattle.replica_chain.specs.declared.link.NodeLink.{NodeLink}
 use Rattle.replica_chain.specs.declared.node.Node.{Node}
+
+-- what was scanned of a journal that was looked at since
+pub looked_link : {D : Type 0} (disk_says : DiskSays D) (link : NodeLink D) (journal : Journal D) → IsLooked disk_says link.journal journal → IsLinkLooked disk_says link (record link { journal = journal })
+looked_link disk_says link journal looked = record { journal = looked; scanned = λ scanned files sees. scanned files (looked.reads.same.no_more files sees) }
 
 module _ {D : Type 0} (disk_says : DiskSays D) (old : Node D) where
   -- ---- the journal
 
-  module _ (journal : Journal D) (looked : IsLooked disk_says old.link.journal journal) where
-    pub looked_node : (c : Chronicle) → IsNode disk_says old c → IsNode disk_says (record old { link = record { journal = journal } }) c
+  module _ (link : NodeLink D) (looked : IsLinkLooked disk_says old.link link) where
+    pub looked_node : (c : Chronicle) → IsNode disk_says old c → IsNode disk_says (record old { link = link }) c
     looked_node c n = record {
       was = n.was;
       doubt = n.doubt;
-      stands = looked.stands n.was n.doubt n.stands;
-      keeps = looked.keeps (map (group_texts 1) c.closed) n.keeps;
+      stands = looked.journal.stands n.was n.doubt n.stands;
+      keeps = looked.journal.keeps (map (group_texts 1) c.closed) n.keeps;
+      scanned = looked.scanned n.scanned;
       are = n.are;
       are_groups = n.are_groups;
       has = n.has;
@@ -38,9 +45,13 @@ module _ {D : Type 0} (disk_says : DiskSays D) (old : Node D) where
       changes = n.changes;
     }
 
-    pub looked_can : CanFollow disk_says old → CanFollow disk_says (record old { link = record { journal = journal } })
+    pub looked_behind : (c : Chronicle) (up : Upstream) → IsBehind disk_says old c up → IsBehind disk_says (record old { link = link }) c up
+    unfolding looked_node
+    looked_behind c up b = record { is_node = looked_node c b.is_node; earlier = b.earlier; rest = b.rest; no_group = b.no_group; front = b.front }
+
+    pub looked_can : CanFollow disk_says old → CanFollow disk_says (record old { link = link })
     looked_can can =
-        let stands = looked.stands can.was can.doubt can.stands in
+        let stands = looked.journal.stands can.was can.doubt can.stands in
         record {
           was = can.was;
           doubt = can.doubt;
@@ -74,6 +85,7 @@ module _ {D : Type 0} (disk_says : DiskSays D) (old : Node D) where
       doubt = n.doubt;
       stands = n.stands;
       keeps = n.keeps;
+      scanned = n.scanned;
       are = n.are;
       are_groups = n.are_groups;
       has = n.has;
@@ -88,6 +100,23 @@ module _ {D : Type 0} (disk_says : DiskSays D) (old : Node D) where
       number = n.number;
       changes = n.changes;
     }
+
+    pub read_behind : (c : Chronicle) (up : Upstream) → IsBehind disk_says old c up → IsBehind disk_says (record old { archive = archive }) c up
+    unfolding read_node
+    read_behind c up b =
+        let front = b.front in
+        let pending = rows_made b.is_node.pending in
+        let same : reach_of archive pending ≡ reach_of old.archive pending = omega (arith, used) in
+        record {
+          is_node = read_node c b.is_node;
+          earlier = b.earlier;
+          rest = b.rest;
+          no_group = b.no_group;
+          front = subst (λ (place : ℕ). HasFrontTo (disk_says.may_leave (archive_disk_of archive)) place up.bytes) (sym same) (record {
+            within = front.within;
+            has = λ image left. front.has image (reads.no_more image left);
+          });
+        }
 
     pub read_can : CanFollow disk_says old → CanFollow disk_says (record old { archive = archive })
     read_can can = record {

@@ -17,7 +17,7 @@ use Rattle.recovery.specs.Contents.{AreWhole, HasDigested, IsWhole}
 use Rattle.recovery.specs.Holding.{spot_end, spots_end}
 use Rattle.replica_chain.specs.Copying.{HasAllNamed, HasNamed, named_end, named_ends}
 use Rattle.replica_chain.proofs.Chains.{same_at}
-use Rattle.replica_chain.proofs.Groups.{all-push}
+use Rattle.recovery.proofs.OneGroup.{all-push}
 use Rattle.replica_chain.proofs.Spots.{revision_end}
 
 -- ---- rows after changes

@@ -14,10 +14,12 @@ use Rattle.disk_journal.specs.declared.journal.Journal.{Journal}
 use Rattle.journal_groups.specs.Groups.{IsGroup, group_text}
 use Rattle.recovery.specs.Holding.{HasAllRows, group_texts}
 use Rattle.replica_chain.specs.Chronicle.{Chronicle, changes_of, rows_made, with_changes}
+use Rattle.replica_chain.specs.Ends.{KeepsScanned}
 use Rattle.replica_chain.specs.Node.{HasContentsOf, IsNode, IsPending, with_doubt}
 use Rattle.replica_chain.specs.Pulling.{HasTakenGroup, IsWhereItWas}
 use Rattle.replica_chain.specs.declared.node.Node.{Node}
-use Rattle.replica_chain.proofs.Groups.{group_added, group_texts-push, length-group_texts}
+use Rattle.recovery.proofs.Held.{length_texts}
+use Rattle.recovery.proofs.OneGroup.{group_added, group_texts-push}
 use Rattle.replica_chain.proofs.Growing.{changes_push, groups_push, rows_push, text_push}
 
 -- nothing is in doubt of a journal that stands with nothing
@@ -40,14 +42,16 @@ module _ {D : Type 0} (disk_says : DiskSays D) (old new : Node D) (c : Chronicle
   -- it has the same changes, and perhaps others are in doubt
   unfoldable pub same_node : IsWhereItWas old new → (doubt : Doubtful) (pending : Chronicle) → Stands disk_says new.link.journal n.was doubt
       → ((older : List (List (List ℕ))) → KeepsOlder disk_says old.link.journal older → KeepsOlder disk_says new.link.journal older)
+      → KeepsScanned disk_says old.link new.link
       → IsPending c doubt pending → HasAllRows (with_doubt n.was doubt) (rows_made pending)
       → (files : Files) → disk_says.seen (archive_disk_of new.archive) files
       → HasContentsOf disk_says new.archive (rows_made c) (rows_made pending) → IsNode disk_says new c
-  same_node where_is doubt pending stands keeps is_pending pending_has files sees contents = record {
+  same_node where_is doubt pending stands keeps scanned is_pending pending_has files sees contents = record {
     was = n.was;
     doubt = doubt;
     stands = stands;
     keeps = keeps (map (group_texts 1) c.closed) n.keeps;
+    scanned = scanned n.scanned;
     are = n.are;
     are_groups = n.are_groups;
     has = n.has;
@@ -65,7 +69,7 @@ module _ {D : Type 0} (disk_says : DiskSays D) (old new : Node D) (c : Chronicle
 
   -- the number of the next group
   pub next_is : length n.was.groups + 1 ≡ 1 + length c.newest
-  next_is = let same = ap (length {A = List ℕ}) n.are ∙ length-group_texts 1 c.newest in omega (arith, same)
+  next_is = let same = ap (length {A = List ℕ}) n.are ∙ length_texts 1 c.newest in omega (arith, same)
 
   module _ (changes : List Change) (is_group : IsGroup changes) (fit : AllFitIn (rows_of old.tables) changes) where
     abbrev pub text : List ℕ
@@ -84,15 +88,17 @@ module _ {D : Type 0} (disk_says : DiskSays D) (old new : Node D) (c : Chronicle
     -- it was committed
     unfoldable pub grown_node : (end : ℕ) → HasTakenGroup old new changes end → end ≡ old.at + (5 + length (group_text old.number changes))
         → Stands disk_says new.link.journal (with_group n.was text) nothing → KeepsOlder disk_says new.link.journal (map (group_texts 1) c.closed)
+        → KeepsScanned disk_says old.link new.link
         → (files : Files) → disk_says.seen (archive_disk_of new.archive) files
         → HasContentsOf disk_says new.archive (changed_by (rows_made c) changes) (changed_by (rows_made c) changes) → IsNode disk_says new (with_changes c changes)
-    grown_node end taken end_is stands keeps files sees contents =
+    grown_node end taken end_is stands keeps scanned files sees contents =
         let made : AllRows = rows_made (with_changes c changes) in
         record {
           was = with_group n.was text;
           doubt = nothing;
           stands = stands;
           keeps = keeps;
+          scanned = scanned n.scanned;
           are = (λ i. n.are i ++ group_text (next_is i) changes ∷ []) ∙ sym (group_texts-push 1 c.newest changes);
           are_groups = groups_push c changes n.are_groups is_group;
           has = pushed_has;

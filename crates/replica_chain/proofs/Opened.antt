@@ -13,18 +13,19 @@ use Rattle.depot_rows.specs.table_store.declared.tables.Tables.{Tables}
 use Rattle.disk_journal.specs.Images.{Committed, HasCommitted}
 use Rattle.disk_journal.specs.Keeping.{KeepsOlder}
 use Rattle.disk_journal.specs.Older.{AreOlder, IsClosed}
+use Rattle.disk_journal.specs.Scanned.{IsMarkOf}
 use Rattle.disk_journal.specs.Stands.{nothing, disk_of, generation_of_journal}
 use Rattle.disk_journal.specs.Text.{blocks}
 use Rattle.disk_journal.specs.declared.journal.Journal.{Journal}
 use Rattle.journal_groups.specs.Groups.{groups_text}
 use Rattle.recovery.specs.Contents.{AreWhole}
-use Rattle.recovery.specs.Holding.{HasAllRows, Hold, group_texts}
+use Rattle.recovery.specs.Holding.{HasAllRows, Hold, group_texts, spots_end}
 use Rattle.recovery.specs.Opening.{HasSynced, IsOpen}
 use Rattle.recovery.specs.declared.open.Opened.{Opened}
 use Rattle.replica_chain.specs.Chronicle.{Chronicle, changes_of, generations_of, rows_made, texts_of}
 use Rattle.replica_chain.specs.Ends.{HasTexts, IsLooked}
 use Rattle.replica_chain.specs.Node.{AllReach, CanFollow, HasContentsOf, HasFrontTo, IsNode, reach_of}
-use Rattle.replica_chain.specs.Opening.{AreWritten}
+use Rattle.replica_chain.specs.Opening.{AreWritten, IsFresh}
 use Rattle.replica_chain.specs.declared.counting.Counts.{Counts}
 use Rattle.replica_chain.specs.declared.node.Node.{Node}
 use Rattle.replica_chain.proofs.Following.{closed_texts_long}
@@ -99,17 +100,18 @@ module _ {D : Type 0} (disk_says : DiskSays D) (image : (disk : D) (files : File
           pending_whole = whole;
         }
 
-    pub opened_node : (node : Node D) (before_bytes before_groups newest_bytes newest_groups : ℕ) → IsLooked disk_says opened.journal node.link.journal → node.archive ≡ opened.archive → node.tables ≡ opened.tables
+    pub opened_node : (node : Node D) (before_bytes before_groups newest_bytes newest_groups : ℕ) → IsLooked disk_says opened.journal node.link.journal → ((file : List ℕ) → IsMarkOf node.link.scanned file) → node.archive ≡ opened.archive → node.tables ≡ opened.tables
         → node.before ≡ before_bytes → node.at ≡ newest_bytes → node.number ≡ 1 + newest_groups → node.changes ≡ before_groups + newest_groups + generation_of_journal opened.journal
         → before_bytes + newest_bytes ≡ length (concat (texts_of c)) → newest_bytes ≡ length (groups_text 1 c.newest) → newest_groups ≡ length c.newest
         → before_groups + newest_groups + length c.closed ≡ length (changes_of c) → IsNode disk_says node c
-    opened_node node before_bytes before_groups newest_bytes newest_groups looked archive tables before at number changes bytes newest groups all =
+    opened_node node before_bytes before_groups newest_bytes newest_groups looked nothing_scanned archive tables before at number changes bytes newest groups all =
         let has : HasAllRows was (rows_made c) = subst (HasAllRows was) made open_now.rows in
         record {
           was = was;
           doubt = nothing;
           stands = looked.stands was nothing open_now.stands;
           keeps = looked.keeps (map (group_texts 1) c.closed) opened_older;
+          scanned = λ found seen. nothing_scanned _;
           are = written.newest_are was committed;
           are_groups = written.are_groups;
           has = has;
@@ -180,10 +182,17 @@ module _ {D : Type 0} (disk_says : DiskSays D) (opened : Opened D) (was : Commit
           counted = (let changes = of.changes in omega (arith, changes, few, newest_few, before, at, now));
         }
 
+    pub opened_fresh : IsFresh disk_says node
+    opened_fresh = record {
+      rest = of.rest;
+      settled = (was, its_looked.stands was nothing open_now.stands);
+      used = ap used_of of.archive_is ∙ open_now.used ∙ open_now.archive_end ∙ ap (λ (tables : Tables). spots_end (rows_of tables Rev)) (sym of.tables_are);
+    }
+
     pub opened_is : ((disk : D) (files : Files) → disk_says.seen disk files → disk_says.may_leave disk files) → ((disk : D) (c d : Files) → disk_says.seen disk c → disk_says.seen disk d → (file : ℕ) → c file ≡ d file)
         → (disk : D) → HasSynced disk_says disk (disk_of opened.journal) → (c : Chronicle) (files contents : Files) → disk_says.seen disk files → disk_says.seen archive contents → AreWritten c files → Hold files (rows_of opened.tables)
-        → AreWhole (contents 0) (rows_of opened.tables Rev) → HasAll counts c → IsNode disk_says node c
-    opened_is image one disk read c files contents sees told written hold whole all =
+        → AreWhole (contents 0) (rows_of opened.tables Rev) → HasAll counts c → ((file : List ℕ) → IsMarkOf node.link.scanned file) → IsNode disk_says node c
+    opened_is image one disk read c files contents sees told written hold whole all nothing_scanned =
         opened_node disk_says image one opened was open_now c files (read.same.kept files sees) written read.durable hold contents (synced.same.kept contents told) synced.durable (within contents told) whole
-        node counts.before.bytes counts.before.groups counts.newest.bytes counts.newest.groups its_looked of.archive_is of.tables_are of.before of.at of.number
+        node counts.before.bytes counts.before.groups counts.newest.bytes counts.newest.groups its_looked nothing_scanned of.archive_is of.tables_are of.before of.at of.number
         (of.changes ∙ ap (λ (n : ℕ). counts.before.groups + counts.newest.groups + n) same_generation) all.0 all.1 all.2 all.3

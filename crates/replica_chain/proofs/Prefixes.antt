@@ -1,6 +1,6 @@
 -- Nodes behind nodes, and nodes behind a master, which open to the depots after the first of its changes.
-use Rattle.std.proofs.Common.{◌≡◌, inl, inr, ℕ, suc, ◌+◌, ◌^◌, ◌≤◌, ◌<◌, max, Bool, true, false, cond, List, [], ◌∷◌, ◌++◌, length, take, drop, Some, refl, sym, ap, subst, ◌∙◌, append_assoc, arith, length-append}
-use Rattle.std.specs.Prelude.{map}
+use Rattle.std.proofs.Common.{◌≡◌, inl, inr, ℕ, suc, ◌+◌, ◌^◌, ◌≤◌, ◌<◌, List, [], ◌∷◌, ◌++◌, length, take, drop, refl, sym, ap, subst, ◌∙◌, append_assoc, arith, length-append}
+use Rattle.std.specs.Prelude.{codes, map}
 use Rattle.std.specs.List.{AllByRecursion}
 use Rattle.std.proofs.Math.Seq.{take-append_seam}
 use Rattle.std.proofs.lemmas.List.{append-nil, take-append-drop, length-map}
@@ -11,19 +11,18 @@ use Rattle.archive_file.specs.Archive.{Has, disk_of as archive_disk_of, used_of}
 use Rattle.archive_file.specs.Contents.{IsTold}
 use Rattle.depot_rows.specs.depot_path.Path.{printed}
 use Rattle.depot_rows.specs.db_records.declared.change.Change.{Change}
-use Rattle.depot_rows.specs.db_records.declared.key.Key.{Key}
 use Rattle.depot_rows.specs.db_records.declared.key.Key.TheVariants as keys
-use Rattle.depot_rows.specs.db_records.declared.record.Record.{Record}
 use Rattle.depot_rows.specs.db_records.declared.record.Record.TheVariants.{Rev as RevRow}
 use Rattle.depot_rows.specs.db_records.declared.table.TableId.TheVariants.{Rev}
 use Rattle.depot_rows.specs.depot_model.Deeds.{Deed}
+use Rattle.depot_rows.specs.depot_model.Records.{record_of}
+use Rattle.depot_rows.specs.depot_model.Rules.{value_of}
 use Rattle.depot_rows.specs.Standing.{Stand}
 use Rattle.depot_rows.specs.table_changes.Changed.{AllRows, changed_by, no_rows}
-use Rattle.depot_rows.specs.table_store.Rows.{is_at, row_at}
 use Rattle.disk_journal.specs.Images.{Committed, HasCommitted, with_generation, with_group}
 use Rattle.disk_journal.specs.Stands.{Doubtful, nothing, group, opening, HasWithOrWithout}
 use Rattle.journal_groups.specs.Groups.{IsGroup, groups_text}
-use Rattle.recovery.specs.Holding.{HasAllRows, joined, spot_end, spots_end}
+use Rattle.recovery.specs.Holding.{HasAllRows, joined, spots_end}
 use Rattle.recovery.specs.Rules.{DeletesAreUnplaced}
 use Rattle.recovery.specs.Standing.{HasContent, HasContents, StandFor}
 use Rattle.replica_pull.specs.Prefix.{begun, changes_from, first_rows}
@@ -36,7 +35,8 @@ use Rattle.replica_chain.specs.Node.{HasFrontTo, IsPending, reach_of, with_doubt
 use Rattle.replica_chain.specs.declared.node.Node.{Node}
 use Rattle.replica_chain.proofs.Chains.{at_spot, earlier_on, front_on, shorter}
 use Rattle.replica_chain.proofs.Following.{front_of, has_later}
-use Rattle.replica_chain.proofs.Groups.{all-push}
+use Rattle.recovery.proofs.GoodSpots.{row_end}
+use Rattle.recovery.proofs.OneGroup.{all-push}
 use Rattle.replica_chain.proofs.Growing.{changes_begun, changes_push, groups_push}
 use Rattle.replica_chain.proofs.Steps.{all_earlier, its_generation}
 use Rattle.replica_chain.proofs.Told.{told_texts}
@@ -48,7 +48,7 @@ no_text n [] is = refl
 no_text n (x ∷ later) is = absurd cc
 
 -- texts of groups are those of no others
-one_text : (one other : List (List Change)) → AllByRecursion IsGroup one → AllByRecursion IsGroup other → groups_text 1 other ≡ groups_text 1 one → other ≡ one
+pub one_text : (one other : List (List Change)) → AllByRecursion IsGroup one → AllByRecursion IsGroup other → groups_text 1 other ≡ groups_text 1 one → other ≡ one
 one_text one other are both same =
     let on = begins 1 one other [] are both (same ∙ sym (append-nil (groups_text 1 one))) in
     on.is ∙ ap (λ (l : List (List Change)). one ++ l) (no_text (1 + length one) on.later on.text) ∙ append-nil one
@@ -89,17 +89,37 @@ earlier_changes c later are both e =
     first_changes 0 c.closed c.newest (generations_of later) (length (groups_text 1 c.newest)) are both f.closed f.newest
     (let there = f.there in omega (arith, there, length-map (generations_of later) (groups_text 1), length-append later.closed (later.newest ∷ [])))
 
--- ---- where spots end
-
-row_end : (rows : List Record) (key : Key) (row : Record) → row_at key rows ≡ Some row → spot_end row ≤ spots_end rows
-row_end [] key row e = absurd cc
-row_end (x ∷ rows) key row e = go (is_at key x) e (row_end rows key row)
-  where
-    go : (b : Bool) → cond b (Some x) (row_at key rows) ≡ Some row → (row_at key rows ≡ Some row → spot_end row ≤ spots_end rows) → spot_end row ≤ max (spot_end x) (spots_end rows)
-    go true e rest = let one : x ≡ row = cc in let same : spot_end x ≡ spot_end row = ap spot_end one in omega (arith, same)
-    go false e rest = let le = rest e in omega (arith, le)
-
 -- ---- depots after the first changes
+
+-- Files that have these changes, and the first of the bytes as far as the spots of the rows, stand for the depot.
+module _ (generations : List (List (List Change))) (bytes : List ℕ) (n : ℕ) (d : List Deed) (then : IsDepotThen generations bytes n d) (c : Chronicle) (rows_are : first_rows n generations ≡ rows_made c)
+    (tells : value_of (record_of d (keys.Counter (codes "journal"))) ≡ length c.closed) where
+  pub files_stand : (was : Committed) (journal archive : Files) (place : ℕ) → HasCommitted was journal → HasAllRows was (rows_made c) → was.generation ≡ length c.closed
+      → Has (archive 0) (record { at = 0; length = place }) (take place bytes) → place ≤ length bytes → spots_end (rows_made c Rev) ≤ place → StandFor d journal archive
+  files_stand was journal archive place committed has generation front within ends = record {
+    was = was;
+    committed = committed;
+    rows = rows_made c;
+    has = has;
+    stand = subst (λ (rows : AllRows). Stand rows d) rows_are then.stand;
+    deletes = subst (λ (rows : AllRows). DeletesAreUnplaced (rows Rev)) rows_are then.deletes;
+    generation = tells ∙ sym generation;
+    within = (let reach = front.within in omega (arith, ends, reach));
+    contents = contents;
+  }
+    where
+      there : HasContents bytes (rows_made c) d
+      there = subst (λ (rows : AllRows). HasContents bytes rows d) rows_are then.contents
+
+      contents : HasContents (archive 0) (rows_made c) d
+      contents path n r content is has_it =
+          let found = there path n r content is has_it in
+          let row = found.0 in
+          let end = row_end (rows_made c Rev) (keys.Rev (printed path) n) (RevRow row) found.1 in (
+            row,
+            found.1,
+            subst (λ (l : List ℕ). HasContent (archive 0) row l) found.2.is (at_spot (archive 0) bytes place row.at row.length front within (omega (arith, end, ends))),
+          )
 
 module _ (theirs : Chronicle) (bytes : List ℕ) (after : ℕ → List Deed) (master : IsMaster theirs bytes after) where
   module _ (c : Chronicle) (are : AllByRecursion (AllByRecursion IsGroup) (generations_of c)) (earlier : IsEarlier (texts_of c) (texts_of theirs)) where
@@ -111,36 +131,11 @@ module _ (theirs : Chronicle) (bytes : List ℕ) (after : ℕ → List Deed) (ma
         let first = earlier_changes c theirs are master.are_groups earlier in
         ap (λ (l : List (List Change)). changed_by no_rows (joined l)) (ap (take (length (changes_of c))) first.1 ∙ take-append_seam (changes_of c) first.0)
 
-    then : IsDepotThen (generations_of theirs) bytes (length (changes_of c)) (after (length (changes_of c)))
-    then = master.each (length (changes_of c)) few
-
-    -- files that have these changes, and the first of the bytes as far as the spots of the rows
     stands_then : (was : Committed) (journal archive : Files) (place : ℕ) → HasCommitted was journal → HasAllRows was (rows_made c) → was.generation ≡ length c.closed
         → Has (archive 0) (record { at = 0; length = place }) (take place bytes) → place ≤ length bytes → spots_end (rows_made c Rev) ≤ place → StandFor (after (length (changes_of c))) journal archive
-    stands_then was journal archive place committed has generation front within ends = record {
-      was = was;
-      committed = committed;
-      rows = rows_made c;
-      has = has;
-      stand = subst (λ (rows : AllRows). Stand rows (after (length (changes_of c)))) rows_are then.stand;
-      deletes = subst (λ (rows : AllRows). DeletesAreUnplaced (rows Rev)) rows_are then.deletes;
-      generation = master.generation c earlier ∙ sym generation;
-      within = (let reach = front.within in omega (arith, ends, reach));
-      contents = contents;
-    }
-      where
-        there : HasContents bytes (rows_made c) (after (length (changes_of c)))
-        there = subst (λ (rows : AllRows). HasContents bytes rows (after (length (changes_of c)))) rows_are then.contents
-
-        contents : HasContents (archive 0) (rows_made c) (after (length (changes_of c)))
-        contents path n r content is has_it =
-            let found = there path n r content is has_it in
-            let row = found.0 in
-            let end = row_end (rows_made c Rev) (keys.Rev (printed path) n) (RevRow row) found.1 in (
-              row,
-              found.1,
-              subst (λ (l : List ℕ). HasContent (archive 0) row l) found.2.is (at_spot (archive 0) bytes place row.at row.length front within (omega (arith, end, ends))),
-            )
+    stands_then =
+        let n = length (changes_of c) in
+        files_stand (generations_of theirs) bytes n (after n) (master.each n few) c rows_are (master.generation c earlier)
 
   module _ {D : Type 0} (disk_says : DiskSays D) (node : Node D) (mine : Chronicle) (b : IsBehind disk_says node mine (record { texts = texts_of theirs; bytes = bytes })) where
     module _ (journal archive : Files) (front : Has (archive 0) (record { at = 0; length = reach_of node.archive (rows_made (b.is_node.pending)) }) (take (reach_of node.archive (rows_made (b.is_node.pending))) bytes)) where

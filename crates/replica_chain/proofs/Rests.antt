@@ -3,12 +3,12 @@ use Rattle.std.proofs.Common.{◌≡◌, ℕ, ◌+◌, ◌<◌, ◌^◌, List, [
 use Rattle.outside_api.specs.Link.{text_of}
 use Rattle.outside_api.specs.Says.{DiskSays}
 use Rattle.archive_file.specs.Archive.{Has}
-use Rattle.disk_journal.specs.declared.journal.Journal.{Journal}
 use Rattle.replica_pull.specs.Prefix.{HasNoGroup}
 use Rattle.replica_pull.proofs.Counted.{empty_no_group}
 use Rattle.replica_chain.specs.Chronicle.{Chronicle}
 use Rattle.replica_chain.specs.Masters.{GoesOnBehind, HasNoFewer, IsBehind, Upstream}
 use Rattle.replica_chain.specs.Node.{CanFollow, IsNode}
+use Rattle.replica_chain.specs.declared.link.NodeLink.{NodeLink}
 use Rattle.replica_chain.specs.declared.node.Node.{Node}
 
 module _ {D : Type 0} where
@@ -16,9 +16,9 @@ module _ {D : Type 0} where
   abbrev pub with_rest : Node D → List ℕ → Node D
   with_rest node rest = record node { rest = rest }
 
-  -- and one with another journal
-  abbrev pub with_journal : Node D → Journal D → Node D
-  with_journal node journal = record node { link = record { journal = journal } }
+  -- and one with another link
+  abbrev pub with_link : Node D → NodeLink D → Node D
+  with_link node link = record node { link = link }
 
 module _ {D : Type 0} (disk_says : DiskSays D) where
   -- it is a node
@@ -28,6 +28,7 @@ module _ {D : Type 0} (disk_says : DiskSays D) where
     doubt = n.doubt;
     stands = n.stands;
     keeps = n.keeps;
+    scanned = n.scanned;
     are = n.are;
     are_groups = n.are_groups;
     has = n.has;

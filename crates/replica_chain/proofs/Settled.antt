@@ -6,25 +6,26 @@ use Rattle.archive_file.specs.Archive.{disk_of as archive_disk_of}
 use Rattle.disk_journal.specs.Images.{Committed}
 use Rattle.disk_journal.specs.Keeping.{KeepsOlder}
 use Rattle.disk_journal.specs.Stands.{Doubtful, HasWithOrWithout, Stands, disk_of, generation_of_journal, nothing}
-use Rattle.disk_journal.specs.declared.journal.Journal.{Journal}
 use Rattle.replica_chain.specs.Chronicle.{Chronicle, rows_made}
+use Rattle.replica_chain.specs.Ends.{KeepsScanned}
 use Rattle.replica_chain.specs.Masters.{GoesOnBehind, HasSomeOf, IsBehind, Upstream}
 use Rattle.replica_chain.specs.Node.{CanFollow, IsNode, reach_of}
 use Rattle.replica_chain.specs.Pulling.{IsWhereItWas}
+use Rattle.replica_chain.specs.declared.link.NodeLink.{NodeLink}
 use Rattle.replica_chain.specs.declared.node.Node.{Node}
 use Rattle.replica_chain.proofs.Chains.{shorter}
 use Rattle.replica_chain.proofs.Grouping.{contents_alone}
 use Rattle.replica_chain.proofs.Growing.{earlier_self}
 use Rattle.replica_chain.proofs.Nodes.{same_node}
-use Rattle.replica_chain.proofs.Rests.{with_journal}
+use Rattle.replica_chain.proofs.Rests.{with_link}
 use Rattle.replica_chain.proofs.Steps.{all_earlier, its_generation, some_doubted}
 
-module _ {D : Type 0} (disk_says : DiskSays D) (old : Node D) (journal : Journal D) where
-  pub where_settled : generation_of_journal journal ≡ generation_of_journal old.link.journal → IsWhereItWas old (with_journal old journal)
+module _ {D : Type 0} (disk_says : DiskSays D) (old : Node D) (link : NodeLink D) where
+  pub where_settled : generation_of_journal link.journal ≡ generation_of_journal old.link.journal → IsWhereItWas old (with_link old link)
   where_settled same = record { generation = same; rows = refl; before = refl; at = refl; number = refl; changes = refl }
 
-  pub settled_can : CanFollow disk_says old → generation_of_journal journal ≡ generation_of_journal old.link.journal → (was : Committed) (doubt : Doubtful) → Stands disk_says journal was doubt
-      → CanFollow disk_says (with_journal old journal)
+  pub settled_can : CanFollow disk_says old → generation_of_journal link.journal ≡ generation_of_journal old.link.journal → (was : Committed) (doubt : Doubtful) → Stands disk_says link.journal was doubt
+      → CanFollow disk_says (with_link old link)
   settled_can can same was doubt stands = record {
     was = was;
     doubt = doubt;
@@ -36,25 +37,25 @@ module _ {D : Type 0} (disk_says : DiskSays D) (old : Node D) (journal : Journal
     counted = (let counted = can.counted in omega (arith, counted, same));
   }
 
-  module _ (keeps : (older : List (List (List ℕ))) → KeepsOlder disk_says old.link.journal older → KeepsOlder disk_says journal older) (same : generation_of_journal journal ≡ generation_of_journal old.link.journal) (c : Chronicle) where
+  module _ (keeps : (older : List (List (List ℕ))) → KeepsOlder disk_says old.link.journal older → KeepsOlder disk_says link.journal older) (scanned : KeepsScanned disk_says old.link link) (same : generation_of_journal link.journal ≡ generation_of_journal old.link.journal) (c : Chronicle) where
     -- nothing is in doubt any more
-    unfoldable pub settled_node : (n : IsNode disk_says old c) → Stands disk_says journal n.was nothing → IsNode disk_says (with_journal old journal) c
+    unfoldable pub settled_node : (n : IsNode disk_says old c) → Stands disk_says link.journal n.was nothing → IsNode disk_says (with_link old link) c
     settled_node n stands =
-        same_node disk_says old (with_journal old journal) c n (where_settled same) nothing c stands keeps refl n.has n.tells.0 n.tells.1 (contents_alone disk_says old.archive (rows_made c) (rows_made n.pending) n.contents)
+        same_node disk_says old (with_link old link) c n (where_settled same) nothing c stands keeps scanned refl n.has n.tells.0 n.tells.1 (contents_alone disk_says old.archive (rows_made c) (rows_made n.pending) n.contents)
 
     -- it is still in doubt
-    unfoldable pub doubted_still : (n : IsNode disk_says old c) → Stands disk_says journal n.was n.doubt → IsNode disk_says (with_journal old journal) c
+    unfoldable pub doubted_still : (n : IsNode disk_says old c) → Stands disk_says link.journal n.was n.doubt → IsNode disk_says (with_link old link) c
     doubted_still n stands =
-        same_node disk_says old (with_journal old journal) c n (where_settled same) n.doubt n.pending stands keeps n.is_pending n.pending_has n.tells.0 n.tells.1 n.contents
+        same_node disk_says old (with_link old link) c n (where_settled same) n.doubt n.pending stands keeps scanned n.is_pending n.pending_has n.tells.0 n.tells.1 n.contents
 
-    module _ (up : Upstream) (b : IsBehind disk_says old c up) (B : List ℕ → Type 0) (told : B up.bytes) (moments : LeavesOnly disk_says (disk_of old.link.journal) (disk_of journal) (HasWithOrWithout b.is_node.was b.is_node.doubt)) where
-      moments_some : LeavesOnly disk_says (disk_of old.link.journal) (disk_of journal) (HasSomeOf c up.texts)
+    module _ (up : Upstream) (b : IsBehind disk_says old c up) (B : List ℕ → Type 0) (told : B up.bytes) (moments : LeavesOnly disk_says (disk_of old.link.journal) (disk_of link.journal) (HasWithOrWithout b.is_node.was b.is_node.doubt)) where
+      moments_some : LeavesOnly disk_says (disk_of old.link.journal) (disk_of link.journal) (HasSomeOf c up.texts)
       moments_some =
           let n = b.is_node in
-          weaker disk_says (disk_of old.link.journal) (disk_of journal) (HasWithOrWithout n.was n.doubt) (HasSomeOf c up.texts)
+          weaker disk_says (disk_of old.link.journal) (disk_of link.journal) (HasWithOrWithout n.was n.doubt) (HasSomeOf c up.texts)
           (some_doubted c n.was up.texts (its_generation disk_says old c n) n.are n.doubt n.pending n.is_pending b.earlier) moments
 
-      settled_behind : Stands disk_says journal b.is_node.was nothing → IsBehind disk_says (with_journal old journal) c up
+      settled_behind : Stands disk_says link.journal b.is_node.was nothing → IsBehind disk_says (with_link old link) c up
       unfolding settled_node same_node
       settled_behind stands =
           let images = disk_says.may_leave (archive_disk_of old.archive) in
@@ -66,12 +67,12 @@ module _ {D : Type 0} (disk_says : DiskSays D) (old : Node D) (journal : Journal
             front = shorter images (reach_of old.archive (rows_made b.is_node.pending)) (reach_of old.archive (rows_made c)) up.bytes (let ends = b.is_node.contents.ends in omega (arith, ends)) b.front;
           }
 
-      doubted_behind : Stands disk_says journal b.is_node.was b.is_node.doubt → IsBehind disk_says (with_journal old journal) c up
+      doubted_behind : Stands disk_says link.journal b.is_node.was b.is_node.doubt → IsBehind disk_says (with_link old link) c up
       unfolding doubted_still same_node
       doubted_behind stands = record { is_node = doubted_still b.is_node stands; earlier = b.earlier; rest = b.rest; no_group = b.no_group; front = b.front }
 
-      pub settled_goes : Stands disk_says journal b.is_node.was nothing → GoesOnBehind disk_says old (with_journal old journal) c up (λ texts. texts ≡ up.texts) B
+      pub settled_goes : Stands disk_says link.journal b.is_node.was nothing → GoesOnBehind disk_says old (with_link old link) c up (λ texts. texts ≡ up.texts) B
       settled_goes stands = record { now = c; no_fewer = earlier_self c; later = up; grown = inl refl; texts_told = refl; bytes_told = told; behind = settled_behind stands; any_moment = moments_some }
 
-      pub doubted_goes : Stands disk_says journal b.is_node.was b.is_node.doubt → GoesOnBehind disk_says old (with_journal old journal) c up (λ texts. texts ≡ up.texts) B
+      pub doubted_goes : Stands disk_says link.journal b.is_node.was b.is_node.doubt → GoesOnBehind disk_says old (with_link old link) c up (λ texts. texts ≡ up.texts) B
       doubted_goes stands = record { now = c; no_fewer = earlier_self c; later = up; grown = inl refl; texts_told = refl; bytes_told = told; behind = doubted_behind stands; any_moment = moments_some }

@@ -16,7 +16,7 @@ use Rattle.replica_chain.specs.Node.{IsNode, IsPending}
 use Rattle.replica_chain.specs.declared.node.Node.{Node}
 use Rattle.replica_chain.proofs.Chains.{earlier_on}
 use Rattle.replica_chain.proofs.Following.{closed_texts_long}
-use Rattle.replica_chain.proofs.Groups.{group_texts-push}
+use Rattle.recovery.proofs.OneGroup.{group_texts-push}
 use Rattle.replica_chain.proofs.Growing.{earlier_begun, earlier_push, earlier_self}
 
 -- ---- images

@@ -23,8 +23,9 @@ use Rattle.recovery.specs.Holding.{group_texts}
 use Rattle.recovery.proofs.Held.{blocks_of}
 use Rattle.recovery.proofs.Looks.{reads_on}
 use Rattle.replica_chain.specs.Chronicle.{Chronicle, generations_of, texts_of}
-use Rattle.replica_chain.specs.Ends.{HasTexts, IsLooked, TellsTexts}
+use Rattle.replica_chain.specs.Ends.{HasTexts, IsLooked, KeepsScanned, TellsTexts}
 use Rattle.replica_chain.specs.Node.{IsNode}
+use Rattle.replica_chain.specs.declared.link.NodeLink.{NodeLink}
 use Rattle.replica_chain.specs.declared.node.Node.{Node}
 
 -- a journal is as it is now
@@ -44,9 +45,9 @@ module _ {D : Type 0} (disk_says : DiskSays D) where
   pub some_texts : (journal : Journal D) (texts : List (List ℕ)) → HasTexts disk_says journal texts → 0 < length texts
   some_texts journal texts told = omega (arith, ap length told.are, as_many (told.before ++ told.was.groups ∷ []), length-append told.before (told.was.groups ∷ []))
 
-  pub told_on : (old new : Journal D) → ((was : Committed) (doubt : Doubtful) → Stands disk_says old was doubt → Stands disk_says new was doubt) → Same (disk_says.seen (disk_of old)) (disk_says.seen (disk_of new))
-      → (before : List (List ℕ)) → TellsTexts disk_says old before → (now : List (List ℕ)) × TellsTexts disk_says new now × IsEarlier before now
-  told_on old new stands same before told =
+  pub told_on : (old new : NodeLink D) → ((was : Committed) (doubt : Doubtful) → Stands disk_says old.journal was doubt → Stands disk_says new.journal was doubt)
+      → Same (disk_says.seen (disk_of old.journal)) (disk_says.seen (disk_of new.journal)) → KeepsScanned disk_says old new → (before : List (List ℕ)) → TellsTexts disk_says old before → (now : List (List ℕ)) × TellsTexts disk_says new now × IsEarlier before now
+  told_on old new stands same scanned before told =
       let has = told.has in (
         before,
         record {
@@ -63,8 +64,9 @@ module _ {D : Type 0} (disk_says : DiskSays D) where
           };
           generations = told.generations;
           of_groups = told.of_groups;
+          scanned = scanned told.scanned;
         },
-        earlier_itself before (some_texts old before has),
+        earlier_itself before (some_texts old.journal before has),
       )
 
   -- ---- journals that are looked at
@@ -208,7 +210,7 @@ module _ {D : Type 0} (disk_says : DiskSays D) (image : (disk : D) (files : File
       ∙ sym (texts_of_blocks (generations_of c))
 
 -- and it tells them
-pub node_tells : {D : Type 0} (disk_says : DiskSays D) → ((disk : D) (files : Files) → disk_says.seen disk files → disk_says.may_leave disk files) → (node : Node D) (c : Chronicle) → IsNode disk_says node c → TellsTexts disk_says node.link.journal (texts_of c)
+pub node_tells : {D : Type 0} (disk_says : DiskSays D) → ((disk : D) (files : Files) → disk_says.seen disk files → disk_says.may_leave disk files) → (node : Node D) (c : Chronicle) → IsNode disk_says node c → TellsTexts disk_says node.link (texts_of c)
 node_tells disk_says image node c n =
     let seen = n.keeps.tells in
     let count = n.keeps.count in
@@ -229,6 +231,7 @@ node_tells disk_says image node c n =
       };
       generations = generations_of c;
       of_groups = (refl, n.are_groups);
+      scanned = n.scanned;
     }
 
 -- so does its archive, as far as it is used

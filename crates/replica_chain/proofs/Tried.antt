@@ -21,6 +21,7 @@ use Rattle.replica_pull.specs.Prefix.{HasNoGroup}
 use Rattle.replica_pull.proofs.Counted.{empty_no_group}
 use Rattle.replica_chain.specs.Chronicle.{Chronicle, texts_of, with_changes}
 use Rattle.replica_chain.specs.Copying.{AreBrought, KeepsUsed, named_ends}
+use Rattle.replica_chain.specs.Ends.{KeepsScanned}
 use Rattle.replica_chain.specs.Masters.{GoesOnBehind, HasNoFewer, HasSomeOf, IsBehind, Upstream}
 use Rattle.replica_chain.specs.Node.{AllReach, CanFollow, IsNode, IsSettled}
 use Rattle.replica_chain.specs.Pulling.{HasTakenGroup, IsWhereItWas}
@@ -141,7 +142,7 @@ next_stands disk_says old c up b changes end end_is has =
 -- ---- a group that wasn't taken
 
 module _ {D : Type 0} (disk_says : DiskSays D) (old new : Node D) (settled : IsSettled disk_says old) (keeps : KeepsUsed disk_says old.archive new.archive)
-    (older : (before : List (List (List ℕ))) → KeepsOlder disk_says old.link.journal before → KeepsOlder disk_says new.link.journal before)
+    (older : (before : List (List (List ℕ))) → KeepsOlder disk_says old.link.journal before → KeepsOlder disk_says new.link.journal before) (scanned : KeepsScanned disk_says old.link new.link)
     (image : (files : Files) → disk_says.seen (archive_disk_of new.archive) files → disk_says.may_leave (archive_disk_of new.archive) files) (where_is : IsWhereItWas old new)
     (told_before told_now : List ℕ → Type 0) (changes : List Change) (is_group : IsGroup changes) (fit : AllFitIn (rows_of old.tables) changes) where
   -- what its journal has then, where so much was committed before
@@ -151,8 +152,8 @@ module _ {D : Type 0} (disk_says : DiskSays D) (old new : Node D) (settled : IsS
       ⊎ (Stands disk_says new.link.journal was (group (group_text (length was.groups + 1) changes)) × AreBrought disk_says told_before told_now old.archive new.archive changes)
 
   pub tried_node : (c : Chronicle) (n : IsNode disk_says old c) → IsUncommitted n.was → IsNode disk_says new c
-  tried_node c n (inl still) = still_node disk_says old c n settled new keeps older where_is still.stands
-  tried_node c n (inr doubted) = doubted_node disk_says old c n settled new keeps older image told_before told_now changes is_group fit doubted.1 where_is doubted.0
+  tried_node c n (inl still) = still_node disk_says old c n settled new keeps older where_is scanned still.stands
+  tried_node c n (inr doubted) = doubted_node disk_says old c n settled new keeps older image told_before told_now changes is_group fit doubted.1 where_is scanned doubted.0
 
   pub tried_fewer : (c : Chronicle) (n : IsNode disk_says old c) → IsUncommitted n.was → HasNoFewer disk_says new c
   tried_fewer c n found = record { now = c; no_fewer = earlier_self c; is_node = tried_node c n found }
@@ -177,11 +178,11 @@ module _ {D : Type 0} (disk_says : DiskSays D) (old new : Node D) (settled : IsS
           grown = inl refl;
           texts_told = refl;
           bytes_told = more.1.0;
-          behind = still_behind disk_says old c up b settled new keeps older where_is rest more.0 more.1.1 still.stands;
+          behind = still_behind disk_says old c up b settled new keeps older scanned where_is rest more.0 more.1.1 still.stands;
           any_moment = all_some;
         }
     tried_behind (inr doubted) =
-        let bytes = bytes_now disk_says old c up b settled new keeps older where_is rest image told_before told_now changes is_group fit doubted.1 told next in
+        let bytes = bytes_now disk_says old c up b settled new keeps older scanned where_is rest image told_before told_now changes is_group fit doubted.1 told next in
         record {
           now = c;
           no_fewer = earlier_self c;
@@ -189,20 +190,23 @@ module _ {D : Type 0} (disk_says : DiskSays D) (old new : Node D) (settled : IsS
           grown = inl refl;
           texts_told = refl;
           bytes_told = bytes.1.0;
-          behind = doubted_behind disk_says old c up b settled new keeps older where_is rest image told_before told_now changes is_group fit doubted.1 told next doubted.0;
+          behind = doubted_behind disk_says old c up b settled new keeps older scanned where_is rest image told_before told_now changes is_group fit doubted.1 told next doubted.0;
           any_moment = all_some;
         }
 
 -- ---- a group that was taken
 
 module _ {D : Type 0} (disk_says : DiskSays D) (old new kept : Node D) (settled : IsSettled disk_says old) (keeps : KeepsUsed disk_says old.archive new.archive)
-    (older : (before : List (List (List ℕ))) → KeepsOlder disk_says old.link.journal before → KeepsOlder disk_says new.link.journal before)
+    (older : (before : List (List (List ℕ))) → KeepsOlder disk_says old.link.journal before → KeepsOlder disk_says new.link.journal before) (scanned : KeepsScanned disk_says old.link new.link)
     (image : (files : Files) → disk_says.seen (archive_disk_of new.archive) files → disk_says.may_leave (archive_disk_of new.archive) files)
     (told_before told_now : List ℕ → Type 0) (changes : List Change) (is_group : IsGroup changes) (brought : AreBrought disk_says told_before told_now old.archive new.archive changes)
     (end : ℕ) (taken : HasTakenGroup old kept changes end) (end_is : end ≡ old.at + (5 + length (group_text old.number changes))) (link : kept.link ≡ new.link)
     (same : archive_disk_of kept.archive ≡ archive_disk_of new.archive) (used : used_of kept.archive ≡ max (used_of old.archive) (named_ends changes)) (rest : kept.rest ≡ []) where
   committed_older : (c : Chronicle) (n : IsNode disk_says old c) → KeepsOlder disk_says kept.link.journal (map (group_texts 1) c.closed)
   committed_older c n = subst (λ (l : NodeLink D). KeepsOlder disk_says l.journal (map (group_texts 1) c.closed)) (sym link) (older (map (group_texts 1) c.closed) n.keeps)
+
+  committed_scanned : KeepsScanned disk_says old.link kept.link
+  committed_scanned = subst (KeepsScanned disk_says old.link) (sym link) scanned
 
   committed_stands : (was : Committed) → Stands disk_says new.link.journal was nothing → Stands disk_says kept.link.journal was nothing
   committed_stands was stands = subst (λ (l : NodeLink D). Stands disk_says l.journal was nothing) (sym link) stands
@@ -212,7 +216,7 @@ module _ {D : Type 0} (disk_says : DiskSays D) (old new kept : Node D) (settled 
     now = with_changes c changes;
     no_fewer = earlier_push c changes;
     is_node = taken_node disk_says old c n settled new keeps older image told_before told_now changes is_group taken.fit brought kept end taken end_is
-        (committed_stands (with_group n.was (group_text (length n.was.groups + 1) changes)) stands) (committed_older c n) same used;
+        (committed_stands (with_group n.was (group_text (length n.was.groups + 1) changes)) stands) (committed_older c n) committed_scanned same used;
   }
 
   pub committed_behind : (c : Chronicle) (up : Upstream) (b : IsBehind disk_says old c up) → told_before up.bytes → IsEarlier (texts_of (with_changes c changes)) up.texts
@@ -236,7 +240,7 @@ module _ {D : Type 0} (disk_says : DiskSays D) (old new kept : Node D) (settled 
         texts_told = refl;
         bytes_told = bytes.1.0;
         behind = taken_behind disk_says old c up b settled new kept keeps older image told_before told_now changes is_group brought told next end taken end_is
-            (committed_stands (with_group n.was text) stands) (committed_older c n) same used there (subst (HasNoGroup kept.number) (sym rest) (empty_no_group kept.number));
+            (committed_stands (with_group n.was text) stands) (committed_older c n) committed_scanned same used there (subst (HasNoGroup kept.number) (sym rest) (empty_no_group kept.number));
         any_moment = subst (λ (l : NodeLink D). LeavesOnly disk_says (disk_of old.link.journal) (disk_of l.journal) (HasSomeOf c up.texts)) (sym link) run;
       }
 

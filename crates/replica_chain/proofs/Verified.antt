@@ -8,6 +8,7 @@ use Rattle.depot_rows.specs.db_records.Record.{is_live}
 use Rattle.depot_rows.specs.db_records.declared.record.Record.{Record}
 use Rattle.recovery.specs.Holding.{spot_end, spots_end}
 use Rattle.recovery.specs.Contents.{AreWhole, IsBadAt, IsSpotDamage, IsWhole}
+use Rattle.recovery.proofs.GoodSpots.{end_at, whole_more}
 
 -- the rows that were checked, those that are left, and how many of them have contents
 pub record AreVerified (seen : Files → Type 0) (rows left : List Record) (count : ℕ) : Type 0 where
@@ -16,17 +17,9 @@ pub record AreVerified (seen : Files → Type 0) (rows left : List Record) (coun
   pub count_is : count ≡ count_by is_live done
   pub whole : (files : Files) → seen files → spots_end rows ≤ length (files 0) → AreWhole (files 0) done
 
-whole_more : (file : List ℕ) (rows : List Record) (row : Record) → AreWhole file rows → IsWhole file row → AreWhole file (rows ++ row ∷ [])
-whole_more file [] row whole one = (one, tt)
-whole_more file (r ∷ rows) row whole one = (whole.0, whole_more file rows row whole.1 one)
-
 count_more : (rows : List Record) (row : Record) (live : Bool) → live ≡ is_live row → count_by is_live (rows ++ row ∷ []) ≡ count_by is_live rows + cond live 1 0
 count_more rows row live is =
     sum_by_push (λ (r : Record). cond (is_live r) 1 0) rows row ∙ ap (λ (b : Bool). count_by is_live rows + cond b 1 0) (sym is)
-
-end_at : (front : List Record) (row : Record) (after : List Record) → spot_end row ≤ spots_end (front ++ row ∷ after)
-end_at [] row after = omega arith
-end_at (r ∷ front) row after = let later = end_at front row after in omega (arith, later)
 
 front_end : (front after : List Record) → spots_end front ≤ spots_end (front ++ after)
 front_end [] after = omega arith

@@ -4,16 +4,9 @@ use Rattle.std.specs.Prelude.{ℕ, List, [], ◌∷◌, ◌++◌, map}
 use Rattle.depot_rows.specs.db_records.declared.change.Change.{Change}
 use Rattle.depot_rows.specs.table_changes.Changed.{AllRows, changed_by, no_rows}
 use Rattle.journal_groups.specs.Groups.{groups_text}
+pub use Rattle.recovery.specs.Chronicle.{Chronicle, generations_of}
 use Rattle.recovery.specs.Holding.{joined}
 use Rattle.replica_pull.specs.Prefix.{changes_from}
-
--- the groups of the generations that are closed, from 0 on, and those of the newest
-pub record Chronicle : Type 0 where
-  pub closed : List (List (List Change))
-  pub newest : List (List Change)
-
-abbrev pub generations_of : Chronicle → List (List (List Change))
-generations_of c = c.closed ++ c.newest ∷ []
 
 -- its changes
 abbrev pub changes_of : Chronicle → List (List Change)

@@ -5,8 +5,11 @@ use Rattle.std.specs.List.{AllByRecursion}
 use Rattle.outside_api.specs.Disk.{Files}
 use Rattle.outside_api.specs.Link.{IsEarlier, text_of}
 use Rattle.outside_api.specs.Moments.{LeavesOnly}
+use Rattle.outside_api.specs.Reaching.{Reaches}
 use Rattle.outside_api.specs.Says.{DiskSays}
-use Rattle.archive_file.specs.Archive.{Has, disk_of as archive_disk_of}
+use Rattle.archive_file.specs.Archive.{Has, disk_of as archive_disk_of, used_of}
+use Rattle.archive_file.specs.Contents.{IsLooked as IsArchiveLooked, IsTold}
+use Rattle.archive_file.specs.declared.archive.Archive.{Archive}
 use Rattle.depot_rows.specs.db_records.declared.change.Change.{Change}
 use Rattle.depot_rows.specs.db_records.declared.key.Key.TheVariants as keys
 use Rattle.depot_rows.specs.db_records.declared.table.TableId.TheVariants.{Rev}
@@ -15,14 +18,16 @@ use Rattle.depot_rows.specs.depot_model.Records.{record_of}
 use Rattle.depot_rows.specs.depot_model.Rules.{value_of}
 use Rattle.depot_rows.specs.Standing.{Stand}
 use Rattle.disk_journal.specs.Images.{Committed, HasCommitted}
-use Rattle.disk_journal.specs.Stands.{disk_of}
+use Rattle.disk_journal.specs.Stands.{disk_of, nothing}
 use Rattle.journal_groups.specs.Groups.{IsGroup}
 use Rattle.recovery.specs.Holding.{group_texts, spots_end}
 use Rattle.recovery.specs.Rules.{DeletesAreUnplaced}
 use Rattle.recovery.specs.Standing.{HasContents, StandFor}
 use Rattle.replica_pull.specs.Prefix.{HasGrown, HasNoGroup, IsJournalOf, first_rows}
 use Rattle.replica_chain.specs.Chronicle.{Chronicle, changes_of, generations_of, rows_made, texts_of}
+use Rattle.replica_chain.specs.Ends.{IsLinkLooked}
 use Rattle.replica_chain.specs.Node.{HasFrontTo, IsNode, reach_of}
+use Rattle.replica_chain.specs.declared.link.NodeLink.{NodeLink}
 use Rattle.replica_chain.specs.declared.node.Node.{Node}
 
 -- ---- a master
@@ -107,3 +112,34 @@ pub record HasNoFewer {D : Type 0} (disk_says : DiskSays D) (new : Node D) (c : 
   pub now : Chronicle
   pub no_fewer : IsEarlier (texts_of c) (texts_of now)
   pub is_node : IsNode disk_says new now
+
+-- ---- nodes that follow a node
+
+-- Others followed a node: its journal and its archive were looked at, call by call, and nothing else of it changed.
+pub record WasFollowed {D : Type 0} (disk_says : DiskSays D) (old new : Node D) : Type 0 where
+  pub link : Reaches (λ (before now : NodeLink D). IsLinkLooked disk_says before now) old.link new.link
+  pub archive : Reaches (λ (before now : Archive D). IsArchiveLooked disk_says before now) old.archive new.archive
+  pub others : new ≡ record old { link = new.link; archive = new.archive }
+
+-- A node that had these changes is behind this upstream, and has no fewer.
+pub record StaysBehind {D : Type 0} (disk_says : DiskSays D) (new : Node D) (c : Chronicle) (up : Upstream) : Type 0 where
+  pub now : Chronicle
+  pub no_fewer : IsEarlier (texts_of c) (texts_of now)
+  pub behind : IsBehind disk_says new now up
+
+-- A node was followed, and another that was behind what it told is behind the same, whatever it had.
+pub record GoesOnBehindNode {D : Type 0} (disk_says : DiskSays D) (up up_new old new : Node D) : Type 0 where
+  pub followed : WasFollowed disk_says up up_new
+  pub behind : (mine theirs : Chronicle) (bytes : List ℕ) → IsNode disk_says up theirs → IsTold disk_says up.archive bytes → IsBehind disk_says old mine (record { texts = texts_of theirs; bytes = bytes })
+      → StaysBehind disk_says new mine (record { texts = texts_of theirs; bytes = bytes })
+
+-- A node has all of these changes and nothing in doubt, and its archive has the first of the bytes, as far as it is used.
+pub record HasAllOf {D : Type 0} (disk_says : DiskSays D) (node : Node D) (c : Chronicle) (bytes : List ℕ) : Type 0 where
+  pub is_node : IsNode disk_says node c
+  pub nothing_more : is_node.doubt ≡ nothing
+  pub front : HasFrontTo (disk_says.may_leave (archive_disk_of node.archive)) (used_of node.archive) bytes
+
+-- The rows that these changes make stand for a depot, which tells its generation, and the bytes have its contents at their spots.
+pub record IsDepotOf (c : Chronicle) (bytes : List ℕ) (d : List Deed) : Type 0 where
+  pub depot : IsDepotThen (generations_of c) bytes (length (changes_of c)) d
+  pub generation : value_of (record_of d (keys.Counter (codes "journal"))) ≡ length c.closed

@@ -16,6 +16,7 @@ use Rattle.journal_groups.specs.Groups.{IsGroup, group_text, groups_text}
 use Rattle.recovery.specs.Contents.{AreWhole}
 use Rattle.recovery.specs.Holding.{HasAllRows, group_texts, spots_end}
 use Rattle.replica_chain.specs.Chronicle.{Chronicle, changes_of, generations_of, rows_made, with_beginning, with_changes}
+use Rattle.replica_chain.specs.Ends.{IsScanned}
 use Rattle.replica_chain.specs.declared.node.Node.{Node}
 
 -- ---- what is in doubt
@@ -65,6 +66,7 @@ pub record IsNode {D : Type 0} (disk_says : DiskSays D) (node : Node D) (c : Chr
   pub doubt : Doubtful
   pub stands : Stands disk_says node.link.journal was doubt
   pub keeps : KeepsOlder disk_says node.link.journal (map (group_texts 1) c.closed)
+  pub scanned : IsScanned disk_says node.link
   pub are : was.groups ≡ group_texts 1 c.newest
   pub are_groups : AllByRecursion (AllByRecursion IsGroup) (generations_of c)
   pub has : HasAllRows was (rows_made c)

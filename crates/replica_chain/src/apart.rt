@@ -6,11 +6,11 @@ ghost use Rattle.outside_api.specs.Link.{Answers, Fits};
 ghost use Rattle.disk_journal.specs.Stands.{disk_of};
 ghost use Rattle.replica_chain.specs.Apart.{AreSameTo, GoesOn, IsCommon, IsCompared, IsComparedPiece, IsComparison};
 ghost use Rattle.replica_chain.specs.Chronicle.{Chronicle};
-ghost use Rattle.replica_chain.specs.Ends.{HasTexts, IsLooked};
+ghost use Rattle.replica_chain.specs.Ends.{HasTexts, IsLinkLooked, IsLooked};
 ghost use Rattle.replica_chain.specs.Node.{CanFollow, IsNode};
 
 use crate::node::Node;
-use disk_journal::Journal;
+use disk_journal::{Journal, Scanned};
 use outside_api::{Disk, DiskFault, Fetched};
 
 /// How many bytes of both journals are compared at a time.
@@ -102,10 +102,12 @@ fn compare_generation<D: Disk>(
     ensures up_faults { D.says.faults (disk_of up.old) ≤ D.says.faults (disk_of up.new) }
     ensures cause { OnErr result (HasRisen (D.says.faults (disk_of node.old)) (D.says.faults (disk_of node.new)) ⊎ HasRisen (D.says.faults (disk_of up.old)) (D.says.faults (disk_of up.new))) }
 {
+    let mut node_scanned = Scanned::nothing();
+    let mut up_scanned = Scanned::nothing();
     let mut at = 0u64;
     while at < TOO_LONG {
-        let of_node = node.fetch(generation, at, buffer)?;
-        let of_up = up.fetch(generation, at, other)?;
+        let of_node = node.fetch_on(&mut node_scanned, generation, at, buffer)?;
+        let of_up = up.fetch_on(&mut up_scanned, generation, at, other)?;
         match compare_pieces(at, of_node, buffer, of_up, other) {
             Front::Same(count) => at += count,
             Front::Last(compared) => return Ok(compared),
@@ -147,6 +149,8 @@ impl<D: Disk> Node<D> {
         // Both journals were only looked at, and what the nodes have they still have.
         ensures node_looked { IsLooked D.says self.old.link.journal self.new.link.journal }
         ensures up_looked { IsLooked D.says up.old.link.journal up.new.link.journal }
+        // So were the links, from which the next nodes follow.
+        ensures links { IsLinkLooked D.says self.old.link self.new.link × IsLinkLooked D.says up.old.link up.new.link }
         ensures others { (self.new ≡ record self.old { link = self.new.link }) × (up.new ≡ record up.old { link = up.new.link }) }
         ensures nodes { (c : Chronicle) → (IsNode D.says self.old c → IsNode D.says self.new c) × (IsNode D.says up.old c → IsNode D.says up.new c) }
         ensures can { (CanFollow D.says self.old → CanFollow D.says self.new) × (CanFollow D.says up.old → CanFollow D.says up.new) }

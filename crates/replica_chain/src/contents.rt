@@ -9,6 +9,7 @@ ghost use Rattle.depot_rows.specs.db_records.declared.rows.RevRecord.{RevRecord 
 ghost use Rattle.depot_rows.specs.depot_model.Records.{digest};
 ghost use Rattle.outside_api.specs.Disk.{Files, StillTells};
 ghost use Rattle.outside_api.specs.Moments.{LeavesOnly};
+ghost use Rattle.outside_api.specs.Reaching.{Reaches};
 ghost use Rattle.recovery.specs.Contents.{HasDigested, bytes_at};
 ghost use Rattle.recovery.specs.Looking.{IsCause, OnlyReads};
 ghost use Rattle.replica_chain.specs.Copying.{AreBrought, AreCopied, HasAllNamed, KeepsUsed, IfBadContent, IfNoBytes, IsAbsent, IsBadContent, IsOfBringing, IsOfContent, IsOfContents, IsOfCopying, IsOfRevision, HasNamed, named_end, named_ends};
@@ -86,6 +87,7 @@ fn copy_piece<D: Disk, C: Contents>(
     ensures grows { (before : List ℕ) → C.tells contents.old before → (now : List ℕ) × (C.tells contents.new now × IsFront before now) }
     ensures absent { IfNoBytes result (λ place. (place ≡ spot.at) × ((bytes : List ℕ) → C.tells contents.new bytes → length bytes < spot_end_of spot)) }
     ensures only { IfErr result IsOfCopying }
+    ensures looked { C.keeps contents.old contents.new }
     ensures contents_cause { IsCause (C.faults contents.old) (C.faults contents.new) (result ≡ Err faults.ContentsFailed) }
     ensures cause { IsCause (D.says.faults (disk_of archive.old)) (D.says.faults (disk_of archive.new)) (result ≡ Err faults.DiskFault) }
 {
@@ -113,6 +115,7 @@ fn copy_contents<D: Disk, C: Contents>(
     ensures grows { (before : List ℕ) → C.tells contents.old before → (now : List ℕ) × (C.tells contents.new now × IsFront before now) }
     ensures absent { IfNoBytes result (λ place. (bytes : List ℕ) → C.tells contents.new bytes → IsAbsent bytes (used_of archive.old) end place) }
     ensures only { IfErr result IsOfCopying }
+    ensures contents_reached { Reaches C.keeps contents.old contents.new }
     ensures contents_cause { IsCause (C.faults contents.old) (C.faults contents.new) (result ≡ Err faults.ContentsFailed) }
     ensures cause { IsCause (D.says.faults (disk_of archive.old)) (D.says.faults (disk_of archive.new)) (result ≡ Err faults.DiskFault) }
 {
@@ -208,6 +211,7 @@ pub(crate) fn bring_contents<D: Disk, C: Contents>(
     ensures absent { IfNoBytes result (λ place. (bytes : List ℕ) → C.tells contents.new bytes → IsAbsent bytes (used_of archive.old) (named_ends changes.now) place) }
     ensures bad { IfBadContent result (λ place. (files : Files) → D.says.seen (disk_of archive.new) files → IsBadContent (files 0) changes.now place) }
     ensures only { IfErr result IsOfBringing }
+    ensures contents_reached { Reaches C.keeps contents.old contents.new }
     ensures contents_cause { IsCause (C.faults contents.old) (C.faults contents.new) (result ≡ Err faults.ContentsFailed) }
     ensures cause { IsCause (D.says.faults (disk_of archive.old)) (D.says.faults (disk_of archive.new)) (result ≡ Err faults.DiskFault) }
 {

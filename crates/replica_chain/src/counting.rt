@@ -4,6 +4,7 @@ ghost use Rattle.std.specs.Prelude.{◌≡◌, ◌+◌, ◌*◌, ◌<◌, ◌≤
 ghost use Rattle.std.specs.List.{AllByRecursion, concat};
 ghost use Rattle.std.specs.Result.{IfErr};
 ghost use Rattle.depot_rows.specs.db_records.declared.change.Change.{Change as AnyChange};
+ghost use Rattle.disk_journal.specs.Scanned.{HasScanned};
 ghost use Rattle.disk_journal.specs.Stands.{disk_of, generation_of_journal};
 ghost use Rattle.journal_groups.specs.Groups.{IsGroup, groups_text};
 ghost use Rattle.journal_groups.specs.Reader.{IsLeft};
@@ -18,13 +19,13 @@ ghost use Rattle.replica_chain.specs.Ends.{HasTexts, IsLooked};
 
 use depot_rows::paths::{Sequence, Text};
 use depot_rows::records::Change;
-use disk_journal::Journal;
+use disk_journal::{Journal, Scanned};
 use journal_groups::{GroupFault, GroupReader};
 use outside_api::{Disk, Fetched};
 use recovery::OpenFault;
 use std::alloc::{AllocError, Global};
 
-/// How many bytes of a journal are read at a time. A fetch of a closed generation goes through its heads from the first one on, so that a piece is no small one.
+/// How many bytes of a journal are read at a time.
 const PIECE: usize = 1_048_576;
 
 /// How many bytes all generations may have together.
@@ -129,18 +130,20 @@ impl Counter {
 /// How many bytes of a generation stand at the front of a buffer, if any stand from a place on.
 fn fetch_some<D: Disk>(
     journal: &mut Journal<D>,
+    scanned: &mut Scanned,
     generation: u32,
     at: u64,
     buffer: &mut [u8],
 ) -> Result<Option<usize>, OpenFault>
     requires room { 0 < length buffer.old }
     ensures some { IfOk result (λ found. IfSome found (λ n. (0 < n) × (n ≤ length buffer.new))) }
-    ensures told { (texts : List (List ℕ)) → HasTexts D.says journal.old texts → IfOk result (IsFound (text_of texts generation) at buffer.new) }
+    ensures told { (texts : List (List ℕ)) → HasTexts D.says journal.old texts → HasScanned D.says (disk_of journal.old) scanned.old → IfOk result (IsFound (text_of texts generation) at buffer.new) }
+    ensures scanned { HasScanned D.says (disk_of journal.old) scanned.old → HasScanned D.says (disk_of journal.new) scanned.new }
     ensures only { IfErr result SaysNothing }
     ensures looked { IsLooked D.says journal.old journal.new }
     ensures cause { IsCause (D.says.faults (disk_of journal.old)) (D.says.faults (disk_of journal.new)) (result ≡ Err DiskFault) }
 {
-    match journal.fetch(generation, at, buffer) {
+    match journal.fetch_on(scanned, generation, at, buffer) {
         Ok(Fetched::Bytes(count)) => {
             if count == 0 {
                 return Ok(None);
@@ -168,8 +171,9 @@ fn count_generation<D: Disk>(
     ensures looked { IsLooked D.says journal.old journal.new }
     ensures cause { IsCause (D.says.faults (disk_of journal.old)) (D.says.faults (disk_of journal.new)) (result ≡ Err DiskFault) }
 {
+    let mut scanned = Scanned::nothing();
     let mut counter = Counter::new(alloc);
-    while let Some(count) = fetch_some(journal, generation, counter.bytes, buffer)? {
+    while let Some(count) = fetch_some(journal, &mut scanned, generation, counter.bytes, buffer)? {
         counter.take(alloc, &buffer[..count])?;
     }
     let count = Count {

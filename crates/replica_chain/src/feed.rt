@@ -1,6 +1,6 @@
 //! Reading the groups of a feed, and making their changes. Nothing is cut.
 
-ghost use Rattle.std.specs.Prelude.{◌≡◌, ◌+◌, ◌<◌, ◌≤◌, ◌^◌, length, take, IfOk, OnOk};
+ghost use Rattle.std.specs.Prelude.{◌≡◌, ◌+◌, ◌<◌, ◌^◌, length, IfOk, OnOk};
 ghost use Rattle.std.specs.Result.{IfErr};
 ghost use Rattle.depot_rows.specs.table_changes.Changed.{AllFitIn, changed_by, rows_of};
 ghost use Rattle.depot_rows.specs.table_changes.Drafts.{rows_of_draft};
@@ -16,28 +16,9 @@ use depot_rows::paths::Sequence;
 use depot_rows::records::Change;
 use depot_rows::tables::Tables;
 use journal_groups::{GroupFault, GroupReader};
+use recovery::make_fitting;
 use replica_pull::place_before;
 use std::alloc::{AllocError, Global};
-
-/// Makes changes one after another as far as they fit, and answers how many it made.
-fn make_fitting(
-    alloc: Global,
-    draft: &mut TablesDraft,
-    changes: &[Change],
-) -> Result<usize, AllocError>
-    ensures within { IfOk result (λ n. n ≤ length changes.now) }
-    ensures fit { IfOk result (λ n. AllFitIn (rows_of_draft draft.old) (take n changes.now)) }
-    ensures rows { IfOk result (λ n. rows_of_draft draft.new ≡ changed_by (rows_of_draft draft.old) (take n changes.now)) }
-    ensures next { IfOk result (λ n. n < length changes.now → AllFitIn (rows_of_draft draft.old) (take (n + 1) changes.now) → ⊥) }
-{
-    for (i, change) in changes.iter().enumerate() {
-        if !draft.fits(change) {
-            return Ok(i);
-        }
-        draft.change(alloc, change)?;
-    }
-    Ok(changes.len())
-}
 
 /// Makes changes that end at a place of the feed. The place of the first that doesn't fit is told.
 fn make_changes(

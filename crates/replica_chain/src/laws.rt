@@ -1,12 +1,22 @@
 //! Laws of nodes.
 
-ghost use Rattle.std.specs.Prelude.{◌≡◌, ℕ, List, length};
+ghost use Rattle.std.specs.Prelude.{◌≡◌, ◌≤◌, ℕ, List, None, length, take};
+ghost use Rattle.std.specs.List.{AllByRecursion};
+ghost use Rattle.archive_file.specs.Archive.{disk_of as archive_disk_of};
 ghost use Rattle.archive_file.specs.Contents.{IsTold};
+ghost use Rattle.depot_rows.specs.db_records.declared.table.TableId.TheVariants.{Rev};
 ghost use Rattle.depot_rows.specs.depot_model.Deeds.{Deed};
-ghost use Rattle.replica_chain.specs.Chronicle.{Chronicle, changes_of, texts_of};
+ghost use Rattle.disk_journal.specs.Stands.{disk_of};
+ghost use Rattle.journal_groups.specs.Groups.{IsGroup};
+ghost use Rattle.outside_api.specs.Disk.{Files};
+ghost use Rattle.recovery.specs.Holding.{spots_end};
+ghost use Rattle.recovery.specs.Standing.{StandFor};
+ghost use Rattle.replica_chain.specs.Apart.{IsComparison};
+ghost use Rattle.replica_chain.specs.Chronicle.{Chronicle, changes_of, generations_of, rows_made, texts_of};
 ghost use Rattle.replica_chain.specs.Ends.{HasTexts, TellsTexts};
-ghost use Rattle.replica_chain.specs.Masters.{IsBehind, IsMaster, OpensToAPrefix, TellsGroups, Upstream};
+ghost use Rattle.replica_chain.specs.Masters.{HasAllOf, IsBehind, IsDepotOf, IsMaster, OpensToAPrefix, TellsGroups, Upstream, WasFollowed};
 ghost use Rattle.replica_chain.specs.Node.{IsNode};
+ghost use Rattle.replica_chain.specs.Opening.{AreWritten, IsFresh};
 
 use crate::node::Node;
 use outside_api::Disk;
@@ -24,11 +34,41 @@ pub fn nodes_open_to_prefixes<D: Disk>(node: &Node<D>)
         IsBehind D.says node.now mine (record { texts = texts_of theirs; bytes = bytes }) → OpensToAPrefix D.says node.now after (length (changes_of theirs)) (length (changes_of mine)) }
 {}
 
+/// A node that others followed has the changes that it had, and tells no other texts and bytes.
+pub fn nodes_stay_while_followed<D: Disk>(old: &Node<D>, new: &Node<D>)
+    ensures node { (c : Chronicle) → WasFollowed D.says old.now new.now → IsNode D.says old.now c → IsNode D.says new.now c }
+    ensures texts { (c : Chronicle) (texts : List (List ℕ)) → WasFollowed D.says old.now new.now → IsNode D.says old.now c → HasTexts D.says new.now.link.journal texts → texts ≡ texts_of c }
+    ensures bytes { (before now : List ℕ) → WasFollowed D.says old.now new.now → IsTold D.says old.now.archive before → IsTold D.says new.now.archive now → now ≡ before }
+{}
+
+/// A node that is behind what a node with these changes tells, in the same generation and with as many changes, has all of them and no other.
+pub fn nodes_that_have_all<D: Disk>(node: &Node<D>)
+    ensures all { (mine theirs : Chronicle) (bytes : List ℕ) → AllByRecursion (AllByRecursion IsGroup) (generations_of theirs) → IsBehind D.says node.now mine (record { texts = texts_of theirs; bytes = bytes }) →
+        length mine.closed ≡ length theirs.closed → length (changes_of mine) ≡ length (changes_of theirs) → HasAllOf D.says node.now theirs bytes }
+    // Each pair of its images stands for the depot that these make.
+    ensures opens { (c : Chronicle) (bytes : List ℕ) (d : List Deed) → HasAllOf D.says node.now c bytes → IsDepotOf c bytes d →
+        (journal archive : Files) → D.says.may_leave (disk_of node.now.link.journal) journal → D.says.may_leave (archive_disk_of node.now.archive) archive → StandFor d journal archive }
+{}
+
+/// A node that was opened is behind another where its journal doesn't depart from that one's, and its archive has the first of the bytes as far as the spots
+/// of its rows.
+pub fn nodes_opened_are_behind<D: Disk>(node: &Node<D>)
+    ensures { (c : Chronicle) (texts : List (List ℕ)) (bytes : List ℕ) → IsNode D.says node.now c → IsFresh D.says node.now → IsComparison (texts_of c) texts None →
+        spots_end (rows_made c Rev) ≤ length bytes → ((image : Files) → D.says.may_leave (archive_disk_of node.now.archive) image → take (spots_end (rows_made c Rev)) (image 0) ≡ take (spots_end (rows_made c Rev)) bytes) →
+        IsBehind D.says node.now c (record { texts = texts; bytes = bytes }) }
+{}
+
+/// Files that were written from the first change on, and stand for a depot, have it by their changes and by what a node of them tells of its archive.
+pub fn nodes_have_their_depots<D: Disk>(node: &Node<D>)
+    ensures { (c : Chronicle) (journal archive : Files) (d : List Deed) (bytes : List ℕ) → IsNode D.says node.now c → AreWritten c journal → StandFor d journal archive →
+        D.says.seen (archive_disk_of node.now.archive) archive → IsTold D.says node.now.archive bytes → IsDepotOf c bytes d }
+{}
+
 /// A node's journal tells the next node the texts of its changes, and no others; and its archive tells its bytes as far as it is used.
 pub fn nodes_tell_their_changes<D: Disk>(node: &Node<D>)
-    ensures tells { (c : Chronicle) → IsNode D.says node.now c → TellsTexts D.says node.now.link.journal (texts_of c) }
+    ensures tells { (c : Chronicle) → IsNode D.says node.now c → TellsTexts D.says node.now.link (texts_of c) }
     ensures only { (c : Chronicle) (texts : List (List ℕ)) → IsNode D.says node.now c → HasTexts D.says node.now.link.journal texts → texts ≡ texts_of c }
     // What it tells is always of whole groups.
-    ensures groups { TellsGroups (TellsTexts D.says node.now.link.journal) }
+    ensures groups { TellsGroups (TellsTexts D.says node.now.link) }
     ensures contents { (c : Chronicle) → IsNode D.says node.now c → (bytes : List ℕ) × IsTold D.says node.now.archive bytes }
 {}

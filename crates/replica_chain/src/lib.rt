@@ -20,7 +20,10 @@ mod verifying;
 
 pub use apart::Departure;
 pub use fault::NodeFault;
-pub use laws::{nodes_behind_nodes, nodes_open_to_prefixes, nodes_tell_their_changes};
+pub use laws::{
+    nodes_behind_nodes, nodes_have_their_depots, nodes_open_to_prefixes, nodes_opened_are_behind,
+    nodes_stay_while_followed, nodes_tell_their_changes, nodes_that_have_all,
+};
 pub use link::NodeLink;
 pub use node::{Node, Pair};
 pub use opening::NotNode;

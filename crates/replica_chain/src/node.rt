@@ -71,7 +71,10 @@ impl<D: Disk> Node<D> {
         } = self;
         drop(tables);
         drop(rest);
-        let NodeLink { journal } = link;
+        let NodeLink {
+            journal,
+            scanned: _,
+        } = link;
         Pair {
             journal: journal.into_disk(),
             archive: archive.into_disk(),

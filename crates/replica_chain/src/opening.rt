@@ -1,8 +1,9 @@
 //! Opening the files of a node.
 
-ghost use Rattle.std.specs.Prelude.{◌≡◌, ◌≢◌, ◌+◌, [], length, IfOk};
+ghost use Rattle.std.specs.Prelude.{◌≡◌, ◌≢◌, ◌+◌, ℕ, List, [], length, IfOk};
 ghost use Rattle.std.specs.Result.{IfErr};
 ghost use Rattle.archive_file.specs.Archive.{disk_of as archive_of};
+ghost use Rattle.disk_journal.specs.Scanned.{IsMarkOf};
 ghost use Rattle.disk_journal.specs.Stands.{disk_of, generation_of_journal};
 ghost use Rattle.outside_api.specs.Disk.{Files};
 ghost use Rattle.recovery.specs.Contents.{HoldWhole};
@@ -14,12 +15,13 @@ ghost use Rattle.recovery.specs.declared.fault.OpenFault.TheVariants.{DiskFault}
 ghost use Rattle.depot_rows.specs.table_changes.Changed.{AllRows};
 ghost use Rattle.replica_chain.specs.Chronicle.{Chronicle};
 ghost use Rattle.replica_chain.specs.Node.{CanFollow, IsNode};
-ghost use Rattle.replica_chain.specs.Opening.{AreWritten, IsDiskFault, IsUnmade, OpensOrSaysNothing, archive_disk, journal_disk};
+ghost use Rattle.replica_chain.specs.Opening.{AreWritten, IsDiskFault, IsFresh, IsUnmade, OpensOrSaysNothing, archive_disk, journal_disk};
 
 use crate::counting::{Counts, count_journal};
 use crate::link::NodeLink;
 use crate::node::Node;
 use depot_rows::paths::Text;
+use disk_journal::Scanned;
 use outside_api::Disk;
 use recovery::{NotOpened, OpenFault, Opened, open_files};
 use std::alloc::Global;
@@ -36,6 +38,7 @@ pub struct NotNode<D: Disk> {
 fn node_of<D: Disk>(alloc: Global, opened: Opened<D>, counts: Counts) -> Node<D>
     ensures parts { (result.link.journal ≡ opened.journal) × (result.archive ≡ opened.archive) × (result.tables ≡ opened.tables) × (result.rest ≡ []) }
     ensures counts { (result.before ≡ counts.before.bytes) × (result.at ≡ counts.newest.bytes) × (result.number ≡ 1 + counts.newest.groups) × (result.changes ≡ counts.before.groups + counts.newest.groups + generation_of_journal opened.journal) }
+    ensures scanned { (file : List ℕ) → IsMarkOf result.link.scanned file }
 {
     let Opened {
         tables,
@@ -44,7 +47,10 @@ fn node_of<D: Disk>(alloc: Global, opened: Opened<D>, counts: Counts) -> Node<D>
     } = opened;
     let closed = journal.generation() as u64;
     Node {
-        link: NodeLink { journal },
+        link: NodeLink {
+            journal,
+            scanned: Scanned::nothing(),
+        },
         archive,
         tables,
         before: counts.before.bytes,
@@ -79,6 +85,7 @@ impl<D: Disk> Node<D> {
         // Of files that were written from the first change on it has all changes, and nothing is in doubt.
         ensures node { (c : Chronicle) (files contents : Files) → D.says.seen journal files → D.says.seen archive contents → AreWritten c files →
             IfOk result (λ node. IsNode D.says node c) }
+        ensures fresh { IfOk result (IsFresh D.says) }
         // It is opened as a depot's files are.
         ensures opens { (files contents : Files) (rows : AllRows) → D.says.seen journal files → D.says.seen archive contents → HoldWhole files contents rows → OpensOrSaysNothing result }
         ensures damaged { (files contents : Files) → D.says.seen journal files → D.says.seen archive contents → IfErr result (λ found. Tells (IsDamage files contents) found.fault) }

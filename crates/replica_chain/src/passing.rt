@@ -23,7 +23,7 @@ use crate::node::Node;
 use checkpoint_file::{CheckpointFault, print_generation, write_generation};
 use depot_rows::paths::Text;
 use depot_rows::tables::Tables;
-use disk_journal::Journal;
+use disk_journal::{Journal, Scanned};
 use outside_api::Disk;
 use replica_pull::begin_generation;
 use std::alloc::Global;
@@ -83,6 +83,7 @@ impl<D: Disk> Node<D> {
             return Err(NodeFault::NoGeneration);
         }
         let tables = begin_generation(alloc, &self.tables, generation + 1)?;
+        self.link.scanned = Scanned::nothing();
         match write_next(alloc, &tables, &mut self.link.journal, generation + 1) {
             Ok(()) => {
                 self.tables = tables;

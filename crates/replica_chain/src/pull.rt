@@ -14,11 +14,13 @@ ghost use Rattle.journal_groups.specs.Reader.{BeginsAt};
 ghost use Rattle.outside_api.specs.Disk.{Files};
 ghost use Rattle.outside_api.specs.Link.{text_of};
 ghost use Rattle.outside_api.specs.Moments.{LeavesOnly};
+ghost use Rattle.outside_api.specs.Reaching.{Reaches};
 ghost use Rattle.recovery.specs.Looking.{AreCauses, IsCause};
 ghost use Rattle.recovery.specs.Pieces.{AreAllGood};
 ghost use Rattle.depot_rows.specs.table_changes.Changed.{AllFitIn, rows_of};
 ghost use Rattle.replica_chain.specs.Chronicle.{Chronicle};
 ghost use Rattle.replica_chain.specs.Copying.{AreBrought, IfBadContent, IfNoBytes, IsAbsent, IsBadContent, IsOfBringing, KeepsUsed, named_ends};
+ghost use Rattle.replica_chain.specs.Ends.{KeepsScanned};
 ghost use Rattle.replica_chain.specs.Masters.{GoesOnBehind, HasNoFewer, IsBehind, TellsGroups, Upstream};
 ghost use Rattle.replica_chain.specs.Node.{CanFollow, IsNode, IsSettled};
 ghost use Rattle.replica_chain.specs.Pulling.{HasFollowed, HasMoved, HasStopped, HasTakenGroup, HasTakenGroups, HasTakenPiece, IsCutShort, IsFetched, IsRefused, IsUntaken, IsUnread, IsWhereItWas, with_piece};
@@ -31,6 +33,7 @@ use crate::node::Node;
 use archive_file::Contents;
 use depot_rows::paths::Text;
 use depot_rows::records::{Change, Spot};
+use disk_journal::Scanned;
 use journal_groups::{GroupReader, Moved};
 use outside_api::{Disk, Fetched, Link};
 use replica_pull::{joined, last_bytes};
@@ -64,15 +67,18 @@ impl<D: Disk> Node<D> {
         ensures any_moment { (was : Committed) → Stands D.says self.old.link.journal was nothing →
             LeavesOnly D.says (disk_of self.old.link.journal) (disk_of self.new.link.journal) (HasEither was (with_group was (group_text (length was.groups + 1) changes.now))) }
         ensures older { (older : List (List (List ℕ))) → KeepsOlder D.says self.old.link.journal older → KeepsOlder D.says self.new.link.journal older }
+        ensures scanned { KeepsScanned D.says self.old.link self.new.link }
         ensures grows { (before : List ℕ) → C.tells contents.old before → (now : List ℕ) × (C.tells contents.new now × IsFront before now) }
         ensures absent { IfNoBytes result (λ place. (bytes : List ℕ) → C.tells contents.new bytes → IsAbsent bytes (used_of self.old.archive) (named_ends changes.now) place) }
         ensures bad { IfBadContent result (λ place. (files : Files) → D.says.seen (archive_disk_of self.new.archive) files → IsBadContent (files 0) changes.now place) }
         ensures only { IfErr result IsOfBringing }
+        ensures contents_reached { Reaches C.keeps contents.old contents.new }
         ensures contents_cause { IsCause (C.faults contents.old) (C.faults contents.new) (result ≡ Err faults.ContentsFailed) }
         ensures cause { AreCauses (D.says.faults (disk_of self.old.link.journal)) (D.says.faults (disk_of self.new.link.journal)) (D.says.faults (archive_disk_of self.old.archive)) (D.says.faults (archive_disk_of self.new.archive)) (result ≡ Err faults.DiskFault) }
     {
         let end = bring_contents(alloc, contents, &mut self.archive, changes)?;
         let prepared = self.link.journal.prepare(alloc, changes)?;
+        self.link.scanned = Scanned::nothing();
         self.link.journal.commit(prepared)?;
         Ok(end)
     }
@@ -103,6 +109,7 @@ impl<D: Disk> Node<D> {
         ensures behind { (c : Chronicle) (up : Upstream) → C.tells contents.old up.bytes → IsBehind D.says self.old c up →
             Has (text_of up.texts (length c.closed)) (record { at = self.old.at; length = end - self.old.at }) (mark open_byte ++ group_text self.old.number changes.now) →
             GoesOnBehind D.says self.old self.new c up (λ texts. texts ≡ up.texts) (C.tells contents.new) }
+        ensures contents_reached { Reaches C.keeps contents.old contents.new }
         ensures contents_cause { IsCause (C.faults contents.old) (C.faults contents.new) (result ≡ Err faults.ContentsFailed) }
         ensures cause { AreCauses (D.says.faults (disk_of self.old.link.journal)) (D.says.faults (disk_of self.new.link.journal)) (D.says.faults (archive_disk_of self.old.archive)) (D.says.faults (archive_disk_of self.new.archive)) (result ≡ Err faults.DiskFault) }
     {
@@ -152,6 +159,7 @@ impl<D: Disk> Node<D> {
         ensures behind { (c : Chronicle) (up : Upstream) → C.tells contents.old up.bytes → IsBehind D.says self.old c up →
             Has (text_of up.texts (length c.closed)) (record { at = reader.old.at; length = length reader.old.left }) reader.old.left →
             GoesOnBehind D.says self.old self.new c up (λ texts. texts ≡ up.texts) (C.tells contents.new) }
+        ensures contents_reached { Reaches C.keeps contents.old contents.new }
         ensures contents_cause { IsCause (C.faults contents.old) (C.faults contents.new) (result ≡ Err faults.ContentsFailed) }
         ensures cause { AreCauses (D.says.faults (disk_of self.old.link.journal)) (D.says.faults (disk_of self.new.link.journal)) (D.says.faults (archive_disk_of self.old.archive)) (D.says.faults (archive_disk_of self.new.archive)) (result ≡ Err faults.DiskFault) }
     {
@@ -182,6 +190,7 @@ impl<D: Disk> Node<D> {
         ensures behind { (c : Chronicle) (up : Upstream) → C.tells contents.old up.bytes → IsBehind D.says self.old c up →
             Has (text_of up.texts (length c.closed)) (record { at = self.old.at + length self.old.rest; length = length piece.now }) piece.now →
             GoesOnBehind D.says self.old self.new c up (λ texts. texts ≡ up.texts) (C.tells contents.new) }
+        ensures contents_reached { Reaches C.keeps contents.old contents.new }
         ensures contents_cause { IsCause (C.faults contents.old) (C.faults contents.new) (result ≡ Err faults.ContentsFailed) }
         ensures cause { AreCauses (D.says.faults (disk_of self.old.link.journal)) (D.says.faults (disk_of self.new.link.journal)) (D.says.faults (archive_disk_of self.old.archive)) (D.says.faults (archive_disk_of self.new.archive)) (result ≡ Err faults.DiskFault) }
     {
@@ -215,7 +224,9 @@ impl<D: Disk> Node<D> {
         ensures node { (c : Chronicle) → IsNode D.says self.old c → HasNoFewer D.says self.new c }
         ensures behind { (c : Chronicle) (up : Upstream) → L.says.tells link.old up.texts → C.tells contents.old up.bytes → TellsGroups (L.says.tells link.new) → IsBehind D.says self.old c up →
             GoesOnBehind D.says self.old self.new c up (L.says.tells link.new) (C.tells contents.new) }
+        ensures link_reached { Reaches L.says.keeps link.old link.new }
         ensures link_cause { IsCause (L.says.faults link.old) (L.says.faults link.new) (result ≡ Err faults.LinkFault) }
+        ensures contents_reached { Reaches C.keeps contents.old contents.new }
         ensures contents_cause { IsCause (C.faults contents.old) (C.faults contents.new) (result ≡ Err faults.ContentsFailed) }
         ensures cause { AreCauses (D.says.faults (disk_of self.old.link.journal)) (D.says.faults (disk_of self.new.link.journal)) (D.says.faults (archive_disk_of self.old.archive)) (D.says.faults (archive_disk_of self.new.archive)) (result ≡ Err faults.DiskFault) }
     {
@@ -252,11 +263,14 @@ impl<D: Disk> Node<D> {
         ensures node { (c : Chronicle) → IsNode D.says self.old c → HasNoFewer D.says self.new c }
         ensures behind { (c : Chronicle) (up : Upstream) → L.says.tells link.old up.texts → C.tells contents.old up.bytes → TellsGroups (L.says.tells link.new) → IsBehind D.says self.old c up →
             GoesOnBehind D.says self.old self.new c up (L.says.tells link.new) (C.tells contents.new) }
+        ensures link_reached { Reaches L.says.keeps link.old link.new }
         ensures link_cause { IsCause (L.says.faults link.old) (L.says.faults link.new) (result ≡ Err faults.LinkFault) }
+        ensures contents_reached { Reaches C.keeps contents.old contents.new }
         ensures contents_cause { IsCause (C.faults contents.old) (C.faults contents.new) (result ≡ Err faults.ContentsFailed) }
         ensures cause { AreCauses (D.says.faults (disk_of self.old.link.journal)) (D.says.faults (disk_of self.new.link.journal)) (D.says.faults (archive_disk_of self.old.archive)) (D.says.faults (archive_disk_of self.new.archive)) (result ≡ Err faults.DiskFault) }
     {
         let mut piece = vec![in alloc; 0u8; PIECE]?;
+        self.link.scanned = Scanned::nothing();
         self.link.journal.settle()?;
         let moved = self.pull_into(alloc, link, contents, piece.as_mut_slice());
         moved
@@ -285,6 +299,10 @@ impl<D: Disk> Node<D> {
         // Behind a depot that the link and the contents tell it stays behind that depot, at every moment.
         ensures behind { (c : Chronicle) (up : Upstream) → L.says.tells link.old up.texts → C.tells contents.old up.bytes → TellsGroups (L.says.tells link.new) → IsBehind D.says self.old c up →
             GoesOnBehind D.says self.old self.new c up (L.says.tells link.new) (C.tells contents.new) }
+
+        // What it follows is left as calls on it leave it.
+        ensures link_reached { Reaches L.says.keeps link.old link.new }
+        ensures contents_reached { Reaches C.keeps contents.old contents.new }
 
         ensures link_cause { IsCause (L.says.faults link.old) (L.says.faults link.new) (result ≡ Err faults.LinkFault) }
         ensures contents_cause { IsCause (C.faults contents.old) (C.faults contents.new) (result ≡ Err faults.ContentsFailed) }

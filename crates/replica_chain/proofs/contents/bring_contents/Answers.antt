@@ -68,3 +68,12 @@ returns-clause-brought g c =
 pub returns-clause-keeps : goal.returns-clause-keeps
 returns-clause-keeps g c =
     keeps_read g.D.Disk.says c.args.archive.now c.copy_contents.new.archive c.check_contents.new.archive c.copy_contents.ensures.keeps c.check_contents.ensures.reads c.check_contents.ensures.used
+
+pub returns-in_err-copy_contents-clause-contents_reached : goal.returns-in_err-copy_contents-clause-contents_reached
+returns-in_err-copy_contents-clause-contents_reached g c = c.copy_contents.ensures.contents_reached
+
+pub returns-in_err-check_contents-clause-contents_reached : goal.returns-in_err-check_contents-clause-contents_reached
+returns-in_err-check_contents-clause-contents_reached g c = c.copy_contents.ensures.contents_reached
+
+pub returns-clause-contents_reached : goal.returns-clause-contents_reached
+returns-clause-contents_reached g c = c.copy_contents.ensures.contents_reached

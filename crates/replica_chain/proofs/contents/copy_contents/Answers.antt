@@ -1,5 +1,6 @@
 use Rattle.std.proofs.Common.{◌≡◌, ℕ, ◌++◌, refl, sym, arith, length-append, max, subst, take}
 use Rattle.std.proofs.lemmas.List.{length-take-le}
+use Rattle.outside_api.specs.Reaching.{goes_on, stays}
 use Rattle.archive_file.specs.Archive.{disk_of, used_of}
 use Rattle.replica_chain.specs.Node.{AllReach, HasFrontTo}
 use Rattle.replica_chain.proofs.Copied.{front_cut, front_itself, front_more, fronts_on, keeps_all, keeps_on, same_more}
@@ -46,6 +47,7 @@ loop-at-init g c =
       told = λ before told front. (before, (told, (front_itself before, subst (λ (place : ℕ). HasFrontTo (g.D.Disk.says.may_leave (disk_of archive)) place before) (sym used) front)));
       keeps = keeps_all g.D.Disk.says archive (g.met.D.Disk.only_now (disk_of archive));
       grows = λ before told. (before, (told, front_itself before));
+      reached = stays;
       contents_count = omega arith;
       count = omega arith;
     }
@@ -81,6 +83,13 @@ loop-at-preserved g c =
           let mid = inv.grows before told in
           let next = piece.grows mid.0 mid.1.0 in
           (next.0, (next.1.0, fronts_on before mid.0 next.0 mid.1.1 next.1.1));
+      reached = goes_on inv.reached piece.looked;
       contents_count = omega (arith, inv.contents_count, piece.contents_cause.never_falls);
       count = omega (arith, inv.count, piece.cause.never_falls);
     }
+
+pub returns-in_err-copy_piece-clause-contents_reached : goal.returns-in_err-copy_piece-clause-contents_reached
+returns-in_err-copy_piece-clause-contents_reached g c = goes_on c.loop-at.invariant.reached c.copy_piece.ensures.looked
+
+pub returns-clause-contents_reached : goal.returns-clause-contents_reached
+returns-clause-contents_reached g c = c.loop-at.invariant.reached

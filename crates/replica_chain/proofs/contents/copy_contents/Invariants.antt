@@ -1,4 +1,5 @@
 use Rattle.std.proofs.Common.{◌≡◌, ◌-◌, ◌<◌, ◌≤◌, ◌^◌, ℕ, List, length, max, take}
+use Rattle.outside_api.specs.Reaching.{Reaches}
 use Rattle.archive_file.specs.Archive.{disk_of, used_of}
 use Rattle.archive_file.specs.Contents.{IsFront}
 use Rattle.replica_chain.specs.Copying.{KeepsUsed}
@@ -17,6 +18,7 @@ invariant-loop-at g l = record {
       (now : List ℕ) × (g.C.Contents.tells l.contents now × (IsFront before now × HasFrontTo (g.D.Disk.says.may_leave (disk_of l.archive)) l.at now));
   keeps : KeepsUsed g.D.Disk.says l.fn.archive l.archive;
   grows : (before : List ℕ) → g.C.Contents.tells l.fn.contents before → (now : List ℕ) × (g.C.Contents.tells l.contents now × IsFront before now);
+  reached : Reaches g.C.Contents.keeps l.fn.contents l.contents;
   contents_count : g.C.Contents.faults l.fn.contents ≤ g.C.Contents.faults l.contents;
   count : g.D.Disk.says.faults (disk_of l.fn.archive) ≤ g.D.Disk.says.faults (disk_of l.archive);
 }

@@ -1,4 +1,5 @@
 use Rattle.std.proofs.Common.{◌-◌, ◌≤◌, ◌<◌, ℕ, List, length, take}
+use Rattle.disk_journal.specs.Scanned.{HasScanned}
 use Rattle.disk_journal.specs.Stands.{disk_of}
 use Rattle.outside_api.specs.Link.{text_of}
 use Rattle.replica_pull.specs.Prefix.{HasNoGroup}
@@ -11,6 +12,7 @@ invariant-loop-counter g l = record {
   counted : (texts : List (List ℕ)) → HasTexts g.D.Disk.says l.fn.journal texts → HasCounted (take l.counter.bytes (text_of texts l.generation)) l.counter.reader l.counter.groups;
   within : (texts : List (List ℕ)) → HasTexts g.D.Disk.says l.fn.journal texts → l.counter.bytes ≤ length (text_of texts l.generation);
   none : HasNoGroup l.counter.reader.number l.counter.reader.left;
+  scanned : HasScanned g.D.Disk.says (disk_of l.journal) l.scanned;
   looked : IsLooked g.D.Disk.says l.fn.journal l.journal;
   faults : g.D.Disk.says.faults (disk_of l.fn.journal) ≤ g.D.Disk.says.faults (disk_of l.journal);
   room : 0 < length l.buffer;

@@ -66,3 +66,23 @@ pub returns-clause-any_moment : goal.returns-clause-any_moment
 returns-clause-any_moment g c = λ was stands.
     let text : group_of c.in_ok-prepared.prepared ≡ group_text (length was.groups + 1) c.args.changes.now = c.in_ok-prepared.ensures.group ∙ ap (λ (n : ℕ). group_text (n + 1) c.args.changes.now) stands.count in
     subst (λ (l : List ℕ). LeavesOnly g.D.Disk.says (disk_of c.args.self.now.link.journal) (disk_of c.commit.new.self) (HasEither was (with_group was l))) text (c.commit.ensures.any_moment was stands)
+
+pub returns-in_err-end-clause-contents_reached : goal.returns-in_err-end-clause-contents_reached
+returns-in_err-end-clause-contents_reached g c = c.bring_contents.ensures.contents_reached
+
+pub returns-in_err-prepared-clause-contents_reached : goal.returns-in_err-prepared-clause-contents_reached
+returns-in_err-prepared-clause-contents_reached g c = c.bring_contents.ensures.contents_reached
+
+pub returns-in_err-commit-clause-contents_reached : goal.returns-in_err-commit-clause-contents_reached
+returns-in_err-commit-clause-contents_reached g c = c.bring_contents.ensures.contents_reached
+
+pub returns-clause-contents_reached : goal.returns-clause-contents_reached
+returns-clause-contents_reached g c = c.bring_contents.ensures.contents_reached
+
+-- what was scanned
+
+pub returns-in_err-commit-clause-scanned : goal.returns-in_err-commit-clause-scanned
+returns-in_err-commit-clause-scanned g c = λ scanned files sees. c.nothing-self.ensures _
+
+pub returns-clause-scanned : goal.returns-clause-scanned
+returns-clause-scanned g c = λ scanned files sees. c.nothing-self.ensures _

@@ -54,7 +54,7 @@ returns-in-Ok-clause-can g c =
     let below : n < 4095 = grind (arith, nat_tests) in
     let less : generation_of_journal c.args.self.now.link.journal < 4095 = omega (arith, below, c.generation-generation.ensures) in
     let next_is : n + 1 ≡ generation_of_journal c.args.self.now.link.journal + 1 = ap (λ (k : ℕ). k + 1) c.generation-generation.ensures in
-    begun_can g.D.Disk.says c.args.self.now c.requires.settled c.write_next.new.journal (rows_of c.in_ok-tables.tables) (n + 1) next_is less c.in_ok-tables.ensures.rows
+    begun_can g.D.Disk.says c.args.self.now c.requires.settled (record { journal = c.write_next.new.journal; scanned = c.nothing-self.result }) (rows_of c.in_ok-tables.tables) (n + 1) next_is less c.in_ok-tables.ensures.rows
     c.in_ok-tables.tables refl c.new.result c.new.ensures c.in-Ok.ensures.generation c.in-Ok.ensures.ok c.requires.can c.in_ok-tables.ensures.end
 
 pub returns-in-Ok-clause-passed : goal.returns-in-Ok-clause-passed
@@ -64,7 +64,7 @@ returns-in-Ok-clause-passed g c =
     let below : n < 4095 = grind (arith, nat_tests) in
     let less : generation_of_journal c.args.self.now.link.journal < 4095 = omega (arith, below, c.generation-generation.ensures) in
     let next_is : n + 1 ≡ generation_of_journal c.args.self.now.link.journal + 1 = ap (λ (k : ℕ). k + 1) c.generation-generation.ensures in
-    begun_passed g.D.Disk.says c.args.self.now c.requires.settled c.write_next.new.journal (rows_of c.in_ok-tables.tables) (n + 1) next_is less c.in_ok-tables.ensures.rows
+    begun_passed g.D.Disk.says c.args.self.now c.requires.settled (record { journal = c.write_next.new.journal; scanned = c.nothing-self.result }) (rows_of c.in_ok-tables.tables) (n + 1) next_is less c.in_ok-tables.ensures.rows
     c.in_ok-tables.tables refl c.new.result c.new.ensures c.in-Ok.ensures.generation
 
 pub returns-in-Ok-clause-node : goal.returns-in-Ok-clause-node
@@ -74,8 +74,8 @@ returns-in-Ok-clause-node g c = λ chronicle is_node.
     let below : n < 4095 = grind (arith, nat_tests) in
     let less : generation_of_journal c.args.self.now.link.journal < 4095 = omega (arith, below, c.generation-generation.ensures) in
     let next_is : n + 1 ≡ generation_of_journal c.args.self.now.link.journal + 1 = ap (λ (k : ℕ). k + 1) c.generation-generation.ensures in
-    begun_fewer g.D.Disk.says c.args.self.now c.requires.settled c.write_next.new.journal (rows_of c.in_ok-tables.tables) (n + 1) next_is less c.in_ok-tables.ensures.rows
-    c.in_ok-tables.tables refl c.new.result c.new.ensures c.in-Ok.ensures.generation c.in-Ok.ensures.ok c.in-Ok.ensures.checkpoint c.in-Ok.ensures.closes chronicle is_node
+    begun_fewer g.D.Disk.says c.args.self.now c.requires.settled (record { journal = c.write_next.new.journal; scanned = c.nothing-self.result }) (rows_of c.in_ok-tables.tables) (n + 1) next_is less c.in_ok-tables.ensures.rows
+    c.in_ok-tables.tables refl c.new.result c.new.ensures c.in-Ok.ensures.generation c.in-Ok.ensures.ok c.in-Ok.ensures.checkpoint c.in-Ok.ensures.closes (λ scanned files sees. c.nothing-self.ensures _) chronicle is_node
 
 pub returns-in-Ok-clause-behind : goal.returns-in-Ok-clause-behind
 returns-in-Ok-clause-behind g c = λ chronicle up b next.
@@ -84,8 +84,8 @@ returns-in-Ok-clause-behind g c = λ chronicle up b next.
     let below : n < 4095 = grind (arith, nat_tests) in
     let less : generation_of_journal c.args.self.now.link.journal < 4095 = omega (arith, below, c.generation-generation.ensures) in
     let next_is : n + 1 ≡ generation_of_journal c.args.self.now.link.journal + 1 = ap (λ (k : ℕ). k + 1) c.generation-generation.ensures in
-    begun_goes g.D.Disk.says c.args.self.now c.requires.settled c.write_next.new.journal (rows_of c.in_ok-tables.tables) (n + 1) next_is less c.in_ok-tables.ensures.rows
-    c.in_ok-tables.tables refl c.new.result c.new.ensures c.in-Ok.ensures.generation c.in-Ok.ensures.ok c.in-Ok.ensures.checkpoint c.in-Ok.ensures.closes c.write_next.ensures.any_moment chronicle up b next
+    begun_goes g.D.Disk.says c.args.self.now c.requires.settled (record { journal = c.write_next.new.journal; scanned = c.nothing-self.result }) (rows_of c.in_ok-tables.tables) (n + 1) next_is less c.in_ok-tables.ensures.rows
+    c.in_ok-tables.tables refl c.new.result c.new.ensures c.in-Ok.ensures.generation c.in-Ok.ensures.ok c.in-Ok.ensures.checkpoint c.in-Ok.ensures.closes (λ scanned files sees. c.nothing-self.ensures _) c.write_next.ensures.any_moment chronicle up b next
 
 -- ---- it wasn't, or is in doubt
 
@@ -96,7 +96,7 @@ returns-in-Err-clause-can g c =
     let below : n < 4095 = grind (arith, nat_tests) in
     let less : generation_of_journal c.args.self.now.link.journal < 4095 = omega (arith, below, c.generation-generation.ensures) in
     let next_is : n + 1 ≡ generation_of_journal c.args.self.now.link.journal + 1 = ap (λ (k : ℕ). k + 1) c.generation-generation.ensures in
-    unwritten_can g.D.Disk.says c.args.self.now c.requires.settled c.write_next.new.journal (rows_of c.in_ok-tables.tables) (n + 1) next_is less c.in_ok-tables.ensures.rows (λ was stands. c.in-Err.ensures.err was stands refl) c.requires.can
+    unwritten_can g.D.Disk.says c.args.self.now c.requires.settled (record { journal = c.write_next.new.journal; scanned = c.nothing-self.result }) (rows_of c.in_ok-tables.tables) (n + 1) next_is less c.in_ok-tables.ensures.rows (λ was stands. c.in-Err.ensures.err was stands refl) c.requires.can
 
 pub returns-in-Err-clause-stopped : goal.returns-in-Err-clause-stopped
 returns-in-Err-clause-stopped g c =
@@ -105,7 +105,7 @@ returns-in-Err-clause-stopped g c =
     let below : n < 4095 = grind (arith, nat_tests) in
     let less : generation_of_journal c.args.self.now.link.journal < 4095 = omega (arith, below, c.generation-generation.ensures) in
     let next_is : n + 1 ≡ generation_of_journal c.args.self.now.link.journal + 1 = ap (λ (k : ℕ). k + 1) c.generation-generation.ensures in
-    unpassed c.args.self.now _ c.in-Err.fault c.in-Err.ensures.only (unwritten_where g.D.Disk.says c.args.self.now c.requires.settled c.write_next.new.journal (rows_of c.in_ok-tables.tables) (n + 1) next_is less c.in_ok-tables.ensures.rows (λ was stands. c.in-Err.ensures.err was stands refl))
+    unpassed c.args.self.now _ c.in-Err.fault c.in-Err.ensures.only (unwritten_where g.D.Disk.says c.args.self.now c.requires.settled (record { journal = c.write_next.new.journal; scanned = c.nothing-self.result }) (rows_of c.in_ok-tables.tables) (n + 1) next_is less c.in_ok-tables.ensures.rows (λ was stands. c.in-Err.ensures.err was stands refl))
 
 pub returns-in-Err-clause-node : goal.returns-in-Err-clause-node
 returns-in-Err-clause-node g c = λ chronicle is_node.
@@ -114,7 +114,7 @@ returns-in-Err-clause-node g c = λ chronicle is_node.
     let below : n < 4095 = grind (arith, nat_tests) in
     let less : generation_of_journal c.args.self.now.link.journal < 4095 = omega (arith, below, c.generation-generation.ensures) in
     let next_is : n + 1 ≡ generation_of_journal c.args.self.now.link.journal + 1 = ap (λ (k : ℕ). k + 1) c.generation-generation.ensures in
-    unwritten_fewer g.D.Disk.says c.args.self.now c.requires.settled c.write_next.new.journal (rows_of c.in_ok-tables.tables) (n + 1) next_is less c.in_ok-tables.ensures.rows (λ was stands. c.in-Err.ensures.err was stands refl) (λ older kept. c.in-Err.ensures.keeps older kept refl) chronicle is_node
+    unwritten_fewer g.D.Disk.says c.args.self.now c.requires.settled (record { journal = c.write_next.new.journal; scanned = c.nothing-self.result }) (rows_of c.in_ok-tables.tables) (n + 1) next_is less c.in_ok-tables.ensures.rows (λ was stands. c.in-Err.ensures.err was stands refl) (λ older kept. c.in-Err.ensures.keeps older kept refl) (λ scanned files sees. c.nothing-self.ensures _) chronicle is_node
 
 pub returns-in-Err-clause-behind : goal.returns-in-Err-clause-behind
 returns-in-Err-clause-behind g c = λ chronicle up b next.
@@ -123,4 +123,4 @@ returns-in-Err-clause-behind g c = λ chronicle up b next.
     let below : n < 4095 = grind (arith, nat_tests) in
     let less : generation_of_journal c.args.self.now.link.journal < 4095 = omega (arith, below, c.generation-generation.ensures) in
     let next_is : n + 1 ≡ generation_of_journal c.args.self.now.link.journal + 1 = ap (λ (k : ℕ). k + 1) c.generation-generation.ensures in
-    unwritten_goes g.D.Disk.says c.args.self.now c.requires.settled c.write_next.new.journal (rows_of c.in_ok-tables.tables) (n + 1) next_is less c.in_ok-tables.ensures.rows (λ was stands. c.in-Err.ensures.err was stands refl) (λ older kept. c.in-Err.ensures.keeps older kept refl) c.write_next.ensures.any_moment chronicle up b next
+    unwritten_goes g.D.Disk.says c.args.self.now c.requires.settled (record { journal = c.write_next.new.journal; scanned = c.nothing-self.result }) (rows_of c.in_ok-tables.tables) (n + 1) next_is less c.in_ok-tables.ensures.rows (λ was stands. c.in-Err.ensures.err was stands refl) (λ older kept. c.in-Err.ensures.keeps older kept refl) (λ scanned files sees. c.nothing-self.ensures _) c.write_next.ensures.any_moment chronicle up b next

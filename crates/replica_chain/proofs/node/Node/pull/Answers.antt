@@ -16,3 +16,15 @@ pub returns-in-Err-clause-behind : goal.returns-in-Err-clause-behind
 returns-in-Err-clause-behind g c = λ chronicle up told bytes groups b.
     to_emptied g.D.Disk.says c.args.self.now c.pull_on.new.self c.new.result c.new.ensures chronicle up (g.L.Link.says.tells c.pull_on.new.link) (g.C.Contents.tells c.pull_on.new.contents)
     (c.pull_on.ensures.behind chronicle up told bytes groups b)
+
+pub returns-in-Err-clause-link_reached : goal.returns-in-Err-clause-link_reached
+returns-in-Err-clause-link_reached g c = c.pull_on.ensures.link_reached
+
+pub returns-in-Err-clause-contents_reached : goal.returns-in-Err-clause-contents_reached
+returns-in-Err-clause-contents_reached g c = c.pull_on.ensures.contents_reached
+
+pub returns-in-Ok-clause-link_reached : goal.returns-in-Ok-clause-link_reached
+returns-in-Ok-clause-link_reached g c = c.pull_on.ensures.link_reached
+
+pub returns-in-Ok-clause-contents_reached : goal.returns-in-Ok-clause-contents_reached
+returns-in-Ok-clause-contents_reached g c = c.pull_on.ensures.contents_reached

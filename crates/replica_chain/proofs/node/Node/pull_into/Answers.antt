@@ -8,6 +8,7 @@ use Rattle.replica_chain.proofs.Closing.{begun_earlier}
 use Rattle.replica_chain.proofs.Followed.{behind_later, fetched_stands, goes_later, is_fetched, told_as, told_now, unmoved_goes}
 use Rattle.replica_chain.proofs.Growing.{earlier_self}
 use Rattle.replica_chain.proofs.PassedOn.{passed_fault}
+use Rattle.outside_api.specs.Reaching.{once, stays}
 use Rattle.replica_chain.proofs.node.Node.pull_into.Goals as goal
 
 pub overflow_add-awaited : goal.overflow_add-awaited
@@ -185,3 +186,39 @@ returns-in_ok-changes-in-Bytes-clause-behind g c = λ chronicle up told bytes_to
     let some = subst (λ (x : Fetched). IsFetched g.L.Link.says link node x buffer) c.in-Bytes.is fetched in
     goes_later says chronicle up more.0 more.2 node c.take_piece.new.self (g.L.Link.says.tells link) (g.C.Contents.tells c.take_piece.new.contents) more.1
     (c.take_piece.ensures.behind chronicle later bytes_told at_later (fetched_stands says node chronicle later at_later.is_node g.L.Link.says link c.in-Bytes.count buffer _ some refl more.1))
+
+pub returns-in_err-fetched-clause-link_reached : goal.returns-in_err-fetched-clause-link_reached
+returns-in_err-fetched-clause-link_reached g c = once c.fetch.ensures.keeps
+
+pub returns-in-End-clause-link_reached : goal.returns-in-End-clause-link_reached
+returns-in-End-clause-link_reached g c = once c.fetch.ensures.keeps
+
+pub returns-in_err-pass-in-Next-clause-link_reached : goal.returns-in_err-pass-in-Next-clause-link_reached
+returns-in_err-pass-in-Next-clause-link_reached g c = once c.fetch.ensures.keeps
+
+pub returns-in_ok-pass-in-Next-clause-link_reached : goal.returns-in_ok-pass-in-Next-clause-link_reached
+returns-in_ok-pass-in-Next-clause-link_reached g c = once c.fetch.ensures.keeps
+
+pub returns-in_err-changes-in-Bytes-clause-link_reached : goal.returns-in_err-changes-in-Bytes-clause-link_reached
+returns-in_err-changes-in-Bytes-clause-link_reached g c = once c.fetch.ensures.keeps
+
+pub returns-in_ok-changes-in-Bytes-clause-link_reached : goal.returns-in_ok-changes-in-Bytes-clause-link_reached
+returns-in_ok-changes-in-Bytes-clause-link_reached g c = once c.fetch.ensures.keeps
+
+pub returns-in_err-fetched-clause-contents_reached : goal.returns-in_err-fetched-clause-contents_reached
+returns-in_err-fetched-clause-contents_reached g c = stays
+
+pub returns-in-End-clause-contents_reached : goal.returns-in-End-clause-contents_reached
+returns-in-End-clause-contents_reached g c = stays
+
+pub returns-in_err-pass-in-Next-clause-contents_reached : goal.returns-in_err-pass-in-Next-clause-contents_reached
+returns-in_err-pass-in-Next-clause-contents_reached g c = stays
+
+pub returns-in_ok-pass-in-Next-clause-contents_reached : goal.returns-in_ok-pass-in-Next-clause-contents_reached
+returns-in_ok-pass-in-Next-clause-contents_reached g c = stays
+
+pub returns-in_err-changes-in-Bytes-clause-contents_reached : goal.returns-in_err-changes-in-Bytes-clause-contents_reached
+returns-in_err-changes-in-Bytes-clause-contents_reached g c = c.take_piece.ensures.contents_reached
+
+pub returns-in_ok-changes-in-Bytes-clause-contents_reached : goal.returns-in_ok-changes-in-Bytes-clause-contents_reached
+returns-in_ok-changes-in-Bytes-clause-contents_reached g c = c.take_piece.ensures.contents_reached

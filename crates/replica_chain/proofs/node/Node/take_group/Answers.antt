@@ -14,6 +14,7 @@ use Rattle.replica_chain.proofs.Refusals.{contents_refused, misfit_refused}
 use Rattle.replica_chain.proofs.Steps.{at_first}
 use Rattle.replica_chain.proofs.Grouping.{settled_stands}
 use Rattle.replica_chain.proofs.Tried.{committed_behind, committed_fewer, counted_reach, group_taken, next_stands, same_rest, stands_of, taken_can, tried_behind, tried_can, tried_fewer, uncommitted_generation, where_it_was}
+use Rattle.outside_api.specs.Reaching.{stays}
 use Rattle.replica_chain.proofs.node.Node.take_group.Goals as goal
 
 -- the changes don't fit, or there is no memory
@@ -73,7 +74,7 @@ returns-in-Err-clause-node g c = λ chronicle n.
     let stands = settled_stands says old chronicle n c.requires.settled in
     let found = c.in-Err.ensures.uncommitted n.was stands in
     let where_is = where_it_was says old new c.commit_group.ensures.others (uncommitted_generation says old new n.was stands (stands_of says old new n.was _ _ found)) in
-    tried_fewer says old new c.requires.settled c.commit_group.ensures.keeps c.commit_group.ensures.older (g.met.D.Disk.reads_an_image (archive_disk_of new.archive)) where_is (g.C.Contents.tells c.args.contents.now)
+    tried_fewer says old new c.requires.settled c.commit_group.ensures.keeps c.commit_group.ensures.older c.commit_group.ensures.scanned (g.met.D.Disk.reads_an_image (archive_disk_of new.archive)) where_is (g.C.Contents.tells c.args.contents.now)
     (g.C.Contents.tells c.commit_group.new.contents) c.args.changes.now c.requires.is_group c.in_ok-tables.ensures.fit chronicle n found
 
 pub returns-in-Err-clause-behind : goal.returns-in-Err-clause-behind
@@ -85,7 +86,7 @@ returns-in-Err-clause-behind g c = λ chronicle up told b has.
     let stands = settled_stands says old chronicle n c.requires.settled in
     let found = c.in-Err.ensures.uncommitted n.was stands in
     let where_is = where_it_was says old new c.commit_group.ensures.others (uncommitted_generation says old new n.was stands (stands_of says old new n.was _ _ found)) in
-    tried_behind says old new c.requires.settled c.commit_group.ensures.keeps c.commit_group.ensures.older (g.met.D.Disk.reads_an_image (archive_disk_of new.archive)) where_is (g.C.Contents.tells c.args.contents.now)
+    tried_behind says old new c.requires.settled c.commit_group.ensures.keeps c.commit_group.ensures.older c.commit_group.ensures.scanned (g.met.D.Disk.reads_an_image (archive_disk_of new.archive)) where_is (g.C.Contents.tells c.args.contents.now)
     (g.C.Contents.tells c.commit_group.new.contents) c.args.changes.now c.requires.is_group c.in_ok-tables.ensures.fit chronicle up b (same_rest says old new c.commit_group.ensures.others) told c.commit_group.ensures.grows
     (next_stands says old chronicle up b c.args.changes.now c.args.end c.requires.end has) (c.commit_group.ensures.any_moment n.was stands) found
 
@@ -158,7 +159,7 @@ returns-in-Ok-clause-node g c = λ chronicle n.
     let taken : HasTakenGroup old kept changes c.args.end =
     group_taken says old new kept c.commit_group.ensures.others was (group_text (length was.groups + 1) changes) stands (c.in-Ok.ensures.committed was stands) changes c.args.end c.in_ok-tables.ensures.fit
     (same ∙ c.in_ok-tables.ensures.rows) refl refl refl refl refl in
-    committed_fewer says old new kept c.requires.settled c.commit_group.ensures.keeps c.commit_group.ensures.older (g.met.D.Disk.reads_an_image (archive_disk_of new.archive)) (g.C.Contents.tells c.args.contents.now)
+    committed_fewer says old new kept c.requires.settled c.commit_group.ensures.keeps c.commit_group.ensures.older c.commit_group.ensures.scanned (g.met.D.Disk.reads_an_image (archive_disk_of new.archive)) (g.C.Contents.tells c.args.contents.now)
     (g.C.Contents.tells c.commit_group.new.contents) changes c.requires.is_group brought c.args.end taken c.requires.end refl c.keep.ensures.disk used rest chronicle n
     (c.in-Ok.ensures.committed n.was (settled_stands says old chronicle n c.requires.settled))
 
@@ -183,7 +184,16 @@ returns-in-Ok-clause-behind g c = λ chronicle up told b has.
     let n = b.is_node in
     let stood = settled_stands says old chronicle n c.requires.settled in
     let within = has.within in
-    committed_behind says old new kept c.requires.settled c.commit_group.ensures.keeps c.commit_group.ensures.older (g.met.D.Disk.reads_an_image (archive_disk_of new.archive)) (g.C.Contents.tells c.args.contents.now)
+    committed_behind says old new kept c.requires.settled c.commit_group.ensures.keeps c.commit_group.ensures.older c.commit_group.ensures.scanned (g.met.D.Disk.reads_an_image (archive_disk_of new.archive)) (g.C.Contents.tells c.args.contents.now)
     (g.C.Contents.tells c.commit_group.new.contents) changes c.requires.is_group brought c.args.end taken c.requires.end refl c.keep.ensures.disk used rest chronicle up b told
     (next_stands says old chronicle up b changes c.args.end c.requires.end has) (c.in-Ok.ensures.committed n.was stood) (c.commit_group.ensures.any_moment n.was stood)
     (record { within = omega (arith, within, c.requires.end); is = refl })
+
+pub returns-in_err-tables-clause-contents_reached : goal.returns-in_err-tables-clause-contents_reached
+returns-in_err-tables-clause-contents_reached g c = stays
+
+pub returns-in-Ok-clause-contents_reached : goal.returns-in-Ok-clause-contents_reached
+returns-in-Ok-clause-contents_reached g c = c.commit_group.ensures.contents_reached
+
+pub returns-in-Err-clause-contents_reached : goal.returns-in-Err-clause-contents_reached
+returns-in-Err-clause-contents_reached g c = c.commit_group.ensures.contents_reached

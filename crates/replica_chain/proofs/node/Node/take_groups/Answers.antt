@@ -19,6 +19,7 @@ use Rattle.replica_chain.proofs.Pieces.{behind_stands, group_on}
 use Rattle.replica_chain.proofs.Refusals.{cut_by_feed, cut_by_group, cut_by_rest}
 use Rattle.replica_chain.proofs.Steps.{at_first}
 use Rattle.replica_chain.proofs.Taking.{behind_group, group_more, groups_left, many_taken, no_group}
+use Rattle.outside_api.specs.Reaching.{stays, then}
 use Rattle.replica_chain.proofs.node.Node.take_groups.Goals as goal
 
 pub loop-changes-init : goal.loop-changes-init
@@ -31,6 +32,7 @@ loop-changes-init g c =
       taken = ([], (refl, no_group node c.args.reader.now c.requires.at c.requires.number));
       node = λ chronicle n. record { now = chronicle; no_fewer = earlier_self chronicle; is_node = n };
       behind = λ chronicle up told b stands. (at_first g.D.Disk.says node chronicle up (g.C.Contents.tells c.args.contents.now) (g.met.D.Disk.only_now (disk_of node.link.journal)) told b, stands);
+      reached = stays;
       contents_count = omega arith;
       journal_count = omega arith;
       archive_count = omega arith;
@@ -157,6 +159,7 @@ loop-changes-preserved g c =
                 has (sym taken.1.1.at) (sym taken.1.1.number) (c.reached.ensures ∙ has.4) step.1 c.take_group.ensures.behind,
             behind_stands (text_of up.texts (length chronicle.closed)) left behind changes has step.1,
           );
+      reached = then inv.reached c.take_group.ensures.contents_reached;
       contents_count = omega (arith, inv.contents_count, c.take_group.ensures.contents_cause.never_falls);
       journal_count = omega (arith, inv.journal_count, c.take_group.ensures.cause.journal_never_falls);
       archive_count = omega (arith, inv.archive_count, c.take_group.ensures.cause.archive_never_falls);
@@ -207,3 +210,15 @@ returns-clause-fit g c =
     subst (λ (n : ℕ). HasRecords n new.at new.left new.records new.reached) (sym same.2)
     (subst (λ (n : ℕ). HasRecords mid.number n new.left new.records new.reached) (sym same.1) (subst (λ (l : List ℕ). HasRecords mid.number mid.at l new.records new.reached) (sym same.0) found.2)) in
     all_good (AllFitIn rows) new.number new.at new.left new.records new.reached (fits_front rows) read c.in_ok-check_rest.ensures.fit
+
+pub returns-in_err-changes-clause-contents_reached : goal.returns-in_err-changes-clause-contents_reached
+returns-in_err-changes-clause-contents_reached g c = c.loop-changes.invariant.reached
+
+pub returns-in_err-take_group-clause-contents_reached : goal.returns-in_err-take_group-clause-contents_reached
+returns-in_err-take_group-clause-contents_reached g c = then c.loop-changes.invariant.reached c.take_group.ensures.contents_reached
+
+pub returns-in_err-check_rest-clause-contents_reached : goal.returns-in_err-check_rest-clause-contents_reached
+returns-in_err-check_rest-clause-contents_reached g c = c.loop-changes.invariant.reached
+
+pub returns-clause-contents_reached : goal.returns-clause-contents_reached
+returns-clause-contents_reached g c = c.loop-changes.invariant.reached

@@ -8,6 +8,7 @@ use Rattle.replica_chain.proofs.PassedOn.{passed_fault}
 use Rattle.replica_chain.proofs.Rests.{emptied_behind, emptied_can, from_rested, rested, rested_can, rested_fewer, to_emptied, with_rest}
 use Rattle.replica_chain.proofs.Steps.{at_first}
 use Rattle.replica_chain.proofs.TakenPieces.{both_stand, last_is, left_short, piece_cut, piece_goes, piece_taken, piece_unread, rest_unread}
+use Rattle.outside_api.specs.Reaching.{stays}
 use Rattle.replica_chain.proofs.node.Node.take_piece.Goals as goal
 
 -- ---- the piece is too much
@@ -196,3 +197,18 @@ returns-clause-behind g c = λ chronicle up told b has.
     let number = taken.1.1.number in
     piece_goes old none piece says E chronicle up b has new c.new-reader.result left taken.0 c.in_ok-self.field-0 E same taken.1.1 rest c.in_ok-count.ensures.waits (omega (arith, numbered, short, number))
     (c.take_groups.ensures.behind chronicle up told (emptied_behind says old none (c.replace-rest.ensures.after ∙ c.new.ensures) chronicle up b) (both_stand old none piece says E chronicle up b has c.new-reader.result same))
+
+pub returns-then-size-self-clause-contents_reached : goal.returns-then-size-self-clause-contents_reached
+returns-then-size-self-clause-contents_reached g c = stays
+
+pub returns-in_err-text-clause-contents_reached : goal.returns-in_err-text-clause-contents_reached
+returns-in_err-text-clause-contents_reached g c = stays
+
+pub returns-in_err-count-clause-contents_reached : goal.returns-in_err-count-clause-contents_reached
+returns-in_err-count-clause-contents_reached g c = c.take_groups.ensures.contents_reached
+
+pub returns-in_err-self-clause-contents_reached : goal.returns-in_err-self-clause-contents_reached
+returns-in_err-self-clause-contents_reached g c = c.take_groups.ensures.contents_reached
+
+pub returns-clause-contents_reached : goal.returns-clause-contents_reached
+returns-clause-contents_reached g c = c.take_groups.ensures.contents_reached
