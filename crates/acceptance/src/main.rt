@@ -5,10 +5,10 @@
 //! both and the program ends with status 1. Where there is no such file the answers themselves are printed.
 #![tactic(auto)]
 
-use case_files::{CaseGate, Disks, Ran, Server, Setting, answer_files};
+use case_files::{CaseGate, Disks, Ran, Server, Setting, Sites, answer_files};
+use chain_server::{ChainEnded, Ended, Pair, PartyEnd, WholeEnded, whole_top};
 use depot_path::Sequence;
-use memory_world::{FixedClock, MemorySink};
-use p4_server::{Ended, PartyEnd, p4_top};
+use memory_world::{FixedClock, MemoryDisk, MemorySink, MemorySource};
 use std::alloc::{AllocError, Global};
 use std::io;
 use std::process::ExitCode;
@@ -36,12 +36,92 @@ fn sinks_of(
     Ok(sinks)
 }
 
+/// What is left of a run.
+#[derive(Drop)]
+struct Outcome {
+    status: u8,
+    sites: Sites,
+    parties: Sequence<PartyEnd<MemorySink>>,
+}
+
+/// The disks that are given back.
+fn disks_of(files: Pair<MemoryDisk>) -> Disks {
+    let Pair { journal, archive } = files;
+    Disks { journal, archive }
+}
+
+/// The disks of the server.
+fn pair_of(disks: Disks) -> Pair<MemoryDisk> {
+    let Disks { journal, archive } = disks;
+    Pair { journal, archive }
+}
+
+/// What is left of a run over disks of a depot, with the status and the parties of its end.
+fn left_of(
+    ended: Ended<MemoryDisk, MemorySource, MemorySink>,
+) -> (u8, Disks, Sequence<PartyEnd<MemorySink>>) {
+    let Ended {
+        status,
+        cause: _,
+        order,
+        parties,
+        sources,
+        journal,
+        archive,
+    } = ended;
+    drop(order);
+    drop(sources);
+    (status, Disks { journal, archive }, parties)
+}
+
+/// What is left of a run that ended so.
+fn outcome_of(alloc: Global, ended: WholeEnded<MemoryDisk, MemorySource, MemorySink>) -> Outcome {
+    match ended {
+        WholeEnded::Depot { ended, node } => {
+            let (status, depot, parties) = left_of(ended);
+            let node = disks_of(node);
+            let sites = Sites { depot, node };
+            Outcome {
+                status,
+                sites,
+                parties,
+            }
+        }
+        WholeEnded::Node { ended, depot } => {
+            let (status, node, parties) = left_of(ended);
+            let depot = disks_of(depot);
+            let sites = Sites { depot, node };
+            Outcome {
+                status,
+                sites,
+                parties,
+            }
+        }
+        WholeEnded::Followed { ended } => {
+            let ChainEnded {
+                status,
+                cause: _,
+                up,
+                node,
+            } = ended;
+            let depot = disks_of(up);
+            let node = disks_of(node);
+            let sites = Sites { depot, node };
+            Outcome {
+                status,
+                sites,
+                parties: Sequence::new(alloc),
+            }
+        }
+    }
+}
+
 impl Server for DepotServer {
     fn run<R: Threads + Wait + Sync>(
         &self,
         rt: &R,
         setting: Setting,
-        disks: Disks,
+        sites: Sites,
         gate: &CaseGate,
     ) -> Result<Ran, AllocError> {
         let Setting {
@@ -49,33 +129,34 @@ impl Server for DepotServer {
             mut doors,
             mut out,
         } = setting;
-        let Disks { journal, archive } = disks;
+        let Sites { depot, node } = sites;
         let clock = FixedClock::new(NOW);
-        let ended = p4_top(
-            rt, self.alloc, &words, &mut doors, journal, archive, &mut out, &clock, gate,
+        let ended = whole_top(
+            rt,
+            self.alloc,
+            &words,
+            &mut doors,
+            pair_of(depot),
+            pair_of(node),
+            &mut out,
+            &clock,
+            gate,
         );
         drop(doors);
-        let Ended {
+        let Outcome {
             status,
-            cause: _,
-            order,
+            sites,
             parties,
-            sources,
-            journal,
-            archive,
-        } = ended;
-        drop(order);
-        drop(sources);
-        let disks = Disks { journal, archive };
+        } = outcome_of(self.alloc, ended);
         match sinks_of(self.alloc, parties) {
             Ok(sinks) => Ok(Ran {
                 status,
-                disks,
+                sites,
                 sinks,
                 out,
             }),
             Err(AllocError) => {
-                drop(disks);
+                drop(sites);
                 drop(out);
                 Err(AllocError)
             }

@@ -118,6 +118,7 @@ impl Answers {
     /// Adds the end of a run with these words and this gate: what `out` got, the status, what each party got, and what the gate tells.
     pub fn add_run(&mut self, words: &str, ran: &Ran, gate: &CaseGate) -> Result<(), AllocError> {
         self.add_line("$ ", words, "")?;
+        let words = words.strip_prefix("node ").unwrap_or(words);
         if is_serve(words) && !gate.is_turn() {
             self.add_unordered(ran.out.given())?;
         } else {
@@ -126,6 +127,13 @@ impl Answers {
         self.add_line("status ", itoa::Buffer::new().format(ran.status), "")?;
         self.add_parties(names_of(words), &ran.sinks)?;
         self.add_gate(gate)
+    }
+
+    /// Adds what a `dump` gave of the disks that a stop left, and its status.
+    pub fn add_stopped(&mut self, dumped: &Ran) -> Result<(), AllocError> {
+        self.text.append(b"stopped\n")?;
+        self.text.append(dumped.out.given())?;
+        self.add_line("status ", itoa::Buffer::new().format(dumped.status), "")
     }
 
     /// Adds a word to the last line, with a space before it.

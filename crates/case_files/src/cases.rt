@@ -4,7 +4,7 @@ ghost use Rattle.std.specs.Prelude.{◌≤◌, ◌<◌, length};
 ghost use Rattle.std.specs.Iterator.{at_most};
 
 use crate::fault::CaseFault;
-use crate::step::{Step, cut, damage, every_call, fail, file, gate, more, script, show};
+use crate::step::{Step, cut, damage, every_call, fail, file, gate, more, script, show, stops};
 
 /// A line of a file of cases.
 #[derive(Clone, Copy)]
@@ -112,7 +112,7 @@ impl<'a> Cases<'a> {
             "run" => Ok(Step::Run(words)),
             "kept" => Ok(Step::Kept(words)),
             "every" => every_call(words),
-            "stops" => Ok(Step::Stops(words)),
+            "stops" => Ok(stops(words)),
             "show" => show(words),
             "damage" => damage(words),
             "cut" => cut(words),

@@ -9,11 +9,20 @@ use std::alloc::{AllocError, Global};
 /// The number behind that of the last file that a disk may have: the journal of generation 4,095 and its checkpoint.
 const FILES: u32 = 8193;
 
-/// The disks of the server.
+/// The disks of a depot.
 #[derive(Drop)]
 pub struct Disks {
     pub journal: MemoryDisk,
     pub archive: MemoryDisk,
+}
+
+/// The disks of a case.
+#[derive(Drop)]
+pub struct Sites {
+    /// Those of the depot.
+    pub depot: Disks,
+    /// Those of the node that follows it.
+    pub node: Disks,
 }
 
 /// A disk that was copied, and how many calls that took.
@@ -37,22 +46,16 @@ impl Disks {
         }
     }
 
-    /// The disk of a name.
-    pub fn named(&mut self, name: DiskName) -> &mut MemoryDisk {
-        match name {
-            DiskName::Journal => &mut self.journal,
-            DiskName::Archive => &mut self.archive,
-        }
-    }
-
-    /// Copies in which these calls behind their making fail, and the moment of the journal's disk at which they are made.
-    pub fn failing_copies(
+    /// Copies, by the names of their disks, in which these calls behind their making fail, and the moment of the journal's disk at which they are made.
+    fn failing_copies(
         &mut self,
         alloc: Global,
         failures: &[Failure],
+        journal: DiskName,
+        archive: DiskName,
     ) -> Result<(Disks, u64), CaseFault> {
-        let archive = failing_copy(alloc, &mut self.archive, failures, Outside::Archive)?.disk;
-        match failing_copy(alloc, &mut self.journal, failures, Outside::Journal) {
+        let archive = failing_copy(alloc, &mut self.archive, failures, archive)?.disk;
+        match failing_copy(alloc, &mut self.journal, failures, journal) {
             Ok(
                 Copied {
                     disk: journal,
@@ -67,12 +70,68 @@ impl Disks {
     }
 
     /// What a stop at a moment of the journal's disk leaves, with the archive's disk as it is now. The open bytes of each are those of a text and then 0.
-    pub fn stopped(&self, moment: u64, pick: &[u8]) -> Result<Disks, AllocError> {
+    fn stopped(&self, moment: u64, pick: &[u8]) -> Result<Disks, AllocError> {
         let journal = self.journal.image(moment, pick)?;
         match self.archive.image(u64::MAX, pick) {
             Ok(archive) => Ok(Disks { journal, archive }),
             Err(AllocError) => {
                 drop(journal);
+                Err(AllocError)
+            }
+        }
+    }
+}
+
+impl Sites {
+    /// Disks of empty files.
+    pub fn empty(alloc: Global) -> Self {
+        Sites {
+            depot: Disks::empty(alloc),
+            node: Disks::empty(alloc),
+        }
+    }
+
+    /// The disk of a name.
+    pub fn named(&mut self, name: DiskName) -> &mut MemoryDisk {
+        match name {
+            DiskName::Journal => &mut self.depot.journal,
+            DiskName::Archive => &mut self.depot.archive,
+            DiskName::NodeJournal => &mut self.node.journal,
+            DiskName::NodeArchive => &mut self.node.archive,
+        }
+    }
+
+    /// Copies in which these calls behind their making fail, and the moment of the depot's journal's disk at which they are made.
+    pub fn failing_copies(
+        &mut self,
+        alloc: Global,
+        failures: &[Failure],
+    ) -> Result<(Sites, u64), CaseFault> {
+        let (node, _) = self.node.failing_copies(
+            alloc,
+            failures,
+            DiskName::NodeJournal,
+            DiskName::NodeArchive,
+        )?;
+        match self
+            .depot
+            .failing_copies(alloc, failures, DiskName::Journal, DiskName::Archive)
+        {
+            Ok((depot, begin)) => Ok((Sites { depot, node }, begin)),
+            Err(fault) => {
+                drop(node);
+                Err(fault)
+            }
+        }
+    }
+
+    /// What a stop at a moment of the depot's journal's disk leaves, with the other disks as they are now. The open bytes of each are those of a text and then 0.
+    pub fn stopped(&self, moment: u64, pick: &[u8]) -> Result<Sites, AllocError> {
+        let depot = self.depot.stopped(moment, pick)?;
+        match self.node.stopped(u64::MAX, pick) {
+            Ok(node) => Ok(Sites { depot, node }),
+            Err(AllocError) => {
+                drop(depot);
                 Err(AllocError)
             }
         }
@@ -173,14 +232,14 @@ fn write_files(disk: &mut MemoryDisk, files: &[Vec<u8>]) -> Result<(), CaseFault
     disk.sync().or(Err(CaseFault::DiskFailed))
 }
 
-/// A copy of a disk in which calls behind its making fail, as one of these objects.
+/// A copy of the disk of a name in which calls behind its making fail.
 fn failing_copy(
     alloc: Global,
     disk: &mut MemoryDisk,
     failures: &[Failure],
-    object: Outside,
+    name: DiskName,
 ) -> Result<Copied, CaseFault> {
-    let fails = failing_calls(alloc, failures, object)?;
+    let fails = failing_calls(alloc, failures, Outside::Disk(name))?;
     let files = files_of(alloc, disk)?;
     let calls = (files.len() as u64).saturating_add(1);
     let mut copy = empty_disk(alloc);

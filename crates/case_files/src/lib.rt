@@ -16,7 +16,7 @@ mod step;
 mod trial;
 mod world;
 
-pub use disks::Disks;
+pub use disks::{Disks, Sites};
 pub use files::answer_files;
 pub use gate::CaseGate;
 pub use server::{Ran, Server, Setting};

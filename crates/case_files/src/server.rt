@@ -2,7 +2,7 @@
 
 ghost use Rattle.std.specs.Thread.{IsSync};
 
-use crate::disks::{Disks, failing_calls};
+use crate::disks::{Sites, failing_calls};
 use crate::gate::CaseGate;
 use crate::step::{Failure, Outside};
 use depot_path::Text;
@@ -51,7 +51,7 @@ pub struct Ran {
     /// The status with which the program would end.
     pub status: u8,
     /// The disks.
-    pub disks: Disks,
+    pub sites: Sites,
     /// What each party got, in the order of their names.
     pub sinks: Vec<MemorySink>,
     /// What the server gave out.
@@ -65,7 +65,7 @@ pub trait Server {
         &self,
         rt: &R,
         setting: Setting,
-        disks: Disks,
+        sites: Sites,
         gate: &CaseGate,
     ) -> Result<Ran, AllocError>
         requires { IsSync R.row };
@@ -125,17 +125,18 @@ impl<'a> Setting<'a> {
     }
 }
 
-/// Opens disks and prints the rows of their depot.
+/// Runs the server over disks with the words of a text by which it prints the rows of a depot: that of the depot's disks, or of the node's.
 pub fn dump<R: Threads + Wait + Sync, S: Server>(
     rt: &R,
     server: &S,
     alloc: Global,
-    disks: Disks,
+    sites: Sites,
+    words: &str,
 ) -> Result<Ran, AllocError> {
-    match Setting::new(alloc, "dump", &[], &[]) {
-        Ok(setting) => server.run(rt, setting, disks, &CaseGate::open()),
+    match Setting::new(alloc, words, &[], &[]) {
+        Ok(setting) => server.run(rt, setting, sites, &CaseGate::open()),
         Err(AllocError) => {
-            drop(disks);
+            drop(sites);
             Err(AllocError)
         }
     }

@@ -2,11 +2,17 @@
 
 use crate::fault::CaseFault;
 
-/// A disk of the server.
-#[derive(Clone, Copy)]
+/// A disk of a case.
+#[derive(Clone, Copy, PartialEq, Eq)]
 pub enum DiskName {
+    /// The depot's journal.
     Journal,
+    /// The depot's archive.
     Archive,
+    /// The journal of the node.
+    NodeJournal,
+    /// The archive of the node.
+    NodeArchive,
 }
 
 /// What the gate of a run waits for.
@@ -34,10 +40,8 @@ pub struct GatePlan {
 /// An object of the outside of a run.
 #[derive(Clone, Copy, PartialEq, Eq)]
 pub enum Outside<'a> {
-    /// The journal's disk.
-    Journal,
-    /// The archive's disk.
-    Archive,
+    /// A disk.
+    Disk(DiskName),
     /// The doors.
     Doors,
     /// What the server writes to.
@@ -130,6 +134,13 @@ pub enum Step<'a> {
     Every(Every<'a>),
     /// Tell what a stop leaves at every moment of a run with these words.
     Stops(&'a str),
+    /// Tell what a stop leaves of the node behind each run with these words in which one call of a disk after another fails.
+    NodeStops {
+        /// All words of the line behind the first.
+        line: &'a str,
+        disk: DiskName,
+        words: &'a str,
+    },
     /// Show the bytes of a file.
     Show {
         line: &'a str,
@@ -149,6 +160,17 @@ pub enum Step<'a> {
         file: u32,
         length: u64,
     },
+}
+
+/// The disk that a word names.
+fn disk_named(word: &str) -> Option<DiskName> {
+    match word {
+        "journal" => Some(DiskName::Journal),
+        "archive" => Some(DiskName::Archive),
+        "node.journal" => Some(DiskName::NodeJournal),
+        "node.archive" => Some(DiskName::NodeArchive),
+        _ => None,
+    }
 }
 
 /// The words of a text that are still to be read.
@@ -181,18 +203,16 @@ impl<'a> Words<'a> {
 
     /// The disk that the next word names.
     fn disk(&mut self) -> Result<DiskName, CaseFault> {
-        match self.word()? {
-            "journal" => Ok(DiskName::Journal),
-            "archive" => Ok(DiskName::Archive),
-            _ => Err(CaseFault::UnknownDisk),
-        }
+        disk_named(self.word()?).ok_or(CaseFault::UnknownDisk)
     }
 
     /// The object that the next words name.
     fn outside(&mut self) -> Result<Outside<'a>, CaseFault> {
-        match self.word()? {
-            "journal" => Ok(Outside::Journal),
-            "archive" => Ok(Outside::Archive),
+        let word = self.word()?;
+        if let Some(disk) = disk_named(word) {
+            return Ok(Outside::Disk(disk));
+        }
+        match word {
             "doors" => Ok(Outside::Doors),
             "out" => Ok(Outside::Out),
             "source" => Ok(Outside::Source(self.word()?)),
@@ -269,7 +289,7 @@ pub fn more<'a>(text: &'a str) -> Result<(&'a str, u64, u64), CaseFault> {
     Ok((name, count, length))
 }
 
-/// A file of a disk, and its length.
+/// A file of a disk, and a length.
 pub fn file(text: &str) -> Result<(DiskName, u32, u64), CaseFault> {
     let mut words = Words::new(text);
     let disk = words.disk()?;
@@ -326,11 +346,7 @@ pub fn damage<'a>(text: &'a str) -> Result<Step<'a>, CaseFault> {
 
 /// The cut of a file.
 pub fn cut<'a>(text: &'a str) -> Result<Step<'a>, CaseFault> {
-    let mut words = Words::new(text);
-    let disk = words.disk()?;
-    let file = words.short_number()?;
-    let length = words.number()?;
-    words.end()?;
+    let (disk, file, length) = file(text)?;
     Ok(Step::Cut { disk, file, length })
 }
 
@@ -342,6 +358,19 @@ pub fn fail<'a>(text: &'a str) -> Result<Step<'a>, CaseFault> {
     let first = words.number()?;
     words.end()?;
     Ok(Step::Fail(Failure::new(object, first, extent)))
+}
+
+/// What stops leave: at each moment of a run, or, where the first word names a disk, behind runs in which one call of it after another fails.
+pub fn stops<'a>(text: &'a str) -> Step<'a> {
+    let (first, words) = text.split_once(' ').unwrap_or((text, ""));
+    match disk_named(first) {
+        Some(disk) => Step::NodeStops {
+            line: text,
+            disk,
+            words,
+        },
+        None => Step::Stops(text),
+    }
 }
 
 /// The trial of failing calls.

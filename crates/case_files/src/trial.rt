@@ -1,7 +1,7 @@
 //! Runs over copies of the disks of a case, and what stops leave of them.
 
 use crate::answers::Answers;
-use crate::fault::CaseFault;
+use crate::fault::{CaseFault, put};
 use crate::server::{Ran, Server, dump};
 use depot_path::Text;
 use outside_api::Disk;
@@ -11,6 +11,9 @@ use std::thread::Threads;
 
 /// The greatest number of a call of a trial that may fail. No run of a case makes as many calls of an object.
 pub const MOST_CALLS: u64 = 4_000;
+
+/// The bytes that the open ones of a stop of a node are, in the order in which they are told.
+const NODE_PICKS: &[u8] = b"me";
 
 /// The bytes that the open ones of a stop are: none of a mark, that of an open mark, and that of a closed one.
 const PICKS: &[u8] = b"0em";
@@ -63,6 +66,21 @@ fn told(alloc: Global, kept: &[Text], dumped: &Ran) -> Result<Text, AllocError> 
     }
 }
 
+/// Adds what a `dump` gave of the disks that a stop left, where it isn't among what was told before.
+fn tell_once(
+    alloc: Global,
+    dumped: &Ran,
+    told: &mut Vec<Text>,
+    answers: &mut Answers,
+) -> Result<(), AllocError> {
+    let rows = dumped.out.given();
+    if told.iter().any(|old| old.as_bytes() == rows) {
+        return Ok(());
+    }
+    answers.add_stopped(dumped)?;
+    put(told, Text::from_bytes(alloc, rows)?)
+}
+
 /// Bytes for the open ones of a stop.
 fn picked(alloc: Global, byte: u8) -> Result<Vec<u8>, AllocError> {
     Ok(vec![in alloc; byte; PICKED]?)
@@ -71,12 +89,12 @@ fn picked(alloc: Global, byte: u8) -> Result<Vec<u8>, AllocError> {
 impl Trial {
     /// The moment of the journal's disk at which the run ended, where the call of the number `MOST_CALLS` was to fail.
     pub fn end(&mut self) -> u64 {
-        let left = calls_left(&mut self.ran.disks.journal);
+        let left = calls_left(&mut self.ran.sites.depot.journal);
         let calls = (MOST_CALLS - 1).saturating_sub(left);
         self.begin.saturating_add(calls)
     }
 
-    /// What opening the disks that a stop at a moment of the journal's disk leaves gives out, the rows of their depot if there is one.
+    /// What a run with the words of a text, which print the rows of a depot, gives out over the disks that a stop at a moment of the journal's disk leaves.
     fn dumped<R: Threads + Wait + Sync, S: Server>(
         &self,
         rt: &R,
@@ -84,8 +102,10 @@ impl Trial {
         alloc: Global,
         moment: u64,
         pick: &[u8],
+        words: &str,
     ) -> Result<Ran, AllocError> {
-        dump(rt, server, alloc, self.ran.disks.stopped(moment, pick)?)
+        let left = self.ran.sites.stopped(moment, pick)?;
+        dump(rt, server, alloc, left, words)
     }
 
     /// To what the disks open after a stop at a moment of the journal's disk, with open bytes of this one, and the archive's disk as it is at the end.
@@ -99,7 +119,7 @@ impl Trial {
         byte: u8,
     ) -> Result<Text, AllocError> {
         let pick = picked(alloc, byte)?;
-        let dumped = self.dumped(rt, server, alloc, moment, &pick)?;
+        let dumped = self.dumped(rt, server, alloc, moment, &pick, "dump")?;
         let opened = told(alloc, kept, &dumped);
         drop(dumped);
         opened
@@ -115,7 +135,7 @@ impl Trial {
         if self.ran.status != 0 {
             return Err(CaseFault::NotDone);
         }
-        let dumped = self.dumped(rt, server, alloc, u64::MAX, &[])?;
+        let dumped = self.dumped(rt, server, alloc, u64::MAX, &[], "dump")?;
         let rows = Text::from_bytes(alloc, dumped.out.given());
         drop(dumped);
         rows.map_err(CaseFault::from)
@@ -158,6 +178,25 @@ impl Trial {
         for byte in PICKS {
             let stopped = self.stopped(rt, server, alloc, kept, end, *byte)?;
             answers.add_bytes(stopped.as_bytes())?;
+        }
+        Ok(())
+    }
+
+    /// Adds what a stop now leaves of the node, for each of the bytes that the open ones may be, where that isn't among what was told before.
+    pub fn tell_node<R: Threads + Wait + Sync, S: Server>(
+        &self,
+        rt: &R,
+        server: &S,
+        alloc: Global,
+        told: &mut Vec<Text>,
+        answers: &mut Answers,
+    ) -> Result<(), AllocError> {
+        for byte in NODE_PICKS {
+            let pick = picked(alloc, *byte)?;
+            let dumped = self.dumped(rt, server, alloc, u64::MAX, &pick, "node dump")?;
+            let added = tell_once(alloc, &dumped, told, answers);
+            drop(dumped);
+            added?;
         }
         Ok(())
     }

@@ -12,6 +12,15 @@ abbrev pub damaged : List ℕ → ℕ → ℕ → List ℕ
 damaged folder file place =
     codes "laitsjop: " ++ (folder ++ (codes "/" ++ (decimal file ++ (codes " at byte " ++ (decimal place ++ codes ": damaged; nothing was changed")))))
 
+-- of a node: `laitsjop: node.journal departs from depot.journal in generation GENERATION at byte PLACE; ..`
+abbrev pub apart : ℕ → ℕ → List ℕ
+apart generation place =
+    codes "laitsjop: node.journal departs from depot.journal in generation " ++ (decimal generation ++ (codes " at byte " ++ (decimal place ++ codes "; nothing was changed")))
+
+-- of what can't be followed: `laitsjop: depot.journal or depot.archive at byte PLACE: bad; ..`
+abbrev pub bad_place : ℕ → List ℕ
+bad_place place = codes "laitsjop: depot.journal or depot.archive at byte " ++ (decimal place ++ codes ": bad; the node has what stands before it")
+
 -- of a script, where the line isn't known: `laitsjop: NAME at byte PLACE: WHY`
 abbrev pub bad_at_byte : List ℕ → ℕ → List ℕ → List ℕ
 bad_at_byte name place why = codes "laitsjop: " ++ (name ++ (codes " at byte " ++ (decimal place ++ (codes ": " ++ why))))

@@ -5,7 +5,7 @@
 #![tactic(auto)]
 
 ghost use Rattle.std.specs.Prelude.{◌≡◌, ℕ, IfOk, Some, None, string_bytes};
-ghost use Rattle.ended_texts.specs.Texts.{bad_at_byte, bad_line, damaged, failed, wrong};
+ghost use Rattle.ended_texts.specs.Texts.{apart, bad_at_byte, bad_line, bad_place, damaged, failed, wrong};
 
 use std::alloc::{AllocError, Global};
 use wire_text::ScriptFaultKind;
@@ -13,11 +13,19 @@ use wire_text::ScriptFaultKind;
 /// The line that tells that there is no depot to run over.
 pub const UNMADE: &str = "laitsjop: no depot is here; `laitsjop init` makes one in this folder";
 
+/// The line that tells that there is no node to run over.
+pub const NODE_UNMADE: &str =
+    "laitsjop: no node is here; `laitsjop follow` makes one in this folder";
+
 /// The line that tells why none is made.
 pub const MADE: &str = "laitsjop: a depot is here already; nothing was changed";
 
 /// Why a folder can't be used.
 pub const HELD: &str = "another program holds this folder; nothing was changed";
+
+/// The line that tells the words by which a node is used.
+pub const CHAIN_USAGE: &str =
+    "follow: the node follows the depot; node WORDS: runs these words over the node";
 
 /// The line that tells that there was no memory.
 pub const MEMORY: &str = "laitsjop: out of memory";
@@ -39,6 +47,25 @@ pub fn damaged_line(
     ensures { IfOk result (λ text. string_bytes text ≡ damaged folder.now file place) }
 {
     format!(in alloc; "laitsjop: {folder}/{file} at byte {place}: damaged; nothing was changed")
+}
+
+/// The line that tells where a node's journal departs from the depot's: in which generation, and at which byte of its
+/// text, counted from 0.
+pub fn apart_line(alloc: Global, generation: u32, place: u64) -> Result<String, AllocError>
+    ensures { IfOk result (λ text. string_bytes text ≡ apart generation place) }
+{
+    format!(in alloc;
+        "laitsjop: node.journal departs from depot.journal in generation {generation} at byte {place}; nothing was changed"
+    )
+}
+
+/// The line that tells at which byte, counted from 0, the depot's journal or archive can't be followed.
+pub fn bad_place_line(alloc: Global, place: u64) -> Result<String, AllocError>
+    ensures { IfOk result (λ text. string_bytes text ≡ bad_place place) }
+{
+    format!(in alloc;
+        "laitsjop: depot.journal or depot.archive at byte {place}: bad; the node has what stands before it"
+    )
 }
 
 /// What is wrong with a script.

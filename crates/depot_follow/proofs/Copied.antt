@@ -1,0 +1,89 @@
+-- What a node has that has taken all, and the depots for which its files stand.
+use Rattle.std.proofs.Common.{◌≡◌, ◌⊎◌, inl, inr, ℕ, ◌≤◌, length, take, refl, sym, ap, subst, ◌∙◌, arith}
+use Rattle.std.proofs.lemmas.List.{length-take-le, take-take}
+use Rattle.outside_api.specs.Disk.{Files}
+use Rattle.outside_api.specs.Says.{DiskSays, SinkSays}
+use Rattle.archive_file.specs.Archive.{disk_of as archive_disk_of, used_of}
+use Rattle.archive_file.specs.Contents.{IsTold}
+use Rattle.depot_rows.specs.db_records.declared.table.TableId.TheVariants.{Rev}
+use Rattle.disk_journal.specs.Stands.{generation_of_journal}
+use Rattle.recovery.specs.Holding.{spots_end}
+use Rattle.recovery.specs.Looking.{OnlyReads}
+use Rattle.replica_chain.specs.Chronicle.{changes_of, rows_made, texts_of}
+use Rattle.replica_chain.specs.Ends.{IsLinkLooked}
+use Rattle.replica_chain.specs.Masters.{GoesOnBehindNode, HasAllOf, IsBehind}
+use Rattle.replica_chain.specs.Opening.{IsFresh}
+use Rattle.replica_chain.specs.declared.node.Node.{Node}
+use Rattle.replica_chain.proofs.Copies.{depot_of, earlier_alike, fresh_behind}
+use Rattle.replica_chain.proofs.Following.{closed_texts_long}
+use Rattle.replica_chain.proofs.Growing.{texts_long}
+use Rattle.replica_chain.proofs.Reached.{followed_node, goes_looked, goes_read, goes_then}
+use Rattle.replica_chain.proofs.Told.{node_tells}
+use Rattle.replica_chain.proofs.Whole.{all_stand, has_all}
+use Rattle.depot_follow.specs.Following.{AgreeWith, Follows, HasAll, HasBroken, HasParted, IsOfPulls, IsPosition, StandAlike, TakesAll}
+use Rattle.depot_follow.specs.Opening.{files_of}
+use Rattle.depot_follow.specs.declared.ended.ChainCause.TheVariants as causes
+use Rattle.depot_follow.specs.declared.ended.ChainEnded.{ChainEnded}
+
+-- Journals that were compared, pulls, and a verification: where the node is then as far as the upstream was, it has taken all.
+module _ {D : Type 0} (disk_says : DiskSays D) (only_now : (disk : D) (image : Files) → disk_says.left_since disk (disk_says.moment disk) image → disk_says.may_leave disk image) where
+  -- journals that were compared
+  pub compared : (up node up_mid node_mid : Node D) → IsLinkLooked disk_says up.link up_mid.link → IsLinkLooked disk_says node.link node_mid.link → up_mid ≡ record up { link = up_mid.link }
+      → node_mid ≡ record node { link = node_mid.link } → GoesOnBehindNode disk_says up up_mid node node_mid
+  compared up node up_mid node_mid up_looked node_looked up_others node_others =
+      subst (λ (n : Node D). GoesOnBehindNode disk_says up up_mid node n) (sym node_others)
+      (subst (λ (n : Node D). GoesOnBehindNode disk_says up n node (record node { link = node_mid.link })) (sym up_others) (goes_looked disk_says only_now up node up_mid.link node_mid.link up_looked node_looked))
+
+  -- a verification behind pulls
+  pub verified : (up up_last node node_pulled node_last : Node D) → GoesOnBehindNode disk_says up up_last node node_pulled → node_last ≡ record node_pulled { archive = node_last.archive }
+      → OnlyReads disk_says (archive_disk_of node_pulled.archive) (archive_disk_of node_last.archive) → used_of node_last.archive ≡ used_of node_pulled.archive → GoesOnBehindNode disk_says up up_last node node_last
+  verified up up_last node node_pulled node_last pulled others reads used =
+      let last : GoesOnBehindNode disk_says up_last up_last node_pulled node_last = subst (λ (x : Node D). GoesOnBehindNode disk_says up_last up_last node_pulled x) (sym others) (goes_read disk_says only_now up_last node_pulled node_last.archive reads used) in
+      goes_then disk_says only_now up up_last up_last node node_pulled node_last pulled last
+
+  pub takes_all : (up node up_mid node_mid up_last node_pulled node_last : Node D) → GoesOnBehindNode disk_says up up_mid node node_mid → GoesOnBehindNode disk_says up up_last node node_last
+      → node_last ≡ record node_pulled { archive = node_last.archive }
+      → (generation changes : ℕ) → generation ≡ generation_of_journal up_mid.link.journal → changes ≡ up_mid.changes → IsPosition node_pulled generation changes → TakesAll disk_says up node node_last
+  takes_all up node up_mid node_mid up_last node_pulled node_last first all others generation changes generation_is changes_are position mine theirs bytes n told b =
+      let stays = all.behind mine theirs bytes n told b in
+      let m = stays.behind.is_node in
+      let u = followed_node disk_says only_now up up_mid first.followed theirs n in
+      let at : generation_of_journal node_last.link.journal ≡ generation = ap (λ (x : Node D). generation_of_journal x.link.journal) others ∙ position.0 in
+      let has : node_last.changes ≡ changes = ap (λ (x : Node D). x.changes) others ∙ position.1 in
+      let mine_long = m.keeps.count in
+      let theirs_long = u.keeps.count in
+      let closed : length stays.now.closed ≡ length theirs.closed = omega (arith, mine_long, at, generation_is, theirs_long, closed_texts_long stays.now.closed, closed_texts_long theirs.closed) in
+      let count : length (changes_of stays.now) ≡ length (changes_of theirs) = sym m.changes ∙ has ∙ changes_are ∙ u.changes in
+      has_all disk_says node_last stays.now theirs bytes n.are_groups stays.behind closed count
+
+-- A node that has taken all, and began as the upstream, has the depots of its files.
+module _ {D : Type 0} (disk_says : DiskSays D) (image_of : (disk : D) (files : Files) → disk_says.seen disk files → disk_says.may_leave disk files) where
+  pub stand_alike : (up node node_last : Node D) → IsFresh disk_says node → AgreeWith disk_says up node → TakesAll disk_says up node node_last → StandAlike disk_says up node (files_of node_last)
+  stand_alike up node node_last fresh agrees takes theirs journal archive sees n written begins d stands j a left there =
+      let used = used_of up.archive in
+      let reach = (n.contents.front.has archive (image_of (archive_disk_of up.archive) archive sees)).within in
+      let within : used ≤ length (archive 0) = omega (arith, reach) in
+      let bytes = take used (archive 0) in
+      let told : IsTold disk_says up.archive bytes = record { files = archive; sees = sees; within = within; are = refl } in
+      let m = begins.is_node in
+      let mine = begins.mine in
+      let place = spots_end (rows_made mine Rev) in
+      let ends = n.contents.ends in
+      let no_further = begins.no_further in
+      let le : place ≤ used = omega (arith, ends, no_further) in
+      let alike = agrees (texts_of mine) (texts_of theirs) (node_tells disk_says image_of node mine m).has (node_tells disk_says image_of up theirs n).has in
+      let earlier = earlier_alike (texts_of mine) (texts_of theirs) (omega (arith, texts_long mine)) alike in
+      let behind : IsBehind disk_says node mine (record { texts = texts_of theirs; bytes = bytes }) =
+      fresh_behind disk_says node mine m fresh (texts_of theirs) bytes earlier (omega (arith, le, length-take-le used (archive 0) within)) (λ image here. begins.same image here ∙ sym (take-take place used (archive 0) le)) in
+      let all : HasAllOf disk_says node_last theirs bytes = takes mine theirs bytes n told behind in
+      all_stand disk_says node_last theirs bytes d all (depot_of theirs journal archive d used bytes written stands ends within refl) j a left there
+
+  module _ {K : Type 0} (sink_says : SinkSays K) where
+    pub copied_by : (up node : Node D) (old_out new_out : K) (ended : ChainEnded D) → IsFresh disk_says node → Follows disk_says sink_says up node old_out new_out ended → ended.cause ≡ causes.Done → StandAlike disk_says up node ended.node
+    copied_by up node old_out new_out ended fresh follows done = go follows.ends
+      where
+        go : HasParted disk_says sink_says up node old_out new_out ended follows.up_last follows.node_last ⊎ (HasBroken disk_says sink_says up node old_out new_out ended ⊎ HasAll disk_says sink_says up node old_out new_out ended follows.node_last)
+            → StandAlike disk_says up node ended.node
+        go (inl parted) = let clash : causes.Apart parted.departure ≡ causes.Done = sym parted.cause_is ∙ done in absurd cc
+        go (inr (inl broke)) = absurd (subst IsOfPulls done broke.cause_is)
+        go (inr (inr all)) = subst (StandAlike disk_says up node) (sym follows.node_is) (stand_alike up node follows.node_last fresh all.agrees all.all)

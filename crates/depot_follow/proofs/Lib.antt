@@ -1,0 +1,5 @@
+mod Made
+mod Opened
+mod Followed
+mod Endings
+mod Copied
