@@ -24,7 +24,7 @@ pub(crate) fn may_anywhere(
     ensures { IfOk result (λ may. (d : List Deed) → IsSound d → HasRows (rows_of tables.now) d table_ids.Group → HasRows (rows_of tables.now) d table_ids.Protect →
         may ≡ may_in d caller.now need.0) }
 {
-    let protects = protects_of(alloc, tables)?;
+    let protects = protects_of(tables);
     let who = who_of(alloc, tables, caller)?;
     Ok(protects.may_any(&who, need))
 }

@@ -7,12 +7,14 @@
 mod change;
 mod fields;
 mod key;
+mod lines;
 mod record;
 mod rows;
 mod table;
 
 pub use change::{Change, Op, Spot};
 pub use key::{Key, keys_have_one_order};
+pub use lines::line_text;
 pub use record::Record;
 pub use rows::{
     ChangeRecord, CounterRecord, DomainRecord, GroupRecord, HaveRecord, IntegedRecord, LabelRecord,

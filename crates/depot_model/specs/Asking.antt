@@ -1,14 +1,13 @@
 -- Who asks, with which rights, and where the caller's client puts files (Command-Line Reference, "p4 protect", "p4 client").
-use Rattle.std.specs.Prelude.{ℕ, Bool, List, [], filter, codes, Some, None, Result, Ok, Err, is_some}
+use Rattle.std.specs.Prelude.{ℕ, Bool, List, [], filter, codes, Some, None, Ok, Err, is_some}
 use Rattle.std.specs.List.{list_any}
 use Rattle.db_records.specs.depot_path.Bytes.{same}
 use Rattle.spec_form.specs.Form.{lines_of}
 use Rattle.view_map.specs.declared.line.ViewLine.{ViewLine}
 use Rattle.view_map.specs.Reading.{view_of}
 use Rattle.protect_table.specs.declared.line.ProtectLine.{ProtectLine}
-use Rattle.protect_table.specs.declared.fault.ProtectFault.{ProtectFault}
 use Rattle.protect_table.specs.declared.who.Who.{Who}
-use Rattle.protect_table.specs.Line.{table_of as protects_of}
+pub use Rattle.protect_table.specs.Line.{lines_or_none, read_lines}
 use Rattle.protect_table.specs.Rights.{may, may_any}
 use Rattle.depot_model.specs.declared.request.Caller.{Caller}
 use Rattle.depot_model.specs.Deeds.{Deed, ClientForm, LabelForm}
@@ -20,13 +19,6 @@ groups_of d user = filter (λ group. list_any (same user) (users d group)) (keys
 
 abbrev pub who_of : List Deed → Caller → Who
 who_of d caller = record { user = caller.user; groups = groups_of d caller.user; host = caller.host }
-
-abbrev pub lines_or_none : Result (List ProtectLine) ProtectFault → List ProtectLine
-lines_or_none (Ok lines) = lines
-lines_or_none (Err fault) = []
-
-abbrev pub read_lines : List (List ℕ) → List ProtectLine
-read_lines texts = lines_or_none (protects_of texts)
 
 abbrev pub protects : List Deed → List ProtectLine
 protects d = read_lines (guard_lines d)

@@ -3,7 +3,6 @@
 
 mod deed;
 mod laws;
-mod lines;
 
 pub use deed::{
     Action, Credit, Deed, Entry, Held, How, Landing, Opening, Owing, Pending, Source, SpecKind,
@@ -14,7 +13,6 @@ pub use laws::{
     depots_with_the_same_rows_stay_so, rows_of_a_cut_depot_are_the_rows_cut,
     standing_rows_are_those_of_the_depot,
 };
-pub use lines::line_text;
 
 // What stands below, for the crates above.
 pub use depot_model as model;

@@ -96,3 +96,11 @@ table_of texts = lines_from 1 texts
 abbrev pub is_memory : LineFault → Bool
 is_memory Memory = true
 is_memory _ = false
+
+-- the lines that texts spell, or none where they spell none
+abbrev pub lines_or_none : Result (List ProtectLine) ProtectFault → List ProtectLine
+lines_or_none (Ok lines) = lines
+lines_or_none (Err fault) = []
+
+abbrev pub read_lines : List (List ℕ) → List ProtectLine
+read_lines texts = lines_or_none (table_of texts)

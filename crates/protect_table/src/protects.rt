@@ -1,6 +1,6 @@
 //! The protections table, and what it grants.
 
-ghost use Rattle.std.specs.Prelude.{◌≡◌, ◌+◌, ◌^◌, ◌<◌, if◌then◌else◌};
+ghost use Rattle.std.specs.Prelude.{◌≡◌, ◌+◌, ◌^◌, ◌<◌, [], IfOk, if◌then◌else◌};
 ghost use Rattle.depot_path.specs.Answers.{Answers};
 ghost use Rattle.protect_table.specs.Mode.{grants, denies};
 ghost use Rattle.protect_table.specs.Line.{table_of, no_memory, in_line, is_memory};
@@ -12,12 +12,14 @@ use crate::mode::Grantee;
 use crate::who::{Level, Who};
 use crate::wildcard::{fits_name, fits_some_name};
 use depot_path::{DepotPath, Piece, Sequence, Text};
-use std::alloc::Global;
+use std::alloc::{AllocError, Global};
 use std::marker::Model;
+use std::sync::Arc;
 
-/// The protections table, seen in contracts as the list of its lines.
+/// The protections table, seen in contracts as the list of its lines. It never changes, and what shares it holds
+/// the same lines.
 pub struct Protects {
-    lines: Sequence<ProtectLine>,
+    lines: Arc<Sequence<ProtectLine>, Global>,
 }
 
 impl Drop for Protects {
@@ -28,11 +30,12 @@ impl Drop for Protects {
 
 impl Model for Protects {
     ghost use Rattle.std.specs.Prelude.{List};
+    ghost use Rattle.std.specs.Arc.{arc_value};
     ghost use Rattle.protect_table.specs.declared.line.ProtectLine.{ProtectLine};
 
     ghost Value = { List ProtectLine };
 
-    ghost view = { λ table. table.lines };
+    ghost view = { λ table. arc_value table.lines };
 }
 
 /// Whether the pattern is `//...`.
@@ -115,6 +118,31 @@ fn fault_after(before: usize, what: LineFault) -> ProtectFault
 }
 
 impl Protects {
+    /// The table of these lines. The one error is want of memory.
+    fn of_lines(alloc: Global, lines: Sequence<ProtectLine>) -> Result<Self, AllocError>
+        ensures { IfOk result (λ protects. protects ≡ lines) }
+    {
+        Ok(Protects {
+            lines: Arc::new(alloc, lines)?,
+        })
+    }
+
+    /// The table without lines. The one error is want of memory.
+    pub fn empty(alloc: Global) -> Result<Self, AllocError>
+        ensures { IfOk result (λ protects. protects ≡ []) }
+    {
+        Protects::of_lines(alloc, Sequence::new(alloc))
+    }
+
+    /// The same table, shared. The one error is that there are too many shares.
+    pub fn share(&self) -> Result<Self, AllocError>
+        ensures { IfOk result (λ protects. protects ≡ self.now) }
+    {
+        Ok(Protects {
+            lines: Arc::try_clone(&self.lines)?,
+        })
+    }
+
     /// Reads a table, a line from each text. It answers the first bad line, by its fault.
     pub fn from_lines(alloc: Global, lines: &[Text]) -> Result<Self, ProtectFault>
         ensures { Answers no_memory result (table_of lines.now) }
@@ -130,7 +158,10 @@ impl Protects {
                 Err(what) => return Err(fault_after(i, what)),
             }
         }
-        Ok(Protects { lines: read })
+        match Protects::of_lines(alloc, read) {
+            Ok(protects) => Ok(protects),
+            Err(_) => Err(fault_after(0, LineFault::Memory)),
+        }
     }
 
     /// The lines.
@@ -145,7 +176,7 @@ impl Protects {
     pub fn may(&self, who: &Who, file: &DepotPath, need: Level) -> bool
         ensures { result ≡ may_at self.now who.now file.now need.0 }
     {
-        let lines = self.lines.as_slice();
+        let lines = self.lines();
         let mut at = lines.len();
         while at > 0 {
             at -= 1;
@@ -160,7 +191,7 @@ impl Protects {
     pub fn may_any(&self, who: &Who, need: Level) -> bool
         ensures { result ≡ may_somewhere self.now who.now need.0 }
     {
-        let lines = self.lines.as_slice();
+        let lines = self.lines();
         let mut at = lines.len();
         while at > 0 {
             at -= 1;
@@ -168,7 +199,7 @@ impl Protects {
                 return granted;
             }
         }
-        self.lines.is_empty()
+        lines.is_empty()
     }
 
     /// The greatest need that the caller has at the path, 0 where there is none. It takes no memory.

@@ -8,4 +8,3 @@ pub mod Named
 pub mod Rights
 pub mod UsersRead
 pub mod ViewsRead
-pub mod Whole

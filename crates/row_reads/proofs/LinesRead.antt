@@ -22,6 +22,7 @@ use Rattle.depot_rows.specs.db_records.declared.record.Record.TheVariants.{Prote
 use Rattle.depot_rows.specs.db_records.declared.rows.ProtectRecord.{ProtectRecord}
 use Rattle.depot_rows.specs.db_records.declared.table.TableId.{TableId}
 use Rattle.depot_rows.specs.db_records.declared.table.TableId.TheVariants as tables
+use Rattle.depot_rows.specs.table_store.Protections.{texts_in}
 use Rattle.depot_rows.specs.table_store.Rows.{AllAbove, AllOfTable, IsRising, TableRows, row_at}
 use Rattle.depot_rows.specs.depot_model.Asking.{read_lines, lines_or_none, protects}
 use Rattle.depot_rows.specs.depot_model.Deeds.{Deed}
@@ -29,7 +30,6 @@ use Rattle.depot_rows.specs.depot_model.Latest.{guard_lines}
 use Rattle.depot_rows.specs.depot_model.Records.{record_of, protect_record}
 use Rattle.depot_rows.specs.depot_model.Rules.{Rows, IsRow, IsSound, line_text}
 use Rattle.depot_rows.specs.depot_model.Steps.Protections.{kept_line}
-use Rattle.row_reads.specs.Lines.{texts_in}
 use Rattle.depot_rows.specs.Standing.{unplaced_at}
 use Rattle.row_reads.proofs.Alike.{rows_alike, above_all, here, behind, unplaced_row}
 

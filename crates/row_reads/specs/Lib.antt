@@ -2,5 +2,4 @@ pub mod Counters
 pub mod Forms
 pub mod Found
 pub mod Groups
-pub mod Lines
 pub mod Views

@@ -5,10 +5,9 @@ ghost use Rattle.depot_rows.specs.protect_table.Line.{line_of};
 ghost use Rattle.row_rules.specs.Tests.{is_counter as counter_test, is_group as group_test, is_change as change_test, is_line as line_test, are_words as words_test};
 
 use crate::texts::{is_kept_name, is_status};
-use depot_rows::line_text;
 use depot_rows::paths::{Text, is_name};
 use depot_rows::protections::{LineFault, ProtectLine, line_words};
-use depot_rows::records::{ChangeRecord, CounterRecord, GroupRecord, ProtectRecord};
+use depot_rows::records::{ChangeRecord, CounterRecord, GroupRecord, ProtectRecord, line_text};
 use std::alloc::{AllocError, Global};
 
 /// Whether a counter's row keeps the rules.

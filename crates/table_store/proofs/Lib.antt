@@ -3,3 +3,4 @@ pub mod Place
 pub mod Nodes
 pub mod Changes
 pub mod Marks
+pub mod OtherTables

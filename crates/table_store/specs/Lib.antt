@@ -2,6 +2,7 @@ pub mod Nodes
 pub mod Rows
 pub mod Places
 pub mod Marks
+pub mod Protections
 pub mod SearchKey
 pub mod Parts
 pub mod Tables

@@ -7,13 +7,16 @@ ghost use Rattle.db_records.specs.declared.table.TableId.{TableId};
 ghost use Rattle.db_records.specs.declared.change.Op.TheVariants.{Remove};
 ghost use Rattle.table_store.specs.Rows.{AllOfTable, Fits, row_at, changed_once, with_rows};
 ghost use Rattle.table_store.specs.Marks.{AllHavePlaces};
+ghost use Rattle.table_store.specs.Protections.{protects_in};
 
+use crate::protections::read_protects;
 use crate::row_order::{ByKey, ByMark};
 use crate::search_key::{MarkRef, SearchKey};
 use crate::shared_row::SharedRow;
 use crate::tree::{Tree, fits};
 use crate::version::Version;
 use db_records::{Change, Key, Op, Record, TableId};
+use protect_table::Protects;
 use std::alloc::{AllocError, Global};
 use std::marker::Model;
 
@@ -29,30 +32,42 @@ pub struct Draft {
     tree: Tree<ByKey>,
     /// The rows that have marks, as in [`Version`].
     marked: Tree<ByMark>,
+    /// The protections that the rows tell, until the first change.
+    protects: Option<Protects>,
 }
 
 impl Model for Draft {
+    ghost use Rattle.std.specs.Prelude.{◌≡◌, IfSome};
     ghost use Rattle.table_store.specs.Rows.{TableRows, AllOfTable};
     ghost use Rattle.table_store.specs.Marks.{AllHavePlaces};
+    ghost use Rattle.table_store.specs.Protections.{protects_in};
 
     ghost Value = { TableRows };
 
     ghost view = { λ a. record { table = a.table; rows = a.tree } };
 
-    ghost invariant = { λ a. AllOfTable a.table a.tree × AllHavePlaces a.marked a.tree };
+    ghost invariant = { λ a. AllOfTable a.table a.tree × AllHavePlaces a.marked a.tree × IfSome a.protects (λ protects. protects ≡ protects_in a.tree) };
 }
 
 impl Draft {
-    /// The draft that has the rows of the first tree, and finds them by the second one.
-    pub(crate) fn of_trees(table: TableId, tree: Tree<ByKey>, marked: Tree<ByMark>) -> Draft
+    /// The draft that has the rows of the first tree, and finds them by the second one, beside the protections that
+    /// they tell.
+    pub(crate) fn of_trees(
+        table: TableId,
+        tree: Tree<ByKey>,
+        marked: Tree<ByMark>,
+        protects: Protects,
+    ) -> Draft
         requires of_table { AllOfTable table tree }
         requires places { AllHavePlaces marked tree }
+        requires protects { protects ≡ protects_in tree }
         ensures { result ≡ record { table = table; rows = tree } }
     {
         Draft {
             table,
             tree,
             marked,
+            protects: Some(protects),
         }
     }
 
@@ -84,6 +99,7 @@ impl Draft {
         ensures ok { OnOk result (self.new ≡ with_rows self.old (changed_once self.old.rows change.now)) }
         ensures err { OnErr result (self.new ≡ self.old) }
     {
+        self.protects = None;
         let row = SharedRow::copy_of(alloc, &change.row)?;
         if change.op != Op::Remove {
             change_place(&mut self.marked, alloc, change.op, &row)?;
@@ -95,11 +111,22 @@ impl Draft {
         Ok(())
     }
 
+    /// The protections that these rows tell, read anew where they changed.
+    fn protects(&self, alloc: Global) -> Result<Protects, AllocError>
+        ensures { IfOk result (λ protects. protects ≡ protects_in self.now.rows) }
+    {
+        match &self.protects {
+            Some(protects) => protects.share(),
+            None => read_protects(alloc, self.table, self.tree.walk()),
+        }
+    }
+
     /// The version with these rows. The one error is want of memory.
     pub fn finish(self, alloc: Global) -> Result<Version, AllocError>
         ensures { IfOk result (λ version. version ≡ self) }
     {
-        Version::of_trees(alloc, self.table, self.tree, self.marked)
+        let protects = self.protects(alloc)?;
+        Version::of_trees(alloc, self.table, self.tree, self.marked, protects)
     }
 }
 

@@ -11,6 +11,7 @@ mod branch;
 mod draft;
 mod mark_walk;
 mod page;
+mod protections;
 mod row_order;
 mod search_key;
 mod shared_row;
@@ -21,6 +22,7 @@ mod walk;
 
 pub use draft::Draft;
 pub use mark_walk::MarkWalk;
+pub use protections::line_texts;
 pub use tables::Tables;
 pub use version::Version;
 pub use walk::Walk;

@@ -5,6 +5,7 @@ ghost use Rattle.std.specs.Option.{option_copied};
 ghost use Rattle.db_records.specs.declared.table.TableId.{TableId};
 ghost use Rattle.table_store.specs.Rows.{AllFit, AllOfTable, Fits, IsRising, row_at, rows_from, changed, with_rows};
 ghost use Rattle.table_store.specs.Marks.{AllHavePlaces, is_fix_of, is_of_change, is_of_client, is_of_user};
+ghost use Rattle.table_store.specs.Protections.{protects_in};
 
 use crate::draft::Draft;
 use crate::mark_walk::MarkWalk;
@@ -14,6 +15,7 @@ use crate::tree::{Tree, fits};
 use crate::walk::Walk;
 use db_records::paths::Text;
 use db_records::{Change, Key, Record, TableId};
+use protect_table::Protects;
 use std::alloc::{AllocError, Global};
 use std::marker::Model;
 use std::sync::Arc;
@@ -29,6 +31,8 @@ pub struct Version {
     /// The rows that have marks. There may be others too, that are gone: each look-up by a mark asks
     /// the rows by key for what is there now.
     marked: Arc<Tree<ByMark>, Global>,
+    /// The protections that the rows tell, as they were read when the version was made.
+    protects: Protects,
 }
 
 impl Drop for Version {
@@ -37,20 +41,23 @@ impl Drop for Version {
             table: _,
             tree: _,
             marked: _,
+            protects: _,
         } = self;
     }
 }
 
 impl Model for Version {
+    ghost use Rattle.std.specs.Prelude.{◌≡◌};
     ghost use Rattle.std.specs.Arc.{arc_value};
     ghost use Rattle.table_store.specs.Rows.{TableRows, AllOfTable};
     ghost use Rattle.table_store.specs.Marks.{AllHavePlaces};
+    ghost use Rattle.table_store.specs.Protections.{protects_in};
 
     ghost Value = { TableRows };
 
     ghost view = { λ a. record { table = a.table; rows = arc_value a.tree } };
 
-    ghost invariant = { λ a. AllOfTable a.table (arc_value a.tree) × AllHavePlaces (arc_value a.marked) (arc_value a.tree) };
+    ghost invariant = { λ a. AllOfTable a.table (arc_value a.tree) × AllHavePlaces (arc_value a.marked) (arc_value a.tree) × (a.protects ≡ protects_in (arc_value a.tree)) };
 }
 
 impl Version {
@@ -58,24 +65,35 @@ impl Version {
     pub fn empty(alloc: Global, table: TableId) -> Result<Version, AllocError>
         ensures { IfOk result (λ version. version ≡ record { table = table; rows = [] }) }
     {
-        Version::of_trees(alloc, table, Tree::empty(alloc), Tree::empty(alloc))
+        let protects = Protects::empty(alloc)?;
+        Version::of_trees(
+            alloc,
+            table,
+            Tree::empty(alloc),
+            Tree::empty(alloc),
+            protects,
+        )
     }
 
-    /// The version that has the rows of the first tree, and finds them by the second one.
+    /// The version that has the rows of the first tree, and finds them by the second one, beside the protections
+    /// that they tell.
     pub(crate) fn of_trees(
         alloc: Global,
         table: TableId,
         tree: Tree<ByKey>,
         marked: Tree<ByMark>,
+        protects: Protects,
     ) -> Result<Version, AllocError>
         requires of_table { AllOfTable table tree }
         requires places { AllHavePlaces marked tree }
+        requires protects { protects ≡ protects_in tree }
         ensures { IfOk result (λ version. version ≡ record { table = table; rows = tree }) }
     {
         Ok(Version {
             table,
             tree: Arc::new(alloc, tree)?,
             marked: Arc::new(alloc, marked)?,
+            protects,
         })
     }
 
@@ -156,6 +174,13 @@ impl Version {
         MarkWalk::new(&self.tree, &self.marked, MarkRef::User(user), None)
     }
 
+    /// The protections that the rows tell. In another table than db.protect there are none.
+    pub fn protects(&self) -> &Protects
+        ensures { result.now ≡ protects_in self.now.rows }
+    {
+        &self.protects
+    }
+
     /// The same rows, shared. The one error is that there are too many shares.
     pub fn share(&self) -> Result<Version, AllocError>
         ensures { IfOk result (λ version. version ≡ self.now) }
@@ -164,6 +189,7 @@ impl Version {
             table: self.table,
             tree: Arc::try_clone(&self.tree)?,
             marked: Arc::try_clone(&self.marked)?,
+            protects: self.protects.share()?,
         })
     }
 
@@ -194,6 +220,7 @@ impl Version {
     {
         let tree = self.tree.share(alloc)?;
         let marked = self.marked.share(alloc)?;
-        Ok(Draft::of_trees(self.table, tree, marked))
+        let protects = self.protects.share()?;
+        Ok(Draft::of_trees(self.table, tree, marked, protects))
     }
 }

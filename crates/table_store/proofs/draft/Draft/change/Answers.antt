@@ -17,6 +17,7 @@ invariant_of-self-then-ne c =
     let table = ap table_of c.in_ok-row.ensures ∙ c.requires.of_table ∙ sym (ap (λ (v : TableRows). v.table) c.self.view_is) in (
       AllOfTable-tried c.self.inside.table c.self.inside.tree c.change.new.self (record { op = op; row = row }) c.change.result c.change.ensures.ok c.change.ensures.err c.self.invariant.0 table,
       places_put op row c.self.inside.marked c.change_place.new.marked c.self.inside.tree c.change.new.self c.change.result (differs_true the_type _ _ (sym c.if-ne.ensures)) c.in_ok-change_place.ensures.places c.in_ok-change_place.ensures.more c.change.ensures.ok c.change.ensures.err c.self.invariant.1,
+      tt,
     )
 
 pub returns-then-ne-clause-ok : goal.returns-then-ne-clause-ok
@@ -30,6 +31,7 @@ invariant_of-self-2 c =
     let table = ap table_of c.in_ok-row.ensures ∙ c.requires.of_table ∙ sym (ap (λ (v : TableRows). v.table) c.self.view_is) in (
       subst (AllOfTable c.self.inside.table) (sym made) (AllOfTable-changed c.self.inside.table c.self.inside.tree (record { op = Remove; row = row }) c.self.invariant.0 table),
       subst (AllHavePlaces c.change_place-2.new.marked) (sym made) (places_taken row c.self.inside.marked c.change_place-2.new.marked c.self.inside.tree c.change_place-2.result c.change_place-2.ensures.places c.change_place-2.ensures.err c.self.invariant.1),
+      tt,
     )
 
 pub returns-clause-ok : goal.returns-clause-ok

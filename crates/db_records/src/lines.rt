@@ -1,10 +1,10 @@
 //! Lines of the protections, as rows have their words.
 
 ghost use Rattle.std.specs.Prelude.{◌≡◌, ◌++◌, ◌∷◌, IfOk, OnOk};
-ghost use Rattle.depot_model.specs.Rules.{line_text as text_of_line};
+ghost use Rattle.db_records.specs.Record.{line_text as text_of_line};
 
-use depot_model::paths::Text;
-use depot_model::records::ProtectRecord;
+use crate::rows::ProtectRecord;
+use depot_path::Text;
 use std::alloc::{AllocError, Global};
 
 /// Adds a word behind a space.
