@@ -7,6 +7,7 @@ ghost use Rattle.depot_rows.specs.depot_model.Deeds.{Deed};
 ghost use Rattle.depot_rows.specs.depot_model.Step.{Step as ModelStep, after};
 ghost use Rattle.reply_rows.specs.Made.{IsMade};
 
+use crate::loops::named_by;
 use crate::sets::FileSet;
 use depot_rows::model::FileArgument;
 use depot_rows::paths::{DepotPath, Sequence};
@@ -46,13 +47,14 @@ pub trait FileAct {
 /// that it may keep what it sees of them, and goes on from what it read for the file before. It reads the tables alone of which `stands` speaks. The one
 /// error is want of memory.
 pub trait WalkAct<'t, S: FileSet> {
-    /// Whether it has come from a depot, of which these are the rows that it reads, to another one, which what was done with files made of it.
-    ghost stands: { Self → AllRows → List Deed → List Deed → Type 0 };
+    /// Whether what it keeps is of a set and an argument, and it has come from a depot, of which these are the rows that it reads, to another one, which
+    /// what was done with files made of it.
+    ghost stands: { Self → S → Argument → AllRows → List Deed → List Deed → Type 0 };
 
     /// What is done with a file that an argument names.
     ghost acts: { Self → List Deed → Argument → List ℕ → ModelStep };
 
-    /// Among the files of the set, in their order, at least those that an argument names.
+    /// The files of the set that an argument names, in their order. What it keeps is of that argument from now on.
     fn find(
         &mut self,
         alloc: Global,
@@ -61,8 +63,9 @@ pub trait WalkAct<'t, S: FileSet> {
         argument: &FileArgument,
     ) -> Result<Sequence<DepotPath>, AllocError>
         ensures paths { IfOk result (λ paths. (d : List Deed) → S.reads set.now (rows_of tables.now) d →
-            filter (S.names set.now d argument.now) paths ≡ filter (S.names set.now d argument.now) (S.files set.now d)) }
-        ensures comes { IfOk result (λ _. (d e : List Deed) → stands self.old (rows_of tables.now) d e → stands self.new (rows_of tables.now) d e) }
+            paths ≡ filter (S.names set.now d argument.now) (S.files set.now d)) }
+        ensures comes { IfOk result (λ _. (before : Argument) (d e : List Deed) → stands self.old set.now before (rows_of tables.now) d e →
+            stands self.new set.now argument.now (rows_of tables.now) d e) }
         ensures same { IfOk result (λ _. acts self.new ≡ acts self.old) };
 
     /// What is done with a file that an argument names.
@@ -73,10 +76,10 @@ pub trait WalkAct<'t, S: FileSet> {
         argument: &FileArgument,
         path: &DepotPath,
     ) -> Result<Step, AllocError>
-        ensures step { IfOk result (λ step. (d e : List Deed) → stands self.old (rows_of tables.now) d e →
+        ensures step { IfOk result (λ step. (set : S) (d e : List Deed) → stands self.old set argument.now (rows_of tables.now) d e →
             IsMade (rows_of tables.now) d e (acts self.old d argument.now path.now) step) }
-        ensures comes { IfOk result (λ _. (d e : List Deed) → stands self.old (rows_of tables.now) d e →
-            stands self.new (rows_of tables.now) d (after e (acts self.old d argument.now path.now).deeds)) }
+        ensures comes { IfOk result (λ _. (set : S) (d e : List Deed) → stands self.old set argument.now (rows_of tables.now) d e →
+            stands self.new set argument.now (rows_of tables.now) d (after e (acts self.old d argument.now path.now).deeds)) }
         ensures same { IfOk result (λ _. acts self.new ≡ acts self.old) };
 }
 
@@ -87,7 +90,7 @@ pub(crate) struct Placeless<'a, A> {
 }
 
 impl<'t, 'a, S: FileSet, A: FileAct> WalkAct<'t, S> for Placeless<'a, A> {
-    ghost stands = { λ it rows d e. A.reads it.act.now rows d × A.is_later it.act.now d e };
+    ghost stands = { λ it set argument rows d e. A.reads it.act.now rows d × A.is_later it.act.now d e };
 
     ghost acts = { λ it d argument path. A.acts it.act.now d argument path };
 
@@ -98,8 +101,8 @@ impl<'t, 'a, S: FileSet, A: FileAct> WalkAct<'t, S> for Placeless<'a, A> {
         set: &S,
         argument: &FileArgument,
     ) -> Result<Sequence<DepotPath>, AllocError> {
-        let found = set.candidates(alloc, tables, argument)?;
-        Ok(found)
+        let named = named_by(alloc, tables, set, argument)?;
+        Ok(named)
     }
 
     fn act(

@@ -3,6 +3,7 @@
 ghost use Rattle.std.specs.Prelude.{◌≡◌, Bool, List, [], ◌∷◌, ◌++◌, filter, flat_map, not, if◌then◌else◌, IfOk, OnOk};
 ghost use Rattle.std.specs.List.{list_any};
 ghost use Rattle.depot_rows.specs.table_changes.Changed.{rows_of};
+ghost use Rattle.depot_rows.specs.depot_model.declared.command.FileArgument.{FileArgument as Argument};
 ghost use Rattle.depot_rows.specs.depot_model.Arguments.{each_or, everything, not_in, over as over_in, over_all as over_all_in};
 ghost use Rattle.depot_rows.specs.depot_model.Deeds.{Deed};
 ghost use Rattle.depot_rows.specs.depot_model.Step.{Step as ModelStep, all_of, both, nothing, tells};
@@ -55,8 +56,8 @@ fn add_named<S: FileSet>(
     Ok(())
 }
 
-/// Those of some files that an argument names, in their order.
-fn named_among<S: FileSet>(
+/// Those of some files that an argument names, in their order. The one error is want of memory.
+pub fn named_among<S: FileSet>(
     alloc: Global,
     tables: &Tables,
     set: &S,
@@ -86,23 +87,6 @@ pub fn named_by<S: FileSet>(
     Ok(named)
 }
 
-/// The same files, found by what is done with them.
-fn found_by<'t, S: FileSet, A: WalkAct<'t, S>>(
-    alloc: Global,
-    tables: &'t Tables,
-    set: &S,
-    act: &mut A,
-    argument: &FileArgument,
-) -> Result<Sequence<DepotPath>, AllocError>
-    ensures paths { IfOk result (λ paths. (d : List Deed) → S.reads set.now (rows_of tables.now) d → paths ≡ filter (S.names set.now d argument.now) (S.files set.now d)) }
-    ensures comes { IfOk result (λ _. (d e : List Deed) → A.stands act.old (rows_of tables.now) d e → A.stands act.new (rows_of tables.now) d e) }
-    ensures same { IfOk result (λ _. A.acts act.new ≡ A.acts act.old) }
-{
-    let candidates = act.find(alloc, tables, set, argument)?;
-    let named = named_among(alloc, tables, set, argument, candidates)?;
-    Ok(named)
-}
-
 /// Does what is done with a file that an argument names, unless an earlier one names it.
 fn add_file<'t, S: FileSet, A: WalkAct<'t, S>>(
     alloc: Global,
@@ -114,8 +98,8 @@ fn add_file<'t, S: FileSet, A: WalkAct<'t, S>>(
     argument: &FileArgument,
     path: &DepotPath,
 ) -> Result<(), AllocError>
-    ensures step { OnOk result ((d : List Deed) (model : ModelStep) → S.reads set.now (rows_of tables.now) d → Goes (A.stands act.old (rows_of tables.now) d) (rows_of tables.now) d d model step.old →
-        Goes (A.stands act.new (rows_of tables.now) d) (rows_of tables.now) d d (both model (if list_any (λ a. S.names set.now d a path.now) earlier.now then nothing else A.acts act.old d argument.now path.now)) step.new) }
+    ensures step { OnOk result ((d : List Deed) (model : ModelStep) → S.reads set.now (rows_of tables.now) d → Goes (A.stands act.old set.now argument.now (rows_of tables.now) d) (rows_of tables.now) d d model step.old →
+        Goes (A.stands act.new set.now argument.now (rows_of tables.now) d) (rows_of tables.now) d d (both model (if list_any (λ a. S.names set.now d a path.now) earlier.now then nothing else A.acts act.old d argument.now path.now)) step.new) }
     ensures same { OnOk result (A.acts act.new ≡ A.acts act.old) }
 {
     let taken = is_taken(alloc, tables, set, earlier, path)?;
@@ -138,8 +122,8 @@ fn add_files<'t, S: FileSet, A: WalkAct<'t, S>>(
     argument: &FileArgument,
     paths: &[DepotPath],
 ) -> Result<(), AllocError>
-    ensures step { OnOk result ((d : List Deed) (model : ModelStep) → S.reads set.now (rows_of tables.now) d → Goes (A.stands act.old (rows_of tables.now) d) (rows_of tables.now) d d model step.old →
-        Goes (A.stands act.new (rows_of tables.now) d) (rows_of tables.now) d d (both model (all_of (A.acts act.old d argument.now) (filter (λ path. not (list_any (λ a. S.names set.now d a path) earlier.now)) paths.now))) step.new) }
+    ensures step { OnOk result ((d : List Deed) (model : ModelStep) → S.reads set.now (rows_of tables.now) d → Goes (A.stands act.old set.now argument.now (rows_of tables.now) d) (rows_of tables.now) d d model step.old →
+        Goes (A.stands act.new set.now argument.now (rows_of tables.now) d) (rows_of tables.now) d d (both model (all_of (A.acts act.old d argument.now) (filter (λ path. not (list_any (λ a. S.names set.now d a path) earlier.now)) paths.now))) step.new) }
     ensures same { OnOk result (A.acts act.new ≡ A.acts act.old) }
 {
     let mut rest = paths;
@@ -160,13 +144,14 @@ fn add_argument<'t, S: FileSet, A: WalkAct<'t, S>>(
     earlier: &[FileArgument],
     argument: &FileArgument,
 ) -> Result<(), AllocError>
-    ensures step { OnOk result ((d : List Deed) (model : ModelStep) → S.reads set.now (rows_of tables.now) d → Goes (A.stands act.old (rows_of tables.now) d) (rows_of tables.now) d d model step.old →
-        Goes (A.stands act.new (rows_of tables.now) d) (rows_of tables.now) d d (both model (each_or (tells (S.rows_without set.now argument.now)) (A.acts act.old d argument.now)
+    ensures step { OnOk result ((before : Argument) (d : List Deed) (model : ModelStep) → S.reads set.now (rows_of tables.now) d →
+        Goes (A.stands act.old set.now before (rows_of tables.now) d) (rows_of tables.now) d d model step.old →
+        Goes (A.stands act.new set.now argument.now (rows_of tables.now) d) (rows_of tables.now) d d (both model (each_or (tells (S.rows_without set.now argument.now)) (A.acts act.old d argument.now)
         (filter (S.names set.now d argument.now) (S.files set.now d))
         (not_in (flat_map (λ a. filter (S.names set.now d a) (S.files set.now d)) earlier.now) (filter (S.names set.now d argument.now) (S.files set.now d))))) step.new) }
     ensures same { OnOk result (A.acts act.new ≡ A.acts act.old) }
 {
-    let paths = found_by(alloc, tables, set, act, argument)?;
+    let paths = act.find(alloc, tables, set, argument)?;
     if paths.is_empty() {
         let more = set.missing(alloc, argument)?;
         step.add(more)?;
@@ -185,15 +170,16 @@ fn add_argument<'t, S: FileSet, A: WalkAct<'t, S>>(
     Ok(())
 }
 
-/// What a command does with the files that its arguments name, where it goes on from file to file.
-fn walk_over<'t, S: FileSet, A: WalkAct<'t, S>>(
+/// What a command does with the files that its arguments name, where it goes on from file to file: by argument, and then by path, each file once. The one
+/// error is want of memory.
+pub fn walk_over<'t, S: FileSet, A: WalkAct<'t, S>>(
     alloc: Global,
     tables: &'t Tables,
     set: &S,
     act: &mut A,
     arguments: &[FileArgument],
 ) -> Result<Step, AllocError>
-    ensures { IfOk result (λ step. (d : List Deed) → S.reads set.now (rows_of tables.now) d → A.stands act.old (rows_of tables.now) d d →
+    ensures { IfOk result (λ step. (before : Argument) (d : List Deed) → S.reads set.now (rows_of tables.now) d → A.stands act.old set.now before (rows_of tables.now) d d →
         IsMade (rows_of tables.now) d d (over_in (λ a. filter (S.names set.now d a) (S.files set.now d)) (λ a. tells (S.rows_without set.now a)) (A.acts act.old d) [] arguments.now) step) }
 {
     let mut step = Step::new(alloc);
@@ -242,12 +228,12 @@ fn walk_over_everything<'t, S: FileSet, A: WalkAct<'t, S>>(
     set: &S,
     act: &mut A,
 ) -> Result<Step, AllocError>
-    ensures { IfOk result (λ step. (d : List Deed) → S.reads set.now (rows_of tables.now) d → A.stands act.old (rows_of tables.now) d d →
+    ensures { IfOk result (λ step. (before : Argument) (d : List Deed) → S.reads set.now (rows_of tables.now) d → A.stands act.old set.now before (rows_of tables.now) d d →
         IsMade (rows_of tables.now) d d (over_in (λ a. filter (S.names set.now d a) (S.files set.now d)) (λ _. nothing) (A.acts act.old d) [] (everything ∷ [])) step) }
 {
     let mut step = Step::new(alloc);
     let argument = whole(alloc)?;
-    let paths = found_by(alloc, tables, set, act, &argument)?;
+    let paths = act.find(alloc, tables, set, &argument)?;
     add_files(
         alloc,
         tables,
@@ -270,7 +256,7 @@ pub fn walk_over_all<'t, S: FileSet, A: WalkAct<'t, S>>(
     act: &mut A,
     arguments: &[FileArgument],
 ) -> Result<Step, AllocError>
-    ensures { IfOk result (λ step. (d : List Deed) → S.reads set.now (rows_of tables.now) d → A.stands act.old (rows_of tables.now) d d →
+    ensures { IfOk result (λ step. (before : Argument) (d : List Deed) → S.reads set.now (rows_of tables.now) d → A.stands act.old set.now before (rows_of tables.now) d d →
         IsMade (rows_of tables.now) d d (over_all_in (λ a. filter (S.names set.now d a) (S.files set.now d)) (λ a. tells (S.rows_without set.now a)) (A.acts act.old d) arguments.now) step) }
 {
     if arguments.is_empty() {

@@ -2,7 +2,7 @@
 use Rattle.std.specs.Prelude.{◌≡◌}
 use Rattle.depot_rows.specs.db_records.declared.table.TableId.TheVariants as table_ids
 use Rattle.depot_rows.specs.table_changes.Changed.{AllRows}
-use Rattle.newest_revisions.specs.Heads.{AreHeads}
+use Rattle.newest_revisions.specs.Seen.{AreHeads}
 use Rattle.have_sync.specs.Places.{IsPlace}
 use Rattle.have_sync.specs.declared.newest.Places.{Places}
 

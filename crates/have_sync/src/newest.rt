@@ -23,13 +23,13 @@ use depot_rows::paths::{DepotPath, Name, Sequence, Text};
 use depot_rows::records::{Key, Record, TableId};
 use depot_rows::tables::Tables;
 use named_files::ShownFiles;
-use newest_revisions::{Heads, Revision};
+use newest_revisions::{Revision, SeenRows};
 use std::alloc::{AllocError, Global};
 
 /// The places of the files before, in the rows of newest revisions that were seen and in the table of have lists.
 #[derive(Drop)]
 pub(crate) struct Places<'a> {
-    heads: Heads<'a>,
+    heads: SeenRows<'a>,
     haves: Place<'a>,
 }
 
@@ -37,14 +37,14 @@ pub(crate) struct Places<'a> {
 pub(crate) fn places_of(alloc: Global, tables: &Tables) -> Places<'_>
     ensures { AreOf (rows_of tables.now) result }
 {
-    let heads = Heads::none(alloc);
+    let heads = SeenRows::none(alloc);
     let lists = tables.version(TableId::Have);
     let haves = Place::before(lists);
     Places { heads, haves }
 }
 
 impl<'a> Places<'a> {
-    /// Among the files of a set, in their order, at least those that an argument names, as [`Heads::find`] finds them.
+    /// Among the files of a set, in their order, at least those that an argument names, as [`SeenRows::find`] finds them.
     pub(crate) fn find(
         &mut self,
         alloc: Global,

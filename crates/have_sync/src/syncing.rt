@@ -26,7 +26,7 @@ use depot_rows::protections::Level;
 use depot_rows::records::ResolveRecord;
 use depot_rows::tables::Tables;
 use file_openings::opening_of;
-use file_steps::{WalkAct, walk_over_all, within_files};
+use file_steps::{WalkAct, named_among, walk_over_all, within_files};
 use named_files::{Asker, Listing, ShownFiles};
 use newest_revisions::{Revision, asks_for_none};
 use opening_reads::{held, owed_of};
@@ -345,7 +345,7 @@ impl<'a> WalkAct<'a, ShownFiles<'a>> for Syncing<'a> {
     ghost use Rattle.have_sync.specs.Newest.{AreOf};
     ghost use Rattle.have_sync.specs.Syncing.{Reads};
 
-    ghost stands = { λ syncing rows d e. Reads syncing.caller.now syncing.asker.now rows d × AreOf rows syncing.places };
+    ghost stands = { λ syncing set argument rows d e. Reads syncing.caller.now syncing.asker.now rows d × AreOf rows syncing.places };
 
     ghost acts = { λ syncing d argument path. step_of_file syncing.again d syncing.caller.now argument path };
 
@@ -356,8 +356,9 @@ impl<'a> WalkAct<'a, ShownFiles<'a>> for Syncing<'a> {
         set: &ShownFiles<'a>,
         argument: &FileArgument,
     ) -> Result<Sequence<DepotPath>, AllocError> {
-        let paths = self.places.find(alloc, tables, set, argument)?;
-        Ok(paths)
+        let candidates = self.places.find(alloc, tables, set, argument)?;
+        let named = named_among(alloc, tables, set, argument, candidates)?;
+        Ok(named)
     }
 
     fn act(

@@ -9,4 +9,4 @@ pub mod Above
 pub mod Taken
 pub mod Depths
 pub mod Leaps
-pub mod Sought
+pub mod Chosen

@@ -1,7 +1,10 @@
 //! What a command does with the submitted files of which its arguments choose a revision.
 
-ghost use Rattle.std.specs.Prelude.{ℕ, List, [], IfOk};
+ghost use Rattle.std.specs.Prelude.{◌≡◌, ◌++◌, ◌∷◌, ℕ, List, [], filter, if◌then◌else◌, map, IfOk, OnOk};
+ghost use Rattle.std.specs.List.{All};
 ghost use Rattle.std.specs.Option.{option_copied};
+ghost use Rattle.depot_rows.specs.db_records.declared.record.Record.{Record as Stored};
+ghost use Rattle.depot_rows.specs.db_records.declared.table.TableId.TheVariants as table_ids;
 ghost use Rattle.depot_rows.specs.table_changes.Changed.{AllRows, rows_of};
 ghost use Rattle.depot_rows.specs.depot_model.declared.command.FileArgument.{FileArgument as Argument};
 ghost use Rattle.depot_rows.specs.depot_model.declared.request.Caller.{Caller as Asking};
@@ -10,17 +13,21 @@ ghost use Rattle.depot_rows.specs.depot_model.Deeds.{Deed};
 ghost use Rattle.depot_rows.specs.depot_model.Step.{Step as ModelStep};
 ghost use Rattle.depot_rows.specs.depot_model.Steps.Listing.{listed};
 ghost use Rattle.named_files.specs.Asked.{IsAsker};
+ghost use Rattle.named_files.specs.Listed.{files_of};
+ghost use Rattle.named_files.specs.Sets.{ShownReads, is_listed};
+ghost use Rattle.newest_revisions.specs.Seen.{AreHeads, kept};
 ghost use Rattle.reply_rows.specs.Made.{IsMade};
-ghost use Rattle.history_query.specs.Choosing.{ChoiceReads, IsChoice};
+ghost use Rattle.history_query.specs.Choosing.{AreChosen, ChoiceReads, IsChoice, IsChosen};
 
 use depot_rows::model::{Caller, FileArgument};
-use depot_rows::paths::{DepotPath, Sequence};
+use depot_rows::paths::{DepotPath, Sequence, Wanted};
 use depot_rows::records::RevRecord;
 use depot_rows::tables::Tables;
-use file_steps::{FileSet, WalkAct, walk_over_all};
+use file_steps::{FileSet, WalkAct, walk_over};
 use named_files::{Asker, ChosenFiles, Listing, ShownFiles};
-use newest_revisions::{Heads, asks_for_none};
+use newest_revisions::{SeenRows, asks_for_none};
 use reply_rows::Step;
+use revision_reads::stored_choice;
 use std::alloc::{AllocError, Global};
 
 /// What a command tells of a file and the revision that an argument chooses of it. It reads the tables alone of which `reads` speaks; where they have
@@ -46,85 +53,158 @@ pub(crate) trait ChoiceAct {
             IsMade (rows_of tables.now) d e (acts self.now d caller.now argument path.now) step) };
 }
 
-/// The files of a list of which the arguments of a caller choose a revision, as [`ChosenFiles`]. Where an argument asks for none, each submitted file has
-/// its newest one, and none is looked up.
+/// Files, and the rows of the revisions that are chosen of them.
 #[derive(Drop)]
-struct SoughtFiles<'a> {
-    shown: ShownFiles<'a>,
+struct ChosenRows<'t> {
+    paths: Sequence<DepotPath>,
+    rows: Vec<&'t RevRecord>,
 }
 
-impl<'a> FileSet for SoughtFiles<'a> {
-    ghost use Rattle.named_files.specs.Listed.{files_of};
-    ghost use Rattle.named_files.specs.Sets.{ShownReads, rows_without as without};
-    ghost use Rattle.history_query.specs.Choosing.{is_sought};
-
-    ghost reads = { λ set rows d. ShownReads set.shown.caller.now set.shown.asker.now set.shown.listing.now rows d };
-
-    ghost files = { λ set d. files_of set.shown.listing.now d };
-
-    ghost names = { λ set d argument path. is_sought set.shown.caller.now d argument path };
-
-    ghost rows_without = { λ set argument. without set.shown.listing.now argument };
-
-    fn candidates(
-        &self,
-        alloc: Global,
-        tables: &Tables,
-        argument: &FileArgument,
-    ) -> Result<Sequence<DepotPath>, AllocError> {
-        if asks_for_none(&argument.spec.wanted) {
-            let newest = self.shown.candidates(alloc, tables, argument)?;
-            return Ok(newest);
-        }
-        let files = ChosenFiles {
-            caller: self.shown.caller,
-            asker: self.shown.asker,
-            listing: self.shown.listing,
-        };
-        let found = files.candidates(alloc, tables, argument)?;
-        Ok(found)
+/// Adds a file and the row of the revision that an argument chooses of it, if the argument names the file and chooses one.
+fn add_chosen<'t>(
+    alloc: Global,
+    tables: &'t Tables,
+    shown: &ShownFiles<'_>,
+    heads: &mut SeenRows<'t>,
+    found: &mut ChosenRows<'t>,
+    argument: &FileArgument,
+    path: DepotPath,
+) -> Result<(), AllocError>
+    ensures heads { OnOk result ((rows : List Stored) → AreHeads rows heads.old → AreHeads rows heads.new) }
+    ensures paths { OnOk result ((d : List Deed) → ShownReads shown.now.caller.now shown.now.asker.now shown.now.listing.now (rows_of tables.now) d →
+        AreHeads (rows_of tables.now table_ids.Rev) heads.old →
+        found.new.paths ≡ found.old.paths ++ (if is_listed shown.now.caller.now d argument.now path then path ∷ [] else [])) }
+    ensures rows { OnOk result ((d : List Deed) → ChoiceReads (rows_of tables.now) d → AreHeads (rows_of tables.now table_ids.Rev) heads.old →
+        All (IsChosen (rows_of tables.now) d shown.now.caller.now argument.now.spec.wanted) (map (λ r. r.now) found.old.rows.items) →
+        All (IsChosen (rows_of tables.now) d shown.now.caller.now argument.now.spec.wanted) (map (λ r. r.now) found.new.rows.items)) }
+{
+    let named = shown.is_named(alloc, tables, argument, &path)?;
+    if !named {
+        return Ok(());
     }
-
-    fn is_named(
-        &self,
-        alloc: Global,
-        tables: &Tables,
-        argument: &FileArgument,
-        path: &DepotPath,
-    ) -> Result<bool, AllocError> {
-        if asks_for_none(&argument.spec.wanted) {
-            let shown = self.shown.is_named(alloc, tables, argument, path)?;
-            return Ok(shown);
+    let wanted = &argument.spec.wanted;
+    let row = heads.chosen(alloc, tables, shown.caller, &path, wanted)?;
+    match row {
+        Some(row) => {
+            found.rows.push(row)?;
+            found.paths.push(path)?;
+            Ok(())
         }
-        let files = ChosenFiles {
-            caller: self.shown.caller,
-            asker: self.shown.asker,
-            listing: self.shown.listing,
-        };
-        let named = files.is_named(alloc, tables, argument, path)?;
-        Ok(named)
-    }
-
-    fn missing(&self, alloc: Global, argument: &FileArgument) -> Result<Step, AllocError> {
-        let step = self.shown.missing(alloc, argument)?;
-        Ok(step)
+        None => Ok(()),
     }
 }
 
-/// What a command does with these files, with the newest revisions that the walk saw which found them.
+/// Those of some files that an argument names and of which it chooses a revision, in their order, and the rows of these.
+fn chosen_among<'t>(
+    alloc: Global,
+    tables: &'t Tables,
+    shown: &ShownFiles<'_>,
+    heads: &mut SeenRows<'t>,
+    argument: &FileArgument,
+    candidates: Sequence<DepotPath>,
+) -> Result<ChosenRows<'t>, AllocError>
+    ensures paths { IfOk result (λ found. (d : List Deed) → ShownReads shown.now.caller.now shown.now.asker.now shown.now.listing.now (rows_of tables.now) d →
+        AreHeads (rows_of tables.now table_ids.Rev) heads.old → found.paths ≡ filter (is_listed shown.now.caller.now d argument.now) candidates) }
+    ensures rows { IfOk result (λ found. (d : List Deed) → ChoiceReads (rows_of tables.now) d → AreHeads (rows_of tables.now table_ids.Rev) heads.old →
+        All (IsChosen (rows_of tables.now) d shown.now.caller.now argument.now.spec.wanted) (map (λ r. r.now) found.rows.items)) }
+{
+    let mut found = ChosenRows {
+        paths: Sequence::new(alloc),
+        rows: Vec::new(alloc),
+    };
+    for path in candidates.into_vec() {
+        add_chosen(alloc, tables, shown, heads, &mut found, argument, path)?;
+    }
+    Ok(found)
+}
+
+/// Among the files of a list, in their order, at least those of which an argument chooses a revision; where it asks for none, with the rows of newest
+/// revisions from the same walk.
+fn candidates_of<'t>(
+    alloc: Global,
+    tables: &'t Tables,
+    shown: &ShownFiles<'_>,
+    heads: &mut SeenRows<'t>,
+    argument: &FileArgument,
+) -> Result<Sequence<DepotPath>, AllocError>
+    ensures paths { IfOk result (λ paths. (d : List Deed) → ShownReads shown.now.caller.now shown.now.asker.now shown.now.listing.now (rows_of tables.now) d →
+        filter (is_listed shown.now.caller.now d argument.now) paths ≡ filter (is_listed shown.now.caller.now d argument.now) (files_of shown.now.listing.now d)) }
+    ensures heads { IfOk result (λ _. AreHeads (rows_of tables.now table_ids.Rev) heads.old → AreHeads (rows_of tables.now table_ids.Rev) heads.new) }
+{
+    if asks_for_none(&argument.spec.wanted) {
+        let newest = heads.find(alloc, tables, shown, argument)?;
+        return Ok(newest);
+    }
+    let files = ChosenFiles {
+        caller: shown.caller,
+        asker: shown.asker,
+        listing: shown.listing,
+    };
+    let found = files.candidates(alloc, tables, argument)?;
+    Ok(found)
+}
+
+/// The files of a list of which an argument chooses a revision, in their order, and the rows of these.
+fn chosen_by<'t>(
+    alloc: Global,
+    tables: &'t Tables,
+    set: &ChosenFiles<'_>,
+    argument: &FileArgument,
+) -> Result<ChosenRows<'t>, AllocError>
+    ensures paths { IfOk result (λ found. (d : List Deed) → ShownReads set.now.caller.now set.now.asker.now set.now.listing.now (rows_of tables.now) d →
+        found.paths ≡ filter (is_listed set.now.caller.now d argument.now) (files_of set.now.listing.now d)) }
+    ensures rows { IfOk result (λ found. (d : List Deed) → ChoiceReads (rows_of tables.now) d →
+        All (IsChosen (rows_of tables.now) d set.now.caller.now argument.now.spec.wanted) (map (λ r. r.now) found.rows.items)) }
+{
+    let shown = ShownFiles {
+        caller: set.caller,
+        asker: set.asker,
+        listing: set.listing,
+    };
+    let mut heads = SeenRows::none(alloc);
+    let candidates = candidates_of(alloc, tables, &shown, &mut heads, argument)?;
+    let found = chosen_among(alloc, tables, &shown, &mut heads, argument, candidates)?;
+    Ok(found)
+}
+
+/// The row of the revision that is chosen of a file, if there is one: by what was seen behind the files before, or else it is looked up.
+fn choice<'t>(
+    alloc: Global,
+    tables: &'t Tables,
+    caller: &Caller,
+    seen: &mut SeenRows<'t>,
+    path: &DepotPath,
+    wanted: &Wanted,
+) -> Result<Option<&'t RevRecord>, AllocError>
+    ensures rows { IfOk result (λ _. kept seen.new ≡ kept seen.old) }
+    ensures choice { IfOk result (λ row. (d : List Deed) → ChoiceReads (rows_of tables.now) d → AreChosen (rows_of tables.now) d caller.now wanted.now seen.old →
+        IsChoice (rows_of tables.now) d caller.now wanted.now path.now (option_copied row)) }
+{
+    let text = path.print(alloc)?;
+    let row = seen.go_to(&text);
+    drop(text);
+    match row {
+        Some(row) => Ok(Some(row)),
+        None => {
+            let row = stored_choice(alloc, tables, caller, path, wanted)?;
+            Ok(row)
+        }
+    }
+}
+
+/// What a command does with these files, with the rows of the revisions that were chosen as they were found.
 #[derive(Drop)]
 struct Choosing<'a, A> {
     act: &'a A,
     caller: &'a Caller,
-    heads: Heads<'a>,
+    seen: SeenRows<'a>,
 }
 
-impl<'a, A: ChoiceAct> WalkAct<'a, SoughtFiles<'a>> for Choosing<'a, A> {
-    ghost use Rattle.depot_rows.specs.db_records.declared.table.TableId.TheVariants as table_ids;
-    ghost use Rattle.newest_revisions.specs.Heads.{AreHeads};
-    ghost use Rattle.history_query.specs.Choosing.{ChoiceReads as Reads};
+impl<'a, A: ChoiceAct> WalkAct<'a, ChosenFiles<'a>> for Choosing<'a, A> {
+    ghost use Rattle.history_query.specs.Choosing.{AreChosen as AreOf, ChoiceReads as Reads};
 
-    ghost stands = { λ it rows d e. A.reads it.act.now it.caller.now rows d × Reads rows d × AreHeads (rows table_ids.Rev) it.heads };
+    ghost stands = { λ it set argument rows d e. A.reads it.act.now it.caller.now rows d × Reads rows d × (set.caller.now ≡ it.caller.now) ×
+        AreOf rows d it.caller.now argument.spec.wanted it.seen };
 
     ghost acts = { λ it d argument path. A.acts it.act.now d it.caller.now argument path };
 
@@ -132,15 +212,13 @@ impl<'a, A: ChoiceAct> WalkAct<'a, SoughtFiles<'a>> for Choosing<'a, A> {
         &mut self,
         alloc: Global,
         tables: &'a Tables,
-        set: &SoughtFiles<'a>,
+        set: &ChosenFiles<'a>,
         argument: &FileArgument,
     ) -> Result<Sequence<DepotPath>, AllocError> {
-        if asks_for_none(&argument.spec.wanted) {
-            let newest = self.heads.find(alloc, tables, &set.shown, argument)?;
-            return Ok(newest);
-        }
-        let found = set.candidates(alloc, tables, argument)?;
-        Ok(found)
+        let found = chosen_by(alloc, tables, set, argument)?;
+        let ChosenRows { paths, rows } = found;
+        self.seen.see(rows);
+        Ok(paths)
     }
 
     fn act(
@@ -151,7 +229,7 @@ impl<'a, A: ChoiceAct> WalkAct<'a, SoughtFiles<'a>> for Choosing<'a, A> {
         path: &DepotPath,
     ) -> Result<Step, AllocError> {
         let wanted = &argument.spec.wanted;
-        let row = self.heads.chosen(alloc, tables, self.caller, path, wanted)?;
+        let row = choice(alloc, tables, self.caller, &mut self.seen, path, wanted)?;
         let step = self.act.act(alloc, tables, self.caller, path, row)?;
         Ok(step)
     }
@@ -169,23 +247,18 @@ pub(crate) fn over_chosen<A: ChoiceAct>(
     ensures { IfOk result (λ step. (d : List Deed) → IsAsker d caller.now asker.now → ChoiceReads (rows_of tables.now) d → A.reads act.now caller.now (rows_of tables.now) d →
         IsMade (rows_of tables.now) d d (over_in (listed d caller.now) told_without (A.acts act.now d caller.now) [] arguments.now) step) }
 {
-    if arguments.is_empty() {
-        return Ok(Step::new(alloc));
-    }
     let listing = Listing::Submitted;
-    let files = SoughtFiles {
-        shown: ShownFiles {
-            caller,
-            asker,
-            listing: &listing,
-        },
+    let files = ChosenFiles {
+        caller,
+        asker,
+        listing: &listing,
     };
     let mut choosing = Choosing {
         act,
         caller,
-        heads: Heads::none(alloc),
+        seen: SeenRows::none(alloc),
     };
-    let done = walk_over_all(alloc, tables, &files, &mut choosing, arguments);
+    let done = walk_over(alloc, tables, &files, &mut choosing, arguments);
     drop(choosing);
     drop(listing);
     let step = done?;

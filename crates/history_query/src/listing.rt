@@ -1,6 +1,6 @@
 //! `files` (Command-Line Reference, "p4 files").
 
-ghost use Rattle.std.specs.Prelude.{◌≡◌, ◌&&◌, not, bytes_eq, codes, List, IfOk, option_map};
+ghost use Rattle.std.specs.Prelude.{◌≡◌, List, IfOk, option_map};
 ghost use Rattle.depot_rows.specs.db_records.declared.record.Record.TheVariants.{Change, Rev};
 ghost use Rattle.depot_rows.specs.db_records.declared.table.TableId.TheVariants as table_ids;
 ghost use Rattle.depot_rows.specs.table_changes.Changed.{rows_of};
@@ -21,6 +21,7 @@ use depot_rows::paths::DepotPath;
 use depot_rows::records::{ChangeRecord, RevRecord};
 use depot_rows::tables::Tables;
 use named_files::Asker;
+use newest_revisions::is_live;
 use reply_rows::{RowBuilder, Step};
 use std::alloc::{AllocError, Global};
 
@@ -29,14 +30,6 @@ use std::alloc::{AllocError, Global};
 struct Listed {
     /// Revisions that are deleted have no row.
     live: bool,
-}
-
-/// Whether a revision isn't deleted.
-fn is_live(row: &RevRecord) -> bool
-    ensures { result ≡ (not (bytes_eq row.now.action (codes "delete")) && not (bytes_eq row.now.action (codes "move/delete"))) }
-{
-    let action = row.action.as_bytes();
-    !(action == b"delete".as_slice()) && !(action == b"move/delete".as_slice())
 }
 
 /// The row of a revision.

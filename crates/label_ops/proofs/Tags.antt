@@ -1,7 +1,7 @@
 -- What becomes of a file in a label, and the revision that a label is to have, are the model's.
-use Rattle.std.proofs.Common.{◌≡◌, length, ℕ, zero, suc, Bool, true, false, List, [], ◌∷◌, refl, sym, ap, subst, ◌∙◌, arith}
+use Rattle.std.proofs.Common.{◌≡◌, ℕ, zero, suc, Bool, true, false, List, [], ◌∷◌, refl, sym, ap, subst, ◌∙◌, arith}
 use Rattle.std.specs.Prelude.{◌==◌, ◌&&◌, codes, if◌then◌else◌, not}
-use Rattle.std.proofs.lemmas.Bool.{false≢true, true≢false}
+use Rattle.std.proofs.lemmas.Bool.{false≢true}
 use Rattle.std.proofs.lemmas.Bool.Decides.{nat_tests}
 use Rattle.depot_rows.specs.depot_path.Path.{is_path}
 use Rattle.depot_rows.specs.depot_path.declared.revision.Wanted.{Wanted}
@@ -91,17 +91,6 @@ pub tags : (d : List Deed) (caller : Caller) (label : List ℕ) (removes : Bool)
     → over (named false d caller (submitted d)) no_file (taken (labelling_of removes) false d caller label) [] arguments ≡ tag_files d caller label removes arguments
 tags d caller label true arguments = refl
 tags d caller label false arguments = refl
-
--- where there are arguments, and where there are none
-pub over_some : (files : FileArgument → List (List ℕ)) (missing : FileArgument → ModelStep) (act : FileArgument → List ℕ → ModelStep) (arguments : List FileArgument)
-    → (length arguments == 0) ≡ false → over_all files missing act arguments ≡ over files missing act [] arguments
-over_some files missing act [] some = absurd (true≢false some)
-over_some files missing act (a ∷ arguments) some = refl
-
-pub over_none : (files : FileArgument → List (List ℕ)) (missing : FileArgument → ModelStep) (act : FileArgument → List ℕ → ModelStep) (arguments : List FileArgument)
-    → (length arguments == 0) ≡ true → nothing ≡ over files missing act [] arguments
-over_none files missing act [] none = refl
-over_none files missing act (a ∷ arguments) none = absurd (true≢false (sym none ∙ some_is (length arguments)))
 
 pub syncs : (d : List Deed) (caller : Caller) (label : List ℕ) (labelling : Labelling) (arguments : List FileArgument)
     → synced d caller label labelling arguments

@@ -18,7 +18,7 @@ use depot_rows::paths::Name;
 use depot_rows::tables::Tables;
 use file_steps::{walk_over_all, within_files};
 use named_files::{Asker, Listing, ShownFiles};
-use newest_revisions::Heads;
+use newest_revisions::SeenRows;
 use reply_rows::{Step, label_locked_row, no_such_label_row};
 use row_reads::{is_label, is_locked_label};
 use std::alloc::{AllocError, Global};
@@ -50,7 +50,7 @@ fn sync_files<'a>(
             labelling,
             have: true,
         },
-        heads: Heads::none(alloc),
+        heads: SeenRows::none(alloc),
     };
     let done = walk_over_all(alloc, tables, &files, &mut taking, arguments);
     drop(taking);

@@ -17,9 +17,9 @@ use crate::taking::{Taking, TakingFiles, labelling_of};
 use depot_rows::model::{Caller, FileArgument};
 use depot_rows::paths::Name;
 use depot_rows::tables::Tables;
-use file_steps::{walk_over_all, within_files};
+use file_steps::{walk_over, within_files};
 use named_files::{Asker, Listing, ShownFiles};
-use newest_revisions::Heads;
+use newest_revisions::SeenRows;
 use reply_rows::{Step, label_locked_row};
 use row_reads::is_locked_label;
 use std::alloc::{AllocError, Global};
@@ -37,9 +37,6 @@ fn tag_files<'a>(
     ensures { IfOk result (λ step. (d : List Deed) → ShownReads caller.now asker.now Submitted (rows_of tables.now) d →
         IsMade (rows_of tables.now) d d (model.tag_files d caller.now label.now removes arguments.now) step) }
 {
-    if arguments.is_empty() {
-        return Ok(Step::new(alloc));
-    }
     let listing = Listing::Submitted;
     let files = ShownFiles {
         caller,
@@ -54,9 +51,9 @@ fn tag_files<'a>(
             labelling: labelling_of(removes),
             have: false,
         },
-        heads: Heads::none(alloc),
+        heads: SeenRows::none(alloc),
     };
-    let done = walk_over_all(alloc, tables, &files, &mut taking, arguments);
+    let done = walk_over(alloc, tables, &files, &mut taking, arguments);
     drop(taking);
     drop(listing);
     let step = done?;

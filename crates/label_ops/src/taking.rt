@@ -13,7 +13,7 @@ ghost use Rattle.depot_rows.specs.depot_model.Steps.Tagging as model;
 ghost use Rattle.depot_rows.specs.Standing.{HasRows};
 ghost use Rattle.named_files.specs.declared.listing.Listing.TheVariants.{Submitted};
 ghost use Rattle.named_files.specs.Sets.{ShownReads};
-ghost use Rattle.newest_revisions.specs.Heads.{AreHeads};
+ghost use Rattle.newest_revisions.specs.Seen.{AreHeads};
 ghost use Rattle.newest_revisions.specs.Newest.{asks_for_none as asks_none};
 ghost use Rattle.reply_rows.specs.Made.{IsMade};
 ghost use Rattle.revision_reads.specs.Choice.{choice_of};
@@ -23,9 +23,9 @@ use depot_rows::model::{Caller, FileArgument, Labelling, Row};
 use depot_rows::paths::{DepotPath, Name, Sequence, Wanted};
 use depot_rows::protections::Level;
 use depot_rows::tables::Tables;
-use file_steps::WalkAct;
+use file_steps::{WalkAct, named_among};
 use named_files::{Asker, ShownFiles};
-use newest_revisions::{Heads, asks_for_none};
+use newest_revisions::{SeenRows, asks_for_none};
 use reply_rows::{RowBuilder, Step, denied_row};
 use revision_reads::{Chosen, chosen_of, is_live_at};
 use row_reads::{have_of, label_of};
@@ -47,7 +47,7 @@ pub(crate) struct Taking<'a> {
 #[derive(Drop)]
 pub(crate) struct TakingFiles<'a> {
     pub(crate) taking: Taking<'a>,
-    pub(crate) heads: Heads<'a>,
+    pub(crate) heads: SeenRows<'a>,
 }
 
 /// What `tag` does with a file of which no live revision is chosen: it leaves it, and with `-d` it removes all files that are named.
@@ -204,7 +204,7 @@ fn asks_newest(have: bool, wanted: &Wanted) -> bool
 fn newest_live(
     alloc: Global,
     tables: &Tables,
-    heads: &mut Heads<'_>,
+    heads: &mut SeenRows<'_>,
     path: &DepotPath,
 ) -> Result<u32, AllocError>
     ensures heads { IfOk result (λ _. (rows : List Stored) → AreHeads rows heads.old → AreHeads rows heads.new) }
@@ -219,7 +219,7 @@ fn newest_live(
 fn live_choice(
     alloc: Global,
     tables: &Tables,
-    heads: &mut Heads<'_>,
+    heads: &mut SeenRows<'_>,
     taking: &Taking<'_>,
     path: &DepotPath,
     wanted: &Wanted,
@@ -250,7 +250,7 @@ fn or_old(rev: u32, old: u32) -> u32
 fn new_rev(
     alloc: Global,
     tables: &Tables,
-    heads: &mut Heads<'_>,
+    heads: &mut SeenRows<'_>,
     taking: &Taking<'_>,
     path: &DepotPath,
     wanted: &Wanted,
@@ -278,7 +278,7 @@ fn new_rev(
 fn take(
     alloc: Global,
     tables: &Tables,
-    heads: &mut Heads<'_>,
+    heads: &mut SeenRows<'_>,
     taking: &Taking<'_>,
     path: &DepotPath,
     wanted: &Wanted,
@@ -299,10 +299,10 @@ impl<'a> WalkAct<'a, ShownFiles<'a>> for TakingFiles<'a> {
     ghost use Rattle.depot_rows.specs.db_records.declared.table.TableId.TheVariants as table_ids;
     ghost use Rattle.named_files.specs.declared.listing.Listing.TheVariants.{Submitted};
     ghost use Rattle.named_files.specs.Sets.{ShownReads};
-    ghost use Rattle.newest_revisions.specs.Heads.{AreHeads};
+    ghost use Rattle.newest_revisions.specs.Seen.{AreHeads};
     ghost use Rattle.label_ops.specs.Tagged.{taken};
 
-    ghost stands = { λ it rows d e. ShownReads it.taking.caller.now it.taking.asker.now Submitted rows d × AreHeads (rows table_ids.Rev) it.heads };
+    ghost stands = { λ it set argument rows d e. ShownReads it.taking.caller.now it.taking.asker.now Submitted rows d × AreHeads (rows table_ids.Rev) it.heads };
 
     ghost acts = { λ it d argument path. taken it.taking.labelling it.taking.have d it.taking.caller.now it.taking.label.now argument path };
 
@@ -313,8 +313,9 @@ impl<'a> WalkAct<'a, ShownFiles<'a>> for TakingFiles<'a> {
         set: &ShownFiles<'a>,
         argument: &FileArgument,
     ) -> Result<Sequence<DepotPath>, AllocError> {
-        let paths = self.heads.find(alloc, tables, set, argument)?;
-        Ok(paths)
+        let candidates = self.heads.find(alloc, tables, set, argument)?;
+        let named = named_among(alloc, tables, set, argument, candidates)?;
+        Ok(named)
     }
 
     fn act(

@@ -3,6 +3,7 @@ use Rattle.std.proofs.Common.{◌≡◌, ℕ, suc, Bool, true, false, cond, List
 use Rattle.std.specs.Prelude.{filter, if◌then◌else◌}
 use Rattle.std.specs.Cmp.{nat_cmp_is}
 use Rattle.std.specs.List.{All}
+use Rattle.std.specs.Option.{option_to_list}
 use Rattle.std.specs.Ordering.{nat_cmp, ordering_then, is_eq}
 use Rattle.std.specs.declared.cmp.Ordering.{Ordering}
 use Rattle.std.specs.declared.cmp.Ordering.TheVariants.{Less, Equal, Greater}
@@ -20,7 +21,8 @@ use Rattle.depot_rows.specs.table_store.Rows.{is_at, row_at, AllAbove, IsRising}
 use Rattle.depot_rows.proofs.table_store.Order.{turned_greater}
 use Rattle.row_order.proofs.Order.{AllAbove-lower, greater_trans, row_at-gap, turned_less}
 use Rattle.depot_rows.proofs.Keys.{at-is, at-self, same-self}
-use Rattle.named_files.specs.HeadRows.{IsHead, are_of_one_file, ended, heads_after, heads_in_front, heads_in_turn}
+use Rattle.revision_reads.specs.Probes.{rev_of}
+use Rattle.named_files.specs.HeadRows.{IsHead, ended, heads_after, heads_in_front, heads_in_turn, is_of_its_file}
 use Rattle.named_files.specs.Listed.{is_in_front}
 use Rattle.named_files.specs.declared.listing.Listing.{Listing}
 use Rattle.named_files.specs.declared.listing.Listing.TheVariants.{Had, OpenedBy, Submitted}
@@ -50,17 +52,16 @@ none_above k rows above = row_at-gap k [] rows tt above
 
 -- ---- behind a row below
 
-after_row : (row : Record) (rows : List Record) → AllAbove (key_of row) rows → (head : Record) → IsHead rows head → IsHead (row ∷ rows) head
-after_row row rows above (records.Rev r) is =
+after_row : (row : Record) (rows : List Record) → AllAbove (key_of row) rows → (head : RevRecord) → IsHead rows head → IsHead (row ∷ rows) head
+after_row row rows above r is =
     let here : Key = keys.Rev r.path r.rev in
     let next : Key = keys.Rev r.path (suc r.rev) in
     let up : key_cmp here (key_of row) ≡ Greater = found_above here (key_of row) (records.Rev r) rows above is.0 in
     let more : key_cmp next (key_of row) ≡ Greater = greater_trans next here (key_of row) (turned_less here next (next_above r.path r.rev)) up in
     (passed here row rows (not_at here row up) ∙ is.0, passed next row rows (not_at next row more) ∙ is.1)
-after_row row rows above _ is = tt
 
 -- a row of another table stands by all revisions alike
-other_above : (path : List ℕ) (m n : ℕ) (before : RevRecord) (row : Record) → before.path ≡ path → are_of_one_file (records.Rev before) row ≡ false
+other_above : (path : List ℕ) (m n : ℕ) (before : RevRecord) (row : Record) → before.path ≡ path → is_of_its_file before row ≡ false
     → key_cmp (key_of row) (keys.Rev path m) ≡ Greater → key_cmp (key_of row) (keys.Rev path n) ≡ Greater
 other_above path m n before (records.Rev s) is not above = go (text_cmp s.path path) refl above
   where
@@ -72,36 +73,43 @@ other_above path m n before (records.Rev s) is not above = go (text_cmp s.path p
 other_above path m n before _ is not above = above
 
 -- the last row of a file
-ends_file : (before : Record) (rows : List Record) → ((r : RevRecord) → before ≡ records.Rev r → AllAbove (keys.Rev r.path (suc r.rev)) rows) → IsHead (before ∷ rows) before
-ends_file (records.Rev r) rows above =
+ends_file : (r : RevRecord) (rows : List Record) → AllAbove (keys.Rev r.path (suc r.rev)) rows → IsHead (records.Rev r ∷ rows) r
+ends_file r rows above =
     let here : Key = keys.Rev r.path r.rev in
     let next : Key = keys.Rev r.path (suc r.rev) in (
       ap (λ b. cond b (Some (records.Rev r)) (row_at here rows)) (at-self here here refl),
-      passed next (records.Rev r) rows (not_at next (records.Rev r) (turned_less here next (next_above r.path r.rev))) ∙ none_above next rows (above r refl),
+      passed next (records.Rev r) rows (not_at next (records.Rev r) (turned_less here next (next_above r.path r.rev))) ∙ none_above next rows above,
     )
-ends_file _ rows above = tt
 
-behind : (before row : Record) (rows : List Record) → are_of_one_file before row ≡ false → IsRising (before ∷ row ∷ rows)
-    → (r : RevRecord) → before ≡ records.Rev r → AllAbove (keys.Rev r.path (suc r.rev)) (row ∷ rows)
-behind before row rows not up r is =
+behind : (r : RevRecord) (row : Record) (rows : List Record) → is_of_its_file r row ≡ false → IsRising (records.Rev r ∷ row ∷ rows)
+    → AllAbove (keys.Rev r.path (suc r.rev)) (row ∷ rows)
+behind r row rows not up =
     let next : Key = keys.Rev r.path (suc r.rev) in
-    let other : are_of_one_file (records.Rev r) row ≡ false = ap (λ x. are_of_one_file x row) (sym is) ∙ not in
-    let above : key_cmp (key_of row) next ≡ Greater =
-    other_above r.path r.rev (suc r.rev) r row refl other (ap (λ x. key_cmp (key_of row) (key_of x)) (sym is) ∙ up.0.0) in
+    let above : key_cmp (key_of row) next ≡ Greater = other_above r.path r.rev (suc r.rev) r row refl not up.0.0 in
     (above, AllAbove-lower (key_of row) next rows above up.1.0)
 
 -- ---- the last rows
 
-heads_from : (before : Record) (rows : List Record) → IsRising (before ∷ rows) → All (IsHead (before ∷ rows)) (heads_after (Some before) rows)
-heads_from before [] up = All-cons (IsHead (before ∷ [])) before [] (ends_file before [] (λ r is. tt)) (All-nil (IsHead (before ∷ [])))
-heads_from before (row ∷ rows) up =
-    All-append (IsHead (before ∷ row ∷ rows)) (ended (Some before) row) (heads_after (Some row) rows) (go (are_of_one_file before row) refl)
-    (All-weaker (IsHead (row ∷ rows)) (IsHead (before ∷ row ∷ rows)) (after_row before (row ∷ rows) up.0) (heads_after (Some row) rows) (heads_from row rows up.1))
+alone : (r : RevRecord) (rows : List Record) → AllAbove (keys.Rev r.path (suc r.rev)) rows → All (IsHead (records.Rev r ∷ rows)) (r ∷ [])
+alone r rows above = All-cons (IsHead (records.Rev r ∷ rows)) r [] (ends_file r rows above) (All-nil (IsHead (records.Rev r ∷ rows)))
+
+last_one : (before : Record) → All (IsHead (before ∷ [])) (option_to_list (rev_of (Some before)))
+last_one (records.Rev r) = alone r [] tt
+last_one before = All-nil (IsHead (before ∷ []))
+
+ended_one : (before row : Record) (rows : List Record) → IsRising (before ∷ row ∷ rows) → All (IsHead (before ∷ row ∷ rows)) (ended (Some before) row)
+ended_one (records.Rev r) row rows up = go (is_of_its_file r row) refl
   where
-    go : (b : Bool) → are_of_one_file before row ≡ b → All (IsHead (before ∷ row ∷ rows)) (if b then [] else before ∷ [])
-    go true one = All-nil (IsHead (before ∷ row ∷ rows))
-    go false not =
-        All-cons (IsHead (before ∷ row ∷ rows)) before [] (ends_file before (row ∷ rows) (behind before row rows not up)) (All-nil (IsHead (before ∷ row ∷ rows)))
+    go : (b : Bool) → is_of_its_file r row ≡ b → All (IsHead (records.Rev r ∷ row ∷ rows)) (if b then [] else r ∷ [])
+    go true one = All-nil (IsHead (records.Rev r ∷ row ∷ rows))
+    go false not = alone r (row ∷ rows) (behind r row rows not up)
+ended_one before row rows up = All-nil (IsHead (before ∷ row ∷ rows))
+
+heads_from : (before : Record) (rows : List Record) → IsRising (before ∷ rows) → All (IsHead (before ∷ rows)) (heads_after (Some before) rows)
+heads_from before [] up = last_one before
+heads_from before (row ∷ rows) up =
+    All-append (IsHead (before ∷ row ∷ rows)) (ended (Some before) row) (heads_after (Some row) rows) (ended_one before row rows up)
+    (All-weaker (IsHead (row ∷ rows)) (IsHead (before ∷ row ∷ rows)) (after_row before (row ∷ rows) up.0) (heads_after (Some row) rows) (heads_from row rows up.1))
 
 heads_of_all : (rows : List Record) → IsRising rows → All (IsHead rows) (heads_after None rows)
 heads_of_all [] up = All-nil (IsHead [])
@@ -176,15 +184,14 @@ module _ (listing : Listing) (beginning : List ℕ) where
   all_of_file r n passes (records.Working s) here = absurd (false≢true here)
   all_of_file r n passes (records.Change s) here = absurd (false≢true here)
 
-  among_all : (rows : List Record) (head : Record) → IsHead (filter test rows) head → IsHead rows head
-  among_all rows (records.Rev r) is =
+  among_all : (rows : List Record) (r : RevRecord) → IsHead (filter test rows) r → IsHead rows r
+  among_all rows r is =
       let here : Key = keys.Rev r.path r.rev in
       let next : Key = keys.Rev r.path (suc r.rev) in
       let passes : test (records.Rev r) ≡ true = found_passes test here (records.Rev r) rows is.0 in (
         sym (kept_at test here (all_of_file r r.rev passes) rows) ∙ is.0,
         sym (kept_at test next (all_of_file r (suc r.rev) passes) rows) ∙ is.1,
       )
-  among_all rows _ is = tt
 
   front_heads : (rows : List Record) → IsRising rows → All (IsHead rows) (heads_in_front listing rows beginning)
   front_heads rows up =

@@ -134,11 +134,11 @@ and_swapped a false c h = none (a && c) c
 
 -- where they have all that a test keeps, it keeps the same of them as of the list
 pub kept_same : (test : List ℕ → Bool) (files found all : List (List ℕ)) → Rise found → Rise all
-    → ((file : List ℕ) → is_in found file ≡ (is_in files file && is_in all file)) → ((file : List ℕ) → is_path file ≡ true → test file ≡ true → is_in files file ≡ true)
+    → ((file : List ℕ) → is_path file ≡ true → is_in found file ≡ (is_in files file && is_in all file)) → ((file : List ℕ) → is_path file ≡ true → test file ≡ true → is_in files file ≡ true)
     → filter test found ≡ filter test all
 kept_same test files found all up rises exactly every =
     one_list (filter test found) (filter test all) (filter_rises test found up) (filter_rises test all rises) (λ file is.
-    in_filter file test found ∙ ap (λ b. b && test file) (exactly file) ∙ and_swapped (is_in files file) (test file) (is_in all file) (every file is)
+    in_filter file test found ∙ ap (λ b. b && test file) (exactly file is) ∙ and_swapped (is_in files file) (test file) (is_in all file) (every file is)
     ∙ sym (in_filter file test all))
 
 -- ---- the files of a list, and whether a row lists a file
@@ -163,10 +163,10 @@ pub rises_on : (has : Bool) (file : List ℕ) (taken now : List (List ℕ)) → 
 rises_on true file taken now is rise e = subst Rise (sym e) (insert_rises file taken is rise)
 rises_on false file taken now is rise e = subst Rise (sym e) rise
 
-module _ (all : List (List ℕ)) where
+module _ (has : List ℕ → Bool) where
   -- what of the files is found, or still to be looked up
   abbrev pub known : List (List ℕ) → List (List ℕ) → List ℕ → Bool
-  known taken rest q = is_in taken q || (is_in rest q && is_in all q)
+  known taken rest q = is_in taken q || (is_in rest q && has q)
 
   -- the last of some more files, which the list has or hasn't
   moved : (s t r a : Bool) → (s ≡ true → a ≡ true) → ((s || t) || (r && a)) ≡ (t || ((r || (s || false)) && a))
@@ -186,21 +186,21 @@ module _ (all : List (List ℕ)) where
   last_split : (rest : List (List ℕ)) (file q : List ℕ) → is_in (rest ++ file ∷ []) q ≡ (is_in rest q || (same q file || false))
   last_split rest file q = list_any-append (same q) rest (file ∷ [])
 
-  pub looked_on : (has : Bool) (file : List ℕ) (rest before taken now : List (List ℕ)) → is_in all file ≡ has → before ≡ rest ++ file ∷ []
-      → now ≡ (if has then path_inserted file taken else taken) → (q : List ℕ) → known now rest q ≡ known taken before q
+  pub looked_on : (b : Bool) (file : List ℕ) (rest before taken now : List (List ℕ)) → has file ≡ b → before ≡ rest ++ file ∷ []
+      → now ≡ (if b then path_inserted file taken else taken) → (q : List ℕ) → known now rest q ≡ known taken before q
   looked_on true file rest before taken now k was e q =
-      (λ i. is_in (e i) q || (is_in rest q && is_in all q))
-      ∙ ap (λ b. b || (is_in rest q && is_in all q)) (in_inserted q file taken)
-      ∙ moved (same q file) (is_in taken q) (is_in rest q) (is_in all q) (λ h. ap (is_in all) (same-is q file h) ∙ k)
-      ∙ ap (λ b. is_in taken q || (b && is_in all q)) (sym (last_split rest file q) ∙ ap (λ (fs : List (List ℕ)). is_in fs q) (sym was))
+      (λ i. is_in (e i) q || (is_in rest q && has q))
+      ∙ ap (λ b. b || (is_in rest q && has q)) (in_inserted q file taken)
+      ∙ moved (same q file) (is_in taken q) (is_in rest q) (has q) (λ h. ap has (same-is q file h) ∙ k)
+      ∙ ap (λ b. is_in taken q || (b && has q)) (sym (last_split rest file q) ∙ ap (λ (fs : List (List ℕ)). is_in fs q) (sym was))
   looked_on false file rest before taken now k was e q =
-      (λ i. is_in (e i) q || (is_in rest q && is_in all q))
-      ∙ passed (same q file) (is_in taken q) (is_in rest q) (is_in all q) (λ h. ap (is_in all) (same-is q file h) ∙ k)
-      ∙ ap (λ b. is_in taken q || (b && is_in all q)) (sym (last_split rest file q) ∙ ap (λ (fs : List (List ℕ)). is_in fs q) (sym was))
+      (λ i. is_in (e i) q || (is_in rest q && has q))
+      ∙ passed (same q file) (is_in taken q) (is_in rest q) (has q) (λ h. ap has (same-is q file h) ∙ k)
+      ∙ ap (λ b. is_in taken q || (b && has q)) (sym (last_split rest file q) ∙ ap (λ (fs : List (List ℕ)). is_in fs q) (sym was))
 
   or_false : (b : Bool) → b ≡ (b || false)
   or_false true = refl
   or_false false = refl
 
-  pub none_left : (found rest files : List (List ℕ)) (q : List ℕ) → rest ≡ [] → known found rest q ≡ known [] files q → is_in found q ≡ (is_in files q && is_in all q)
+  pub none_left : (found rest files : List (List ℕ)) (q : List ℕ) → rest ≡ [] → known found rest q ≡ known [] files q → is_in found q ≡ (is_in files q && has q)
   none_left found rest files q none e = or_false (is_in found q) ∙ ap (λ (fs : List (List ℕ)). known found fs q) (sym none) ∙ e

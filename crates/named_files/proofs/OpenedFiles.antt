@@ -37,6 +37,7 @@ use Rattle.depot_rows.specs.depot_model.Latest.{keys_of}
 use Rattle.depot_rows.proofs.Keys.{same-is, same-self}
 use Rattle.depot_rows.specs.Standing.{unplaced_at}
 use Rattle.row_reads.proofs.GroupsListed.{kept_of, kept_rise}
+use Rattle.file_openings.specs.Openings.{openings}
 use Rattle.file_openings.proofs.NamesRise.{Below, Rise}
 use Rattle.file_openings.proofs.Told.{openings_told}
 use Rattle.named_files.specs.Anywhere.{is_last, opened_anywhere, paths_after, paths_in_turn, texts_after}
@@ -280,7 +281,13 @@ module _ (d : List Deed) (p : List ℕ) where
       in_filter p (λ path. nat_lt 0 (length (openers d path))) (paths_of open_paths d)
       ∙ absorbed (list_any (same p) (paths_of open_paths d)) (nat_lt 0 (length (openers d p))) (some_opener (keys_of (opener_of p) d))
 
-anywhere_rises : (d : List Deed) → IsSound d → paths.Rise (opened_anywhere d)
+-- so a file is of these where its openings have a row
+pub opened_there : (d : List Deed) (p : List ℕ) (rows : List Record)
+    → with_text (printed p) rows ≡ map (working_record d) (openings d p) → nat_lt 0 (length (with_text (printed p) rows)) ≡ list_any (same p) (opened_anywhere d)
+opened_there d p rows are =
+    ap (λ (rs : List Record). nat_lt 0 (length rs)) are ∙ ap (λ (n : ℕ). nat_lt 0 n) (as_many d p (keys_of (opener_of p) d)) ∙ sym (in_anywhere d p)
+
+pub anywhere_rises : (d : List Deed) → IsSound d → paths.Rise (opened_anywhere d)
 anywhere_rises d sound = filter_rises (λ path. nat_lt 0 (length (openers d path))) (paths_of open_paths d) (told_rise open_paths open_are_paths d sound.paths)
 
 anywhere_told : (client beginning : List ℕ) (version : TableRows) (rows : List Record) → version.rows ≡ rows → version.table ≡ tables.Working
@@ -299,8 +306,7 @@ anywhere_told client beginning version rows are is of up d sound has =
     (filter_rises (has_beginning beginning) (opened_anywhere d) (anywhere_rises d sound))
     (λ p path.
     in_paths p path (texts_after None kept) ∙ in_texts (printed p) None kept ∙ in_front client beginning (printed p) rows
-    ∙ (λ i. (some_row (printed p) rows ours ∙ ap (λ (rs : List Record). nat_lt 0 (length rs)) (openings_told version rows are is of up d p (prints_path p path) has)
-    ∙ ap (λ (n : ℕ). nat_lt 0 n) (as_many d p (keys_of (opener_of p) d)) ∙ sym (in_anywhere d p)) i && begins_with (printed p) beginning)
+    ∙ (λ i. (some_row (printed p) rows ours ∙ opened_there d p rows (openings_told version rows are is of up d p (prints_path p path) has)) i && begins_with (printed p) beginning)
     ∙ sym (in_filter p (has_beginning beginning) (opened_anywhere d)))
 
 -- those of each of some texts that are apart, in turn

@@ -45,7 +45,7 @@ use Rattle.named_files.proofs.Told.{files_rise, files_told}
 one_row : (r s : Record) → Some r ≡ Some s → r ≡ s
 one_row r s e = cc
 
-key_found : (key : Key) (rows : List Record) (r : Record) → row_at key rows ≡ Some r → key_of r ≡ key
+pub key_found : (key : Key) (rows : List Record) (r : Record) → row_at key rows ≡ Some r → key_of r ≡ key
 key_found key [] r e = absurd cc
 key_found key (x ∷ xs) r e = go (is_at key x) refl e (λ f. key_found key xs r f)
   where

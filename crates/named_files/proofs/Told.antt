@@ -127,7 +127,7 @@ module _ (p : List ℕ) where
       go true more = refl
       go false more = more
 
-  in_submitted : (d : List Deed) → list_any (same p) (submitted d) ≡ is_some (slice_get (revisions d p) 0)
+  pub in_submitted : (d : List Deed) → list_any (same p) (submitted d) ≡ is_some (slice_get (revisions d p) 0)
   in_submitted [] = refl
   in_submitted (Land l ∷ d) =
       in_all_inserted p (map entry_path l.entries) (submitted d)

@@ -2,16 +2,23 @@
 -- "p4 opened", option -a; Helix Core database schema reference, "db.working").
 use Rattle.std.specs.Prelude.{ℕ, Bool, false, List, [], ◌∷◌, ◌++◌, filter, flat_map, if◌then◌else◌, length, nat_lt, Option, Some, None}
 use Rattle.depot_rows.specs.depot_path.Bytes.{same}
+use Rattle.depot_rows.specs.depot_path.Path.{printed}
 use Rattle.depot_rows.specs.db_records.declared.record.Record.{Record}
 use Rattle.depot_rows.specs.db_records.declared.record.Record.TheVariants.{Working}
 use Rattle.depot_rows.specs.depot_model.Arguments.{open_paths, paths_of}
 use Rattle.depot_rows.specs.depot_model.Deeds.{Deed}
 use Rattle.depot_rows.specs.depot_model.Steps.Opening.{openers}
+use Rattle.row_ranges.specs.Ranges.{has_row}
+use Rattle.row_ranges.specs.declared.range.KeyRange.TheVariants.{OpenedFiles}
 use Rattle.named_files.specs.Listed.{is_in_front, path_in_text}
 use Rattle.named_files.specs.declared.listing.Listing.{Listing}
 
 abbrev pub opened_anywhere : List Deed → List (List ℕ)
 opened_anywhere d = filter (λ path. nat_lt 0 (length (openers d path))) (paths_of open_paths d)
+
+-- some row is of an opening of a file
+abbrev pub has_opening : List Record → List ℕ → Bool
+has_opening rows path = nat_lt 0 (length (filter (has_row (OpenedFiles (printed path))) rows))
 
 -- a text is that of the row before
 abbrev pub is_last : Option (List ℕ) → List ℕ → Bool

@@ -1,13 +1,15 @@
 //! The files that any client has opened, as arguments name them.
 
-ghost use Rattle.std.specs.Prelude.{◌≡◌, ◌++◌, ℕ, List, IfOk, OnOk, filter, flat_map};
+ghost use Rattle.std.specs.Prelude.{◌≡◌, ◌++◌, ℕ, List, IfOk, OnOk, filter, flat_map, true};
 ghost use Rattle.std.specs.Option.{option_copied};
+ghost use Rattle.depot_rows.specs.depot_path.Path.{is_path};
 ghost use Rattle.depot_rows.specs.db_records.declared.table.TableId.TheVariants as table_ids;
 ghost use Rattle.depot_rows.specs.table_changes.Changed.{rows_of};
+ghost use Rattle.depot_rows.specs.depot_model.Arguments.{is_in};
 ghost use Rattle.depot_rows.specs.depot_model.Deeds.{Deed};
 ghost use Rattle.depot_rows.specs.depot_model.Rules.{IsSound};
 ghost use Rattle.depot_rows.specs.Standing.{HasRows};
-ghost use Rattle.named_files.specs.Anywhere.{is_last as last_test, new_text, next_last, opened_anywhere, paths_in_front, paths_in_turn};
+ghost use Rattle.named_files.specs.Anywhere.{has_opening, is_last as last_test, new_text, next_last, opened_anywhere, paths_in_front, paths_in_turn};
 ghost use Rattle.named_files.specs.Beginnings.{AreApart, has_one};
 ghost use Rattle.named_files.specs.Listed.{listing_table, path_in_text};
 
@@ -15,12 +17,15 @@ use crate::asker::Asker;
 use crate::beginning::beginnings_of;
 use crate::front::rows_in;
 use crate::listing::{Listing, add_path};
+use crate::looked_up::{FileList, has_wildcard, listed_among, spelled_files};
 use depot_rows::model::{Caller, FileArgument};
 use depot_rows::paths::{DepotPath, Name, Sequence, Text};
 use depot_rows::records::{Record, TableId};
 use depot_rows::tables::Tables;
+use file_openings::{openings_of, rows_are_openings};
 use file_steps::{FileSet, not_open};
 use reply_rows::Step;
+use row_ranges::rows_in as rows_in_range;
 use std::alloc::{AllocError, Global};
 
 /// The files that any client has opened, of which the arguments of a caller name some.
@@ -119,6 +124,29 @@ fn anywhere_below(
     Ok(paths)
 }
 
+impl<'a> FileList for OpenedAnywhere<'a> {
+    ghost use Rattle.depot_rows.specs.db_records.declared.table.TableId.TheVariants as table_ids;
+    ghost use Rattle.named_files.specs.Anywhere.{has_opening};
+
+    ghost lists = { λ set rows file. has_opening (rows table_ids.Working) file };
+
+    fn has(&self, alloc: Global, tables: &Tables, file: &DepotPath) -> Result<bool, AllocError> {
+        let range = openings_of(alloc, file)?;
+        let mut rows = rows_in_range(alloc, tables, &range)?;
+        let row = rows.next();
+        let found = row.is_some();
+        Ok(found)
+    }
+}
+
+/// The rows of a depot tell so whether any client has a file opened.
+fn rows_tell_opened(tables: &Tables)
+    ensures { (d : List Deed) (path : List ℕ) → is_path path ≡ true → HasRows (rows_of tables.now) d table_ids.Working →
+        has_opening (rows_of tables.now table_ids.Working) path ≡ is_in (opened_anywhere d) path }
+{
+    rows_are_openings(tables);
+}
+
 impl<'a> FileSet for OpenedAnywhere<'a> {
     ghost use Rattle.std.specs.Prelude.{◌∷◌, [], true};
     ghost use Rattle.depot_rows.specs.depot_model.Arguments.{names as names_file};
@@ -142,7 +170,14 @@ impl<'a> FileSet for OpenedAnywhere<'a> {
         tables: &Tables,
         argument: &FileArgument,
     ) -> Result<Sequence<DepotPath>, AllocError> {
-        let beginnings = beginnings_of(alloc, self.asker, &argument.spec.pattern)?;
+        let pattern = &argument.spec.pattern;
+        if !has_wildcard(pattern) {
+            rows_tell_opened(tables);
+            let files = spelled_files(alloc, self.asker, pattern)?;
+            let found = listed_among(alloc, tables, self, files)?;
+            return Ok(found);
+        }
+        let beginnings = beginnings_of(alloc, self.asker, pattern)?;
         let paths = anywhere_below(alloc, tables, &self.caller.client, beginnings.as_slice())?;
         Ok(paths)
     }

@@ -23,7 +23,7 @@ use std::alloc::{AllocError, Global};
 pub struct Asker {
     /// The client.
     pub client: Name,
-    /// The protections.
+    /// The protections, shared with the tables.
     pub protects: Protects,
     /// The caller with the groups.
     pub who: Who,
@@ -76,7 +76,7 @@ impl Asker {
             HasRows (rows_of tables.now) d table_ids.Domain → IsAsker d caller.now asker) }
     {
         let client = own_name(&caller.client)?;
-        let protects = protects_of(alloc, tables)?;
+        let protects = protects_of(tables).share()?;
         let who = who_of(alloc, tables, caller)?;
         let view = view_or_none(alloc, tables, &caller.client)?;
         Ok(Asker {

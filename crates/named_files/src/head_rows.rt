@@ -7,9 +7,10 @@ ghost use Rattle.depot_rows.specs.depot_model.Deeds.{Deed};
 ghost use Rattle.depot_rows.specs.depot_model.Rules.{IsSound};
 ghost use Rattle.depot_rows.specs.Standing.{HasRows};
 ghost use Rattle.depot_rows.specs.table_changes.Changed.{rows_of};
+ghost use Rattle.revision_reads.specs.Probes.{rev_of};
 ghost use Rattle.named_files.specs.Asked.{is_placed};
 ghost use Rattle.named_files.specs.Beginnings.{in_turn};
-ghost use Rattle.named_files.specs.HeadRows.{IsHead, are_of_one_file as one_file_test, ended, heads_in_front, heads_in_turn};
+ghost use Rattle.named_files.specs.HeadRows.{IsHead, ended, heads_in_front, heads_in_turn, is_of_its_file as its_file_test};
 ghost use Rattle.named_files.specs.Listed.{files_of, has_beginning, listed, listing_table};
 
 use crate::asker::Asker;
@@ -19,7 +20,7 @@ use crate::front::rows_in;
 use crate::listing::Listing;
 use crate::looked_up::{has_wildcard, looked_up};
 use depot_rows::paths::{DepotPath, Pattern, Sequence, Text};
-use depot_rows::records::Record;
+use depot_rows::records::{Record, RevRecord};
 use depot_rows::tables::Tables;
 use std::alloc::{AllocError, Global};
 
@@ -29,41 +30,41 @@ pub struct HeadedFiles<'t> {
     /// The files.
     pub paths: Sequence<DepotPath>,
     /// The rows, in the order of the files; none where the list isn't that of the submitted files, or the files were looked up.
-    pub heads: Vec<&'t Record>,
+    pub heads: Vec<&'t RevRecord>,
 }
 
-/// Whether two rows are of revisions of one file.
-fn are_of_one_file(row: &Record, other: &Record) -> bool
-    ensures { result ≡ one_file_test row.now other.now }
+/// Whether a row is of a revision of the same file.
+fn is_of_its_file(revision: &RevRecord, row: &Record) -> bool
+    ensures { result ≡ its_file_test revision.now row.now }
 {
-    match (row, other) {
-        (Record::Rev(row), Record::Rev(other)) => row.path.as_bytes() == other.path.as_bytes(),
+    match row {
+        Record::Rev(row) => revision.path.as_bytes() == row.path.as_bytes(),
         _ => false,
     }
 }
 
-/// Adds the row before one, where the two aren't of one file.
+/// Adds the row before one, where it is of a revision, and the two aren't of one file.
 fn add_ended<'t>(
-    heads: &mut Vec<&'t Record>,
+    heads: &mut Vec<&'t RevRecord>,
     before: Option<&'t Record>,
     row: &Record,
 ) -> Result<(), AllocError>
     ensures { OnOk result (map (λ r. r.now) heads.new.items ≡ map (λ r. r.now) heads.old.items ++ ended (option_copied before.entry) row.now) }
 {
-    let Some(before) = before else {
+    let Some(Record::Rev(before)) = before else {
         return Ok(());
     };
-    if !are_of_one_file(before, row) {
+    if !is_of_its_file(before, row) {
         heads.push(before)?;
     }
     Ok(())
 }
 
-/// Adds the last row, where there is one.
-fn add_last<'t>(heads: &mut Vec<&'t Record>, last: Option<&'t Record>) -> Result<(), AllocError>
-    ensures { OnOk result (map (λ r. r.now) heads.new.items ≡ map (λ r. r.now) heads.old.items ++ option_to_list (option_copied last.entry)) }
+/// Adds the last row, where there is one, and it is of a revision.
+fn add_last<'t>(heads: &mut Vec<&'t RevRecord>, last: Option<&'t Record>) -> Result<(), AllocError>
+    ensures { OnOk result (map (λ r. r.now) heads.new.items ≡ map (λ r. r.now) heads.old.items ++ option_to_list (rev_of (option_copied last.entry))) }
 {
-    if let Some(last) = last {
+    if let Some(Record::Rev(last)) = last {
         heads.push(last)?;
     }
     Ok(())
@@ -74,7 +75,7 @@ fn add_last<'t>(heads: &mut Vec<&'t Record>, last: Option<&'t Record>) -> Result
 fn add_headed_below<'t>(
     alloc: Global,
     paths: &mut Sequence<DepotPath>,
-    heads: &mut Vec<&'t Record>,
+    heads: &mut Vec<&'t RevRecord>,
     tables: &'t Tables,
     listing: &Listing,
     beginning: &Text,

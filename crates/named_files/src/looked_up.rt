@@ -6,7 +6,7 @@ ghost use Rattle.depot_rows.specs.depot_path.Fit.{is_specifier};
 ghost use Rattle.depot_rows.specs.depot_path.Path.{is_path};
 ghost use Rattle.depot_rows.specs.depot_model.Arguments.{is_in};
 ghost use Rattle.depot_rows.specs.depot_model.Sorted.{path_inserted};
-ghost use Rattle.depot_rows.specs.table_changes.Changed.{rows_of};
+ghost use Rattle.depot_rows.specs.table_changes.Changed.{AllRows, rows_of};
 ghost use Rattle.named_files.specs.Asked.{is_placed};
 ghost use Rattle.named_files.specs.Listed.{listed, listing_table};
 ghost use Rattle.named_files.specs.Rising.{Rise};
@@ -50,39 +50,45 @@ pub(crate) fn spelled_files(
     Ok(files)
 }
 
-/// Whether a file is one of a list.
-fn is_listed(
-    alloc: Global,
-    tables: &Tables,
-    listing: &Listing,
-    file: &DepotPath,
-) -> Result<bool, AllocError>
-    ensures { IfOk result (λ is. is ≡ is_in (listed listing.now (rows_of tables.now (listing_table listing.now))) file.now) }
-{
-    let version = tables.version(listing.table());
-    let _table = version.table();
-    // the bytes of a path are one
-    let _bytes = file.as_bytes();
-    let key = listing.own_key(alloc, file)?;
-    let row = version.get(&key);
-    let found = row.is_some();
-    Ok(found)
+/// A list of files, of each of which the tables say whether it is one of them. The one error is want of memory.
+pub(crate) trait FileList {
+    /// Whether rows say that a file is one of the list.
+    ghost lists: { Self → AllRows → List ℕ → Bool };
+
+    /// Whether a file is one of the list.
+    fn has(&self, alloc: Global, tables: &Tables, file: &DepotPath) -> Result<bool, AllocError>
+        ensures { IfOk result (λ is. is ≡ lists self.now (rows_of tables.now) file.now) };
+}
+
+impl FileList for Listing {
+    ghost lists = { λ listing rows file. is_in (listed listing (rows (listing_table listing))) file };
+
+    fn has(&self, alloc: Global, tables: &Tables, file: &DepotPath) -> Result<bool, AllocError> {
+        let version = tables.version(self.table());
+        let _table = version.table();
+        // the bytes of a path are one
+        let _bytes = file.as_bytes();
+        let key = self.own_key(alloc, file)?;
+        let row = version.get(&key);
+        let found = row.is_some();
+        Ok(found)
+    }
 }
 
 /// Adds a file, where it is one of a list.
-fn add_listed(
+fn add_listed<L: FileList>(
     alloc: Global,
     tables: &Tables,
-    listing: &Listing,
+    list: &L,
     found: &mut PathSet,
     file: DepotPath,
 ) -> Result<(), AllocError>
-    ensures found { OnOk result (found.new ≡ (if is_in (listed listing.now (rows_of tables.now (listing_table listing.now))) file then path_inserted file found.old else found.old)) }
+    ensures found { OnOk result (found.new ≡ (if L.lists list.now (rows_of tables.now) file then path_inserted file found.old else found.old)) }
     ensures path { is_path file ≡ true }
 {
     // the bytes of a path are one
     let _bytes = file.as_bytes();
-    let named = is_listed(alloc, tables, listing, &file)?;
+    let named = list.has(alloc, tables, &file)?;
     if !named {
         return Ok(());
     }
@@ -91,19 +97,19 @@ fn add_listed(
 }
 
 /// Those of some files that are of a list, in the order of their paths.
-fn listed_among(
+pub(crate) fn listed_among<L: FileList>(
     alloc: Global,
     tables: &Tables,
-    listing: &Listing,
+    list: &L,
     files: Sequence<DepotPath>,
 ) -> Result<Sequence<DepotPath>, AllocError>
     ensures rise { IfOk result (λ found. Rise found) }
-    ensures exactly { IfOk result (λ found. (file : List ℕ) → is_in found file ≡ (is_in files file && is_in (listed listing.now (rows_of tables.now (listing_table listing.now))) file)) }
+    ensures exactly { IfOk result (λ found. (file : List ℕ) → is_in found file ≡ (is_in files file && L.lists list.now (rows_of tables.now) file)) }
 {
     let mut found = PathSet::new(alloc);
     let mut rest = files.into_vec();
     while let Some(file) = rest.pop() {
-        add_listed(alloc, tables, listing, &mut found, file)?;
+        add_listed(alloc, tables, list, &mut found, file)?;
     }
     let paths = found.into_sequence(alloc)?;
     Ok(paths)

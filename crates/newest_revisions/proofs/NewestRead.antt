@@ -1,6 +1,9 @@
 -- What is read of the row of a newest revision is what the depot says.
-use Rattle.std.proofs.Common.{◌≡◌, ℕ, suc, true, List, Some, None, Ok, inr, refl, sym, ap, subst, ◌∙◌, arith}
-use Rattle.std.specs.Prelude.{option_map}
+use Rattle.std.proofs.Common.{◌≡◌, ℕ, suc, true, List, Option, Some, None, Ok, Bor, inr, refl, sym, ap, subst, ◌∙◌, arith}
+use Rattle.std.specs.Prelude.{Contains, IfSome, option_map}
+use Rattle.std.specs.List.{All}
+use Rattle.std.specs.Option.{option_copied}
+use Rattle.std.proofs.lemmas.List.Elements.{All-contains}
 use Rattle.depot_rows.specs.depot_path.Path.{path_of, printed}
 use Rattle.depot_rows.specs.db_records.Key.{key_table}
 use Rattle.depot_rows.specs.db_records.declared.key.Key.{Key}
@@ -16,9 +19,9 @@ use Rattle.depot_rows.specs.depot_model.Revisions.{head, is_live_at, revision}
 use Rattle.depot_rows.specs.depot_model.Rules.{IsSound}
 use Rattle.depot_rows.specs.depot_model.Steps.Listing.{numbered}
 use Rattle.depot_rows.specs.Standing.{unplaced_at}
-use Rattle.depot_rows.proofs.Keys.{same-is}
+use Rattle.named_files.specs.HeadRows.{IsHead}
 use Rattle.revision_reads.specs.History.{numbered_record, seen}
-use Rattle.revision_reads.specs.Probes.{is_live_row, is_within, rev_in, with_rev}
+use Rattle.revision_reads.specs.Probes.{is_live_row, is_within, with_rev}
 use Rattle.revision_reads.specs.Search.{AreAround}
 use Rattle.revision_reads.proofs.Choosing.{head_is}
 use Rattle.revision_reads.proofs.Downwards.{number_seen}
@@ -28,7 +31,7 @@ use Rattle.depot_rows.specs.depot_path.declared.revision.Wanted.TheVariants.{Hea
 use Rattle.depot_rows.specs.depot_model.declared.request.Caller.{Caller}
 use Rattle.depot_rows.specs.depot_model.Choice.{At, Choice, chosen}
 use Rattle.std.proofs.lemmas.Bool.{false≢true}
-use Rattle.newest_revisions.specs.Heads.{IsHeadOf, IsNewest}
+use Rattle.newest_revisions.specs.Seen.{IsNewest}
 use Rattle.newest_revisions.specs.Newest.{Tells, asks_for_none}
 use Rattle.newest_revisions.specs.declared.newest.Revision.{Revision}
 
@@ -42,12 +45,14 @@ chosen_head d caller path (Range first second) e = absurd (false≢true e)
 pub stored_is : (path : List ℕ) (rows : List Record) (r : RevRecord) → IsNewest rows path r → row_at (keys.Rev (printed path) r.rev) rows ≡ Some (Rev r)
 stored_is path rows r newest = ap (λ (p : List ℕ). row_at (keys.Rev p r.rev) rows) (sym newest.path_is) ∙ newest.here
 
--- the row that was found of a file
-pub newest_is : (rows : List Record) (path : List ℕ) (row : Record) → IsHeadOf rows (printed path) row → (r : RevRecord) → rev_in row ≡ Some r → IsNewest rows path r
-newest_is rows path (Rev s) found r e =
-    let is : s ≡ r = cc in
-    subst (λ (x : RevRecord). IsNewest rows path x) is (record { path_is = same-is s.path (printed path) found.1; here = found.0.0; last = found.0.1 })
-newest_is rows path _ found r e = absurd (false≢true found.1)
+-- the row that was seen of a file
+pub newest_is : (rows : List Record) (path text : List ℕ) (own : List RevRecord) (row : Option (Bor RevRecord)) → text ≡ printed path → IfSome row (λ r. r.now.path ≡ text)
+    → IfSome row (λ r. Contains own r.now) → All (IsHead rows) own → (r : RevRecord) → option_copied row ≡ Some r → IsNewest rows path r
+newest_is rows path text own None prints is among heads r e = absurd cc
+newest_is rows path text own (Some row) prints is among heads r e =
+    let same : row.now ≡ r = cc in
+    let head : IsHead rows r = subst (IsHead rows) same (All-contains (IsHead rows) own row.now heads among) in
+    record { path_is = ap (λ (x : RevRecord). x.path) (sym same) ∙ is ∙ prints; here = head.0; last = head.1 }
 
 module _ (d : List Deed) (path : List ℕ) (own : path_of (printed path) ≡ Ok path) (rows : List Record)
     (has : (k : Key) → key_table k ≡ tables.Rev → unplaced_at rows k ≡ record_of d k) where
@@ -75,14 +80,11 @@ module _ (d : List Deed) (path : List ℕ) (own : path_of (printed path) ≡ Ok 
     live_as =
         ap is_live_row (sym at_path) ∙ live_read r.rev (revision d path r.rev) (row_at (with_rev key r.rev) rows) (probed d path own key 0 refl version rows refl has r.rev)
 
-  pub rev_read : (row : Record) → IsHeadOf rows (printed path) row → (newest : Revision) → Tells row newest → IsSound d → newest.rev ≡ head d path
-  rev_read (Rev r) found newest tells sound = tells.rev ∙ number_is r (same-is r.path (printed path) found.1) found.0.0 found.0.1 sound
-  rev_read _ found newest tells sound = absurd (false≢true found.1)
+  pub rev_read : (r : RevRecord) → IsNewest rows path r → (newest : Revision) → Tells r newest → IsSound d → newest.rev ≡ head d path
+  rev_read r is newest tells sound = tells.rev ∙ number_is r is.path_is is.here is.last sound
 
-  pub live_is : (row : Record) → IsHeadOf rows (printed path) row → (newest : Revision) → Tells row newest → newest.live ≡ is_live_at d path newest.rev
-  live_is (Rev r) found newest tells =
-      tells.live ∙ live_as r (same-is r.path (printed path) found.1) found.0.0 found.0.1 ∙ ap (is_live_at d path) (sym tells.rev)
-  live_is _ found newest tells = absurd (false≢true found.1)
+  pub live_is : (r : RevRecord) → IsNewest rows path r → (newest : Revision) → Tells r newest → newest.live ≡ is_live_at d path newest.rev
+  live_is r is newest tells = tells.live ∙ live_as r is.path_is is.here is.last ∙ ap (is_live_at d path) (sym tells.rev)
 
   -- what the row says is what the model numbers
   pub row_seen : (caller : Caller) (wanted : Wanted) → asks_for_none wanted ≡ true → (r : RevRecord) → IsNewest rows path r → IsSound d

@@ -1,23 +1,18 @@
 -- The newest revision of a file, by its row. This project's own choice.
-use Rattle.std.specs.Prelude.{◌≡◌, ℕ, Bool, true, false}
+use Rattle.std.specs.Prelude.{◌≡◌, Bool, true, false}
 use Rattle.depot_rows.specs.depot_path.declared.revision.Wanted.{Wanted}
 use Rattle.depot_rows.specs.depot_path.declared.revision.Wanted.TheVariants.{Head}
-use Rattle.depot_rows.specs.db_records.declared.record.Record.{Record}
 use Rattle.depot_rows.specs.db_records.declared.record.Record.TheVariants.{Rev}
+use Rattle.depot_rows.specs.db_records.declared.rows.RevRecord.{RevRecord}
 use Rattle.depot_rows.specs.db_records.Record.{is_live}
 use Rattle.named_files.specs.declared.listing.Listing.{Listing}
 use Rattle.named_files.specs.declared.listing.Listing.TheVariants.{Submitted}
 use Rattle.newest_revisions.specs.declared.newest.Revision.{Revision}
 
--- the number of the revision in a row
-abbrev pub rev_in : Record → ℕ
-rev_in (Rev r) = r.rev
-rev_in _ = 0
-
 -- a row is that of the newest revision
-pub record Tells (row : Record) (newest : Revision) : Type 0 where
-  pub rev : newest.rev ≡ rev_in row
-  pub live : newest.live ≡ is_live row
+pub record Tells (row : RevRecord) (newest : Revision) : Type 0 where
+  pub rev : newest.rev ≡ row.rev
+  pub live : newest.live ≡ is_live (Rev row)
 
 -- no revision is asked for
 abbrev pub asks_for_none : Wanted → Bool

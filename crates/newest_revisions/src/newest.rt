@@ -1,6 +1,6 @@
 //! The newest revision of a file, by what was seen as the files were found, or by a search.
 
-ghost use Rattle.std.specs.Prelude.{◌≡◌, ◌&&◌, List, Some, false, true, filter, option_map, IfOk, Ok};
+ghost use Rattle.std.specs.Prelude.{◌≡◌, ◌&&◌, not, bytes_eq, codes, List, Some, false, true, filter, option_map, IfOk, Ok};
 ghost use Rattle.std.specs.Option.{option_copied};
 ghost use Rattle.depot_rows.specs.depot_path.Path.{path_of, printed};
 ghost use Rattle.depot_rows.specs.db_records.declared.key.Key.TheVariants as keys;
@@ -19,14 +19,13 @@ ghost use Rattle.named_files.specs.Listed.{files_of};
 ghost use Rattle.named_files.specs.Sets.{ShownReads};
 ghost use Rattle.revision_reads.specs.Choice.{HaveRows, wanted_tables};
 ghost use Rattle.revision_reads.specs.History.{numbered_record, seen};
-ghost use Rattle.revision_reads.specs.Probes.{rev_in as revised_in};
-ghost use Rattle.newest_revisions.specs.Heads.{AreHeads, IsNewest};
+ghost use Rattle.newest_revisions.specs.Seen.{AreHeads, IsNewest};
 ghost use Rattle.newest_revisions.specs.Newest.{Tells, asks_for_none as asks_none, is_submitted as submitted_test};
 
-use crate::heads::Heads;
+use crate::seen::SeenRows;
 use depot_rows::model::{Caller, FileArgument};
-use depot_rows::paths::{DepotPath, Sequence, Text, Wanted};
-use depot_rows::records::{Record, RevRecord};
+use depot_rows::paths::{DepotPath, Sequence, Wanted};
+use depot_rows::records::RevRecord;
 use depot_rows::tables::Tables;
 use file_steps::FileSet;
 use named_files::{HeadedFiles, Listing, ShownFiles};
@@ -69,37 +68,21 @@ fn asks_heads(argument: &FileArgument, listing: &Listing) -> bool
     asks_for_none(&argument.spec.wanted) && is_submitted(listing)
 }
 
-/// The text of a path.
-fn text_of(alloc: Global, path: &DepotPath) -> Result<Text, AllocError>
-    ensures text { IfOk result (λ text. text ≡ printed path.now) }
-    ensures read_again { path_of (printed path.now) ≡ Ok path.now }
+/// Whether a revision isn't deleted.
+pub fn is_live(row: &RevRecord) -> bool
+    ensures { result ≡ (not (bytes_eq row.now.action (codes "delete")) && not (bytes_eq row.now.action (codes "move/delete"))) }
 {
-    path.print(alloc)
+    let action = row.action.as_bytes();
+    !(action == b"delete".as_slice()) && !(action == b"move/delete".as_slice())
 }
 
 /// What the row of a newest revision tells.
-fn newest_in(row: &Record) -> Revision
+fn newest_in(row: &RevRecord) -> Revision
     ensures { Tells row.now result }
 {
-    match row {
-        Record::Rev(revision) => Revision {
-            rev: revision.rev,
-            live: row.live(),
-        },
-        _ => Revision {
-            rev: 0,
-            live: false,
-        },
-    }
-}
-
-/// The row of a revision, if it is one.
-fn as_revision(row: &Record) -> Option<&RevRecord>
-    ensures { option_copied result ≡ revised_in row.now }
-{
-    match row {
-        Record::Rev(row) => Some(row),
-        _ => None,
+    Revision {
+        rev: row.rev,
+        live: is_live(row),
     }
 }
 
@@ -117,7 +100,7 @@ fn newest_by_search(
     Ok(Revision { rev, live })
 }
 
-impl<'t> Heads<'t> {
+impl<'t> SeenRows<'t> {
     /// Among the files of a set, in their order, at least those that an argument names. Where it asks for the newest revisions of submitted files, the
     /// walk that finds these passes the rows of the revisions too, and these are kept. The one error, here and below, is want of memory.
     pub fn find(
@@ -153,7 +136,7 @@ impl<'t> Heads<'t> {
         ensures newest { IfOk result (λ newest. (d : List Deed) → AreHeads (rows_of tables.now table_ids.Rev) self.old → IsSound d → HasRows (rows_of tables.now) d table_ids.Rev →
             (newest.rev ≡ head d path.now) × (newest.live ≡ live_at d path.now newest.rev)) }
     {
-        let text = text_of(alloc, path)?;
+        let text = path.print(alloc)?;
         let row = self.go_to(&text);
         drop(text);
         match row {
@@ -179,13 +162,10 @@ impl<'t> Heads<'t> {
         if !asks_for_none(wanted) {
             return Ok(None);
         }
-        let text = text_of(alloc, path)?;
+        let text = path.print(alloc)?;
         let row = self.go_to(&text);
         drop(text);
-        match row {
-            Some(row) => Ok(as_revision(row)),
-            None => Ok(None),
-        }
+        Ok(row)
     }
 
     /// The row of the revision that a file specification chooses of a file, with the place of its content, None exactly where it passes the file over or
@@ -204,6 +184,7 @@ impl<'t> Heads<'t> {
             option_map seen (option_copied row) ≡ option_map numbered_record (numbered d path.now (chosen_in d caller.now path.now wanted.now))) }
         ensures stored { IfOk result (λ row. AreHeads (rows_of tables.now table_ids.Rev) self.old → (r : Revised) → option_copied row ≡ Some r →
             row_in (rows_of tables.now) (keys.Rev (printed path.now) r.rev) ≡ Some (Row.Rev r)) }
+        ensures read_again { IfOk result (λ _. path_of (printed path.now) ≡ Ok path.now) }
     {
         // the bytes of a path are one
         let _bytes = path.as_bytes();

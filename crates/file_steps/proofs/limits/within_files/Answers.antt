@@ -1,6 +1,5 @@
 use Rattle.std.proofs.Common.{List, length, ap, ◌∙◌}
-use Rattle.std.specs.Prelude.{◌∷◌, [], nat_lt}
-use Rattle.depot_rows.specs.depot_model.declared.reply.Row.{Row}
+use Rattle.std.specs.Prelude.{nat_lt}
 use Rattle.depot_rows.specs.declared.deed.Deed.{Deed}
 use Rattle.file_steps.specs.Limits.{files_changed}
 use Rattle.file_steps.proofs.Counting.{kept_within, refused_over}

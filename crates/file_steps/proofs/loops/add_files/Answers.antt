@@ -24,7 +24,7 @@ loop-rest-preserved g c =
           let act = acts d argument in
           let taken = λ (p : List ℕ). list_any (λ a. g.S.FileSet.names set d a p) c.args.earlier.now in (
             both now.0 (if taken path then nothing else act path),
-            subst (λ (f : List Deed → FileArgument → List ℕ → ModelStep). Goes (g.A.WalkAct.stands c.add_file.new.act rows d) rows d d (both now.0 (if taken path then nothing else f d argument path)) c.add_file.new.step)
+            subst (λ (f : List Deed → FileArgument → List ℕ → ModelStep). Goes (g.A.WalkAct.stands c.add_file.new.act set argument rows d) rows d d (both now.0 (if taken path then nothing else f d argument path)) c.add_file.new.step)
                 at.invariant.same (c.in_ok-add_file.ensures.step d now.0 reads now.1),
             files_next act taken now.0 path (take (length rest - 1) (drop 1 rest))
                 ∙ ap (λ (x : List (List ℕ)). both now.0 (all_of act (filter (λ p. not (taken p)) x))) (parted rest path c.in-len1-up.len_at_least c.path-item.is) ∙ now.2,

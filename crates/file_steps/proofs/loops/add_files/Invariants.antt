@@ -10,8 +10,8 @@ use Rattle.file_steps.proofs.loops.add_files.Given as goal
 abbrev pub invariant-loop-rest : goal.invariant-loop-rest
 invariant-loop-rest g l =
     record {
-      goes : (d : List Deed) (model : ModelStep) → g.S.FileSet.reads l.set (rows_of l.tables) d → Goes (g.A.WalkAct.stands l.fn.act (rows_of l.tables) d) (rows_of l.tables) d d model l.fn.step
-          → (m : ModelStep) × Goes (g.A.WalkAct.stands l.act (rows_of l.tables) d) (rows_of l.tables) d d m l.step
+      goes : (d : List Deed) (model : ModelStep) → g.S.FileSet.reads l.set (rows_of l.tables) d → Goes (g.A.WalkAct.stands l.fn.act l.set l.argument (rows_of l.tables) d) (rows_of l.tables) d d model l.fn.step
+          → (m : ModelStep) × Goes (g.A.WalkAct.stands l.act l.set l.argument (rows_of l.tables) d) (rows_of l.tables) d d m l.step
           × (both m (all_of (g.A.WalkAct.acts l.fn.act d l.argument) (filter (λ path. not (list_any (λ a. g.S.FileSet.names l.set d a path) l.earlier)) l.rest))
           ≡ both model (all_of (g.A.WalkAct.acts l.fn.act d l.argument) (filter (λ path. not (list_any (λ a. g.S.FileSet.names l.set d a path) l.earlier)) l.paths)));
       same : g.A.WalkAct.acts l.act ≡ g.A.WalkAct.acts l.fn.act;

@@ -9,9 +9,10 @@ use Rattle.file_steps.proofs.loops.walk_over.Goals as goal
 
 pub loop-i-init : goal.loop-i-init
 loop-i-init g c = record {
-  goes = λ d reads stands. (
+  goes = λ before d reads stands. (
     nothing,
-    goes_from (g.A.WalkAct.stands c.args.act.now (rows_of c.args.tables.now) d) (rows_of c.args.tables.now) d d c.new-step.result c.new-step.ensures stands,
+    before,
+    goes_from (g.A.WalkAct.stands c.args.act.now c.args.set.now before (rows_of c.args.tables.now) d) (rows_of c.args.tables.now) d d c.new-step.result c.new-step.ensures stands,
     refl,
   );
   same = refl;
@@ -27,14 +28,15 @@ loop-i-preserved g c =
     let arguments = c.args.arguments.now in
     let argument = c.index-arguments-i.result in
     record {
-      goes = λ d reads stands.
-          let now = at.invariant.goes d reads stands in
+      goes = λ before d reads stands.
+          let now = at.invariant.goes before d reads stands in
           let names = g.S.FileSet.names set d in
           let files = g.S.FileSet.files set d in (
             both now.0 (done_for names files missing (acts d) (take at.i arguments) argument),
-            subst (λ (f : List Deed → FileArgument → List ℕ → ModelStep). Goes (g.A.WalkAct.stands c.add_argument.new.act rows d) rows d d (both now.0 (done_for names files missing (f d) (take at.i arguments) argument)) c.add_argument.new.step)
-                at.invariant.same (c.in_ok-add_argument.ensures.step d now.0 reads now.1),
-            over_on names files missing (acts d) now.0 arguments at.i argument c.loop-i-test.true c.index-arguments-i.is ∙ now.2,
+            argument,
+            subst (λ (f : List Deed → FileArgument → List ℕ → ModelStep). Goes (g.A.WalkAct.stands c.add_argument.new.act set argument rows d) rows d d (both now.0 (done_for names files missing (f d) (take at.i arguments) argument)) c.add_argument.new.step)
+                at.invariant.same (c.in_ok-add_argument.ensures.step now.1 d now.0 reads now.2),
+            over_on names files missing (acts d) now.0 arguments at.i argument c.loop-i-test.true c.index-arguments-i.is ∙ now.3,
           );
       same = c.in_ok-add_argument.ensures.same ∙ at.invariant.same;
     }

@@ -6,7 +6,7 @@ use Rattle.have_sync.proofs.newest.places_of.Goals as goal
 
 pub returns : goal.returns
 returns c = record {
-  heads = c.none-heads.ensures (rows_of c.args.tables.now tables.Rev);
+  heads = c.none-heads.ensures.heads (rows_of c.args.tables.now tables.Rev);
   haves = c.before-haves.ensures.place;
   haves_are = ap (λ v. v.now.rows) c.before-haves.ensures.version ∙ ap (λ (v : TableRows). v.rows) c.version-lists.ensures.rows;
 }

@@ -1,7 +1,7 @@
 use Rattle.std.proofs.Common.{ℕ, List, sym, ap, subst, ◌∙◌}
 use Rattle.std.specs.Prelude.{filter}
 use Rattle.std.specs.List.{All}
-use Rattle.depot_rows.specs.db_records.declared.record.Record.{Record}
+use Rattle.depot_rows.specs.db_records.declared.rows.RevRecord.{RevRecord}
 use Rattle.depot_rows.specs.table_changes.Changed.{rows_of}
 use Rattle.named_files.specs.Beginnings.{has_one, in_turn}
 use Rattle.named_files.specs.HeadRows.{IsHead, heads_in_turn}
@@ -26,5 +26,5 @@ pub returns-clause-heads : goal.returns-clause-heads
 returns-clause-heads c =
     let listing = c.args.listing.now in
     let rows = rows_of c.args.tables.now (listing_table listing) in
-    subst (λ (heads : List Record). All (IsHead rows) heads) (sym (c.in_ok-found.ensures.heads ∙ ap (heads_in_turn listing rows) c.as_slice.ensures))
+    subst (λ (heads : List RevRecord). All (IsHead rows) heads) (sym (c.in_ok-found.ensures.heads ∙ ap (heads_in_turn listing rows) c.as_slice.ensures))
     (c.last_rows_are_heads.ensures c.in_ok-beginnings.beginnings)

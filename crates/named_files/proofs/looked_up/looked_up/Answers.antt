@@ -16,4 +16,4 @@ returns c = λ test passes.
     (listed_rows_rise listing version.result.now rows
     (ap (λ (v : TableRows). v.rows) (version.ensures.rows ∙ ap (version_of c.args.tables.now) c.table.ensures)) (version.ensures.table ∙ c.table.ensures) table.of_table
     table.rising)
-    c.in_ok-paths.ensures.exactly (λ file is e. c.in_ok-files.ensures file is (passes file e))
+    (λ file is. c.in_ok-paths.ensures.exactly file) (λ file is e. c.in_ok-files.ensures file is (passes file e))

@@ -15,7 +15,7 @@ use Rattle.label_ops.specs.Tagged.{asked, rev_by}
 use Rattle.label_ops.proofs.taking.TakingFilesWalkActShownFiles.act.Goals as goal
 
 pub returns-in_ok-step-clause-step : goal.returns-in_ok-step-clause-step
-returns-in_ok-step-clause-step c = λ d e stands.
+returns-in_ok-step-clause-step c = λ set d e stands.
     let own = c.args.self.now.taking in
     let caller = own.caller.now in
     let label = own.label.now in
@@ -28,7 +28,7 @@ returns-in_ok-step-clause-step c = λ d e stands.
     (c.in_ok-step.ensures.step d e stands.0 stands.1)
 
 pub returns-in_ok-step-2-clause-step : goal.returns-in_ok-step-2-clause-step
-returns-in_ok-step-2-clause-step c = λ d e stands.
+returns-in_ok-step-2-clause-step c = λ set d e stands.
     let own = c.args.self.now.taking in
     let caller = own.caller.now in
     let label = own.label.now in
@@ -41,10 +41,10 @@ returns-in_ok-step-2-clause-step c = λ d e stands.
     (made_refusal rows d e (Denied (printed path) 3) c.in_ok-row.row c.in_ok-step-2.step c.in_ok-row.ensures c.in_ok-step-2.ensures)
 
 pub returns-in_ok-step-clause-comes : goal.returns-in_ok-step-clause-comes
-returns-in_ok-step-clause-comes c = λ d e stands. (stands.0, c.in_ok-step.ensures.heads (rows_of c.args.tables.now tables.Rev) stands.1)
+returns-in_ok-step-clause-comes c = λ set d e stands. (stands.0, c.in_ok-step.ensures.heads (rows_of c.args.tables.now tables.Rev) stands.1)
 
 pub returns-in_ok-step-2-clause-comes : goal.returns-in_ok-step-2-clause-comes
-returns-in_ok-step-2-clause-comes c = λ d e stands. stands
+returns-in_ok-step-2-clause-comes c = λ set d e stands. stands
 
 pub returns-in_ok-step-clause-same : goal.returns-in_ok-step-clause-same
 returns-in_ok-step-clause-same c = refl

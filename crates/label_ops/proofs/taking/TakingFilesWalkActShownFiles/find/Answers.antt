@@ -1,4 +1,8 @@
+use Rattle.std.proofs.Common.{◌∙◌}
 use Rattle.label_ops.proofs.taking.TakingFilesWalkActShownFiles.find.Goals as goal
 
+pub returns-clause-paths : goal.returns-clause-paths
+returns-clause-paths c = λ d reads. c.in_ok-named.ensures d reads ∙ c.in_ok-candidates.ensures.paths d reads
+
 pub returns-clause-comes : goal.returns-clause-comes
-returns-clause-comes c = λ d e stands. (stands.0, c.in_ok-paths.ensures.heads stands.1)
+returns-clause-comes c = λ before d e stands. (stands.0, c.in_ok-candidates.ensures.heads stands.1)
