@@ -196,6 +196,14 @@ window_halts_case size bytes part left (Wrong q m) e d =
 window_halts : (size : ℕ) (bytes : List ℕ) (part : Part) (left : ℕ) → window_at size bytes ≡ Wrong part left → WindowHalts size bytes left
 window_halts size bytes part left e = window_halts_case size bytes part left (record_at (take size bytes)) refl e
 
+-- no record is read of them, whatever follows
+pub window_never : (size : ℕ) (bytes rest : List ℕ) (part : Part) (left : ℕ) (change : Change) (after : List ℕ) → window_at size bytes ≡ Wrong part left → window_at size (bytes ++ rest) ≡ Done change after → ⊥
+window_never size bytes rest part left change after wrong read =
+    let h = window_halts size bytes part left wrong in
+    let whole : bytes ++ rest ≡ (h.front ++ h.bad ∷ []) ++ (h.after ++ rest) = ap (λ (l : List ℕ). l ++ rest) h.parts ∙ append_assoc h.front (h.bad ∷ h.after) rest ∙ sym (append_assoc h.front (h.bad ∷ []) (h.after ++ rest)) in
+    let again = h.wrong (h.after ++ rest) in
+    no_done_wrong change after again.0 again.1.0 (sym read ∙ ap (window_at size) whole ∙ again.1.1)
+
 -- ---- the records of a group
 
 body_cons : (change : Change) (changes : List Change) (rest : List ℕ) → body_of (change ∷ changes) ++ rest ≡ change_text change ++ (body_of changes ++ rest)

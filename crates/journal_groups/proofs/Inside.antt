@@ -57,7 +57,7 @@ inside_word word bytes false n = inside_tested _ bytes (leb (length bytes) n) n
 inside_exactly : (word bytes : List ℕ) → Inside bytes (exactly word bytes)
 inside_exactly word bytes = inside_word word bytes (starts_with nat_eq bytes word) (greater (common word bytes) 0)
 
-inside_head : (number : ℕ) (bytes : List ℕ) → Inside bytes (head_at number bytes)
+pub inside_head : (number : ℕ) (bytes : List ℕ) → Inside bytes (head_at number bytes)
 inside_head number bytes =
     inside_then bytes (exactly (codes "@nx@ ") bytes) _ (inside_exactly (codes "@nx@ ") bytes)
     (λ _ rest1. inside_then rest1 (exactly (decimal number) rest1) _ (inside_exactly (decimal number) rest1)
@@ -73,7 +73,7 @@ inside_window_read size bytes (Wrong part left) i =
     let l : length bytes ≡ length (take size bytes) + length (drop size bytes) = ap length (sym (take-append-drop size bytes)) ∙ length-append (take size bytes) (drop size bytes) in
     omega arith
 
-inside_window : (size : ℕ) (bytes : List ℕ) → Inside bytes (window_at size bytes)
+pub inside_window : (size : ℕ) (bytes : List ℕ) → Inside bytes (window_at size bytes)
 inside_window size bytes = inside_window_read size bytes (record_at (take size bytes)) (inside_read record_at _ _ (take size bytes) (record_at (take size bytes)) record_reads refl)
 
 inside_done : {A : Type 0} (a : A) (bytes : List ℕ) → Inside bytes (let r : Reading A = Done a bytes in r)

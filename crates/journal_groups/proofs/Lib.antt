@@ -9,3 +9,4 @@ pub mod Halts
 pub mod Causes
 pub mod Records
 pub mod Clauses
+pub mod Taken

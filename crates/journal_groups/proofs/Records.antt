@@ -33,7 +33,7 @@ fails_never faults.Cut P r a rest e is = absurd (no_ends a rest (sym is ∙ e))
 fails_never (faults.Wrong part left) P r a rest e is = absurd (no_wrong a rest part left (sym is ∙ e))
 
 -- no record stands there
-abbrev NoRecord : ℕ → List ℕ → Type 0
+abbrev pub NoRecord : ℕ → List ℕ → Type 0
 NoRecord size bytes = (change : Change) (rest : List ℕ) → window_at size bytes ≡ Done change rest → ⊥
 
 never_read : (fault : RecordFault) (P : Type 0) (size : ℕ) (bytes : List ℕ) → Fails fault (window_at size bytes) → (NoRecord size bytes → P) → IfOfBytes fault P
@@ -42,7 +42,7 @@ never_read faults.Cut P size bytes e leads = leads (λ change rest is. no_ends c
 never_read (faults.Wrong part left) P size bytes e leads = leads (λ change rest is. no_wrong change rest part left (sym is ∙ e))
 
 -- records of one text are those of the other, as far as they go
-same_first : (xs ys : List Change) (size left : ℕ) (rest after : List ℕ) → AreRecords xs → AreRecords ys → size ≡ length (body_of xs) + left → length (body_of ys) ≤ size → body_of xs ++ rest ≡ body_of ys ++ after → NoRecord left rest → (behind : List Change) × (xs ≡ ys ++ behind)
+pub same_first : (xs ys : List Change) (size left : ℕ) (rest after : List ℕ) → AreRecords xs → AreRecords ys → size ≡ length (body_of xs) + left → length (body_of ys) ≤ size → body_of xs ++ rest ≡ body_of ys ++ after → NoRecord left rest → (behind : List Change) × (xs ≡ ys ++ behind)
 same_first xs [] size left rest after are other is le e none = (xs, refl)
 same_first [] (y ∷ ys) size left rest after are other is le e none =
     let short : length (change_text y) ≤ left = omega (arith, is, le, length_cons y ys) in

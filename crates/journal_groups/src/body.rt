@@ -34,7 +34,11 @@ fn window_of(size: u64, bytes: &[u8]) -> &[u8]
 }
 
 /// The record at the front and its length, with so many bytes of the group still to come.
-fn change_of(alloc: Global, size: u64, bytes: &[u8]) -> Result<(Change, usize), RecordFault>
+pub(crate) fn change_of(
+    alloc: Global,
+    size: u64,
+    bytes: &[u8],
+) -> Result<(Change, usize), RecordFault>
     ensures exact { Gives (λ x. x.0) (λ x. drop x.1 bytes.now) result (window_at size bytes.now) }
     ensures within { IfOk result (λ x. (x.1 ≤ length bytes.now) × (x.1 ≤ size) × (0 < x.1)) }
 {

@@ -1,14 +1,15 @@
 //! The groups of a journal's text one after another, from bytes that come in pieces.
 
-ghost use Rattle.std.specs.Prelude.{◌≡◌, ◌≢◌, ◌++◌, ◌+◌, ◌-◌, ◌<◌, ◌≤◌, ◌^◌, ℕ, List, length, [], Ok, Some, None, IfOk, OnOk, OnErr};
+ghost use Rattle.std.specs.Prelude.{◌≡◌, ◌≢◌, ◌++◌, ◌+◌, ◌-◌, ◌<◌, ◌≤◌, ◌^◌, ℕ, List, length, drop, [], Ok, Some, None, IfOk, OnOk, OnErr};
 ghost use Rattle.std.specs.Result.{IfErr};
 ghost use Rattle.db_records.specs.declared.change.Change.{Change};
-ghost use Rattle.journal_groups.specs.Reading.{placed, IsWithin};
+ghost use Rattle.journal_groups.specs.Reading.{head_at, placed, window_at, FailsAt, IsWithin};
 ghost use Rattle.journal_groups.specs.Groups.{IsGroup, group_text, mark, open_byte};
 ghost use Rattle.journal_groups.specs.Causes.{GoesOn, StopsAt, IsAnswer, IsShort, IfShort, IfBad};
+ghost use Rattle.journal_groups.specs.Taken.{HasTakenHead, HasTakenRecord};
 ghost use Rattle.journal_groups.specs.Reader.{State, IsNext, IsLeft, HasBody, HasBegun, HasTaken, HasRecords, IfOfText};
 
-use crate::body::Body;
+use crate::body::{Body, change_of};
 use crate::fault::GroupFault;
 use crate::group::fault_at;
 use crate::mark::{head_of, mark_of};
@@ -34,6 +35,7 @@ pub struct GroupReader {
 
 impl Model for GroupReader {
     ghost use Rattle.std.specs.Prelude.{◌+◌, ◌<◌, ◌≤◌, ◌^◌, length, drop};
+    ghost use Rattle.journal_groups.specs.Taken.{HasTakenHead, HasTakenRecord};
     ghost use Rattle.journal_groups.specs.Reader.{State, IsBegun, records_of, read_of};
 
     ghost Value = { State };
@@ -149,6 +151,17 @@ impl GroupReader {
         fault_at(self.at, self.left().len(), fault)
     }
 
+    /// Goes so many bytes on, and lets go of what was read of the next group.
+    fn pass(&mut self, length: usize)
+        requires { length ≤ Rattle.std.specs.Prelude.length self.old.left }
+        ensures { self.new ≡ record self.old { left = drop length self.old.left; at = self.old.at + length; records = []; reached = self.old.at + length } }
+    {
+        prove!(length <= self.bytes.len() - self.taken);
+        self.body = None;
+        self.taken += length;
+        self.at += length as u64;
+    }
+
     /// Reads the rest of the next group.
     fn finish(&mut self, alloc: Global, part: Body) -> Result<Option<Sequence<Change>>, GroupFault>
         requires { HasBody self.old.number self.old.left part }
@@ -205,6 +218,44 @@ impl GroupReader {
         ensures bad { IfBad result (λ place. StopsAt self.old.number self.old.left (self.old.at + length self.old.left - place)) }
     {
         self.advance(alloc)
+    }
+
+    /// Takes the head of a group from the front, where no mark stands before it, and answers how many bytes its
+    /// records have.
+    ///
+    /// It is for who takes the records one after another, by [`GroupReader::take_record`], so that they aren't all
+    /// held. What was read of the next group is let go. After an error the same bytes are left.
+    pub fn take_head(&mut self) -> Result<u64, GroupFault>
+        ensures taken { IfOk result (HasTakenHead self.old self.new) }
+        ensures kept { OnErr result (IsLeft self.old self.new) }
+        ensures failed { IfErr result (λ fault. FailsAt self.old.at self.old.left fault (head_at self.old.number self.old.left)) }
+    {
+        match head_of(self.number, self.left()) {
+            Ok((size, rest)) => {
+                let length = self.left().len() - rest.len();
+                self.pass(length);
+                Ok(size)
+            }
+            Err(fault) => Err(self.fault(fault)),
+        }
+    }
+
+    /// Takes the record at the front of a group of which so many bytes are to come, and answers how many of them are
+    /// behind it.
+    ///
+    /// What was read of the next group is let go. After an error the same bytes are left.
+    pub fn take_record(&mut self, alloc: Global, size: u64) -> Result<(Change, u64), GroupFault>
+        ensures taken { IfOk result (λ x. HasTakenRecord size self.old self.new x.0 x.1) }
+        ensures kept { OnErr result (IsLeft self.old self.new) }
+        ensures failed { IfErr result (λ fault. FailsAt self.old.at self.old.left fault (window_at size self.old.left)) }
+    {
+        match change_of(alloc, size, self.left()) {
+            Ok((change, length)) => {
+                self.pass(length);
+                Ok((change, size - length as u64))
+            }
+            Err(fault) => Err(self.fault(fault)),
+        }
     }
 }
 

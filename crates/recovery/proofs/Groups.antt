@@ -1,5 +1,5 @@
 -- The groups at the front of a text, and the text behind them.
-use Rattle.std.proofs.Common.{◌≡◌, ◌≢◌, inl, inr, ℕ, suc, ◌+◌, ◌<◌, ◌^◌, List, [], ◌∷◌, ◌++◌, length, Option, Some, None, refl, sym, ◌∙◌, ap, subst, arith, append_assoc}
+use Rattle.std.proofs.Common.{◌≡◌, ◌≢◌, inl, inr, ℕ, suc, ◌+◌, ◌<◌, ◌^◌, List, [], ◌∷◌, ◌++◌, length, Option, Some, refl, sym, ◌∙◌, ap, subst, arith, append_assoc}
 use Rattle.std.specs.List.{AllByRecursion}
 use Rattle.depot_rows.specs.db_records.declared.change.Change.{Change}
 use Rattle.record_text.specs.Reading.{Done, Ends}
@@ -9,7 +9,7 @@ use Rattle.journal_groups.specs.Committed.{HasGroups}
 use Rattle.journal_groups.specs.Causes.{BeginsWanted, closed, group}
 use Rattle.journal_groups.proofs.Texts.{next_group, next_ends}
 use Rattle.journal_groups.proofs.Causes.{goes_next}
-use Rattle.recovery.specs.Pieces.{IsFirst, IsUnreadable}
+use Rattle.recovery.specs.Pieces.{IsUnreadable}
 
 -- the groups of a text go on behind those at its front
 abbrev pub GoOn : ℕ → List ℕ → List (List Change) → List (List Change) → Type 0
@@ -74,16 +74,3 @@ one_group number text a b changes others is_group are_others one two =
   where
     same : {x y : List Change} {xs ys : List ℕ} → Done (Some x) xs ≡ Done (Some y) ys → x ≡ y
     same e = cc
-
--- behind an open mark stands a group
-pub first_group : (number : ℕ) (text rest : List ℕ) (changes : List Change) → IsFirst number (mark open_byte ++ text) rest (Some changes) → text ≡ group_text number changes ++ rest
-first_group number text rest changes first = behind_mark first.1
-  where
-    behind_mark : {xs ys : List ℕ} → mark open_byte ++ xs ≡ mark open_byte ++ ys → xs ≡ ys
-    behind_mark e = cc
-
-pub never_closed : (number : ℕ) (text rest : List ℕ) → IsFirst number (mark open_byte ++ text) rest None → ⊥
-never_closed number text rest first = first.1.1.1.0 (sym (other first.1.1.1.1))
-  where
-    other : {a b : ℕ} {xs ys : List ℕ} → 64 ∷ a ∷ xs ≡ 64 ∷ b ∷ ys → a ≡ b
-    other e = cc

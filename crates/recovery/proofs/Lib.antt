@@ -10,8 +10,9 @@ pub mod Stopped
 pub mod GroupDamage
 pub mod OnePut
 pub mod PutsFit
+pub mod CheckpointDamage
+pub mod Taken
 pub mod PassedOn
-pub mod Checkpoint
 pub mod Journals
 pub mod Held
 pub mod Looks

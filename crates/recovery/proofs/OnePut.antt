@@ -1,8 +1,7 @@
 -- One put more.
-use Rattle.std.proofs.Common.{◌≡◌, ◌↔◌, ℕ, zero, suc, ◌+◌, ◌-◌, ◌<◌, Bool, IsTrue, List, [], ◌∷◌, ◌++◌, length, take, drop, get_or, refl, sym, ap, ◌∙◌, subst, arith}
+use Rattle.std.proofs.Common.{◌≡◌, ◌↔◌, ℕ, zero, suc, ◌-◌, ◌<◌, Bool, IsTrue, List, [], ◌∷◌, ◌++◌, length, Some, get_or, refl, sym, ap, ◌∙◌, subst, arith, length-append}
 use Rattle.std.specs.List.{AllByRecursion}
 use Rattle.std.specs.Ordering.{is_lt}
-use Rattle.std.proofs.lemmas.List.{take_more, take-append-drop}
 use Rattle.depot_rows.specs.db_records.declared.change.Change.{Change}
 use Rattle.depot_rows.specs.db_records.declared.change.Op.TheVariants.{Put}
 use Rattle.depot_rows.specs.db_records.declared.record.Record.{Record}
@@ -11,6 +10,7 @@ use Rattle.depot_rows.specs.db_records.Record.{key_of}
 use Rattle.depot_rows.specs.table_store.Rows.{AllBelow, IsRising}
 use Rattle.row_order.proofs.Order.{turned_less, AllAbove-append, before_row, IsRising-left, below_where_last_is}
 use Rattle.recovery.specs.Holding.{ArePuts, rows_put}
+use Rattle.recovery.specs.Reading.{IsLastOf}
 
 rising_more : (rows : List Record) (row : Record) → IsRising rows → AllBelow (key_of row) rows → IsRising (rows ++ row ∷ [])
 rising_more [] row up below = (tt, tt)
@@ -52,9 +52,6 @@ below_last changes last change some is are =
     below_where_last_is (key_of change.row) (rows_put changes) last.row (omega (arith, some, length_rows changes))
     (ap (λ (c : Change). c.row) is ∙ sym (row_of changes (length changes - 1) last) ∙ ap (λ (n : ℕ). get_or (rows_put changes) (n - 1) last.row) (sym (length_rows changes))) are.rising
 
-pub puts_at : (changes : List Change) (i : ℕ) (change : Change) → i < length changes → change ≡ get_or changes i change → take (i + 1) changes ≡ take i changes ++ change ∷ []
-puts_at changes i change within is = take_more changes i change within ∙ ap (λ (c : Change). take i changes ++ c ∷ []) (sym is)
-
 pub follows_last : (changes : List Change) (last change : Change) (r : Bool) → 0 < length changes → last ≡ get_or changes (length changes - 1) last → ArePuts changes → change.op ≡ Put → r ≡ is_lt (key_cmp (key_of last.row) (key_of change.row))
     → (IsTrue r → ArePuts (changes ++ change ∷ [])) × (ArePuts (changes ++ change ∷ []) → IsTrue r)
 follows_last changes last change r some is are put test =
@@ -73,5 +70,15 @@ rows_joined (x ∷ xs) ys = ap (λ (l : List Record). x.row ∷ l) (rows_joined 
 pub puts_first : (xs ys : List Change) → ArePuts (xs ++ ys) → ArePuts xs
 puts_first xs ys are = record { all_put = puts_left xs ys are.all_put; rising = IsRising-left (rows_put xs) (rows_put ys) (subst IsRising (rows_joined xs ys) are.rising) }
 
-pub puts_front : (n : ℕ) (changes : List Change) → ArePuts changes → ArePuts (take n changes)
-puts_front n changes are = puts_first (take n changes) (drop n changes) (subst ArePuts (sym (take-append-drop n changes)) are)
+at_end : (front : List Change) (last other : Change) → get_or (front ++ last ∷ []) (length front) other ≡ last
+at_end [] last other = refl
+at_end (c ∷ front) last other = at_end front last other
+
+-- whether a change puts a row above the last of some puts
+pub follows_some : (puts : List Change) (last change : Change) (r : Bool) → ArePuts puts → IsLastOf puts (Some last) → change.op ≡ Put → r ≡ is_lt (key_cmp (key_of last.row) (key_of change.row)) → IsTrue r ↔ ArePuts (puts ++ change ∷ [])
+follows_some puts last change r are last_is put test =
+    let front = last_is.0 in
+    let all : puts ≡ front ++ last ∷ [] = last_is.1 in
+    let n : length puts - 1 ≡ length front = omega (arith, ap length all, length-append front (last ∷ [])) in
+    let at : last ≡ get_or puts (length puts - 1) last = sym (ap (λ (l : List Change). get_or l (length puts - 1) last) all ∙ ap (λ (k : ℕ). get_or (front ++ last ∷ []) k last) n ∙ at_end front last last) in
+    follows_last puts last change r (omega (arith, ap length all, length-append front (last ∷ []))) at are put test

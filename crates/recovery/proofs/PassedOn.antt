@@ -1,9 +1,12 @@
 -- Faults that are passed on, and those that say nothing.
-use Rattle.std.proofs.Common.{◌≡◌, ◌≢◌, ℕ, Result, Ok, Err, sym, subst}
+use Rattle.std.proofs.Common.{◌≡◌, ◌≢◌, ℕ, Result, Ok, Err, sym, subst, ◌∙◌}
 use Rattle.std.specs.Result.{IfErr, IsErrAnd}
+use Rattle.archive_file.specs.Archive.{RisesForFaults}
+use Rattle.archive_file.specs.declared.archive.ContentFault.{ContentFault}
+use Rattle.archive_file.specs.declared.archive.ContentFault.TheVariants as content_faults
 use Rattle.recovery.specs.declared.fault.OpenFault.{OpenFault}
 use Rattle.recovery.specs.declared.fault.OpenFault.TheVariants.{Unmade, Damaged, DiskFault, Memory}
-use Rattle.recovery.specs.Faults.{SaysNothing, IfDamaged, IsUnmadeOrSaysNothing}
+use Rattle.recovery.specs.Faults.{SaysNothing, IfDamaged, IsOfFile, IsUnmadeOrSaysNothing, UnlessFault, unread_as}
 
 -- what holds of a fault holds where it is passed on
 pub passed_on : {X : Type 0} (r : Result X OpenFault) (fault : OpenFault) (P : OpenFault → Type 0) → IsErrAnd r (λ y. y ≡ fault) → P fault → IfErr r P
@@ -47,3 +50,35 @@ nothing_damaged {X} (Err y) fault P is says = subst (λ (f : OpenFault). IfDamag
 pub no_fault_but : {X : Type 0} (r : Result X OpenFault) (P : Type 0) → IsErrAnd r (λ y. y ≡ DiskFault) → IfErr r (λ fault. fault ≢ DiskFault → P)
 no_fault_but (Ok x) P is = tt
 no_fault_but (Err y) P is = λ other. absurd (other is)
+
+-- ---- unless a disk has failed
+
+pub unless_failed : {X : Type 0} (r : Result X OpenFault) (P : Type 0) → IsErrAnd r (λ y. y ≡ DiskFault) → UnlessFault r P
+unless_failed (Ok x) P is = absurd is
+unless_failed (Err y) P is = λ other. absurd (other is)
+
+pub unless_passed : {X : Type 0} (r : Result X OpenFault) (fault : OpenFault) (P : Type 0) → IsErrAnd r (λ y. y ≡ fault) → (fault ≢ DiskFault → P) → UnlessFault r P
+unless_passed (Ok x) fault P is holds = absurd is
+unless_passed (Err y) fault P is holds = λ other. holds (λ failed. other (is ∙ failed))
+
+pub unless_anyway : {X : Type 0} (r : Result X OpenFault) (P : Type 0) → P → UnlessFault r P
+unless_anyway (Ok x) P holds = holds
+unless_anyway (Err y) P holds = λ other. holds
+
+-- the same of a content
+pub unless_read : (T : Type 0) {X : Type 0} (r : Result X OpenFault) (content : ContentFault) (before now : ℕ) → IsErrAnd r (λ y. y ≡ unread_as content) → RisesForFaults {T = T} before now (Err content) → UnlessFault r (now ≡ before)
+unless_read T (Ok x) content before now is rises = absurd is
+unless_read T (Err y) content_faults.DiskFault before now is rises = λ other. absurd (other is)
+unless_read T (Err y) content_faults.Memory before now is rises = λ other. rises
+
+pub unless_weaker : {X : Type 0} (r : Result X OpenFault) (P Q : Type 0) → (P → Q) → UnlessFault r P → UnlessFault r Q
+unless_weaker (Ok x) P Q leads holds = leads holds
+unless_weaker (Err y) P Q leads holds = λ other. leads (holds other)
+
+-- where no damage can be told, what is told says nothing
+pub undamaged : {X : Type 0} (r : Result X OpenFault) (file : ℕ) (P : ℕ → Type 0) → IfErr r (IsOfFile file) → IfDamaged r P → ((place : ℕ) → P place → ⊥) → IfErr r SaysNothing
+undamaged (Ok x) file P of damaged never = tt
+undamaged (Err Unmade) file P of damaged never = absurd of
+undamaged (Err (Damaged disk found place)) file P of damaged never = absurd (never place damaged)
+undamaged (Err DiskFault) file P of damaged never = tt
+undamaged (Err Memory) file P of damaged never = tt

@@ -1,5 +1,5 @@
 -- What the faults of opening say.
-use Rattle.std.specs.Prelude.{◌≡◌, ℕ, Result, Ok, Err}
+use Rattle.std.specs.Prelude.{◌≡◌, ◌≢◌, ℕ, Result, Ok, Err}
 use Rattle.archive_file.specs.declared.archive.ContentFault.{ContentFault}
 use Rattle.archive_file.specs.declared.archive.ContentFault.TheVariants as content_faults
 use Rattle.recovery.specs.declared.fault.DepotDisk.{DepotDisk}
@@ -52,3 +52,8 @@ abbrev pub IsUnmadeOrSaysNothing : {X : Type 0} → Result X OpenFault → Type 
 IsUnmadeOrSaysNothing (Ok x) = ⊥
 IsUnmadeOrSaysNothing (Err Unmade) = Unit {0}
 IsUnmadeOrSaysNothing (Err fault) = SaysNothing fault
+
+-- unless the answer is that a disk has failed
+abbrev pub UnlessFault : {X : Type 0} → Result X OpenFault → Type 0 → Type 0
+UnlessFault (Ok x) P = P
+UnlessFault (Err fault) P = fault ≢ DiskFault → P

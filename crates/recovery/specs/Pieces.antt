@@ -3,6 +3,9 @@ use Rattle.std.specs.Prelude.{◌≡◌, ◌≢◌, ◌⊎◌, ℕ, ◌+◌, ◌
 use Rattle.outside_api.specs.Disk.{Files}
 use Rattle.depot_rows.specs.db_records.declared.change.Change.{Change}
 use Rattle.journal_groups.specs.Groups.{IsGroup, body_of, group_text, mark, open_byte}
+use Rattle.record_text.specs.Reading.{Reading}
+use Rattle.journal_groups.specs.declared.fault.GroupFault.TheVariants.{BadGroup, Short}
+use Rattle.journal_groups.specs.Reading.{FailsAt}
 use Rattle.journal_groups.specs.Causes.{GoesOn, StopsAt}
 use Rattle.journal_groups.specs.Reader.{State, BeginsAt, HasRecords}
 use Rattle.recovery.specs.declared.pieces.FileGroups.{FileGroups}
@@ -65,3 +68,11 @@ AreAllGood good begins = (changes : List Change) (end : ℕ) → begins changes 
 abbrev pub IsTextDamage : (List Change → Type 0) → ℕ → ℕ → List ℕ → ℕ → Type 0
 IsTextDamage good number at text place =
     IsBadRecord good (BeginsAt number at text) place ⊎ (AreAllGood good (BeginsAt number at text) × IsUnreadable number at text place)
+
+-- Of a text that begins at a place some bytes were read, from which no reading comes: at the one place stands the first byte that can't go on;
+-- or they are all of the text, and end there too early.
+pub record IsStop {A : Type 0} (at : ℕ) (text : List ℕ) (read : List ℕ → Reading A) (place : ℕ) : Type 0 where
+  pub left : List ℕ
+  pub rest : List ℕ
+  pub parts : text ≡ left ++ rest
+  pub stops : FailsAt at left (BadGroup place) (read left) ⊎ (FailsAt at left (Short place) (read left) × (length rest ≡ 0))

@@ -1,12 +1,13 @@
 -- What was read of the files of a generation, whether the disk tells what its files are or not.
-use Rattle.std.specs.Prelude.{◌≡◌, ◌<◌, ◌≤◌, ◌+◌, ◌*◌, ◌^◌, ℕ, List, ◌++◌, length}
+use Rattle.std.specs.Prelude.{◌≡◌, ◌<◌, ◌≤◌, ◌+◌, ◌*◌, ◌^◌, ℕ, List, [], ◌∷◌, ◌++◌, length, Option, Some, None}
 use Rattle.std.specs.List.{AllByRecursion}
 use Rattle.outside_api.specs.Disk.{Files}
 use Rattle.depot_rows.specs.db_records.declared.change.Change.{Change}
 use Rattle.disk_journal.specs.Images.{Committed, Begins, IsAtRest}
 use Rattle.disk_journal.specs.Text.{AreGroups, blocks}
 use Rattle.journal_groups.specs.Committed.{HasGroups}
-use Rattle.journal_groups.specs.Groups.{IsGroup, group_text, groups_text}
+use Rattle.record_text.specs.Grammar.{largest_wide}
+use Rattle.journal_groups.specs.Groups.{AreRecords, IsGroup, body_of, group_text, groups_text, head_of}
 use Rattle.depot_rows.specs.table_changes.Changed.{AllRows, AllFitIn, changed_by, no_rows, rows_of}
 use Rattle.recovery.specs.Holding.{ArePuts, HasAllRows, joined}
 use Rattle.recovery.specs.Pieces.{KnowsEnd, text_left}
@@ -26,6 +27,28 @@ pub record HasCheckpoint (seen : Files → Type 0) (generation : ℕ) (rows : Al
   pub is : IsCheckpoint puts
   pub rows_are : rows ≡ changed_by no_rows puts
   pub text : (files : Files) → seen files → Begins (group_text generation puts) (files (2 + 2 * generation))
+
+-- the last of some changes, where there is one
+abbrev pub IsLastOf : List Change → Option Change → Type 0
+IsLastOf changes None = changes ≡ []
+IsLastOf changes (Some last) = (front : List Change) × (changes ≡ front ++ last ∷ [])
+
+-- these puts were made where there were no rows, and this is the last
+pub record HasPut (puts : List Change) (last : Option Change) (rows : AllRows) : Type 0 where
+  pub are_puts : ArePuts puts
+  pub last_is : IsLastOf puts last
+  pub rows_are : rows ≡ changed_by no_rows puts
+
+-- the head of the checkpoint of a generation and records were taken of its file, and so many bytes of records are to come
+pub record HasTaken (seen : Files → Type 0) (generation : ℕ) (groups : FileGroups) (left : ℕ) (records : List Change) : Type 0 where
+  pub size : ℕ
+  pub wide : size ≤ largest_wide
+  pub are_records : AreRecords records
+  pub sizes : size ≡ length (body_of records) + left
+  pub at : groups.reader.at ≡ length (head_of generation size) + length (body_of records)
+  pub front : groups.front ≡ 0
+  pub of_file : groups.file ≡ 2 + 2 * generation
+  pub text : (files : Files) → seen files → KnowsEnd groups files × (files (2 + 2 * generation) ≡ head_of generation size ++ (body_of records ++ text_left groups files))
 
 -- the groups that were read so far, from some rows to others
 pub record SoFar (seen : Files → Type 0) (file count : ℕ) (groups : FileGroups) (old new : AllRows) : Type 0 where

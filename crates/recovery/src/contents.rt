@@ -7,7 +7,7 @@ ghost use Rattle.depot_rows.specs.db_records.declared.table.TableId.TheVariants.
 ghost use Rattle.depot_rows.specs.depot_model.Records.{digest};
 ghost use Rattle.depot_rows.specs.table_changes.Changed.{rows_of};
 ghost use Rattle.recovery.specs.Contents.{HasDigested, IsWhole, AreWhole, IsBadAt, IsSpotDamage, bytes_at};
-ghost use Rattle.recovery.specs.Faults.{IsReadOrSaysNothing, IsOfArchive, IfDamaged, SaysNothing};
+ghost use Rattle.recovery.specs.Faults.{IsReadOrSaysNothing, IsOfArchive, IfDamaged, SaysNothing, UnlessFault};
 ghost use Rattle.recovery.specs.Holding.{spot_end, spots_end};
 ghost use Rattle.recovery.specs.Looking.{OnlyReads, IsCause};
 ghost use Rattle.recovery.specs.declared.fault.DepotDisk.TheVariants.{Archive};
@@ -51,6 +51,7 @@ fn check_content<D: Disk>(
     ensures damaged { (files : Files) → D.says.seen disk.old files → revision.now.at + revision.now.length ≤ length (files 0) → IfDamaged result (λ place. (place ≡ revision.now.at) × (revision.now.digest ≢ digest (bytes_at (files 0) revision.now))) }
     ensures fault { IfErr result IsOfArchive }
     ensures reads { OnlyReads D.says disk.old disk.new }
+    ensures unfailed { UnlessFault result (D.says.faults disk.new ≡ D.says.faults disk.old) }
     ensures cause { IsCause (D.says.faults disk.old) (D.says.faults disk.new) (result ≡ Err DiskFault) }
 {
     let spot = Spot {
@@ -80,6 +81,7 @@ fn check_row<D: Disk>(
     ensures damaged { (files : Files) → D.says.seen disk.old files → limit ≡ length (files 0) → IfDamaged result (IsBadAt (files 0) row.now) }
     ensures fault { IfErr result IsOfArchive }
     ensures reads { OnlyReads D.says disk.old disk.new }
+    ensures unfailed { UnlessFault result (D.says.faults disk.new ≡ D.says.faults disk.old) }
     ensures cause { IsCause (D.says.faults disk.old) (D.says.faults disk.new) (result ≡ Err DiskFault) }
 {
     let live = row.live();
@@ -110,6 +112,7 @@ fn check_rows<D: Disk>(
     ensures damaged { (files : Files) → D.says.seen disk.old files → limit ≡ length (files 0) → IfDamaged result (IsSpotDamage (files 0) (rows_of tables.now Rev)) }
     ensures fault { IfErr result IsOfArchive }
     ensures reads { OnlyReads D.says disk.old disk.new }
+    ensures unfailed { UnlessFault result (D.says.faults disk.new ≡ D.says.faults disk.old) }
     ensures cause { IsCause (D.says.faults disk.old) (D.says.faults disk.new) (result ≡ Err DiskFault) }
 {
     let mut end = 0;
@@ -132,6 +135,7 @@ pub(crate) fn read_contents<D: Disk>(
     ensures damaged { (files : Files) → D.says.seen disk.old files → IfDamaged result (IsSpotDamage (files 0) (rows_of tables.now Rev)) }
     ensures fault { IfErr result IsOfArchive }
     ensures reads { OnlyReads D.says disk.old disk.new }
+    ensures unfailed { UnlessFault result (D.says.faults disk.new ≡ D.says.faults disk.old) }
     ensures cause { IsCause (D.says.faults disk.old) (D.says.faults disk.new) (result ≡ Err DiskFault) }
 {
     let limit = disk.length(CONTENTS)?;

@@ -11,7 +11,7 @@ ghost use Rattle.archive_file.specs.Archive.{disk_of as archive_of};
 ghost use Rattle.depot_rows.specs.table_changes.Changed.{AllRows, rows_of};
 ghost use Rattle.depot_rows.specs.depot_model.Deeds.{Deed};
 ghost use Rattle.depot_rows.specs.Standing.{Stand};
-ghost use Rattle.recovery.specs.Faults.{IsReadOrSaysNothing, IsUnmadeOrSaysNothing, Tells};
+ghost use Rattle.recovery.specs.Faults.{IsReadOrSaysNothing, IsUnmadeOrSaysNothing, Tells, UnlessFault};
 ghost use Rattle.recovery.specs.Contents.{AreWhole, HoldWhole};
 ghost use Rattle.recovery.specs.Damage.{IsDamage};
 ghost use Rattle.recovery.specs.Holding.{Hold, spots_end};
@@ -66,6 +66,7 @@ fn read_depot<D: Disk>(alloc: Global, journal: &mut D, archive: &mut D) -> Resul
     ensures read { IfErr result (λ fault. fault ≢ DiskFault → HasSynced D.says journal.old journal.new × HasSynced D.says archive.old archive.new) }
     ensures journal_looks { LooksOnly D.says journal.old journal.new }
     ensures archive_looks { LooksOnly D.says archive.old archive.new }
+    ensures unfailed { UnlessFault result ((D.says.faults journal.new ≡ D.says.faults journal.old) × (D.says.faults archive.new ≡ D.says.faults archive.old)) }
     ensures cause { AreCauses (D.says.faults journal.old) (D.says.faults journal.new) (D.says.faults archive.old) (D.says.faults archive.new) (result ≡ Err DiskFault) }
 {
     journal.sync()?;
@@ -107,6 +108,8 @@ pub fn open_files<D: Disk>(alloc: Global, journal: D, archive: D) -> Result<Open
     ensures archive_synced { IfOk result (λ opened. HasSynced D.says archive (archive_of opened.archive)) }
     ensures journal_looks { LooksOnly D.says journal (journal_disk result) }
     ensures archive_looks { LooksOnly D.says archive (archive_disk result) }
+    // Where no fault of a disk is answered the counts of both disks stand.
+    ensures unfailed { (IsDiskFault result → ⊥) → (D.says.faults (journal_disk result) ≡ D.says.faults journal) × (D.says.faults (archive_disk result) ≡ D.says.faults archive) }
     ensures cause { AreCauses (D.says.faults journal) (D.says.faults (journal_disk result)) (D.says.faults archive) (D.says.faults (archive_disk result)) (IsDiskFault result) }
 {
     let mut journal = journal;

@@ -3,9 +3,11 @@
 ghost use Rattle.std.specs.Prelude.{◌≡◌, ◌≢◌, ◌⊎◌, ◌+◌, ◌-◌, ◌<◌, ◌≤◌, ◌^◌, ◌++◌, ℕ, List, length, drop, IfOk, OnOk, Err};
 ghost use Rattle.std.specs.Result.{IfErr};
 ghost use Rattle.outside_api.specs.Disk.{Files};
-ghost use Rattle.journal_groups.specs.Groups.{body_of};
+ghost use Rattle.journal_groups.specs.Groups.{body_of, change_text, head_of};
+ghost use Rattle.journal_groups.specs.Reading.{head_at, window_at};
+ghost use Rattle.record_text.specs.Grammar.{IsRecord, largest_wide};
 ghost use Rattle.recovery.specs.Looking.{OnlyReads, IsCause};
-ghost use Rattle.recovery.specs.Faults.{IsOfFile, SaysNothing, Tells};
+ghost use Rattle.recovery.specs.Faults.{IsOfFile, SaysNothing, Tells, UnlessFault};
 ghost use Rattle.recovery.specs.declared.fault.OpenFault.TheVariants.{Damaged, DiskFault};
 ghost use Rattle.recovery.specs.declared.fault.DepotDisk.TheVariants.{Journal};
 
@@ -23,6 +25,10 @@ const LONGEST: u64 = 0x7FFF_FFFF_FFFF_FFFA;
 /// What was read of the next group: its changes, or nothing at a mark that isn't open; or the place from
 /// which the text can't be read on.
 pub(crate) type GroupRead = Result<Option<Sequence<Change>>, u64>;
+
+/// A record that was taken of a group, and how many bytes of the group's records are behind it; or the place from which
+/// the text can't be read on.
+pub(crate) type RecordTaken = Result<(Change, u64), u64>;
 
 /// The groups of a file one after another, behind some bytes. Of the file at most one group and one piece are held,
 /// and as much again as was read of a record that isn't whole.
@@ -42,7 +48,7 @@ pub(crate) struct FileGroups {
 }
 
 impl FileGroups {
-    ghost use Rattle.recovery.specs.Pieces.{text_left, KnowsEnd, IsFirst, HasCome, HasStopped};
+    ghost use Rattle.recovery.specs.Pieces.{text_left, KnowsEnd, IsFirst, HasCome, HasStopped, IsStop};
 
     /// The groups of a file, the first of which has this number, behind these bytes. The one error beside
     /// a fault of the disk is want of memory.
@@ -58,6 +64,7 @@ impl FileGroups {
         ensures at { IfOk result (λ groups. (groups.file ≡ file) × (groups.front ≡ length front) × (groups.reader.at ≡ 0) × (groups.reader.number ≡ number)) }
         ensures fault { IfErr result SaysNothing }
         ensures reads { OnlyReads D.says disk.old disk.new }
+        ensures unfailed { UnlessFault result (D.says.faults disk.new ≡ D.says.faults disk.old) }
         ensures cause { IsCause (D.says.faults disk.old) (D.says.faults disk.new) (result ≡ Err DiskFault) }
     {
         let length = disk.length(file)?;
@@ -95,6 +102,7 @@ impl FileGroups {
         ensures reader { (self.new.file ≡ self.old.file) × (self.new.front ≡ self.old.front) × (self.new.reader.at ≡ self.old.reader.at) × (self.new.reader.number ≡ self.old.reader.number) }
         ensures fault { IfErr result SaysNothing }
         ensures reads { OnlyReads D.says disk.old disk.new }
+        ensures unfailed { UnlessFault result (D.says.faults disk.new ≡ D.says.faults disk.old) }
         ensures cause { IsCause (D.says.faults disk.old) (D.says.faults disk.new) (result ≡ Err DiskFault) }
     {
         let room = (self.length - self.read).min(piece.len() as u64) as usize;
@@ -124,6 +132,7 @@ impl FileGroups {
         ensures reader { (self.new.file ≡ self.old.file) × (self.new.front ≡ self.old.front) × (self.new.reader.at ≡ self.old.reader.at) × (self.new.reader.number ≡ self.old.reader.number) }
         ensures fault { IfErr result SaysNothing }
         ensures reads { OnlyReads D.says disk.old disk.new }
+        ensures unfailed { UnlessFault result (D.says.faults disk.new ≡ D.says.faults disk.old) }
         ensures cause { IsCause (D.says.faults disk.old) (D.says.faults disk.new) (result ≡ Err DiskFault) }
     {
         let target = self.read.saturating_add(wanted);
@@ -188,6 +197,7 @@ impl FileGroups {
         ensures stopped { (files : Files) → D.says.seen disk.old files → KnowsEnd self.old files → IfOk result (λ read. IfErr read (HasStopped self.old.reader.number self.old.reader.at (text_left self.old files) self.new.reader)) }
         ensures fault { IfErr result SaysNothing }
         ensures reads { OnlyReads D.says disk.old disk.new }
+        ensures unfailed { UnlessFault result (D.says.faults disk.new ≡ D.says.faults disk.old) }
         ensures cause { IsCause (D.says.faults disk.old) (D.says.faults disk.new) (result ≡ Err DiskFault) }
     {
         loop {
@@ -200,6 +210,76 @@ impl FileGroups {
                         return Ok(Err(place));
                     }
                     let begun = place.saturating_sub(self.reader.reached());
+                    self.read_on(alloc, disk, piece, begun)?;
+                }
+            }
+        }
+    }
+
+    /// Takes the head of the group with which the file goes on, without a mark before it, and answers how many bytes the
+    /// group's records have; or the place from which the text can't be read on.
+    pub(crate) fn next_head<D: Disk>(
+        &mut self,
+        alloc: Global,
+        disk: &mut D,
+        piece: &mut [u8],
+    ) -> Result<Result<u64, u64>, OpenFault>
+        requires room { 0 < length piece.old }
+        ensures text { (files : Files) → D.says.seen disk.old files → KnowsEnd self.old files → IfOk result (λ read. IfOk read (λ size. KnowsEnd self.new files × (text_left self.old files ≡ head_of self.old.reader.number size ++ text_left self.new files))) }
+        ensures come { IfOk result (λ read. IfOk read (λ size. (size ≤ largest_wide) × (self.new.reader.at ≡ self.old.reader.at + length (head_of self.old.reader.number size)))) }
+        ensures file { (self.new.file ≡ self.old.file) × (self.new.front ≡ self.old.front) }
+        ensures stopped { (files : Files) → D.says.seen disk.old files → KnowsEnd self.old files → IfOk result (λ read. IfErr read (IsStop self.old.reader.at (text_left self.old files) (head_at self.old.reader.number))) }
+        ensures fault { IfErr result SaysNothing }
+        ensures reads { OnlyReads D.says disk.old disk.new }
+        ensures unfailed { UnlessFault result (D.says.faults disk.new ≡ D.says.faults disk.old) }
+        ensures cause { IsCause (D.says.faults disk.old) (D.says.faults disk.new) (result ≡ Err DiskFault) }
+    {
+        loop {
+            match self.reader.take_head() {
+                Ok(taken) => return Ok(Ok(taken)),
+                Err(GroupFault::Memory) => return Err(OpenFault::Memory),
+                Err(GroupFault::BadGroup(place)) => return Ok(Err(place)),
+                Err(GroupFault::Short(place)) => {
+                    if self.read == self.length {
+                        return Ok(Err(place));
+                    }
+                    self.read_on(alloc, disk, piece, 0)?;
+                }
+            }
+        }
+    }
+
+    /// Takes the record with which the file goes on, of a group of which so many bytes of records are to come.
+    ///
+    /// A record that isn't whole is read from its begin again once there is as much of it again, or a piece more: so each
+    /// byte is read a bounded number of times on average.
+    pub(crate) fn next_record<D: Disk>(
+        &mut self,
+        alloc: Global,
+        disk: &mut D,
+        piece: &mut [u8],
+        size: u64,
+    ) -> Result<RecordTaken, OpenFault>
+        requires room { 0 < length piece.old }
+        ensures text { (files : Files) → D.says.seen disk.old files → KnowsEnd self.old files → IfOk result (λ read. IfOk read (λ taken. KnowsEnd self.new files × (text_left self.old files ≡ change_text taken.0 ++ text_left self.new files))) }
+        ensures come { IfOk result (λ read. IfOk read (λ taken. IsRecord taken.0.row × (size ≡ length (change_text taken.0) + taken.1) × (taken.1 < size) × (self.new.reader.at ≡ self.old.reader.at + length (change_text taken.0)))) }
+        ensures file { (self.new.file ≡ self.old.file) × (self.new.front ≡ self.old.front) }
+        ensures stopped { (files : Files) → D.says.seen disk.old files → KnowsEnd self.old files → IfOk result (λ read. IfErr read (IsStop self.old.reader.at (text_left self.old files) (window_at size))) }
+        ensures fault { IfErr result SaysNothing }
+        ensures reads { OnlyReads D.says disk.old disk.new }
+        ensures unfailed { UnlessFault result (D.says.faults disk.new ≡ D.says.faults disk.old) }
+        ensures cause { IsCause (D.says.faults disk.old) (D.says.faults disk.new) (result ≡ Err DiskFault) }
+    {
+        loop {
+            match self.reader.take_record(alloc, size) {
+                Ok(taken) => return Ok(Ok(taken)),
+                Err(GroupFault::Memory) => return Err(OpenFault::Memory),
+                Err(GroupFault::BadGroup(place)) => return Ok(Err(place)),
+                Err(GroupFault::Short(place)) => {
+                    if self.read == self.length {
+                        return Ok(Err(place));
+                    }
+                    let begun = place.saturating_sub(self.reader.place());
                     self.read_on(alloc, disk, piece, begun)?;
                 }
             }

@@ -1,34 +1,53 @@
-//! The changes of a checkpoint.
+//! The puts of a checkpoint, one after another.
 
-ghost use Rattle.std.specs.Prelude.{◌≡◌, ◌↔◌, ◌<◌, ◌≤◌, ◌+◌, [], ◌∷◌, ◌++◌, length, take, IsTrue};
+ghost use Rattle.std.specs.Prelude.{◌≡◌, ◌↔◌, [], ◌∷◌, ◌++◌, List, IfOk, IsTrue, IsFalse};
+ghost use Rattle.depot_rows.specs.db_records.declared.change.Change.{Change};
+ghost use Rattle.depot_rows.specs.table_changes.Changed.{changed_by, no_rows};
+ghost use Rattle.depot_rows.specs.table_changes.Drafts.{rows_of_draft};
 ghost use Rattle.recovery.specs.Holding.{ArePuts};
+ghost use Rattle.recovery.specs.Reading.{HasPut, IsLastOf};
 
+use depot_rows::changes::TablesDraft;
 use depot_rows::records::{Change, Op};
+use std::alloc::{AllocError, Global};
 
-/// Whether a change puts a row above those that are put before it.
-fn follows(before: &[Change], change: &Change) -> bool
-    requires { ArePuts before.now }
-    ensures { IsTrue result ↔ ArePuts (before.now ++ change.now ∷ []) }
+/// Whether a change puts a row above the last one that was put.
+fn follows(last: &Option<Change>, change: &Change) -> bool
+    ensures { (puts : List Change) → ArePuts puts → IsLastOf puts last.now → IsTrue result ↔ ArePuts (puts ++ change.now ∷ []) }
 {
     if change.op != Op::Put {
         return false;
     }
-    match before.last() {
+    match last {
         Some(last) => last.row.compare(&change.row).is_lt(),
         None => true,
     }
 }
 
-/// How many of the first changes put rows, tables and keys rising.
-pub(crate) fn rising_puts(changes: &[Change]) -> usize
-    ensures within { result ≤ length changes.now }
-    ensures puts { ArePuts (take result changes.now) }
-    ensures next { result < length changes.now → ArePuts (take (result + 1) changes.now) → ⊥ }
+/// Makes a change in a draft, where it puts a row above the last one that was put, and tells whether it does. The one error
+/// is want of memory, after which nothing is said of the draft.
+pub(crate) fn put_above(
+    alloc: Global,
+    draft: &mut TablesDraft,
+    last: &mut Option<Change>,
+    change: Change,
+) -> Result<bool, AllocError>
+    requires { (puts : List Change) × HasPut puts last.old (rows_of_draft draft.old) }
+    ensures above { (puts : List Change) → HasPut puts last.old (rows_of_draft draft.old) → IfOk result (λ above. IsTrue above → HasPut (puts ++ change ∷ []) last.new (rows_of_draft draft.new)) }
+    ensures none { (puts : List Change) → HasPut puts last.old (rows_of_draft draft.old) → IfOk result (λ above. IsFalse above → ArePuts (puts ++ change ∷ []) → ⊥) }
 {
-    for (i, change) in changes.iter().enumerate() {
-        if !follows(&changes[..i], change) {
-            return i;
+    if !follows(last, &change) {
+        drop(change);
+        return Ok(false);
+    }
+    match draft.change(alloc, &change) {
+        Ok(()) => {
+            drop(last.replace(change));
+            Ok(true)
+        }
+        Err(error) => {
+            drop(change);
+            Err(error)
         }
     }
-    changes.len()
 }

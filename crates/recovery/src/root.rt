@@ -5,7 +5,7 @@ ghost use Rattle.std.specs.Result.{IfErr};
 ghost use Rattle.outside_api.specs.Disk.{Files};
 ghost use Rattle.disk_journal.specs.Images.{IsTail, IsRoot};
 ghost use Rattle.recovery.specs.Damage.{IsDamage, IsRootDamage};
-ghost use Rattle.recovery.specs.Faults.{IsReadOrSaysNothing, IsUnmadeOrSaysNothing, Tells};
+ghost use Rattle.recovery.specs.Faults.{IsReadOrSaysNothing, IsUnmadeOrSaysNothing, Tells, UnlessFault};
 ghost use Rattle.recovery.specs.Looking.{OnlyReads, IsCause};
 ghost use Rattle.recovery.specs.declared.fault.OpenFault.TheVariants.{Damaged, DiskFault, Unmade};
 ghost use Rattle.recovery.specs.declared.fault.DepotDisk.TheVariants.{Journal};
@@ -75,6 +75,7 @@ pub(crate) fn read_root<D: Disk>(disk: &mut D) -> Result<u32, OpenFault>
     ensures unmade { (files : Files) → D.says.seen disk.old files → result ≡ Err Unmade → length (files 0) ≡ 0 }
     ensures exactly { (files : Files) → D.says.seen disk.old files → length (files 0) ≡ 0 → IsUnmadeOrSaysNothing result }
     ensures reads { OnlyReads D.says disk.old disk.new }
+    ensures unfailed { UnlessFault result (D.says.faults disk.new ≡ D.says.faults disk.old) }
     ensures cause { IsCause (D.says.faults disk.old) (D.says.faults disk.new) (result ≡ Err DiskFault) }
 {
     let length = disk.length(ROOT)?;

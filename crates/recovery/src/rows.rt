@@ -1,6 +1,6 @@
 //! The rows of a generation: those of its checkpoint, changed by the groups of its journal.
 
-ghost use Rattle.std.specs.Prelude.{◌≡◌, ◌≢◌, ◌≤◌, ◌<◌, ◌+◌, ◌-◌, ◌*◌, ◌^◌, ℕ, List, length, take, IfOk, OnOk, Err};
+ghost use Rattle.std.specs.Prelude.{◌≡◌, ◌≢◌, ◌≤◌, ◌<◌, ◌+◌, ◌-◌, ◌*◌, ◌^◌, ◌++◌, [], ◌∷◌, ℕ, List, length, take, IfOk, OnOk, Err};
 ghost use Rattle.std.specs.Result.{IfErr};
 ghost use Rattle.outside_api.specs.Disk.{Files};
 ghost use Rattle.depot_rows.specs.db_records.declared.change.Change.{Change};
@@ -11,16 +11,16 @@ ghost use Rattle.journal_groups.specs.Committed.{HasGroups};
 ghost use Rattle.depot_rows.specs.table_changes.Changed.{AllFitIn, changed_by, no_rows};
 ghost use Rattle.depot_rows.specs.table_changes.Drafts.{rows_of_draft};
 ghost use Rattle.recovery.specs.Damage.{IsCheckpointDamage, IsJournalDamage};
-ghost use Rattle.recovery.specs.Faults.{IfDamaged, IsOfFile, SaysNothing};
-ghost use Rattle.recovery.specs.Holding.{ArePuts, joined};
+ghost use Rattle.recovery.specs.Faults.{IfDamaged, IsOfFile, SaysNothing, UnlessFault};
+ghost use Rattle.recovery.specs.Holding.{joined};
 ghost use Rattle.recovery.specs.Looking.{OnlyReads, IsCause};
 ghost use Rattle.recovery.specs.Pieces.{text_left, KnowsEnd, IsFirst, HasCome, IsBadPlace, IsTextDamage};
-ghost use Rattle.recovery.specs.Reading.{IsCheckpoint, HasCheckpoint, HasJournal};
+ghost use Rattle.recovery.specs.Reading.{IsCheckpoint, HasCheckpoint, HasJournal, HasPut, HasTaken};
 ghost use Rattle.recovery.specs.declared.fault.OpenFault.TheVariants.{DiskFault};
 
 use crate::fault::OpenFault;
 use crate::pieces::FileGroups;
-use crate::puts::rising_puts;
+use crate::puts::put_above;
 use depot_rows::changes::TablesDraft;
 use depot_rows::paths::{Sequence, Text};
 use depot_rows::records::Change;
@@ -86,47 +86,76 @@ fn make_changes(
     Ok(())
 }
 
-/// Checks that changes, which end where what was read of groups does, put rows, tables and keys rising.
-fn check_puts(alloc: Global, groups: &FileGroups, puts: &[Change]) -> Result<(), OpenFault>
-    ensures puts { OnOk result (ArePuts puts.now) }
-    ensures damaged { IfDamaged result (IsBadPlace ArePuts groups.now puts.now) }
-    ensures only { ArePuts puts.now → IfErr result SaysNothing }
-    ensures fault { IfErr result (IsOfFile groups.now.file) }
-    ensures no_disk { result ≢ Err DiskFault }
-{
-    let rising = rising_puts(puts);
-    if rising < puts.len() {
-        let (_, others) = puts.split_at(rising);
-        return Err(groups.damaged_before(alloc, others));
-    }
-    Ok(())
-}
-
-/// The next group of a checkpoint. Where its text can't be read on, the first of the records before that
-/// place that is no put above the others is told.
-fn next_puts<D: Disk>(
+/// Takes the next record of a checkpoint, of which so many bytes are to come, makes its put in a draft, and answers how many
+/// bytes are behind it.
+fn put_next<D: Disk>(
     alloc: Global,
     disk: &mut D,
     groups: &mut FileGroups,
     piece: &mut [u8],
-) -> Result<Option<Sequence<Change>>, OpenFault>
+    size: u64,
+    draft: &mut TablesDraft,
+    last: &mut Option<Change>,
+) -> Result<u64, OpenFault>
     requires room { 0 < length piece.old }
-    ensures text { (files : Files) → D.says.seen disk.old files → KnowsEnd groups.old files → IfOk result (λ found. KnowsEnd groups.new files × IsFirst groups.old.reader.number (text_left groups.old files) (text_left groups.new files) found) }
-    ensures come { IfOk result (HasCome groups.old groups.new) }
-    ensures file { (groups.new.file ≡ groups.old.file) × (groups.new.front ≡ groups.old.front) }
-    ensures only { (files : Files) → D.says.seen disk.old files → KnowsEnd groups.old files → groups.old.reader.number < 2 ^ 64 → BeginsWanted groups.old.reader.number (text_left groups.old files) → IfErr result SaysNothing }
-    ensures damaged { (files : Files) → D.says.seen disk.old files → KnowsEnd groups.old files → IfDamaged result (λ place. (found : ℕ) × ((place ≡ found - groups.old.front) × IsTextDamage ArePuts groups.old.reader.number groups.old.reader.at (text_left groups.old files) found)) }
+    requires some { 0 < size }
+    requires taken { (generation : ℕ) × ((puts : List Change) × (HasTaken (D.says.seen disk.old) generation groups.old size puts × HasPut puts last.old (rows_of_draft draft.old))) }
+    ensures put { (generation : ℕ) (puts : List Change) → HasTaken (D.says.seen disk.old) generation groups.old size puts → HasPut puts last.old (rows_of_draft draft.old) →
+        IfOk result (λ behind. (put : Change) × (HasTaken (D.says.seen disk.old) generation groups.new behind (puts ++ put ∷ []) × HasPut (puts ++ put ∷ []) last.new (rows_of_draft draft.new))) }
+    ensures less { IfOk result (λ behind. behind < size) }
+    ensures damaged { (generation : ℕ) (puts : List Change) → HasTaken (D.says.seen disk.old) generation groups.old size puts → HasPut puts last.old (rows_of_draft draft.old) → generation ≤ 4095 →
+        (files : Files) → D.says.seen disk.old files → IfDamaged result (IsCheckpointDamage generation (files (2 + 2 * generation))) }
+    ensures file { groups.new.file ≡ groups.old.file }
     ensures fault { IfErr result (IsOfFile groups.old.file) }
     ensures reads { OnlyReads D.says disk.old disk.new }
+    ensures unfailed { UnlessFault result (D.says.faults disk.new ≡ D.says.faults disk.old) }
     ensures cause { IsCause (D.says.faults disk.old) (D.says.faults disk.new) (result ≡ Err DiskFault) }
 {
-    match groups.next(alloc, disk, piece)? {
-        Ok(found) => Ok(found),
-        Err(place) => {
-            check_puts(alloc, groups, groups.records())?;
-            Err(groups.damaged(place))
+    let place = groups.place();
+    match groups.next_record(alloc, disk, piece, size)? {
+        Ok((change, behind)) => {
+            if !put_above(alloc, draft, last, change)? {
+                return Err(groups.damaged(place));
+            }
+            Ok(behind)
+        }
+        Err(place) => Err(groups.damaged(place)),
+    }
+}
+
+/// Makes the puts of a checkpoint, of which so many bytes of records are to come, in a draft without rows.
+fn put_all<D: Disk>(
+    alloc: Global,
+    disk: &mut D,
+    groups: &mut FileGroups,
+    piece: &mut [u8],
+    size: u64,
+    draft: &mut TablesDraft,
+) -> Result<(), OpenFault>
+    requires room { 0 < length piece.old }
+    requires taken { (generation : ℕ) × HasTaken (D.says.seen disk.old) generation groups.old size [] }
+    requires none { rows_of_draft draft.old ≡ no_rows }
+    ensures rows { (generation : ℕ) → HasTaken (D.says.seen disk.old) generation groups.old size [] → OnOk result (HasCheckpoint (D.says.seen disk.old) generation (rows_of_draft draft.new)) }
+    ensures damaged { (generation : ℕ) → HasTaken (D.says.seen disk.old) generation groups.old size [] → generation ≤ 4095 →
+        (files : Files) → D.says.seen disk.old files → IfDamaged result (IsCheckpointDamage generation (files (2 + 2 * generation))) }
+    ensures fault { IfErr result (IsOfFile groups.old.file) }
+    ensures reads { OnlyReads D.says disk.old disk.new }
+    ensures unfailed { UnlessFault result (D.says.faults disk.new ≡ D.says.faults disk.old) }
+    ensures cause { IsCause (D.says.faults disk.old) (D.says.faults disk.new) (result ≡ Err DiskFault) }
+{
+    let mut last = None;
+    let mut left = size;
+    while left > 0 {
+        match put_next(alloc, disk, groups, piece, left, draft, &mut last) {
+            Ok(behind) => left = behind,
+            Err(fault) => {
+                drop(last);
+                return Err(fault);
+            }
         }
     }
+    drop(last);
+    Ok(())
 }
 
 /// The next group of a journal. Where its text can't be read on, the first of the records before that place
@@ -147,6 +176,7 @@ fn next_changes<D: Disk>(
     ensures damaged { (files : Files) → D.says.seen disk.old files → KnowsEnd groups.old files → IfDamaged result (λ place. (found : ℕ) × ((place ≡ found - groups.old.front) × IsTextDamage (AllFitIn (rows_of_draft draft.old)) groups.old.reader.number groups.old.reader.at (text_left groups.old files) found)) }
     ensures fault { IfErr result (IsOfFile groups.old.file) }
     ensures reads { OnlyReads D.says disk.old disk.new }
+    ensures unfailed { UnlessFault result (D.says.faults disk.new ≡ D.says.faults disk.old) }
     ensures cause { IsCause (D.says.faults disk.old) (D.says.faults disk.new) (result ≡ Err DiskFault) }
 {
     match groups.next(alloc, disk, piece)? {
@@ -172,16 +202,21 @@ pub(crate) fn read_checkpoint<D: Disk>(
     ensures damaged { (files : Files) → D.says.seen disk.old files → IfDamaged result (IsCheckpointDamage generation (files (2 + 2 * generation))) }
     ensures fault { IfErr result (IsOfFile (2 + 2 * generation)) }
     ensures reads { OnlyReads D.says disk.old disk.new }
+    ensures unfailed { UnlessFault result (D.says.faults disk.new ≡ D.says.faults disk.old) }
     ensures cause { IsCause (D.says.faults disk.old) (D.says.faults disk.new) (result ≡ Err DiskFault) }
 {
-    let front = Text::from_bytes(alloc, b"@ex@\n")?;
-    let mut groups = FileGroups::open(disk, 2 + 2 * generation, front, generation as u64)?;
-    let Some(puts) = next_puts(alloc, disk, &mut groups, piece)? else {
-        return Err(groups.damaged(groups.place()));
+    let mut groups = FileGroups::open(
+        disk,
+        2 + 2 * generation,
+        Text::new(alloc),
+        generation as u64,
+    )?;
+    let size = match groups.next_head(alloc, disk, piece)? {
+        Ok(size) => size,
+        Err(place) => return Err(groups.damaged(place)),
     };
-    check_puts(alloc, &groups, puts.as_slice())?;
     let mut draft = empty_draft(alloc)?;
-    make_changes(alloc, &groups, &mut draft, puts.as_slice())?;
+    put_all(alloc, disk, &mut groups, piece, size, &mut draft)?;
     Ok(draft)
 }
 
@@ -200,6 +235,7 @@ pub(crate) fn read_journal<D: Disk>(
     ensures damaged { (files : Files) → D.says.seen disk.old files → IfDamaged result (IsJournalDamage (rows_of_draft draft.old) (files (1 + 2 * generation))) }
     ensures fault { IfErr result (IsOfFile (1 + 2 * generation)) }
     ensures reads { OnlyReads D.says disk.old disk.new }
+    ensures unfailed { UnlessFault result (D.says.faults disk.new ≡ D.says.faults disk.old) }
     ensures cause { IsCause (D.says.faults disk.old) (D.says.faults disk.new) (result ≡ Err DiskFault) }
 {
     let mut groups = FileGroups::open(disk, 1 + 2 * generation, Text::new(alloc), 1)?;

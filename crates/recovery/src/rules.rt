@@ -6,7 +6,7 @@ ghost use Rattle.outside_api.specs.Disk.{Files};
 ghost use Rattle.depot_rows.specs.db_records.declared.table.TableId.{TableId};
 ghost use Rattle.depot_rows.specs.table_changes.Changed.{AllRows, rows_of};
 ghost use Rattle.recovery.specs.Damage.{IsDamage};
-ghost use Rattle.recovery.specs.Faults.{IsReadOrSaysNothing, IsUnmadeOrSaysNothing, SaysNothing, Tells};
+ghost use Rattle.recovery.specs.Faults.{IsReadOrSaysNothing, IsUnmadeOrSaysNothing, SaysNothing, Tells, UnlessFault};
 ghost use Rattle.recovery.specs.Holding.{Hold};
 ghost use Rattle.recovery.specs.Looking.{OnlyReads, IsCause};
 ghost use Rattle.recovery.specs.Reading.{HasFound};
@@ -59,6 +59,7 @@ pub(crate) fn read_kept_rows<D: Disk>(alloc: Global, disk: &mut D) -> Result<Fou
     ensures unmade { (files : Files) → D.says.seen disk.old files → result ≡ Err Unmade → length (files 0) ≡ 0 }
     ensures exactly { (files : Files) → D.says.seen disk.old files → length (files 0) ≡ 0 → IsUnmadeOrSaysNothing result }
     ensures reads { OnlyReads D.says disk.old disk.new }
+    ensures unfailed { UnlessFault result (D.says.faults disk.new ≡ D.says.faults disk.old) }
     ensures cause { IsCause (D.says.faults disk.old) (D.says.faults disk.new) (result ≡ Err DiskFault) }
 {
     let found = read_rows(alloc, disk)?;

@@ -1,17 +1,17 @@
-use Rattle.std.proofs.Common.{◌≡◌, ◌∷◌, ◌∙◌, ℕ, max, arith, rules}
+use Rattle.std.proofs.Common.{◌≡◌, refl, ◌∷◌, ◌∙◌, ℕ, max, rules}
 use Rattle.depot_rows.specs.db_records.declared.table.TableId.TheVariants.{Rev}
 use Rattle.depot_rows.specs.table_changes.Changed.{rows_of}
 use Rattle.recovery.specs.Contents.{IsBadAt, IsSpotDamage}
 use Rattle.recovery.proofs.GoodSpots.{checked_none, checked_more, checked_all, checked_bad}
 use Rattle.recovery.proofs.Looks.{reads_on}
-use Rattle.recovery.proofs.PassedOn.{passed_damage}
+use Rattle.recovery.proofs.PassedOn.{passed_damage, unless_passed}
 use Rattle.recovery.proofs.contents.check_rows.Goals as goal
 
 pub loop-row-init : goal.loop-row-init
 loop-row-init g c = record {
   checked = checked_none (g.D.Disk.says.seen c.args.disk.now) c.args.limit (rows_of c.args.tables.now Rev) c.into_iter-row-iterator.result (c.into_iter-row-iterator.ensures.into_iter_gives ∙ c.revisions-row-items.ensures);
   reads = search rules;
-  faults = omega arith;
+  faults = refl;
 }
 
 pub returns-in_err-check_row-clause-damaged : goal.returns-in_err-check_row-clause-damaged
@@ -44,5 +44,8 @@ loop-row-preserved g c =
       checked = checked_more (g.D.Disk.says.seen c.args.disk.now) c.args.limit (rows_of c.args.tables.now Rev) c.loop-row.row-iterator row rest c.loop-row.end c.in_ok-check_row.field-0 c.max-end.result inv.checked head ok.end.0 ok.end.1 top
           (λ files read limit_is. ok.whole files (inv.reads.same.kept files read) limit_is);
       reads = reads_on g.D.Disk.says c.args.disk.now c.loop-row.disk c.check_row.new.disk inv.reads c.check_row.ensures.reads;
-      faults = omega (arith, inv.faults, c.check_row.ensures.cause.never_falls);
+      faults = ok.unfailed ∙ inv.faults;
     }
+
+pub returns-in_err-check_row-clause-unfailed : goal.returns-in_err-check_row-clause-unfailed
+returns-in_err-check_row-clause-unfailed g c = unless_passed c.from_residual.result c.in_err-check_row.field-0.0 _ c.from_residual.ensures.1 (λ other. c.in_err-check_row.ensures.unfailed other ∙ c.loop-row.invariant.faults)

@@ -1,4 +1,4 @@
-use Rattle.std.proofs.Common.{◌≤◌}
+use Rattle.std.proofs.Common.{◌≡◌}
 use Rattle.depot_rows.specs.db_records.declared.table.TableId.TheVariants.{Rev}
 use Rattle.depot_rows.specs.table_changes.Changed.{rows_of}
 use Rattle.recovery.specs.Looking.{OnlyReads}
@@ -9,5 +9,5 @@ abbrev pub invariant-loop-row : goal.invariant-loop-row
 invariant-loop-row g l = record {
   checked : AreChecked (g.D.Disk.says.seen l.fn.disk) l.limit (rows_of l.tables Rev) l.row-iterator l.end;
   reads : OnlyReads g.D.Disk.says l.fn.disk l.disk;
-  faults : g.D.Disk.says.faults l.fn.disk ≤ g.D.Disk.says.faults l.disk;
+  faults : g.D.Disk.says.faults l.disk ≡ g.D.Disk.says.faults l.fn.disk;
 }

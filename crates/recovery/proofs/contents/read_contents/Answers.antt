@@ -1,7 +1,8 @@
-use Rattle.std.proofs.Common.{◌≤◌, ◌<◌, ◌^◌, ℕ, Result, Ok, Err, IfOk, subst, arith}
+use Rattle.std.proofs.Common.{◌≤◌, ◌<◌, ◌^◌, ℕ, Result, Ok, Err, IfOk, subst, arith, ◌∙◌}
 use Rattle.outside_api.specs.Moments.{started, goes_on}
 use Rattle.recovery.specs.Looking.{OnlyReads}
 use Rattle.recovery.proofs.Looks.{reads_on, rises_on}
+use Rattle.recovery.proofs.PassedOn.{unless_anyway, unless_failed, unless_weaker}
 use Rattle.recovery.proofs.contents.read_contents.Goals as goal
 
 if_ok : {X E : Type 0} (r : Result X E) (P Q : X → Type 0) → ((x : X) → P x → Q x) → IfOk r P → IfOk r Q
@@ -45,3 +46,12 @@ returns-clause-cause g c = record {
   never_falls = both (g.D.Disk.says.faults c.args.disk.now) (g.D.Disk.says.faults c.length.new.self) (g.D.Disk.says.faults c.check_rows.new.disk) c.length.ensures.cause.never_falls c.check_rows.ensures.cause.never_falls;
   risen = λ e. rises_on (g.D.Disk.says.faults c.args.disk.now) (g.D.Disk.says.faults c.length.new.self) (g.D.Disk.says.faults c.check_rows.new.disk) c.length.ensures.cause.never_falls (c.check_rows.ensures.cause.risen e);
 }
+
+pub returns-in_err-limit-clause-unfailed : goal.returns-in_err-limit-clause-unfailed
+returns-in_err-limit-clause-unfailed g c = unless_failed c.from_residual.result _ c.from_residual.ensures.1
+
+pub returns-in_err-piece-clause-unfailed : goal.returns-in_err-piece-clause-unfailed
+returns-in_err-piece-clause-unfailed g c = unless_anyway c.from_residual-in_err-piece.result _ c.in_ok-limit.ensures.only
+
+pub returns-clause-unfailed : goal.returns-clause-unfailed
+returns-clause-unfailed g c = unless_weaker c.check_rows.result _ _ (λ stands. stands ∙ c.in_ok-limit.ensures.only) c.check_rows.ensures.unfailed

@@ -12,7 +12,7 @@ use Rattle.recovery.specs.declared.rows.JournalEnd.{JournalEnd}
 use Rattle.depot_rows.specs.table_changes.Changed.{AllRows, changed_by, no_rows}
 use Rattle.depot_rows.specs.table_changes.declared.draft.TablesDraft.{TablesDraft}
 use Rattle.recovery.proofs.Damaged.{journal_damage}
-use Rattle.recovery.proofs.PassedOn.{passed_on}
+use Rattle.recovery.proofs.PassedOn.{passed_on, unless_anyway, unless_passed}
 use Rattle.recovery.proofs.depot.read_rows.Goals as goal
 
 pub returns-in_err-generation-clause-only : goal.returns-in_err-generation-clause-only
@@ -123,3 +123,21 @@ returns-in_err-end-clause-damaged g c = λ files contents read.
     subst (λ (rows : AllRows). IfDamaged {X = JournalEnd} (Err fault) (IsJournalDamage rows file)) checkpoint.rows_are (c.in_err-end.ensures.damaged files (c.read_checkpoint.ensures.reads.same.kept files read_then)) in
     passed_on c.from_residual-in_err-end.result fault (Tells (IsDamage files contents)) c.from_residual-in_err-end.ensures.1 (
     journal_damage JournalEnd files contents (1 + 2 * generation) (IsJournalDamage (changed_by no_rows checkpoint.puts) file) fault c.in_err-end.ensures.fault damaged (λ place damage. of_journal generation checkpoint.puts root checkpoint.is (checkpoint.text files read_then) refl damage))
+
+pub returns-in_err-generation-clause-unfailed : goal.returns-in_err-generation-clause-unfailed
+returns-in_err-generation-clause-unfailed g c = unless_passed c.from_residual.result c.in_err-generation.field-0.0 _ c.from_residual.ensures.1 (λ other. c.in_err-generation.ensures.unfailed other)
+
+pub returns-in_err-piece-clause-unfailed : goal.returns-in_err-piece-clause-unfailed
+returns-in_err-piece-clause-unfailed g c = unless_anyway c.from_residual-in_err-piece.result _ c.in_ok-generation.ensures.unfailed
+
+pub returns-in_err-draft-clause-unfailed : goal.returns-in_err-draft-clause-unfailed
+returns-in_err-draft-clause-unfailed g c = unless_passed c.from_residual-in_err-draft.result c.in_err-draft.field-0.0 _ c.from_residual-in_err-draft.ensures.1 (λ other. c.in_err-draft.ensures.unfailed other ∙ c.in_ok-generation.ensures.unfailed)
+
+pub returns-in_err-end-clause-unfailed : goal.returns-in_err-end-clause-unfailed
+returns-in_err-end-clause-unfailed g c = unless_passed c.from_residual-in_err-end.result c.in_err-end.field-0.0 _ c.from_residual-in_err-end.ensures.1 (λ other. c.in_err-end.ensures.unfailed other ∙ (c.in_ok-draft.ensures.unfailed ∙ c.in_ok-generation.ensures.unfailed))
+
+pub returns-in_err-tables-clause-unfailed : goal.returns-in_err-tables-clause-unfailed
+returns-in_err-tables-clause-unfailed g c = unless_anyway c.from_residual-in_err-tables.result _ (c.in_ok-end.ensures.unfailed ∙ (c.in_ok-draft.ensures.unfailed ∙ c.in_ok-generation.ensures.unfailed))
+
+pub returns-clause-unfailed : goal.returns-clause-unfailed
+returns-clause-unfailed g c = c.in_ok-end.ensures.unfailed ∙ (c.in_ok-draft.ensures.unfailed ∙ c.in_ok-generation.ensures.unfailed)

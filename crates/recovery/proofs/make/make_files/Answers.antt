@@ -1,4 +1,4 @@
-use Rattle.std.proofs.Common.{inl, inr}
+use Rattle.std.proofs.Common.{inl, inr, refl, ◌∙◌}
 use Rattle.depot_rows.proofs.depot_model.Empty.{empty_is_sound}
 use Rattle.recovery.proofs.Empty.{made_stands, made_committed}
 use Rattle.recovery.proofs.Making.{looks_at_none, looked, looked_images, looked_moments, made_images, made_moments, others_read, disk_fault}
@@ -100,3 +100,20 @@ returns-clause-archive_looks g c =
 
 pub returns-clause-archive_reads : goal.returns-clause-archive_reads
 returns-clause-archive_reads g c = inl c.in_ok-sync.ensures.same
+
+-- ---- the counts
+
+pub returns-in_err-length-clause-unfailed : goal.returns-in_err-length-clause-unfailed
+returns-in_err-length-clause-unfailed g c = λ other. absurd (other (disk_fault c.from_residual.result c.from_residual.ensures.1))
+
+pub returns-then-length-ne0-clause-unfailed : goal.returns-then-length-ne0-clause-unfailed
+returns-then-length-ne0-clause-unfailed g c = λ other. (c.in_ok-length.ensures.only, refl)
+
+pub returns-in_err-sync-clause-unfailed : goal.returns-in_err-sync-clause-unfailed
+returns-in_err-sync-clause-unfailed g c = λ other. absurd (other (disk_fault c.from_residual-in_err-sync.result c.from_residual-in_err-sync.ensures.1))
+
+pub returns-in_err-make_files-clause-unfailed : goal.returns-in_err-make_files-clause-unfailed
+returns-in_err-make_files-clause-unfailed g c = λ other. absurd (other (disk_fault c.from_residual-in_err-make_files.result c.from_residual-in_err-make_files.ensures.1))
+
+pub returns-clause-unfailed : goal.returns-clause-unfailed
+returns-clause-unfailed g c = λ other. (c.in_ok-make_files.ensures.only ∙ c.in_ok-length.ensures.only, c.in_ok-sync.ensures.only)

@@ -1,4 +1,4 @@
-use Rattle.std.proofs.Common.{◌≡◌, ℕ, List, sym, subst, ◌∙◌, arith}
+use Rattle.std.proofs.Common.{◌≡◌, ℕ, List, ap, sym, subst, ◌∙◌, arith}
 use Rattle.depot_rows.specs.db_records.declared.record.Record.{Record}
 use Rattle.depot_rows.specs.db_records.declared.table.TableId.{TableId}
 use Rattle.disk_journal.specs.Stands.{CanBeAdopted}
@@ -70,3 +70,12 @@ returns-in-Ok-clause-stands g c = λ files contents d read read_contents stands.
 pub returns-in-Err-clause-stands : goal.returns-in-Err-clause-stands
 returns-in-Err-clause-stands g c = λ files contents d read read_contents stands.
     (c.in-Err.ensures.only files contents stands.rows read read_contents (hold_of d files contents stands), tt)
+
+pub returns-in-Ok-clause-unfailed : goal.returns-in-Ok-clause-unfailed
+returns-in-Ok-clause-unfailed g c = λ no. (
+  ap g.D.Disk.says.faults c.adopt.ensures.disk ∙ c.in-Ok.ensures.unfailed.0,
+  ap g.D.Disk.says.faults c.adopt-in-Ok.ensures.disk ∙ c.in-Ok.ensures.unfailed.1,
+)
+
+pub returns-in-Err-clause-unfailed : goal.returns-in-Err-clause-unfailed
+returns-in-Err-clause-unfailed g c = λ no. c.in-Err.ensures.unfailed no

@@ -11,7 +11,7 @@ use Rattle.recovery.specs.Rules.{SuitFiles}
 use Rattle.recovery.specs.declared.depot.Found.{Found}
 use Rattle.recovery.proofs.Damaged.{hold_found, archive_damage}
 use Rattle.recovery.proofs.Looks.{passed_nothing}
-use Rattle.recovery.proofs.PassedOn.{passed_on, passed_unmade, no_fault_but}
+use Rattle.recovery.proofs.PassedOn.{passed_on, passed_unmade, no_fault_but, unless_failed, unless_passed}
 use Rattle.recovery.proofs.GoodSpots.{nothing_bad}
 use Rattle.recovery.proofs.Synced.{synced_then, looks_then, same_rows, same_end}
 use Rattle.recovery.proofs.open.read_depot.Goals as goal
@@ -118,3 +118,18 @@ returns-in_err-end-clause-read g c =
       synced_then g.D.Disk.says c.args.journal.now c.sync.new.self c.read_kept_rows.new.disk c.in_ok-sync.ensures.same c.in_ok-sync.ensures.durable c.read_kept_rows.ensures.reads,
       synced_then g.D.Disk.says c.args.archive.now c.sync-2.new.self c.read_contents.new.disk c.in_ok-sync-2.ensures.same c.in_ok-sync-2.ensures.durable c.read_contents.ensures.reads,
     ))
+
+pub returns-in_err-sync-clause-unfailed : goal.returns-in_err-sync-clause-unfailed
+returns-in_err-sync-clause-unfailed g c = unless_failed c.from_residual.result _ c.from_residual.ensures.1
+
+pub returns-in_err-sync-2-clause-unfailed : goal.returns-in_err-sync-2-clause-unfailed
+returns-in_err-sync-2-clause-unfailed g c = unless_failed c.from_residual-in_err-sync-2.result _ c.from_residual-in_err-sync-2.ensures.1
+
+pub returns-in_err-found-clause-unfailed : goal.returns-in_err-found-clause-unfailed
+returns-in_err-found-clause-unfailed g c = unless_passed c.from_residual-in_err-found.result c.in_err-found.field-0.0 _ c.from_residual-in_err-found.ensures.1 (λ other. (c.in_err-found.ensures.unfailed other ∙ c.in_ok-sync.ensures.only, c.in_ok-sync-2.ensures.only))
+
+pub returns-in_err-end-clause-unfailed : goal.returns-in_err-end-clause-unfailed
+returns-in_err-end-clause-unfailed g c = unless_passed c.from_residual-in_err-end.result c.in_err-end.field-0.0 _ c.from_residual-in_err-end.ensures.1 (λ other. (c.in_ok-found.ensures.unfailed ∙ c.in_ok-sync.ensures.only, c.in_err-end.ensures.unfailed other ∙ c.in_ok-sync-2.ensures.only))
+
+pub returns-clause-unfailed : goal.returns-clause-unfailed
+returns-clause-unfailed g c = (c.in_ok-found.ensures.unfailed ∙ c.in_ok-sync.ensures.only, c.in_ok-end.ensures.unfailed ∙ c.in_ok-sync-2.ensures.only)

@@ -4,6 +4,7 @@ use Rattle.disk_journal.specs.Images.{IsRoot}
 use Rattle.recovery.specs.Damage.{of_root, IsDamage}
 use Rattle.recovery.specs.Faults.{Tells}
 use Rattle.recovery.proofs.RootDamage.{damage_of_front, damage_behind}
+use Rattle.recovery.proofs.PassedOn.{unless_failed}
 use Rattle.recovery.proofs.root.read_root.Goals as goal
 
 whole_root : (bytes file : List ℕ) → bytes ≡ take 4095 file → length file ≤ 4095 → bytes ≡ file
@@ -40,3 +41,9 @@ returns-in-Ok-2-clause-damaged g c = λ files contents read.
     let bytes = c.in_ok-count.ensures.bytes files (c.length.ensures.same.kept files read) in
     let other : length (files 0) ≢ 4095 = λ long. c.if-length.false (c.in_ok-length.ensures.length files read ∙ long) in
     subst (Tells (IsDamage files contents)) (sym c.damaged.ensures) (of_root refl (damage_behind c.in-Ok.generation (files 0) _ bytes c.in-Ok.ensures.root other))
+
+pub returns-in_err-length-clause-unfailed : goal.returns-in_err-length-clause-unfailed
+returns-in_err-length-clause-unfailed g c = unless_failed c.from_residual.result _ c.from_residual.ensures.1
+
+pub returns-in_err-count-clause-unfailed : goal.returns-in_err-count-clause-unfailed
+returns-in_err-count-clause-unfailed g c = unless_failed c.from_residual-in_err-count.result _ c.from_residual-in_err-count.ensures.1

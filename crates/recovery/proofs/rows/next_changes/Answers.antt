@@ -7,7 +7,7 @@ use Rattle.recovery.specs.Pieces.{text_left, IsBadPlace, IsTextDamage}
 use Rattle.recovery.specs.declared.fault.OpenFault.{OpenFault}
 use Rattle.recovery.proofs.Fits.{fits_front}
 use Rattle.recovery.proofs.Groups.{unreadable_never}
-use Rattle.recovery.proofs.PassedOn.{passed_damage}
+use Rattle.recovery.proofs.PassedOn.{passed_damage, unless_anyway, unless_passed}
 use Rattle.recovery.proofs.Stopped.{stopped_record, stopped_text}
 use Rattle.recovery.proofs.rows.next_changes.Goals as goal
 
@@ -45,3 +45,12 @@ returns-in_ok-make_changes-in-Err-clause-damaged g c = λ files read knows.
     let are = subst good c.records.ensures c.in_ok-make_changes-in-Err.ensures.fit in
     let told : P (place - next.front) = (place, (ap (λ (n : ℕ). place - n) c.next.ensures.file.1, stopped_text good groups.reader.number groups.reader.at (text_left groups files) next.reader place (fits_front (rows_of_draft c.args.draft.now)) stopped are)) in
     subst (λ (fault : OpenFault). IfDamaged {X = Option (List Change)} (Err fault) P) (sym c.damaged.ensures) told
+
+pub returns-in_err-found-clause-unfailed : goal.returns-in_err-found-clause-unfailed
+returns-in_err-found-clause-unfailed g c = unless_passed c.from_residual.result c.in_err-found.field-0.0 _ c.from_residual.ensures.1 (λ other. c.in_err-found.ensures.unfailed other)
+
+pub returns-in_err-make_changes-in-Err-clause-unfailed : goal.returns-in_err-make_changes-in-Err-clause-unfailed
+returns-in_err-make_changes-in-Err-clause-unfailed g c = unless_anyway c.from_residual-in_err-make_changes-in-Err.result _ c.in_ok-found.ensures.unfailed
+
+pub returns-in_ok-make_changes-in-Err-clause-unfailed : goal.returns-in_ok-make_changes-in-Err-clause-unfailed
+returns-in_ok-make_changes-in-Err-clause-unfailed g c = λ other. c.in_ok-found.ensures.unfailed

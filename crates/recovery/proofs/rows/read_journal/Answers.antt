@@ -6,7 +6,7 @@ use Rattle.depot_rows.specs.table_changes.Drafts.{rows_of_draft}
 use Rattle.recovery.specs.Damage.{IsJournalDamage}
 use Rattle.recovery.specs.Faults.{SaysNothing}
 use Rattle.recovery.specs.Pieces.{text_left, HasCome, IsBadPlace, IsFirst, IsTextDamage}
-use Rattle.recovery.proofs.PassedOn.{passed_on, passed_damage}
+use Rattle.recovery.proofs.PassedOn.{passed_on, passed_damage, unless_anyway, unless_passed}
 use Rattle.recovery.proofs.Journals.{next_fit, next_wanted, one_more, small_count, small_number}
 use Rattle.recovery.proofs.GroupDamage.{journal_text, journal_misfit}
 use Rattle.recovery.proofs.rows.read_journal.Goals as goal
@@ -86,5 +86,14 @@ loop-groups-preserved g c =
         no_more = λ f left. inv.reads.no_more f (reads.no_more f left);
         any_moment = then g.D.Disk.says c.args.disk.now c.loop-groups.disk c.next_changes.new.disk (g.D.Disk.says.may_leave c.args.disk.now) inv.reads.any_moment (weaker g.D.Disk.says c.loop-groups.disk c.next_changes.new.disk (g.D.Disk.says.may_leave c.loop-groups.disk) (g.D.Disk.says.may_leave c.args.disk.now) inv.reads.no_more reads.any_moment);
       };
-      faults = omega (arith, inv.faults, c.next_changes.ensures.cause.never_falls);
+      faults = c.in_ok-changes.ensures.unfailed ∙ inv.faults;
     }
+
+pub returns-in_err-groups-clause-unfailed : goal.returns-in_err-groups-clause-unfailed
+returns-in_err-groups-clause-unfailed g c = unless_passed c.from_residual.result c.in_err-groups.field-0.0 _ c.from_residual.ensures.1 (λ other. c.in_err-groups.ensures.unfailed other)
+
+pub returns-in_err-changes-clause-unfailed : goal.returns-in_err-changes-clause-unfailed
+returns-in_err-changes-clause-unfailed g c = unless_passed c.from_residual-in_err-changes.result c.in_err-changes.field-0.0 _ c.from_residual-in_err-changes.ensures.1 (λ other. c.in_err-changes.ensures.unfailed other ∙ c.loop-groups.invariant.faults)
+
+pub returns-in_err-make_changes-clause-unfailed : goal.returns-in_err-make_changes-clause-unfailed
+returns-in_err-make_changes-clause-unfailed g c = unless_anyway c.from_residual-in_err-make_changes.result _ (c.in_ok-changes.ensures.unfailed ∙ c.loop-groups.invariant.faults)

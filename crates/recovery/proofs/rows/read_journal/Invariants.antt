@@ -1,4 +1,4 @@
-use Rattle.std.proofs.Common.{◌≡◌, ◌+◌, ◌*◌, ◌-◌, ◌≤◌, ◌^◌}
+use Rattle.std.proofs.Common.{◌≡◌, ◌+◌, ◌*◌, ◌-◌, ◌^◌}
 use Rattle.depot_rows.specs.table_changes.Drafts.{rows_of_draft}
 use Rattle.recovery.specs.Looking.{OnlyReads}
 use Rattle.recovery.specs.Reading.{SoFar}
@@ -9,7 +9,7 @@ invariant-loop-groups g l = record {
   so_far : SoFar (g.D.Disk.says.seen l.fn.disk) (1 + 2 * l.generation) l.count l.groups (rows_of_draft l.fn.draft) (rows_of_draft l.draft);
   front : l.groups.front ≡ 0;
   reads : OnlyReads g.D.Disk.says l.fn.disk l.disk;
-  faults : g.D.Disk.says.faults l.fn.disk ≤ g.D.Disk.says.faults l.disk;
+  faults : g.D.Disk.says.faults l.disk ≡ g.D.Disk.says.faults l.fn.disk;
 }
 
 abbrev pub decreases-loop-groups : goal.decreases-loop-groups

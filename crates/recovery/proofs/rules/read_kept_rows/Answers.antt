@@ -5,7 +5,7 @@ use Rattle.recovery.specs.Faults.{Tells}
 use Rattle.recovery.specs.Rules.{SuitFiles}
 use Rattle.recovery.proofs.Damaged.{hold_found, one_generation, rules_damage}
 use Rattle.recovery.proofs.Looks.{passed_nothing}
-use Rattle.recovery.proofs.PassedOn.{passed_on}
+use Rattle.recovery.proofs.PassedOn.{passed_on, unless_anyway, unless_passed}
 use Rattle.recovery.proofs.rules.read_kept_rows.Goals as goal
 
 pub returns-in_err-found-clause-only : goal.returns-in_err-found-clause-only
@@ -35,3 +35,9 @@ returns-in_err-check_rules-clause-only g c = λ files rows read hold suit.
 
 pub returns-clause-only : goal.returns-clause-only
 returns-clause-only g c = λ files rows read hold suit table. c.in_ok-found.ensures.only files rows read hold table
+
+pub returns-in_err-found-clause-unfailed : goal.returns-in_err-found-clause-unfailed
+returns-in_err-found-clause-unfailed g c = unless_passed c.from_residual.result c.in_err-found.field-0.0 _ c.from_residual.ensures.1 (λ other. c.in_err-found.ensures.unfailed other)
+
+pub returns-in_err-check_rules-clause-unfailed : goal.returns-in_err-check_rules-clause-unfailed
+returns-in_err-check_rules-clause-unfailed g c = unless_anyway c.from_residual-in_err-check_rules.result _ c.in_ok-found.ensures.unfailed

@@ -1,7 +1,8 @@
-use Rattle.std.proofs.Common.{◌≡◌, ◌++◌, length, drop, arith, length-drop}
+use Rattle.std.proofs.Common.{◌≡◌, ◌++◌, length, drop, arith, length-drop, ◌∙◌}
 use Rattle.recovery.specs.Pieces.{text_left}
 use Rattle.recovery.proofs.Reading.{taken_first, first_before}
 use Rattle.recovery.proofs.Stopped.{stopped_before, stopped_bad, stopped_short}
+use Rattle.recovery.proofs.PassedOn.{unless_passed}
 use Rattle.recovery.proofs.pieces.FileGroups.next.Goals as goal
 
 pub returns-in-Ok-clause-text : goal.returns-in-Ok-clause-text
@@ -36,3 +37,6 @@ returns-then-self-clause-stopped g c = λ files read knows.
     let records = rw c.in-Err-Short.field-0-is at c.in-Err-Short.ensures.records in
     stopped_before c.args.self.now.reader.number state.number c.args.self.now.reader.at state.at (text_left c.args.self.now files) (state.left ++ rest) c.next.new.self place so_far.number so_far.at text.0
     (stopped_short state.number state.at state.left rest c.next.new.self place none short.0 short.1 records)
+
+pub returns-in_err-read_on-in-Err-Short-clause-unfailed : goal.returns-in_err-read_on-in-Err-Short-clause-unfailed
+returns-in_err-read_on-in-Err-Short-clause-unfailed g c = unless_passed c.from_residual.result c.in_err-read_on-in-Err-Short.field-0.0 _ c.from_residual.ensures.1 (λ other. c.in_err-read_on-in-Err-Short.ensures.unfailed other ∙ c.loop-found.invariant.faults)

@@ -1,4 +1,4 @@
-use Rattle.std.proofs.Common.{◌≡◌, ◌-◌, ◌≤◌}
+use Rattle.std.proofs.Common.{◌≡◌, ◌-◌}
 use Rattle.outside_api.specs.Disk.{Files}
 use Rattle.recovery.specs.Looking.{OnlyReads}
 use Rattle.recovery.specs.Pieces.{text_left, KnowsEnd}
@@ -12,7 +12,7 @@ invariant-loop-found g l = record {
   number : l.self.reader.number ≡ l.initial.self.reader.number;
   text : (files : Files) → g.D.Disk.says.seen l.initial.disk files → KnowsEnd l.initial.self files → (text_left l.self files ≡ text_left l.initial.self files) × KnowsEnd l.self files;
   reads : OnlyReads g.D.Disk.says l.initial.disk l.disk;
-  faults : g.D.Disk.says.faults l.initial.disk ≤ g.D.Disk.says.faults l.disk;
+  faults : g.D.Disk.says.faults l.disk ≡ g.D.Disk.says.faults l.initial.disk;
 }
 
 abbrev pub decreases-loop-found : goal.decreases-loop-found

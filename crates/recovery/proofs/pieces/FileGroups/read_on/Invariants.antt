@@ -14,7 +14,7 @@ invariant-loop g l = record {
   number : l.self.reader.number ≡ l.initial.self.reader.number;
   text : (files : Files) → g.D.Disk.says.seen l.initial.disk files → KnowsEnd l.initial.self files → (text_left l.self files ≡ text_left l.initial.self files) × KnowsEnd l.self files;
   reads : OnlyReads g.D.Disk.says l.initial.disk l.disk;
-  faults : g.D.Disk.says.faults l.initial.disk ≤ g.D.Disk.says.faults l.disk;
+  faults : g.D.Disk.says.faults l.disk ≡ g.D.Disk.says.faults l.initial.disk;
 }
 
 abbrev pub decreases-loop : goal.decreases-loop

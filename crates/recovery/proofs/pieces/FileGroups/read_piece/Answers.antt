@@ -1,6 +1,7 @@
 use Rattle.std.proofs.Common.{◌≡◌, ◌+◌, ◌≤◌, ◌++◌, length, take, drop, subst, arith, length-take, ap, ◌∙◌}
 use Rattle.journal_groups.specs.Reader.{State}
 use Rattle.recovery.proofs.Reading.{piece_read}
+use Rattle.recovery.proofs.PassedOn.{unless_anyway, unless_failed}
 use Rattle.recovery.proofs.pieces.FileGroups.read_piece.Goals as goal
 
 pub returns-clause-text : goal.returns-clause-text
@@ -16,3 +17,9 @@ returns-clause-text g c = λ files read knows.
           ∙ piece_read c.args.self.now.reader.left file c.fill.new.buffer _ c.args.self.now.read c.in_ok-count.count room part fits whole bytes,
       knows,
     )
+
+pub returns-in_err-count-clause-unfailed : goal.returns-in_err-count-clause-unfailed
+returns-in_err-count-clause-unfailed g c = unless_failed c.from_residual.result _ c.from_residual.ensures.1
+
+pub returns-in_err-more-clause-unfailed : goal.returns-in_err-more-clause-unfailed
+returns-in_err-more-clause-unfailed g c = unless_anyway c.from_residual-in_err-more.result _ c.in_ok-count.ensures.only
