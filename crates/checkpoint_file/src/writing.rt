@@ -71,6 +71,7 @@ pub fn write_generation<D: Disk>(
 
     ensures at_most { generation_of_journal journal.old ≢ 4095 → D.says.calls (disk_of journal.new) ≤ counted 5 (D.says.calls (disk_of journal.old)) }
     ensures never_falls { D.says.faults (disk_of journal.old) ≤ D.says.faults (disk_of journal.new) }
+    ensures only { result ≢ Err DiskFault → D.says.faults (disk_of journal.new) ≡ D.says.faults (disk_of journal.old) }
     ensures cause { result ≡ Err DiskFault → HasRisen (D.says.faults (disk_of journal.old)) (D.says.faults (disk_of journal.new)) }
 {
     if journal.generation() >= LAST {

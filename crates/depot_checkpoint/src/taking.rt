@@ -1,6 +1,6 @@
 //! Taking a checkpoint.
 
-ghost use Rattle.std.specs.Prelude.{◌≡◌, ◌<◌, ◌≤◌, List, None, IfOk, OnOk, Ok, Err};
+ghost use Rattle.std.specs.Prelude.{◌≡◌, ◌≢◌, ◌<◌, ◌≤◌, List, None, IfOk, OnOk, Ok, Err};
 ghost use Rattle.checkpoint_file.specs.Generations.{IsNext, IsOfDepot};
 ghost use Rattle.depot_rows.specs.depot_model.Deeds.{Deed};
 ghost use Rattle.depot_rows.specs.Standing.{Stand};
@@ -75,6 +75,7 @@ pub fn take_checkpoint<D: Disk>(
         LeavesOnly D.says (disk_of journal.old) (disk_of journal.new) (StandsBeforeOrAfter d archive) }
     ensures untouched { result ≡ Err faults.Memory → journal.new ≡ journal.old }
     ensures never_falls { D.says.faults (disk_of journal.old) ≤ D.says.faults (disk_of journal.new) }
+    ensures only { result ≢ Err faults.DiskFault → D.says.faults (disk_of journal.new) ≡ D.says.faults (disk_of journal.old) }
     ensures cause { result ≡ Err faults.DiskFault → HasRisen (D.says.faults (disk_of journal.old)) (D.says.faults (disk_of journal.new)) }
 {
     let generation = journal.generation();

@@ -5,7 +5,9 @@ use Rattle.std.specs.List.{AllByRecursion, filter}
 use Rattle.std.proofs.lemmas.List.{take_more}
 use Rattle.outside_api.specs.Disk.{Files, NoMore}
 use Rattle.depot_rows.specs.depot_path.Path.{printed}
-use Rattle.archive_file.specs.Archive.{AllHave, Has, end_of}
+use Rattle.archive_file.specs.Archive.{AllHave, Has, RisesForFaults, end_of}
+use Rattle.archive_file.specs.declared.archive.ContentFault.{ContentFault}
+use Rattle.archive_file.specs.declared.archive.ContentFault.TheVariants.{DiskFault, Memory}
 use Rattle.depot_rows.specs.db_records.Record.{table_of}
 use Rattle.depot_rows.specs.db_records.Table.{table_number}
 use Rattle.depot_rows.specs.db_records.declared.change.Change.{Change}
@@ -356,3 +358,8 @@ contents_follow images used used' from rows d e stores changes placed sound le k
         let here : HasContent (image 0) s.row bytes = subst (λ (x : RevRecord). HasContent (image 0) x bytes) (one_row found.0 s.row (sym found.1 ∙ s.there)) found.2 in
         subst (λ (x : Spot). Has (image 0) x bytes) (sym s.at) here
     at_spot image left spot bytes (inr among) = stored_at images image left stores from spot bytes stored among
+
+-- a fault that is passed on, after calls that didn't fail
+pub rises_on : (T : Type 0) {U : Type 0} (result : Result U ContentFault) (fault : ContentFault) (before mid now : ℕ) → result ≡ Err fault → mid ≡ before → RisesForFaults {T = T} mid now (Err fault) → RisesForFaults before now result
+rises_on T result DiskFault before mid now passed same rises = subst (RisesForFaults before now) (sym passed) tt
+rises_on T result Memory before mid now passed same rises = subst (RisesForFaults before now) (sym passed) (rises ∙ same)

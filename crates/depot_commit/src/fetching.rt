@@ -1,7 +1,7 @@
 //! Bytes of the journal, and contents of the archive.
 
-ghost use Rattle.std.specs.Prelude.{◌≡◌, ◌<◌, ℕ, List, [], length, IfOk};
-ghost use Rattle.archive_file.specs.Archive.{HasMemoryOr, disk_of as archive_disk_of};
+ghost use Rattle.std.specs.Prelude.{◌≡◌, ◌<◌, ℕ, List, [], length, IfOk, OnOk};
+ghost use Rattle.archive_file.specs.Archive.{HasMemoryOr, RisesForFaults, disk_of as archive_disk_of};
 ghost use Rattle.outside_api.specs.Count.{HasCause};
 ghost use Rattle.outside_api.specs.Disk.{Files};
 ghost use Rattle.outside_api.specs.Link.{Answers, Fits};
@@ -30,6 +30,7 @@ pub fn fetch_texts<D: Disk>(
     ensures answers { (texts : List (List ℕ)) → HasTexts D.says journal.old texts → IfOk result (λ fetched. Answers texts generation at fetched buffer.new) }
     ensures fits { IfOk result (λ fetched. Fits fetched (length buffer.old)) }
     ensures fetched { IsFetched D.says journal.old journal.new }
+    ensures only { OnOk result (D.says.faults (disk_of journal.new) ≡ D.says.faults (disk_of journal.old)) }
     ensures cause { HasCause (D.says.faults (disk_of journal.old)) (D.says.faults (disk_of journal.new)) result }
 {
     journal.fetch(generation, at, buffer)
@@ -46,6 +47,7 @@ pub fn read_contents<D: Disk>(
     ensures contents { (files : Files) (contents : List (List ℕ)) → D.says.seen (archive_disk_of archive.old) files → AreAt (files 0) places.now contents → IfOk result (λ texts. texts ≡ contents) }
     ensures read { IsRead D.says archive.old archive.new }
     ensures no_call { places.now ≡ [] → archive.new ≡ archive.old }
+    ensures only { RisesForFaults (D.says.faults (archive_disk_of archive.old)) (D.says.faults (archive_disk_of archive.new)) result }
     ensures cause { HasMemoryOr (D.says.faults (archive_disk_of archive.old)) (D.says.faults (archive_disk_of archive.new)) result }
 {
     if !are_within(places, archive.used()) {

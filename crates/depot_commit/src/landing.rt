@@ -192,6 +192,11 @@ pub fn place<D: Disk, S: Store, I: Imaging>(
     ensures no_call { told.changes ≡ [] → (tables.new ≡ tables.old) × (journal.new ≡ journal.old) × (store.new ≡ store.old) }
     ensures never_falls { D.says.faults (disk_of journal.old) ≤ D.says.faults (disk_of journal.new) }
     ensures never_falls_contents { S.faults store.old ≤ S.faults store.new }
+    // Where the place isn't that of a fault, no call of a disk failed, and all contents were read; so they were where memory was wanting.
+    ensures only { IfOk result (λ landed. landed.answer.place.fault ≡ false → D.says.faults (disk_of journal.new) ≡ D.says.faults (disk_of journal.old)) }
+    ensures only_contents { IfOk result (λ landed. landed.answer.place.fault ≡ false → S.faults store.new ≡ S.faults store.old) }
+    ensures read { IfOk result (λ landed. landed.answer.place.fault ≡ false → told.unread ≡ false) }
+    ensures no_memory { OnErr result (told.unread ≡ false) }
     ensures cause { IfOk result (λ landed. landed.answer.place.fault ≡ true → landed.lost ≡ false → HasRisen (D.says.faults (disk_of journal.old)) (D.says.faults (disk_of journal.new))) }
     ensures cause_contents { IfOk result (λ landed. landed.lost ≡ true → told.unread ≡ false → HasRisen (S.faults store.old) (S.faults store.new)) }
     ensures lost { IfOk result (λ landed. landed.lost ≡ true → landed.answer.place.fault ≡ true) }

@@ -36,6 +36,7 @@ pub trait Store {
         ensures stored { OnOk result (stores contents.now self.old self.new) }
         ensures unused { OnErr result (ends_at self.new used) }
         ensures unstored { OnErr result (stores [] self.old self.new) }
+        ensures only { OnOk result (faults self.new ≡ faults self.old) }
         ensures cause { HasCause (faults self.old) (faults self.new) result };
 
     /// Where nothing is asked of it none were stored.

@@ -1,7 +1,7 @@
 //! Contents that commands store in the archive, and contents that they read there or are given.
 
-ghost use Rattle.std.specs.Prelude.{◌≡◌, ◌↔◌, ◌+◌, ◌≤◌, ◌<◌, ◌^◌, ℕ, List, [], length, All, IsTrue, IfOk};
-ghost use Rattle.archive_file.specs.Archive.{HasMemoryOr, disk_of, used_of};
+ghost use Rattle.std.specs.Prelude.{◌≡◌, ◌↔◌, ◌+◌, ◌≤◌, ◌<◌, ◌^◌, ℕ, List, [], length, All, IsTrue, IfOk, OnOk};
+ghost use Rattle.archive_file.specs.Archive.{HasMemoryOr, RisesForFaults, disk_of, used_of};
 ghost use Rattle.outside_api.specs.Count.{HasCause};
 ghost use Rattle.outside_api.specs.Disk.{Files, NoMore, Same, StillTells};
 ghost use Rattle.depot_commit.specs.Storing.{AllReach, AllStored, AreAt, EndsBy, IsAt, KeepsBelow, stores_end};
@@ -32,6 +32,7 @@ pub(crate) fn store_all<D: Disk>(
     ensures used { used_of archive.new ≡ used_of archive.old }
     ensures no_call { contents.now ≡ [] → archive.new ≡ archive.old }
     ensures at_most { D.says.calls (disk_of archive.new) ≤ D.says.calls (disk_of archive.old) + length contents.now + 1 }
+    ensures only { OnOk result (D.says.faults (disk_of archive.new) ≡ D.says.faults (disk_of archive.old)) }
     ensures cause { HasCause (D.says.faults (disk_of archive.old)) (D.says.faults (disk_of archive.new)) result }
 {
     if contents.is_empty() {
@@ -79,6 +80,7 @@ fn read_one<D: Disk>(
     ensures same { Same (D.says.seen (disk_of archive.old)) (D.says.seen (disk_of archive.new)) }
     ensures crash { NoMore (D.says.may_leave (disk_of archive.old)) (D.says.may_leave (disk_of archive.new)) }
     ensures used { used_of archive.new ≡ used_of archive.old }
+    ensures only { RisesForFaults (D.says.faults (disk_of archive.old)) (D.says.faults (disk_of archive.new)) result }
     ensures cause { HasMemoryOr (D.says.faults (disk_of archive.old)) (D.says.faults (disk_of archive.new)) result }
 {
     match place {
@@ -103,6 +105,7 @@ pub(crate) fn read_all<D: Disk>(
     ensures crash { NoMore (D.says.may_leave (disk_of archive.old)) (D.says.may_leave (disk_of archive.new)) }
     ensures used { used_of archive.new ≡ used_of archive.old }
     ensures no_call { places.now ≡ [] → archive.new ≡ archive.old }
+    ensures only { RisesForFaults (D.says.faults (disk_of archive.old)) (D.says.faults (disk_of archive.new)) result }
     ensures cause { HasMemoryOr (D.says.faults (disk_of archive.old)) (D.says.faults (disk_of archive.new)) result }
 {
     let mut contents = Sequence::new(alloc);

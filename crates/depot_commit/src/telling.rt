@@ -1,6 +1,6 @@
 //! What a command is answered and does, once its reply is printed.
 
-ghost use Rattle.std.specs.Prelude.{◌≡◌, ◌≢◌, ◌≤◌, ℕ, List, [], ◌∷◌, All, IsFalse, IsTrue, true, false, IfOk, map};
+ghost use Rattle.std.specs.Prelude.{◌≡◌, ◌≢◌, ◌≤◌, ℕ, List, [], ◌∷◌, All, IsFalse, IsTrue, true, false, IfOk, OnErr, map};
 ghost use Rattle.archive_file.specs.Archive.{disk_of, used_of};
 ghost use Rattle.command_core.specs.Outcomes.{IsOutcome};
 ghost use Rattle.depot_rows.specs.depot_model.Deeds.{Deed};
@@ -182,6 +182,9 @@ pub fn tell_reading<D: Disk>(
     ensures used { used_of archive.new ≡ used_of archive.old }
     ensures no_call { outcome.reads ≡ [] → archive.new ≡ archive.old }
     ensures never_falls { D.says.faults (disk_of archive.old) ≤ D.says.faults (disk_of archive.new) }
+    // Where all contents were read, or memory was wanting, no call of the disk failed.
+    ensures only { IfOk result (λ told. told.unread ≡ false → D.says.faults (disk_of archive.new) ≡ D.says.faults (disk_of archive.old)) }
+    ensures no_memory { OnErr result (D.says.faults (disk_of archive.new) ≡ D.says.faults (disk_of archive.old)) }
     ensures cause { IfOk result (λ told. told.unread ≡ true → HasRisen (D.says.faults (disk_of archive.old)) (D.says.faults (disk_of archive.new))) }
 {
     if !is_ready(&outcome, archive.used()) {

@@ -123,6 +123,7 @@ pub(crate) fn commit<D: Disk>(
     ensures keeps { (was : Committed) (older : List (List (List ℕ))) → Stands D.says journal.old was nothing → KeepsOlder D.says journal.old older →
         KeepsOlder D.says journal.new (older_after was older (left_by writing) result) }
     ensures never_falls { D.says.faults (disk_of journal.old) ≤ D.says.faults (disk_of journal.new) }
+    ensures only { result ≡ false → D.says.faults (disk_of journal.new) ≡ D.says.faults (disk_of journal.old) }
     ensures cause { result ≡ true → HasRisen (D.says.faults (disk_of journal.old)) (D.says.faults (disk_of journal.new)) }
 {
     match writing {

@@ -152,6 +152,7 @@ impl<D: Disk> Journal<D> {
 
         ensures asked { OnOk result (D.says.calls (disk_of self.new) ≡ counted 4 (D.says.calls (disk_of self.old))) }
         ensures at_most { D.says.calls (disk_of self.new) ≤ counted 4 (D.says.calls (disk_of self.old)) }
+        ensures only { OnOk result (D.says.faults (disk_of self.new) ≡ D.says.faults (disk_of self.old)) }
         ensures cause { HasCause (D.says.faults (disk_of self.old)) (D.says.faults (disk_of self.new)) result }
     {
         let file = journal_file(self.end.generation);
@@ -200,6 +201,7 @@ impl<D: Disk> Journal<D> {
             OnOk result (D.says.calls (disk_of self.new) ≡ counted 2 (D.says.calls (disk_of self.old))) }
         ensures at_most { (was : Committed) (doubt : Doubtful) → Stands D.says self.old was doubt → doubt ≢ nothing →
             D.says.calls (disk_of self.new) ≤ counted 2 (D.says.calls (disk_of self.old)) }
+        ensures only { OnOk result (D.says.faults (disk_of self.new) ≡ D.says.faults (disk_of self.old)) }
         ensures cause { HasCause (D.says.faults (disk_of self.old)) (D.says.faults (disk_of self.new)) result }
     {
         match self.doubt {
@@ -249,6 +251,7 @@ impl<D: Disk> Journal<D> {
 
         ensures asked { OnOk result (D.says.calls (disk_of self.new) ≡ counted 5 (D.says.calls (disk_of self.old))) }
         ensures at_most { D.says.calls (disk_of self.new) ≤ counted 5 (D.says.calls (disk_of self.old)) }
+        ensures only { OnOk result (D.says.faults (disk_of self.new) ≡ D.says.faults (disk_of self.old)) }
         ensures cause { HasCause (D.says.faults (disk_of self.old)) (D.says.faults (disk_of self.new)) result }
     {
         let next = self.end.generation + 1;

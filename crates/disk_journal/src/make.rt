@@ -17,6 +17,7 @@ fn make_first<D: Disk>(disk: &mut D) -> Result<(), DiskFault>
     ensures any_moment { LeavesOnly D.says disk.old disk.new (After SameButFirst (D.says.may_leave disk.old)) }
     ensures asked { OnOk result (D.says.calls disk.new ≡ counted 3 (D.says.calls disk.old)) }
     ensures at_most { D.says.calls disk.new ≤ counted 3 (D.says.calls disk.old) }
+    ensures only { OnOk result (D.says.faults disk.new ≡ D.says.faults disk.old) }
     ensures cause { HasCause (D.says.faults disk.old) (D.says.faults disk.new) result }
 {
     disk.write_at(2, 0, b"@nx@ 0 0\n")?;
@@ -39,6 +40,7 @@ pub fn make_files<D: Disk>(disk: &mut D) -> Result<(), DiskFault>
     ensures any_moment { LeavesOnly D.says disk.old disk.new (After IsBeingMade (D.says.may_leave disk.old)) }
     ensures asked { OnOk result (D.says.calls disk.new ≡ counted 5 (D.says.calls disk.old)) }
     ensures at_most { D.says.calls disk.new ≤ counted 5 (D.says.calls disk.old) }
+    ensures only { OnOk result (D.says.faults disk.new ≡ D.says.faults disk.old) }
     ensures cause { HasCause (D.says.faults disk.old) (D.says.faults disk.new) result }
 {
     make_first(disk)?;

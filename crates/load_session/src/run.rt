@@ -3,7 +3,7 @@
 ghost use Rattle.std.specs.Prelude.{◌≡◌, ◌≤◌, ◌∷◌, [], ℕ, List, Option, Some, None, length, false, IfOk, OnErr};
 ghost use Rattle.depot_model.specs.Deeds.{Deed};
 ghost use Rattle.session_loop.specs.Asking.{AreWellFormed, asking_of, commands_of};
-ghost use Rattle.session_loop.specs.Served.{AreCaused};
+ghost use Rattle.session_loop.specs.Served.{AreCaused, StandWithoutFaults};
 ghost use Rattle.load_script.specs.Script.{script_of};
 ghost use Rattle.load_session.specs.Loading.{IsAskedBy, IsLoaded, IsReadLoad, load_session as session_of};
 
@@ -55,6 +55,7 @@ fn run_read<T: Taker, C: Clock, G: Gate>(
     ensures commands { result ≡ length (commands_of session) }
     ensures loaded { (since : ℕ) (start : List Deed) → AreWellFormed (commands_of session) → T.has_run taker.old since start [] →
         IsLoaded (C.says.may_give clock.now) (T.has_run taker.new since) start session order.new.items }
+    ensures stand { StandWithoutFaults (T.faults taker.old) (T.faults taker.new) (T.content_faults taker.old) (T.content_faults taker.new) [] order.new.items }
     ensures faults { AreCaused (T.faults taker.old) (T.faults taker.new) (T.content_faults taker.old) (T.content_faults taker.new) [] order.new.items }
 {
     match session {
@@ -83,6 +84,7 @@ pub fn run_load<T: Taker, C: Clock, G: Gate>(
     ensures commands { IfOk result (λ run. run.commands ≡ length (commands_of (session_of seed count))) }
     ensures loaded { (since : ℕ) (start : List Deed) → T.has_run taker.old since start [] → IfOk result (λ run.
         IsLoaded (C.says.may_give clock.now) (T.has_run taker.new since) start (session_of seed count) run.order) }
+    ensures stand { IfOk result (λ run. StandWithoutFaults (T.faults taker.old) (T.faults taker.new) (T.content_faults taker.old) (T.content_faults taker.new) [] run.order) }
     ensures faults { IfOk result (λ run. AreCaused (T.faults taker.old) (T.faults taker.new) (T.content_faults taker.old) (T.content_faults taker.new) [] run.order) }
 {
     let script = load_script(alloc, seed, count)?;

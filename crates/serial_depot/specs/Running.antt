@@ -4,7 +4,7 @@ use Rattle.outside_api.specs.Disk.{Files}
 use Rattle.outside_api.specs.Says.{DiskSays}
 use Rattle.archive_file.specs.Archive as archives
 use Rattle.disk_journal.specs.Images.{Committed}
-use Rattle.disk_journal.specs.Stands.{Doubtful, Stands}
+use Rattle.disk_journal.specs.Stands.{Doubtful, Stands, disk_of}
 use Rattle.depot_rows.specs.depot_model.Deeds.{Deed}
 use Rattle.depot_rows.specs.depot_model.Places.{Placed}
 use Rattle.depot_commit.specs.Running.{HasRunOver}
@@ -23,3 +23,8 @@ pub record CanTake {D : Type 0} (disk_says : DiskSays D) (depot : SerialDepot D)
   pub stands : Stands disk_says depot.journal was doubt
   pub end : depot.tables.archive_end ≡ archives.used_of depot.archive
   pub room : AllReach (disk_says.may_leave (archives.disk_of depot.archive)) (archives.used_of depot.archive)
+
+-- the counts of faults of both disks stand: no call failed between these two moments
+pub record HaveStood {D : Type 0} (disk_says : DiskSays D) (old new : SerialDepot D) : Type 0 where
+  pub journal : disk_says.faults (disk_of new.journal) ≡ disk_says.faults (disk_of old.journal)
+  pub archive : disk_says.faults (archives.disk_of new.archive) ≡ disk_says.faults (archives.disk_of old.archive)

@@ -1,7 +1,7 @@
 //! What a replica asks of the depot that it follows: bytes of the journal, and contents of the archive.
 
-ghost use Rattle.std.specs.Prelude.{◌≡◌, ◌<◌, ℕ, List, [], length, IfOk};
-ghost use Rattle.archive_file.specs.Archive.{HasMemoryOr, disk_of as archive_disk_of};
+ghost use Rattle.std.specs.Prelude.{◌≡◌, ◌<◌, ℕ, List, [], length, IfOk, OnOk};
+ghost use Rattle.archive_file.specs.Archive.{HasMemoryOr, RisesForFaults, disk_of as archive_disk_of};
 ghost use Rattle.outside_api.specs.Count.{HasCause};
 ghost use Rattle.outside_api.specs.Disk.{Files};
 ghost use Rattle.outside_api.specs.Link.{Answers, Fits};
@@ -40,6 +40,7 @@ impl<D: Disk> SerialDepot<D> {
         ensures tables { self.new.tables ≡ self.old.tables }
         ensures archive { self.new.archive ≡ self.old.archive }
         ensures stored { KeepsStored D.says self.old.archive self.new.archive }
+        ensures only { OnOk result (D.says.faults (disk_of self.new.journal) ≡ D.says.faults (disk_of self.old.journal)) }
         ensures cause { HasCause (D.says.faults (disk_of self.old.journal)) (D.says.faults (disk_of self.new.journal)) result }
     {
         fetch_texts(&mut self.journal, generation, at, buffer)
@@ -61,6 +62,7 @@ impl<D: Disk> SerialDepot<D> {
         ensures groups { (c : Chronicle) → HasGroups D.says self.old.journal c → HasGroups D.says self.new.journal c }
         ensures stored { KeepsStored D.says self.old.archive self.new.archive }
         ensures no_call { places.now ≡ [] → self.new ≡ self.old }
+        ensures only { RisesForFaults (D.says.faults (archive_disk_of self.old.archive)) (D.says.faults (archive_disk_of self.new.archive)) result }
         ensures cause { HasMemoryOr (D.says.faults (archive_disk_of self.old.archive)) (D.says.faults (archive_disk_of self.new.archive)) result }
     {
         read_contents(alloc, &mut self.archive, places)

@@ -1,6 +1,6 @@
 //! Taking commands one after another.
 
-ghost use Rattle.std.specs.Prelude.{◌≡◌, ◌⊎◌, ◌≤◌, ℕ, List, [], true, None, IfOk, IfSome, OnErr};
+ghost use Rattle.std.specs.Prelude.{◌≡◌, ◌⊎◌, ◌≤◌, ℕ, List, [], true, false, None, IfOk, IfSome, OnErr};
 ghost use Rattle.archive_file.specs.Archive.{disk_of as archive_disk_of};
 ghost use Rattle.outside_api.specs.Count.{HasRisen};
 ghost use Rattle.depot_rows.specs.depot_model.Deeds.{Deed};
@@ -16,7 +16,7 @@ ghost use Rattle.session_loop.specs.Taking.{Answers, IsProper, with_place};
 ghost use Rattle.depot_commit.specs.Committing.{AreRowsAfter, IsOutcomeOf};
 ghost use Rattle.depot_commit.specs.Growing.{Chronicle, HasGroups, KeepsStored, grown};
 ghost use Rattle.depot_commit.specs.Opening.{opens_generation};
-ghost use Rattle.serial_depot.specs.Running.{CanTake, HasRun};
+ghost use Rattle.serial_depot.specs.Running.{CanTake, HasRun, HaveStood};
 
 use crate::depot::SerialDepot;
 use archive_file::Archive;
@@ -62,6 +62,9 @@ impl<D: Disk> SerialDepot<D> {
         ensures no_call { outcome.changes ≡ [] → outcome.reads ≡ [] → self.new ≡ self.old }
         ensures never_falls { D.says.faults (disk_of self.old.journal) ≤ D.says.faults (disk_of self.new.journal) }
         ensures never_falls_contents { D.says.faults (archive_disk_of self.old.archive) ≤ D.says.faults (archive_disk_of self.new.archive) }
+        // Where the place isn't that of a fault, and where memory was wanting, no call of a disk failed.
+        ensures only { IfOk result (λ answer. answer.place.fault ≡ false → HaveStood D.says self.old self.new) }
+        ensures no_memory { OnErr result (HaveStood D.says self.old self.new) }
         ensures cause { IfOk result (λ answer. answer.place.fault ≡ true → HasRisen (D.says.faults (disk_of self.old.journal)) (D.says.faults (disk_of self.new.journal)) ⊎ HasRisen (D.says.faults (archive_disk_of self.old.archive)) (D.says.faults (archive_disk_of self.new.archive))) }
     {
         let told = match tell_reading(alloc, &mut self.archive, outcome, request.number) {
@@ -126,6 +129,9 @@ impl<D: Disk> SerialDepot<D> {
             SameRows d (after d (step d request.now).deeds) → contents_of (step d request.now).rows ≡ [] → self.new ≡ self.old }
         ensures never_falls { D.says.faults (disk_of self.old.journal) ≤ D.says.faults (disk_of self.new.journal) }
         ensures never_falls_contents { D.says.faults (archive_disk_of self.old.archive) ≤ D.says.faults (archive_disk_of self.new.archive) }
+        // Where the place isn't that of a fault, and where memory was wanting, no call of a disk failed.
+        ensures only { IfOk result (λ answer. answer.place.fault ≡ false → HaveStood D.says self.old self.new) }
+        ensures no_memory { OnErr result (HaveStood D.says self.old self.new) }
         ensures cause { IfOk result (λ answer. answer.place.fault ≡ true → HasRisen (D.says.faults (disk_of self.old.journal)) (D.says.faults (disk_of self.new.journal)) ⊎ HasRisen (D.says.faults (archive_disk_of self.old.archive)) (D.says.faults (archive_disk_of self.new.archive))) }
     {
         self.take_outcome(alloc, gate, request, outcome, Some(changed))
@@ -153,6 +159,9 @@ impl<D: Disk> SerialDepot<D> {
             contents_of (step d request.now).rows ≡ [] → self.new ≡ self.old }
         ensures never_falls { D.says.faults (disk_of self.old.journal) ≤ D.says.faults (disk_of self.new.journal) }
         ensures never_falls_contents { D.says.faults (archive_disk_of self.old.archive) ≤ D.says.faults (archive_disk_of self.new.archive) }
+        // Where the place isn't that of a fault, and where memory was wanting, no call of a disk failed.
+        ensures only { IfOk result (λ answer. answer.place.fault ≡ false → HaveStood D.says self.old self.new) }
+        ensures no_memory { OnErr result (HaveStood D.says self.old self.new) }
         ensures cause { IfOk result (λ answer. answer.place.fault ≡ true → HasRisen (D.says.faults (disk_of self.old.journal)) (D.says.faults (disk_of self.new.journal)) ⊎ HasRisen (D.says.faults (archive_disk_of self.old.archive)) (D.says.faults (archive_disk_of self.new.archive))) }
     {
         let outcome = evaluate(alloc, &self.tables, request)?;

@@ -25,6 +25,11 @@ abbrev pub AreCaused : ℕ → ℕ → ℕ → ℕ → List Place → List Place
 AreCaused before now contents_before contents_now old_order new_order =
     (n : ℕ) × (m : ℕ) × (fault_count new_order ≡ fault_count old_order + (n + m)) × (counted n before ≤ now) × (counted m contents_before ≤ contents_now)
 
+-- where no fault place came the two counts stand
+abbrev pub StandWithoutFaults : ℕ → ℕ → ℕ → ℕ → List Place → List Place → Type 0
+StandWithoutFaults before now contents_before contents_now old_order new_order =
+    fault_count new_order ≡ fault_count old_order → (now ≡ before) × (contents_now ≡ contents_before)
+
 -- The command has the last place. There it did, and was answered, what the model says: at a fault place nothing, and the row of a fault.
 pub record IsTaken (may_give : ℕ → Type 0) (has_run : List Deed → List Placed → Type 0) (party number : ℕ) (caller : Caller) (asked : Asked) (start : List Deed) (places : List Placed) (old_order new_order : List Place) (text : List ℕ) : Type 0 where
   pub place : Place

@@ -7,7 +7,7 @@ ghost use Rattle.depot_model.specs.Places.{Placed};
 ghost use Rattle.depot_model.specs.declared.request.Session.{Session};
 ghost use Rattle.depot_runs.specs.Run.{placed};
 ghost use Rattle.session_loop.specs.Asking.{AreProper, AreWellFormed};
-ghost use Rattle.session_loop.specs.Served.{AreCaused, IsTaken, IsAnswered, IsServed};
+ghost use Rattle.session_loop.specs.Served.{AreCaused, IsTaken, IsAnswered, IsServed, StandWithoutFaults};
 
 use crate::requests::request;
 use crate::taker::Taker;
@@ -53,6 +53,7 @@ fn take_command<T: Taker, G: Gate>(
         IfOk result (IsTaken (λ moment. moment ≡ place.moment) (T.has_run taker.new since) place.party place.number caller.now asked start places order.old.items order.new.items) }
     ensures nothing { (since : ℕ) (start : List Deed) (places : List Placed) → T.has_run taker.old since start places → OnErr result (T.has_run taker.new since start places) }
     ensures same_order { OnErr result (order.new.items ≡ order.old.items) }
+    ensures stand { StandWithoutFaults (T.faults taker.old) (T.faults taker.new) (T.content_faults taker.old) (T.content_faults taker.new) order.old.items order.new.items }
     ensures cause { AreCaused (T.faults taker.old) (T.faults taker.new) (T.content_faults taker.old) (T.content_faults taker.new) order.old.items order.new.items }
 {
     let request = with_room(order, request(&place, caller, asked)?)?;
@@ -76,6 +77,7 @@ fn answer<T: Taker, K: Sink, G: Gate>(
     ensures can { T.can_take taker.new }
     ensures answered { (since : ℕ) (start : List Deed) (places : List Placed) → T.has_run taker.old since start places → AreProper asked.command asked.contents →
         IsAnswered (λ moment. moment ≡ place.moment) (T.has_run taker.new since) place.party place.number caller.now asked start places order.old.items order.new.items (K.says.given sink.old) (K.says.given sink.new) result }
+    ensures stand { StandWithoutFaults (T.faults taker.old) (T.faults taker.new) (T.content_faults taker.old) (T.content_faults taker.new) order.old.items order.new.items }
     ensures places { AreCaused (T.faults taker.old) (T.faults taker.new) (T.content_faults taker.old) (T.content_faults taker.new) order.old.items order.new.items }
     ensures cause { HasCause (K.says.faults sink.old) (K.says.faults sink.new) result }
 {
@@ -115,7 +117,8 @@ pub fn run_session<T: Taker, K: Sink, C: Clock, G: Gate>(
     ensures counts { K.says.faults sink.old ≤ K.says.faults sink.new }
     ensures cause { result.failed ≡ true → HasRisen (K.says.faults sink.old) (K.says.faults sink.new) }
 
-    // There are at most as many fault places as the taker's two counts rose.
+    // There are at most as many fault places as the taker's two counts rose, and where there is none the counts stand.
+    ensures stand { StandWithoutFaults (T.faults taker.old) (T.faults taker.new) (T.content_faults taker.old) (T.content_faults taker.new) [] order.new.items }
     ensures faults { AreCaused (T.faults taker.old) (T.faults taker.new) (T.content_faults taker.old) (T.content_faults taker.new) [] order.new.items }
 {
     let Session { caller, commands } = session;

@@ -1,6 +1,6 @@
 //! Who takes commands.
 
-ghost use Rattle.std.specs.Prelude.{◌≡◌, ◌⊎◌, ◌≤◌, ℕ, List, true, IfOk, OnErr};
+ghost use Rattle.std.specs.Prelude.{◌≡◌, ◌⊎◌, ◌≤◌, ℕ, List, true, false, IfOk, OnErr};
 ghost use Rattle.outside_api.specs.Count.{HasRisen};
 ghost use Rattle.depot_model.specs.Deeds.{Deed};
 ghost use Rattle.depot_model.specs.Places.{Placed, taken};
@@ -51,5 +51,8 @@ pub trait Taker {
         ensures no_call { (since : ℕ) (start : List Deed) (places : List Placed) → has_run self.old since start places → IsProper request → ChangesNoRow (taken step start places) request → PrintsNoContent (taken step start places) request → untouched self.old self.new }
         ensures never_falls { faults self.old ≤ faults self.new }
         ensures never_falls_contents { content_faults self.old ≤ content_faults self.new }
+        // Where the place isn't that of a fault, and where memory was wanting, nothing that was called failed.
+        ensures only { IfOk result (λ answer. answer.place.fault ≡ false → (faults self.new ≡ faults self.old) × (content_faults self.new ≡ content_faults self.old)) }
+        ensures no_memory { OnErr result ((faults self.new ≡ faults self.old) × (content_faults self.new ≡ content_faults self.old)) }
         ensures cause { IfOk result (λ answer. answer.place.fault ≡ true → HasRisen (faults self.old) (faults self.new) ⊎ HasRisen (content_faults self.old) (content_faults self.new)) };
 }

@@ -1,4 +1,4 @@
-use Rattle.std.proofs.Common.{◌+◌, List, ℕ, subst}
+use Rattle.std.proofs.Common.{◌+◌, List, ℕ, subst, rules}
 use Rattle.outside_api.specs.Moments.{LeavesOnly, weaker}
 use Rattle.disk_journal.specs.Images.{HasEither, with_generation}
 use Rattle.disk_journal.specs.Stands.{Stands, disk_of, nothing}
@@ -53,3 +53,6 @@ pub returns-clause-opened : goal.returns-clause-opened
 returns-clause-opened g c = λ was rows d archive stands of_depot next image left.
     let Stood : List ℕ → Type 0 = λ text. Stands g.D.Disk.says c.begin_generation.new.self (with_generation was text) nothing in
     stands_after was rows d archive of_depot c.args.text.now next image ((subst Stood c.as_bytes.ensures (c.in_ok-generation.ensures.ok was stands)).holds image left)
+
+pub returns-in_err-generation-clause-only : goal.returns-in_err-generation-clause-only
+returns-in_err-generation-clause-only g c = λ other. absurd (other (search rules))

@@ -47,3 +47,11 @@ returns-clause-any_moment g c = λ was d archive stands of_depot.
     weaker g.D.Disk.says (disk_of c.args.journal.now) (disk_of c.write_generation.new.journal) (StandsForEither (was.generation + 1) d archive) (StandsBeforeOrAfter d archive)
     (stands_either was (rows_of c.args.tables.now) d archive of_depot (subst (λ (k : ℕ). k < 4095) same less))
     (c.write_generation.ensures.opens was (rows_of c.args.tables.now) d archive stands of_depot next)
+
+-- ---- the count of the disk
+
+pub returns-in-Ok-clause-only : goal.returns-in-Ok-clause-only
+returns-in-Ok-clause-only g c = λ other. c.in-Ok.ensures.only (λ failed. absurd cc)
+
+pub returns-in-Err-NoGeneration-clause-only : goal.returns-in-Err-NoGeneration-clause-only
+returns-in-Err-NoGeneration-clause-only g c = λ other. c.in-Err-NoGeneration.ensures.only (λ failed. absurd cc)

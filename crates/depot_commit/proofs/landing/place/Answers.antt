@@ -95,6 +95,9 @@ returns-then-is_unwritten-clause-grows g c = λ d all outcome stand proper is t 
     (nothing_grows c.land_nothing.result told.unread (c.land_nothing.ensures.fault ∙ c.is_unread-lost.ensures) c.land_nothing.ensures.nothing.1 g.D.Disk.says c.args.journal.now opens told.changes all
     (grown_unwritten told (c.is_unwritten.ensures.unwritten c.if-is_unwritten.true) opens all) has)
 
+pub returns-then-is_unwritten-clause-read : goal.returns-then-is_unwritten-clause-read
+returns-then-is_unwritten-clause-read g c = λ whole. sym c.is_unread-lost.ensures ∙ (sym c.land_nothing.ensures.fault ∙ whole)
+
 pub returns-then-is_unwritten-clause-cause : goal.returns-then-is_unwritten-clause-cause
 returns-then-is_unwritten-clause-cause g c = λ fault kept. absurd (true≢false (sym fault ∙ (c.land_nothing.ensures.fault ∙ (sym c.land_nothing.ensures.lost ∙ kept))))
 
@@ -106,6 +109,9 @@ returns-then-is_unwritten-clause-lost g c = λ lost. c.land_nothing.ensures.faul
 
 pub returns-then-is_unwritten-clause-none : goal.returns-then-is_unwritten-clause-none
 returns-then-is_unwritten-clause-none g c = λ none. c.land_nothing.ensures.nothing.1
+
+pub returns-in-Err-clause-no_memory : goal.returns-in-Err-clause-no_memory
+returns-in-Err-clause-no_memory g c = c.is_unwritten.ensures.read c.if-is_unwritten.false
 
 pub returns-in-Err-clause-no_call : goal.returns-in-Err-clause-no_call
 returns-in-Err-clause-no_call g c = λ none. (refl, refl, refl)
@@ -149,6 +155,12 @@ returns-in-Err-settle-clause-grows g c = λ d all outcome stand proper is t has.
 
 pub returns-in-Err-settle-clause-no_call : goal.returns-in-Err-settle-clause-no_call
 returns-in-Err-settle-clause-no_call g c = λ none. absurd (c.is_unwritten.ensures.some c.if-is_unwritten.false none)
+
+pub returns-in-Err-settle-clause-only : goal.returns-in-Err-settle-clause-only
+returns-in-Err-settle-clause-only g c = λ whole. absurd (true≢false (sym c.land_nothing-in-Err-settle.ensures.fault ∙ whole))
+
+pub returns-in-Err-settle-clause-read : goal.returns-in-Err-settle-clause-read
+returns-in-Err-settle-clause-read g c = λ whole. c.is_unwritten.ensures.read c.if-is_unwritten.false
 
 pub returns-in-Err-settle-clause-cause : goal.returns-in-Err-settle-clause-cause
 returns-in-Err-settle-clause-cause g c = λ failed kept. c.in-Err-settle.ensures.cause.risen
@@ -203,6 +215,15 @@ returns-in-Err-store-clause-grows g c = λ d all outcome stand proper is t has.
 
 pub returns-in-Err-store-clause-no_call : goal.returns-in-Err-store-clause-no_call
 returns-in-Err-store-clause-no_call g c = λ none. absurd (c.is_unwritten.ensures.some c.if-is_unwritten.false none)
+
+pub returns-in-Err-store-clause-only : goal.returns-in-Err-store-clause-only
+returns-in-Err-store-clause-only g c = λ whole. absurd (true≢false (sym c.land_nothing-in-Err-store.ensures.fault ∙ whole))
+
+pub returns-in-Err-store-clause-only_contents : goal.returns-in-Err-store-clause-only_contents
+returns-in-Err-store-clause-only_contents g c = λ whole. absurd (true≢false (sym c.land_nothing-in-Err-store.ensures.fault ∙ whole))
+
+pub returns-in-Err-store-clause-read : goal.returns-in-Err-store-clause-read
+returns-in-Err-store-clause-read g c = λ whole. c.is_unwritten.ensures.read c.if-is_unwritten.false
 
 pub returns-in-Err-store-clause-cause : goal.returns-in-Err-store-clause-cause
 returns-in-Err-store-clause-cause g c = λ failed kept. absurd (true≢false (sym c.land_nothing-in-Err-store.ensures.lost ∙ kept))
@@ -325,6 +346,15 @@ returns-clause-grows g c = λ d all outcome stand proper is t has.
 
 pub returns-clause-no_call : goal.returns-clause-no_call
 returns-clause-no_call g c = λ none. absurd (c.is_unwritten.ensures.some c.if-is_unwritten.false none)
+
+pub returns-clause-only : goal.returns-clause-only
+returns-clause-only g c = λ whole. c.commit-failed.ensures.only (sym c.land_stored.ensures.fault ∙ whole) ∙ c.in-Ok-settle.ensures.only
+
+pub returns-clause-only_contents : goal.returns-clause-only_contents
+returns-clause-only_contents g c = λ whole. c.in-Ok-store.ensures.only
+
+pub returns-clause-read : goal.returns-clause-read
+returns-clause-read g c = λ whole. c.is_unwritten.ensures.read c.if-is_unwritten.false
 
 pub returns-clause-cause : goal.returns-clause-cause
 returns-clause-cause g c = λ failed kept.

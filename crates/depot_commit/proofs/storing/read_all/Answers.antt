@@ -1,11 +1,11 @@
-use Rattle.std.proofs.Common.{◌≡◌, ℕ, [], ◌∷◌, Result, Err, ◌++◌, length, refl, sym, ap, subst, ◌∙◌, arith, rules}
+use Rattle.std.proofs.Common.{◌≡◌, ℕ, List, [], ◌∷◌, Result, Err, ◌++◌, length, refl, sym, ap, subst, ◌∙◌, arith, rules}
 use Rattle.std.proofs.lemmas.List.{take_all}
 use Rattle.archive_file.specs.Archive.{used_of}
 use Rattle.archive_file.specs.declared.archive.ContentFault.{ContentFault}
 use Rattle.archive_file.specs.declared.archive.ContentFault.TheVariants.{DiskFault}
 use Rattle.reply_rows.specs.declared.content.RowContent.{RowContent}
 use Rattle.depot_commit.specs.Storing.{EndsBy, IsAt}
-use Rattle.depot_commit.proofs.Stored.{at_index, at_length}
+use Rattle.depot_commit.proofs.Stored.{at_index, at_length, rises_on}
 use Rattle.depot_commit.proofs.storing.read_all.Goals as goal
 
 same_fault : {T : Type 0} (result : Result T ContentFault) (one other : ContentFault) → result ≡ Err one → result ≡ Err other → one ≡ other
@@ -18,7 +18,7 @@ loop-place-init g c = record {
   more = λ files left. left;
   used = refl;
   untouched = λ none. refl;
-  counts = omega arith;
+  counts = refl;
 }
 
 pub read_one-requires : goal.read_one-requires
@@ -31,8 +31,6 @@ read_one-requires g c =
 pub loop-place-preserved : goal.loop-place-preserved
 loop-place-preserved g c =
     let at = c.loop-place in
-    let counts = at.invariant.counts in
-    let risen = c.in_ok-content.ensures.cause.never_falls in
     record {
       contents = λ files contents read are.
           let place = c.place-item.result in
@@ -48,7 +46,7 @@ loop-place-preserved g c =
       more = λ files left. at.invariant.more files (c.in_ok-content.ensures.crash files left);
       used = c.in_ok-content.ensures.used ∙ at.invariant.used;
       untouched = λ none. absurd (omega (arith, none));
-      counts = omega (arith, counts, risen);
+      counts = c.in_ok-content.ensures.only ∙ at.invariant.counts;
     }
 
 pub returns-clause-contents : goal.returns-clause-contents
@@ -90,7 +88,15 @@ returns-in_err-content-clause-cause g c =
           omega (arith, counts, risen);
     }
 
+pub returns-in_err-content-clause-only : goal.returns-in_err-content-clause-only
+returns-in_err-content-clause-only g c =
+    let passed : c.from_residual.result ≡ Err c.in_err-content.field-0.0 = search rules in
+    rises_on (List ℕ) c.from_residual.result c.in_err-content.field-0.0 _ _ _ passed c.loop-place.invariant.counts c.in_err-content.ensures.only
+
 -- ---- no memory was left to keep it
+
+pub returns-in-Err-clause-only : goal.returns-in-Err-clause-only
+returns-in-Err-clause-only g c = c.in_ok-content.ensures.only ∙ c.loop-place.invariant.counts
 
 pub returns-in-Err-clause-same : goal.returns-in-Err-clause-same
 returns-in-Err-clause-same g c =

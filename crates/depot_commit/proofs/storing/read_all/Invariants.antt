@@ -1,4 +1,4 @@
-use Rattle.std.proofs.Common.{◌≡◌, ◌≤◌, ℕ, List, take}
+use Rattle.std.proofs.Common.{◌≡◌, ℕ, List, take}
 use Rattle.archive_file.specs.Archive.{disk_of, used_of}
 use Rattle.outside_api.specs.Disk.{Files, NoMore, Same}
 use Rattle.depot_commit.specs.Storing.{AreAt}
@@ -11,5 +11,5 @@ invariant-loop-place g l = record {
   more : NoMore (g.D.Disk.says.may_leave (disk_of l.fn.archive)) (g.D.Disk.says.may_leave (disk_of l.archive));
   used : used_of l.archive ≡ used_of l.fn.archive;
   untouched : l.place-index ≡ 0 → l.archive ≡ l.fn.archive;
-  counts : g.D.Disk.says.faults (disk_of l.fn.archive) ≤ g.D.Disk.says.faults (disk_of l.archive);
+  counts : g.D.Disk.says.faults (disk_of l.archive) ≡ g.D.Disk.says.faults (disk_of l.fn.archive);
 }

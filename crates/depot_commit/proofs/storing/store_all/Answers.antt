@@ -28,7 +28,7 @@ loop-content-init g c = record {
   told = λ files read. (files, read);
   used = refl;
   calls = omega arith;
-  counts = omega arith;
+  counts = refl;
 }
 
 pub write-requires-clause-above : goal.write-requires-clause-above
@@ -54,8 +54,6 @@ loop-content-preserved g c =
     let above = at.invariant.above in
     let calls = at.invariant.calls in
     let asked = c.in_ok-spot.ensures.asked in
-    let counts = at.invariant.counts in
-    let risen = c.in_ok-spot.ensures.cause.never_falls in
     record {
       end_is = omega (arith, end_is, was, more);
       above = omega (arith, above, end_is);
@@ -67,7 +65,7 @@ loop-content-preserved g c =
       told = λ files seen. let mid = at.invariant.told files seen in c.write.ensures.told mid.0 mid.1;
       used = c.write.ensures.used ∙ at.invariant.used;
       calls = omega (arith, calls, asked);
-      counts = omega (arith, counts, risen);
+      counts = c.in_ok-spot.ensures.only ∙ at.invariant.counts;
     }
 
 -- ---- a content couldn't be written
@@ -112,6 +110,9 @@ returns-clause-stored g c =
     let written = subst (λ (l : List (List ℕ)). AllStored read l c.args.at) all at.invariant.written in
     let end = stores_end c.args.contents.now c.args.at in
     stored_kept read images end c.args.contents.now c.args.at (keeps_more read images end c.in_ok-sync.ensures.durable) (omega arith) written
+
+pub returns-clause-only : goal.returns-clause-only
+returns-clause-only g c = c.in_ok-sync.ensures.only ∙ c.loop-content.invariant.counts
 
 pub returns-clause-room : goal.returns-clause-room
 returns-clause-room g c = λ image left. c.loop-content.invariant.room image (c.in_ok-sync.ensures.durable image left)

@@ -15,5 +15,5 @@ invariant-loop-content g l = record {
   told : StillTells (g.D.Disk.says.seen (disk_of l.fn.archive)) (g.D.Disk.says.seen (disk_of l.archive));
   used : used_of l.archive ≡ used_of l.fn.archive;
   calls : g.D.Disk.says.calls (disk_of l.archive) ≤ g.D.Disk.says.calls (disk_of l.fn.archive) + l.content-index;
-  counts : g.D.Disk.says.faults (disk_of l.fn.archive) ≤ g.D.Disk.says.faults (disk_of l.archive);
+  counts : g.D.Disk.says.faults (disk_of l.archive) ≡ g.D.Disk.says.faults (disk_of l.fn.archive);
 }

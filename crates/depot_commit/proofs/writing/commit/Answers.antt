@@ -1,4 +1,5 @@
 use Rattle.std.proofs.Common.{◌≡◌, ℕ, ◌<◌, Err, refl, sym, subst, arith, true, false}
+use Rattle.std.proofs.lemmas.Bool.{true≢false}
 use Rattle.checkpoint_file.specs.declared.fault.CheckpointFault.{CheckpointFault}
 use Rattle.checkpoint_file.specs.declared.fault.CheckpointFault.TheVariants.{NoGeneration, DiskFault}
 use Rattle.outside_api.specs.Count.{HasRisen}
@@ -46,6 +47,9 @@ returns-in-Err-clause-keeps g c = λ was older stands keeps.
     let P : Writing → Type 0 = λ w. KeepsOlder g.D.Disk.says c.commit.new.self (older_after was older (left_by w) true) in
     subst P (sym c.in-Group.is) (c.commit.ensures.keeps older keeps)
 
+pub returns-in-Err-clause-only : goal.returns-in-Err-clause-only
+returns-in-Err-clause-only g c = λ kept. absurd (true≢false kept)
+
 -- ---- a generation
 
 pub write_generation-requires : goal.write_generation-requires
@@ -85,6 +89,12 @@ returns-in-Err-write_generation-clause-keeps g c = λ was older stands keeps.
 disk_failed : (fault : CheckpointFault) (before now generation : ℕ) → generation < 4095 → (fault ≡ NoGeneration → generation ≡ 4095) → (fault ≡ DiskFault → HasRisen before now) → HasRisen before now
 disk_failed NoGeneration before now generation below last risen = let is = last refl in absurd (omega (arith, below, is))
 disk_failed DiskFault before now generation below last risen = risen refl
+
+pub returns-in-Ok-write_generation-clause-only : goal.returns-in-Ok-write_generation-clause-only
+returns-in-Ok-write_generation-clause-only g c = λ kept. c.in-Ok-write_generation.ensures.only (λ failed. absurd cc)
+
+pub returns-in-Err-write_generation-clause-only : goal.returns-in-Err-write_generation-clause-only
+returns-in-Err-write_generation-clause-only g c = λ kept. absurd (true≢false kept)
 
 pub returns-in-Err-write_generation-clause-cause : goal.returns-in-Err-write_generation-clause-cause
 returns-in-Err-write_generation-clause-cause g c = λ failed.

@@ -1,4 +1,4 @@
-use Rattle.std.proofs.Common.{◌+◌, ◌^◌, ◌<◌, drop, Some, subst, arith}
+use Rattle.std.proofs.Common.{◌+◌, ◌^◌, ◌<◌, drop, Some, subst, arith, ◌∙◌}
 use Rattle.outside_api.specs.Disk.{Files}
 use Rattle.outside_api.specs.Moments.{then, weaker}
 use Rattle.disk_journal.specs.Fetch.{IsBlockAt}
@@ -30,7 +30,7 @@ loop-length-preserved g c =
       same = record { kept = λ f read. c.block_at.ensures.same.kept f (so_far.same.kept f read); no_more = λ f read. so_far.same.no_more f (c.block_at.ensures.same.no_more f read) };
       crash = λ f left. so_far.crash f (c.block_at.ensures.crash f left);
       any_moment = then g.D.Disk.says c.args.disk.now c.loop-length.disk c.block_at.new.disk P so_far.any_moment (weaker g.D.Disk.says c.loop-length.disk c.block_at.new.disk (g.D.Disk.says.may_leave c.loop-length.disk) P so_far.crash c.block_at.ensures.any_moment);
-      faults = omega (arith, so_far.faults, c.block_at.ensures.cause.never_falls);
+      faults = c.in_ok-found.ensures.only ∙ so_far.faults;
     }
 
 pub returns-clause-text : goal.returns-clause-text

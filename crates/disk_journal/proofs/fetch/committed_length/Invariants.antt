@@ -1,4 +1,4 @@
-use Rattle.std.proofs.Common.{ℕ, ◌-◌, ◌^◌, ◌<◌, ◌≤◌, List}
+use Rattle.std.proofs.Common.{ℕ, ◌≡◌, ◌-◌, ◌^◌, ◌<◌, List}
 use Rattle.outside_api.specs.Disk.{Files, NoMore, Same}
 use Rattle.outside_api.specs.Moments.{LeavesOnly}
 use Rattle.disk_journal.specs.Fetch.{IsReached}
@@ -12,7 +12,7 @@ invariant-loop-length g l = record {
   same : Same (g.D.Disk.says.seen l.initial.disk) (g.D.Disk.says.seen l.disk);
   crash : NoMore (g.D.Disk.says.may_leave l.initial.disk) (g.D.Disk.says.may_leave l.disk);
   any_moment : LeavesOnly g.D.Disk.says l.initial.disk l.disk (g.D.Disk.says.may_leave l.initial.disk);
-  faults : g.D.Disk.says.faults l.initial.disk ≤ g.D.Disk.says.faults l.disk;
+  faults : g.D.Disk.says.faults l.disk ≡ g.D.Disk.says.faults l.initial.disk;
 }
 
 abbrev pub decreases-loop-length : goal.decreases-loop-length

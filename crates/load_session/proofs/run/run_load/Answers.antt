@@ -1,7 +1,8 @@
-use Rattle.std.proofs.Common.{◌≡◌, ℕ, List, length, Option, ap, sym, subst, ◌∙◌}
+use Rattle.std.proofs.Common.{◌≡◌, ℕ, List, [], length, Option, ap, sym, subst, ◌∙◌}
 use Rattle.depot_model.specs.declared.order.Place.{Place}
 use Rattle.depot_model.specs.declared.request.Session.{Session}
 use Rattle.session_loop.specs.Asking.{commands_of}
+use Rattle.session_loop.specs.Served.{StandWithoutFaults}
 use Rattle.load_script.specs.Script.{script_of}
 use Rattle.load_session.specs.Loading.{IsAskedBy, IsLoaded, load_session}
 use Rattle.load_session.proofs.Loads.{session_is}
@@ -32,3 +33,10 @@ returns-clause-loaded g c = λ since start ran.
     let By : Option Session → Type 0 = λ session. IsLoaded (g.C.Clock.says.may_give c.args.clock.now) (g.T.Taker.has_run c.run_read-commands.new.taker since) start session c.run_read-commands.new.order.items in
     let Over : List Place → Type 0 = λ order. IsLoaded (g.C.Clock.says.may_give c.args.clock.now) (g.T.Taker.has_run c.run_read-commands.new.taker since) start (load_session c.args.seed c.args.count) order in
     subst Over (sym c.from_vec.ensures) (subst By same (c.run_read-commands.ensures.loaded since start c.in_ok-read.ensures.formed ran))
+
+pub returns-clause-stand : goal.returns-clause-stand
+returns-clause-stand g c =
+    let before = c.args.taker.now in
+    let now = c.run_read-commands.new.taker in
+    let Stand : List Place → Type 0 = StandWithoutFaults (g.T.Taker.faults before) (g.T.Taker.faults now) (g.T.Taker.content_faults before) (g.T.Taker.content_faults now) [] in
+    subst Stand (sym c.from_vec.ensures) c.run_read-commands.ensures.stand

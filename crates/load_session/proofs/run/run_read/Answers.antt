@@ -1,6 +1,6 @@
 use Rattle.std.proofs.Common.{[], ◌∷◌, length, Option, Some, ap, sym, subst, ◌∙◌}
 use Rattle.depot_model.specs.declared.request.Session.{Session}
-use Rattle.session_loop.proofs.Faults.{caused_none}
+use Rattle.session_loop.proofs.Faults.{caused_none, stand_same}
 use Rattle.session_loop.specs.Asking.{AreWellFormed, commands_of}
 use Rattle.load_session.proofs.Loads.{all_taken, loaded_of, loaded_none}
 use Rattle.load_session.proofs.run.run_read.Goals as goal
@@ -24,3 +24,6 @@ returns-in-None-clause-loaded g c = λ since start formed ran. loaded_none _ _ s
 
 pub returns-in-None-clause-faults : goal.returns-in-None-clause-faults
 returns-in-None-clause-faults g c = rw c.requires.no_places (caused_none _ _)
+
+pub returns-in-None-clause-stand : goal.returns-in-None-clause-stand
+returns-in-None-clause-stand g c = stand_same _ _ [] c.args.order.now.items

@@ -7,7 +7,7 @@ use Rattle.std.proofs.lemmas.List.{length_push}
 use Rattle.depot_model.specs.declared.request.Asked.{Asked}
 use Rattle.session_loop.specs.Asking.{AreProper, AreWellFormed}
 use Rattle.session_loop.proofs.Turns.{answered_given, served_none, served_more, served_last}
-use Rattle.session_loop.proofs.Faults.{caused_none, caused_more}
+use Rattle.session_loop.proofs.Faults.{caused_none, caused_more, stand_more, stand_same}
 use Rattle.session_loop.proofs.session.run_session.Goals as goal
 
 get_next : (before : List Asked) (asked : Asked) (rest : List Asked) → slice_get (before ++ asked ∷ rest) (length before) ≡ Some asked
@@ -39,6 +39,7 @@ loop-asked-init g c = record {
   left = search rules;
   count = refl;
   counts = omega arith;
+  stand = stand_same _ _ [] c.args.order.now.items;
   faults = rw c.requires.no_places (caused_none _ _);
 }
 
@@ -82,6 +83,7 @@ loop-asked-preserved g c =
           omega arith;
       count = let longer = length_push at.yielded asked in let was = at.invariant.count in omega (arith, longer, was);
       counts = omega (arith, c.in-Ok.ensures.cause.never_falls);
+      stand = stand_more _ _ _ _ _ _ [] at.order.items c.answer.new.order.items at.invariant.faults c.answer.ensures.places at.invariant.stand c.answer.ensures.stand;
       faults = caused_more (g.T.Taker.faults c.args.taker.now) (g.T.Taker.faults at.taker) (g.T.Taker.faults c.answer.new.taker) (g.T.Taker.content_faults c.args.taker.now) (g.T.Taker.content_faults at.taker) (g.T.Taker.content_faults c.answer.new.taker) [] at.order.items c.answer.new.order.items at.invariant.faults c.answer.ensures.places;
     }
 
@@ -97,3 +99,8 @@ pub returns-in-Err-clause-faults : goal.returns-in-Err-clause-faults
 returns-in-Err-clause-faults g c =
     let at = c.loop-asked in
     caused_more (g.T.Taker.faults c.args.taker.now) (g.T.Taker.faults at.taker) (g.T.Taker.faults c.answer.new.taker) (g.T.Taker.content_faults c.args.taker.now) (g.T.Taker.content_faults at.taker) (g.T.Taker.content_faults c.answer.new.taker) [] at.order.items c.answer.new.order.items at.invariant.faults c.answer.ensures.places
+
+pub returns-in-Err-clause-stand : goal.returns-in-Err-clause-stand
+returns-in-Err-clause-stand g c =
+    let at = c.loop-asked in
+    stand_more _ _ _ _ _ _ [] at.order.items c.answer.new.order.items at.invariant.faults c.answer.ensures.places at.invariant.stand c.answer.ensures.stand

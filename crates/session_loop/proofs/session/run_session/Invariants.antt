@@ -4,7 +4,7 @@ use Rattle.std.specs.Vec.Iter.{into_iter_items, into_iter_len}
 use Rattle.depot_model.specs.Deeds.{Deed}
 use Rattle.depot_model.specs.declared.request.Session.{Session}
 use Rattle.session_loop.specs.Asking.{AreWellFormed}
-use Rattle.session_loop.specs.Served.{AreCaused}
+use Rattle.session_loop.specs.Served.{AreCaused, StandWithoutFaults}
 use Rattle.session_loop.proofs.Turns.{HasServed}
 use Rattle.session_loop.proofs.session.run_session.Given as goal
 
@@ -18,5 +18,6 @@ invariant-loop-asked g l =
       left : into_iter_len l.asked-iterator ≡ length (into_iter_items l.asked-iterator);
       count : l.count ≡ length l.yielded;
       counts : g.K.Sink.says.faults l.fn.sink ≤ g.K.Sink.says.faults l.sink;
+      stand : StandWithoutFaults (g.T.Taker.faults l.fn.taker) (g.T.Taker.faults l.taker) (g.T.Taker.content_faults l.fn.taker) (g.T.Taker.content_faults l.taker) [] l.order.items;
       faults : AreCaused (g.T.Taker.faults l.fn.taker) (g.T.Taker.faults l.taker) (g.T.Taker.content_faults l.fn.taker) (g.T.Taker.content_faults l.taker) [] l.order.items;
     }

@@ -1,4 +1,4 @@
-use Rattle.std.proofs.Common.{◌≡◌, ℕ, true, List, [], refl, sym, ap, subst, ◌∙◌, arith}
+use Rattle.std.proofs.Common.{◌≡◌, ℕ, true, false, List, [], refl, sym, ap, subst, ◌∙◌, arith}
 use Rattle.archive_file.specs.Archive as archives
 use Rattle.archive_file.specs.declared.archive.Archive.{Archive}
 use Rattle.depot_rows.specs.depot_model.Places.{taken}
@@ -6,6 +6,8 @@ use Rattle.depot_rows.specs.depot_model.declared.order.Answer.{Answer}
 use Rattle.depot_rows.specs.table_changes.Changed.{AllFitIn, rows_of}
 use Rattle.depot_rows.specs.table_store.declared.tables.Tables.{Tables}
 use Rattle.depot_rows.specs.depot_model.Commands.{step}
+use Rattle.disk_journal.specs.Stands.{disk_of}
+use Rattle.disk_journal.specs.declared.journal.Journal.{Journal}
 use Rattle.outside_api.specs.Count.{HasRisen}
 use Rattle.session_loop.specs.Taking.{Answers, with_place}
 use Rattle.depot_commit.specs.Committing.{AreRowsAfter}
@@ -51,6 +53,9 @@ returns-in-Err-clause-no_call g c = λ none unread.
     let same = c.tell_reading.ensures.no_call unread in
     λ i. record { tables = c.args.self.now.tables; journal = c.args.self.now.journal; archive = same i }
 
+pub returns-in-Err-clause-no_memory : goal.returns-in-Err-clause-no_memory
+returns-in-Err-clause-no_memory g c = record { journal = refl; archive = c.in-Err.ensures.no_memory }
+
 -- ---- nor for the changes
 
 pub returns-in-Err-place-clause-can : goal.returns-in-Err-place-clause-can
@@ -79,6 +84,15 @@ returns-in-Err-place-clause-no_call g c = λ none unread.
     let read = c.tell_reading.ensures.no_call unread in
     let same = c.in-Err-place.ensures.nothing in
     λ i. record { tables = same.0 i; journal = same.1 i; archive = (same.2 ∙ read) i }
+
+pub returns-in-Err-place-clause-no_memory : goal.returns-in-Err-place-clause-no_memory
+returns-in-Err-place-clause-no_memory g c =
+    let D = g.D.Disk in
+    let same = c.in-Err-place.ensures.nothing in
+    record {
+      journal = ap (λ (journal : Journal g.row.D.Denot). D.says.faults (disk_of journal)) same.1;
+      archive = ap (λ (archive : Archive g.row.D.Denot). D.says.faults (archives.disk_of archive)) same.2 ∙ c.in-Ok.ensures.only c.in-Err-place.ensures.no_memory;
+    }
 
 -- ---- it has its place
 
@@ -148,6 +162,14 @@ returns-in-Ok-place-clause-no_call g c = λ none unread.
     let read = c.tell_reading.ensures.no_call unread in
     let same = c.place.ensures.no_call (c.in-Ok.ensures.told.changes ∙ none) in
     λ i. record { tables = same.0 i; journal = same.1 i; archive = (same.2 ∙ read) i }
+
+pub returns-in-Ok-place-clause-only : goal.returns-in-Ok-place-clause-only
+returns-in-Ok-place-clause-only g c = λ whole.
+    let kept : c.in-Ok-place.landed.answer.place.fault ≡ false = sym (ap (λ (a : Answer). a.place.fault) c.into_answer.ensures) ∙ whole in
+    record {
+      journal = c.in-Ok-place.ensures.only kept;
+      archive = c.in-Ok-place.ensures.only_contents kept ∙ c.in-Ok.ensures.only (c.in-Ok-place.ensures.read kept);
+    }
 
 pub returns-in-Ok-place-clause-cause : goal.returns-in-Ok-place-clause-cause
 returns-in-Ok-place-clause-cause g c = λ fault.

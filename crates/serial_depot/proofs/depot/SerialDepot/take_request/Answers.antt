@@ -1,3 +1,4 @@
+use Rattle.std.proofs.Common.{refl}
 use Rattle.depot_rows.specs.table_changes.Changed.{rows_of}
 use Rattle.depot_rows.specs.depot_model.Commands.{step}
 use Rattle.depot_rows.specs.depot_model.Step.{after}
@@ -5,6 +6,7 @@ use Rattle.depot_commit.proofs.Differences.{no_changes}
 use Rattle.serial_depot.proofs.Quiet.{none_read}
 use Rattle.depot_commit.proofs.Laws.{formed_of}
 use Rattle.depot_commit.proofs.Outcomes.{has_needed}
+use Rattle.depot_commit.proofs.Stored.{on_err}
 use Rattle.serial_depot.proofs.depot.SerialDepot.take_request.Goals as goal
 
 pub returns-clause-ran : goal.returns-clause-ran
@@ -35,6 +37,11 @@ returns-clause-no_call g c = λ d stand proper same none.
     let is = c.in_ok-outcome.ensures.outcome d stand.sound (formed_of request proper) (has_needed rows d request stand) in
     c.take_outcome.ensures.no_call (no_changes rows d (after d (step d request).deeds) c.in_ok-outcome.outcome.changes stand same is.changes)
     (none_read rows d c.in_ok-outcome.outcome.reads (step d request).rows is.reads none)
+
+-- ---- no memory was left for the evaluation
+
+pub returns-in_err-outcome-clause-no_memory : goal.returns-in_err-outcome-clause-no_memory
+returns-in_err-outcome-clause-no_memory g c = on_err c.from_residual.result _ (record { journal = refl; archive = refl })
 
 -- ---- no memory was left behind the evaluation
 
