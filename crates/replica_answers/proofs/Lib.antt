@@ -1,0 +1,4 @@
+pub mod Digests
+pub mod Filled
+pub mod Good
+mod Named

@@ -2,6 +2,8 @@
 #![tactic(auto)]
 
 mod answers;
+mod printing;
 mod refusing;
 
-pub use answers::{Answered, answer};
+pub use answers::answer;
+pub use printing::{PrintFault, answer_print};

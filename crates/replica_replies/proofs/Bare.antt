@@ -65,7 +65,7 @@ flat_bare f h (x ∷ xs) = both_bare (f x) (flat_map f xs) (h x) (flat_bare f h 
 
 -- ---- steps
 
-refuses_bare : (why : Refusal) → AreBare (refuses why).rows
+pub refuses_bare : (why : Refusal) → AreBare (refuses why).rows
 refuses_bare why = (refusal_bare why, tt)
 
 unless_bare : (tests : List (Option Refusal)) (step : Step) → AreBare step.rows → AreBare (unless tests step).rows

@@ -10,7 +10,7 @@ ghost use Rattle.depot_model.specs.declared.request.Request.{Request};
 ghost use Rattle.depot_runs.specs.Replica.{replica_reply};
 ghost use Rattle.depots_alike.specs.Contents.{SameContents};
 ghost use Rattle.reply_rows.specs.Made.{contents_of};
-ghost use Rattle.replica_replies.specs.Prints.{prints};
+ghost use Rattle.replica_replies.specs.Prints.{AreShown, prints};
 
 /// Replicas of two masters reply alike where the masters' depots, cut to the filter, have the same rows and contents.
 pub fn masters_that_agree_on_the_cut_are_answered_alike()
@@ -21,4 +21,9 @@ pub fn masters_that_agree_on_the_cut_are_answered_alike()
 /// A replica's reply to anything but `print` has no contents.
 pub fn print_alone_is_answered_with_contents()
     ensures { (d : List Deed) (request : Request) → IsFalse (prints request.command) → contents_of (replica_reply d request) ≡ [] }
+{}
+
+/// Each row of a replica's reply that has a content shows the revision that has it.
+pub fn contents_are_those_of_the_revisions_shown()
+    ensures { (d : List Deed) (request : Request) → AreShown d (replica_reply d request) }
 {}

@@ -4,5 +4,6 @@
 mod laws;
 
 pub use laws::{
-    masters_that_agree_on_the_cut_are_answered_alike, print_alone_is_answered_with_contents,
+    contents_are_those_of_the_revisions_shown, masters_that_agree_on_the_cut_are_answered_alike,
+    print_alone_is_answered_with_contents,
 };

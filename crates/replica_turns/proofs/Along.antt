@@ -1,17 +1,23 @@
 -- A replica's replies turn by turn, by the depot that it follows.
 use Rattle.std.proofs.Common.{◌≡◌, ◌⊎◌, ◌≤◌, ◌+◌, ◌++◌, ◌∷◌, [], ℕ, suc, List, Bool, true, false, Result, Ok, length, inl, inr, refl, sym, ap, subst, ◌∙◌, append_assoc, arith}
-use Rattle.std.specs.Prelude.{reverse}
+use Rattle.std.specs.Prelude.{reverse, take}
 use Rattle.std.proofs.Math.Seq.{take-length}
 use Rattle.std.proofs.lemmas.List.{length-append, reverse-append, take-append-le}
 use Rattle.std.proofs.lemmas.List.Elements.{recursion_from_All}
 use Rattle.outside_api.specs.Disk.{Files}
 use Rattle.outside_api.specs.Says.{DiskSays}
 use Rattle.archive_file.specs.Archive as archives
+use Rattle.archive_file.specs.Contents.{IsTold}
+use Rattle.archive_file.specs.declared.archive.Archive.{Archive}
+use Rattle.depot_commit.specs.Storing.{AllReach}
+use Rattle.depot_rows.specs.Standing.{Stand}
 use Rattle.depot_rows.specs.depot_model.Cut.{cut}
 use Rattle.depot_rows.specs.depot_model.Deeds.{Deed}
 use Rattle.depot_rows.specs.depot_model.Places.{Placed}
 use Rattle.depot_rows.specs.depot_model.declared.filter.FilterRule.{FilterRule}
 use Rattle.depot_rows.specs.depot_model.declared.request.Request.{Request}
+use Rattle.recovery.specs.Standing.{HasContents}
+use Rattle.replica_answers.proofs.Good.{never_bad}
 use Rattle.replica_pull.specs.Prefix.{HasFirst, HasFollowed, HasGrown, IsJournalOf, Moment, first_rows}
 use Rattle.replica_pull.specs.declared.replica.Replica.{Replica}
 use Rattle.replica_pull.proofs.Firsts.{first_changes}
@@ -28,10 +34,10 @@ use Rattle.depot_rows.specs.table_changes.Changed.{rows_of}
 use Rattle.replica_turns.specs.Along.{AreTold, HasPulledAfter, IsAlong, IsToldAs}
 use Rattle.replica_turns.specs.Going.{IsFresh, IsTurned, is_lost, reply_text}
 use Rattle.replica_turns.specs.Master.{HasNth, IsJournalAfter, IsMaster, IsNth, Past, texts_in}
-use Rattle.replica_turns.specs.Replying.{Follows, IsAnsweredAs, IsPulled, IsWithoutMemory, pulls}
+use Rattle.replica_turns.specs.Replying.{Follows, IsAnsweredAs, IsPulled, IsReply, IsWithoutMemory, pulls}
 use Rattle.replica_turns.specs.declared.party.Answered.{Answered}
 use Rattle.replica_turns.specs.declared.party.ReplicaParty.{ReplicaParty}
-use Rattle.replica_turns.proofs.CutContents.{cut_contents}
+use Rattle.replica_turns.proofs.CutContents.{contents_told, cut_contents}
 use Rattle.replica_turns.proofs.Following.{follows_journal, has_texts, takes_journal}
 use Rattle.replica_turns.proofs.Moving.{pulled_of}
 use Rattle.replica_turns.proofs.Turns.{IsAskedWell, at_place, formed_of}
@@ -50,7 +56,7 @@ journal_after disk_says past start places depot c master = record {
 }
 
 module _ {D : Type 0} (disk_says : DiskSays D) (reads : (disk : D) (files : Files) → disk_says.seen disk files → disk_says.may_leave disk files) (past : Past) (start : List Deed) (places : List Placed)
-    (depot : SerialDepot D) (c : Chronicle) (master : IsMaster disk_says past start places depot c) (tells : (files : Files) × disk_says.seen (archives.disk_of depot.archive) files) where
+    (depot : SerialDepot D) (c : Chronicle) (master : IsMaster disk_says past start places depot c) (tells : (bytes : List ℕ) × IsTold disk_says depot.archive bytes) where
   journal_of : IsJournalOf (texts_in c) (generations_of c)
   journal_of = (refl, master.groups.are_groups)
 
@@ -103,12 +109,36 @@ module _ {D : Type 0} (disk_says : DiskSays D) (reads : (disk : D) (files : File
       inl (pulled is, is.reply),
     )
     turn_told false true (inl is) = (moments, same_followed is.0, (is.0, inr (inl is.1)))
-    turn_told false false (inl is) =
-        let files = tells.0 in
-        let P : SerialDepot D → Type 0 = λ been. disk_says.seen (archives.disk_of been.archive) files in
-        let has = (nth.kept.contents files (reads (archives.disk_of depot.archive) files tells.1)).contents in
-        let contents = cut_contents rules nth.depot nth.stand.sound (first_rows old.changes (generations_of c)) (rows_of old.tables) (files 0) found.rows has in
-        (moments, same_followed is.0, (is.0, inl (nth.depot, nth.is, is.1.reply (cut rules nth.depot) (stands_cut rules (generations_of c) old nth.depot found nth.stand) (λ prints. (files, subst P (sym is.1.been) tells.1, contents)))))
+    turn_told false false (inl is) = go is.1
+      where
+        has : HasContents tells.0 (first_rows old.changes (generations_of c)) nth.depot
+        has =
+            let told = tells.1 in
+            contents_told disk_says depot.archive tells.0 told (first_rows old.changes (generations_of c)) nth.depot nth.kept.ends
+            (nth.kept.contents told.files (reads (archives.disk_of depot.archive) told.files told.sees)).contents
+
+        contents : HasContents tells.0 (rows_of old.tables) (cut rules nth.depot)
+        contents = cut_contents rules nth.depot nth.stand.sound (first_rows old.changes (generations_of c)) (rows_of old.tables) tells.0 found.rows has
+
+        stands : Stand (rows_of old.tables) (cut rules nth.depot)
+        stands = stands_cut rules (generations_of c) old nth.depot found nth.stand
+
+        tells_in : (been : SerialDepot D) → been ≡ depot → IsTold disk_says been.archive tells.0
+        tells_in been same = let P : SerialDepot D → Type 0 = λ b. IsTold disk_says b.archive tells.0 in subst P (sym same) tells.1
+
+        go : IsReply (λ been. been ≡ depot) disk_says old request text false → Turned false
+        go (inl replied) =
+            let reply = replied.reply (cut rules nth.depot) stands (λ prints. (tells.0, tells_in replied.depot replied.been, contents)) in
+            (moments, same_followed is.0, (is.0, inl (nth.depot, nth.is, reply)))
+        go (inr bad) = absurd (never_bad (rows_of old.tables) (cut rules nth.depot) stands tells.0 contents request bad.at (bad.bad tells.0 (tells_in bad.depot bad.been)))
+
+-- an archive of which all that is used is there tells it
+pub told_of : {D : Type 0} (disk_says : DiskSays D) (reads : (disk : D) (files : Files) → disk_says.seen disk files → disk_says.may_leave disk files) (archive : Archive D)
+    → (files : Files) × disk_says.seen (archives.disk_of archive) files → AllReach (disk_says.may_leave (archives.disk_of archive)) (archives.used_of archive) → (bytes : List ℕ) × IsTold disk_says archive bytes
+told_of disk_says reads archive tells room = (
+  take (archives.used_of archive) (tells.0 0),
+  record { files = tells.0; sees = tells.1; within = room tells.0 (reads (archives.disk_of archive) tells.0 tells.1); are = refl },
+)
 
 -- ---- replies one after another
 
@@ -186,7 +216,7 @@ module _ (past : Past) (start : List Deed) (places : List Placed) (may_give : �
   along_grown c now more grown texts along = along_longer now more texts (along_later c now grown texts along)
 
 module _ {D E : Type 0} (disk_says : DiskSays D) (reads : (disk : D) (files : Files) → disk_says.seen disk files → disk_says.may_leave disk files) (past : Past) (start : List Deed) (places : List Placed)
-    (depot : SerialDepot D) (c : Chronicle) (master : IsMaster disk_says past start places depot c) (tells : (files : Files) × disk_says.seen (archives.disk_of depot.archive) files)
+    (depot : SerialDepot D) (c : Chronicle) (master : IsMaster disk_says past start places depot c) (tells : (bytes : List ℕ) × IsTold disk_says depot.archive bytes)
     (may_give : ℕ → Type 0) (party : ℕ) (script : ReplicaScript) where
   -- it took its turn
   pub along_turned : (old new : ReplicaParty) (texts : List (List ℕ)) (result : Result Answered E) → IsAlong past start places may_give party script old c texts → IsTurned disk_says depot old new result

@@ -76,7 +76,9 @@ module _ {D : Type 0} (HasBeen Other : SerialDepot D → Type 0) (disk_says : Di
 
   reply_wider : (replica : Replica) (request : Request) (text : List ℕ) (lost : Bool) → IsReply HasBeen disk_says replica request text lost → IsReply Other disk_says replica request text lost
   reply_wider replica request text true is = is
-  reply_wider replica request text false is = record { depot = is.depot; been = more is.depot is.been; reply = is.reply }
+  reply_wider replica request text false (inl is) = inl (record { depot = is.depot; been = more is.depot is.been; reply = is.reply; digested = is.digested })
+  reply_wider replica request text false (inr is) =
+      inr (record { prints_it = is.prints_it; depot = is.depot; been = more is.depot is.been; at = is.at; reply = is.reply; bad = is.bad })
 
   as_wider : (old new : Replica) (request : Request) (text : List ℕ) (lost pull : Bool) → IsAnsweredAs HasBeen disk_says old new request text lost pull
       → IsAnsweredAs Other disk_says old new request text lost pull

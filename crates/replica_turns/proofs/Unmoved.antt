@@ -1,7 +1,9 @@
 -- A depot is unmoved whose journal was read, or whose archive was.
-use Rattle.std.proofs.Common.{◌≤◌, refl, arith}
+use Rattle.std.proofs.Common.{◌≤◌, refl, ◌∙◌, arith}
+use Rattle.outside_api.specs.Reaching.{Reaches, holds}
 use Rattle.outside_api.specs.Says.{DiskSays}
 use Rattle.archive_file.specs.Archive as archives
+use Rattle.archive_file.specs.Contents.{IsLooked}
 use Rattle.archive_file.specs.declared.archive.Archive.{Archive}
 use Rattle.disk_journal.specs.Stands.{disk_of}
 use Rattle.disk_journal.specs.declared.journal.Journal.{Journal}
@@ -9,7 +11,7 @@ use Rattle.depot_commit.specs.Fetching.{IsFetched, IsRead}
 use Rattle.serial_depot.specs.declared.depot.SerialDepot.{SerialDepot}
 use Rattle.serial_depot.proofs.Parts.{read_can, read_run}
 use Rattle.depot_commit.proofs.Growing.{stored_read, stored_same}
-use Rattle.depot_commit.proofs.Moved.{over_fetched}
+use Rattle.depot_commit.proofs.Moved.{over_fetched, read_none}
 use Rattle.replica_turns.specs.Turning.{IsUnmoved}
 
 module _ {D : Type 0} (disk_says : DiskSays D) (depot : SerialDepot D) where
@@ -39,3 +41,14 @@ module _ {D : Type 0} (disk_says : DiskSays D) (depot : SerialDepot D) where
     never_falls = omega arith;
     never_falls_contents = le;
   }
+
+-- an archive that was looked at was read
+pub looked_read : {D : Type 0} (disk_says : DiskSays D) (old new : Archive D) → Reaches (IsLooked disk_says) old new → IsRead disk_says old new
+looked_read disk_says old new run = holds (IsRead disk_says old) (read_none disk_says old) step run
+  where
+    step : (mid next : Archive _) → IsRead disk_says old mid → IsLooked disk_says mid next → IsRead disk_says old next
+    step mid next read look = record {
+      same = record { kept = λ files here. look.same.kept files (read.same.kept files here); no_more = λ files here. read.same.no_more files (look.same.no_more files here) };
+      crash = λ files left. read.crash files (look.crash files left);
+      used = look.used ∙ read.used;
+    }

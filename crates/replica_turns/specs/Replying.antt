@@ -1,23 +1,26 @@
 -- What a replica among the parties of a run answers to one command, and when (Server Administrator Guide, on replicas that answer from their own rows). That
 -- a replica follows by a command of its own is this project's own choice.
 use Rattle.std.specs.Prelude.{◌≡◌, ◌≢◌, ◌⊎◌, ℕ, Bool, true, false, IsTrue, List, [], ◌∷◌, Result, Ok, Err}
-use Rattle.outside_api.specs.Disk.{Files}
 use Rattle.outside_api.specs.Link.{Answers}
 use Rattle.outside_api.specs.Says.{DiskSays}
 use Rattle.outside_api.specs.declared.link.Fetched.{Fetched}
-use Rattle.archive_file.specs.Archive as archives
+use Rattle.archive_file.specs.Contents.{IsTold}
 use Rattle.journal_groups.specs.declared.moved.Moved.{Moved}
 use Rattle.depot_rows.specs.table_changes.Changed.{rows_of}
 use Rattle.depot_rows.specs.depot_model.Deeds.{Deed}
 use Rattle.depot_rows.specs.depot_model.Printed.{printed}
+use Rattle.depot_rows.specs.depot_model.Refusals.{refusal_row}
 use Rattle.depot_rows.specs.depot_model.Rows.{disk_row, memory_row}
 use Rattle.depot_rows.specs.depot_model.declared.command.Command.{Command}
 use Rattle.depot_rows.specs.depot_model.declared.command.Command.TheVariants.{Pull}
+use Rattle.depot_rows.specs.depot_model.declared.refusal.Refusal.TheVariants.{BadArchive}
+use Rattle.depot_rows.specs.depot_model.declared.reply.Row.{Row}
 use Rattle.depot_rows.specs.depot_model.declared.request.Request.{Request}
 use Rattle.depot_rows.specs.depot_model.declared.request.WordFault.{WordFault}
 use Rattle.depot_runs.specs.Replica.{position_row, replica_reply}
 use Rattle.depot_rows.specs.Standing.{Stand}
 use Rattle.recovery.specs.Standing.{HasContents}
+use Rattle.replica_answers.specs.Printing.{AreDigested, AreRowsOf, IsBadPrint}
 use Rattle.replica_pull.specs.Replica.{HasMoved, IsStopped}
 use Rattle.replica_pull.specs.declared.fault.PullFault.{PullFault}
 use Rattle.replica_pull.specs.declared.fault.PullFault.TheVariants.{Memory}
@@ -71,19 +74,38 @@ IsPullAnswer HasBeen disk_says old new number text false = IsPulled HasBeen disk
 abbrev pub reads_archive : Request → Bool
 reads_archive request = prints request.command
 
+-- Of a `print`, whatever the archive has: its rows are a replica's for each depot for which the replica's rows stand, but for what their contents are, and each
+-- content has the digest of the revision that its row shows.
+pub record IsDigestedReply (replica : Replica) (request : Request) (text : List ℕ) : Type 0 where
+  pub rows : List Row
+  pub is : text ≡ printed rows request.number
+  pub are : (d : List Deed) → Stand (rows_of replica.tables) d → AreRowsOf d request rows
+  pub digested : AreDigested (rows_of replica.tables) rows
+
 -- The reply is a replica's for each depot for which its rows stand, and, where it prints contents, whose contents are at their spots in the archive of a depot
 -- of the run.
 pub record IsReplied {D : Type 0} (HasBeen : SerialDepot D → Type 0) (disk_says : DiskSays D) (replica : Replica) (request : Request) (text : List ℕ) : Type 0 where
   pub depot : SerialDepot D
   pub been : HasBeen depot
   pub reply : (d : List Deed) → Stand (rows_of replica.tables) d
-      → (IsTrue (prints request.command) → (files : Files) × disk_says.seen (archives.disk_of depot.archive) files × HasContents (files 0) (rows_of replica.tables) d)
+      → (IsTrue (prints request.command) → (bytes : List ℕ) × IsTold disk_says depot.archive bytes × HasContents bytes (rows_of replica.tables) d)
       → text ≡ printed (replica_reply d request) request.number
+  pub digested : IsTrue (prints request.command) → IsDigestedReply replica request text
 
--- the same, or the archive's disk failed for a `print`
+-- The archive of a depot of the run hasn't the content of a revision that a `print` shows: its spot ends behind what is used of it, or the bytes there have
+-- another digest. The reply is the place where it would begin.
+pub record IsBadReply {D : Type 0} (HasBeen : SerialDepot D → Type 0) (disk_says : DiskSays D) (replica : Replica) (request : Request) (text : List ℕ) : Type 0 where
+  pub prints_it : IsTrue (prints request.command)
+  pub depot : SerialDepot D
+  pub been : HasBeen depot
+  pub at : ℕ
+  pub reply : text ≡ printed (refusal_row (BadArchive at) ∷ []) request.number
+  pub bad : (bytes : List ℕ) → IsTold disk_says depot.archive bytes → IsBadPrint (rows_of replica.tables) request bytes at
+
+-- one of these, or the archive's disk failed for a `print`
 abbrev pub IsReply : {D : Type 0} → (SerialDepot D → Type 0) → DiskSays D → Replica → Request → List ℕ → Bool → Type 0
 IsReply HasBeen disk_says replica request text true = IsTrue (prints request.command) × (text ≡ printed (disk_row ∷ []) request.number)
-IsReply HasBeen disk_says replica request text false = IsReplied HasBeen disk_says replica request text
+IsReply HasBeen disk_says replica request text false = IsReplied HasBeen disk_says replica request text ⊎ IsBadReply HasBeen disk_says replica request text
 
 -- ---- any command
 

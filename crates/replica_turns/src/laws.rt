@@ -1,7 +1,7 @@
 //! Laws of replicas that follow a depot which takes commands.
 
 ghost use Rattle.std.specs.Prelude.{◌≡◌, ◌⊎◌, ℕ, Bool, true, List, Result, [], ◌∷◌, ◌++◌, ◌+◌, length};
-ghost use Rattle.archive_file.specs.Archive.{disk_of as archive_disk_of};
+ghost use Rattle.archive_file.specs.Contents.{IsTold};
 ghost use Rattle.depot_commit.specs.command_core.Outcomes.{IsFormedBy, IsOutcome};
 ghost use Rattle.depot_commit.specs.command_core.declared.outcome.Outcome.{Outcome};
 ghost use Rattle.depot_rows.specs.db_records.declared.change.Change.{Change};
@@ -12,7 +12,6 @@ ghost use Rattle.depot_rows.specs.depot_model.Rows.{memory_row};
 ghost use Rattle.depot_rows.specs.depot_model.declared.filter.FilterRule.{FilterRule};
 ghost use Rattle.depot_rows.specs.depot_model.declared.request.Request.{Request};
 ghost use Rattle.depot_rows.specs.depot_model.Commands.{step};
-ghost use Rattle.outside_api.specs.Disk.{Files};
 ghost use Rattle.replica_pull.specs.Prefix.{HasFollowed, IsGoodJournal, Moment};
 ghost use Rattle.depot_commit.specs.Committing.{AreRowsAfter};
 ghost use Rattle.depot_commit.specs.Growing.{Chronicle, HasGroups, KeepsStored, generations_of, grown};
@@ -54,8 +53,8 @@ pub fn replicas_reply_for_their_last_pull<D: Disk, C: Clock>(clock: &C)
         IsFresh (C.says.may_give clock.now) party script p → AreWellFormed script.session.commands → IsAlong past start places (C.says.may_give clock.now) party script p c [] }
     ensures grown { (past : Past) (start : List Deed) (places more : List Placed) (party : ℕ) (script : ReplicaScript) (p : ReplicaParty) (c now : Chronicle) (texts : List (List ℕ)) →
         HasGrownTo c now → IsAlong past start places (C.says.may_give clock.now) party script p c texts → IsAlong past start (places ++ more) (C.says.may_give clock.now) party script p now texts }
-    ensures turned { (past : Past) (start : List Deed) (places : List Placed) (depot : AnyDepot D) (files : Files) (party : ℕ) (script : ReplicaScript) (old new : ReplicaParty) (c : Chronicle) (texts : List (List ℕ)) (result : Result Answered (Unit {0})) →
-        IsMaster D.says past start places depot c → D.says.seen (archive_disk_of depot.archive) files → IsAlong past start places (C.says.may_give clock.now) party script old c texts →
+    ensures turned { (past : Past) (start : List Deed) (places : List Placed) (depot : AnyDepot D) (bytes : List ℕ) (party : ℕ) (script : ReplicaScript) (old new : ReplicaParty) (c : Chronicle) (texts : List (List ℕ)) (result : Result Answered (Unit {0})) →
+        IsMaster D.says past start places depot c → IsTold D.says depot.archive bytes → IsAlong past start places (C.says.may_give clock.now) party script old c texts →
         IsTurned D.says depot old new result → IsAlong past start places (C.says.may_give clock.now) party script new c (texts ++ reply_text result (length texts + 1) ∷ []) }
 {
     let _clock = clock;

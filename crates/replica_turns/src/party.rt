@@ -7,7 +7,7 @@ ghost use Rattle.depot_rows.specs.depot_model.Places.{Placed};
 ghost use Rattle.disk_journal.specs.Stands.{disk_of};
 ghost use Rattle.outside_api.specs.Count.{HasRisen};
 ghost use Rattle.depot_commit.specs.Growing.{Chronicle, HasGroups, KeepsStored};
-ghost use Rattle.serial_depot.specs.Running.{CanTake, HasRun};
+ghost use Rattle.serial_depot.specs.Running.{CanTake, HasRun, HaveStood};
 ghost use Rattle.depot_commit.specs.Fetching.{IsFetched, IsRead};
 ghost use Rattle.depot_commit.specs.command_core.Outcomes.{IsFormedBy};
 ghost use Rattle.serial_depot.specs.declared.depot.SerialDepot.{SerialDepot as AnyDepot};
@@ -98,6 +98,8 @@ impl ReplicaParty {
             IfOk result (λ answered. IsAnsweredBy (λ been. been ≡ depot) D.says self.now.replica self.now.replica request.now answered.text answered.lost) }
         ensures read { IsRead D.says archive.old archive.new }
         ensures never_falls { D.says.faults (archive_disk_of archive.old) ≤ D.says.faults (archive_disk_of archive.new) }
+        ensures only { IfOk result (λ answered. answered.lost ≡ false → D.says.faults (archive_disk_of archive.new) ≡ D.says.faults (archive_disk_of archive.old)) }
+        ensures no_memory { OnErr result (D.says.faults (archive_disk_of archive.new) ≡ D.says.faults (archive_disk_of archive.old)) }
         ensures cause { IfOk result (λ answered. answered.lost ≡ true → HasRisen (D.says.faults (archive_disk_of archive.old)) (D.says.faults (archive_disk_of archive.new))) }
     {
         reply_print(alloc, &self.replica, archive, request)
@@ -132,6 +134,8 @@ impl ReplicaParty {
         ensures left { self.new.left ≡ self.old.left }
         ensures fetched { IsFetched D.says journal.old journal.new }
         ensures never_falls { D.says.faults (disk_of journal.old) ≤ D.says.faults (disk_of journal.new) }
+        ensures only { IfOk result (λ answered. answered.lost ≡ false → D.says.faults (disk_of journal.new) ≡ D.says.faults (disk_of journal.old)) }
+        ensures no_memory { OnErr result (D.says.faults (disk_of journal.new) ≡ D.says.faults (disk_of journal.old)) }
         ensures cause { IfOk result (λ answered. answered.lost ≡ true → HasRisen (D.says.faults (disk_of journal.old)) (D.says.faults (disk_of journal.new))) }
     {
         answer_by_journal(alloc, &mut self.replica, journal, request)
@@ -157,6 +161,8 @@ impl ReplicaParty {
         ensures done { self.old.left.items ≡ [] → (self.new ≡ self.old) × (depot.new ≡ depot.old) }
         ensures never_falls { D.says.faults (disk_of depot.old.journal) ≤ D.says.faults (disk_of depot.new.journal) }
         ensures never_falls_contents { D.says.faults (archive_disk_of depot.old.archive) ≤ D.says.faults (archive_disk_of depot.new.archive) }
+        ensures only { IfOk result (λ answered. answered.lost ≡ false → HaveStood D.says depot.old depot.new) }
+        ensures no_memory { OnErr result (HaveStood D.says depot.old depot.new) }
         ensures cause { IfOk result (λ answered. answered.lost ≡ true → HasRisen (D.says.faults (disk_of depot.old.journal)) (D.says.faults (disk_of depot.new.journal)) ⊎ HasRisen (D.says.faults (archive_disk_of depot.old.archive)) (D.says.faults (archive_disk_of depot.new.archive))) }
     {
         if self.left.is_empty() {

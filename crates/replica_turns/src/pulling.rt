@@ -1,6 +1,6 @@
 //! `pull` among the parties of a run.
 
-ghost use Rattle.std.specs.Prelude.{◌≡◌, ◌<◌, ◌≤◌, ◌∷◌, [], length, true, IfOk, OnOk, OnErr};
+ghost use Rattle.std.specs.Prelude.{◌≡◌, ◌<◌, ◌≤◌, ◌∷◌, [], length, true, false, IfOk, OnOk, OnErr};
 ghost use Rattle.depot_rows.specs.depot_model.Printed.{printed};
 ghost use Rattle.depot_rows.specs.depot_model.Rows.{disk_row};
 ghost use Rattle.disk_journal.specs.Stands.{disk_of};
@@ -70,6 +70,8 @@ fn pull_into<D: Disk>(
     ensures kept { OnErr result (replica.new ≡ replica.old) }
     ensures fetched { IsFetched D.says journal.old journal.new }
     ensures never_falls { D.says.faults (disk_of journal.old) ≤ D.says.faults (disk_of journal.new) }
+    ensures only { IfOk result (λ answered. answered.lost ≡ false → D.says.faults (disk_of journal.new) ≡ D.says.faults (disk_of journal.old)) }
+    ensures no_memory { OnErr result (D.says.faults (disk_of journal.new) ≡ D.says.faults (disk_of journal.old)) }
     ensures cause { IfOk result (λ answered. answered.lost ≡ true → HasRisen (D.says.faults (disk_of journal.old)) (D.says.faults (disk_of journal.new))) }
 {
     let (generation, at) = replica.awaits();
@@ -95,6 +97,8 @@ pub(crate) fn pull<D: Disk>(
     ensures kept { OnErr result (replica.new ≡ replica.old) }
     ensures fetched { IsFetched D.says journal.old journal.new }
     ensures never_falls { D.says.faults (disk_of journal.old) ≤ D.says.faults (disk_of journal.new) }
+    ensures only { IfOk result (λ answered. answered.lost ≡ false → D.says.faults (disk_of journal.new) ≡ D.says.faults (disk_of journal.old)) }
+    ensures no_memory { OnErr result (D.says.faults (disk_of journal.new) ≡ D.says.faults (disk_of journal.old)) }
     ensures cause { IfOk result (λ answered. answered.lost ≡ true → HasRisen (D.says.faults (disk_of journal.old)) (D.says.faults (disk_of journal.new))) }
 {
     let of_fault = fault_reply(alloc, number)?;

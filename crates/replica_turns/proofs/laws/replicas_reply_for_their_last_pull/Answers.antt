@@ -9,5 +9,5 @@ returns-clause-grown g c = λ past start places more party script p all now text
     along_grown past start places (g.C.Clock.says.may_give c.args.clock.now) party script p all now more grown texts along
 
 pub returns-clause-turned : goal.returns-clause-turned
-returns-clause-turned g c = λ past start places depot files party script old new all texts result master sees along turn.
-    along_turned g.D.Disk.says g.met.D.Disk.reads_an_image past start places depot all master (files, sees) (g.C.Clock.says.may_give c.args.clock.now) party script old new texts result along turn
+returns-clause-turned g c = λ past start places depot bytes party script old new all texts result master told along turn.
+    along_turned g.D.Disk.says g.met.D.Disk.reads_an_image past start places depot all master (bytes, told) (g.C.Clock.says.may_give c.args.clock.now) party script old new texts result along turn

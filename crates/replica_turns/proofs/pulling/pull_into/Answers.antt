@@ -1,3 +1,5 @@
+use Rattle.depot_commit.proofs.Stored.{on_err}
+use Rattle.std.proofs.lemmas.Bool.{true≢false}
 use Rattle.std.proofs.Common.{◌≡◌, ℕ, [], ◌∷◌, refl, sym, ap, subst, ◌∙◌}
 use Rattle.outside_api.specs.Link.{Answers}
 use Rattle.disk_journal.specs.declared.journal.Journal.{Journal}
@@ -21,3 +23,12 @@ returns-in_ok-follow-in-Ok-clause-answered g c = λ depot same.
       follows = c.in_ok-follow-in-Ok.ensures.follows;
       reply = c.position.ensures ∙ ap (λ (at : ℕ × ℕ). printed (position_row at.0 at.1 ∷ []) c.args.number) c.position-generation.ensures;
     })
+
+pub returns-in_err-follow-in-Ok-clause-no_memory : goal.returns-in_err-follow-in-Ok-clause-no_memory
+returns-in_err-follow-in-Ok-clause-no_memory g c = on_err c.from_residual.result _ c.in-Ok.ensures.only
+
+pub returns-in_ok-follow-in-Ok-clause-only : goal.returns-in_ok-follow-in-Ok-clause-only
+returns-in_ok-follow-in-Ok-clause-only g c = λ kept. c.in-Ok.ensures.only
+
+pub returns-in-Err-clause-only : goal.returns-in-Err-clause-only
+returns-in-Err-clause-only g c = λ kept. absurd (true≢false (sym (ap (λ (answered : Answered). answered.lost) c.loses.ensures) ∙ kept))

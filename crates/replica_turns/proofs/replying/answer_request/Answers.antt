@@ -1,3 +1,4 @@
+use Rattle.std.proofs.lemmas.Result.{IfOk-weaker, on_err_weaker}
 use Rattle.std.proofs.Common.{◌≡◌, refl, sym, ◌∙◌}
 use Rattle.replica_turns.proofs.Replies.{by_other, prints_no_pull}
 use Rattle.replica_turns.proofs.Unmoved.{unmoved_fetched, unmoved_read}
@@ -25,3 +26,15 @@ returns-else-is_print-clause-answered g c = λ formed. c.answer_by_journal.ensur
 pub returns-else-is_print-clause-depot : goal.returns-else-is_print-clause-depot
 returns-else-is_print-clause-depot g c =
     unmoved_fetched g.D.Disk.says c.args.depot.now c.answer_by_journal.new.journal c.answer_by_journal.ensures.fetched c.answer_by_journal.ensures.never_falls
+
+pub returns-then-is_print-clause-only : goal.returns-then-is_print-clause-only
+returns-then-is_print-clause-only g c = IfOk-weaker c.reply_print.result _ _ (λ answered same kept. record { journal = refl; archive = same kept }) c.reply_print.ensures.only
+
+pub returns-then-is_print-clause-no_memory : goal.returns-then-is_print-clause-no_memory
+returns-then-is_print-clause-no_memory g c = on_err_weaker c.reply_print.result (λ same. record { journal = refl; archive = same }) c.reply_print.ensures.no_memory
+
+pub returns-else-is_print-clause-only : goal.returns-else-is_print-clause-only
+returns-else-is_print-clause-only g c = IfOk-weaker c.answer_by_journal.result _ _ (λ answered same kept. record { journal = same kept; archive = refl }) c.answer_by_journal.ensures.only
+
+pub returns-else-is_print-clause-no_memory : goal.returns-else-is_print-clause-no_memory
+returns-else-is_print-clause-no_memory g c = on_err_weaker c.answer_by_journal.result (λ same. record { journal = same; archive = refl }) c.answer_by_journal.ensures.no_memory

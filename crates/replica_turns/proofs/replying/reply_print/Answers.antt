@@ -1,15 +1,98 @@
-use Rattle.std.proofs.Common.{subst}
+use Rattle.std.proofs.Common.{◌≡◌, ℕ, Err, rules, sym, ap, subst, ◌∙◌}
+use Rattle.std.proofs.lemmas.Bool.{true≢false}
+use Rattle.std.proofs.lemmas.Result.{IfOk-weaker}
 use Rattle.archive_file.specs.Archive.{disk_of}
+use Rattle.archive_file.specs.Contents.{IsTold}
 use Rattle.archive_file.specs.declared.archive.Archive.{Archive}
-use Rattle.depot_commit.proofs.Moved.{read_none}
-use Rattle.replica_turns.proofs.Replies.{of_print}
+use Rattle.depot_commit.proofs.Stored.{on_err}
+use Rattle.depot_rows.specs.depot_model.declared.reply.Reply.{Reply}
+use Rattle.depot_rows.specs.table_changes.Changed.{rows_of}
+use Rattle.replica_answers.specs.Printing.{IsPrintFault, StandsUnlessFailed}
+use Rattle.replica_answers.specs.declared.printing.PrintFault.{PrintFault}
+use Rattle.replica_answers.specs.declared.printing.PrintFault.TheVariants.{Absent, BadContent}
+use Rattle.replica_turns.specs.Replying.{IsReply}
+use Rattle.replica_turns.specs.declared.party.Answered.{Answered}
+use Rattle.replica_turns.proofs.Replies.{behind_bad, of_bad, of_print}
+use Rattle.replica_turns.proofs.Unmoved.{looked_read}
 use Rattle.replica_turns.proofs.replying.reply_print.Goals as goal
 
-pub returns-clause-answered : goal.returns-clause-answered
-returns-clause-answered g c = λ depot same formed.
-    of_print depot g.D.Disk.says c.args.replica.now c.args.request.now c.in_ok-answer.answer c.with_contents.result c.requires
-    (λ d stand. c.in_ok-answer.ensures d stand formed) c.with_contents.ensures.lost
-    (λ all d files rows is sees has. c.with_contents.ensures.told all d files rows is (subst (λ (archive : Archive g.row.D.Denot). g.D.Disk.says.seen (disk_of archive) files) same sees) has)
+pub returns-in_ok-text-in-Ok-clause-answered : goal.returns-in_ok-text-in-Ok-clause-answered
+returns-in_ok-text-in-Ok-clause-answered g c = λ depot same formed.
+    subst (λ (a : Answered). IsReply (λ been. been ≡ depot) g.D.Disk.says c.args.replica.now c.args.request.now a.text a.lost) (sym c.tells.ensures)
+    (of_print depot g.D.Disk.says c.args.replica.now c.args.request.now c.requires c.in-Ok.reply.rows c.in_ok-text-in-Ok.text c.in_ok-text-in-Ok.ensures
+    (λ d stand. c.in-Ok.ensures.rows d stand formed) c.in-Ok.ensures.digested
+    (λ d bytes stand told has. c.in-Ok.ensures.told d bytes stand formed (subst (λ (archive : Archive g.row.D.Denot). IsTold g.D.Disk.says archive bytes) same told) has))
 
-pub returns-in_err-answer-clause-read : goal.returns-in_err-answer-clause-read
-returns-in_err-answer-clause-read g c = read_none g.D.Disk.says c.args.archive.now
+pub returns-in-Err-Absent-clause-answered : goal.returns-in-Err-Absent-clause-answered
+returns-in-Err-Absent-clause-answered g c = λ depot same formed.
+    let at = c.in-Err-Absent.at in
+    let is : c.in-Err-Absent.field-0 ≡ Absent at = search rules in
+    of_bad depot g.D.Disk.says c.args.replica.now c.args.request.now c.requires at
+    (λ bytes told.
+    behind_bad depot g.D.Disk.says c.args.replica.now c.args.request.now bytes at
+    (subst (IsPrintFault (rows_of c.args.replica.now.tables) c.args.request.now bytes) is
+    (c.in-Err-Absent.ensures.fault bytes formed (subst (λ (archive : Archive g.row.D.Denot). IsTold g.D.Disk.says archive bytes) same told))))
+    c.tells_bad.result c.tells_bad.ensures
+
+pub returns-in-Err-BadContent-clause-answered : goal.returns-in-Err-BadContent-clause-answered
+returns-in-Err-BadContent-clause-answered g c = λ depot same formed.
+    let is : c.in-Err-BadContent.field-0 ≡ BadContent c.in-Err-BadContent.at = search rules in
+    of_bad depot g.D.Disk.says c.args.replica.now c.args.request.now c.requires c.in-Err-BadContent.at
+    (λ bytes told.
+    subst (IsPrintFault (rows_of c.args.replica.now.tables) c.args.request.now bytes) is
+    (c.in-Err-BadContent.ensures.fault bytes formed (subst (λ (archive : Archive g.row.D.Denot). IsTold g.D.Disk.says archive bytes) same told)))
+    c.tells_bad-in-Err-BadContent.result c.tells_bad-in-Err-BadContent.ensures
+
+pub returns-in_err-text-in-Ok-clause-read : goal.returns-in_err-text-in-Ok-clause-read
+returns-in_err-text-in-Ok-clause-read g c = looked_read g.D.Disk.says c.args.archive.now c.answer_print.new.contents c.answer_print.ensures.reached
+
+pub returns-in_ok-text-in-Ok-clause-read : goal.returns-in_ok-text-in-Ok-clause-read
+returns-in_ok-text-in-Ok-clause-read g c = looked_read g.D.Disk.says c.args.archive.now c.answer_print.new.contents c.answer_print.ensures.reached
+
+pub returns-in-Err-Failed-clause-read : goal.returns-in-Err-Failed-clause-read
+returns-in-Err-Failed-clause-read g c = looked_read g.D.Disk.says c.args.archive.now c.answer_print.new.contents c.answer_print.ensures.reached
+
+pub returns-in-Err-Absent-clause-read : goal.returns-in-Err-Absent-clause-read
+returns-in-Err-Absent-clause-read g c = looked_read g.D.Disk.says c.args.archive.now c.answer_print.new.contents c.answer_print.ensures.reached
+
+pub returns-in-Err-BadContent-clause-read : goal.returns-in-Err-BadContent-clause-read
+returns-in-Err-BadContent-clause-read g c = looked_read g.D.Disk.says c.args.archive.now c.answer_print.new.contents c.answer_print.ensures.reached
+
+pub returns-in-Err-Memory-clause-read : goal.returns-in-Err-Memory-clause-read
+returns-in-Err-Memory-clause-read g c = looked_read g.D.Disk.says c.args.archive.now c.answer_print.new.contents c.answer_print.ensures.reached
+
+-- ---- what the disk did
+
+pub returns-in_ok-text-in-Ok-clause-only : goal.returns-in_ok-text-in-Ok-clause-only
+returns-in_ok-text-in-Ok-clause-only g c = λ kept. c.in-Ok.ensures.only
+
+pub returns-in_err-text-in-Ok-clause-no_memory : goal.returns-in_err-text-in-Ok-clause-no_memory
+returns-in_err-text-in-Ok-clause-no_memory g c = on_err c.from_residual-in_err-text-in-Ok.result _ c.in-Ok.ensures.only
+
+pub returns-in-Err-Failed-clause-only : goal.returns-in-Err-Failed-clause-only
+returns-in-Err-Failed-clause-only g c = λ kept. absurd (true≢false (sym (ap (λ (answered : Answered). answered.lost) c.loses.ensures) ∙ kept))
+
+-- where one of the contents isn't there
+stands : (before now : ℕ) (fault other : PrintFault) → fault ≡ other → StandsUnlessFailed {T = Reply} before now (Err fault) → StandsUnlessFailed {T = Reply} before now (Err other)
+stands before now fault other is only = subst (λ (f : PrintFault). StandsUnlessFailed {T = Reply} before now (Err f)) is only
+
+pub returns-in-Err-Absent-clause-only : goal.returns-in-Err-Absent-clause-only
+returns-in-Err-Absent-clause-only g c =
+    let is : c.in-Err-Absent.field-0 ≡ Absent c.in-Err-Absent.at = search rules in
+    IfOk-weaker c.tells_bad.result _ _ (λ answered told kept. stands (g.D.Disk.says.faults (disk_of c.args.archive.now)) (g.D.Disk.says.faults (disk_of c.answer_print.new.contents)) c.in-Err-Absent.field-0 (Absent c.in-Err-Absent.at) is c.in-Err-Absent.ensures.only) c.tells_bad.ensures
+
+pub returns-in-Err-Absent-clause-no_memory : goal.returns-in-Err-Absent-clause-no_memory
+returns-in-Err-Absent-clause-no_memory g c =
+    let is : c.in-Err-Absent.field-0 ≡ Absent c.in-Err-Absent.at = search rules in
+    on_err c.tells_bad.result _ (stands (g.D.Disk.says.faults (disk_of c.args.archive.now)) (g.D.Disk.says.faults (disk_of c.answer_print.new.contents)) c.in-Err-Absent.field-0 (Absent c.in-Err-Absent.at) is c.in-Err-Absent.ensures.only)
+
+pub returns-in-Err-BadContent-clause-only : goal.returns-in-Err-BadContent-clause-only
+returns-in-Err-BadContent-clause-only g c =
+    let is : c.in-Err-BadContent.field-0 ≡ BadContent c.in-Err-BadContent.at = search rules in
+    IfOk-weaker c.tells_bad-in-Err-BadContent.result _ _ (λ answered told kept. stands (g.D.Disk.says.faults (disk_of c.args.archive.now)) (g.D.Disk.says.faults (disk_of c.answer_print.new.contents)) c.in-Err-BadContent.field-0 (BadContent c.in-Err-BadContent.at) is c.in-Err-BadContent.ensures.only)
+    c.tells_bad-in-Err-BadContent.ensures
+
+pub returns-in-Err-BadContent-clause-no_memory : goal.returns-in-Err-BadContent-clause-no_memory
+returns-in-Err-BadContent-clause-no_memory g c =
+    let is : c.in-Err-BadContent.field-0 ≡ BadContent c.in-Err-BadContent.at = search rules in
+    on_err c.tells_bad-in-Err-BadContent.result _ (stands (g.D.Disk.says.faults (disk_of c.args.archive.now)) (g.D.Disk.says.faults (disk_of c.answer_print.new.contents)) c.in-Err-BadContent.field-0 (BadContent c.in-Err-BadContent.at) is c.in-Err-BadContent.ensures.only)

@@ -6,4 +6,4 @@ pub returns-clause-answered : goal.returns-clause-answered
 returns-clause-answered g c = λ depot formed.
     let replica = c.args.self.now.replica in
     by_other (λ been. been ≡ depot) g.D.Disk.says replica replica c.args.request.now c.reply_bare.result c.requires.1 refl
-    (of_bare depot g.D.Disk.says replica c.args.request.now c.reply_bare.result c.reply_bare.ensures.kept (λ d stand. c.reply_bare.ensures.told d stand formed))
+    (of_bare depot g.D.Disk.says replica c.args.request.now c.reply_bare.result c.requires.0 c.reply_bare.ensures.kept (λ d stand. c.reply_bare.ensures.told d stand formed))

@@ -1,3 +1,4 @@
+use Rattle.std.proofs.Common.{refl}
 use Rattle.replica_turns.proofs.Replies.{turned_by}
 use Rattle.depot_commit.proofs.Growing.{stored_same}
 use Rattle.replica_turns.proofs.party.ReplicaParty.answer_next.Goals as goal
@@ -12,3 +13,9 @@ returns-then-is_empty-clause-stored g c = stored_same g.D.Disk.says c.args.depot
 
 pub returns-in-None-clause-stored : goal.returns-in-None-clause-stored
 returns-in-None-clause-stored g c = stored_same g.D.Disk.says c.args.depot.now.archive
+
+pub returns-then-is_empty-clause-no_memory : goal.returns-then-is_empty-clause-no_memory
+returns-then-is_empty-clause-no_memory g c = record { journal = refl; archive = refl }
+
+pub returns-in-None-clause-no_memory : goal.returns-in-None-clause-no_memory
+returns-in-None-clause-no_memory g c = record { journal = refl; archive = refl }
