@@ -12,6 +12,7 @@ use Rattle.replica_turns.specs.Along.{IsToldOutput}
 use Rattle.replica_turns.specs.Going.{IsReplicaOutput}
 use Rattle.replica_turns.specs.Master.{Past}
 use Rattle.session_loop.specs.declared.reading.ReplicaScript.{ReplicaScript}
+use Rattle.session_loop.specs.Served.{StandWithoutFaults}
 use Rattle.session_loop.specs.declared.session.SessionRun.{SessionRun}
 
 -- ---- failed disks
@@ -50,3 +51,8 @@ OneHasRisen before now contents_before contents_now = HasRisen before now ⊎ Ha
 -- a replica was answered that a disk failed only where one was already, or a count rose
 abbrev pub HasLost : Bool → Bool → ℕ → ℕ → ℕ → ℕ → Type 0
 HasLost old new before now contents_before contents_now = new ≡ true → (old ≡ true) ⊎ OneHasRisen before now contents_before contents_now
+
+-- Where no replica is answered that a disk failed none was before, and where no fault place came either the two counts stand.
+pub record StandUntold (old new : Bool) (before now contents_before contents_now : ℕ) (old_order new_order : List Place) : Type 0 where
+  pub before_too : new ≡ false → old ≡ false
+  pub stand : new ≡ false → StandWithoutFaults before now contents_before contents_now old_order new_order

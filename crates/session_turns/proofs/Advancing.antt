@@ -18,8 +18,8 @@ use Rattle.lock_machine.specs.Machine.{Fault}
 use Rattle.lock_machine.proofs.Places.{set_here, some_is}
 use Rattle.run_parties.proofs.Slots.{also_at, at_set}
 use Rattle.run_parties.specs.depot_commit.Growing.{Chronicle, HasGroups, KeepsStored}
-use Rattle.run_parties.specs.serial_depot.Running.{HasRun}
-use Rattle.run_parties.specs.serial_depot.declared.depot.SerialDepot.{SerialDepot}
+use Rattle.run_parties.proofs.replica_turns.Along.{told_of}
+use Rattle.run_parties.specs.serial_depot.Running.{CanTake, HasRun}
 use Rattle.session_loop.specs.Asking.{replica_commands}
 use Rattle.session_loop.specs.Requests.{AreRequestsOfAll}
 use Rattle.session_loop.specs.declared.reading.ReplicaScript.{ReplicaScript}
@@ -155,8 +155,8 @@ module _ {D K : Type 0} (disk_says : DiskSays D) (sink_says : SinkSays K) (may_g
   pub replica_advances : (here : IsHere scene old i) → has_other p.others i ≡ true → IsReplicaTurn disk_says sink_says i here.left.p old new
       → ((places : List Placed) → HasRun disk_says old.depot scene.since scene.start places → HasRun disk_says new.depot scene.since scene.start places)
       → ((disk : D) (files : Files) → disk_says.seen disk files → disk_says.may_leave disk files) → ((c : Chronicle) → HasGroups disk_says old.depot.journal c → HasGroups disk_says new.depot.journal c) → KeepsStored disk_says old.depot.archive new.depot.archive
-      → Advances disk_says sink_says may_give scene p i old new
-  replica_advances here has t ran reads groups stored =
+      → CanTake disk_says old.depot → Advances disk_says sink_says may_give scene p i old new
+  replica_advances here has t ran reads groups stored can =
       let turn : Turn = record { party = i; how = Fault; stops = t.failed } in
       let is : advanced p turn ≡ record p { others = others_turned p.others turn } =
       ap (λ (b : Bool). cond b (record p { others = others_turned p.others turn }) (record p { machine = turned p.machine turn })) has in
@@ -180,7 +180,7 @@ module _ {D K : Type 0} (disk_says : DiskSays D) (sink_says : SinkSays K) (may_g
             let P : Option SessionRun → Type 0 = λ found. IsSomeAnd found (λ (x : SessionRun). x.failed ≡ true) in
             subst P (sym (ap (λ (rs : List SessionRun). slice_get rs i) t.answered.runs ∙ set_here old.runs.items i t.answered.run run' t.answered.at_run)) bad;
         stay = stay_more sink_says [] old.runs.items new.runs.items old.sinks.items new.sinks.items i t.text t.failed t.answered whole;
-        along = λ past h. along_replica disk_says sink_says may_give past scene old new h reads r.running.ran.tells i here.script here.at_script here.left.p here.left.at_party t whole (groups h.all h.master.groups) stored;
+        along = λ past h. along_replica disk_says sink_says may_give past scene old new h reads (told_of disk_says reads old.depot.archive r.running.ran.tells can.room) i here.script here.at_script here.left.p here.left.at_party t whole (groups h.all h.master.groups) stored;
       }
     where
       running : IsReplicaTurn disk_says sink_says i here.left.p old new → slice_get scene.scripts i ≡ Some (Some here.script) → IsRunning disk_says sink_says may_give scene p.machine new

@@ -1,7 +1,8 @@
 -- A replica that was answered that a disk failed, from turn to turn.
 use Rattle.std.proofs.Common.{◌≡◌, ℕ, Bool, true, false, List, inl, inr, sym, ◌∙◌, arith}
 use Rattle.depot_rows.specs.depot_model.declared.order.Place.{Place}
-use Rattle.run_parties.specs.Replicas.{HasLost, OneHasRisen}
+use Rattle.run_parties.specs.Replicas.{HasLost, OneHasRisen, StandUntold}
+use Rattle.session_loop.proofs.Faults.{stand_more, stand_same}
 use Rattle.session_loop.specs.Served.{AreCaused}
 
 -- what had risen has risen
@@ -33,3 +34,16 @@ not_before old new before now contents_before contents_now none lost is = elim (
   | inl had ↦ absurd (let both : true ≡ false = sym had ∙ none in cc)
   | inr rose ↦ rose
 ]
+
+-- ---- counts that stand
+
+pub untold_same : (lost : Bool) (before contents : ℕ) (order : List Place) → StandUntold lost lost before before contents contents order order
+untold_same lost before contents order = record { before_too = λ none. none; stand = λ none. stand_same before contents order order }
+
+pub untold_more : (old mid new : Bool) (before between now contents_before contents_between contents_now : ℕ) (first second third : List Place) → AreCaused before between contents_before contents_between first second
+    → AreCaused between now contents_between contents_now second third → StandUntold old mid before between contents_before contents_between first second
+    → StandUntold mid new between now contents_between contents_now second third → StandUntold old new before now contents_before contents_now first third
+untold_more old mid new before between now contents_before contents_between contents_now first second third one two was is = record {
+  before_too = λ none. was.before_too (is.before_too none);
+  stand = λ none. stand_more before between now contents_before contents_between contents_now first second third one two (was.stand (is.before_too none)) (is.stand none);
+}

@@ -6,7 +6,6 @@ use Rattle.depot_rows.specs.Standing.{Stand}
 use Rattle.depot_rows.specs.table_changes.Changed.{rows_of}
 use Rattle.depot_rows.specs.table_store.declared.tables.Tables.{Tables}
 use Rattle.depot_rows.specs.depot_model.Deeds.{Deed}
-use Rattle.depot_rows.specs.depot_model.Places.{Placed}
 use Rattle.depot_rows.specs.depot_model.declared.order.Place.{Place}
 use Rattle.depot_rows.specs.depot_model.declared.request.Session.{Session}
 use Rattle.depot_runs.specs.Run.{placed}

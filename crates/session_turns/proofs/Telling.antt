@@ -1,15 +1,13 @@
 -- The replicas of a run along the depot that they follow, from turn to turn.
-use Rattle.std.proofs.Common.{◌≡◌, ℕ, ◌+◌, Bool, true, false, List, [], ◌∷◌, ◌++◌, length, map, set, Option, Some, Result, refl, sym, ap, subst, ◌∙◌, arith, inl, inr, Vec, Global}
+use Rattle.std.proofs.Common.{◌≡◌, ℕ, ◌+◌, Bool, false, List, [], ◌∷◌, ◌++◌, length, map, set, Option, Some, refl, sym, ap, subst, ◌∙◌, arith, inl, inr, Vec, Global}
 use Rattle.std.specs.Prelude.{slice_get, option_map}
 use Rattle.std.proofs.lemmas.List.{length-append, map-append, map-set}
 use Rattle.std.proofs.lemmas.Option.{slice_get-map}
 use Rattle.outside_api.specs.Disk.{Files}
 use Rattle.outside_api.specs.Says.{DiskSays, SinkSays}
-use Rattle.archive_file.specs.Archive as archives
-use Rattle.depot_rows.specs.depot_model.Deeds.{Deed}
+use Rattle.archive_file.specs.Contents.{IsTold}
 use Rattle.depot_rows.specs.depot_model.Places.{Placed}
 use Rattle.depot_rows.specs.depot_model.declared.order.Place.{Place}
-use Rattle.depot_rows.specs.depot_model.declared.request.Session.{Session}
 use Rattle.depot_runs.specs.Run.{placed}
 use Rattle.lock_machine.proofs.Places.{set_here, set_there, some_is}
 use Rattle.run_parties.proofs.Fresh.{party_at}
@@ -24,7 +22,6 @@ use Rattle.run_parties.specs.replica_turns.Going.{HasGotTexts, IsFresh, reply_te
 use Rattle.run_parties.specs.replica_turns.Master.{IsMaster, Past}
 use Rattle.run_parties.specs.replica_turns.declared.party.ReplicaParty.{ReplicaParty}
 use Rattle.run_parties.specs.depot_commit.Growing.{Chronicle, HasGroups, KeepsStored}
-use Rattle.run_parties.specs.serial_depot.declared.depot.SerialDepot.{SerialDepot}
 use Rattle.session_loop.specs.Asking.{AreWellFormed}
 use Rattle.session_loop.specs.declared.reading.ReplicaScript.{ReplicaScript}
 use Rattle.session_loop.specs.declared.session.SessionRun.{SessionRun}
@@ -68,7 +65,7 @@ module _ {D K : Type 0} (disk_says : DiskSays D) (sink_says : SinkSays K) (may_g
 
   -- ---- a replica's turn
 
-  module _ (reads : (disk : D) (files : Files) → disk_says.seen disk files → disk_says.may_leave disk files) (tells : (files : Files) × disk_says.seen (archives.disk_of old.depot.archive) files) (i : ℕ) (script : ReplicaScript)
+  module _ (reads : (disk : D) (files : Files) → disk_says.seen disk files → disk_says.may_leave disk files) (told : (bytes : List ℕ) × IsTold disk_says old.depot.archive bytes) (i : ℕ) (script : ReplicaScript)
       (at_script : slice_get scene.scripts i ≡ Some (Some script)) (p : ReplicaParty) (at_party : slice_get old.replicas.parties.items i ≡ Some (Some p)) (t : IsReplicaTurn disk_says sink_says i p old new)
       (whole : t.answered.run.failed ≡ false) where
     abbrev run' : SessionRun
@@ -98,7 +95,7 @@ module _ {D K : Type 0} (disk_says : DiskSays D) (sink_says : SinkSays K) (may_g
           texts = g.texts ++ text ∷ [];
           count = (let long = length-append g.texts (text ∷ []) in let same = g.count in omega (arith, long, same));
           along =
-              along_turned disk_says reads past scene.start places old.depot h.all h.master tells may_give (i + 1) script p next g.texts result g.along t.stepped.turned;
+              along_turned disk_says reads past scene.start places old.depot h.all h.master told may_give (i + 1) script p next g.texts result g.along t.stepped.turned;
           got = got_more t.failed g.texts text had (sink_says.given t.answered.sink) (sink_says.given t.answered.new) (subst P whole g.got) gives;
         }
 

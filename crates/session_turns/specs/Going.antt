@@ -11,7 +11,7 @@ use Rattle.disk_journal.specs.Stands.{disk_of}
 use Rattle.lock_machine.specs.Machine.{Finish}
 use Rattle.lock_machine.specs.Turns.{turns_left}
 use Rattle.run_parties.specs.Giving.{HasGiven}
-use Rattle.run_parties.specs.Replicas.{AreLost, HasLost}
+use Rattle.run_parties.specs.Replicas.{AreLost, HasLost, StandUntold}
 use Rattle.run_parties.specs.replica_turns.Going.{IsTurned, is_lost, reply_text}
 use Rattle.run_parties.specs.replica_turns.Master.{Past}
 use Rattle.run_parties.specs.replica_turns.declared.party.Answered.{Answered}
@@ -95,6 +95,10 @@ pub record TakesTurns {D K : Type 0} (disk_says : DiskSays D) (sink_says : SinkS
 -- that a replica was answered so only where the count of one of the two disks rose
 abbrev pub HaveLost : {D K : Type 0} → DiskSays D → Turns D K → Turns D K → Type 0
 HaveLost disk_says old new = HasLost old.replicas.lost new.replicas.lost (disk_says.faults (disk_of old.depot.journal)) (disk_says.faults (disk_of new.depot.journal)) (disk_says.faults (archives.disk_of old.depot.archive)) (disk_says.faults (archives.disk_of new.depot.archive))
+
+-- where it wasn't, and no fault place came, the counts of both disks stand
+abbrev pub HaveTold : {D K : Type 0} → DiskSays D → Turns D K → Turns D K → Type 0
+HaveTold disk_says old new = StandUntold old.replicas.lost new.replicas.lost (disk_says.faults (disk_of old.depot.journal)) (disk_says.faults (disk_of new.depot.journal)) (disk_says.faults (archives.disk_of old.depot.archive)) (disk_says.faults (archives.disk_of new.depot.archive)) old.order.items new.order.items
 
 -- how many turns are left at most
 abbrev pub all_left : Progress → ℕ

@@ -22,7 +22,7 @@ use Rattle.run_parties.specs.depot_commit.Growing.{Chronicle}
 use Rattle.run_parties.specs.serial_depot.Running.{CanTake, HasRun}
 use Rattle.run_parties.specs.serial_depot.declared.depot.SerialDepot.{SerialDepot}
 use Rattle.session_loop.specs.Asking.{AreWellFormed, commands_of}
-use Rattle.session_loop.specs.Served.{AreCaused}
+use Rattle.session_loop.specs.Served.{AreCaused, StandWithoutFaults}
 use Rattle.session_loop.specs.Taking.{Answers, IsProper, with_place}
 use Rattle.session_loop.specs.declared.reading.ReplicaScript.{ReplicaScript}
 use Rattle.session_turns.specs.Along.{GrowsTo}
@@ -91,6 +91,10 @@ StayWithin {K = K} sink_says old new = (new.totals ≡ old.totals)
 -- there come at most as many fault places as the counts of the two disks rise
 abbrev pub HaveCauses : {D K : Type 0} → DiskSays D → Turns D K → Turns D K → Type 0
 HaveCauses disk_says old new = AreCaused (disk_says.faults (disk_of old.depot.journal)) (disk_says.faults (disk_of new.depot.journal)) (disk_says.faults (archives.disk_of old.depot.archive)) (disk_says.faults (archives.disk_of new.depot.archive)) old.order.items new.order.items
+
+-- where none comes the two counts stand
+abbrev pub HaveStoodWithout : {D K : Type 0} → DiskSays D → Turns D K → Turns D K → Type 0
+HaveStoodWithout disk_says old new = StandWithoutFaults (disk_says.faults (disk_of old.depot.journal)) (disk_says.faults (disk_of new.depot.journal)) (disk_says.faults (archives.disk_of old.depot.archive)) (disk_says.faults (archives.disk_of new.depot.archive)) old.order.items new.order.items
 
 -- ---- a turn of the machine
 

@@ -11,7 +11,7 @@ ghost use Rattle.lock_core.specs.Core.{IsReady, Shows};
 ghost use Rattle.lock_machine.specs.Machine.{State};
 ghost use Rattle.run_parties.specs.command_core.declared.outcome.Outcome.{Outcome as AnyOutcome};
 ghost use Rattle.run_parties.specs.serial_depot.Running.{CanTake, HasRun};
-ghost use Rattle.session_loop.specs.Served.{AreCaused};
+ghost use Rattle.session_loop.specs.Served.{AreCaused, StandWithoutFaults};
 ghost use Rattle.session_turns.specs.Drawn.{ended};
 ghost use Rattle.session_turns.specs.Taking.{IsDue, IsPlaced, IsUnplaced, finish_for};
 
@@ -59,6 +59,7 @@ pub(crate) fn place_commit<D: Disk, G: Gate>(
     ensures unplaced { OnErr result (IsUnplaced D.says depot.old depot.new) }
     ensures order { IfOk result (λ answer. order.new.items ≡ order.old.items ++ answer.place ∷ []) }
     ensures same_order { OnErr result (order.new.items ≡ order.old.items) }
+    ensures stand { StandWithoutFaults (D.says.faults (disk_of depot.old.journal)) (D.says.faults (disk_of depot.new.journal)) (D.says.faults (archive_disk_of depot.old.archive)) (D.says.faults (archive_disk_of depot.new.archive)) order.old.items order.new.items }
     ensures faults { AreCaused (D.says.faults (disk_of depot.old.journal)) (D.says.faults (disk_of depot.new.journal)) (D.says.faults (archive_disk_of depot.old.archive)) (D.says.faults (archive_disk_of depot.new.archive)) order.old.items order.new.items }
 {
     let outcome = match outcome {

@@ -11,7 +11,7 @@ ghost use Rattle.run_parties.specs.Giving.{text_of};
 ghost use Rattle.run_parties.specs.Replicas.{HasLost};
 ghost use Rattle.run_parties.specs.replica_turns.declared.party.ReplicaParty.{ReplicaParty as AnyParty};
 ghost use Rattle.run_parties.specs.depot_commit.Growing.{Chronicle, HasGroups, KeepsStored};
-ghost use Rattle.run_parties.specs.serial_depot.Running.{CanTake, HasRun};
+ghost use Rattle.run_parties.specs.serial_depot.Running.{CanTake, HasRun, HaveStood};
 ghost use Rattle.session_loop.specs.Asking.{replica_commands};
 ghost use Rattle.session_turns.specs.Drawn.{left_after_turn, replica_totals};
 ghost use Rattle.session_turns.specs.Going.{IsStepped};
@@ -107,6 +107,7 @@ impl Replicas {
         ensures stepped { (p : AnyParty) → slice_get self.old.parties.items at ≡ Some (Some p) → 0 < length p.left.items → IsStepped D.says depot.old at p self.old self.new (text_of result) }
         ensures never_falls { D.says.faults (disk_of depot.old.journal) ≤ D.says.faults (disk_of depot.new.journal) }
         ensures never_falls_contents { D.says.faults (archive_disk_of depot.old.archive) ≤ D.says.faults (archive_disk_of depot.new.archive) }
+        ensures told { self.new.lost ≡ false → (self.old.lost ≡ false) × HaveStood D.says depot.old depot.new }
         ensures lost { HasLost self.old.lost self.new.lost (D.says.faults (disk_of depot.old.journal)) (D.says.faults (disk_of depot.new.journal)) (D.says.faults (archive_disk_of depot.old.archive)) (D.says.faults (archive_disk_of depot.new.archive)) }
     {
         if at >= self.parties.len() {

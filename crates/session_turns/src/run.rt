@@ -1,6 +1,6 @@
 //! The run of all parties.
 
-ghost use Rattle.std.specs.Prelude.{◌≡◌, ◌≤◌, ◌<◌, ◌^◌, ℕ, List, [], true, length, map, All, IfErr, IfOk};
+ghost use Rattle.std.specs.Prelude.{◌≡◌, ◌≤◌, ◌<◌, ◌^◌, ℕ, List, [], true, false, length, map, All, IfErr, IfOk};
 ghost use Rattle.archive_file.specs.Archive.{disk_of as archive_disk_of};
 ghost use Rattle.depot_rows.specs.depot_model.Deeds.{Deed};
 ghost use Rattle.depot_runs.specs.Run.{placed};
@@ -11,7 +11,7 @@ ghost use Rattle.run_parties.specs.replica_turns.Master.{IsMaster, Past};
 ghost use Rattle.run_parties.specs.depot_commit.Growing.{Chronicle};
 ghost use Rattle.run_parties.specs.serial_depot.Running.{CanTake, HasRun};
 ghost use Rattle.session_loop.specs.Asking.{AreWellFormed, commands_of, replica_commands};
-ghost use Rattle.session_loop.specs.Served.{AreCaused};
+ghost use Rattle.session_loop.specs.Served.{AreCaused, StandWithoutFaults};
 ghost use Rattle.session_turns.specs.Drawn.{IsDrawn};
 
 use crate::answers::answer_rest;
@@ -91,7 +91,9 @@ pub fn run_sessions<D: Disk, K: Sink + Drop, C: Clock, G: Gate>(
 
     ensures ends { IfOk result (λ ran. AreEnds K.says sessions.items replicas.items ran.runs.items sinks.items ran.sinks.items) }
 
+    // Where there is no fault place, and no replica was answered that a disk failed, the counts of the two disks stand.
     // There are at most as many fault places as the counts of the two disks rose, and a replica was answered that a disk failed only where one of them rose.
+    ensures stand { IfOk result (λ ran. ran.lost ≡ false → StandWithoutFaults (D.says.faults (disk_of depot.journal)) (D.says.faults (disk_of ran.depot.journal)) (D.says.faults (archive_disk_of depot.archive)) (D.says.faults (archive_disk_of ran.depot.archive)) [] ran.order.items) }
     ensures faults { IfOk result (λ ran. AreCaused (D.says.faults (disk_of depot.journal)) (D.says.faults (disk_of ran.depot.journal)) (D.says.faults (archive_disk_of depot.archive)) (D.says.faults (archive_disk_of ran.depot.archive)) [] ran.order.items) }
     ensures lost { IfOk result (λ ran. ran.lost ≡ true → OneHasRisen (D.says.faults (disk_of depot.journal)) (D.says.faults (disk_of ran.depot.journal)) (D.says.faults (archive_disk_of depot.archive)) (D.says.faults (archive_disk_of ran.depot.archive))) }
 {

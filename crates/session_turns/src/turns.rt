@@ -4,9 +4,9 @@ ghost use Rattle.std.specs.Prelude.{◌≡◌, ◌<◌, ◌^◌, length, true};
 ghost use Rattle.lock_core.specs.Drawing.{has_other, may_go_on};
 ghost use Rattle.lock_machine.specs.Machine.{State, is_enabled};
 ghost use Rattle.session_turns.specs.Drawn.{Progress};
-ghost use Rattle.session_turns.specs.Going.{Advances, AreGoing, HaveLost, TakesTurns, all_left};
+ghost use Rattle.session_turns.specs.Going.{Advances, AreGoing, HaveLost, HaveTold, TakesTurns, all_left};
 ghost use Rattle.session_turns.specs.Running.{Scene};
-ghost use Rattle.session_turns.specs.Taking.{CanGoOn, HaveCauses, IsAtHand, IsRunning, StayWithin, TakesTurn};
+ghost use Rattle.session_turns.specs.Taking.{CanGoOn, HaveCauses, HaveStoodWithout, IsAtHand, IsRunning, StayWithin, TakesTurn};
 
 use crate::answers::{answer_party, has_more, reply_in};
 use crate::commits::{how_of, place_commit, stop_if};
@@ -56,6 +56,7 @@ impl<D: Disk, K: Sink> Turns<D, K> {
             (result ≡ true) × TakesTurn D.says K.says (C.says.may_give clock.now) scene s party self.old self.new }
         ensures replicas { self.new.replicas ≡ self.old.replicas }
         ensures within { StayWithin K.says self.old self.new }
+        ensures stand { HaveStoodWithout D.says self.old self.new }
         ensures faults { HaveCauses D.says self.old self.new }
     {
         let at = party as usize;
@@ -93,6 +94,7 @@ impl<D: Disk, K: Sink> Turns<D, K> {
             (result ≡ true) × TakesTurn D.says K.says (C.says.may_give clock.now) scene s party self.old self.new }
         ensures replicas { self.new.replicas ≡ self.old.replicas }
         ensures within { StayWithin K.says self.old self.new }
+        ensures stand { HaveStoodWithout D.says self.old self.new }
         ensures faults { HaveCauses D.says self.old self.new }
     {
         match self.core.turn(alloc, party) {
@@ -111,6 +113,7 @@ impl<D: Disk, K: Sink> Turns<D, K> {
         ensures turn { (scene : Scene) (p : Progress) → AreGoing D.says K.says (C.says.may_give clock.now) scene p self.old → has_other p.others party ≡ true →
             (result ≡ true) × Advances D.says K.says (C.says.may_give clock.now) scene p party self.old self.new }
         ensures within { StayWithin K.says self.old self.new }
+        ensures told { HaveTold D.says self.old self.new }
         ensures faults { HaveCauses D.says self.old self.new }
         ensures lost { HaveLost D.says self.old self.new }
     {
@@ -132,6 +135,7 @@ impl<D: Disk, K: Sink> Turns<D, K> {
             may_go_on p.machine p.others party ≡ true →
             (result ≡ true) × Advances D.says K.says (C.says.may_give clock.now) scene p party self.old self.new }
         ensures within { StayWithin K.says self.old self.new }
+        ensures told { HaveTold D.says self.old self.new }
         ensures faults { HaveCauses D.says self.old self.new }
         ensures lost { HaveLost D.says self.old self.new }
     {
@@ -156,6 +160,7 @@ impl<D: Disk, K: Sink> Turns<D, K> {
             length scene.sessions < 2 ^ 32 → all_left p < 2 ^ 64 →
             TakesTurns D.says K.says (C.says.may_give clock.now) scene seed p self.old self.new }
         ensures within { StayWithin K.says self.old self.new }
+        ensures told { HaveTold D.says self.old self.new }
         ensures faults { HaveCauses D.says self.old self.new }
         ensures lost { HaveLost D.says self.old self.new }
     {

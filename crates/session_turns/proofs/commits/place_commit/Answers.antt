@@ -16,8 +16,8 @@ use Rattle.run_parties.specs.command_core.declared.outcome.Outcome.{Outcome}
 use Rattle.run_parties.specs.depot_commit.Committing.{IsOutcomeOf}
 use Rattle.run_parties.specs.depot_commit.Growing.{HasGroups, grown}
 use Rattle.run_parties.specs.depot_commit.Opening.{opens_generation}
-use Rattle.session_loop.proofs.Faults.{caused_once, caused_same}
-use Rattle.session_loop.specs.Served.{AreCaused}
+use Rattle.session_loop.proofs.Faults.{caused_once, caused_same, stand_once, stand_same}
+use Rattle.session_loop.specs.Served.{AreCaused, StandWithoutFaults}
 use Rattle.session_loop.specs.Taking.{IsProper}
 use Rattle.session_turns.proofs.Committing.{outcome_of}
 use Rattle.session_turns.specs.Taking.{IsPlaced}
@@ -80,7 +80,31 @@ returns-in-Ok-place_outcome-clause-faults g c =
     subst Caused (sym more)
     (caused_once before now contents_before contents_now old_order place place.fault refl c.place_outcome.ensures.never_falls c.place_outcome.ensures.never_falls_contents risen)
 
+pub returns-in-Ok-place_outcome-clause-stand : goal.returns-in-Ok-place_outcome-clause-stand
+returns-in-Ok-place_outcome-clause-stand g c =
+    let place : Place = c.in-Ok-place_outcome.answer.place in
+    let old = c.args.depot.now in
+    let new = c.place_outcome.new.self in
+    let old_order = c.args.order.now.items in
+    let more : c.push.new.self.items ≡ old_order ++ place ∷ [] = rw c.unwrap.ensures at c.push.ensures.items ∙ ap (λ (order : List Place). order ++ place ∷ []) c.tables_with_room.ensures.same in
+    let Stand : List Place → Type 0 =
+    StandWithoutFaults (g.D.Disk.says.faults (disk_of old.journal)) (g.D.Disk.says.faults (disk_of new.journal)) (g.D.Disk.says.faults (archive_disk_of old.archive)) (g.D.Disk.says.faults (archive_disk_of new.archive)) old_order in
+    subst Stand (sym more)
+    (stand_once _ _ _ _ old_order place place.fault refl (λ whole. let stood = c.in-Ok-place_outcome.ensures.only whole in (stood.journal, stood.archive)))
+
 -- ---- without one
+
+pub returns-in-Err-place_outcome-clause-stand : goal.returns-in-Err-place_outcome-clause-stand
+returns-in-Err-place_outcome-clause-stand g c = λ same. let stood = c.in-Err-place_outcome.ensures.no_memory in (stood.journal, stood.archive)
+
+pub returns-in-Err-tables_with_room-clause-stand : goal.returns-in-Err-tables_with_room-clause-stand
+returns-in-Err-tables_with_room-clause-stand g c = stand_same _ _ c.args.order.now.items c.tables_with_room.new.order.items
+
+pub returns-in_default-clause-stand : goal.returns-in_default-clause-stand
+returns-in_default-clause-stand g c = stand_same _ _ c.args.order.now.items c.args.order.now.items
+
+pub returns-in-Err-clause-stand : goal.returns-in-Err-clause-stand
+returns-in-Err-clause-stand g c = stand_same _ _ c.args.order.now.items c.args.order.now.items
 
 pub returns-in-Err-place_outcome-clause-unplaced : goal.returns-in-Err-place_outcome-clause-unplaced
 returns-in-Err-place_outcome-clause-unplaced g c =

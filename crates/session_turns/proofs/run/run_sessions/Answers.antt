@@ -2,7 +2,7 @@ use Rattle.std.proofs.Common.{◌≡◌, List, sym, subst}
 use Rattle.archive_file.specs.Archive.{disk_of as archive_disk_of}
 use Rattle.depot_rows.specs.depot_model.declared.order.Place.{Place}
 use Rattle.disk_journal.specs.Stands.{disk_of}
-use Rattle.session_loop.specs.Served.{AreCaused}
+use Rattle.session_loop.specs.Served.{AreCaused, StandWithoutFaults}
 use Rattle.session_turns.proofs.Losing.{not_before}
 use Rattle.session_turns.proofs.Whole.{whole_drawn, whole_ends, whole_ran, whole_replicas, whole_served, whole_told}
 use Rattle.session_turns.proofs.run.run_sessions.Goals as goal
@@ -44,6 +44,15 @@ returns-clause-ends g c =
 
 pub returns-clause-lost : goal.returns-clause-lost
 returns-clause-lost g c = λ is. not_before _ _ _ _ _ _ c.in-Ok.ensures.lost c.take_all.ensures.lost is
+
+pub returns-clause-stand : goal.returns-clause-stand
+returns-clause-stand g c = λ none.
+    let before = c.args.depot in
+    let after = c.take_all.new.self in
+    let Stand : List Place → Type 0 = λ order.
+    StandWithoutFaults (g.D.Disk.says.faults (disk_of before.journal)) (g.D.Disk.says.faults (disk_of after.depot.journal)) (g.D.Disk.says.faults (archive_disk_of before.archive))
+    (g.D.Disk.says.faults (archive_disk_of after.depot.archive)) order after.order.items in
+    subst Stand c.new-2.ensures.items (c.take_all.ensures.told.stand none)
 
 pub returns-clause-faults : goal.returns-clause-faults
 returns-clause-faults g c =

@@ -1,3 +1,4 @@
+use Rattle.std.proofs.lemmas.Bool.{true≢false}
 use Rattle.std.proofs.Common.{◌≡◌, ◌<◌, length, Bool, true, false, Ok, Err, Some, refl, sym, ap, ◌∙◌, arith}
 use Rattle.std.specs.Prelude.{◌||◌, slice_get}
 use Rattle.std.proofs.Math.Bool.{or-false}
@@ -35,3 +36,30 @@ returns-in-Err-clause-stepped g c = λ p at_p some.
     let here : 0 < length c.in-Some.party.left.items = (let less = ap (λ (q : ReplicaParty). length q.left.items) same in omega (arith, some, less)) in
     stepped g.D.Disk.says c.args.depot.now at p c.in-Some.party c.answer_next.new.self c.args.self.now _ (Err c.in-Err.error) (Err c.in-Err.error) same refl
     (c.in-Err.ensures.turned here) (c.in-Err.ensures.left here) (λ number. refl) (sym (or-false c.args.self.now.lost))
+
+-- ---- what the disks did
+
+untold : (lost had has : Bool) → lost ≡ (had || has) → lost ≡ false → (had ≡ false) × (has ≡ false)
+untold lost false has is none = (refl, sym is ∙ none)
+untold lost true has is none = absurd (true≢false (sym is ∙ none))
+
+pub returns-after-self-clause-told : goal.returns-after-self-clause-told
+returns-after-self-clause-told g c = λ none.
+    let had = c.args.self.now.lost in
+    let has = c.in-Ok.field-0.lost in
+    let both = untold _ had has (elim c.if-self.branch [
+      | then-self w ↦ (w.self-is ∙ w.if-self.true) ∙ sym (ap (λ (b : Bool). b || has) w.if-self.true)
+      | else-self w ↦ w.self-is ∙ sym (ap (λ (b : Bool). b || has) w.if-self.false)
+    ]) none in
+    (both.0, c.in-Ok.ensures.only both.1)
+
+pub returns-in-Err-clause-told : goal.returns-in-Err-clause-told
+returns-in-Err-clause-told g c = λ none. (none, c.in-Err.ensures.no_memory)
+
+-- ---- no replica there
+
+pub returns-then-at-len-clause-told : goal.returns-then-at-len-clause-told
+returns-then-at-len-clause-told g c = λ none. (none, record { journal = refl; archive = refl })
+
+pub returns-in_default-clause-told : goal.returns-in_default-clause-told
+returns-in_default-clause-told g c = λ none. (none, record { journal = refl; archive = refl })

@@ -30,6 +30,15 @@ returns-then-has_left-clause-faults g c = c.take_replica_turn.ensures.faults
 pub returns-else-has_left-clause-faults : goal.returns-else-has_left-clause-faults
 returns-else-has_left-clause-faults g c = c.take_turn.ensures.faults
 
+pub returns-then-has_left-clause-told : goal.returns-then-has_left-clause-told
+returns-then-has_left-clause-told g c = c.take_replica_turn.ensures.told
+
+pub returns-else-has_left-clause-told : goal.returns-else-has_left-clause-told
+returns-else-has_left-clause-told g c = record {
+  before_too = λ none. ap (λ (rs : Replicas). rs.lost) (sym c.take_turn.ensures.replicas) ∙ none;
+  stand = λ none. c.take_turn.ensures.stand;
+}
+
 pub returns-then-has_left-clause-lost : goal.returns-then-has_left-clause-lost
 returns-then-has_left-clause-lost g c = c.take_replica_turn.ensures.lost
 

@@ -3,7 +3,7 @@ use Rattle.std.specs.Prelude.{slice_get}
 use Rattle.depot_rows.specs.table_store.declared.tables.Tables.{Tables}
 use Rattle.lock_core.specs.Finished.{Finishes}
 use Rattle.lock_core.specs.declared.turn.Finish.{Finish}
-use Rattle.session_loop.proofs.Faults.{caused_same}
+use Rattle.session_loop.proofs.Faults.{caused_same, stand_same}
 use Rattle.session_turns.proofs.Committing.{hand_more, made}
 use Rattle.session_turns.proofs.Within.{as_many_more, has_more_here, more_there, reply_answered, within_more}
 use Rattle.session_turns.proofs.turns.Turns.make_commit.Goals as goal
@@ -35,6 +35,9 @@ returns-then-not-has_more-clause-turn g c = λ scene s r enabled hand.
 
 pub returns-then-not-has_more-clause-within : goal.returns-then-not-has_more-clause-within
 returns-then-not-has_more-clause-within g c = (refl, λ before h. h)
+
+pub returns-then-not-has_more-clause-stand : goal.returns-then-not-has_more-clause-stand
+returns-then-not-has_more-clause-stand g c = stand_same _ _ c.args.self.now.order.items c.args.self.now.order.items
 
 pub returns-then-not-has_more-clause-faults : goal.returns-then-not-has_more-clause-faults
 returns-then-not-has_more-clause-faults g c = let order = c.args.self.now.order.items in caused_same _ _ _ _ order order refl (omega arith) (omega arith)
@@ -70,6 +73,9 @@ returns-clause-within g c =
           within_more g.K.Sink.says old.totals.items old.runs.items _ old.sinks.items _ at _ c.answer_party-failed.result c.answer_party-failed.ensures before h
           (has_more_here at _ _ _ _ _ c.deref.ensures.value c.deref-2.ensures.value c.has_more.ensures.more c.if-not-has_more.false),
     )
+
+pub returns-clause-stand : goal.returns-clause-stand
+returns-clause-stand g c = c.place_commit-answer.ensures.stand
 
 pub returns-clause-faults : goal.returns-clause-faults
 returns-clause-faults g c = c.place_commit-answer.ensures.faults

@@ -3,6 +3,7 @@ use Rattle.std.specs.Prelude.{get_or, slice_get, slice_set}
 use Rattle.run_parties.specs.Giving.{text_of}
 use Rattle.session_loop.proofs.Faults.{caused_same}
 use Rattle.session_turns.proofs.Advancing.{replica_advances, replica_here}
+use Rattle.session_turns.proofs.Losing.{untold_same}
 use Rattle.session_turns.proofs.Within.{as_many_more, has_more_here, more_there, within_more}
 use Rattle.session_turns.specs.Drawn.{left_after_turn}
 use Rattle.session_turns.proofs.turns.Turns.take_replica_turn.Goals as goal
@@ -33,6 +34,9 @@ returns-then-not-has_more-clause-within g c = (refl, λ before h. h)
 pub returns-then-not-has_more-clause-faults : goal.returns-then-not-has_more-clause-faults
 returns-then-not-has_more-clause-faults g c = let order = c.args.self.now.order.items in caused_same _ _ _ _ order order refl (omega arith) (omega arith)
 
+pub returns-then-not-has_more-clause-told : goal.returns-then-not-has_more-clause-told
+returns-then-not-has_more-clause-told g c = untold_same _ _ _ c.args.self.now.order.items
+
 pub returns-then-not-has_more-clause-lost : goal.returns-then-not-has_more-clause-lost
 returns-then-not-has_more-clause-lost g c = λ is. inl is
 
@@ -62,7 +66,7 @@ returns-clause-turn g c = λ scene p r has.
             core = refl;
             totals = refl;
             order = refl;
-          }) (λ places ran. reply.ran scene.since scene.start places ran) g.met.D.Disk.reads_an_image reply.groups reply.stored,
+          }) (λ places ran. reply.ran scene.since scene.start places ran) g.met.D.Disk.reads_an_image reply.groups reply.stored c.requires.can.0,
     )
 
 pub returns-clause-within : goal.returns-clause-within
@@ -77,6 +81,12 @@ returns-clause-within g c =
 
 pub returns-clause-faults : goal.returns-clause-faults
 returns-clause-faults g c = let order = c.args.self.now.order.items in caused_same _ _ _ _ order order refl c.reply-reply.ensures.never_falls c.reply-reply.ensures.never_falls_contents
+
+pub returns-clause-told : goal.returns-clause-told
+returns-clause-told g c = record {
+  before_too = λ none. (c.reply-reply.ensures.told (sym c.count_turn.ensures.lost ∙ none)).0;
+  stand = λ none same. let stood = (c.reply-reply.ensures.told (sym c.count_turn.ensures.lost ∙ none)).1 in (stood.journal, stood.archive);
+}
 
 pub returns-clause-lost : goal.returns-clause-lost
 returns-clause-lost g c = λ is. c.reply-reply.ensures.lost (sym c.count_turn.ensures.lost ∙ is)

@@ -1,7 +1,7 @@
 use Rattle.std.proofs.Common.{refl, subst, arith}
 use Rattle.lock_core.specs.Core.{IsTurn}
 use Rattle.lock_core.specs.declared.turn.Turn.{Turn}
-use Rattle.session_loop.proofs.Faults.{caused_same}
+use Rattle.session_loop.proofs.Faults.{caused_same, stand_same}
 use Rattle.session_turns.proofs.Moving.{idle_turn, moved_turn, same_machine, turn_from}
 use Rattle.session_turns.proofs.turns.Turns.take_turn.Goals as goal
 
@@ -15,6 +15,9 @@ returns-in-Ok-Idle-clause-turn g c = λ scene s r enabled.
 pub returns-in-Ok-Idle-clause-within : goal.returns-in-Ok-Idle-clause-within
 returns-in-Ok-Idle-clause-within g c = (refl, λ before h. h)
 
+pub returns-in-Ok-Idle-clause-stand : goal.returns-in-Ok-Idle-clause-stand
+returns-in-Ok-Idle-clause-stand g c = stand_same _ _ c.args.self.now.order.items c.args.self.now.order.items
+
 pub returns-in-Ok-Idle-clause-faults : goal.returns-in-Ok-Idle-clause-faults
 returns-in-Ok-Idle-clause-faults g c = let order = c.args.self.now.order.items in caused_same _ _ _ _ order order refl (omega arith) (omega arith)
 
@@ -25,6 +28,9 @@ returns-in-Ok-Moved-clause-turn g c = λ scene s r enabled.
 
 pub returns-in-Ok-Moved-clause-within : goal.returns-in-Ok-Moved-clause-within
 returns-in-Ok-Moved-clause-within g c = (refl, λ before h. h)
+
+pub returns-in-Ok-Moved-clause-stand : goal.returns-in-Ok-Moved-clause-stand
+returns-in-Ok-Moved-clause-stand g c = stand_same _ _ c.args.self.now.order.items c.args.self.now.order.items
 
 pub returns-in-Ok-Moved-clause-faults : goal.returns-in-Ok-Moved-clause-faults
 returns-in-Ok-Moved-clause-faults g c = let order = c.args.self.now.order.items in caused_same _ _ _ _ order order refl (omega arith) (omega arith)
@@ -42,6 +48,9 @@ returns-in-Ok-Ready-clause-turn g c = λ scene s r enabled.
 pub returns-in-Ok-Ready-clause-within : goal.returns-in-Ok-Ready-clause-within
 returns-in-Ok-Ready-clause-within g c = c.make_commit.ensures.within
 
+pub returns-in-Ok-Ready-clause-stand : goal.returns-in-Ok-Ready-clause-stand
+returns-in-Ok-Ready-clause-stand g c = c.make_commit.ensures.stand
+
 pub returns-in-Ok-Ready-clause-faults : goal.returns-in-Ok-Ready-clause-faults
 returns-in-Ok-Ready-clause-faults g c = c.make_commit.ensures.faults
 
@@ -53,6 +62,9 @@ returns-in-Err-clause-turn g c = λ scene s r enabled.
 
 pub returns-in-Err-clause-within : goal.returns-in-Err-clause-within
 returns-in-Err-clause-within g c = c.make_commit-in-Err.ensures.within
+
+pub returns-in-Err-clause-stand : goal.returns-in-Err-clause-stand
+returns-in-Err-clause-stand g c = c.make_commit-in-Err.ensures.stand
 
 pub returns-in-Err-clause-faults : goal.returns-in-Err-clause-faults
 returns-in-Err-clause-faults g c = c.make_commit-in-Err.ensures.faults
