@@ -1,5 +1,5 @@
 //! What lies behind the lock.
-ghost use Rattle.std.specs.Prelude.{◌≡◌, ◌<◌, [], ◌∷◌, ◌++◌, OnErr, OnOk};
+ghost use Rattle.std.specs.Prelude.{◌≡◌, ◌<◌, ◌≤◌, ◌-◌, ◌^◌, [], ◌∷◌, ◌++◌, length, OnErr, OnOk};
 ghost use mathlib.Core.List.{IsPrefix};
 ghost use Rattle.party_marks.specs.Known.{with_mark};
 ghost use Rattle.party_marks.specs.Marks.{mark_of, marks_of};
@@ -51,6 +51,7 @@ impl<N: Marking> Marks<N> {
         ensures same { self.new ≡ self.old }
         ensures room { OnOk result (0 < self.new.room) }
         ensures full { OnErr result (self.new.room ≡ 0) }
+        ensures many { OnErr result (2 ^ 64 - 1 ≤ length self.new.list) }
     {
         if self.seat.places() < u64::MAX {
             Ok(())

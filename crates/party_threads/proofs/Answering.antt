@@ -15,7 +15,7 @@ use Rattle.party_marks.specs.Known.{PassKnown}
 use Rattle.party_marks.specs.Marks.{has_marks}
 use Rattle.run_parties.proofs.Outputs.{got_more}
 use Rattle.run_parties.proofs.Replicas.{plain, turned_plain}
-use Rattle.run_parties.proofs.replica_turns.Along.{along_first, along_later, along_longer, along_turned}
+use Rattle.run_parties.proofs.replica_turns.Along.{along_first, along_later, along_longer, along_turned, told_of}
 use Rattle.run_parties.proofs.replica_turns.Masters.{texts_grow}
 use Rattle.run_parties.proofs.replica_turns.Turns.{begins as fresh_goes, goes_on, going_longer}
 use Rattle.run_parties.specs.Giving.{Got, HasGiven}
@@ -29,7 +29,6 @@ use Rattle.run_parties.specs.replica_turns.declared.party.Answered.{Answered}
 use Rattle.run_parties.specs.replica_turns.declared.party.ReplicaParty.{ReplicaParty}
 use Rattle.session_loop.specs.Asking.{AreWellFormed}
 use Rattle.session_loop.specs.declared.reading.ReplicaScript.{ReplicaScript}
-use Rattle.session_loop.specs.declared.session.SessionRun.{SessionRun}
 use Rattle.shared_depot.proofs.Fronts.{stored_front}
 use Rattle.shared_depot.proofs.Quietly.{chronicle_append}
 use Rattle.shared_depot.specs.Common.{HasAllStored, Masters, chronicle_after}
@@ -47,7 +46,7 @@ lost_plain (Err error) = refl
 pub turn_plain : {D E : Type 0} (disk_says : DiskSays D) (end : ℕ) (images : Files → Type 0) (begins : ℕ → List Deed → Type 0) (masters : Masters) (old new : PartyKnown) (old_marks new_marks : PassKnown) (p q : ReplicaParty) (result : Result Answered E)
     → IsReplicaTurn disk_says end images begins masters old new old_marks new_marks p q result → IsReplicaTurn disk_says end images begins masters old new old_marks new_marks p q (plain result)
 turn_plain disk_says end images begins masters old new old_marks new_marks p q result t = record {
-  turned = λ archive all. let over = t.turned archive all in (over.0, (over.1.0, over.1.1, turned_plain disk_says over.0 p q result over.1.2));
+  turned = λ archive all. let over = t.turned archive all in (over.0, (over.1.0, over.1.1, turned_plain disk_says over.0 p q result over.1.2, over.1.3));
   heard = record {
     party = t.heard.party;
     later = t.heard.later;
@@ -180,11 +179,11 @@ module _ {D K : Type 0} (disk_says : DiskSays D) (end : ℕ) (images : Files →
         let over = step.turn.turned archive all in
         let texts = was.0 in
         let along = along_on may_give party script past start old.list new.list step.turn.heard.later q c texts was.2 in
-        let tells = (over.1.0 since start begun).tells in
+        let told = told_of disk_says reads over.0.archive (over.1.0 since start begun).tells over.1.3 in
         let text = reply_text step.result (length texts + 1) in (
           texts ++ text ∷ [],
           one_longer texts text was.1,
-          along_turned disk_says reads past start (map placed_of new.list) over.0 (chronicle_after c new.list) (over.1.1 since past start c begun follows) tells may_give party script q r texts step.result along over.1.2,
+          along_turned disk_says reads past start (map placed_of new.list) over.0 (chronicle_after c new.list) (over.1.1 since past start c begun follows) told may_give party script q r texts step.result along over.1.2,
           more_got texts was.1 was.3,
         )
 

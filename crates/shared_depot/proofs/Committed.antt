@@ -35,10 +35,10 @@ use Rattle.depot_commit.specs.Holding.{KeepContents}
 use Rattle.depot_commit.specs.declared.telling.Told.{Told}
 use Rattle.depot_commit.proofs.Stored.{ends_twice}
 use Rattle.session_loop.specs.Taking.{IsProper, placed_by, with_place}
-use Rattle.shared_depot.specs.Common.{AreQuiet, GoesOnQuietly, HasRunOrder, IsArchiveAfter, IsEntered, IsQuiet, KeepsOrder, Masters, WasRun}
+use Rattle.shared_depot.specs.Common.{AreQuiet, GoesOnQuietly, HasRunOrder, IsArchiveAfter, IsEntered, IsQuiet, HasFitGroups, KeepsOrder, Masters, WasRun}
 use Rattle.shared_depot.specs.Room.{IsDueAfter, IsStoredBehind}
 use Rattle.shared_depot.specs.Stored.{is_lost, is_unwritten, stores_of}
-use Rattle.shared_depot.proofs.Followed.{followed_more, followed_on}
+use Rattle.shared_depot.proofs.Followed.{followed_more, followed_on, written_more}
 use Rattle.shared_depot.proofs.Order.{all_rows, archive_then, changed_here, outcome_here, run_more, stored_there}
 use Rattle.shared_depot.proofs.Outcomes.{reply_here}
 use Rattle.shared_depot.proofs.Quietly.{goes_on_quietly, quiet_more}
@@ -82,6 +82,7 @@ module _ {D : Type 0} (disk_says : DiskSays D)
       ran = λ since start at.
           subst (λ (l : List (List ℕ)). HasRunBeside disk_says images end l tables journal since start (map placed_of order)) (sym on.stores)
           (on.runs tables journal was.rows_are since start at (was.ran since start at));
+      written = λ since past start c at begun. subst (HasFitGroups disk_says past tables journal) (sym (on.chronicle c)) (was.written since past start c at begun);
       followed = followed_on disk_says rows end images begins masters faults_then known order on tables journal was;
       caused = subst (λ (n : ℕ). counted n faults_then ≤ disk_says.faults (disk_of journal)) (sym on.unwritten) was.caused;
       no_fewer = was.no_fewer;
@@ -156,6 +157,7 @@ module _ {D : Type 0} (disk_says : DiskSays D)
         run_more disk_says rows end images begins masters faults_then order tables journal was tables' journal' can le entry outcome.changes stored
         (subst (λ (b : Bool). AreRowsAfter (rows_of tables) outcome.changes b (rows_of tables')) (sym fault) rows_now) own entered.rows_are entered.end_is ends stores_are
         (λ since start at. subst (λ (p : Placed). Beside since start p) (λ i. placed_by (sym asks i) (sym fault i)) (ran since start at))
+        (written_more disk_says rows end images begins masters faults_then order tables journal was tables' journal' request outcome answer.place.fault entry stored asks fault own rows_now stores_are stands ran grows)
         (followed_more disk_says rows end images begins masters faults_then order tables journal was tables' journal' request outcome answer.place.fault entry stored asks fault own rows_now stores_are stands ran grows) risen
 
   -- ---- what follows a commit over tables and a journal that have run a beginning of the order

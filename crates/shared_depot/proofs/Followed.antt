@@ -1,4 +1,4 @@
--- Replicas go on following a depot when it runs more of an order.
+-- A journal has the groups that were written, and replicas go on following a depot, when it runs more of an order.
 use Rattle.std.proofs.Common.{◌≡◌, ℕ, Bool, true, false, List, [], ◌∷◌, ◌++◌, map, refl, sym, ap, subst, ◌∙◌, arith}
 use Rattle.std.specs.Prelude.{if◌then◌else◌}
 use mathlib.Core.List.{map-append}
@@ -29,7 +29,8 @@ use Rattle.session_loop.specs.Taking.{placed_by}
 use Rattle.shared_depot.proofs.Fronts.{stored_front}
 use Rattle.shared_depot.proofs.Order.{all_rows, beside_ran, depot_ran}
 use Rattle.shared_depot.proofs.Quietly.{chronicle_append}
-use Rattle.shared_depot.specs.Common.{GoesOnQuietly, HasAllStored, HasRunOrder, IsFollowed, Masters, chronicle_after}
+use Rattle.shared_depot.proofs.Written.{written_placed}
+use Rattle.shared_depot.specs.Common.{GoesOnQuietly, HasAllStored, HasRunOrder, IsFollowed, HasFitGroups, Masters, chronicle_after}
 use Rattle.shared_depot.specs.Stored.{stores_of}
 
 -- behind places of which none is a change
@@ -90,6 +91,14 @@ module _ {D : Type 0} (disk_says : DiskSays D) (rows : AllRows) (end : ℕ) (ima
         ∙ (ap (λ (changes : List Change). grown (opens_generation request) entry.fault changes before) (sym own)
         ∙ (ap (λ (r : Request). grown (opens_generation r) entry.fault entry.changes before) (sym asks)
         ∙ sym (chronicle_append c order (entry ∷ [])))))
+
+    pub written_more : (since : ℕ) (past : Past) (start : List Deed) (c : Chronicle) → begins since start → masters past start c → HasFitGroups disk_says past tables' journal' (chronicle_after c (order ++ entry ∷ []))
+    written_more since past start c at begun =
+        let before = was.written since past start c at begun in
+        let h = was.ran since start at in
+        subst (HasFitGroups disk_says past tables' journal') (grown_is c)
+        (written_placed disk_says past tables tables' journal journal' (chronicle_after c order) before _ _ since start (map placed_of order) h request outcome
+        (stands since start at (taken step start (map placed_of order)) h.stand) fault rows_now (grows since start at (chronicle_after c order) before.groups))
 
     pub followed_more : Followed (order ++ entry ∷ []) tables' journal'
     followed_more archive all since past start c at begun =

@@ -39,5 +39,6 @@ module _ {D : Type 0} (disk_says : DiskSays D) (end : ℕ) (images : Files → T
         used = omega (arith, used, less, there);
         among = λ image left.
             fewer_stored images end (stores_of known) (stores_of rest) image (subst (λ (stores : List (List ℕ)). HasStored images end stores image) apart (all.among image left));
+        room = all.room;
         tells = all.tells;
       }

@@ -1,7 +1,7 @@
 -- What is said of held tables goes by which tables they are, and what is said of the archive by whether its lock is held.
 use Rattle.std.proofs.Common.{◌≡◌, ◌⊎◌, ℕ, Bool, true, false, List, Option, Some, None, inl, inr, refl, sym, ap, subst, ◌∙◌}
 use Rattle.std.specs.List.{list_all, list_any}
-use Rattle.std.specs.Prelude.{IfSome}
+use Rattle.std.specs.Prelude.{IfSome, is_some}
 use Rattle.std.specs.declared.sync.MutexGuard.{MutexGuard}
 use Rattle.depot_rows.specs.db_records.Record.{table_of}
 use Rattle.depot_rows.specs.db_records.declared.change.Change.{Change}
@@ -40,3 +40,9 @@ module _ (P : Option (MutexGuard ArchiveKnown) → Type 0) where
 pub if_held : (S : Type 0) (archive : Option (MutexGuard ArchiveKnown)) → S → IfSome archive (λ guard. S)
 if_held S None is = tt
 if_held S (Some guard) is = is
+
+-- nothing is stored where the lock of the archive wasn't held, and where it was it is the one that is kept, behind which the archive ends where it was seen to end
+pub end_kept : (end seen : ℕ) (archive kept last : Option (MutexGuard ArchiveKnown)) (S : Type 0) → (is_some archive ≡ false → S) → (is_some archive ≡ true → kept ≡ archive) → IsEndKnown end seen archive
+    → (IsEndKnown end seen kept → IsEndKnown end seen last) → S ⊎ IsEndKnown end seen last
+end_kept end seen None kept last S without same known on = inl (without refl)
+end_kept end seen (Some guard) kept last S without same known on = inr (on (subst (IsEndKnown end seen) (sym (same refl)) known))

@@ -5,6 +5,7 @@ mod Sets
 mod Outcomes
 pub mod Order
 pub mod Fronts
+mod Written
 mod Followed
 mod Committed
 mod Ended
@@ -12,3 +13,4 @@ mod Held
 mod Marks
 mod Turns
 mod Places
+mod Links

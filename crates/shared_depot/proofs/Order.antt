@@ -38,7 +38,7 @@ use Rattle.replica_turns.specs.Master.{IsMaster, Past}
 use Rattle.session_loop.specs.Taking.{Answers, place_by, placed_by}
 use Rattle.depot_rows.specs.table_changes.Changed.{AllRows, changed_by, rows_of}
 use Rattle.depot_rows.specs.table_store.declared.tables.Tables.{Tables}
-use Rattle.shared_depot.specs.Common.{HasAllStored, HasRunOrder, IsArchiveAfter, IsFollowed, IsLostPlace, Masters, chronicle_after}
+use Rattle.shared_depot.specs.Common.{HasAllStored, HasRunOrder, IsArchiveAfter, IsFollowed, IsLostPlace, HasFitGroups, Masters, chronicle_after}
 use Rattle.shared_depot.specs.Room.{StandsAfter}
 use Rattle.shared_depot.specs.Sharing.{IsTakenAt}
 use Rattle.shared_depot.specs.Stored.{ArchiveKnown, images_after, is_lost, is_unwritten, lost_count, lost_in, stored_end, stores_of, unwritten_count}
@@ -92,11 +92,12 @@ module _ {D : Type 0} (disk_says : DiskSays D)
         → end_after end (order ++ entry ∷ []) ≡ tables'.archive_end → tables'.archive_end ≡ stores_end (stores_of order ++ stored) end
         → stores_of (order ++ entry ∷ []) ≡ stores_of order ++ stored
         → ((since : ℕ) (start : List Deed) → begins since start → HasRunBeside disk_says images end (stores_of order ++ stored) tables' journal' since start (map placed_of order ++ placed_of entry ∷ []))
+        → ((since : ℕ) (past : Past) (start : List Deed) (c : Chronicle) → begins since start → masters past start c → HasFitGroups disk_says past tables' journal' (chronicle_after c (order ++ entry ∷ [])))
         → ((archive : Archive D) → HasAllStored disk_says end images begins (order ++ entry ∷ []) archive
         → IsFollowed disk_says begins masters (order ++ entry ∷ []) (record { tables = tables'; journal = journal'; archive = archive }))
         → (is_unwritten entry ≡ true → HasRisen (disk_says.faults (disk_of journal)) (disk_says.faults (disk_of journal')))
         → Ran (order ++ entry ∷ []) tables' journal'
-    run_more tables' journal' can le entry changes stored rows_now own rows_placed end_placed ends stores_are ran followed risen = record {
+    run_more tables' journal' can le entry changes stored rows_now own rows_placed end_placed ends stores_are ran written followed risen = record {
       can = can;
       rows_are = λ table. left table entry.fault entry.changes own rows_now ∙ sym (rows_placed table);
       end_is = sym end_placed;
@@ -104,6 +105,7 @@ module _ {D : Type 0} (disk_says : DiskSays D)
       ran = λ since start at.
           subst (HasRunBeside disk_says images end (stores_of (order ++ entry ∷ [])) tables' journal' since start) (sym (map-append placed_of order (entry ∷ [])))
           (subst (λ (l : List (List ℕ)). HasRunBeside disk_says images end l tables' journal' since start (map placed_of order ++ placed_of entry ∷ [])) (sym stores_are) (ran since start at));
+      written = written;
       followed = followed;
       caused = subst (λ (n : ℕ). counted n faults_then ≤ disk_says.faults (disk_of journal')) (sym (count_one is_unwritten order entry))
           (count_caused (unwritten_count order) faults_then (disk_says.faults (disk_of journal)) (disk_says.faults (disk_of journal')) (is_unwritten entry) was.caused le risen);
@@ -134,6 +136,9 @@ module _ {D : Type 0} (disk_says : DiskSays D)
     end_is = was.end_is;
     ends = was.ends;
     ran = λ since start at. same since start (map placed_of order) (was.ran since start at);
+    written = λ since past start c at begun.
+        let before = was.written since past start c at begun in
+        record { groups = groups (chronicle_after c order) before.groups; rows = before.rows; fit = before.fit };
     followed = λ archive all since past start c at begun.
         let master = was.followed archive all since past start c at begun in
         unmoved_master disk_says past start (map placed_of order) (record { tables = tables; journal = journal; archive = archive }) (record { tables = tables; journal = journal'; archive = archive })
@@ -163,7 +168,7 @@ module _ {D : Type 0} (disk_says : DiskSays D)
 
   -- it has the contents of the places that are known
   pub has_all : (known : ArchiveKnown) (archive : Archive D) → Kept known archive → HasAllStored disk_says end images begins known.list archive
-  has_all known archive was = record { used = let used = was.used in omega (arith, used); among = was.among; tells = was.tells }
+  has_all known archive was = record { used = let used = was.used in omega (arith, used); among = was.among; room = was.room; tells = was.tells }
 
   -- contents were read of it, or none
   pub archive_read : (known : ArchiveKnown) (archive archive' : Archive D) → Kept known archive → IsRead disk_says archive archive' → disk_says.faults (archive_disk_of archive) ≤ disk_says.faults (archive_disk_of archive')
@@ -275,6 +280,7 @@ module _ {D : Type 0} (disk_says : DiskSays D) (rows : AllRows) (end : ℕ) (ima
         let used = used_of depot.archive in
         over_moved disk_says (disk_says.may_leave (archive_disk_of depot.archive)) used depot.tables depot.journal since start [] (ran since start at).over (HasStored images end []) end (omega (arith, there))
         (λ spot bytes le all image has. has.below spot bytes (omega (arith, le, there)) (λ c left. all c (fewer c left)));
+    written = λ since past start c at begun. let master = first past start c begun in record { groups = master.groups; rows = master.rows; fit = master.fit };
     followed = λ archive all since past start c at begun.
         let master = first past start c begun in
         let used = all.used in

@@ -61,7 +61,7 @@ module _ (before mid after : ReplicaParty) (request : Request) (taken : before.l
       turned = λ archive all.
           let over = is.answered archive all in
           let answered = λ (formed : IsFormedBy request). subst (λ first. IsAnswered (λ been. been ≡ over.0) disk_says first after.replica request (reply_text result request.number) (is_lost result)) same (over.1.2 formed) in
-          (over.0, (over.1.0, over.1.1, record { request = request; left = left_so; answered = answered }));
+          (over.0, (over.1.0, over.1.1, record { request = request; left = left_so; answered = answered }, over.1.3));
       heard = is.heard;
     }
 

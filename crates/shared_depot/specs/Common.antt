@@ -16,24 +16,26 @@ use Rattle.outside_api.specs.Disk.{Files, NoMore}
 use Rattle.outside_api.specs.Says.{DiskSays}
 use Rattle.party_marks.specs.Marks.{is_empty}
 use Rattle.party_marks.specs.declared.mark.Mark.{Mark}
-use Rattle.depot_commit.specs.Growing.{Chronicle, grown}
+use Rattle.depot_commit.specs.Growing.{Chronicle, HasGroups, grown}
 use Rattle.depot_commit.specs.Opening.{opens_generation}
 use Rattle.depot_commit.specs.Placing.{HasRunBeside, LeavesRows}
 use Rattle.depot_commit.specs.Running.{CanCommit}
 use Rattle.depot_commit.specs.Storing.{AllReach}
-use Rattle.depot_rows.specs.table_changes.Changed.{AllRows, changed_by, rows_of}
+use Rattle.depot_rows.specs.table_changes.Changed.{AllRows, changed_by, no_rows, rows_of}
 use Rattle.depot_rows.specs.depot_model.Commands.{step}
 use Rattle.depot_rows.specs.depot_model.Places.{taken}
 use Rattle.depot_rows.specs.Standing.{Stand}
-use Rattle.replica_turns.specs.Master.{AreChanges, IsMaster, Past}
+use Rattle.recovery.specs.Holding.{joined}
+use Rattle.replica_turns.specs.Master.{AllFit, AreChanges, IsMaster, Past, all_changes}
 use Rattle.serial_depot.specs.declared.depot.SerialDepot.{SerialDepot}
 use Rattle.shared_depot.specs.Stored.{ArchiveKnown, images_after, is_lost, is_unwritten, lost_in, stored_end, stores_of, unwritten_count}
 
 module _ {D : Type 0} (disk_says : DiskSays D) where
-  -- An archive in which the contents of an order's places were stored, and maybe others behind them.
+  -- An archive in which the contents of an order's places were stored, and maybe others behind them; all that is used of it is there.
   pub record HasAllStored (end : ℕ) (images : Files → Type 0) (begins : ℕ → List Deed → Type 0) (order : List Taken) (archive : Archive D) : Type 0 where
     pub used : stored_end end order ≤ used_of archive
     pub among : NoMore (images_after images end order) (disk_says.may_leave (archive_disk_of archive))
+    pub room : AllReach (disk_says.may_leave (archive_disk_of archive)) (used_of archive)
     pub tells : (since : ℕ) (start : List Deed) → begins since start → (files : Files) × disk_says.seen (archive_disk_of archive) files
 
 -- ---- what was written
@@ -54,15 +56,22 @@ module _ {D : Type 0} (disk_says : DiskSays D) where
   IsFollowed begins masters order depot =
       (since : ℕ) (past : Past) (start : List Deed) (c : Chronicle) → begins since start → masters past start c → IsMaster disk_says past start (map placed_of order) depot (chronicle_after c order)
 
+  -- A journal has these groups. They make the rows of tables, and they fit where those before the run did.
+  pub record HasFitGroups (past : Past) (tables : Tables) (journal : Journal D) (c : Chronicle) : Type 0 where
+    pub groups : HasGroups disk_says journal c
+    pub rows : rows_of tables ≡ changed_by no_rows (joined (all_changes c))
+    pub fit : AllFit past.journal → AllFit c
+
   -- Tables and a journal have run the places of an order: the rows and the end of the archive are those after it, from each moment and depot from which
-  -- they began it they have taken the commands of these places, beside an archive in which the contents of these places were stored, replicas follow them
-  -- beside each such archive, and no more of the places are faults of the journal's disk than its count rose.
+  -- they began it they have taken the commands of these places, beside an archive in which the contents of these places were stored, the journal has the
+  -- groups that were written at them, replicas follow them beside each such archive, and no more of the places are faults of the journal's disk than its count rose.
   pub record HasRunOrder (rows : AllRows) (end : ℕ) (images : Files → Type 0) (begins : ℕ → List Deed → Type 0) (masters : Masters) (faults_then : ℕ) (order : List Taken) (tables : Tables) (journal : Journal D) : Type 0 where
     pub can : CanCommit disk_says journal
     pub rows_are : (table : TableId) → rows_of tables table ≡ rows_after rows order table
     pub end_is : tables.archive_end ≡ end_after end order
     pub ends : end_after end order ≡ stored_end end order
     pub ran : (since : ℕ) (start : List Deed) → begins since start → HasRunBeside disk_says images end (stores_of order) tables journal since start (map placed_of order)
+    pub written : (since : ℕ) (past : Past) (start : List Deed) (c : Chronicle) → begins since start → masters past start c → HasFitGroups past tables journal (chronicle_after c order)
     pub followed : (archive : Archive D) → HasAllStored disk_says end images begins order archive → IsFollowed begins masters order (record { tables = tables; journal = journal; archive = archive })
     pub caused : counted (unwritten_count order) faults_then ≤ disk_says.faults (disk_of journal)
     pub no_fewer : faults_then ≤ disk_says.faults (disk_of journal)

@@ -4,3 +4,4 @@ pub mod Sharing
 pub mod Replicas
 pub mod Room
 pub mod Ready
+pub mod Link

@@ -2,7 +2,9 @@
 use Rattle.std.specs.Prelude.{◌≡◌, ◌⊎◌, ◌||◌, ℕ, true, false, List, map, Result}
 use Rattle.std.specs.Result.{IsErr}
 use mathlib.Core.List.{IsPrefix}
+use Rattle.archive_file.specs.Archive as archives
 use Rattle.archive_file.specs.declared.archive.Archive.{Archive}
+use Rattle.depot_commit.specs.Storing.{AllReach}
 use Rattle.depot_rows.specs.depot_model.Deeds.{Deed}
 use Rattle.depot_rows.specs.depot_model.declared.request.Request.{Request}
 use Rattle.locked_tables.specs.Known.{PartyKnown}
@@ -36,11 +38,12 @@ AreMarkedBy old new answer = is_empty new ≡ false → (is_empty old ≡ false)
 
 module _ {D : Type 0} (disk_says : DiskSays D) (end : ℕ) (images : Files → Type 0) (begins : ℕ → List Deed → Type 0) (masters : Masters) (known : List Taken) where
   -- Over a depot in files that had run all places that the party knows now, from each moment and depot from which it began, and that replicas follow. Where it
-  -- isn't said which archive that depot has, since none was asked, it is any in which the contents of these places were stored.
+  -- isn't said which archive that depot has, since none was asked, it is any in which the contents of these places were stored. All that is used of it is there.
   abbrev pub OverDepot : (SerialDepot D → Type 0) → Type 0
   OverDepot Answers =
       (archive : Archive D) → HasAllStored disk_says end images begins known archive
-      → (depot : SerialDepot D) × (((since : ℕ) (start : List Deed) → begins since start → HasRun disk_says depot since start (map placed_of known)) × IsFollowed disk_says begins masters known depot × Answers depot)
+      → (depot : SerialDepot D) × (((since : ℕ) (start : List Deed) → begins since start → HasRun disk_says depot since start (map placed_of known)) × IsFollowed disk_says begins masters known depot × Answers depot
+      × AllReach (disk_says.may_leave (archives.disk_of depot.archive)) (archives.used_of depot.archive))
 
 module _ {D E : Type 0} (disk_says : DiskSays D) (end : ℕ) (images : Files → Type 0) (begins : ℕ → List Deed → Type 0) (masters : Masters) (old new : PartyKnown) (old_marks new_marks : PassKnown) where
   -- The party has learnt places, which are others'. It has marks now where it had, or where the answer tells that a disk failed.

@@ -3,6 +3,7 @@ ghost use Rattle.std.specs.Prelude.{◌≡◌, ◌⊎◌, ℕ, List, None, [], t
 ghost use Rattle.std.specs.Sync.Mutex.{mutex_guard_value};
 ghost use Rattle.depot_commit.specs.command_core.Outcomes.{HasNeeded, IsFormedBy, IsOutcome};
 ghost use Rattle.depot_commit.specs.Telling.{IsTold, IsUnwritten};
+ghost use Rattle.depot_commit.specs.command_core.declared.outcome.Outcome.{Outcome as AnyOutcome};
 ghost use Rattle.command_needs.specs.Sets.{AreOfWords};
 ghost use Rattle.depot_rows.specs.depot_model.Deeds.{Deed};
 ghost use Rattle.depot_rows.specs.depot_model.Rules.{IsSound};
@@ -15,8 +16,8 @@ ghost use Rattle.table_locks.specs.Confirmed.{IsConfirmed};
 ghost use Rattle.table_locks.specs.Gathered.{IsShown};
 ghost use Rattle.table_locks.specs.Prepared.{are_held};
 ghost use Rattle.table_locks.specs.declared.gathered.Gathered.{Gathered as AnyGathered};
-ghost use Rattle.shared_depot.specs.Ready.{IsFoundOver, IsGatheredFor, IsQuietFor, IsReadyFor, IsTakenFor, IsWritingFor};
-ghost use Rattle.shared_depot.specs.Room.{IsAtOrder, IsEndKnown, IsFailed, IsRoomFor, IsStillSo, IsToldAfter, StandsAfter};
+ghost use Rattle.shared_depot.specs.Ready.{IsFoundOver, IsGatheredFor, IsQuietFor, IsReadyFor, IsSettled, IsTakenFor, IsWritingFor};
+ghost use Rattle.shared_depot.specs.Room.{IsAtOrder, IsEndKnown, IsFailed, IsRoomFor, IsToldAfter, StandsAfter};
 ghost use Rattle.shared_depot.specs.Stored.{stores_of};
 ghost use Rattle.shared_depot.specs.declared.ready.Attempt.TheVariants as attempts;
 
@@ -155,14 +156,7 @@ impl<D: Disk, N: Serving> CommonDepot<D, N> {
         requires shown { IsShown N.rows gathered }
         requires end { (told.now.stores ≡ []) ⊎ IsEndKnown N.end gathered.tables.archive_end archive }
         ensures same { self.new ≡ self.old }
-        ensures confirmed { IfOk result (λ found. IfSome found (λ settled. IsConfirmed N.rows self.old gathered.entry settled.confirmed)) }
-        ensures held { IfOk result (λ found. IfSome found (λ settled. IsTrue (are_held settled.confirmed.held.items told.now.changes))) }
-        ensures fit { AllFitIn (rows_of gathered.entry.tables) told.now.changes → IfOk result (λ found. IfSome found (λ settled. AllFitIn (rows_after N.rows self.old) told.now.changes)) }
-        ensures still { IfOk result (λ found. IfSome found (λ settled. IsStillSo N.rows N.end self.old gathered.entry told.now.changes told.now.stores)) }
-        ensures archive { IfOk result (λ found. IfSome found (λ settled. IsAtOrder self.old settled.archive)) }
-        ensures stores { IfOk result (λ found. IfSome found (λ settled. IfSome archive.entry (λ guard. stores_of self.old ≡ stores_of (mutex_guard_value guard).list))) }
-        ensures failed { IfOk result (λ found. IfSome found (λ settled. IsFailed archive.entry → IsFailed settled.archive)) }
-        ensures without { IfOk result (λ found. IfSome found (λ settled. settled.archive ≡ None → (archive.entry ≡ None) × (told.now.stores ≡ []))) }
+        ensures settled { IfOk result (λ found. IfSome found (IsSettled N.rows N.end self.old gathered.entry archive.entry told.now)) }
         ensures always { IfOk result (λ found. gathered.entry.peeks.items ≡ [] → IsSome found) }
     {
         let may = archive.is_some();
@@ -206,19 +200,6 @@ impl<D: Disk, N: Serving> WrittenJournal<D, N> {
     }
 }
 
-/// What the command of a request does over gathered tables. The one error is want of memory.
-fn outcome_over<N: Naming>(
-    alloc: Global,
-    gathered: &Gathered<'_, N>,
-    request: &Request,
-) -> Result<Outcome, AllocError>
-    ensures outcome { IfOk result (λ outcome. (d : List Deed) → IsSound d → IsFormedBy request.now → HasNeeded (rows_of gathered.now.tables) d request.now →
-        IsOutcome (rows_of gathered.now.tables) gathered.now.tables.archive_end d request.now outcome) }
-    ensures fit { IfOk result (λ outcome. AllFitIn (rows_of gathered.now.tables) outcome.changes) }
-{
-    evaluate(alloc, gathered.tables(), request)
-}
-
 impl<D: Disk, N: Serving> SharedDepot<D, N> {
     /// Gathers a set. Where contents may be stored, takes the lock of the archive too, and sees where
     /// the archive ends: a command that stores some writes the table of revisions.
@@ -238,7 +219,9 @@ impl<D: Disk, N: Serving> SharedDepot<D, N> {
         } else {
             None
         };
-        self.look(rt, &mut gathered, needs, whole)?;
+        self.common
+            .lock(rt)
+            .look(&self.words, &mut gathered, needs, whole)?;
         match archive {
             None => Ok((gathered, None)),
             Some(guard) => {
@@ -246,22 +229,6 @@ impl<D: Disk, N: Serving> SharedDepot<D, N> {
                 Ok((gathered, Some(guard)))
             }
         }
-    }
-
-    /// Looks at the tables of a set that aren't held, under the lock of the order, which is given back at
-    /// once. The one error is want of memory.
-    fn look<'a, R: Wait>(
-        &'a self,
-        rt: &R,
-        gathered: &mut Gathered<'a, N>,
-        needs: &Needs,
-        whole: bool,
-    ) -> Result<(), AllocError>
-        requires { IsTakenFor N.rows whole needs.now gathered.old }
-        ensures { OnOk result (IsGatheredFor N.rows whole needs.now gathered.new) }
-    {
-        let mut common = self.common.lock(rt);
-        common.look(&self.words, gathered, needs, whole)
     }
 
     /// The lock of the archive, where it is held or the reply waits for contents.
@@ -286,6 +253,28 @@ impl<D: Disk, N: Serving> SharedDepot<D, N> {
         }
     }
 
+    /// Takes the lock of the order for what is told of a command for whose reply a content couldn't be
+    /// read. Its place is that of a fault whatever the tables are, so none has to be as it was seen.
+    fn quiet_unread<'a, R: Wait>(
+        &'a self,
+        rt: &R,
+        archive: Option<MutexGuard<'a, StoredArchive<D, N>>>,
+        told: Told,
+    ) -> Quiet<'a, D, N>
+        requires unread { told.unread ≡ true }
+        requires failed { IsFailed archive }
+        requires read { archive ≡ None → told.unread ≡ false }
+        ensures { (request : AnyRequest) (outcome : AnyOutcome) → IsTold outcome request.number told → IsQuietFor N.rows N.end N.images N.begins request result }
+    {
+        let mut common = self.common.lock(rt);
+        let archive = common.learn_held(&self.words, archive);
+        Quiet {
+            common,
+            archive,
+            told,
+        }
+    }
+
     /// Takes the lock of the order for what is told of an outcome that was found over gathered tables,
     /// where they are still so, as they are where the whole set is held, and nothing more is written. The
     /// error is that of `settle`.
@@ -305,8 +294,7 @@ impl<D: Disk, N: Serving> SharedDepot<D, N> {
         requires proper { (since : ℕ) (start : List Deed) → N.begins since start → IsProper request.now }
         requires found { IsFoundOver N.end N.images N.begins gathered archive request.now told }
         requires unwritten { IsUnwritten told }
-        requires unread { told.unread ≡ true → IsFailed archive }
-        requires read { archive ≡ None → told.unread ≡ false }
+        requires read { told.unread ≡ false }
         ensures quiet { IfOk result (λ found. IfSome found (IsQuietFor N.rows N.end N.images N.begins request.now)) }
         ensures always { IfOk result (λ found. IsTrue whole → IsSome found) }
     {
@@ -314,10 +302,10 @@ impl<D: Disk, N: Serving> SharedDepot<D, N> {
         match common.settle(&self.words, gathered, archive, &told) {
             Ok(Some(Settled { confirmed, archive })) => {
                 drop(confirmed);
-                let archive = kept_where(archive, told.is_unread());
+                drop(archive);
                 Ok(Some(Quiet {
                     common,
-                    archive,
+                    archive: None,
                     told,
                 }))
             }
@@ -345,13 +333,7 @@ impl<D: Disk, N: Serving> SharedDepot<D, N> {
     ) -> Result<Option<Settled<'a, D, N>>, AllocError>
         requires shown { IsShown N.rows gathered }
         requires end { (told.now.stores ≡ []) ⊎ IsEndKnown N.end gathered.tables.archive_end archive }
-        ensures confirmed { IfOk result (λ found. IfSome found (λ settled. IsConfirmed N.rows journal.new gathered.entry settled.confirmed)) }
-        ensures held { IfOk result (λ found. IfSome found (λ settled. IsTrue (are_held settled.confirmed.held.items told.now.changes))) }
-        ensures fit { AllFitIn (rows_of gathered.entry.tables) told.now.changes → IfOk result (λ found. IfSome found (λ settled. AllFitIn (rows_after N.rows journal.new) told.now.changes)) }
-        ensures still { IfOk result (λ found. IfSome found (λ settled. IsStillSo N.rows N.end journal.new gathered.entry told.now.changes told.now.stores)) }
-        ensures archive { IfOk result (λ found. IfSome found (λ settled. IsAtOrder journal.new settled.archive)) }
-        ensures stores { IfOk result (λ found. IfSome found (λ settled. IfSome archive.entry (λ guard. stores_of journal.new ≡ stores_of (mutex_guard_value guard).list))) }
-        ensures without { IfOk result (λ found. IfSome found (λ settled. settled.archive ≡ None → (archive.entry ≡ None) × (told.now.stores ≡ []))) }
+        ensures settled { IfOk result (λ found. IfSome found (IsSettled N.rows N.end journal.new gathered.entry archive.entry told.now)) }
         ensures always { IfOk result (λ found. gathered.entry.peeks.items ≡ [] → IsSome found) }
     {
         let mut common = self.common.lock(rt);
@@ -430,8 +412,7 @@ impl<D: Disk, N: Serving> SharedDepot<D, N> {
         requires proper { (since : ℕ) (start : List Deed) → N.begins since start → IsProper request.now }
         requires found { IsFoundOver N.end N.images N.begins gathered archive request.now told }
         requires fit { AllFitIn (rows_of gathered.tables) told.changes }
-        requires unread { told.unread ≡ true → IsFailed archive }
-        requires read { archive ≡ None → told.unread ≡ false }
+        requires read { told.unread ≡ false }
         ensures ready { IfOk result (λ found. IfSome found (IsReadyFor N.rows N.end N.images N.begins request.now)) }
         ensures always { IfOk result (λ found. IsTrue whole → IsSome found) }
     {
@@ -450,8 +431,9 @@ impl<D: Disk, N: Serving> SharedDepot<D, N> {
 
     /// One attempt to make a command ready: with the tables that it only reads looked at, or with its whole
     /// set held. The gate is passed before contents are read, so that a command that only reads the archive
-    /// doesn't hold its lock there. Answers nothing where a table was changed since it was looked at, to
-    /// which an attempt with the whole set doesn't come.
+    /// doesn't hold its lock there. Where one couldn't be read the command is at a fault, overtaken or not.
+    /// Answers nothing where a table was changed since it was looked at, to which an attempt with the whole
+    /// set doesn't come.
     fn attempt<'a, R: Wait, G: Gate>(
         &'a self,
         rt: &R,
@@ -469,12 +451,16 @@ impl<D: Disk, N: Serving> SharedDepot<D, N> {
         let whole = attempt.holds_set();
         let (gathered, archive) = self.reach(rt, alloc, needs, whole)?;
         let stores = archive.is_some();
-        let outcome = outcome_over(alloc, &gathered, request)?;
+        let outcome = evaluate(alloc, gathered.tables(), request)?;
         if matches!(attempt, Attempt::First) {
             gate.pass(request.party, request.number);
         }
         let archive = self.archive_for(rt, archive, &outcome);
         let (told, archive) = tell_over(alloc, archive, outcome, request.number)?;
+        if told.is_unread() {
+            drop(gathered);
+            return Ok(Some(Ready::Quiet(self.quiet_unread(rt, archive, told))));
+        }
         if !may_store_so(&told, stores) {
             drop(told);
             return Err(AllocError);

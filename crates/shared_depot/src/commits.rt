@@ -3,7 +3,7 @@ ghost use Rattle.std.specs.Prelude.{◌≡◌, ◌≤◌, ℕ, List, [], false, 
 ghost use Rattle.depot_rows.specs.depot_model.Deeds.{Deed};
 ghost use Rattle.locked_tables.specs.Known.{HasPlaceLeft};
 ghost use Rattle.session_loop.specs.Taking.{IsProper};
-ghost use Rattle.shared_depot.specs.Ready.{IsReadyFor, IsWritingFor};
+ghost use Rattle.shared_depot.specs.Ready.{IsReadyFor};
 ghost use Rattle.shared_depot.specs.Room.{IsDueAfter, IsRoomFor, IsStoredBehind};
 ghost use Rattle.shared_depot.specs.Sharing.{IsTakenAt};
 ghost use Rattle.shared_depot.specs.Stored.{stored_end};
@@ -12,7 +12,6 @@ use crate::ready::{Ready, Writing};
 use crate::room::Room;
 use crate::serving::Serving;
 use crate::shared::SharedDepot;
-use crate::stored_archive::StoredArchive;
 use crate::written_journal::WrittenJournal;
 use depot_commit::{Landed, NoArchive, Store, Told, place};
 use depot_rows::model::{Answer, Request};
@@ -108,86 +107,6 @@ impl<D: Disk, N: Serving> WrittenJournal<D, N> {
     }
 }
 
-impl<D: Disk, N: Serving> StoredArchive<D, N> {
-    /// Has a command committed whose contents are stored in it.
-    fn commit<R: Wait>(
-        &mut self,
-        rt: &R,
-        depot: &SharedDepot<D, N>,
-        alloc: Global,
-        pass: &mut PartyPass<N>,
-        journal: &mut WrittenJournal<D, N>,
-        room: Room<'_, N>,
-        told: Told,
-        request: Request,
-    ) -> Result<Answer, AllocError>
-        requires place { HasPlaceLeft N.places pass.old }
-        requires room { IsRoomFor N.rows journal.old told room }
-        requires archive { self.old.list ≡ journal.old }
-        requires read { told.unread ≡ false }
-        requires due { IsDueAfter N.rows N.end N.images N.begins journal.old request told }
-        requires proper { (since : ℕ) (start : List Deed) → N.begins since start → IsProper request }
-        requires party { request.party ≡ pass.old.party }
-        ensures taken { IfOk result (IsTakenAt N.begins pass.old pass.new request) }
-        ensures nothing { OnErr result (pass.new ≡ pass.old) }
-    {
-        journal.commit(
-            rt,
-            depot,
-            alloc,
-            pass,
-            &mut self.archive,
-            &mut self.lane,
-            room,
-            told,
-            request,
-        )
-    }
-}
-
-impl<'a, D: Disk, N: Serving> Writing<'a, D, N> {
-    /// Commits it, gives it its place, and all locks back. The one error is want of memory, and then
-    /// nothing is done.
-    fn commit<R: Wait>(
-        self,
-        rt: &R,
-        depot: &SharedDepot<D, N>,
-        alloc: Global,
-        pass: &mut PartyPass<N>,
-        request: Request,
-    ) -> Result<Answer, AllocError>
-        requires room { HasPlaceLeft N.places pass.old }
-        requires writing { IsWritingFor N.rows N.end N.images N.begins request self }
-        requires proper { (since : ℕ) (start : List Deed) → N.begins since start → IsProper request }
-        requires party { request.party ≡ pass.old.party }
-        ensures taken { IfOk result (IsTakenAt N.begins pass.old pass.new request) }
-        ensures nothing { OnErr result (pass.new ≡ pass.old) }
-    {
-        let Writing {
-            mut journal,
-            archive,
-            room,
-            told,
-        } = self;
-        match archive {
-            None => journal.commit(
-                rt,
-                depot,
-                alloc,
-                pass,
-                &mut NoArchive,
-                &mut NoLane,
-                room,
-                told,
-                request,
-            ),
-            Some(mut guard) => {
-                guard.commit(rt, depot, alloc, pass, &mut *journal, room, told, request)
-            }
-        }
-    }
-}
-
 impl<'a, D: Disk, N: Serving> Ready<'a, D, N> {
     /// Gives the command its place, once what it writes is committed, and all locks back. The one error
     /// is want of memory, and then nothing is done.
@@ -208,7 +127,41 @@ impl<'a, D: Disk, N: Serving> Ready<'a, D, N> {
     {
         match self {
             Ready::Quiet(quiet) => Ok(quiet.take(&depot.words, alloc, pass, request)),
-            Ready::Writing(writing) => writing.commit(rt, depot, alloc, pass, request),
+            Ready::Writing(writing) => {
+                let Writing {
+                    mut journal,
+                    archive,
+                    room,
+                    told,
+                } = writing;
+                match archive {
+                    None => journal.commit(
+                        rt,
+                        depot,
+                        alloc,
+                        pass,
+                        &mut NoArchive,
+                        &mut NoLane,
+                        room,
+                        told,
+                        request,
+                    ),
+                    Some(mut guard) => {
+                        let held = &mut *guard;
+                        journal.commit(
+                            rt,
+                            depot,
+                            alloc,
+                            pass,
+                            &mut held.archive,
+                            &mut held.lane,
+                            room,
+                            told,
+                            request,
+                        )
+                    }
+                }
+            }
         }
     }
 }

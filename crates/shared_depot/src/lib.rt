@@ -36,6 +36,8 @@ mod closing;
 mod commits;
 mod common;
 mod entering;
+mod laws;
+mod link;
 mod making;
 mod of_archive;
 mod quiet;
@@ -48,6 +50,8 @@ mod written_journal;
 
 pub use both_marks::BothMarks;
 pub use closing::{Closed, OpenedDepot};
+pub use laws::depots_are_followed;
+pub use link::DepotLink;
 pub use making::Shared;
 pub use serving::Serving;
 pub use shared::SharedDepot;

@@ -45,6 +45,7 @@ returns g c =
                     (depot_ran D.says rows end images begins g.N.Serving.masters g.N.Serving.faults order run.0 run.1.0 run.1.1 archive here since start at),
                 subst (λ (l : List Taken). IsFollowed D.says begins g.N.Serving.masters l depot) (sym known) (run.1.1.followed archive here),
                 λ formed. answered_so D.says depot replica replica request answer (c.answer_alone-answer.ensures.answered depot formed) (kept_so answer replica.replica),
+                here.room,
               ),
             );
         heard = record {

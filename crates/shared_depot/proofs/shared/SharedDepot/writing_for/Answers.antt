@@ -1,14 +1,14 @@
 use Rattle.std.proofs.Common.{◌≡◌, not, Option, None, List, [], sym, subst}
 use Rattle.std.proofs.lemmas.Bool.{not-false}
 use Rattle.std.specs.Prelude.{IfSome}
-use Rattle.std.specs.Sync.Mutex.{mutex_guard_value}
 use Rattle.std.specs.declared.sync.MutexGuard.{MutexGuard}
 use Rattle.locked_tables.specs.declared.taken.Taken.{Taken}
 use Rattle.table_locks.specs.Confirmed.{IsConfirmed}
 use Rattle.shared_depot.proofs.Held.{kept_so}
 use Rattle.shared_depot.proofs.Outcomes.{due_after}
-use Rattle.shared_depot.specs.Room.{IsAtOrder, IsRoomFor, IsStillSo}
-use Rattle.shared_depot.specs.Stored.{ArchiveKnown, stores_of}
+use Rattle.shared_depot.specs.Room.{IsAtOrder, IsRoomFor}
+use Rattle.shared_depot.specs.Ready.{IsSettled}
+use Rattle.shared_depot.specs.Stored.{ArchiveKnown}
 use Rattle.shared_depot.specs.declared.attempts.Settled.{Settled}
 use Rattle.shared_depot.proofs.shared.SharedDepot.writing_for.Goals as goal
 
@@ -16,7 +16,7 @@ pub room_for-requires-clause-confirmed : goal.room_for-requires-clause-confirmed
 room_for-requires-clause-confirmed g c = (
   c.args.gathered,
   subst (λ (l : List Taken). IsConfirmed g.N.Naming.rows l c.args.gathered c.in-Ok-Some.field-0-0.confirmed) (sym c.deref.ensures)
-      (subst (λ (o : Option (Settled _ _)). IfSome o (λ s. IsConfirmed g.N.Naming.rows c.settle_under.new.journal c.args.gathered s.confirmed)) c.in-Ok-Some.field-0-is c.in-Ok-Some.ensures.confirmed),
+      (subst (λ (o : Option (Settled _ _)). IfSome o (IsSettled g.N.Naming.rows g.N.Naming.end c.settle_under.new.journal c.args.gathered c.args.archive c.args.told)) c.in-Ok-Some.field-0-is c.in-Ok-Some.ensures.settled).confirmed,
 )
 
 pub returns-in-Ok-clause-writing : goal.returns-in-Ok-clause-writing
@@ -31,14 +31,11 @@ returns-in-Ok-clause-writing g c =
     let is = c.in-Ok-Some.field-0-is in
     let settled = c.in-Ok-Some.field-0-0 in
     let kept = c.kept_where-archive.ensures in
-    let at : IsAtOrder order settled.archive = subst (λ (o : Option (Settled _ _)). IfSome o (λ s. IsAtOrder order s.archive)) is found.archive in
-    let without : settled.archive ≡ None → told.stores ≡ [] = λ gone. (subst (λ (o : Option (Settled _ _)). IfSome o (λ s. s.archive ≡ None → (was ≡ None) × (told.stores ≡ []))) is found.without gone).1 in
+    let so : IsSettled rows end order gathered was told settled = subst (λ (o : Option (Settled _ _)). IfSome o (IsSettled rows end order gathered was told)) is found.settled in
     record {
       room = subst (λ (l : List Taken). IsRoomFor rows l told c.in-Ok.room) c.deref.ensures c.in-Ok.ensures;
-      archive = kept_so (IsAtOrder order) (not c.is_empty.result) settled.archive c.kept_where-archive.result kept.kept kept.given (λ yes. at) (λ no. tt);
-      without = kept_so (λ (o : Option (MutexGuard ArchiveKnown)). o ≡ None → told.stores ≡ []) (not c.is_empty.result) settled.archive c.kept_where-archive.result kept.kept kept.given (λ yes. without) (λ no gone. c.is_empty.ensures.0 (not-false c.is_empty.result no));
+      archive = kept_so (IsAtOrder order) (not c.is_empty.result) settled.archive c.kept_where-archive.result kept.kept kept.given (λ yes. so.archive) (λ no. tt);
+      without = kept_so (λ (o : Option (MutexGuard ArchiveKnown)). o ≡ None → told.stores ≡ []) (not c.is_empty.result) settled.archive c.kept_where-archive.result kept.kept kept.given (λ yes gone. (so.without gone).1) (λ no gone. c.is_empty.ensures.0 (not-false c.is_empty.result no));
       read = c.requires.read;
-      due = due_after rows end g.N.Imaging.images g.N.Serving.begins order gathered c.args.whole c.args.needs.now c.args.request.now was told c.requires.gathered c.requires.needs c.requires.proper c.requires.found
-          (subst (λ (o : Option (Settled _ _)). IfSome o (λ s. IsStillSo rows end order gathered told.changes told.stores)) is found.still)
-          (subst (λ (o : Option (Settled _ _)). IfSome o (λ s. IfSome was (λ guard. stores_of order ≡ stores_of (mutex_guard_value guard).list))) is found.stores);
+      due = due_after rows end g.N.Imaging.images g.N.Serving.begins order gathered c.args.whole c.args.needs.now c.args.request.now was told c.requires.gathered c.requires.needs c.requires.proper c.requires.found so.still so.stores;
     }

@@ -90,6 +90,7 @@ returns g c =
             λ formed.
                 told_on D.says depot replica replica request answer c.mark_lost.result c.mark_lost.ensures.told
                 (answered_so D.says depot replica replica request answer (c.answer_print-answer.ensures.answered depot refl formed) (kept_so answer replica.replica)),
+            all.room,
           ),
         );
         heard = record {

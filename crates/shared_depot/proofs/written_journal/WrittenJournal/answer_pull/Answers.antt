@@ -84,6 +84,7 @@ returns-clause-answer g c =
               λ formed.
                   told_on D.says depot replica replica' request answer c.mark_lost.result c.mark_lost.ensures.told
                   (answered_so D.says depot replica replica' request answer (c.answer_by_journal-answer.ensures.answered depot refl formed) c.answer_by_journal-answer.ensures.kept),
+              here.room,
             ),
           );
       heard = record {
