@@ -6,21 +6,28 @@ use Rattle.outside_api.specs.Says.{DiskSays, SinkSays}
 use Rattle.archive_file.specs.Archive.{disk_of as archive_disk_of, used_of}
 use Rattle.archive_file.specs.Contents.{IsTold}
 use Rattle.depot_rows.specs.db_records.declared.table.TableId.TheVariants.{Rev}
+use Rattle.depot_rows.specs.table_changes.Changed.{rows_of}
+use Rattle.depot_rows.specs.table_store.declared.tables.Tables.{Tables}
 use Rattle.disk_journal.specs.Stands.{generation_of_journal}
+use Rattle.recovery.specs.Contents.{IsSpotDamage}
 use Rattle.recovery.specs.Holding.{spots_end}
 use Rattle.recovery.specs.Looking.{OnlyReads}
-use Rattle.replica_chain.specs.Chronicle.{changes_of, rows_made, texts_of}
+use Rattle.replica_chain.specs.Chronicle.{Chronicle, changes_of, rows_made, texts_of}
+use Rattle.replica_chain.specs.Copying.{AtBadContent}
 use Rattle.replica_chain.specs.Ends.{IsLinkLooked}
 use Rattle.replica_chain.specs.Masters.{GoesOnBehindNode, HasAllOf, IsBehind}
+use Rattle.replica_chain.specs.Node.{IsNode}
 use Rattle.replica_chain.specs.Opening.{IsFresh}
+use Rattle.replica_chain.specs.declared.fault.NodeFault.{NodeFault}
 use Rattle.replica_chain.specs.declared.node.Node.{Node}
 use Rattle.replica_chain.proofs.Copies.{depot_of, earlier_alike, fresh_behind}
 use Rattle.replica_chain.proofs.Following.{closed_texts_long}
 use Rattle.replica_chain.proofs.Growing.{texts_long}
 use Rattle.replica_chain.proofs.Reached.{followed_node, goes_looked, goes_read, goes_then}
+use Rattle.replica_chain.proofs.Steps.{its_generation}
 use Rattle.replica_chain.proofs.Told.{node_tells}
 use Rattle.replica_chain.proofs.Whole.{all_stand, has_all}
-use Rattle.depot_follow.specs.Following.{AgreeWith, Follows, HasAll, HasBroken, HasParted, IsOfPulls, IsPosition, StandAlike, TakesAll}
+use Rattle.depot_follow.specs.Following.{AgreeWith, Follows, HasAll, HasBroken, HasStopped, IsPosition, IsSoFar, StandAlike, TakesAll}
 use Rattle.depot_follow.specs.Opening.{files_of}
 use Rattle.depot_follow.specs.declared.ended.ChainCause.TheVariants as causes
 use Rattle.depot_follow.specs.declared.ended.ChainEnded.{ChainEnded}
@@ -40,6 +47,26 @@ module _ {D : Type 0} (disk_says : DiskSays D) (only_now : (disk : D) (image : F
   verified up up_last node node_pulled node_last pulled others reads used =
       let last : GoesOnBehindNode disk_says up_last up_last node_pulled node_last = subst (λ (x : Node D). GoesOnBehindNode disk_says up_last up_last node_pulled x) (sym others) (goes_read disk_says only_now up_last node_pulled node_last.archive reads used) in
       goes_then disk_says only_now up up_last up_last node node_pulled node_last pulled last
+
+  -- how far the node is then
+  pub as_far : (up up_mid node_pulled node_last : Node D) → ((c : Chronicle) → IsNode disk_says up c → IsNode disk_says up_mid c) → node_last ≡ record node_pulled { archive = node_last.archive }
+      → (generation changes : ℕ) → generation ≡ generation_of_journal up_mid.link.journal → changes ≡ up_mid.changes → IsPosition node_pulled generation changes
+      → (c : Chronicle) → IsNode disk_says up c → IsSoFar c (generation_of_journal node_last.link.journal) node_last.changes
+  as_far up up_mid node_pulled node_last kept others generation changes generation_is changes_are position c n =
+      let u = kept c n in
+      let stands = u.stands.generation in
+      let at : generation_of_journal node_last.link.journal ≡ generation = ap (λ (x : Node D). generation_of_journal x.link.journal) others ∙ position.0 in
+      let has : node_last.changes ≡ changes = ap (λ (x : Node D). x.changes) others ∙ position.1 in
+      record { generation_is = omega (arith, at, generation_is, stands, its_generation disk_says up_mid c u); changes_are = has ∙ changes_are ∙ u.changes }
+
+  -- and where a content is bad, of those that it had when its archive was read
+  pub bad_then : (node_pulled node_last : Node D) → node_last ≡ record node_pulled { archive = node_last.archive } → OnlyReads disk_says (archive_disk_of node_pulled.archive) (archive_disk_of node_last.archive) → (fault : NodeFault)
+      → ((a : Files) → disk_says.seen (archive_disk_of node_pulled.archive) a → spots_end (rows_of node_pulled.tables Rev) ≤ length (a 0) → AtBadContent (IsSpotDamage (a 0) (rows_of node_pulled.tables Rev)) fault)
+      → (a : Files) → disk_says.seen (archive_disk_of node_last.archive) a → spots_end (rows_of node_last.tables Rev) ≤ length (a 0) → AtBadContent (IsSpotDamage (a 0) (rows_of node_last.tables Rev)) fault
+  bad_then node_pulled node_last others reads fault bad a sees within =
+      let same : node_last.tables ≡ node_pulled.tables = ap (λ (x : Node D). x.tables) others in
+      subst (λ (tables : Tables). AtBadContent (IsSpotDamage (a 0) (rows_of tables Rev)) fault) (sym same)
+      (bad a (reads.same.no_more a sees) (subst (λ (tables : Tables). spots_end (rows_of tables Rev) ≤ length (a 0)) same within))
 
   pub takes_all : (up node up_mid node_mid up_last node_pulled node_last : Node D) → GoesOnBehindNode disk_says up up_mid node node_mid → GoesOnBehindNode disk_says up up_last node node_last
       → node_last ≡ record node_pulled { archive = node_last.archive }
@@ -82,8 +109,6 @@ module _ {D : Type 0} (disk_says : DiskSays D) (image_of : (disk : D) (files : F
     pub copied_by : (up node : Node D) (old_out new_out : K) (ended : ChainEnded D) → IsFresh disk_says node → Follows disk_says sink_says up node old_out new_out ended → ended.cause ≡ causes.Done → StandAlike disk_says up node ended.node
     copied_by up node old_out new_out ended fresh follows done = go follows.ends
       where
-        go : HasParted disk_says sink_says up node old_out new_out ended follows.up_last follows.node_last ⊎ (HasBroken disk_says sink_says up node old_out new_out ended ⊎ HasAll disk_says sink_says up node old_out new_out ended follows.node_last)
-            → StandAlike disk_says up node ended.node
-        go (inl parted) = let clash : causes.Apart parted.departure ≡ causes.Done = sym parted.cause_is ∙ done in absurd cc
-        go (inr (inl broke)) = absurd (subst IsOfPulls done broke.cause_is)
-        go (inr (inr all)) = subst (StandAlike disk_says up node) (sym follows.node_is) (stand_alike up node follows.node_last fresh all.agrees all.all)
+        go : HasBroken disk_says sink_says up node old_out new_out ended follows.up_last follows.node_last ⊎ HasAll disk_says sink_says up node old_out new_out ended follows.node_last → StandAlike disk_says up node ended.node
+        go (inl broke) = absurd (subst (HasStopped disk_says up node follows.up_last follows.node_last) done broke.stopped)
+        go (inr all) = subst (StandAlike disk_says up node) (sym follows.node_is) (stand_alike up node follows.node_last fresh all.agrees all.all)

@@ -1,5 +1,5 @@
 -- How the ends of a following's parts lead to what it promises.
-use Rattle.std.proofs.Common.{◌≡◌, ◌≢◌, ◌⊎◌, inl, inr, ◌≤◌, ℕ, List, length, refl, sym, ap, subst, ◌∙◌, arith}
+use Rattle.std.proofs.Common.{◌≡◌, ◌⊎◌, inl, inr, ◌≤◌, ℕ, List, length, refl, sym, ap, subst, ◌∙◌, arith}
 use Rattle.outside_api.specs.Count.{HasRisen}
 use Rattle.outside_api.specs.Says.{DiskSays, SinkSays}
 use Rattle.recovery.specs.declared.fault.OpenFault.{OpenFault}
@@ -12,7 +12,7 @@ use Rattle.replica_chain.specs.declared.node.Pair.{Pair}
 use Rattle.replica_chain.specs.declared.opening.NotNode.{NotNode}
 use Rattle.depot_follow.specs.Chain.{After, Before, Chains}
 use Rattle.depot_follow.specs.Ends.{IsEndedBy, cause_by_node, cause_by_upstream, status_of}
-use Rattle.depot_follow.specs.Following.{AgreeWith, AreVerified, Follows, FollowsFrom, GotLines, HasAll, HasBroken, HasNotOpened, HasParted, HasStopped, IsAllTold, IsOfPulls, IsPosition, IsSoFar, TakesAll}
+use Rattle.depot_follow.specs.Following.{AgreeWith, AreVerified, Follows, FollowsFrom, GotLines, HasAll, HasBroken, HasNotOpened, HasStopped, IsAllTold, IsPosition, IsSoFar, TakesAll}
 use Rattle.depot_follow.specs.Lines.{chain_line}
 use Rattle.depot_follow.specs.Opening.{IsNotOpened, IsNotOpenedOrMade, IsOpenedFrom, PairRose, files_of, left_by}
 use Rattle.depot_follow.specs.declared.ended.ChainCause.{ChainCause}
@@ -50,16 +50,6 @@ node_unused (Damaged disk file place) e = cc
 node_unused DiskFault e = cc
 node_unused Memory e = cc
 
-pulls_unused : (cause : ChainCause) → IsOfPulls cause → cause ≡ causes.Usage → ⊥
-pulls_unused causes.Done of e = of
-pulls_unused causes.Usage of e = of
-pulls_unused (causes.Shut fault) of e = of
-pulls_unused (causes.NodeShut fault) of e = of
-pulls_unused (causes.Apart departure) of e = of
-pulls_unused (causes.Bad place) of e = cc
-pulls_unused causes.Fault of e = cc
-pulls_unused causes.Memory of e = cc
-
 -- what is done isn't a fault
 pub done_unfailed : (cause : ChainCause) → cause ≡ causes.Done → cause ≡ causes.Fault → ⊥
 done_unfailed cause done failed = let clash : causes.Done ≡ causes.Fault = sym done ∙ failed in cc
@@ -68,36 +58,19 @@ done_unfailed cause done failed = let clash : causes.Done ≡ causes.Fault = sym
 
 module _ {D K : Type 0} (disk_says : DiskSays D) (sink_says : SinkSays K) (up node up_last node_last : Node D) (old_out new_out : K) (ended : ChainEnded D) where
   abbrev Ends : Type 0
-  Ends = HasParted disk_says sink_says up node old_out new_out ended up_last node_last ⊎ (HasBroken disk_says sink_says up node old_out new_out ended ⊎ HasAll disk_says sink_says up node old_out new_out ended node_last)
-
-  broken : (cause : ChainCause) → ended.cause ≡ cause → IsOfPulls cause → (cause ≢ causes.Fault → AgreeWith disk_says up node) → GotLines sink_says old_out new_out (chain_line cause) → Ends
-  broken cause is of agrees line = inr (inl (record {
-    cause_is = subst IsOfPulls (sym is) of;
-    agrees = λ other. agrees (λ fault. other (is ∙ fault));
-    line = subst (λ (c : ChainCause). GotLines sink_says old_out new_out (chain_line c)) (sym is) line;
-  }))
+  Ends = HasBroken disk_says sink_says up node old_out new_out ended up_last node_last ⊎ HasAll disk_says sink_says up node old_out new_out ended node_last
 
   -- a node that hasn't all
   pub ends_of : (cause : ChainCause) → ended.cause ≡ cause → HasStopped disk_says up node up_last node_last cause → GotLines sink_says old_out new_out (chain_line cause) → Ends
-  ends_of causes.Done is stopped line = absurd stopped
-  ends_of causes.Usage is stopped line = absurd stopped
-  ends_of (causes.Shut fault) is stopped line = absurd stopped
-  ends_of (causes.NodeShut fault) is stopped line = absurd stopped
-  ends_of (causes.Apart departure) is stopped line = inl (record {
-    departure = departure;
-    cause_is = is;
-    departs = stopped.0;
-    looked = stopped.1;
+  ends_of cause is stopped line = inl (record {
+    stopped = subst (HasStopped disk_says up node up_last node_last) (sym is) stopped;
     line = subst (λ (c : ChainCause). GotLines sink_says old_out new_out (chain_line c)) (sym is) line;
   })
-  ends_of (causes.Bad place) is stopped line = broken (causes.Bad place) is tt (λ other. stopped) line
-  ends_of causes.Fault is stopped line = broken causes.Fault is tt (λ other. absurd (other refl)) line
-  ends_of causes.Memory is stopped line = broken causes.Memory is tt (λ other. stopped) line
 
   -- a node that has all
   pub all_of : (generation changes verified : ℕ) → AgreeWith disk_says up node → ((c : Chronicle) → IsNode disk_says up c → IsSoFar c generation changes) → IsPosition node_last generation changes
       → AreVerified disk_says node_last verified → TakesAll disk_says up node node_last → IsAllTold disk_says sink_says up node old_out new_out ended generation changes verified → Ends
-  all_of generation changes verified agrees upstream position are all told = inr (inr (record {
+  all_of generation changes verified agrees upstream position are all told = inr (record {
     agrees = agrees;
     generation = generation;
     changes = changes;
@@ -107,7 +80,7 @@ module _ {D K : Type 0} (disk_says : DiskSays D) (sink_says : SinkSays K) (up no
     are = are;
     all = all;
     told = told;
-  }))
+  })
 
   -- what failed of both nodes' disks
   pub rose_of : PairRose disk_says (files_of up) (files_of up_last) ⊎ PairRose disk_says (files_of node) (files_of node_last)
@@ -147,11 +120,9 @@ module _ {D K : Type 0} (disk_says : DiskSays D) (sink_says : SinkSays K) (up : 
   followed_unused (inl unopened) e = node_unused unopened.fault (sym unopened.cause_is ∙ e)
   followed_unused (inr opened) e = go opened.follows.ends
     where
-      go : HasParted disk_says sink_says up opened.node old_out new_out ended opened.follows.up_last opened.follows.node_last
-          ⊎ (HasBroken disk_says sink_says up opened.node old_out new_out ended ⊎ HasAll disk_says sink_says up opened.node old_out new_out ended opened.follows.node_last) → ⊥
-      go (inl parted) = let clash : causes.Apart parted.departure ≡ causes.Usage = sym parted.cause_is ∙ e in cc
-      go (inr (inl broke)) = pulls_unused ended.cause broke.cause_is e
-      go (inr (inr all)) = told all.told
+      go : HasBroken disk_says sink_says up opened.node old_out new_out ended opened.follows.up_last opened.follows.node_last ⊎ HasAll disk_says sink_says up opened.node old_out new_out ended opened.follows.node_last → ⊥
+      go (inl broke) = subst (HasStopped disk_says up opened.node opened.follows.up_last opened.follows.node_last) e broke.stopped
+      go (inr all) = told all.told
         where
           told : IsAllTold disk_says sink_says up opened.node old_out new_out ended all.generation all.changes all.verified → ⊥
           told (inl is) = let clash : causes.Done ≡ causes.Usage = sym is.0 ∙ e in cc

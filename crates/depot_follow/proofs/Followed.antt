@@ -1,11 +1,21 @@
 -- Pulls one after another.
-use Rattle.std.proofs.Common.{◌≡◌, inl, inr, ℕ, List, Option, Some, None, refl, ap, arith}
+use Rattle.std.proofs.Common.{◌≡◌, ◌⊎◌, inl, inr, ℕ, ◌≤◌, List, length, Option, Some, None, refl, ap, arith}
+use Rattle.outside_api.specs.Disk.{Files}
 use Rattle.outside_api.specs.Says.{DiskSays}
+use Rattle.archive_file.specs.Archive.{disk_of as archive_disk_of}
+use Rattle.archive_file.specs.Contents.{IsTold}
+use Rattle.depot_rows.specs.db_records.declared.table.TableId.TheVariants.{Rev}
+use Rattle.depot_rows.specs.table_changes.Changed.{rows_of}
+use Rattle.disk_journal.specs.Stands.{generation_of_journal}
+use Rattle.recovery.specs.Contents.{IsSpotDamage}
+use Rattle.recovery.specs.Holding.{spots_end}
 use Rattle.replica_chain.specs.Apart.{IsComparison}
 use Rattle.replica_chain.specs.Chronicle.{Chronicle, texts_of}
-use Rattle.replica_chain.specs.Masters.{HasNoFewer}
-use Rattle.replica_chain.specs.Ends.{IsLooked}
+use Rattle.replica_chain.specs.Copying.{AtBadContent, IsOfContents}
+use Rattle.replica_chain.specs.Ends.{IsLooked, link_says}
+use Rattle.replica_chain.specs.Masters.{GoesOnBehindNode, HasNoFewer}
 use Rattle.replica_chain.specs.Node.{IsNode}
+use Rattle.replica_chain.specs.Pulling.{HasStopped as IsPullStopped, IsUnread}
 use Rattle.replica_chain.specs.declared.apart.Departure.{Departure}
 use Rattle.replica_chain.specs.declared.fault.NodeFault.{NodeFault}
 use Rattle.replica_chain.specs.declared.fault.NodeFault.TheVariants as faults
@@ -13,9 +23,10 @@ use Rattle.replica_chain.specs.declared.node.Node.{Node}
 use Rattle.replica_chain.specs.declared.node.Pair.{Pair}
 use Rattle.replica_chain.proofs.Chains.{earlier_on}
 use Rattle.replica_chain.proofs.Growing.{earlier_self}
+use Rattle.replica_chain.proofs.Reached.{goes_first, goes_then}
 use Rattle.recovery.proofs.Looks.{rises_on}
 use Rattle.depot_follow.specs.Ends.{cause_by_pull}
-use Rattle.depot_follow.specs.Following.{AgreeWith, AreLooked, HasStopped, IsOfPulls}
+use Rattle.depot_follow.specs.Following.{AgreeWith, AreLooked, HasPullStopped, HasStopped, HaveStopped, IsSoFar}
 use Rattle.depot_follow.specs.Opening.{NeverFalls, PairRose}
 use Rattle.depot_follow.specs.declared.ended.ChainCause.{ChainCause}
 use Rattle.depot_follow.specs.declared.ended.ChainCause.TheVariants as causes
@@ -24,17 +35,6 @@ use Rattle.depot_follow.specs.declared.ended.ChainCause.TheVariants as causes
 pub agree_of : (texts others : List (List ℕ)) (found : Option Departure) → ((departure : Departure) → found ≡ Some departure → ⊥) → IsComparison texts others found → IsComparison texts others None
 agree_of texts others None none is = is
 agree_of texts others (Some departure) none is = absurd (none departure refl)
-
--- a pull, or the verification, ends so
-pub pull_ends : (fault : NodeFault) → IsOfPulls (cause_by_pull fault)
-pull_ends faults.LinkFault = tt
-pull_ends faults.ContentsFailed = tt
-pull_ends faults.DiskFault = tt
-pull_ends (faults.BadFeed place) = tt
-pull_ends (faults.BadContent place) = tt
-pull_ends (faults.NoBytes place) = tt
-pull_ends faults.NoGeneration = tt
-pull_ends faults.Memory = tt
 
 module _ {D : Type 0} (disk_says : DiskSays D) where
   -- a node has no fewer changes than it has
@@ -72,13 +72,76 @@ module _ {D : Type 0} (disk_says : DiskSays D) where
     node_archive = ap (λ (n : Node D). n.archive) node_others;
   }
 
-  -- a pull, or the verification, that ended, of journals that don't depart
-  pub stopped_of : (up node up_last node_last : Node D) (cause : ChainCause) → IsOfPulls cause → AgreeWith disk_says up node → HasStopped disk_says up node up_last node_last cause
-  stopped_of up node up_last node_last causes.Done of agrees = of
-  stopped_of up node up_last node_last causes.Usage of agrees = of
-  stopped_of up node up_last node_last (causes.Shut fault) of agrees = of
-  stopped_of up node up_last node_last (causes.NodeShut fault) of agrees = of
-  stopped_of up node up_last node_last (causes.Apart departure) of agrees = absurd of
-  stopped_of up node up_last node_last (causes.Bad place) of agrees = agrees
-  stopped_of up node up_last node_last causes.Fault of agrees = tt
-  stopped_of up node up_last node_last causes.Memory of agrees = agrees
+  -- pulls that stopped, of journals that don't depart
+  pub stopped_of : (up node up_last node_last : Node D) (cause : ChainCause) → HaveStopped disk_says up node up_last node_last cause → AgreeWith disk_says up node → HasStopped disk_says up node up_last node_last cause
+  stopped_of up node up_last node_last causes.Done stopped agrees = stopped
+  stopped_of up node up_last node_last causes.Usage stopped agrees = stopped
+  stopped_of up node up_last node_last (causes.Shut fault) stopped agrees = stopped
+  stopped_of up node up_last node_last (causes.NodeShut fault) stopped agrees = stopped
+  stopped_of up node up_last node_last (causes.Apart departure) stopped agrees = absurd stopped
+  stopped_of up node up_last node_last (causes.Bad place) stopped agrees = (agrees, inl stopped)
+  stopped_of up node up_last node_last causes.Fault stopped agrees = tt
+  stopped_of up node up_last node_last causes.Memory stopped agrees = agrees
+
+  -- a verification that stopped
+  pub verified_of : (up node up_last node_last : Node D) (fault : NodeFault) → IsOfContents fault → AgreeWith disk_says up node
+      → ((c : Chronicle) → IsNode disk_says up c → IsSoFar c (generation_of_journal node_last.link.journal) node_last.changes)
+      → ((a : Files) → disk_says.seen (archive_disk_of node_last.archive) a → spots_end (rows_of node_last.tables Rev) ≤ length (a 0) → AtBadContent (IsSpotDamage (a 0) (rows_of node_last.tables Rev)) fault)
+      → HasStopped disk_says up node up_last node_last (cause_by_pull fault)
+  verified_of up node up_last node_last faults.LinkFault of agrees as_far bad = absurd of
+  verified_of up node up_last node_last faults.ContentsFailed of agrees as_far bad = absurd of
+  verified_of up node up_last node_last faults.DiskFault of agrees as_far bad = tt
+  verified_of up node up_last node_last (faults.BadFeed place) of agrees as_far bad = absurd of
+  verified_of up node up_last node_last (faults.BadContent place) of agrees as_far bad = (agrees, inr (record { as_far = as_far; first = bad }))
+  verified_of up node up_last node_last (faults.NoBytes place) of agrees as_far bad = absurd of
+  verified_of up node up_last node_last faults.NoGeneration of agrees as_far bad = absurd of
+  verified_of up node up_last node_last faults.Memory of agrees as_far bad = agrees
+
+-- Pulls that stopped, one after another.
+module _ {D : Type 0} (disk_says : DiskSays D) (only_now : (disk : D) (image : Files) → disk_says.left_since disk (disk_says.moment disk) image → disk_says.may_leave disk image) where
+  -- at a bad place
+  module _ (up old up_new new : Node D) where
+    bad_pull : (fault : NodeFault) (place : ℕ) → cause_by_pull fault ≡ causes.Bad place → IsPullStopped disk_says (link_says disk_says) (IsTold disk_says up_new.archive) up_new.link old new fault → HasPullStopped disk_says up old up_new new place
+    bad_pull fault place tells stopped = record {
+      up_then = up;
+      node_then = old;
+      followed = goes_first disk_says only_now up old;
+      no_fewer = no_fewer_now disk_says old;
+      fault = fault;
+      tells = tells;
+      stopped = stopped;
+    }
+
+    -- the first of them
+    pub pull_stopped : (fault : NodeFault) → IsUnread old new fault ⊎ IsPullStopped disk_says (link_says disk_says) (IsTold disk_says up_new.archive) up_new.link old new fault → HaveStopped disk_says up old up_new new (cause_by_pull fault)
+    pull_stopped faults.LinkFault why = tt
+    pull_stopped faults.ContentsFailed why = tt
+    pull_stopped faults.DiskFault why = tt
+    pull_stopped (faults.BadFeed place) (inl unread) = absurd unread
+    pull_stopped (faults.BadFeed place) (inr stopped) = bad_pull (faults.BadFeed place) place refl stopped
+    pull_stopped (faults.BadContent place) (inl unread) = absurd unread
+    pull_stopped (faults.BadContent place) (inr stopped) = bad_pull (faults.BadContent place) place refl stopped
+    pull_stopped (faults.NoBytes place) (inl unread) = absurd unread
+    pull_stopped (faults.NoBytes place) (inr stopped) = bad_pull (faults.NoBytes place) place refl stopped
+    pull_stopped faults.NoGeneration why = tt
+    pull_stopped faults.Memory why = tt
+
+  -- behind others
+  pub stopped_on : (up up_mid up_last node node_mid node_last : Node D) → GoesOnBehindNode disk_says up up_mid node node_mid → ((c : Chronicle) → IsNode disk_says node c → HasNoFewer disk_says node_mid c)
+      → (cause : ChainCause) → HaveStopped disk_says up_mid node_mid up_last node_last cause → HaveStopped disk_says up node up_last node_last cause
+  stopped_on up up_mid up_last node node_mid node_last followed fewer causes.Done stopped = stopped
+  stopped_on up up_mid up_last node node_mid node_last followed fewer causes.Usage stopped = stopped
+  stopped_on up up_mid up_last node node_mid node_last followed fewer (causes.Shut fault) stopped = stopped
+  stopped_on up up_mid up_last node node_mid node_last followed fewer (causes.NodeShut fault) stopped = stopped
+  stopped_on up up_mid up_last node node_mid node_last followed fewer (causes.Apart departure) stopped = stopped
+  stopped_on up up_mid up_last node node_mid node_last followed fewer (causes.Bad place) stopped = record {
+    up_then = stopped.up_then;
+    node_then = stopped.node_then;
+    followed = goes_then disk_says only_now up up_mid stopped.up_then node node_mid stopped.node_then followed stopped.followed;
+    no_fewer = no_fewer_on disk_says node node_mid stopped.node_then fewer stopped.no_fewer;
+    fault = stopped.fault;
+    tells = stopped.tells;
+    stopped = stopped.stopped;
+  }
+  stopped_on up up_mid up_last node node_mid node_last followed fewer causes.Fault stopped = tt
+  stopped_on up up_mid up_last node node_mid node_last followed fewer causes.Memory stopped = tt

@@ -1,6 +1,6 @@
 -- How a node that is open follows an upstream that is (Server Administrator Guide, "Replication"; that a node has all when it has as many changes as its upstream,
 -- in the same generation, is this project's own choice).
-use Rattle.std.specs.Prelude.{◌≡◌, ◌≢◌, ◌⊎◌, ◌≤◌, ℕ, List, length, count_by, None, take}
+use Rattle.std.specs.Prelude.{◌≡◌, ◌⊎◌, ◌≤◌, ℕ, List, length, count_by, None, take}
 use Rattle.outside_api.specs.Count.{HasRisen}
 use Rattle.outside_api.specs.Disk.{Files}
 use Rattle.outside_api.specs.Says.{DiskSays, SinkSays}
@@ -12,34 +12,29 @@ use Rattle.depot_rows.specs.db_records.declared.table.TableId.TheVariants.{Rev}
 use Rattle.depot_rows.specs.depot_model.Deeds.{Deed}
 use Rattle.depot_rows.specs.table_changes.Changed.{rows_of}
 use Rattle.disk_journal.specs.Stands.{generation_of_journal}
-use Rattle.recovery.specs.Contents.{AreWhole}
+use Rattle.recovery.specs.Contents.{AreWhole, IsSpotDamage}
 use Rattle.recovery.specs.Holding.{spots_end}
 use Rattle.recovery.specs.Standing.{StandFor}
 use Rattle.recovery.specs.declared.fault.OpenFault.{OpenFault}
 use Rattle.replica_chain.specs.Apart.{IsApart, IsComparison}
 use Rattle.replica_chain.specs.Chronicle.{Chronicle, changes_of, rows_made, texts_of}
-use Rattle.replica_chain.specs.Ends.{HasTexts, IsLooked}
+use Rattle.replica_chain.specs.Ends.{HasTexts, IsLooked, link_says}
 use Rattle.replica_chain.specs.Masters.{GoesOnBehindNode, HasAllOf, HasNoFewer, IsBehind}
 use Rattle.replica_chain.specs.Node.{IsNode}
 use Rattle.replica_chain.specs.Opening.{AreWritten}
+use Rattle.replica_chain.specs.Pulling.{HasStopped as IsPullStopped}
 use Rattle.replica_chain.specs.declared.apart.Departure.{Departure}
+use Rattle.replica_chain.specs.declared.fault.NodeFault.{NodeFault}
 use Rattle.replica_chain.specs.declared.node.Node.{Node}
 use Rattle.replica_chain.specs.declared.node.Pair.{Pair}
 use Rattle.wire_text.specs.Giving.{GotFront}
 use Rattle.end_lines.specs.Telling.{OutGot}
 use Rattle.depot_follow.specs.Lines.{chain_line, done_lines}
-use Rattle.depot_follow.specs.Ends.{cause_by_node}
+use Rattle.depot_follow.specs.Ends.{cause_by_node, cause_by_pull}
 use Rattle.depot_follow.specs.Opening.{IsNotOpenedOrMade, IsOpenedOrMade, PairRose, files_of}
 use Rattle.depot_follow.specs.declared.ended.ChainCause.{ChainCause}
 use Rattle.depot_follow.specs.declared.ended.ChainCause.TheVariants as causes
 use Rattle.depot_follow.specs.declared.ended.ChainEnded.{ChainEnded}
-
--- a node took nothing more: a place was bad, the outside failed, or memory was wanting
-abbrev pub IsOfPulls : ChainCause → Type 0
-IsOfPulls (causes.Bad place) = Unit {0}
-IsOfPulls causes.Fault = Unit {0}
-IsOfPulls causes.Memory = Unit {0}
-IsOfPulls _ = ⊥
 
 -- how far a node is: its generation, and how many changes it has
 abbrev pub IsPosition : {D : Type 0} → Node D → ℕ → ℕ → Type 0
@@ -89,10 +84,34 @@ DepartAt disk_says up node departure = (texts others : List (List ℕ)) → HasT
 abbrev pub AgreeWith : {D : Type 0} → DiskSays D → Node D → Node D → Type 0
 AgreeWith disk_says up node = (texts others : List (List ℕ)) → HasTexts disk_says node.link.journal texts → HasTexts disk_says up.link.journal others → IsComparison texts others None
 
--- Why a node hasn't all: its journal departs, and nothing was pulled; or it doesn't, and a pull or the verification ended so; or the outside failed.
+-- A node followed so far, and the next pull stopped there: at the first byte or record that can't be taken, at a content with another digest, or at bytes that
+-- aren't there.
+pub record HasPullStopped {D : Type 0} (disk_says : DiskSays D) (up node up_last node_last : Node D) (place : ℕ) : Type 0 where
+  pub up_then : Node D
+  pub node_then : Node D
+  pub followed : GoesOnBehindNode disk_says up up_then node node_then
+  pub no_fewer : (c : Chronicle) → IsNode disk_says node c → HasNoFewer disk_says node_then c
+  pub fault : NodeFault
+  pub tells : cause_by_pull fault ≡ causes.Bad place
+  pub stopped : IsPullStopped disk_says (link_says disk_says) (IsTold disk_says up_last.archive) up_last.link node_then node_last fault
+
+-- why a node took nothing more: a pull stopped at a bad place, the outside failed, or memory was wanting
+abbrev pub HaveStopped : {D : Type 0} → DiskSays D → Node D → Node D → Node D → Node D → ChainCause → Type 0
+HaveStopped disk_says up node up_last node_last (causes.Bad place) = HasPullStopped disk_says up node up_last node_last place
+HaveStopped disk_says up node up_last node_last causes.Fault = Unit {0}
+HaveStopped disk_says up node up_last node_last causes.Memory = Unit {0}
+HaveStopped disk_says up node up_last node_last _ = ⊥
+
+-- The node is as far as the upstream was, and there is the first of its contents, by path and revision, that isn't whole.
+pub record IsContentBad {D : Type 0} (disk_says : DiskSays D) (up node : Node D) (place : ℕ) : Type 0 where
+  pub as_far : (c : Chronicle) → IsNode disk_says up c → IsSoFar c (generation_of_journal node.link.journal) node.changes
+  pub first : (a : Files) → disk_says.seen (archive_disk_of node.archive) a → spots_end (rows_of node.tables Rev) ≤ length (a 0) → IsSpotDamage (a 0) (rows_of node.tables Rev) place
+
+-- Why a node hasn't all: its journal departs, and nothing was pulled; or it doesn't, and a pull stopped at that place, or the verification did; or it doesn't, and
+-- memory was wanting; or the outside failed.
 abbrev pub HasStopped : {D : Type 0} → DiskSays D → Node D → Node D → Node D → Node D → ChainCause → Type 0
 HasStopped disk_says up node up_last node_last (causes.Apart departure) = DepartAt disk_says up node departure × AreLooked disk_says up node up_last node_last
-HasStopped disk_says up node up_last node_last (causes.Bad place) = AgreeWith disk_says up node
+HasStopped disk_says up node up_last node_last (causes.Bad place) = AgreeWith disk_says up node × (HasPullStopped disk_says up node up_last node_last place ⊎ IsContentBad disk_says up node_last place)
 HasStopped disk_says up node up_last node_last causes.Memory = AgreeWith disk_says up node
 HasStopped disk_says up node up_last node_last causes.Fault = Unit {0}
 HasStopped disk_says up node up_last node_last _ = ⊥
@@ -108,18 +127,9 @@ module _ {D K : Type 0} (disk_says : DiskSays D) (sink_says : SinkSays K) (up no
       ((ended.cause ≡ causes.Done) × (sink_says.given new_out ≡ extended (sink_says.given old_out) (done_lines generation changes verified)))
       ⊎ ((ended.cause ≡ causes.Fault) × HasRisen (sink_says.faults old_out) (sink_says.faults new_out) × GotFront (sink_says.given old_out) (sink_says.given new_out) (done_lines generation changes verified))
 
-  -- The node's journal departs from the upstream's, and nothing was pulled.
-  pub record HasParted (up_last node_last : Node D) : Type 0 where
-    pub departure : Departure
-    pub cause_is : ended.cause ≡ causes.Apart departure
-    pub departs : DepartAt disk_says up node departure
-    pub looked : AreLooked disk_says up node up_last node_last
-    pub line : GotLines sink_says old_out new_out (chain_line ended.cause)
-
-  -- It ended before the node had all. Where the outside hasn't failed, the journals don't depart.
-  pub record HasBroken : Type 0 where
-    pub cause_is : IsOfPulls ended.cause
-    pub agrees : ended.cause ≢ causes.Fault → AgreeWith disk_says up node
+  -- It ended before the node had all, and `out` got the line of the cause.
+  pub record HasBroken (up_last node_last : Node D) : Type 0 where
+    pub stopped : HasStopped disk_says up node up_last node_last ended.cause
     pub line : GotLines sink_says old_out new_out (chain_line ended.cause)
 
   -- The node has as many changes as the upstream, in the same generation, and each content. `out` got the three lines; or it failed, which is a fault, and got a
@@ -135,7 +145,7 @@ module _ {D K : Type 0} (disk_says : DiskSays D) (sink_says : SinkSays K) (up no
     pub all : TakesAll disk_says up node node_last
     pub told : IsAllTold generation changes verified
 
-  -- However it ends, the node has whole changes, no fewer than before, and stays behind what it followed, which was only looked at.
+  -- However it ends, the node has whole changes, no fewer than before, and stays behind what it followed, at every moment; and that was only looked at.
   pub record Follows : Type 0 where
     pub up_last : Node D
     pub node_last : Node D
@@ -143,7 +153,7 @@ module _ {D K : Type 0} (disk_says : DiskSays D) (sink_says : SinkSays K) (up no
     pub node_is : ended.node ≡ files_of node_last
     pub no_fewer : (c : Chronicle) → IsNode disk_says node c → HasNoFewer disk_says node_last c
     pub behind : GoesOnBehindNode disk_says up up_last node node_last
-    pub ends : HasParted up_last node_last ⊎ (HasBroken ⊎ HasAll node_last)
+    pub ends : HasBroken up_last node_last ⊎ HasAll node_last
     pub fault : ended.cause ≡ causes.Fault → PairRose disk_says (files_of up) ended.up ⊎ (PairRose disk_says (files_of node) ended.node ⊎ HasRisen (sink_says.faults old_out) (sink_says.faults new_out))
 
 -- An upstream that is open is followed from these files: they weren't opened, and couldn't be made; or the node followed.

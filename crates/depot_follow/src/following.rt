@@ -5,7 +5,7 @@ ghost use Rattle.std.specs.Result.{IfErr};
 ghost use Rattle.replica_chain.specs.Chronicle.{Chronicle};
 ghost use Rattle.replica_chain.specs.Masters.{GoesOnBehindNode, HasNoFewer};
 ghost use Rattle.replica_chain.specs.Node.{CanFollow, IsNode};
-ghost use Rattle.depot_follow.specs.Following.{AgreeWith, AreVerified, HasStopped, IsOfPulls, IsPosition, IsSoFar, TakesAll};
+ghost use Rattle.depot_follow.specs.Following.{AgreeWith, AreVerified, HasStopped, HaveStopped, IsPosition, IsSoFar, TakesAll};
 ghost use Rattle.depot_follow.specs.Opening.{NeverFalls, PairRose, files_of};
 ghost use Rattle.depot_follow.specs.declared.ended.ChainCause.TheVariants as causes;
 
@@ -32,7 +32,7 @@ fn pull_more<D: Disk>(alloc: Global, up: &mut Node<D>, node: &mut Node<D>) -> Re
     ensures can { CanFollow D.says node.new }
     ensures behind { GoesOnBehindNode D.says up.old up.new node.old node.new }
     ensures no_fewer { (c : Chronicle) → IsNode D.says node.old c → HasNoFewer D.says node.new c }
-    ensures only { IfErr result IsOfPulls }
+    ensures stopped { IfErr result (HaveStopped D.says up.old node.old up.new node.new) }
     ensures up_never_falls { NeverFalls D.says (files_of up.old) (files_of up.new) }
     ensures node_never_falls { NeverFalls D.says (files_of node.old) (files_of node.new) }
     ensures cause { result ≡ Err causes.Fault → PairRose D.says (files_of up.old) (files_of up.new) ⊎ PairRose D.says (files_of node.old) (files_of node.new) }
@@ -56,7 +56,7 @@ fn pull_all<D: Disk>(
     ensures behind { GoesOnBehindNode D.says up.old up.new node.old node.new }
     // It has whole changes, no fewer than before.
     ensures no_fewer { (c : Chronicle) → IsNode D.says node.old c → HasNoFewer D.says node.new c }
-    ensures only { IfErr result IsOfPulls }
+    ensures stopped { IfErr result (HaveStopped D.says up.old node.old up.new node.new) }
     ensures up_never_falls { NeverFalls D.says (files_of up.old) (files_of up.new) }
     ensures node_never_falls { NeverFalls D.says (files_of node.old) (files_of node.new) }
     ensures cause { result ≡ Err causes.Fault → PairRose D.says (files_of up.old) (files_of up.new) ⊎ PairRose D.says (files_of node.old) (files_of node.new) }

@@ -7,7 +7,7 @@ use Rattle.outside_api.specs.Says.{DiskSays}
 use Rattle.checkpoint_file.specs.Checkpoint.{IsCheckpointOf, checkpoint_text, puts_of}
 use Rattle.depot_rows.specs.table_changes.Changed.{AllRows, changed_in, rows_of}
 use Rattle.depot_rows.specs.table_store.declared.tables.Tables.{Tables}
-use Rattle.disk_journal.specs.Images.{Committed, HasEither, with_generation}
+use Rattle.disk_journal.specs.Images.{Committed, HasCommitted, HasEither, with_generation}
 use Rattle.disk_journal.specs.Keeping.{KeepsOlder}
 use Rattle.disk_journal.specs.Stands.{Doubtful, IsStill, Stands, disk_of, generation_of_journal, nothing, opening}
 use Rattle.journal_groups.specs.Groups.{AreRecords}
@@ -27,6 +27,7 @@ use Rattle.replica_chain.proofs.Grouping.{settled_stands}
 use Rattle.replica_chain.proofs.Growing.{earlier_begun, earlier_self}
 use Rattle.replica_chain.proofs.Rests.{with_link}
 use Rattle.replica_chain.proofs.Settled.{settled_can, where_settled}
+use Rattle.replica_chain.proofs.Steps.{all_earlier, some_committed}
 
 -- what was written of a checkpoint is still as it was, or in doubt
 pub in_doubt : {A : Type 0} (S K : List ℕ → Type 0) {text other : List ℕ} → text ≡ other → A ⊎ S text → K text → A ⊎ (S other × K other)
@@ -84,6 +85,16 @@ module _ {D : Type 0} (disk_says : DiskSays D) (old : Node D) (settled : IsSettl
           opening_behind disk_says old (with_link old link) c up b settled refl older scanned unwritten_where refl text e
           (has_next disk_says old c b.is_node rows next next_is last made (doubted.1 (texts_next disk_says old c b.is_node rows next next_is last made))) doubted.0
 
+      -- each image since has some of the changes upstream
+      unwritten_moments : (c : Chronicle) (up : Upstream) (b : IsBehind disk_says old c up) → IsEarlier (texts_of (with_beginning c)) up.texts → IsUnwritten b.is_node.was
+          → LeavesOnly disk_says (disk_of old.link.journal) (disk_of link.journal) (HasEither b.is_node.was (with_generation b.is_node.was text)) → LeavesOnly disk_says (disk_of old.link.journal) (disk_of link.journal) (HasSomeOf c up.texts)
+      unwritten_moments c up b e (inl still) moments =
+          weaker disk_says (disk_of old.link.journal) (disk_of link.journal) (HasCommitted b.is_node.was) (HasSomeOf c up.texts) (some_committed disk_says old c b.is_node up.texts (all_earlier disk_says old c up b)) still.any_moment
+      unwritten_moments c up b e (inr doubted) moments =
+          let n = b.is_node in
+          weaker disk_says (disk_of old.link.journal) (disk_of link.journal) (HasEither n.was (with_generation n.was text)) (HasSomeOf c up.texts)
+          (passed_moment disk_says old (with_link old link) c up b settled refl text e (has_next disk_says old c n rows next next_is last made (doubted.1 (texts_next disk_says old c n rows next next_is last made)))) moments
+
       pub unwritten_goes : ((was : Committed) → Stands disk_says old.link.journal was nothing → LeavesOnly disk_says (disk_of old.link.journal) (disk_of link.journal) (HasEither was (with_generation was text)))
           → (c : Chronicle) (up : Upstream) → IsBehind disk_says old c up → IsEarlier (texts_of (with_beginning c)) up.texts
           → GoesOnBehind disk_says old (with_link old link) c up (λ texts. texts ≡ up.texts) (λ bytes. bytes ≡ up.bytes)
@@ -98,9 +109,7 @@ module _ {D : Type 0} (disk_says : DiskSays D) (old : Node D) (settled : IsSettl
             texts_told = refl;
             bytes_told = refl;
             behind = unwritten_behind c up b e (found n.was stands);
-            any_moment =
-                weaker disk_says (disk_of old.link.journal) (disk_of link.journal) (HasEither n.was (with_generation n.was text)) (HasSomeOf c up.texts)
-                (passed_moment disk_says old (with_link old link) c up b settled refl text e) (moments n.was stands);
+            any_moment = unwritten_moments c up b e (found n.was stands) (moments n.was stands);
           }
 
   -- ---- it was begun
@@ -163,5 +172,5 @@ module _ {D : Type 0} (disk_says : DiskSays D) (old : Node D) (settled : IsSettl
               behind = passed_behind disk_says old begun c up b settled refl text e (begun_has c n) (begun_passed generation) (written n.was stands) (closes n.was (map (group_texts 1) c.closed) stands n.keeps) scanned;
               any_moment =
                   weaker disk_says (disk_of old.link.journal) (disk_of link.journal) (HasEither n.was (with_generation n.was text)) (HasSomeOf c up.texts)
-                  (passed_moment disk_says old begun c up b settled refl text e) (moments n.was stands);
+                  (passed_moment disk_says old begun c up b settled refl text e (begun_has c n)) (moments n.was stands);
             }

@@ -153,8 +153,9 @@ module _ {D : Type 0} (disk_says : DiskSays D) (old new : Node D) (c : Chronicle
       (sym (ap (λ (rows : AllRows). rows Rev) (rows_begun c))) its_front
 
   -- every image since has some of the changes upstream
-  pub passed_moment : (text : List ℕ) → IsEarlier (texts_of (with_beginning c)) up.texts → (image : Files) → HasEither n.was (with_generation n.was text) image → HasSomeOf c up.texts image
-  passed_moment text next = some_doubted c n.was up.texts (its_generation disk_says old c n) n.are (opening text) (with_beginning c) refl next
+  pub passed_moment : (text : List ℕ) → IsEarlier (texts_of (with_beginning c)) up.texts → HasAllRows (with_generation n.was text) (rows_made (with_beginning c))
+      → (image : Files) → HasEither n.was (with_generation n.was text) image → HasSomeOf c up.texts image
+  passed_moment text next has = some_doubted disk_says old c n up.texts (opening text) (with_beginning c) refl has next
 
   module _ (older : (before : List (List (List ℕ))) → KeepsOlder disk_says old.link.journal before → KeepsOlder disk_says new.link.journal before) (scanned : KeepsScanned disk_says old.link new.link) (where_is : IsWhereItWas old new) (rest : new.rest ≡ old.rest) where
     its_rest : Has (text_of up.texts (length c.closed)) (record { at = new.at; length = length new.rest }) new.rest

@@ -10,6 +10,7 @@ pub mod Following
 pub mod Generations
 pub mod Grouping
 pub mod Growing
+pub mod Kept
 pub mod Looked
 pub mod Named
 pub mod Nodes

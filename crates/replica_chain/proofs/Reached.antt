@@ -1,7 +1,7 @@
 -- Nodes that others followed: they tell what they told.
 use Rattle.std.proofs.Common.{◌≡◌, ℕ, ◌^◌, ◌<◌, List, length, take, refl, sym, ap, subst, ◌∙◌, arith}
 use Rattle.outside_api.specs.Disk.{Files}
-use Rattle.outside_api.specs.Moments.{started, then, weaker}
+use Rattle.outside_api.specs.Moments.{LeavesOnly, started, then, weaker}
 use Rattle.outside_api.specs.Reaching.{Reaches, holds, once, stays, then as reach}
 use Rattle.outside_api.specs.Says.{DiskSays}
 use Rattle.archive_file.specs.Archive.{disk_of as archive_disk_of, used_of}
@@ -11,14 +11,17 @@ use Rattle.disk_journal.specs.Stands.{disk_of}
 use Rattle.recovery.specs.Looking.{OnlyReads}
 use Rattle.recovery.specs.Texts.{HasTexts}
 use Rattle.replica_chain.specs.Chronicle.{Chronicle, texts_of}
+use Rattle.replica_chain.specs.Copying.{KeepsContents}
 use Rattle.replica_chain.specs.Ends.{IsLinkLooked, TellsTexts}
-use Rattle.replica_chain.specs.Masters.{GoesOnBehind, GoesOnBehindNode, IsBehind, StaysBehind, TellsGroups, Upstream, WasFollowed}
+use Rattle.replica_chain.specs.Masters.{GoesOnBehind, GoesOnBehindNode, HasSomeOf, IsBehind, StaysBehind, TellsGroups, Upstream, WasFollowed}
 use Rattle.replica_chain.specs.Node.{IsNode}
 use Rattle.replica_chain.specs.declared.link.NodeLink.{NodeLink}
 use Rattle.replica_chain.specs.declared.node.Node.{Node}
 use Rattle.replica_chain.proofs.Looked.{looked_behind, looked_node, read_behind, read_node}
 use Rattle.replica_chain.proofs.Chains.{earlier_on}
 use Rattle.replica_chain.proofs.Growing.{earlier_self}
+use Rattle.replica_chain.proofs.Kept.{keeps_first, keeps_on, keeps_read}
+use Rattle.replica_chain.proofs.Steps.{some_more, some_now, some_read}
 use Rattle.replica_chain.proofs.Told.{looked_on, node_tells, not_looked, told_texts}
 
 module _ {D : Type 0} (disk_says : DiskSays D) (only_now : (disk : D) (image : Files) → disk_says.left_since disk (disk_says.moment disk) image → disk_says.may_leave disk image) where
@@ -108,16 +111,37 @@ module _ {D : Type 0} (disk_says : DiskSays D) (only_now : (disk : D) (image : F
     others = second.others ∙ ap (λ (node : Node D). record node { link = new.link; archive = new.archive }) first.others;
   }
 
+  -- it stays as it is
+  stays_first : (node : Node D) (c : Chronicle) (up : Upstream) → IsBehind disk_says node c up → StaysBehind disk_says node node c up
+  stays_first node c up b = record {
+    now = c;
+    no_fewer = earlier_self c;
+    behind = b;
+    any_moment = started disk_says (disk_of node.link.journal) (HasSomeOf c up.texts) (λ image left. some_now disk_says node c up b image (only_now (disk_of node.link.journal) image left));
+  }
+
   pub goes_first : (up node : Node D) → GoesOnBehindNode disk_says up up node node
-  goes_first up node = record { followed = followed_first up; behind = λ mine theirs bytes n told b. record { now = mine; no_fewer = earlier_self mine; behind = b } }
+  goes_first up node = record { followed = followed_first up; keeps = keeps_first disk_says only_now node.archive; behind = λ mine theirs bytes n told b. stays_first node mine (record { texts = texts_of theirs; bytes = bytes }) b }
 
   pub goes_then : (up up_mid up_new old mid new : Node D) → GoesOnBehindNode disk_says up up_mid old mid → GoesOnBehindNode disk_says up_mid up_new mid new → GoesOnBehindNode disk_says up up_new old new
   goes_then up up_mid up_new old mid new first second = record {
     followed = followed_on up up_mid up_new first.followed second.followed;
+    keeps = keeps_on disk_says old.archive mid.archive new.archive first.keeps second.keeps;
     behind = λ mine theirs bytes n told b.
         let one = first.behind mine theirs bytes n told b in
         let two = second.behind one.now theirs bytes (followed_node up up_mid first.followed theirs n) (followed_told up up_mid first.followed bytes told) one.behind in
-        record { now = two.now; no_fewer = earlier_on (texts_of mine) (texts_of one.now) (texts_of two.now) one.no_fewer two.no_fewer; behind = two.behind };
+        let texts = texts_of theirs in
+        let start = disk_of old.link.journal in
+        let middle = disk_of mid.link.journal in
+        let last = disk_of new.link.journal in
+        record {
+          now = two.now;
+          no_fewer = earlier_on (texts_of mine) (texts_of one.now) (texts_of two.now) one.no_fewer two.no_fewer;
+          behind = two.behind;
+          any_moment =
+              then disk_says start middle last (HasSomeOf mine texts) one.any_moment
+              (weaker disk_says middle last (HasSomeOf one.now texts) (HasSomeOf mine texts) (λ image some. some_more mine one.now texts image one.no_fewer some) two.any_moment);
+        };
   }
 
   -- both journals were looked at
@@ -125,7 +149,15 @@ module _ {D : Type 0} (disk_says : DiskSays D) (only_now : (disk : D) (image : F
       → GoesOnBehindNode disk_says up (record up { link = theirs }) node (record node { link = mine })
   goes_looked up node theirs mine up_looked looked = record {
     followed = record { link = once up_looked; archive = stays; others = refl };
-    behind = λ c d bytes n told b. record { now = c; no_fewer = earlier_self c; behind = looked_behind disk_says node mine looked c (record { texts = texts_of d; bytes = bytes }) b };
+    keeps = keeps_first disk_says only_now node.archive;
+    behind = λ c d bytes n told b.
+        let told_of : Upstream = record { texts = texts_of d; bytes = bytes } in
+        record {
+          now = c;
+          no_fewer = earlier_self c;
+          behind = looked_behind disk_says node mine looked c told_of b;
+          any_moment = some_read disk_says node c told_of b (disk_of mine.journal) looked.journal.reads.any_moment;
+        };
   }
 
   -- the node's archive was read
@@ -133,19 +165,27 @@ module _ {D : Type 0} (disk_says : DiskSays D) (only_now : (disk : D) (image : F
       → GoesOnBehindNode disk_says up up node (record node { archive = archive })
   goes_read up node archive reads used = record {
     followed = followed_first up;
-    behind = λ c d bytes n told b. record { now = c; no_fewer = earlier_self c; behind = read_behind disk_says node archive reads used c (record { texts = texts_of d; bytes = bytes }) b };
+    keeps = keeps_read disk_says node.archive archive reads used;
+    behind = λ c d bytes n told b.
+        let told_of : Upstream = record { texts = texts_of d; bytes = bytes } in
+        record {
+          now = c;
+          no_fewer = earlier_self c;
+          behind = read_behind disk_says node archive reads used c told_of b;
+          any_moment = (stays_first node c told_of b).any_moment;
+        };
   }
 
   -- the node has pulled
   module _ (image : (disk : D) (files : Files) → disk_says.seen disk files → disk_says.may_leave disk files) (short : (disk : D) (files : Files) (file : ℕ) → disk_says.seen disk files → length (files file) < 2 ^ 63)
       (one : (disk : D) (files other : Files) → disk_says.seen disk files → disk_says.seen disk other → (file : ℕ) → files file ≡ other file) where
     pub goes_pulled : (up old new : Node D) (link : NodeLink D) (archive : Archive D) → Reaches (λ (before now : NodeLink D). IsLinkLooked disk_says before now) up.link link
-        → Reaches (λ (before now : Archive D). IsArchiveLooked disk_says before now) up.archive archive
+        → Reaches (λ (before now : Archive D). IsArchiveLooked disk_says before now) up.archive archive → KeepsContents disk_says old.archive new.archive
         → ((c : Chronicle) (told : Upstream) → TellsTexts disk_says up.link told.texts → IsTold disk_says up.archive told.bytes → TellsGroups (TellsTexts disk_says link) → IsBehind disk_says old c told
         → GoesOnBehind disk_says old new c told (TellsTexts disk_says link) (IsTold disk_says archive))
         → GoesOnBehindNode disk_says up (record up { link = link; archive = archive }) old new
-    goes_pulled up old new link archive link_reached archive_reached pulls =
-        record { followed = followed; behind = behind }
+    goes_pulled up old new link archive link_reached archive_reached keeps pulls =
+        record { followed = followed; keeps = keeps; behind = behind }
       where
         up_new : Node D
         up_new = record up { link = link; archive = archive }
@@ -154,11 +194,16 @@ module _ {D : Type 0} (disk_says : DiskSays D) (only_now : (disk : D) (image : F
         followed = record { link = link_reached; archive = archive_reached; others = refl }
 
         behind : (mine theirs : Chronicle) (bytes : List ℕ) → IsNode disk_says up theirs → IsTold disk_says up.archive bytes → IsBehind disk_says old mine (record { texts = texts_of theirs; bytes = bytes })
-            → StaysBehind disk_says new mine (record { texts = texts_of theirs; bytes = bytes })
+            → StaysBehind disk_says old new mine (record { texts = texts_of theirs; bytes = bytes })
         behind mine theirs bytes n told b =
             let goes = pulls mine (record { texts = texts_of theirs; bytes = bytes }) (node_tells disk_says image up theirs n) told (λ texts tells. (tells.generations, tells.of_groups)) b in
             let later = goes.later in
             let texts_are : later.texts ≡ texts_of theirs = followed_texts up up_new followed image short theirs n later.texts goes.texts_told.has in
             let bytes_are : later.bytes ≡ bytes = followed_bytes up up_new followed one bytes later.bytes told goes.bytes_told in
             let same : later ≡ record { texts = texts_of theirs; bytes = bytes } = λ i. record { texts = texts_are i; bytes = bytes_are i } in
-            record { now = goes.now; no_fewer = goes.no_fewer; behind = subst (IsBehind disk_says new goes.now) same goes.behind }
+            record {
+              now = goes.now;
+              no_fewer = goes.no_fewer;
+              behind = subst (IsBehind disk_says new goes.now) same goes.behind;
+              any_moment = subst (λ (told : Upstream). LeavesOnly disk_says (disk_of old.link.journal) (disk_of new.link.journal) (HasSomeOf mine told.texts)) same goes.any_moment;
+            }

@@ -18,7 +18,7 @@ use Rattle.replica_chain.proofs.Grouping.{contents_alone}
 use Rattle.replica_chain.proofs.Growing.{earlier_self}
 use Rattle.replica_chain.proofs.Nodes.{same_node}
 use Rattle.replica_chain.proofs.Rests.{with_link}
-use Rattle.replica_chain.proofs.Steps.{all_earlier, its_generation, some_doubted}
+use Rattle.replica_chain.proofs.Steps.{all_earlier, some_doubted}
 
 module _ {D : Type 0} (disk_says : DiskSays D) (old : Node D) (link : NodeLink D) where
   pub where_settled : generation_of_journal link.journal ≡ generation_of_journal old.link.journal → IsWhereItWas old (with_link old link)
@@ -53,7 +53,7 @@ module _ {D : Type 0} (disk_says : DiskSays D) (old : Node D) (link : NodeLink D
       moments_some =
           let n = b.is_node in
           weaker disk_says (disk_of old.link.journal) (disk_of link.journal) (HasWithOrWithout n.was n.doubt) (HasSomeOf c up.texts)
-          (some_doubted c n.was up.texts (its_generation disk_says old c n) n.are n.doubt n.pending n.is_pending b.earlier) moments
+          (some_doubted disk_says old c n up.texts n.doubt n.pending n.is_pending n.pending_has b.earlier) moments
 
       settled_behind : Stands disk_says link.journal b.is_node.was nothing → IsBehind disk_says (with_link old link) c up
       unfolding settled_node same_node

@@ -30,8 +30,8 @@ use Rattle.replica_chain.specs.declared.node.Node.{Node}
 use Rattle.replica_chain.proofs.Following.{earlier_with}
 use Rattle.replica_chain.proofs.Grouping.{bytes_now, doubted_behind, doubted_node, still_behind, still_node, taken_behind, taken_node, taken_now}
 use Rattle.replica_chain.proofs.Growing.{earlier_push, earlier_self}
-use Rattle.replica_chain.proofs.Nodes.{next_is}
-use Rattle.replica_chain.proofs.Steps.{all_earlier, its_generation, some_with_group}
+use Rattle.replica_chain.proofs.Nodes.{next_is, pushed_has}
+use Rattle.replica_chain.proofs.Steps.{all_earlier, some_with_group}
 
 -- ---- archives
 
@@ -166,7 +166,7 @@ module _ {D : Type 0} (disk_says : DiskSays D) (old new : Node D) (settled : IsS
         let n = b.is_node in
         let text = group_text (length n.was.groups + 1) changes in
         weaker disk_says (disk_of old.link.journal) (disk_of new.link.journal) (HasEither n.was (with_group n.was text)) (HasSomeOf c up.texts)
-        (some_with_group c n.was up.texts (its_generation disk_says old c n) n.are changes text (ap (λ (k : ℕ). group_text k changes) (next_is disk_says old new c n)) next) moments
+        (some_with_group disk_says old c n up.texts changes text (ap (λ (k : ℕ). group_text k changes) (next_is disk_says old new c n)) (pushed_has disk_says old new c n changes is_group fit) next) moments
 
     pub tried_behind : IsUncommitted b.is_node.was → GoesOnBehind disk_says old new c up (λ texts. texts ≡ up.texts) told_now
     tried_behind (inl still) =
@@ -228,7 +228,7 @@ module _ {D : Type 0} (disk_says : DiskSays D) (old new kept : Node D) (settled 
       let text = group_text (length n.was.groups + 1) changes in
       let bytes = taken_now disk_says old c up b settled new kept keeps older image told_before told_now changes is_group brought told next in
       let run = weaker disk_says (disk_of old.link.journal) (disk_of new.link.journal) (HasEither n.was (with_group n.was text)) (HasSomeOf c up.texts)
-      (some_with_group c n.was up.texts (its_generation disk_says old c n) n.are changes text (ap (λ (k : ℕ). group_text k changes) (next_is disk_says old new c n)) next) moments in
+      (some_with_group disk_says old c n up.texts changes text (ap (λ (k : ℕ). group_text k changes) (next_is disk_says old new c n)) (pushed_has disk_says old new c n changes is_group taken.fit) next) moments in
       let there : Has (text_of up.texts (length c.closed)) (record { at = kept.at; length = length kept.rest }) kept.rest =
       subst (λ (at : ℕ). Has (text_of up.texts (length c.closed)) (record { at = at; length = length kept.rest }) kept.rest) (sym taken.at)
       (subst (λ (l : List ℕ). Has (text_of up.texts (length c.closed)) (record { at = end; length = length l }) l) (sym rest) has) in

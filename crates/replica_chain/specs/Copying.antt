@@ -61,6 +61,12 @@ pub record KeepsUsed {D : Type 0} (disk_says : DiskSays D) (old new : Archive D)
   pub tells : StillTells (disk_says.seen (disk_of old)) (disk_says.seen (disk_of new))
   pub used : used_of new ≡ used_of old
 
+-- An archive keeps what lies below the end of what was used of it, at every moment, and no less of it is used.
+pub record KeepsContents {D : Type 0} (disk_says : DiskSays D) (old new : Archive D) : Type 0 where
+  pub below : (spot : Spot) (bytes : List ℕ) → end_of spot ≤ used_of old → AllHave (disk_says.may_leave (disk_of old)) spot bytes → AllHave (disk_says.may_leave (disk_of new)) spot bytes
+  pub any_moment : (spot : Spot) (bytes : List ℕ) → end_of spot ≤ used_of old → AllHave (disk_says.may_leave (disk_of old)) spot bytes → LeavesOnly disk_says (disk_of old) (disk_of new) (λ image. Has (image 0) spot bytes)
+  pub used : used_of old ≤ used_of new
+
 -- Bytes were brought up to a place: the images of an archive, which had the same ones as far as it is used, have the same ones up to there; and where the first
 -- of them were those that are told, so are these.
 pub record AreCopied {D : Type 0} (disk_says : DiskSays D) (told_before told_now : List ℕ → Type 0) (old new : Archive D) (place : ℕ) : Type 0 where

@@ -1,6 +1,6 @@
 -- A journal as the next node follows it. This project's own choice.
 use Rattle.std.specs.Prelude.{ℕ, List}
-use Rattle.outside_api.specs.Says.{DiskSays}
+use Rattle.outside_api.specs.Says.{DiskSays, LinkSays}
 use Rattle.depot_rows.specs.db_records.declared.change.Change.{Change}
 use Rattle.disk_journal.specs.Images.{Committed}
 use Rattle.disk_journal.specs.Keeping.{KeepsOlder}
@@ -38,3 +38,7 @@ pub record IsLooked {D : Type 0} (disk_says : DiskSays D) (old new : Journal D) 
 pub record IsLinkLooked {D : Type 0} (disk_says : DiskSays D) (old new : NodeLink D) : Type 0 where
   pub journal : IsLooked disk_says old.journal new.journal
   pub scanned : KeepsScanned disk_says old new
+
+-- what a node's link says
+abbrev pub link_says : {D : Type 0} → DiskSays D → LinkSays (NodeLink D)
+link_says disk_says = record { tells = TellsTexts disk_says; faults = λ link. disk_says.faults (disk_of link.journal); keeps = IsLinkLooked disk_says }

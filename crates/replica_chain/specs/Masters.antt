@@ -20,11 +20,12 @@ use Rattle.depot_rows.specs.Standing.{Stand}
 use Rattle.disk_journal.specs.Images.{Committed, HasCommitted}
 use Rattle.disk_journal.specs.Stands.{disk_of, nothing}
 use Rattle.journal_groups.specs.Groups.{IsGroup}
-use Rattle.recovery.specs.Holding.{group_texts, spots_end}
+use Rattle.recovery.specs.Holding.{HasAllRows, group_texts, spots_end}
 use Rattle.recovery.specs.Rules.{DeletesAreUnplaced}
 use Rattle.recovery.specs.Standing.{HasContents, StandFor}
 use Rattle.replica_pull.specs.Prefix.{HasGrown, HasNoGroup, IsJournalOf, first_rows}
 use Rattle.replica_chain.specs.Chronicle.{Chronicle, changes_of, generations_of, rows_made, texts_of}
+use Rattle.replica_chain.specs.Copying.{KeepsContents}
 use Rattle.replica_chain.specs.Ends.{IsLinkLooked}
 use Rattle.replica_chain.specs.Node.{HasFrontTo, IsNode, reach_of}
 use Rattle.replica_chain.specs.declared.link.NodeLink.{NodeLink}
@@ -78,12 +79,13 @@ OpensToAPrefix disk_says node after most n =
 
 -- ---- pulls
 
--- an image of the journal's disk has the groups of these changes, and nothing in doubt
+-- an image of the journal's disk has the groups of these changes, and the rows that they make, and nothing in doubt
 pub record HasGroupsOf (c : Chronicle) (image : Files) : Type 0 where
   pub was : Committed
   pub committed : HasCommitted was image
   pub generation : was.generation ≡ length c.closed
   pub are : was.groups ≡ group_texts 1 c.newest
+  pub rows : HasAllRows was (rows_made c)
 
 -- an image of some moment: it has whole changes, no fewer than these, of those with the texts
 pub record HasSomeOf (c : Chronicle) (texts : List (List ℕ)) (image : Files) : Type 0 where
@@ -121,17 +123,19 @@ pub record WasFollowed {D : Type 0} (disk_says : DiskSays D) (old new : Node D) 
   pub archive : Reaches (λ (before now : Archive D). IsArchiveLooked disk_says before now) old.archive new.archive
   pub others : new ≡ record old { link = new.link; archive = new.archive }
 
--- A node that had these changes is behind this upstream, and has no fewer.
-pub record StaysBehind {D : Type 0} (disk_says : DiskSays D) (new : Node D) (c : Chronicle) (up : Upstream) : Type 0 where
+-- A node that had these changes is behind this upstream, and has no fewer; and so has its journal at every moment since.
+pub record StaysBehind {D : Type 0} (disk_says : DiskSays D) (old new : Node D) (c : Chronicle) (up : Upstream) : Type 0 where
   pub now : Chronicle
   pub no_fewer : IsEarlier (texts_of c) (texts_of now)
   pub behind : IsBehind disk_says new now up
+  pub any_moment : LeavesOnly disk_says (disk_of old.link.journal) (disk_of new.link.journal) (HasSomeOf c up.texts)
 
--- A node was followed, and another that was behind what it told is behind the same, whatever it had.
+-- A node was followed, and another that was behind what it told is behind the same, whatever it had, at every moment since; and its archive keeps what was used of it.
 pub record GoesOnBehindNode {D : Type 0} (disk_says : DiskSays D) (up up_new old new : Node D) : Type 0 where
   pub followed : WasFollowed disk_says up up_new
+  pub keeps : KeepsContents disk_says old.archive new.archive
   pub behind : (mine theirs : Chronicle) (bytes : List ℕ) → IsNode disk_says up theirs → IsTold disk_says up.archive bytes → IsBehind disk_says old mine (record { texts = texts_of theirs; bytes = bytes })
-      → StaysBehind disk_says new mine (record { texts = texts_of theirs; bytes = bytes })
+      → StaysBehind disk_says old new mine (record { texts = texts_of theirs; bytes = bytes })
 
 -- A node has all of these changes and nothing in doubt, and its archive has the first of the bytes, as far as it is used.
 pub record HasAllOf {D : Type 0} (disk_says : DiskSays D) (node : Node D) (c : Chronicle) (bytes : List ℕ) : Type 0 where

@@ -12,10 +12,9 @@ pub struct NodeLink<D: Disk> {
 }
 
 impl<D: Disk> Link for NodeLink<D> {
-    ghost use Rattle.disk_journal.specs.Stands.{disk_of};
-    ghost use Rattle.replica_chain.specs.Ends.{IsLinkLooked, TellsTexts};
+    ghost use Rattle.replica_chain.specs.Ends.{link_says};
 
-    ghost says = { record { tells = λ link texts. TellsTexts D.says link texts; faults = λ link. D.says.faults (disk_of link.journal); keeps = λ old new. IsLinkLooked D.says old new } };
+    ghost says = { link_says D.says };
 
     fn fetch(&mut self, generation: u32, at: u64, buffer: &mut [u8]) -> Result<Fetched, Failed> {
         match self

@@ -19,7 +19,7 @@ ghost use Rattle.recovery.specs.Looking.{AreCauses, IsCause};
 ghost use Rattle.recovery.specs.Pieces.{AreAllGood};
 ghost use Rattle.depot_rows.specs.table_changes.Changed.{AllFitIn, rows_of};
 ghost use Rattle.replica_chain.specs.Chronicle.{Chronicle};
-ghost use Rattle.replica_chain.specs.Copying.{AreBrought, IfBadContent, IfNoBytes, IsAbsent, IsBadContent, IsOfBringing, KeepsUsed, named_ends};
+ghost use Rattle.replica_chain.specs.Copying.{AreBrought, IfBadContent, IfNoBytes, IsAbsent, IsBadContent, IsOfBringing, KeepsContents, KeepsUsed, named_ends};
 ghost use Rattle.replica_chain.specs.Ends.{KeepsScanned};
 ghost use Rattle.replica_chain.specs.Masters.{GoesOnBehind, HasNoFewer, IsBehind, TellsGroups, Upstream};
 ghost use Rattle.replica_chain.specs.Node.{CanFollow, IsNode, IsSettled};
@@ -105,6 +105,7 @@ impl<D: Disk> Node<D> {
         ensures kept { OnErr result (IsWhereItWas self.old self.new) }
         ensures refused { IfErr result (IsRefused D.says (C.tells contents.new) self.old self.new changes.now end) }
         ensures node { (c : Chronicle) → IsNode D.says self.old c → HasNoFewer D.says self.new c }
+        ensures keeps { KeepsContents D.says self.old.archive self.new.archive }
         // Where it is the next group upstream, the node stays behind that.
         ensures behind { (c : Chronicle) (up : Upstream) → C.tells contents.old up.bytes → IsBehind D.says self.old c up →
             Has (text_of up.texts (length c.closed)) (record { at = self.old.at; length = end - self.old.at }) (mark open_byte ++ group_text self.old.number changes.now) →
@@ -155,6 +156,7 @@ impl<D: Disk> Node<D> {
         ensures fit { OnOk result (AreAllGood (AllFitIn (rows_of self.new.tables)) (BeginsAt reader.new.number reader.new.at reader.new.left)) }
         ensures cut_short { IfErr result (IsCutShort D.says (C.tells contents.new) self.old self.new reader.old) }
         ensures node { (c : Chronicle) → IsNode D.says self.old c → HasNoFewer D.says self.new c }
+        ensures keeps { KeepsContents D.says self.old.archive self.new.archive }
         // Where what the reader has stands upstream behind the node, the node stays behind that, and what is left stands there behind it.
         ensures behind { (c : Chronicle) (up : Upstream) → C.tells contents.old up.bytes → IsBehind D.says self.old c up →
             Has (text_of up.texts (length c.closed)) (record { at = reader.old.at; length = length reader.old.left }) reader.old.left →
@@ -186,6 +188,7 @@ impl<D: Disk> Node<D> {
         ensures taken { IfOk result (HasTakenPiece self.old self.new piece.now) }
         ensures untaken { IfErr result (IsUntaken D.says (C.tells contents.new) self.old self.new piece.now) }
         ensures node { (c : Chronicle) → IsNode D.says self.old c → HasNoFewer D.says self.new c }
+        ensures keeps { KeepsContents D.says self.old.archive self.new.archive }
         // Where the piece stands upstream behind the rest, the node stays behind that.
         ensures behind { (c : Chronicle) (up : Upstream) → C.tells contents.old up.bytes → IsBehind D.says self.old c up →
             Has (text_of up.texts (length c.closed)) (record { at = self.old.at + length self.old.rest; length = length piece.now }) piece.now →
@@ -222,6 +225,7 @@ impl<D: Disk> Node<D> {
         ensures followed { IfOk result (HasFollowed L.says link.new self.old self.new) }
         ensures stopped { IfErr result (λ fault. IsUnread self.old self.new fault ⊎ HasStopped D.says L.says (C.tells contents.new) link.new self.old self.new fault) }
         ensures node { (c : Chronicle) → IsNode D.says self.old c → HasNoFewer D.says self.new c }
+        ensures keeps { KeepsContents D.says self.old.archive self.new.archive }
         ensures behind { (c : Chronicle) (up : Upstream) → L.says.tells link.old up.texts → C.tells contents.old up.bytes → TellsGroups (L.says.tells link.new) → IsBehind D.says self.old c up →
             GoesOnBehind D.says self.old self.new c up (L.says.tells link.new) (C.tells contents.new) }
         ensures link_reached { Reaches L.says.keeps link.old link.new }
@@ -261,6 +265,7 @@ impl<D: Disk> Node<D> {
         ensures followed { IfOk result (HasFollowed L.says link.new self.old self.new) }
         ensures stopped { IfErr result (λ fault. IsUnread self.old self.new fault ⊎ HasStopped D.says L.says (C.tells contents.new) link.new self.old self.new fault) }
         ensures node { (c : Chronicle) → IsNode D.says self.old c → HasNoFewer D.says self.new c }
+        ensures keeps { KeepsContents D.says self.old.archive self.new.archive }
         ensures behind { (c : Chronicle) (up : Upstream) → L.says.tells link.old up.texts → C.tells contents.old up.bytes → TellsGroups (L.says.tells link.new) → IsBehind D.says self.old c up →
             GoesOnBehind D.says self.old self.new c up (L.says.tells link.new) (C.tells contents.new) }
         ensures link_reached { Reaches L.says.keeps link.old link.new }
@@ -296,6 +301,8 @@ impl<D: Disk> Node<D> {
 
         // It has whole changes, no fewer than before.
         ensures node { (c : Chronicle) → IsNode D.says self.old c → HasNoFewer D.says self.new c }
+        // Its archive keeps what was used of it, at every moment.
+        ensures keeps { KeepsContents D.says self.old.archive self.new.archive }
         // Behind a depot that the link and the contents tell it stays behind that depot, at every moment.
         ensures behind { (c : Chronicle) (up : Upstream) → L.says.tells link.old up.texts → C.tells contents.old up.bytes → TellsGroups (L.says.tells link.new) → IsBehind D.says self.old c up →
             GoesOnBehind D.says self.old self.new c up (L.says.tells link.new) (C.tells contents.new) }

@@ -4,6 +4,7 @@ ghost use Rattle.std.specs.Prelude.{◌≡◌, ◌⊎◌, ◌≤◌, ◌<◌, �
 ghost use Rattle.std.specs.Result.{IfErr};
 ghost use Rattle.depot_rows.specs.db_records.declared.change.Change.{Change};
 ghost use Rattle.outside_api.specs.Link.{IsEarlier, Answers, Fits};
+ghost use Rattle.outside_api.specs.Reaching.{Reaches};
 ghost use Rattle.outside_api.specs.declared.link.Fetched.{Fetched};
 ghost use Rattle.outside_api.specs.declared.link.Fetched.TheVariants.{Next};
 ghost use Rattle.recovery.specs.Looking.{IsCause};
@@ -274,6 +275,7 @@ impl Replica {
             ((now : List (List ℕ)) → L.says.tells link.new now → (earlier : List (List ℕ)) × (IsEarlier earlier now × Answers earlier self.old.generation self.old.at fetched piece)))))) }
         ensures cause { IsCause (L.says.faults link.old) (L.says.faults link.new) (result ≡ Err faults.LinkFault) }
         ensures grows { (before : List (List ℕ)) → L.says.tells link.old before → (now : List (List ℕ)) × (L.says.tells link.new now × ((now ≡ before) ⊎ IsEarlier before now)) }
+        ensures reached { Reaches L.says.keeps link.old link.new }
     {
         let fetched = link.fetch(self.generation, self.at, buffer)?;
         let moved = self.follow(alloc, fetched, buffer);
@@ -297,6 +299,8 @@ impl Replica {
         ensures good { (rules : List FilterRule) (before : List (List ℕ)) → L.says.tells link.old before → HasPrefix rules before self.old →
             ((now : List (List ℕ)) → L.says.tells link.new now → (generations : List (List (List Change))) × IsGoodJournal now generations) → IfBadFeed result (λ place. ⊥) }
         ensures grows { (before : List (List ℕ)) → L.says.tells link.old before → (now : List (List ℕ)) × (L.says.tells link.new now × ((now ≡ before) ⊎ IsEarlier before now)) }
+        // The link is left as calls of it leave it.
+        ensures reached { Reaches L.says.keeps link.old link.new }
     {
         let mut piece = vec![in alloc; 0u8; PIECE]?;
         let moved = self.pull_into(alloc, link, piece.as_mut_slice());

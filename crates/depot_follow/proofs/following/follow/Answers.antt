@@ -2,13 +2,14 @@ use Rattle.std.proofs.Common.{rules, ◌≡◌, ℕ, Option, Result, Err, sym, a
 use Rattle.std.specs.Result.{IfErr}
 use Rattle.replica_chain.specs.Apart.{IsComparison}
 use Rattle.replica_chain.specs.declared.apart.Departure.{Departure}
+use Rattle.replica_chain.specs.declared.fault.NodeFault.{NodeFault}
 use Rattle.replica_chain.proofs.Reached.{goes_then}
 use Rattle.depot_follow.specs.Ends.{cause_by_pull}
 use Rattle.depot_follow.specs.Following.{AgreeWith, HasStopped}
 use Rattle.depot_follow.specs.declared.ended.ChainCause.{ChainCause}
 use Rattle.depot_follow.specs.declared.following.Figures.{Figures}
-use Rattle.depot_follow.proofs.Followed.{agree_of, looked_of, no_fewer_kept, no_fewer_on, pull_ends, stopped_of}
-use Rattle.depot_follow.proofs.Copied.{compared, takes_all, verified}
+use Rattle.depot_follow.proofs.Followed.{agree_of, looked_of, no_fewer_kept, no_fewer_on, stopped_of, stopped_on, verified_of}
+use Rattle.depot_follow.proofs.Copied.{as_far, bad_then, compared, takes_all, verified}
 use Rattle.depot_follow.proofs.following.follow.Goals as goal
 
 pub returns-in_err-departure-clause-no_fewer : goal.returns-in_err-departure-clause-no_fewer
@@ -30,19 +31,27 @@ returns-in_err-pull_all-clause-no_fewer g c =
 
 pub returns-in_err-pull_all-clause-ended : goal.returns-in_err-pull_all-clause-ended
 returns-in_err-pull_all-clause-ended g c =
+    let departs = c.departs.ensures in
     let cause : ChainCause = c.in_err-pull_all.field-0.0 in
     let is : c.from_residual-in_err-pull_all.result ≡ Err cause = search rules in
     let agree : AgreeWith g.D.Disk.says c.args.up.now c.args.node.now = λ texts others of_node of_up. agree_of texts others _ (λ departure. c.in_default.not-Some departure) (c.in_ok-departure.ensures.exactly texts others of_node of_up) in
     subst (λ (result : Result Figures ChainCause). IfErr result (HasStopped g.D.Disk.says c.args.up.now c.args.node.now c.pull_all.new.up c.pull_all.new.node)) (sym is)
-    (stopped_of g.D.Disk.says c.args.up.now c.args.node.now c.pull_all.new.up c.pull_all.new.node cause c.in_err-pull_all.ensures.only agree)
+    (stopped_of g.D.Disk.says c.args.up.now c.args.node.now c.pull_all.new.up c.pull_all.new.node cause
+    (stopped_on g.D.Disk.says g.met.D.Disk.only_now c.args.up.now c.departs.new.up c.pull_all.new.up c.args.node.now c.departs.new.self c.pull_all.new.node
+    (compared g.D.Disk.says g.met.D.Disk.only_now c.args.up.now c.args.node.now c.departs.new.up c.departs.new.self departs.links.1 departs.links.0 departs.others.1 departs.others.0)
+    (no_fewer_kept g.D.Disk.says c.args.node.now c.departs.new.self (λ d. (departs.nodes d).0)) cause c.in_err-pull_all.ensures.stopped) agree)
 
 pub returns-in_err-verified-clause-ended : goal.returns-in_err-verified-clause-ended
 returns-in_err-verified-clause-ended g c =
-    let cause : ChainCause = cause_by_pull c.in_err-verified.field-0.0 in
-    let is : c.from_residual-in_err-verified.result ≡ Err cause = search rules in
+    let verify = c.verify.ensures in
+    let fault : NodeFault = c.in_err-verified.field-0.0 in
+    let is : c.from_residual-in_err-verified.result ≡ Err (cause_by_pull fault) = search rules in
     let agree : AgreeWith g.D.Disk.says c.args.up.now c.args.node.now = λ texts others of_node of_up. agree_of texts others _ (λ departure. c.in_default.not-Some departure) (c.in_ok-departure.ensures.exactly texts others of_node of_up) in
     subst (λ (result : Result Figures ChainCause). IfErr result (HasStopped g.D.Disk.says c.args.up.now c.args.node.now c.pull_all.new.up c.verify.new.self)) (sym is)
-    (stopped_of g.D.Disk.says c.args.up.now c.args.node.now c.pull_all.new.up c.verify.new.self cause (pull_ends c.in_err-verified.field-0.0) agree)
+    (verified_of g.D.Disk.says c.args.up.now c.args.node.now c.pull_all.new.up c.verify.new.self fault c.in_err-verified.ensures.only agree
+    (as_far g.D.Disk.says g.met.D.Disk.only_now c.args.up.now c.departs.new.up c.pull_all.new.node c.verify.new.self (λ d. (c.departs.ensures.nodes d).1) verify.others _ _
+    (ap (λ (p : ℕ × ℕ). p.0) c.position-generation.ensures) (ap (λ (p : ℕ × ℕ). p.1) c.position-generation.ensures) c.in_ok-pull_all.ensures.position)
+    (bad_then g.D.Disk.says g.met.D.Disk.only_now c.pull_all.new.node c.verify.new.self verify.others verify.reads fault c.in_err-verified.ensures.bad))
 
 pub returns-in_err-verified-clause-no_fewer : goal.returns-in_err-verified-clause-no_fewer
 returns-in_err-verified-clause-no_fewer g c =

@@ -28,3 +28,9 @@ returns-in-Ok-clause-link_reached g c = c.pull_on.ensures.link_reached
 
 pub returns-in-Ok-clause-contents_reached : goal.returns-in-Ok-clause-contents_reached
 returns-in-Ok-clause-contents_reached g c = c.pull_on.ensures.contents_reached
+
+pub returns-in-Err-clause-keeps : goal.returns-in-Err-clause-keeps
+returns-in-Err-clause-keeps g c = c.pull_on.ensures.keeps
+
+pub returns-in-Ok-clause-keeps : goal.returns-in-Ok-clause-keeps
+returns-in-Ok-clause-keeps g c = c.pull_on.ensures.keeps

@@ -9,6 +9,7 @@ use Rattle.replica_chain.proofs.Followed.{behind_later, fetched_stands, goes_lat
 use Rattle.replica_chain.proofs.Growing.{earlier_self}
 use Rattle.replica_chain.proofs.PassedOn.{passed_fault}
 use Rattle.outside_api.specs.Reaching.{once, stays}
+use Rattle.replica_chain.proofs.Kept.{keeps_first, keeps_same}
 use Rattle.replica_chain.proofs.node.Node.pull_into.Goals as goal
 
 pub overflow_add-awaited : goal.overflow_add-awaited
@@ -222,3 +223,21 @@ returns-in_err-changes-in-Bytes-clause-contents_reached g c = c.take_piece.ensur
 
 pub returns-in_ok-changes-in-Bytes-clause-contents_reached : goal.returns-in_ok-changes-in-Bytes-clause-contents_reached
 returns-in_ok-changes-in-Bytes-clause-contents_reached g c = c.take_piece.ensures.contents_reached
+
+pub returns-in_err-fetched-clause-keeps : goal.returns-in_err-fetched-clause-keeps
+returns-in_err-fetched-clause-keeps g c = keeps_first g.D.Disk.says g.met.D.Disk.only_now c.args.self.now.archive
+
+pub returns-in-End-clause-keeps : goal.returns-in-End-clause-keeps
+returns-in-End-clause-keeps g c = keeps_first g.D.Disk.says g.met.D.Disk.only_now c.args.self.now.archive
+
+pub returns-in_err-pass-in-Next-clause-keeps : goal.returns-in_err-pass-in-Next-clause-keeps
+returns-in_err-pass-in-Next-clause-keeps g c = keeps_same g.D.Disk.says g.met.D.Disk.only_now c.args.self.now.archive c.pass.new.self.archive c.pass.ensures.archive
+
+pub returns-in_ok-pass-in-Next-clause-keeps : goal.returns-in_ok-pass-in-Next-clause-keeps
+returns-in_ok-pass-in-Next-clause-keeps g c = keeps_same g.D.Disk.says g.met.D.Disk.only_now c.args.self.now.archive c.pass.new.self.archive c.pass.ensures.archive
+
+pub returns-in_err-changes-in-Bytes-clause-keeps : goal.returns-in_err-changes-in-Bytes-clause-keeps
+returns-in_err-changes-in-Bytes-clause-keeps g c = c.take_piece.ensures.keeps
+
+pub returns-in_ok-changes-in-Bytes-clause-keeps : goal.returns-in_ok-changes-in-Bytes-clause-keeps
+returns-in_ok-changes-in-Bytes-clause-keeps g c = c.take_piece.ensures.keeps

@@ -15,6 +15,7 @@ use Rattle.replica_chain.proofs.Settled.{doubted_goes, doubted_still, settled_ca
 use Rattle.replica_chain.proofs.Steps.{at_first, behind_on}
 use Rattle.replica_chain.proofs.Tried.{same_generation}
 use Rattle.outside_api.specs.Reaching.{stays}
+use Rattle.replica_chain.proofs.Kept.{keeps_first}
 use Rattle.replica_chain.proofs.node.Node.pull_on.Goals as goal
 
 -- ---- there was no memory for a piece
@@ -179,3 +180,12 @@ returns-clause-link_reached g c = c.pull_into-moved.ensures.link_reached
 
 pub returns-clause-contents_reached : goal.returns-clause-contents_reached
 returns-clause-contents_reached g c = c.pull_into-moved.ensures.contents_reached
+
+pub returns-in_err-piece-clause-keeps : goal.returns-in_err-piece-clause-keeps
+returns-in_err-piece-clause-keeps g c = keeps_first g.D.Disk.says g.met.D.Disk.only_now c.args.self.now.archive
+
+pub returns-in_err-settle-clause-keeps : goal.returns-in_err-settle-clause-keeps
+returns-in_err-settle-clause-keeps g c = keeps_first g.D.Disk.says g.met.D.Disk.only_now c.args.self.now.archive
+
+pub returns-clause-keeps : goal.returns-clause-keeps
+returns-clause-keeps g c = c.pull_into-moved.ensures.keeps

@@ -15,6 +15,7 @@ use Rattle.replica_chain.proofs.Steps.{at_first}
 use Rattle.replica_chain.proofs.Grouping.{settled_stands}
 use Rattle.replica_chain.proofs.Tried.{committed_behind, committed_fewer, counted_reach, group_taken, next_stands, same_rest, stands_of, taken_can, tried_behind, tried_can, tried_fewer, uncommitted_generation, where_it_was}
 use Rattle.outside_api.specs.Reaching.{stays}
+use Rattle.replica_chain.proofs.Kept.{keeps_brought, keeps_first}
 use Rattle.replica_chain.proofs.node.Node.take_group.Goals as goal
 
 -- the changes don't fit, or there is no memory
@@ -197,3 +198,16 @@ returns-in-Ok-clause-contents_reached g c = c.commit_group.ensures.contents_reac
 
 pub returns-in-Err-clause-contents_reached : goal.returns-in-Err-clause-contents_reached
 returns-in-Err-clause-contents_reached g c = c.commit_group.ensures.contents_reached
+
+pub returns-in_err-tables-clause-keeps : goal.returns-in_err-tables-clause-keeps
+returns-in_err-tables-clause-keeps g c = keeps_first g.D.Disk.says g.met.D.Disk.only_now c.args.self.now.archive
+
+pub returns-in-Ok-clause-keeps : goal.returns-in-Ok-clause-keeps
+returns-in-Ok-clause-keeps g c =
+    let kept_used = c.commit_group.ensures.keeps.used in
+    keeps_brought g.D.Disk.says c.args.self.now.archive c.commit_group.new.self.archive c.keep.new.self c.commit_group.ensures.keeps c.keep.ensures.disk (omega (arith, c.keep.ensures.used, kept_used))
+
+pub returns-in-Err-clause-keeps : goal.returns-in-Err-clause-keeps
+returns-in-Err-clause-keeps g c =
+    let kept_used = c.commit_group.ensures.keeps.used in
+    keeps_brought g.D.Disk.says c.args.self.now.archive c.commit_group.new.self.archive c.commit_group.new.self.archive c.commit_group.ensures.keeps refl (omega (arith, kept_used))

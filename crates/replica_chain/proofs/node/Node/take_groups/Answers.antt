@@ -20,6 +20,7 @@ use Rattle.replica_chain.proofs.Refusals.{cut_by_feed, cut_by_group, cut_by_rest
 use Rattle.replica_chain.proofs.Steps.{at_first}
 use Rattle.replica_chain.proofs.Taking.{behind_group, group_more, groups_left, many_taken, no_group}
 use Rattle.outside_api.specs.Reaching.{stays, then}
+use Rattle.replica_chain.proofs.Kept.{keeps_first, keeps_on}
 use Rattle.replica_chain.proofs.node.Node.take_groups.Goals as goal
 
 pub loop-changes-init : goal.loop-changes-init
@@ -33,6 +34,7 @@ loop-changes-init g c =
       node = λ chronicle n. record { now = chronicle; no_fewer = earlier_self chronicle; is_node = n };
       behind = λ chronicle up told b stands. (at_first g.D.Disk.says node chronicle up (g.C.Contents.tells c.args.contents.now) (g.met.D.Disk.only_now (disk_of node.link.journal)) told b, stands);
       reached = stays;
+      keeps = keeps_first g.D.Disk.says g.met.D.Disk.only_now node.archive;
       contents_count = omega arith;
       journal_count = omega arith;
       archive_count = omega arith;
@@ -160,6 +162,7 @@ loop-changes-preserved g c =
             behind_stands (text_of up.texts (length chronicle.closed)) left behind changes has step.1,
           );
       reached = then inv.reached c.take_group.ensures.contents_reached;
+      keeps = keeps_on says old.archive mid.archive new.archive inv.keeps c.take_group.ensures.keeps;
       contents_count = omega (arith, inv.contents_count, c.take_group.ensures.contents_cause.never_falls);
       journal_count = omega (arith, inv.journal_count, c.take_group.ensures.cause.journal_never_falls);
       archive_count = omega (arith, inv.archive_count, c.take_group.ensures.cause.archive_never_falls);
@@ -222,3 +225,15 @@ returns-in_err-check_rest-clause-contents_reached g c = c.loop-changes.invariant
 
 pub returns-clause-contents_reached : goal.returns-clause-contents_reached
 returns-clause-contents_reached g c = c.loop-changes.invariant.reached
+
+pub returns-in_err-changes-clause-keeps : goal.returns-in_err-changes-clause-keeps
+returns-in_err-changes-clause-keeps g c = c.loop-changes.invariant.keeps
+
+pub returns-in_err-take_group-clause-keeps : goal.returns-in_err-take_group-clause-keeps
+returns-in_err-take_group-clause-keeps g c = keeps_on g.D.Disk.says c.args.self.now.archive c.loop-changes.self.archive c.take_group.new.self.archive c.loop-changes.invariant.keeps c.take_group.ensures.keeps
+
+pub returns-in_err-check_rest-clause-keeps : goal.returns-in_err-check_rest-clause-keeps
+returns-in_err-check_rest-clause-keeps g c = c.loop-changes.invariant.keeps
+
+pub returns-clause-keeps : goal.returns-clause-keeps
+returns-clause-keeps g c = c.loop-changes.invariant.keeps

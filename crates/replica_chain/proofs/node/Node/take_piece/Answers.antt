@@ -9,6 +9,7 @@ use Rattle.replica_chain.proofs.Rests.{emptied_behind, emptied_can, from_rested,
 use Rattle.replica_chain.proofs.Steps.{at_first}
 use Rattle.replica_chain.proofs.TakenPieces.{both_stand, last_is, left_short, piece_cut, piece_goes, piece_taken, piece_unread, rest_unread}
 use Rattle.outside_api.specs.Reaching.{stays}
+use Rattle.replica_chain.proofs.Kept.{keeps_first}
 use Rattle.replica_chain.proofs.node.Node.take_piece.Goals as goal
 
 -- ---- the piece is too much
@@ -212,3 +213,18 @@ returns-in_err-self-clause-contents_reached g c = c.take_groups.ensures.contents
 
 pub returns-clause-contents_reached : goal.returns-clause-contents_reached
 returns-clause-contents_reached g c = c.take_groups.ensures.contents_reached
+
+pub returns-then-size-self-clause-keeps : goal.returns-then-size-self-clause-keeps
+returns-then-size-self-clause-keeps g c = keeps_first g.D.Disk.says g.met.D.Disk.only_now c.args.self.now.archive
+
+pub returns-in_err-text-clause-keeps : goal.returns-in_err-text-clause-keeps
+returns-in_err-text-clause-keeps g c = keeps_first g.D.Disk.says g.met.D.Disk.only_now c.args.self.now.archive
+
+pub returns-in_err-count-clause-keeps : goal.returns-in_err-count-clause-keeps
+returns-in_err-count-clause-keeps g c = c.take_groups.ensures.keeps
+
+pub returns-in_err-self-clause-keeps : goal.returns-in_err-self-clause-keeps
+returns-in_err-self-clause-keeps g c = c.take_groups.ensures.keeps
+
+pub returns-clause-keeps : goal.returns-clause-keeps
+returns-clause-keeps g c = c.take_groups.ensures.keeps

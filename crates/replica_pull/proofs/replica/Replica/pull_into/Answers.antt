@@ -1,4 +1,5 @@
 use Rattle.std.proofs.Common.{inr}
+use Rattle.outside_api.specs.Reaching.{once}
 use Rattle.journal_groups.specs.declared.moved.Moved.{Moved}
 use Rattle.replica_pull.specs.declared.fault.PullFault.{PullFault}
 use Rattle.replica_pull.specs.Replica.{HasMoved, IsStopped}
@@ -31,3 +32,9 @@ returns-clause-cause g c = record {
 
 pub returns-clause-grows : goal.returns-clause-grows
 returns-clause-grows g c = λ before told. let more = c.fetch.ensures.grows before told in (more.0, (more.1, inr more.2))
+
+pub returns-in_err-fetched-clause-reached : goal.returns-in_err-fetched-clause-reached
+returns-in_err-fetched-clause-reached g c = once c.fetch.ensures.keeps
+
+pub returns-clause-reached : goal.returns-clause-reached
+returns-clause-reached g c = once c.fetch.ensures.keeps
