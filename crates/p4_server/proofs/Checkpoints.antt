@@ -23,7 +23,7 @@ use Rattle.end_lines.specs.Lines.{cause_line, generation_line}
 use Rattle.end_lines.specs.Telling.{OutGot}
 use Rattle.end_lines.specs.declared.cause.Cause.TheVariants as causes
 use Rattle.p4_server.specs.Checkpoint.{Checkpoints, IsInDoubt, IsLine, IsPlaced, IsTaken, IsUntaken}
-use Rattle.p4_server.specs.Files.{IsStart, DiskRose, HasOpened}
+use Rattle.p4_server.specs.Files.{IsStart, DiskRose, DisksStand, HasOpened}
 use Rattle.p4_server.specs.Opening.{IsUnopened}
 use Rattle.p4_server.specs.Outside.{After, Before}
 use Rattle.p4_server.specs.Telling.{IsUnrun}
@@ -45,23 +45,26 @@ module _ {D S K : Type 0} (disk_says : DiskSays D) (sink_says : SinkSays K) (may
   checkpoints_unopened unopened = record {
     ends = inl unopened;
     fault = λ is. inl (fault_of_unopened disk_says sink_says before after unopened.why is);
+    stand = unopened.stand;
     complete = λ d start quiet. inr (complete_of_unopened disk_says sink_says before after unopened.why d start (λ rose. quiet (inl rose)));
   }
 
-  pub checkpoints_untaken : IsUntaken disk_says sink_says may_give before after → Promised
-  checkpoints_untaken untaken = record {
+  pub checkpoints_untaken : IsUntaken disk_says sink_says may_give before after → DisksStand disk_says before after → Promised
+  checkpoints_untaken untaken stood = record {
     ends = inr (inl untaken);
     fault = λ is. (let clash : causes.Memory ≡ causes.Fault = sym untaken.cause_is ∙ is in absurd cc);
+    stand = λ other. stood;
     complete = λ d start quiet. inr untaken.cause_is;
   }
 
-  pub checkpoints_taken : IsTaken disk_says sink_says may_give before after → Promised
-  checkpoints_taken taken = record {
+  pub checkpoints_taken : IsTaken disk_says sink_says may_give before after → DisksStand disk_says before after → Promised
+  checkpoints_taken taken stood = record {
     ends = inr (inr (inl taken));
     fault = λ is. elim taken.line [
       | inl done ↦ (let clash : causes.Done ≡ causes.Fault = sym done.0 ∙ is in absurd cc)
       | inr failed ↦ inr failed.1
     ];
+    stand = λ other. stood;
     complete = λ d start quiet. elim taken.line [ inl done ↦ inl done.0 | inr failed ↦ absurd (quiet (inr failed.1)) ];
   }
 
@@ -69,6 +72,7 @@ module _ {D S K : Type 0} (disk_says : DiskSays D) (sink_says : SinkSays K) (may
   checkpoints_in_doubt doubt = record {
     ends = inr (inr (inr doubt));
     fault = λ is. inl doubt.risen;
+    stand = λ other. absurd (other doubt.cause_is);
     complete = λ d start quiet. absurd (quiet (inl doubt.risen));
   }
 

@@ -10,7 +10,7 @@ use Rattle.recovery.specs.Holding.{Hold}
 use Rattle.depot_rows.specs.table_changes.Changed.{AllRows}
 use Rattle.end_lines.specs.declared.cause.Cause.TheVariants as causes
 use Rattle.p4_server.specs.Dump.{IsPrinted, Dumps}
-use Rattle.p4_server.specs.Files.{IsStart, DiskOrOutRose, BothSynced}
+use Rattle.p4_server.specs.Files.{IsStart, DiskOrOutRose, DisksStand, BothSynced}
 use Rattle.p4_server.specs.Opening.{IsUnopened}
 use Rattle.p4_server.specs.Outside.{After, Before}
 use Rattle.p4_server.specs.Telling.{IsUnrun}
@@ -25,6 +25,7 @@ module _ {D S K : Type 0} (disk_says : DiskSays D) (sink_says : SinkSays K) (bef
   dumps_unopened unopened = record {
     ends = inl unopened;
     fault = λ is. inl (fault_of_unopened disk_says sink_says before after unopened.why is);
+    stand = unopened.stand;
     complete = λ d start quiet. inr (complete_of_unopened disk_says sink_says before after unopened.why d start (λ rose. quiet (inl rose)));
   }
 
@@ -41,8 +42,8 @@ module _ {D S K : Type 0} (disk_says : DiskSays D) (sink_says : SinkSays K) (bef
   pub dumps_opened : (rows : AllRows) → IsUnrun after.ended → IsPrinted sink_says before.out after.out after.ended rows
       → ((files : Files) → disk_says.seen before.journal files → Hold files rows) → ((j a : Files) → disk_says.seen before.journal j → disk_says.seen before.archive a → HoldWhole j a rows) → ((d : List Deed) → IsStart disk_says before.journal before.archive d → Stand rows d)
       → BothSynced disk_says before after → NoMore (disk_says.seen before.journal) (disk_says.may_leave after.ended.journal) → NoMore (disk_says.seen before.archive) (disk_says.may_leave after.ended.archive) → LeavesOnly disk_says before.journal after.ended.journal (disk_says.may_leave before.journal) → LeavesOnly disk_says before.archive after.ended.archive (disk_says.may_leave before.archive)
-      → Dumps disk_says sink_says before after
-  dumps_opened rows unrun printed held whole stand synced journal_images archive_images any_moment archive_any_moment = record {
+      → DisksStand disk_says before after → Dumps disk_says sink_says before after
+  dumps_opened rows unrun printed held whole stand synced journal_images archive_images any_moment archive_any_moment stood = record {
     ends = inr (record {
       unrun = unrun;
       rows = rows;
@@ -57,5 +58,6 @@ module _ {D S K : Type 0} (disk_says : DiskSays D) (sink_says : SinkSays K) (bef
       archive_any_moment = archive_any_moment;
     });
     fault = fault_of_printed rows printed;
+    stand = λ other. stood;
     complete = λ d start quiet. complete_of_printed rows printed quiet;
   }

@@ -3,7 +3,7 @@ use Rattle.std.proofs.Common.{◌≡◌, ◌≤◌, ◌+◌, ℕ, zero, suc, Boo
 use Rattle.std.proofs.lemmas.List.Sums.{sum_by-cons}
 use Rattle.outside_api.specs.Count.{HasRisen}
 use Rattle.depot_rows.specs.depot_model.declared.order.Place.{Place}
-use Rattle.session_loop.specs.Served.{AreCaused, fault_count}
+use Rattle.session_loop.specs.Served.{AreCaused, StandWithoutFaults, fault_count}
 use Rattle.p4_server.specs.Ends.{has_fault_place}
 
 fault_counted_here : (place : Place) (order : List Place) (b : Bool) → place.fault ≡ b → (has_fault_place order ≡ true → 1 ≤ fault_count order) → has_fault_place (place ∷ order) ≡ true → 1 ≤ fault_count (place ∷ order)
@@ -34,3 +34,21 @@ pub caused_since : (before opened now contents_before contents_opened contents_n
     → AreCaused opened now contents_opened contents_now [] order → AreCaused before now contents_before contents_now [] order
 caused_since before opened now contents_before contents_opened contents_now order le contents_le (n, m, count, risen, contents_risen) =
     (n, m, count, omega (arith, le, risen), omega (arith, contents_le, contents_risen))
+
+-- ---- counts that stand
+
+none_counted_here : (place : Place) (order : List Place) (b : Bool) → place.fault ≡ b → (has_fault_place order ≡ false → fault_count order ≡ 0) → has_fault_place (place ∷ order) ≡ false → fault_count (place ∷ order) ≡ 0
+none_counted_here place order true is rest e = let clash : true ≡ false = rw is at e in absurd cc
+none_counted_here place order false is rest e = rw is (rest (rw is at e))
+
+none_counted : (order : List Place) → has_fault_place order ≡ false → fault_count order ≡ 0
+none_counted [] e = refl
+none_counted (place ∷ order) e = none_counted_here place order place.fault refl (none_counted order) e
+
+-- where no place is a fault, the disks that are left have the counts from which they began
+pub stand_left : {D : Type 0} (faults : D → ℕ) {before contents_before opened contents_opened : ℕ} {journal archive left left_archive : D} {order told : List Place} → left ≡ journal → left_archive ≡ archive → told ≡ order
+    → (opened ≡ before) × (contents_opened ≡ contents_before) → StandWithoutFaults opened (faults journal) contents_opened (faults archive) [] order → has_fault_place told ≡ false
+    → (faults left ≡ before) × (faults left_archive ≡ contents_before)
+stand_left faults {order = order} journal_is archive_is order_is first stand none =
+    let stood = stand (none_counted order (ap has_fault_place (sym order_is) ∙ none)) in
+    (ap faults journal_is ∙ (stood.0 ∙ first.0), ap faults archive_is ∙ (stood.1 ∙ first.1))

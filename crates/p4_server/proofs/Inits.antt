@@ -62,8 +62,9 @@ module _ {D S K : Type 0} (disk_says : DiskSays D) (sink_says : SinkSays K) (bef
       → Follows IsMaking (disk_says.may_leave before.journal) (disk_says.may_leave left_journal)
       → LeavesOnly disk_says before.journal left_journal (AfterStep IsMaking (disk_says.may_leave before.journal))
       → Same (disk_says.seen before.archive) (disk_says.seen left_archive) ⊎ ((made ≡ Err DiskFault) × HasRisen (disk_says.faults before.archive) (disk_says.faults left_archive))
+      → (made ≢ Err DiskFault → (disk_says.faults left_journal ≡ disk_says.faults before.journal) × (disk_says.faults left_archive ≡ disk_says.faults before.archive))
       → Inits disk_says sink_says before after
-  inits_of made told is stand unmade there untouched others causes images any_moment reads = record {
+  inits_of made told is stand unmade there untouched others causes images any_moment reads unfailed = record {
     told = told;
     ends = ends_of made is stand unmade there untouched others causes;
     disks = record {
@@ -72,4 +73,7 @@ module _ {D S K : Type 0} (disk_says : DiskSays D) (sink_says : SinkSays K) (bef
       archive_looks = rw archive_is looks;
       archive_reads = elim reads [ inl same ↦ inl (rw archive_is same) | inr failed ↦ inr (is ∙ ap cause_by failed.0, rw archive_is failed.1) ];
     };
+    stand = λ other.
+        let stood = unfailed (λ failed. other (is ∙ ap cause_by failed)) in
+        record { journal = ap disk_says.faults journal_is ∙ stood.0; archive = ap disk_says.faults archive_is ∙ stood.1 };
   }

@@ -26,7 +26,7 @@ use Rattle.end_lines.specs.Telling.{OutGot}
 use Rattle.end_lines.specs.declared.cause.Cause.{Cause}
 use Rattle.end_lines.specs.declared.cause.Cause.TheVariants as causes
 use Rattle.p4_server.specs.Ends.{has_fault_place}
-use Rattle.p4_server.specs.Files.{IsStart, DiskOrOutRose, DiskRose, HasOpened}
+use Rattle.p4_server.specs.Files.{IsStart, DiskOrOutRose, DiskRose, DisksStand, HasOpened}
 use Rattle.p4_server.specs.Opening.{IsUnopened}
 use Rattle.p4_server.specs.Load.{AreKept, IsBegun, IsLoadRun, IsUnbegun, IsLoadTold, IsUnloaded, Loads, LoadsFiles, WereMade, WereThere, depot_after, end_cause, figures_in, load_cause, load_commands}
 use Rattle.p4_server.specs.Outside.{After, Before}
@@ -76,6 +76,12 @@ module _ (before now : Option (List ℕ)) (faults_before faults_now : ℕ) (are 
   blamed true false Whole read (inr memory) is = let clash : causes.Memory ≡ causes.Fault = sym memory ∙ is in absurd cc
   blamed true false (Fault fault) read told is = let clash : causes.Script ≡ causes.Fault = sym told.0 ∙ is in absurd cc
   blamed true false ReadFault read told is = absurd (read refl)
+
+  -- where all is done no place is a fault
+  none_failed : (each fault : Bool) (end : ScriptEnd) → Told each fault end → cause ≡ causes.Done → fault ≡ false
+  none_failed false fault end told is = let clash : causes.Memory ≡ causes.Done = sym told.0 ∙ is in absurd cc
+  none_failed true true end told is = let clash : causes.Fault ≡ causes.Done = sym told.0 ∙ is in absurd cc
+  none_failed true false end told is = refl
 
   completed : (each fault : Bool) (end : ScriptEnd) → end ≡ Whole → Told each fault end → ¬ (fault ≡ true) → ¬ HasRisen faults_before faults_now → (cause ≡ causes.Done) ⊎ (cause ≡ causes.Memory)
   completed false fault end whole told place out = inr told.0
@@ -142,6 +148,7 @@ module _ {D S K : Type 0} (disk_says : DiskSays D) (sink_says : SinkSays K) (may
     no_parties = (unopened.told.unrun.parties_are, unopened.told.unrun.sources_are);
     no_usage = unopened_usage unopened;
     fault = λ is. inl (fault_of_unopened disk_says sink_says before after unopened.why is);
+    stand = λ is. unopened.stand (λ failed. let clash : causes.Done ≡ causes.Fault = sym is ∙ failed in cc);
     complete = λ d start few quiet. inr (complete_of_unopened disk_says sink_says before after unopened.why d start (λ rose. quiet (inl rose)));
   }
 
@@ -151,14 +158,15 @@ module _ {D S K : Type 0} (disk_says : DiskSays D) (sink_says : SinkSays K) (may
     no_parties = (unloaded.told.unrun.parties_are, unloaded.told.unrun.sources_are);
     no_usage = λ is. let clash : causes.Memory ≡ causes.Usage = sym unloaded.cause_is ∙ is in absurd cc;
     fault = λ is. let clash : causes.Memory ≡ causes.Fault = sym unloaded.cause_is ∙ is in absurd cc;
+    stand = λ is. let clash : causes.Memory ≡ causes.Done = sym unloaded.cause_is ∙ is in absurd cc;
     complete = λ d start few quiet. inr unloaded.cause_is;
   }
 
   rose : Ran → has_fault_place after.ended.order ≡ true → DiskRose disk_says before after
   rose run place = place_rose after.ended.order (disk_says.faults before.journal) (disk_says.faults after.ended.journal) (disk_says.faults before.archive) (disk_says.faults after.ended.archive) run.fault_places place
 
-  pub loads_run : Ran → (after.ended.parties ≡ []) × (after.ended.sources ≡ []) → Promised
-  loads_run run no_parties =
+  pub loads_run : Ran → (after.ended.parties ≡ []) × (after.ended.sources ≡ []) → (has_fault_place after.ended.order ≡ false → DisksStand disk_says before after) → Promised
+  loads_run run no_parties stands =
       let each = eqb (length after.ended.order) (load_commands seed count) in
       let fault = has_fault_place after.ended.order in
       record {
@@ -169,6 +177,7 @@ module _ {D S K : Type 0} (disk_says : DiskSays D) (sink_says : SinkSays K) (may
           | inl place ↦ inl (rose run place)
           | inr risen ↦ inr risen
         ];
+        stand = λ is. stands (none_failed (sink_says.given before.out) (sink_says.given after.out) (sink_says.faults before.out) (sink_says.faults after.out) _ after.ended.cause each fault run.end run.told is);
         complete = λ d start few quiet. completed (sink_says.given before.out) (sink_says.given after.out) (sink_says.faults before.out) (sink_says.faults after.out) _ after.ended.cause each fault run.end
             (whole_again (script_of seed count) (load_session seed count) run.end run.read (load_scripts_whole seed count few).0) run.told (λ place. quiet (inl (rose run place))) (λ risen. quiet (inr risen));
       }
@@ -249,11 +258,13 @@ module _ {D S K : Type 0} (disk_says : DiskSays D) (sink_says : SinkSays K) (may
   since_begun begun (inl rose) = inl (rose_since (disk_says.faults before.journal) (disk_says.faults begun.made_journal) (disk_says.faults after.ended.journal) (disk_says.faults before.archive) (disk_says.faults begun.made_archive) (disk_says.faults after.ended.archive) begun.counts.0 begun.counts.1 rose)
   since_begun begun (inr risen) = inr risen
 
-  pub loads_begun : IsBegun disk_says sink_says may_give before after seed count → Load
-  loads_begun begun = record {
+  pub loads_begun : (begun : IsBegun disk_says sink_says may_give before after seed count)
+      → (disk_says.faults begun.made_journal ≡ disk_says.faults before.journal) × (disk_says.faults begun.made_archive ≡ disk_says.faults before.archive) → Load
+  loads_begun begun making = record {
     ends = inr begun;
     no_usage = begun.loads.no_usage;
     fault = λ is. since_begun begun (begun.loads.fault is);
+    stand = λ is. let stood = begun.loads.stand is in record { journal = stood.journal ∙ making.0; archive = stood.archive ∙ making.1 };
     complete = λ d start few quiet. begun.loads.complete d (begun_there begun begun.files d start) few (λ rose. quiet (since_begun begun rose));
   }
 
@@ -262,5 +273,6 @@ module _ {D S K : Type 0} (disk_says : DiskSays D) (sink_says : SinkSays K) (may
     ends = inl unbegun;
     no_usage = λ is. let clash : causes.Fault ≡ causes.Usage = sym unbegun.cause_is ∙ is in absurd cc;
     fault = λ is. inl unbegun.risen;
+    stand = λ is. let clash : causes.Fault ≡ causes.Done = sym unbegun.cause_is ∙ is in absurd cc;
     complete = λ d start few quiet. absurd (quiet (inl unbegun.risen));
   }

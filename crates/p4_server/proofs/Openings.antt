@@ -1,5 +1,5 @@
 -- What the faults of opening lead to.
-use Rattle.std.proofs.Common.{◌≡◌, ◌≢◌, ◌⊎◌, List, length, refl, sym, ◌∙◌, inl, inr, ⊎_elim, arith}
+use Rattle.std.proofs.Common.{◌≡◌, ◌≢◌, ◌⊎◌, List, length, refl, sym, ap, ◌∙◌, inl, inr, ⊎_elim, arith}
 use Rattle.outside_api.specs.Disk.{Files, NoMore}
 use Rattle.outside_api.specs.Moments.{LeavesOnly}
 use Rattle.outside_api.specs.Says.{DiskSays, SinkSays}
@@ -78,8 +78,9 @@ module _ {D S K : Type 0} (disk_says : DiskSays D) (sink_says : SinkSays K) (bef
       → ((j a : Files) → disk_says.seen before.journal j → disk_says.seen before.archive a → Tells (IsDamage j a) fault)
       → AreCauses (disk_says.faults before.journal) (disk_says.faults left_journal) (disk_says.faults before.archive) (disk_says.faults left_archive) (fault ≡ DiskFault)
       → (fault ≢ DiskFault → HasSynced disk_says before.journal left_journal × HasSynced disk_says before.archive left_archive)
+      → (fault ≢ DiskFault → (disk_says.faults left_journal ≡ disk_says.faults before.journal) × (disk_says.faults left_archive ≡ disk_says.faults before.archive))
       → IsUnopened disk_says sink_says before after
-  unopened_of fault told is journal_images archive_images any_moment archive_any_moment unmade exactly stands damaged causes synced = record {
+  unopened_of fault told is journal_images archive_images any_moment archive_any_moment unmade exactly stands damaged causes synced unfailed = record {
     told = told;
     journal_images = rw journal_is journal_images;
     archive_images = rw archive_is archive_images;
@@ -87,6 +88,9 @@ module _ {D S K : Type 0} (disk_says : DiskSays D) (sink_says : SinkSays K) (bef
     archive_any_moment = rw archive_is archive_any_moment;
     why = why_of disk_says sink_says before after fault is unmade exactly stands damaged (rw (journal_is, archive_is) causes)
         (λ other. let both = synced other in record { journal = rw journal_is both.0; archive = rw archive_is both.1 });
+    stand = λ other.
+        let stood = unfailed (λ failed. other (is ∙ ap cause_by failed)) in
+        record { journal = ap disk_says.faults journal_is ∙ stood.0; archive = ap disk_says.faults archive_is ∙ stood.1 };
   }
 
 -- a crash leaves what a disk that was only read and synced read at the start

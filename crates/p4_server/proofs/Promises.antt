@@ -1,5 +1,5 @@
 -- What the ends of the parties give to the promise.
-use Rattle.std.proofs.Common.{◌≡◌, ℕ, ◌+◌, Bool, true, false, cond, ◌||◌, List, [], ◌++◌, length, Option, Some, None, refl, sym, ap, ◌∙◌, arith, inl, inr, ◌⊎◌}
+use Rattle.std.proofs.Common.{◌≡◌, ◌≢◌, ℕ, ◌+◌, Bool, true, false, cond, ◌||◌, List, [], ◌++◌, length, Option, Some, None, refl, sym, ap, ◌∙◌, arith, inl, inr, ◌⊎◌}
 use Rattle.std.specs.Prelude.{All, slice_get}
 use Rattle.std.proofs.lemmas.List.{append-nil}
 use Rattle.std.proofs.lemmas.List.Folds.{Any-from_list_any, list_any_none}
@@ -20,17 +20,21 @@ use Rattle.end_lines.specs.declared.cause.Cause.{Cause}
 use Rattle.end_lines.specs.declared.cause.Cause.TheVariants as causes
 use Rattle.p4_server.specs.declared.ended.Ended.{Ended}
 use Rattle.p4_server.specs.declared.ended.PartyEnd.{PartyEnd}
+use Rattle.p4_server.specs.declared.party.NotRun.{NotRun}
+use Rattle.p4_server.specs.declared.party.NotRun.TheVariants.{Doors, Memory}
 use Rattle.p4_server.specs.Ends.{ends_cause, is_failed, is_faulty, party_end, has_fault_place, has_failed_party, has_faulty_party}
 use Rattle.p4_server.specs.Headline.{IsPartyEnd, Ordering}
 use Rattle.p4_server.specs.Lines.{run_lines, place_lines, end_lines, fault_line}
 use Rattle.p4_server.specs.Opening.{IsUnopened}
 use Rattle.p4_server.specs.Outside.{After, Before, Outside}
 use Rattle.p4_server.specs.Parties.{OnlyTheseCome}
-use Rattle.p4_server.specs.Runs.{IsShut, IsRun, IsWhole, RunsParties, SomeRose}
+use Rattle.p4_server.specs.Runs.{IsShut, IsRun, IsWhole, RunsParties, SomeRose, unrun_cause}
 use Rattle.p4_server.proofs.FaultPlaces.{place_rose}
 use Rattle.p4_server.proofs.Openings.{fault_of_unopened, complete_of_unopened}
 use Rattle.p4_server.proofs.Together.{all_at, all_of, any_of, there}
-use Rattle.p4_server.specs.Telling.{IsTold}
+use Rattle.p4_server.specs.Schedule.{Schedules}
+use Rattle.p4_server.specs.Telling.{IsReport, IsTold, IsUntold}
+use Rattle.session_turns.specs.Drawn.{IsDrawn}
 
 -- ---- lines
 
@@ -69,6 +73,31 @@ of_fault false false false false e = absurd cc
 -- without any of these all is done
 all_done : (lost place failed faulty : Bool) → lost ≡ false → place ≡ false → failed ≡ false → faulty ≡ false → cond (lost || (place || failed)) causes.Fault (cond faulty causes.Script causes.Done) ≡ causes.Done
 all_done lost place failed faulty a b c d = rw (a, b, c, d) refl
+
+pub not_fault : (cause : Cause) → (cause ≡ causes.Done) ⊎ (cause ≡ causes.Script) → cause ≢ causes.Fault
+not_fault cause (inl done) is = let clash : causes.Done ≡ causes.Fault = sym done ∙ is in cc
+not_fault cause (inr script) is = let clash : causes.Script ≡ causes.Fault = sym script ∙ is in cc
+
+none_failed : (lost place failed faulty : Bool) (cause : Cause) → cause ≡ cond (lost || (place || failed)) causes.Fault (cond faulty causes.Script causes.Done) → (cause ≡ causes.Done) ⊎ (cause ≡ causes.Script) → (lost ≡ false) × (place ≡ false)
+none_failed true place failed faulty cause is whole = absurd (not_fault cause whole is)
+none_failed false true failed faulty cause is whole = absurd (not_fault cause whole is)
+none_failed false false failed faulty cause is whole = (refl, refl)
+
+-- where all is done, or no more than a script has a fault, no replica was told of a failed disk and no place is a fault
+pub whole_told : {D S K : Type 0} (sink_says : SinkSays K) (old_out new_out : K) (ended : Ended D S K) (order : List Place) (parties : List (PartyEnd K)) (sources : List S) (lost : Bool)
+    → IsReport sink_says old_out new_out ended order parties sources lost ⊎ IsUntold ended → (ended.cause ≡ causes.Done) ⊎ (ended.cause ≡ causes.Script) → (lost ≡ false) × (has_fault_place ended.order ≡ false)
+whole_told sink_says old_out new_out ended order parties sources lost (inl report) whole = elim report.told.is [
+  | inl all ↦ none_failed lost (has_fault_place ended.order) (has_failed_party ended.parties) (has_faulty_party ended.parties) ended.cause all.0 whole
+  | inr front ↦ absurd (not_fault ended.cause whole front.0)
+]
+whole_told sink_says old_out new_out ended order parties sources lost (inr untold) (inl done) = let clash : causes.Memory ≡ causes.Done = sym untold.cause_is ∙ done in absurd cc
+whole_told sink_says old_out new_out ended order parties sources lost (inr untold) (inr script) = let clash : causes.Memory ≡ causes.Script = sym untold.cause_is ∙ script in absurd cc
+
+-- parties that weren't run end so nowhere
+pub never_whole : (cause : Cause) (why : NotRun) → cause ≡ unrun_cause why → ¬ ((cause ≡ causes.Done) ⊎ (cause ≡ causes.Script))
+never_whole cause Doors is whole = not_fault cause whole is
+never_whole cause Memory is (inl done) = let clash : causes.Memory ≡ causes.Done = sym is ∙ done in cc
+never_whole cause Memory is (inr script) = let clash : causes.Memory ≡ causes.Script = sym is ∙ script in cc
 
 -- a party whose source or sink failed
 of_failed : (failed : Bool) (end : ScriptEnd) (input left : Option (List ℕ)) (before now : ℕ) (session : Option Session) (replica : Option ReplicaScript) → is_failed (party_end failed end) ≡ true → IsAsked input left before now session replica end → (failed ≡ true) ⊎ HasRisen before now
@@ -220,4 +249,12 @@ module _ {D S K H : Type 0} (outside : Outside D S K H) (old_doors new_doors : H
     doors = rw stay (record { inputs = λ other apart. refl; outputs = λ other apart. refl });
     fault = λ is. inr (inr (inl (fault_of_unopened outside.disk outside.sink before after unopened.why is)));
     complete = λ d start whole none. inr (complete_of_unopened outside.disk outside.sink before after unopened.why d start (λ rose. none (inr (inr (inl rose)))));
+  }
+
+module _ {D S K H : Type 0} (outside : Outside D S K H) (old_doors new_doors : H) (before : Before D K) (after : After D S K) (seed : ℕ) (names : List (List ℕ)) where
+  -- the turns of files that weren't opened
+  pub schedules_unopened : new_doors ≡ old_doors → IsUnopened outside.disk outside.sink before after → Schedules outside old_doors new_doors before after seed names
+  schedules_unopened stay unopened = record {
+    runs = parties_unopened outside old_doors new_doors before after (IsDrawn outside.may_give seed) names stay unopened;
+    stand = λ whole. unopened.stand (not_fault after.ended.cause whole);
   }

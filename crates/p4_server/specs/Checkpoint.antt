@@ -1,6 +1,6 @@
 -- What the mode `checkpoint` promises: it begins the next generation of the files, and asks for no rights (Command-Line Reference, "p4 admin"; that it
 -- is the first command of party 0 is this project's own choice).
-use Rattle.std.specs.Prelude.{◌≡◌, ◌⊎◌, ℕ, Bool, true, false, List, [], ◌∷◌}
+use Rattle.std.specs.Prelude.{◌≡◌, ◌≢◌, ◌⊎◌, ℕ, Bool, true, false, List, [], ◌∷◌}
 use Rattle.outside_api.specs.Count.{HasRisen}
 use Rattle.outside_api.specs.Disk.{Files}
 use Rattle.outside_api.specs.Says.{DiskSays, SinkSays}
@@ -14,7 +14,7 @@ use Rattle.end_lines.specs.Lines.{cause_line, generation_line}
 use Rattle.end_lines.specs.Telling.{OutGot}
 use Rattle.end_lines.specs.declared.cause.Cause.TheVariants as causes
 use Rattle.p4_server.specs.declared.ended.Ended.{Ended}
-use Rattle.p4_server.specs.Files.{IsStart, EachPair, HasOpened, DiskOrOutRose, DiskRose}
+use Rattle.p4_server.specs.Files.{IsStart, EachPair, HasOpened, DiskOrOutRose, DiskRose, DisksStand}
 use Rattle.p4_server.specs.Opening.{IsUnopened}
 use Rattle.p4_server.specs.Outside.{After, Before}
 use Rattle.p4_server.specs.Telling.{IsUnrun}
@@ -77,6 +77,8 @@ module _ {D S K : Type 0} (disk_says : DiskSays D) (sink_says : SinkSays K) (may
     pub ends : IsUnopened disk_says sink_says before after ⊎ (IsUntaken ⊎ (IsTaken ⊎ IsInDoubt))
     -- A fault comes only where a count of faults rose.
     pub fault : after.ended.cause ≡ causes.Fault → DiskOrOutRose disk_says sink_says before after
+    -- A count of the disks rises only where a fault is told.
+    pub stand : after.ended.cause ≢ causes.Fault → DisksStand disk_says before after
     -- Where a depot stands in the files and no count rises, all is done, or memory was wanting.
     pub complete : (d : List Deed) → IsStart disk_says before.journal before.archive d → ¬ DiskOrOutRose disk_says sink_says before after
         → (after.ended.cause ≡ causes.Done) ⊎ (after.ended.cause ≡ causes.Memory)

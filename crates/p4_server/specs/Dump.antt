@@ -1,5 +1,5 @@
 -- What the mode `dump` promises: it prints every row, and changes nothing.
-use Rattle.std.specs.Prelude.{◌≡◌, ◌⊎◌, List}
+use Rattle.std.specs.Prelude.{◌≡◌, ◌≢◌, ◌⊎◌, List}
 use Rattle.outside_api.specs.Count.{HasRisen}
 use Rattle.outside_api.specs.Disk.{Files, NoMore}
 use Rattle.outside_api.specs.Moments.{LeavesOnly}
@@ -14,7 +14,7 @@ use Rattle.depot_rows.specs.table_changes.Changed.{AllRows}
 use Rattle.wire_text.specs.Giving.{GotFront}
 use Rattle.end_lines.specs.declared.cause.Cause.TheVariants as causes
 use Rattle.p4_server.specs.declared.ended.Ended.{Ended}
-use Rattle.p4_server.specs.Files.{IsStart, DiskOrOutRose, BothSynced}
+use Rattle.p4_server.specs.Files.{IsStart, DiskOrOutRose, DisksStand, BothSynced}
 use Rattle.p4_server.specs.Opening.{IsUnopened}
 use Rattle.p4_server.specs.Outside.{After, Before}
 use Rattle.p4_server.specs.Rows.{tables_text}
@@ -45,6 +45,8 @@ module _ {D S K : Type 0} (disk_says : DiskSays D) (sink_says : SinkSays K) (bef
   pub record Dumps : Type 0 where
     pub ends : IsUnopened disk_says sink_says before after ⊎ IsDumped
     pub fault : after.ended.cause ≡ causes.Fault → DiskOrOutRose disk_says sink_says before after
+    -- A count of the disks rises only where a fault is told.
+    pub stand : after.ended.cause ≢ causes.Fault → DisksStand disk_says before after
     -- Where a depot stands in the files and no count rises, all is done, or memory was wanting.
     pub complete : (d : List Deed) → IsStart disk_says before.journal before.archive d → ¬ DiskOrOutRose disk_says sink_says before after
         → (after.ended.cause ≡ causes.Done) ⊎ (after.ended.cause ≡ causes.Memory)

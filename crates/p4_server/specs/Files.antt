@@ -1,5 +1,5 @@
 -- What the two disks of a depot hold before and after a run. A disk that doesn't tell what it holds reads as no files, and then these say nothing.
-use Rattle.std.specs.Prelude.{◌≢◌, ◌⊎◌, ℕ, List, length}
+use Rattle.std.specs.Prelude.{◌≡◌, ◌≢◌, ◌⊎◌, ℕ, List, length}
 use Rattle.outside_api.specs.Count.{HasRisen}
 use Rattle.outside_api.specs.Disk.{Files, NoMore}
 use Rattle.outside_api.specs.Says.{DiskSays, SinkSays}
@@ -46,6 +46,11 @@ module _ {D S K : Type 0} (disk_says : DiskSays D) (before : Before D K) (after 
   -- a count of the two disks has risen
   abbrev pub DiskRose : Type 0
   DiskRose = HasRisen (disk_says.faults before.journal) (disk_says.faults after.ended.journal) ⊎ HasRisen (disk_says.faults before.archive) (disk_says.faults after.ended.archive)
+
+  -- the counts of both disks stand
+  pub record DisksStand : Type 0 where
+    pub journal : disk_says.faults after.ended.journal ≡ disk_says.faults before.journal
+    pub archive : disk_says.faults after.ended.archive ≡ disk_says.faults before.archive
 
   -- Both disks read as before, and a crash leaves what they read.
   pub record BothSynced : Type 0 where

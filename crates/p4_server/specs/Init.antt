@@ -12,7 +12,7 @@ use Rattle.recovery.specs.declared.fault.MakeFault.{MakeFault}
 use Rattle.recovery.specs.declared.fault.MakeFault.TheVariants.{Made, DiskFault}
 use Rattle.end_lines.specs.declared.cause.Cause.{Cause}
 use Rattle.end_lines.specs.declared.cause.Cause.TheVariants as causes
-use Rattle.p4_server.specs.Files.{EachPair, DiskRose, BothOnlyRead}
+use Rattle.p4_server.specs.Files.{EachPair, DiskRose, DisksStand, BothOnlyRead}
 use Rattle.p4_server.specs.Outside.{After, Before}
 use Rattle.p4_server.specs.Telling.{IsToldAlone}
 
@@ -55,3 +55,5 @@ module _ {D S K : Type 0} (disk_says : DiskSays D) (sink_says : SinkSays K) (bef
     pub told : IsToldAlone sink_says before.out after.out after.ended
     pub ends : IsInited ⊎ (IsThere ⊎ IsFailed)
     pub disks : HasOnlyMade disk_says before.journal after.ended.journal before.archive after.ended.archive (after.ended.cause ≡ causes.Fault)
+    -- A count of the disks rises only where a fault is told.
+    pub stand : after.ended.cause ≢ causes.Fault → DisksStand disk_says before after

@@ -27,7 +27,7 @@ use Rattle.end_lines.specs.Telling.{OutGot}
 use Rattle.end_lines.specs.declared.cause.Cause.{Cause}
 use Rattle.end_lines.specs.declared.cause.Cause.TheVariants as causes
 use Rattle.p4_server.specs.Ends.{has_fault_place}
-use Rattle.p4_server.specs.Files.{IsStart, EachPair, HasOpened, PairIsKept, DiskOrOutRose, DiskRose, BothOnlyRead}
+use Rattle.p4_server.specs.Files.{IsStart, EachPair, HasOpened, PairIsKept, DiskOrOutRose, DiskRose, DisksStand, BothOnlyRead}
 use Rattle.p4_server.specs.Init.{HasOnlyMade}
 use Rattle.p4_server.specs.Opening.{IsUnopened}
 use Rattle.p4_server.specs.Outside.{After, Before}
@@ -116,6 +116,8 @@ module _ {D S K : Type 0} (disk_says : DiskSays D) (sink_says : SinkSays K) (may
     pub no_usage : after.ended.cause ≢ causes.Usage
     -- A fault comes only where a count rose.
     pub fault : after.ended.cause ≡ causes.Fault → DiskOrOutRose disk_says sink_says before after
+    -- Where all is done no count of the disks rose.
+    pub stand : after.ended.cause ≡ causes.Done → DisksStand disk_says before after
     -- Where a depot stands in the files, the steps are at most a million and no count rises, all is done, or memory was wanting.
     pub complete : (d : List Deed) → IsStart disk_says before.journal before.archive d → count ≤ 1000000 → ¬ DiskOrOutRose disk_says sink_says before after → (after.ended.cause ≡ causes.Done) ⊎ (after.ended.cause ≡ causes.Memory)
 
@@ -151,6 +153,8 @@ module _ {D S K : Type 0} (disk_says : DiskSays D) (sink_says : SinkSays K) (may
     pub no_usage : after.ended.cause ≢ causes.Usage
     -- A fault comes only where a count rose.
     pub fault : after.ended.cause ≡ causes.Fault → DiskOrOutRose disk_says sink_says before after
+    -- Where all is done no count of the disks rose.
+    pub stand : after.ended.cause ≡ causes.Done → DisksStand disk_says before after
     -- Where a depot stands in the files that are there, the steps are at most a million and no count rises, all is done, or memory was wanting.
     pub complete : (d : List Deed) → IsStart disk_says before.journal before.archive d → count ≤ 1000000
         → ¬ DiskOrOutRose disk_says sink_says before after

@@ -8,7 +8,7 @@ use Rattle.recovery.specs.Damage.{IsDamage}
 use Rattle.recovery.specs.declared.fault.DepotDisk.{DepotDisk}
 use Rattle.recovery.specs.Standing.{StandFor}
 use Rattle.end_lines.specs.declared.cause.Cause.TheVariants as causes
-use Rattle.p4_server.specs.Files.{DiskRose, BothSynced}
+use Rattle.p4_server.specs.Files.{DiskRose, DisksStand, BothSynced}
 use Rattle.p4_server.specs.Outside.{After, Before}
 use Rattle.p4_server.specs.Telling.{IsToldAlone}
 
@@ -35,7 +35,7 @@ module _ {D S K : Type 0} (disk_says : DiskSays D) (sink_says : SinkSays K) (bef
     pub cause_is : after.ended.cause ≡ causes.Fault
     pub risen : DiskRose disk_says before after
 
-  -- The files weren't opened, and each image, at every moment, is one that the disks had.
+  -- The files weren't opened, and each image, at every moment, is one that the disks had. A count of the disks rises only where a fault is told.
   pub record IsUnopened : Type 0 where
     pub told : IsToldAlone sink_says before.out after.out after.ended
     pub journal_images : NoMore (disk_says.may_leave before.journal) (disk_says.may_leave after.ended.journal)
@@ -43,3 +43,4 @@ module _ {D S K : Type 0} (disk_says : DiskSays D) (sink_says : SinkSays K) (bef
     pub any_moment : LeavesOnly disk_says before.journal after.ended.journal (disk_says.may_leave before.journal)
     pub archive_any_moment : LeavesOnly disk_says before.archive after.ended.archive (disk_says.may_leave before.archive)
     pub why : IsUnmade ⊎ (IsDamaged ⊎ (IsUnread ⊎ (after.ended.cause ≡ causes.Memory)))
+    pub stand : after.ended.cause ≢ causes.Fault → DisksStand disk_says before after

@@ -11,7 +11,7 @@ returns-in-Err-clause-checkpoints g c =
     let opens = c.in-Err.ensures in
     let end = c.end_unopened.ensures in
     checkpoints_unopened _ _ _ _ _ (unopened_of _ _ _ _ _ _ end.journal end.archive c.in-Err.found.fault end.told end.cause
-    opens.journal_looks.no_more opens.archive_looks.no_more opens.journal_looks.any_moment opens.archive_looks.any_moment opens.unmade opens.exactly (λ j a d j_reads a_reads stand. (opens.stands j a d j_reads a_reads stand).0) opens.damaged opens.cause opens.unopened)
+    opens.journal_looks.no_more opens.archive_looks.no_more opens.journal_looks.any_moment opens.archive_looks.any_moment opens.unmade opens.exactly (λ j a d j_reads a_reads stand. (opens.stands j a d j_reads a_reads stand).0) opens.damaged opens.cause opens.unopened opens.unfailed)
 
 pub returns-in-Err-orders_at-clause-checkpoints : goal.returns-in-Err-orders_at-clause-checkpoints
 returns-in-Err-orders_at-clause-checkpoints g c =
@@ -20,6 +20,8 @@ returns-in-Err-orders_at-clause-checkpoints g c =
     checkpoints_untaken _ _ _ _ _ (untaken_of _ _ _ _ _ c.in-Ok.opened opens.«open» opens.journal_synced opens.archive_synced g.met.D.Disk.reads_an_image g.met.D.Disk.only_now g.met.D.Disk.reads_one
     opens.exactly opens.whole opens.journal_looks opens.held (λ j a d j_reads a_reads stand. (opens.stands j a d j_reads a_reads stand).1)
     (end.archive ∙ c.into_disk-in-Err-orders_at.ensures) end.cause end.unrun (end.journal ∙ c.into_disk.ensures))
+    (let stood = opens.unfailed (λ no. no) in
+    record { journal = ap g.D.Disk.says.faults (end.journal ∙ c.into_disk.ensures) ∙ stood.0; archive = ap g.D.Disk.says.faults (end.archive ∙ c.into_disk-in-Err-orders_at.ensures) ∙ stood.1 })
 
 pub returns-in-Ok-taken-clause-checkpoints : goal.returns-in-Ok-taken-clause-checkpoints
 returns-in-Ok-taken-clause-checkpoints g c =
@@ -33,6 +35,8 @@ returns-in-Ok-taken-clause-checkpoints g c =
     (λ d image of_depot. c.take_checkpoint-taken.ensures.any_moment opening.0 d image opening.1.stands of_depot)
     (record { moment = c.now.result; by_clock = c.now.ensures; order_is = end.order ∙ c.in-Ok-orders_at.ensures.whole; parties_are = end.parties; sources_are = end.sources })
     c.in-Ok-taken.begun taken.number end.line (λ d image of_depot. taken.taken opening.0 d image opening.1.stands of_depot))
+    (let stood = opens.unfailed (λ no. no) in
+    record { journal = ap g.D.Disk.says.faults (end.journal ∙ c.into_disk-journal.ensures) ∙ (taken.only (λ e. cc) ∙ stood.0); archive = ap g.D.Disk.says.faults (end.archive ∙ c.into_disk-archive.ensures) ∙ stood.1 })
 
 pub returns-in-Err-taken-clause-checkpoints : goal.returns-in-Err-taken-clause-checkpoints
 returns-in-Err-taken-clause-checkpoints g c =
@@ -58,4 +62,9 @@ returns-in-Err-taken-clause-checkpoints g c =
     checkpoints_untaken _ _ _ _ _ (untaken_of _ _ _ _ _ c.in-Ok.opened opening opens.journal_synced opens.archive_synced g.met.D.Disk.reads_an_image g.met.D.Disk.only_now g.met.D.Disk.reads_one
     opens.exactly opens.whole opens.journal_looks opens.held (λ j a d j_reads a_reads stand. (opens.stands j a d j_reads a_reads stand).1)
     archive_is (end.memory is) (end.unrun is)
-    (journal_is ∙ ap (λ (journal : Journal g.row.D.Denot). disk_of journal) (taking.untouched (at ∙ ap Err is)))))
+    (journal_is ∙ ap (λ (journal : Journal g.row.D.Denot). disk_of journal) (taking.untouched (at ∙ ap Err is))))
+    (let stood = opens.unfailed (λ no. no) in
+    record {
+      journal = ap g.D.Disk.says.faults (journal_is ∙ ap (λ (journal : Journal g.row.D.Denot). disk_of journal) (taking.untouched (at ∙ ap Err is))) ∙ stood.0;
+      archive = ap g.D.Disk.says.faults archive_is ∙ stood.1;
+    }))

@@ -14,6 +14,7 @@ returns-in-Ok-clause-loads g c =
       counts = (made.cause.journal_never_falls, made.cause.archive_never_falls);
       loads = c.load_files.ensures.loads;
     })
+    (made.unfailed (λ e. cc))
 
 pub returns-in-Err-Made-clause-loads : goal.returns-in-Err-Made-clause-loads
 returns-in-Err-Made-clause-loads g c =
@@ -26,6 +27,7 @@ returns-in-Err-Made-clause-loads g c =
       counts = (there.cause.journal_never_falls, there.cause.archive_never_falls);
       loads = c.load_files-in-Err-Made.ensures.loads;
     })
+    (there.unfailed (λ e. cc))
 
 pub returns-in-Err-DiskFault-clause-loads : goal.returns-in-Err-DiskFault-clause-loads
 returns-in-Err-DiskFault-clause-loads g c =

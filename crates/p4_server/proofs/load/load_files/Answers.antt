@@ -3,6 +3,7 @@ use Rattle.archive_file.specs.Archive as archives
 use Rattle.disk_journal.specs.Stands.{disk_of}
 use Rattle.party_threads.specs.serial_depot.declared.depot.SerialDepot.{SerialDepot}
 use Rattle.depot_rows.specs.table_changes.Changed.{rows_of}
+use Rattle.p4_server.proofs.FaultPlaces.{stand_left}
 use Rattle.p4_server.proofs.Loadings.{load_kept, load_of, loads_run, loads_unloaded, loads_unopened}
 use Rattle.p4_server.proofs.Openings.{opened_of, unopened_of}
 use Rattle.p4_server.proofs.Scheduled.{begins, can_take}
@@ -18,7 +19,7 @@ returns-in-Err-clause-loads g c =
     let opens = c.in-Err.ensures in
     let end = c.end_unopened.ensures in
     loads_unopened _ _ (g.C.Clock.says.may_give c.args.clock.now) _ _ c.args.seed c.args.count (unopened_of _ _ _ _ _ _ end.journal end.archive c.in-Err.found.fault end.told end.cause
-    opens.journal_looks.no_more opens.archive_looks.no_more opens.journal_looks.any_moment opens.archive_looks.any_moment opens.unmade opens.exactly (λ j a d j_reads a_reads stand. (opens.stands j a d j_reads a_reads stand).0) opens.damaged opens.cause opens.unopened)
+    opens.journal_looks.no_more opens.archive_looks.no_more opens.journal_looks.any_moment opens.archive_looks.any_moment opens.unmade opens.exactly (λ j a d j_reads a_reads stand. (opens.stands j a d j_reads a_reads stand).0) opens.damaged opens.cause opens.unopened opens.unfailed)
 
 pub returns-in-Ok-run-clause-loads : goal.returns-in-Ok-run-clause-loads
 returns-in-Ok-run-clause-loads g c =
@@ -34,6 +35,12 @@ returns-in-Ok-run-clause-loads g c =
     (λ d start. run.loaded (g.D.Disk.says.moment opened) d (begins g.D.Disk.says c.args.journal c.args.archive c.in-Ok.opened c.new-depot.result c.new-depot.ensures opens.«open» opens.journal_synced opens.archive_synced g.met.D.Disk.reads_an_image g.met.D.Disk.only_now g.met.D.Disk.reads_one opens.held
     (λ j a d j_reads a_reads stand. (opens.stands j a d j_reads a_reads stand).1) d start))
     (rw c.new-depot.ensures opens.cause.journal_never_falls) (rw c.new-depot.ensures opens.cause.archive_never_falls) run.faults end.told) end.no_parties
+    (λ none.
+    let began = opens.unfailed (λ no. no) in
+    let stood = stand_left g.D.Disk.says.faults (end.journal ∙ closed.journal) (end.archive ∙ closed.archive) end.order
+    (ap (λ (depot : SerialDepot g.row.D.Denot). g.D.Disk.says.faults (disk_of depot.journal)) c.new-depot.ensures ∙ began.0, ap (λ (depot : SerialDepot g.row.D.Denot). g.D.Disk.says.faults (archives.disk_of depot.archive)) c.new-depot.ensures ∙ began.1)
+    run.stand none in
+    record { journal = stood.0; archive = stood.1 })
 
 pub returns-in-Err-run-clause-loads : goal.returns-in-Err-run-clause-loads
 returns-in-Err-run-clause-loads g c =

@@ -60,3 +60,6 @@ returns-in-Ok-run_sessions-clause-run g c = λ since start ran.
 
 pub returns-in-Ok-run_sessions-clause-faults : goal.returns-in-Ok-run_sessions-clause-faults
 returns-in-Ok-run_sessions-clause-faults g c = rw c.from_vec.ensures c.in-Ok-run_sessions.ensures.faults
+
+pub returns-in-Ok-run_sessions-clause-stand : goal.returns-in-Ok-run_sessions-clause-stand
+returns-in-Ok-run_sessions-clause-stand g c = rw c.from_vec.ensures c.in-Ok-run_sessions.ensures.stand
