@@ -49,16 +49,16 @@ fn is_whole(pieces: &[Piece]) -> bool
 }
 
 impl ProtectLine {
-    /// Whether the line is for the caller.
+    /// Whether the line is for the caller. The name is looked at first: most lines name others, from any host.
     fn names(&self, who: &Who) -> bool
         ensures { result ≡ names_caller who.now self.now }
     {
         let name = self.name.as_bytes();
-        fits_name(self.host.as_bytes(), &who.host)
-            && match self.grantee {
-                Grantee::User => fits_name(name, &who.user),
-                Grantee::Group => fits_some_name(name, who.groups.as_slice()),
-            }
+        let named = match self.grantee {
+            Grantee::User => fits_name(name, &who.user),
+            Grantee::Group => fits_some_name(name, who.groups.as_slice()),
+        };
+        named && fits_name(self.host.as_bytes(), &who.host)
     }
 
     /// Whether it speaks of the need, as one that grants or as an exclusion.
