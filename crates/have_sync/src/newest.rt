@@ -1,4 +1,4 @@
-//! The newest revision of a file, and what a client has of it, by what was seen as the files were found, and from the place of the file before.
+//! The revision of a file that is chosen, and what a client has of it, by what was seen as the files were found, and from the place of the file before.
 
 ghost use Rattle.std.specs.Prelude.{◌≡◌, List, false, filter, IfOk, Ok};
 ghost use Rattle.std.specs.Option.{option_copied};
@@ -7,19 +7,21 @@ ghost use Rattle.depot_rows.specs.db_records.declared.key.Key.TheVariants as key
 ghost use Rattle.depot_rows.specs.db_records.declared.table.TableId.TheVariants as table_ids;
 ghost use Rattle.depot_rows.specs.table_changes.Changed.{AllRows, rows_of};
 ghost use Rattle.depot_rows.specs.depot_model.Arguments.{names as names_file};
+ghost use Rattle.depot_rows.specs.depot_model.Choice.{chosen};
 ghost use Rattle.depot_rows.specs.depot_model.Deeds.{Deed};
 ghost use Rattle.depot_rows.specs.depot_model.Latest.{have};
-ghost use Rattle.depot_rows.specs.depot_model.Revisions.{head, is_live_at as live_at};
 ghost use Rattle.depot_rows.specs.depot_model.Rules.{IsSound};
 ghost use Rattle.depot_rows.specs.Standing.{HasRows};
 ghost use Rattle.row_reads.specs.Found.{have_in};
 ghost use Rattle.named_files.specs.Listed.{files_of};
 ghost use Rattle.named_files.specs.Sets.{ShownReads};
+ghost use Rattle.newest_revisions.specs.Newest.{IsAt};
+ghost use Rattle.revision_reads.specs.Choice.{HaveRows, wanted_tables};
 ghost use Rattle.have_sync.specs.Newest.{AreOf};
 
 use crate::place::Place;
-use depot_rows::model::FileArgument;
-use depot_rows::paths::{DepotPath, Name, Sequence, Text};
+use depot_rows::model::{Caller, FileArgument};
+use depot_rows::paths::{DepotPath, Name, Sequence, Text, Wanted};
 use depot_rows::records::{Key, Record, TableId};
 use depot_rows::tables::Tables;
 use named_files::ShownFiles;
@@ -60,19 +62,21 @@ impl<'a> Places<'a> {
         Ok(paths)
     }
 
-    /// The newest revision of a file: by its row, where that was seen behind those of the files before, or else by a search.
-    pub(crate) fn newest(
+    /// The revision that a file specification chooses of a file, and its row, as [`SeenRows::choice`] finds it.
+    pub(crate) fn choice(
         &mut self,
         alloc: Global,
-        tables: &Tables,
+        tables: &'a Tables,
+        caller: &Caller,
         path: &DepotPath,
-    ) -> Result<Revision, AllocError>
+        wanted: &Wanted,
+    ) -> Result<Option<Revision<'a>>, AllocError>
         ensures places { IfOk result (λ _. (rows : AllRows) → AreOf rows self.old → AreOf rows self.new) }
-        ensures newest { IfOk result (λ newest. (d : List Deed) → AreOf (rows_of tables.now) self.old → IsSound d → HasRows (rows_of tables.now) d table_ids.Rev →
-            (newest.rev ≡ head d path.now) × (newest.live ≡ live_at d path.now newest.rev)) }
+        ensures choice { IfOk result (λ found. (d : List Deed) → AreOf (rows_of tables.now) self.old → IsSound d → HasRows (rows_of tables.now) d table_ids.Rev →
+            HaveRows (rows_of tables.now) d (wanted_tables wanted.now) → IsAt d path.now (chosen d caller.now path.now wanted.now) found) }
     {
-        let newest = self.heads.newest(alloc, tables, path)?;
-        Ok(newest)
+        let found = self.heads.choice(alloc, tables, caller, path, wanted)?;
+        Ok(found)
     }
 
     /// The revision of a file that a client has, 0 where it has none. Where the files come in path order, its have list is passed in one walk.

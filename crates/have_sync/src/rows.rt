@@ -2,23 +2,20 @@
 
 ghost use Rattle.std.specs.Prelude.{◌≡◌, ◌++◌, List, IfOk, None, codes};
 ghost use Rattle.std.specs.Option.{option_copied};
-ghost use Rattle.depot_rows.specs.db_records.declared.table.TableId.TheVariants as table_ids;
-ghost use Rattle.depot_rows.specs.table_changes.Changed.{rows_of};
 ghost use Rattle.depot_rows.specs.depot_model.declared.request.Caller.{Caller};
 ghost use Rattle.depot_rows.specs.depot_model.Deeds.{Deed};
 ghost use Rattle.depot_rows.specs.depot_model.Rows.{if_any, number_field as field_of_number, path_field as field_of_path};
 ghost use Rattle.depot_rows.specs.depot_model.Steps.Syncing as model;
-ghost use Rattle.depot_rows.specs.Standing.{HasRows};
 ghost use Rattle.named_files.specs.Asked.{IsAsker};
+ghost use Rattle.newest_revisions.specs.Newest.{HasRow};
 ghost use Rattle.have_sync.specs.Syncing.{changed_row as row_of_change, size_in as size_in_row, sync_row_of};
 
 use depot_rows::model::Row;
 use depot_rows::paths::{ClientPath, DepotPath};
 use depot_rows::records::RevRecord;
-use depot_rows::tables::Tables;
 use named_files::Asker;
+use newest_revisions::Revision;
 use reply_rows::RowBuilder;
-use revision_reads::revision_of;
 use std::alloc::{AllocError, Global};
 
 /// With the place of a file in the client workspace, if it has one.
@@ -73,35 +70,20 @@ fn size_in(row: Option<&RevRecord>) -> Option<u64>
     }
 }
 
-/// The size of the content of a revision of a file in bytes, if it has one, from the table of revisions alone.
-fn size_of(
-    alloc: Global,
-    tables: &Tables,
-    path: &DepotPath,
-    rev: u32,
-) -> Result<Option<u64>, AllocError>
-    ensures { IfOk result (λ size. (d : List Deed) → HasRows (rows_of tables.now) d table_ids.Rev → size ≡ model.size_of d path.now rev) }
-{
-    let row = revision_of(alloc, tables, path, rev)?;
-    let size = size_in(row);
-    Ok(size)
-}
-
 /// The row of a file with a revision and its size.
 pub(crate) fn shown_row(
     alloc: Global,
-    tables: &Tables,
     asker: &Asker,
     path: &DepotPath,
-    rev: u32,
+    found: Revision<'_>,
     action: &[u8],
 ) -> Result<Row, AllocError>
-    ensures { IfOk result (λ row. (d : List Deed) (caller : Caller) → IsAsker d caller asker.now → HasRows (rows_of tables.now) d table_ids.Rev →
-        row ≡ model.sync_row d caller path.now rev action.now (model.size_of d path.now rev)) }
+    ensures { IfOk result (λ row. (d : List Deed) (caller : Caller) → IsAsker d caller asker.now → HasRow d path.now found.entry →
+        row ≡ model.sync_row d caller path.now found.entry.rev action.now (model.size_of d path.now found.entry.rev)) }
 {
     let place = asker.place(alloc, path)?;
-    let size = size_of(alloc, tables, path, rev)?;
-    let row = sync_row(alloc, path, &place, rev, action, size)?;
+    let size = size_in(found.row);
+    let row = sync_row(alloc, path, &place, found.rev, action, size)?;
     Ok(row)
 }
 
@@ -123,22 +105,21 @@ fn gone_row(
 /// The row of a file whose revision in the have list becomes another one, 0 for none.
 pub(crate) fn changed_row(
     alloc: Global,
-    tables: &Tables,
     asker: &Asker,
     path: &DepotPath,
     had: u32,
-    wanted: u32,
+    wanted: Revision<'_>,
     action: &[u8],
 ) -> Result<Row, AllocError>
-    ensures { IfOk result (λ row. (d : List Deed) (caller : Caller) → IsAsker d caller asker.now → HasRows (rows_of tables.now) d table_ids.Rev →
-        row ≡ row_of_change d caller path.now had wanted action.now) }
+    ensures { IfOk result (λ row. (d : List Deed) (caller : Caller) → IsAsker d caller asker.now → HasRow d path.now wanted.entry →
+        row ≡ row_of_change d caller path.now had wanted.entry.rev action.now) }
 {
-    let gone = wanted == 0;
+    let gone = wanted.rev == 0;
     if gone {
         let row = gone_row(alloc, asker, path, had, action)?;
         Ok(row)
     } else {
-        let row = shown_row(alloc, tables, asker, path, wanted, action)?;
+        let row = shown_row(alloc, asker, path, wanted, action)?;
         Ok(row)
     }
 }

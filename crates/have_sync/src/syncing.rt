@@ -7,11 +7,12 @@ ghost use Rattle.depot_rows.specs.table_changes.Changed.{AllRows, rows_of};
 ghost use Rattle.depot_rows.specs.depot_model.Choice as choices;
 ghost use Rattle.depot_rows.specs.depot_model.Choice.{chosen, shown as shown_in};
 ghost use Rattle.depot_rows.specs.depot_model.Deeds.{Deed, Opening};
-ghost use Rattle.depot_rows.specs.depot_model.Revisions.{head, is_live_at as live_at};
 ghost use Rattle.depot_rows.specs.depot_model.Rules.{IsSound};
 ghost use Rattle.depot_rows.specs.depot_model.Step.{Step as ModelStep};
 ghost use Rattle.depot_rows.specs.depot_model.Steps.Syncing as model;
 ghost use Rattle.depot_rows.specs.Standing.{HasRows};
+ghost use Rattle.named_files.specs.Asked.{IsAsker};
+ghost use Rattle.newest_revisions.specs.Newest.{HasRow};
 ghost use Rattle.reply_rows.specs.Made.{IsMade};
 ghost use Rattle.have_sync.specs.Newest.{AreOf};
 ghost use Rattle.have_sync.specs.Syncing.{Reads, get_step, owe_step, reaches as reaches_in};
@@ -28,10 +29,10 @@ use depot_rows::tables::Tables;
 use file_openings::opening_of;
 use file_steps::{WalkAct, named_among, walk_over_all, within_files};
 use named_files::{Asker, Listing, ShownFiles};
-use newest_revisions::{Revision, asks_for_none};
+use newest_revisions::Revision;
 use opening_reads::{held, owed_of};
 use reply_rows::{Step, denied_row};
-use revision_reads::{Chosen, chosen_of, is_live_at, shown_by};
+use revision_reads::shown_by;
 use std::alloc::{AllocError, Global};
 
 /// What `sync` does with a file.
@@ -61,28 +62,27 @@ fn sync_word(again: bool, had: u32, wanted: u32) -> Option<&'static [u8]>
 /// The step of a file whose revision in the have list becomes another one, or is fetched again.
 fn get(
     alloc: Global,
-    tables: &Tables,
     caller: &Caller,
     asker: &Asker,
     path: &DepotPath,
     had: u32,
-    wanted: u32,
+    wanted: Revision<'_>,
     word: &[u8],
 ) -> Result<Step, AllocError>
-    ensures { IfOk result (λ step. (d e : List Deed) → Reads caller.now asker.now (rows_of tables.now) d →
-        IsMade (rows_of tables.now) d e (get_step d caller.now path.now had wanted word.now) step) }
+    ensures { IfOk result (λ step. (all : AllRows) (d e : List Deed) → IsAsker d caller.now asker.now → HasRow d path.now wanted.entry →
+        IsMade all d e (get_step d caller.now path.now had wanted.entry.rev word.now) step) }
 {
     // the bytes of a path are one
     let _bytes = path.as_bytes();
-    let stays = had == wanted;
+    let stays = had == wanted.rev;
     if stays {
-        let told = changed_row(alloc, tables, asker, path, had, wanted, word)?;
+        let told = changed_row(alloc, asker, path, had, wanted, word)?;
         let again = Step::tells(alloc, told)?;
         return Ok(again);
     }
     let file = held(&caller.client, path)?;
-    let row = changed_row(alloc, tables, asker, path, had, wanted, word)?;
-    let step = Step::gets(alloc, file, wanted, row)?;
+    let row = changed_row(alloc, asker, path, had, wanted, word)?;
+    let step = Step::gets(alloc, file, wanted.rev, row)?;
     Ok(step)
 }
 
@@ -95,17 +95,17 @@ fn sync_have(
     again: bool,
     places: &mut Places<'_>,
     path: &DepotPath,
-    wanted: u32,
+    wanted: Revision<'_>,
 ) -> Result<Step, AllocError>
     ensures places { IfOk result (λ _. (rows : AllRows) → AreOf rows places.old → AreOf rows places.new) }
-    ensures step { IfOk result (λ step. (d e : List Deed) → Reads caller.now asker.now (rows_of tables.now) d → AreOf (rows_of tables.now) places.old →
-        IsMade (rows_of tables.now) d e (model.sync_have again d caller.now path.now wanted) step) }
+    ensures step { IfOk result (λ step. (d e : List Deed) → Reads caller.now asker.now (rows_of tables.now) d → AreOf (rows_of tables.now) places.old → HasRow d path.now wanted.entry →
+        IsMade (rows_of tables.now) d e (model.sync_have again d caller.now path.now wanted.entry.rev) step) }
 {
     let had = places.have(alloc, tables, &caller.client, path)?;
-    let said = sync_word(again, had, wanted);
+    let said = sync_word(again, had, wanted.rev);
     match said {
         Some(word) => {
-            let step = get(alloc, tables, caller, asker, path, had, wanted, word)?;
+            let step = get(alloc, caller, asker, path, had, wanted, word)?;
             Ok(step)
         }
         None => {
@@ -144,21 +144,20 @@ fn owing(client: &Name, path: &DepotPath, first: u32, last: u32) -> Result<Owing
 /// The step of an opened file that gets a resolve.
 fn owe(
     alloc: Global,
-    tables: &Tables,
     caller: &Caller,
     asker: &Asker,
     path: &DepotPath,
     base: u32,
-    rev: u32,
+    found: Revision<'_>,
 ) -> Result<Step, AllocError>
-    requires { base < rev }
-    ensures { IfOk result (λ step. (d e : List Deed) → Reads caller.now asker.now (rows_of tables.now) d →
-        IsMade (rows_of tables.now) d e (owe_step d caller.now path.now base rev) step) }
+    requires { base < found.rev }
+    ensures { IfOk result (λ step. (all : AllRows) (d e : List Deed) → IsAsker d caller.now asker.now → HasRow d path.now found.entry →
+        IsMade all d e (owe_step d caller.now path.now base found.entry.rev) step) }
 {
     // the bytes of a path are one
     let _bytes = path.as_bytes();
-    let owing = owing(&caller.client, path, base + 1, rev)?;
-    let row = shown_row(alloc, tables, asker, path, rev, b"owed")?;
+    let owing = owing(&caller.client, path, base + 1, found.rev)?;
+    let row = shown_row(alloc, asker, path, found, b"owed")?;
     let step = Step::owes(alloc, owing, row)?;
     Ok(step)
 }
@@ -171,23 +170,23 @@ fn sync_opened(
     asker: &Asker,
     path: &DepotPath,
     base: u32,
-    rev: u32,
+    found: Revision<'_>,
 ) -> Result<Step, AllocError>
-    ensures { IfOk result (λ step. (d e : List Deed) (o : Opening) → Reads caller.now asker.now (rows_of tables.now) d → o.base ≡ base →
-        IsMade (rows_of tables.now) d e (model.sync_opened d caller.now o path.now rev) step) }
+    ensures { IfOk result (λ step. (d e : List Deed) (o : Opening) → Reads caller.now asker.now (rows_of tables.now) d → HasRow d path.now found.entry → o.base ≡ base →
+        IsMade (rows_of tables.now) d e (model.sync_opened d caller.now o path.now found.entry.rev) step) }
 {
-    let current = rev <= base;
+    let current = found.rev <= base;
     if current {
         let nothing = Step::new(alloc);
         return Ok(nothing);
     }
     let row = owed_of(alloc, tables, &caller.client, path, path)?;
-    let owed = reaches(row, rev);
+    let owed = reaches(row, found.rev);
     if owed {
         let waits = Step::new(alloc);
         Ok(waits)
     } else {
-        let step = owe(alloc, tables, caller, asker, path, base, rev)?;
+        let step = owe(alloc, caller, asker, path, base, found)?;
         Ok(step)
     }
 }
@@ -210,27 +209,30 @@ fn is_shown(
     Ok(shown)
 }
 
-/// The revision that the client is to have where one is chosen, 0 for none, by whether the file isn't deleted there.
-fn wanted_rev(
+/// The revision that the client is to have where one is chosen: that one, or none where the file is deleted there or isn't shown.
+fn wanted_of<'t>(
     alloc: Global,
     tables: &Tables,
     caller: &Caller,
     asker: &Asker,
     argument: &FileArgument,
     path: &DepotPath,
-    found: Revision,
-) -> Result<u32, AllocError>
-    ensures { IfOk result (λ wanted. (d : List Deed) → Reads caller.now asker.now (rows_of tables.now) d → found.live ≡ live_at d path.now found.rev →
-        wanted ≡ model.wanted_rev d caller.now argument.now path.now found.rev) }
+    found: Revision<'t>,
+) -> Result<Revision<'t>, AllocError>
+    ensures rev { IfOk result (λ wanted. (d : List Deed) → Reads caller.now asker.now (rows_of tables.now) d → HasRow d path.now found.entry →
+        wanted.rev ≡ model.wanted_rev d caller.now argument.now path.now found.entry.rev) }
+    ensures row { IfOk result (λ wanted. (d : List Deed) → HasRow d path.now found.entry → HasRow d path.now wanted) }
 {
-    if !found.live {
-        return Ok(0);
+    let none = Revision { rev: 0, row: None };
+    let live = found.is_live();
+    if !live {
+        return Ok(none);
     }
     let shown = is_shown(alloc, tables, caller, asker, argument, path)?;
-    if shown { Ok(found.rev) } else { Ok(0) }
+    if shown { Ok(found) } else { Ok(none) }
 }
 
-/// What is done with a file where a revision is chosen, 0 for none, by whether it isn't deleted there.
+/// What is done with a file where a revision is chosen, 0 for none.
 fn sync_at(
     alloc: Global,
     tables: &Tables,
@@ -240,56 +242,34 @@ fn sync_at(
     places: &mut Places<'_>,
     argument: &FileArgument,
     path: &DepotPath,
-    found: Revision,
+    found: Revision<'_>,
 ) -> Result<Step, AllocError>
     ensures places { IfOk result (λ _. (rows : AllRows) → AreOf rows places.old → AreOf rows places.new) }
-    ensures step { IfOk result (λ step. (d e : List Deed) → Reads caller.now asker.now (rows_of tables.now) d → AreOf (rows_of tables.now) places.old → found.live ≡ live_at d path.now found.rev →
-        IsMade (rows_of tables.now) d e (model.sync_to again d caller.now argument.now path.now (choices.At found.rev)) step) }
+    ensures step { IfOk result (λ step. (d e : List Deed) → Reads caller.now asker.now (rows_of tables.now) d → AreOf (rows_of tables.now) places.old → HasRow d path.now found.entry →
+        IsMade (rows_of tables.now) d e (model.sync_to again d caller.now argument.now path.now (choices.At found.entry.rev)) step) }
 {
     let row = opening_of(alloc, tables, &caller.client, path)?;
     match row {
         Some(row) => {
-            let step = sync_opened(alloc, tables, caller, asker, path, row.base, found.rev)?;
+            let step = sync_opened(alloc, tables, caller, asker, path, row.base, found)?;
             Ok(step)
         }
         None => {
-            let wanted = wanted_rev(alloc, tables, caller, asker, argument, path, found)?;
+            let wanted = wanted_of(alloc, tables, caller, asker, argument, path, found)?;
             let step = sync_have(alloc, tables, caller, asker, again, places, path, wanted)?;
             Ok(step)
         }
     }
 }
 
-/// What is done with a file at its newest revision.
-fn sync_newest(
-    alloc: Global,
-    tables: &Tables,
-    caller: &Caller,
-    asker: &Asker,
-    again: bool,
-    places: &mut Places<'_>,
-    argument: &FileArgument,
-    path: &DepotPath,
-) -> Result<Step, AllocError>
-    ensures places { IfOk result (λ _. (rows : AllRows) → AreOf rows places.old → AreOf rows places.new) }
-    ensures step { IfOk result (λ step. (d e : List Deed) → Reads caller.now asker.now (rows_of tables.now) d → AreOf (rows_of tables.now) places.old →
-        IsMade (rows_of tables.now) d e (model.sync_to again d caller.now argument.now path.now (choices.At (head d path.now))) step) }
-{
-    let newest = places.newest(alloc, tables, path)?;
-    let step = sync_at(
-        alloc, tables, caller, asker, again, places, argument, path, newest,
-    )?;
-    Ok(step)
-}
-
 /// What is done with a file by the choice of the argument.
-fn sync_chosen(
+fn sync_to<'a>(
     alloc: Global,
-    tables: &Tables,
+    tables: &'a Tables,
     caller: &Caller,
     asker: &Asker,
     again: bool,
-    places: &mut Places<'_>,
+    places: &mut Places<'a>,
     argument: &FileArgument,
     path: &DepotPath,
 ) -> Result<Step, AllocError>
@@ -298,45 +278,18 @@ fn sync_chosen(
         IsMade (rows_of tables.now) d e
         (model.sync_to again d caller.now argument.now path.now (chosen d caller.now path.now argument.now.spec.wanted)) step) }
 {
-    let choice = chosen_of(alloc, tables, caller, path, &argument.spec.wanted)?;
+    let choice = places.choice(alloc, tables, caller, path, &argument.spec.wanted)?;
     match choice {
-        Chosen::PassedOver => {
-            let step = Step::new(alloc);
-            Ok(step)
-        }
-        Chosen::At(rev) => {
-            let live = is_live_at(alloc, tables, path, rev)?;
-            let found = Revision { rev, live };
+        Some(found) => {
             let step = sync_at(
                 alloc, tables, caller, asker, again, places, argument, path, found,
             )?;
             Ok(step)
         }
-    }
-}
-
-/// What is done with a file: at its newest revision where the argument asks for none, or else by its choice.
-fn sync_to(
-    alloc: Global,
-    tables: &Tables,
-    caller: &Caller,
-    asker: &Asker,
-    again: bool,
-    places: &mut Places<'_>,
-    argument: &FileArgument,
-    path: &DepotPath,
-) -> Result<Step, AllocError>
-    ensures places { IfOk result (λ _. (rows : AllRows) → AreOf rows places.old → AreOf rows places.new) }
-    ensures step { IfOk result (λ step. (d e : List Deed) → Reads caller.now asker.now (rows_of tables.now) d → AreOf (rows_of tables.now) places.old →
-        IsMade (rows_of tables.now) d e
-        (model.sync_to again d caller.now argument.now path.now (chosen d caller.now path.now argument.now.spec.wanted)) step) }
-{
-    if asks_for_none(&argument.spec.wanted) {
-        let newest = sync_newest(alloc, tables, caller, asker, again, places, argument, path)?;
-        Ok(newest)
-    } else {
-        let step = sync_chosen(alloc, tables, caller, asker, again, places, argument, path)?;
-        Ok(step)
+        None => {
+            let step = Step::new(alloc);
+            Ok(step)
+        }
     }
 }
 

@@ -1,10 +1,11 @@
 -- What becomes of a file in a label, and the revision that a label is to have, are the model's.
 use Rattle.std.proofs.Common.{◌≡◌, ℕ, zero, suc, Bool, true, false, List, [], ◌∷◌, refl, sym, ap, subst, ◌∙◌, arith}
-use Rattle.std.specs.Prelude.{◌==◌, ◌&&◌, codes, if◌then◌else◌, not}
+use Rattle.std.specs.Prelude.{◌==◌, ◌&&◌, codes, if◌then◌else◌}
 use Rattle.std.proofs.lemmas.Bool.{false≢true}
 use Rattle.std.proofs.lemmas.Bool.Decides.{nat_tests}
 use Rattle.depot_rows.specs.depot_path.Path.{is_path}
 use Rattle.depot_rows.specs.depot_path.declared.revision.Wanted.{Wanted}
+use Rattle.depot_rows.specs.depot_path.declared.revision.RevSpec.TheVariants.{Have}
 use Rattle.depot_rows.specs.depot_path.declared.revision.Wanted.TheVariants.{Head, One, Range}
 use Rattle.depot_rows.specs.depot_model.declared.command.FileArgument.{FileArgument}
 use Rattle.depot_rows.specs.depot_model.declared.command.Labelling.{Labelling}
@@ -13,16 +14,13 @@ use Rattle.depot_rows.specs.depot_model.declared.request.Caller.{Caller}
 use Rattle.depot_rows.specs.depot_model.Arguments.{named, no_file, over, over_all, submitted, within_files}
 use Rattle.depot_rows.specs.depot_model.Choice.{Choice, PassedOver, At, chosen}
 use Rattle.depot_rows.specs.depot_model.Deeds.{Deed, Tag}
-use Rattle.depot_rows.specs.depot_model.Latest.{have}
-use Rattle.depot_rows.specs.depot_model.Revisions.{head, is_live_at}
+use Rattle.depot_rows.specs.depot_model.Revisions.{is_live_at}
 use Rattle.depot_rows.specs.depot_model.Step.{Step as ModelStep, does, nothing}
-use Rattle.depot_rows.specs.depot_model.Steps.Tagging.{synced_rev, tag_file, tag_files, tag_row, tag_to}
+use Rattle.depot_rows.specs.depot_model.Steps.Tagging.{live_choice, synced_rev, tag_file, tag_files, tag_row, tag_to}
 use Rattle.depot_rows.proofs.Keys.{number-is, number-self}
 use Rattle.depot_rows.specs.Effects.{Follow}
 use Rattle.depot_rows.specs.declared.deed.Deed.TheVariants as dones
-use Rattle.newest_revisions.specs.Newest.{asks_for_none}
-use Rattle.newest_revisions.proofs.NewestRead.{chosen_head}
-use Rattle.label_ops.specs.Tagged.{asked, is_head, labelling_of, live_at_choice, synced, tag_step, taken}
+use Rattle.label_ops.specs.Tagged.{asked, is_head, labelling_of, synced, tag_step, taken}
 
 -- ---- a revision in a label becomes another one, or stays
 
@@ -64,27 +62,30 @@ module _ (label path : List ℕ) where
 
 -- ---- the revision that a label is to have
 
-pub live_is : (d : List Deed) (path : List ℕ) (choice : Choice)
-    → live_at_choice d path choice ≡ (elim choice [ PassedOver ↦ 0 | At n ↦ if is_live_at d path n then n else 0 ])
-live_is d path PassedOver = refl
-live_is d path (At n) = refl
+-- a choice, where the file is live there, 0 for none
+abbrev pub live_at_choice : List Deed → List ℕ → Choice → ℕ
+live_at_choice d path PassedOver = 0
+live_at_choice d path (At n) = if is_live_at d path n then n else 0
+
+pub live_is : (d : List Deed) (caller : Caller) (path : List ℕ) (wanted : Wanted) → live_at_choice d path (chosen d caller path wanted) ≡ live_choice d caller wanted path
+live_is d caller path wanted = go (chosen d caller path wanted)
+  where
+    go : (choice : Choice) → live_at_choice d path choice ≡ (elim choice [ PassedOver ↦ 0 | At n ↦ if is_live_at d path n then n else 0 ])
+    go PassedOver = refl
+    go (At n) = refl
 
 -- where the have revision stands for none
-abbrev pub choice_by : List Deed → Caller → List ℕ → Wanted → Bool → Choice
-choice_by d caller path wanted had = if had then At (have d caller.client path) else chosen d caller path wanted
+pub asked_have : (stands : Bool) (wanted : Wanted) → (stands && is_head wanted) ≡ true → One Have ≡ asked stands wanted
+asked_have true Head e = refl
+asked_have true (One end) e = absurd (false≢true e)
+asked_have true (Range first second) e = absurd (false≢true e)
+asked_have false wanted e = absurd (false≢true e)
 
-pub asked_is : (d : List Deed) (caller : Caller) (path : List ℕ) (stands : Bool) (wanted : Wanted)
-    → choice_by d caller path wanted (stands && is_head wanted) ≡ chosen d caller path (asked stands wanted)
-asked_is d caller path false wanted = refl
-asked_is d caller path true Head = refl
-asked_is d caller path true (One end) = refl
-asked_is d caller path true (Range first second) = refl
-
--- where neither a revision nor that is asked for
-pub asked_newest : (d : List Deed) (caller : Caller) (path : List ℕ) (stands : Bool) (wanted : Wanted) → (not stands && asks_for_none wanted) ≡ true
-    → chosen d caller path (asked stands wanted) ≡ At (head d path)
-asked_newest d caller path false wanted asks = chosen_head d caller path wanted asks
-asked_newest d caller path true wanted asks = absurd (false≢true asks)
+pub asked_own : (stands : Bool) (wanted : Wanted) → (stands && is_head wanted) ≡ false → wanted ≡ asked stands wanted
+asked_own true Head e = absurd (false≢true (sym e))
+asked_own true (One end) e = refl
+asked_own true (Range first second) e = refl
+asked_own false wanted e = refl
 
 -- what `tag` and `labelsync` do with files
 pub tags : (d : List Deed) (caller : Caller) (label : List ℕ) (removes : Bool) (arguments : List FileArgument)

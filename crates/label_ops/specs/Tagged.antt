@@ -9,9 +9,7 @@ use Rattle.depot_rows.specs.depot_model.declared.command.Labelling.{Labelling}
 use Rattle.depot_rows.specs.depot_model.declared.command.Labelling.TheVariants.{Exact, Adding, Removing}
 use Rattle.depot_rows.specs.depot_model.declared.request.Caller.{Caller}
 use Rattle.depot_rows.specs.depot_model.Arguments.{named, no_file, over_all, submitted, within_files}
-use Rattle.depot_rows.specs.depot_model.Choice.{Choice, PassedOver, At}
 use Rattle.depot_rows.specs.depot_model.Deeds.{Deed, Tag}
-use Rattle.depot_rows.specs.depot_model.Revisions.{is_live_at}
 use Rattle.depot_rows.specs.depot_model.Step.{Step, both, does}
 use Rattle.depot_rows.specs.depot_model.Values.{valued}
 use Rattle.depot_rows.specs.declared.deed.Deed.TheVariants as dones
@@ -28,11 +26,6 @@ abbrev pub is_head : Wanted → Bool
 is_head Head = true
 is_head (One end) = false
 is_head (Range first second) = false
-
--- a revision that is chosen, where the file is live there, 0 for none
-abbrev pub live_at_choice : List Deed → List ℕ → Choice → ℕ
-live_at_choice d path PassedOver = 0
-live_at_choice d path (At n) = if is_live_at d path n then n else 0
 
 -- 0 for none
 abbrev pub rev_by : Labelling → List Deed → Caller → List ℕ → Wanted → List ℕ → ℕ

@@ -1,34 +1,30 @@
 //! What `tag` and `labelsync` do with a file.
 
-ghost use Rattle.std.specs.Prelude.{◌≡◌, ◌==◌, ◌&&◌, not, List, IfOk, if◌then◌else◌};
+ghost use Rattle.std.specs.Prelude.{◌≡◌, ◌==◌, ◌&&◌, List, IfOk, if◌then◌else◌};
 ghost use Rattle.depot_rows.specs.db_records.declared.record.Record.{Record as Stored};
 ghost use Rattle.depot_rows.specs.db_records.declared.table.TableId.TheVariants as table_ids;
 ghost use Rattle.depot_rows.specs.table_changes.Changed.{AllRows, rows_of};
-ghost use Rattle.depot_rows.specs.depot_model.Choice.{At, chosen};
 ghost use Rattle.depot_rows.specs.depot_model.Deeds.{Deed};
 ghost use Rattle.depot_rows.specs.depot_model.Latest.{labelled};
-ghost use Rattle.depot_rows.specs.depot_model.Revisions.{head};
 ghost use Rattle.depot_rows.specs.depot_model.Rules.{IsSound};
 ghost use Rattle.depot_rows.specs.depot_model.Steps.Tagging as model;
 ghost use Rattle.depot_rows.specs.Standing.{HasRows};
 ghost use Rattle.named_files.specs.declared.listing.Listing.TheVariants.{Submitted};
 ghost use Rattle.named_files.specs.Sets.{ShownReads};
 ghost use Rattle.newest_revisions.specs.Seen.{AreHeads};
-ghost use Rattle.newest_revisions.specs.Newest.{asks_for_none as asks_none};
 ghost use Rattle.reply_rows.specs.Made.{IsMade};
-ghost use Rattle.revision_reads.specs.Choice.{choice_of};
-ghost use Rattle.label_ops.specs.Tagged.{asked, is_head, labelling_of as labelling_by, live_at_choice, rev_by, tag_step, told_rev as rev_told, word_of as word_between};
+ghost use Rattle.revision_reads.specs.Choice.{HaveRows, wanted_tables};
+ghost use Rattle.label_ops.specs.Tagged.{asked, is_head, labelling_of as labelling_by, rev_by, tag_step, told_rev as rev_told, word_of as word_between};
 
 use depot_rows::model::{Caller, FileArgument, Labelling, Row};
-use depot_rows::paths::{DepotPath, Name, Sequence, Wanted};
+use depot_rows::paths::{DepotPath, Name, RevSpec, Sequence, Wanted};
 use depot_rows::protections::Level;
 use depot_rows::tables::Tables;
 use file_steps::{WalkAct, named_among};
 use named_files::{Asker, ShownFiles};
-use newest_revisions::{SeenRows, asks_for_none};
+use newest_revisions::SeenRows;
 use reply_rows::{RowBuilder, Step, denied_row};
-use revision_reads::{Chosen, chosen_of, is_live_at};
-use row_reads::{have_of, label_of};
+use row_reads::label_of;
 use std::alloc::{AllocError, Global};
 
 /// What is done with a file that a label takes or loses.
@@ -153,73 +149,34 @@ fn asks_have(have: bool, wanted: &Wanted) -> bool
     have && matches!(wanted, Wanted::Head)
 }
 
-/// The revision that an argument chooses of a file.
-fn choice(
+/// The revision that a file specification chooses of a file, where it is live there, 0 for none.
+fn live_choice<'t>(
     alloc: Global,
-    tables: &Tables,
-    taking: &Taking<'_>,
+    tables: &'t Tables,
+    heads: &mut SeenRows<'t>,
+    caller: &Caller,
     path: &DepotPath,
     wanted: &Wanted,
-) -> Result<Chosen, AllocError>
-    ensures { IfOk result (λ choice. (d : List Deed) → ShownReads taking.now.caller.now taking.now.asker.now Submitted (rows_of tables.now) d →
-        choice_of choice ≡ chosen d taking.now.caller.now path.now (asked taking.now.have wanted.now)) }
-{
-    let caller = taking.caller;
-    let had = asks_have(taking.have, wanted);
-    if had {
-        let rev = have_of(alloc, tables, &caller.client, path)?;
-        Ok(Chosen::At(rev))
-    } else {
-        let choice = chosen_of(alloc, tables, caller, path, wanted)?;
-        Ok(choice)
-    }
-}
-
-/// A revision that is chosen, where the file is live there, 0 for none.
-fn live_rev(
-    alloc: Global,
-    tables: &Tables,
-    path: &DepotPath,
-    choice: Chosen,
-) -> Result<u32, AllocError>
-    ensures { IfOk result (λ rev. (d : List Deed) → HasRows (rows_of tables.now) d table_ids.Rev → rev ≡ live_at_choice d path.now (choice_of choice)) }
-{
-    match choice {
-        Chosen::PassedOver => Ok(0),
-        Chosen::At(rev) => {
-            let live = is_live_at(alloc, tables, path, rev)?;
-            if live { Ok(rev) } else { Ok(0) }
-        }
-    }
-}
-
-/// Whether an argument asks for the newest revision.
-fn asks_newest(have: bool, wanted: &Wanted) -> bool
-    ensures { result ≡ (not have && asks_none wanted.now) }
-{
-    !have && asks_for_none(wanted)
-}
-
-/// The newest revision of a file, where it is live there, 0 for none.
-fn newest_live(
-    alloc: Global,
-    tables: &Tables,
-    heads: &mut SeenRows<'_>,
-    path: &DepotPath,
 ) -> Result<u32, AllocError>
     ensures heads { IfOk result (λ _. (rows : List Stored) → AreHeads rows heads.old → AreHeads rows heads.new) }
     ensures rev { IfOk result (λ rev. (d : List Deed) → AreHeads (rows_of tables.now table_ids.Rev) heads.old → IsSound d → HasRows (rows_of tables.now) d table_ids.Rev →
-        rev ≡ live_at_choice d path.now (At (head d path.now))) }
+        HaveRows (rows_of tables.now) d (wanted_tables wanted.now) → rev ≡ model.live_choice d caller.now wanted.now path.now) }
 {
-    let newest = heads.newest(alloc, tables, path)?;
-    if newest.live { Ok(newest.rev) } else { Ok(0) }
+    let choice = heads.choice(alloc, tables, caller, path, wanted)?;
+    match choice {
+        Some(found) => {
+            let live = found.is_live();
+            if live { Ok(found.rev) } else { Ok(0) }
+        }
+        None => Ok(0),
+    }
 }
 
-/// The revision that an argument chooses of a file, where it is live there, 0 for none.
-fn live_choice(
+/// The revision of a file that an argument asks for, where it is live there, 0 for none.
+fn asked_choice<'t>(
     alloc: Global,
-    tables: &Tables,
-    heads: &mut SeenRows<'_>,
+    tables: &'t Tables,
+    heads: &mut SeenRows<'t>,
     taking: &Taking<'_>,
     path: &DepotPath,
     wanted: &Wanted,
@@ -228,13 +185,15 @@ fn live_choice(
     ensures rev { IfOk result (λ rev. (d : List Deed) → ShownReads taking.now.caller.now taking.now.asker.now Submitted (rows_of tables.now) d →
         AreHeads (rows_of tables.now table_ids.Rev) heads.old → rev ≡ model.live_choice d taking.now.caller.now (asked taking.now.have wanted.now) path.now) }
 {
-    let newest = asks_newest(taking.have, wanted);
-    if newest {
-        let rev = newest_live(alloc, tables, heads, path)?;
-        Ok(rev)
+    let had = asks_have(taking.have, wanted);
+    if had {
+        let have = Wanted::One(RevSpec::Have);
+        let found = live_choice(alloc, tables, heads, taking.caller, path, &have);
+        drop(have);
+        let own = found?;
+        Ok(own)
     } else {
-        let chosen = choice(alloc, tables, taking, path, wanted)?;
-        let rev = live_rev(alloc, tables, path, chosen)?;
+        let rev = live_choice(alloc, tables, heads, taking.caller, path, wanted)?;
         Ok(rev)
     }
 }
@@ -247,10 +206,10 @@ fn or_old(rev: u32, old: u32) -> u32
 }
 
 /// The revision of a file that a label is to have, 0 for none, where this is the one that it has.
-fn new_rev(
+fn new_rev<'t>(
     alloc: Global,
-    tables: &Tables,
-    heads: &mut SeenRows<'_>,
+    tables: &'t Tables,
+    heads: &mut SeenRows<'t>,
     taking: &Taking<'_>,
     path: &DepotPath,
     wanted: &Wanted,
@@ -264,21 +223,21 @@ fn new_rev(
     match taking.labelling {
         Labelling::Removing => Ok(0),
         Labelling::Exact => {
-            let rev = live_choice(alloc, tables, heads, taking, path, wanted)?;
+            let rev = asked_choice(alloc, tables, heads, taking, path, wanted)?;
             Ok(rev)
         }
         Labelling::Adding => {
-            let rev = live_choice(alloc, tables, heads, taking, path, wanted)?;
+            let rev = asked_choice(alloc, tables, heads, taking, path, wanted)?;
             Ok(or_old(rev, old))
         }
     }
 }
 
 /// What is done with a file, where the caller may.
-fn take(
+fn take<'t>(
     alloc: Global,
-    tables: &Tables,
-    heads: &mut SeenRows<'_>,
+    tables: &'t Tables,
+    heads: &mut SeenRows<'t>,
     taking: &Taking<'_>,
     path: &DepotPath,
     wanted: &Wanted,

@@ -14,7 +14,7 @@ use Rattle.depot_rows.specs.db_records.declared.rows.RevRecord.{RevRecord}
 use Rattle.depot_rows.specs.db_records.declared.table.TableId.TheVariants as tables
 use Rattle.depot_rows.specs.table_store.Rows.{TableRows, row_at}
 use Rattle.depot_rows.specs.depot_model.Deeds.{Deed}
-use Rattle.depot_rows.specs.depot_model.Records.{record_of, unplaced}
+use Rattle.depot_rows.specs.depot_model.Records.{record_of, rev_record, unplaced}
 use Rattle.depot_rows.specs.depot_model.Revisions.{head, is_live_at, revision}
 use Rattle.depot_rows.specs.depot_model.Rules.{IsSound}
 use Rattle.depot_rows.specs.depot_model.Steps.Listing.{numbered}
@@ -32,14 +32,19 @@ use Rattle.depot_rows.specs.depot_model.declared.request.Caller.{Caller}
 use Rattle.depot_rows.specs.depot_model.Choice.{At, Choice, chosen}
 use Rattle.std.proofs.lemmas.Bool.{false≢true}
 use Rattle.newest_revisions.specs.Seen.{IsNewest}
-use Rattle.newest_revisions.specs.Newest.{Tells, asks_for_none}
-use Rattle.newest_revisions.specs.declared.newest.Revision.{Revision}
+use Rattle.newest_revisions.specs.Newest.{asks_for_none}
 
 -- where no revision is asked for, the newest one is chosen
 pub chosen_head : (d : List Deed) (caller : Caller) (path : List ℕ) (wanted : Wanted) → asks_for_none wanted ≡ true → chosen d caller path wanted ≡ At (head d path)
 chosen_head d caller path Head e = refl
 chosen_head d caller path (One end) e = absurd (false≢true e)
 chosen_head d caller path (Range first second) e = absurd (false≢true e)
+
+-- a revision is live where its row says so
+pub live_is : (d : List Deed) (path : List ℕ) (n : ℕ) (row : Option RevRecord) → option_map seen row ≡ option_map (rev_record n) (revision d path n)
+    → is_live_row (option_map (λ r. Rev r) row) ≡ is_live_at d path n
+live_is d path n None e = live_read n (revision d path n) None e
+live_is d path n (Some r) e = live_read n (revision d path n) (Some (Rev r)) e
 
 -- the row itself, at its own key
 pub stored_is : (path : List ℕ) (rows : List Record) (r : RevRecord) → IsNewest rows path r → row_at (keys.Rev (printed path) r.rev) rows ≡ Some (Rev r)
@@ -62,36 +67,25 @@ module _ (d : List Deed) (path : List ℕ) (own : path_of (printed path) ≡ Ok 
   abbrev key : Key
   key = keys.Rev (printed path) 0
 
-  -- a row of the path that is there, where none of the next revision is
-  module _ (r : RevRecord) (is : r.path ≡ printed path) (here : row_at (keys.Rev r.path r.rev) rows ≡ Some (Rev r)) (last : row_at (keys.Rev r.path (suc r.rev)) rows ≡ None) where
-    at_path : row_at (with_rev key r.rev) rows ≡ Some (Rev r)
-    at_path = ap (λ (p : List ℕ). row_at (keys.Rev p r.rev) rows) (sym is) ∙ here
-
+  module _ (r : RevRecord) (newest : IsNewest rows path r) where
     next_at_path : row_at (with_rev key (suc r.rev)) rows ≡ None
-    next_at_path = ap (λ (p : List ℕ). row_at (keys.Rev p (suc r.rev)) rows) (sym is) ∙ last
+    next_at_path = ap (λ (p : List ℕ). row_at (keys.Rev p (suc r.rev)) rows) (sym newest.path_is) ∙ newest.last
 
     around : AreAround (λ n. is_within None (row_at (with_rev key n) rows)) r.rev (suc r.rev)
-    around = record { in_order = omega arith; below = inr (ap (is_within None) at_path); above = inr (ap (is_within None) next_at_path) }
+    around = record { in_order = omega arith; below = inr (ap (is_within None) (stored_is path rows r newest)); above = inr (ap (is_within None) next_at_path) }
 
     number_is : IsSound d → r.rev ≡ head d path
     number_is sound = head_is d path own sound r.rev (searched d path own key 0 refl version rows refl has sound None r.rev around)
 
-    live_as : is_live_row (Some (Rev r)) ≡ is_live_at d path r.rev
-    live_as =
-        ap is_live_row (sym at_path) ∙ live_read r.rev (revision d path r.rev) (row_at (with_rev key r.rev) rows) (probed d path own key 0 refl version rows refl has r.rev)
+    -- the row is that of the revision of its number
+    pub has_row : Some (seen r) ≡ option_map (rev_record r.rev) (revision d path r.rev)
+    has_row = sym (ap (option_map unplaced) (stored_is path rows r newest)) ∙ probed d path own key 0 refl version rows refl has r.rev
 
-  pub rev_read : (r : RevRecord) → IsNewest rows path r → (newest : Revision) → Tells r newest → IsSound d → newest.rev ≡ head d path
-  rev_read r is newest tells sound = tells.rev ∙ number_is r is.path_is is.here is.last sound
+    module _ (caller : Caller) (wanted : Wanted) (asks : asks_for_none wanted ≡ true) (sound : IsSound d) where
+      -- and that is the one which is chosen where none is asked for
+      pub newest_chosen : At r.rev ≡ chosen d caller path wanted
+      newest_chosen = ap (λ (n : ℕ). At n) (number_is sound) ∙ sym (chosen_head d caller path wanted asks)
 
-  pub live_is : (r : RevRecord) → IsNewest rows path r → (newest : Revision) → Tells r newest → newest.live ≡ is_live_at d path newest.rev
-  live_is r is newest tells = tells.live ∙ live_as r is.path_is is.here is.last ∙ ap (is_live_at d path) (sym tells.rev)
-
-  -- what the row says is what the model numbers
-  pub row_seen : (caller : Caller) (wanted : Wanted) → asks_for_none wanted ≡ true → (r : RevRecord) → IsNewest rows path r → IsSound d
-      → Some (seen r) ≡ option_map numbered_record (numbered d path (chosen d caller path wanted))
-  row_seen caller wanted asks r newest sound =
-      sym (ap (option_map unplaced) (stored_is path rows r newest))
-      ∙ probed d path own key 0 refl version rows refl has r.rev
-      ∙ sym (number_seen d path r.rev)
-      ∙ ap (λ (n : ℕ). option_map numbered_record (numbered d path (At n))) (number_is r newest.path_is newest.here newest.last sound)
-      ∙ ap (λ (choice : Choice). option_map numbered_record (numbered d path choice)) (sym (chosen_head d caller path wanted asks))
+      -- what the row says is what the model numbers
+      pub row_seen : Some (seen r) ≡ option_map numbered_record (numbered d path (chosen d caller path wanted))
+      row_seen = has_row ∙ sym (number_seen d path r.rev) ∙ ap (λ (choice : Choice). option_map numbered_record (numbered d path choice)) newest_chosen

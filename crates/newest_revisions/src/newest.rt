@@ -1,6 +1,6 @@
-//! The newest revision of a file, by what was seen as the files were found, or by a search.
+//! The revision of a file that is chosen, by what was seen as the files were found, or by a search.
 
-ghost use Rattle.std.specs.Prelude.{◌≡◌, ◌&&◌, not, bytes_eq, codes, List, Some, false, true, filter, option_map, IfOk, Ok};
+ghost use Rattle.std.specs.Prelude.{◌≡◌, ◌&&◌, ℕ, not, bytes_eq, codes, List, Some, false, true, filter, option_map, IfOk, Ok};
 ghost use Rattle.std.specs.Option.{option_copied};
 ghost use Rattle.depot_rows.specs.depot_path.Path.{path_of, printed};
 ghost use Rattle.depot_rows.specs.db_records.declared.key.Key.TheVariants as keys;
@@ -11,7 +11,7 @@ ghost use Rattle.depot_rows.specs.table_changes.Changed.{rows_of};
 ghost use Rattle.depot_rows.specs.depot_model.Arguments.{names as names_file};
 ghost use Rattle.depot_rows.specs.depot_model.Choice.{chosen as chosen_in};
 ghost use Rattle.depot_rows.specs.depot_model.Deeds.{Deed};
-ghost use Rattle.depot_rows.specs.depot_model.Revisions.{head, is_live_at as live_at};
+ghost use Rattle.depot_rows.specs.depot_model.Revisions.{is_live_at as live_at};
 ghost use Rattle.depot_rows.specs.depot_model.Rules.{IsSound};
 ghost use Rattle.depot_rows.specs.depot_model.Steps.Listing.{numbered};
 ghost use Rattle.depot_rows.specs.Standing.{HasRows, row_in};
@@ -20,7 +20,7 @@ ghost use Rattle.named_files.specs.Sets.{ShownReads};
 ghost use Rattle.revision_reads.specs.Choice.{HaveRows, wanted_tables};
 ghost use Rattle.revision_reads.specs.History.{numbered_record, seen};
 ghost use Rattle.newest_revisions.specs.Seen.{AreHeads, IsNewest};
-ghost use Rattle.newest_revisions.specs.Newest.{Tells, asks_for_none as asks_none, is_submitted as submitted_test};
+ghost use Rattle.newest_revisions.specs.Newest.{HasRow, IsAt, asks_for_none as asks_none, is_submitted as submitted_test};
 
 use crate::seen::SeenRows;
 use depot_rows::model::{Caller, FileArgument};
@@ -29,14 +29,26 @@ use depot_rows::records::RevRecord;
 use depot_rows::tables::Tables;
 use file_steps::FileSet;
 use named_files::{HeadedFiles, Listing, ShownFiles};
-use revision_reads::{head_of, is_live_at, stored_choice};
+use revision_reads::{Chosen, chosen_of, revision_of, stored_choice};
 use std::alloc::{AllocError, Global};
 
-/// A revision of a file, 0 for none, and whether the file isn't deleted there.
+/// A revision of a file, 0 for none, and its row, if the file has it.
 #[derive(Clone, Copy)]
-pub struct Revision {
+pub struct Revision<'t> {
     pub rev: u32,
-    pub live: bool,
+    pub row: Option<&'t RevRecord>,
+}
+
+impl<'t> Revision<'t> {
+    /// Whether the file has the revision, and isn't deleted there.
+    pub fn is_live(self) -> bool
+        ensures { (d : List Deed) (path : List ℕ) → HasRow d path self.entry → result ≡ live_at d path self.entry.rev }
+    {
+        match self.row {
+            Some(row) => is_live(row),
+            None => false,
+        }
+    }
 }
 
 /// Whether no revision is asked for.
@@ -76,28 +88,25 @@ pub fn is_live(row: &RevRecord) -> bool
     !(action == b"delete".as_slice()) && !(action == b"move/delete".as_slice())
 }
 
-/// What the row of a newest revision tells.
-fn newest_in(row: &RevRecord) -> Revision
-    ensures { Tells row.now result }
-{
-    Revision {
-        rev: row.rev,
-        live: is_live(row),
-    }
-}
-
-/// The newest revision of a file, by a search.
-fn newest_by_search(
+/// The revision that a file specification chooses of a file, by a search, None exactly where it passes the file over.
+fn searched<'t>(
     alloc: Global,
-    tables: &Tables,
+    tables: &'t Tables,
+    caller: &Caller,
     path: &DepotPath,
-) -> Result<Revision, AllocError>
-    ensures { IfOk result (λ newest. (d : List Deed) → IsSound d → HasRows (rows_of tables.now) d table_ids.Rev →
-        (newest.rev ≡ head d path.now) × (newest.live ≡ live_at d path.now newest.rev)) }
+    wanted: &Wanted,
+) -> Result<Option<Revision<'t>>, AllocError>
+    ensures { IfOk result (λ found. (d : List Deed) → IsSound d → HasRows (rows_of tables.now) d table_ids.Rev → HaveRows (rows_of tables.now) d (wanted_tables wanted.now) →
+        IsAt d path.now (chosen_in d caller.now path.now wanted.now) found) }
 {
-    let rev = head_of(alloc, tables, path)?;
-    let live = is_live_at(alloc, tables, path, rev)?;
-    Ok(Revision { rev, live })
+    let chosen = chosen_of(alloc, tables, caller, path, wanted)?;
+    match chosen {
+        Chosen::PassedOver => Ok(None),
+        Chosen::At(rev) => {
+            let row = revision_of(alloc, tables, path, rev)?;
+            Ok(Some(Revision { rev, row }))
+        }
+    }
 }
 
 impl<'t> SeenRows<'t> {
@@ -125,29 +134,6 @@ impl<'t> SeenRows<'t> {
         Ok(paths)
     }
 
-    /// The newest revision of a file: by its row, where that was seen behind those of the files before, or else by a search.
-    pub fn newest(
-        &mut self,
-        alloc: Global,
-        tables: &Tables,
-        path: &DepotPath,
-    ) -> Result<Revision, AllocError>
-        ensures heads { IfOk result (λ _. (rows : List Row) → AreHeads rows self.old → AreHeads rows self.new) }
-        ensures newest { IfOk result (λ newest. (d : List Deed) → AreHeads (rows_of tables.now table_ids.Rev) self.old → IsSound d → HasRows (rows_of tables.now) d table_ids.Rev →
-            (newest.rev ≡ head d path.now) × (newest.live ≡ live_at d path.now newest.rev)) }
-    {
-        let text = path.print(alloc)?;
-        let row = self.go_to(&text);
-        drop(text);
-        match row {
-            Some(row) => Ok(newest_in(row)),
-            None => {
-                let newest = newest_by_search(alloc, tables, path)?;
-                Ok(newest)
-            }
-        }
-    }
-
     /// The row of the newest revision of a file, where none is asked for, and it was seen behind those of the files before.
     fn seen_row(
         &mut self,
@@ -166,6 +152,35 @@ impl<'t> SeenRows<'t> {
         let row = self.go_to(&text);
         drop(text);
         Ok(row)
+    }
+
+    /// The revision that a file specification chooses of a file, and its row, None exactly where it passes the file over. Where it asks for none, that is
+    /// the newest one: what was seen behind those of the files before, or else it is searched.
+    pub fn choice(
+        &mut self,
+        alloc: Global,
+        tables: &'t Tables,
+        caller: &Caller,
+        path: &DepotPath,
+        wanted: &Wanted,
+    ) -> Result<Option<Revision<'t>>, AllocError>
+        ensures heads { IfOk result (λ _. (rows : List Row) → AreHeads rows self.old → AreHeads rows self.new) }
+        ensures choice { IfOk result (λ found. (d : List Deed) → AreHeads (rows_of tables.now table_ids.Rev) self.old → IsSound d → HasRows (rows_of tables.now) d table_ids.Rev →
+            HaveRows (rows_of tables.now) d (wanted_tables wanted.now) → IsAt d path.now (chosen_in d caller.now path.now wanted.now) found) }
+    {
+        // the bytes of a path are one
+        let _bytes = path.as_bytes();
+        let row = self.seen_row(alloc, path, wanted)?;
+        match row {
+            Some(row) => Ok(Some(Revision {
+                rev: row.rev,
+                row: Some(row),
+            })),
+            None => {
+                let found = searched(alloc, tables, caller, path, wanted)?;
+                Ok(found)
+            }
+        }
     }
 
     /// The row of the revision that a file specification chooses of a file, with the place of its content, None exactly where it passes the file over or

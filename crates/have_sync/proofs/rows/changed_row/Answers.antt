@@ -8,14 +8,16 @@ pub returns-in_ok-row : goal.returns-in_ok-row
 returns-in_ok-row c = λ d caller asked has.
     let path = c.args.path.now in
     let word = c.args.action.now in
+    let rev = c.args.wanted.rev in
     c.in_ok-row.ensures d caller asked
-    ∙ ap (λ (b : Bool). if b then sync_row d caller path c.args.had word None else sync_row d caller path c.args.wanted word (size_of d path c.args.wanted))
-    (sym (same_test c.args.wanted 0 c.if-gone.true))
+    ∙ ap (λ (b : Bool). if b then sync_row d caller path c.args.had word None else sync_row d caller path rev word (size_of d path rev))
+    (sym (same_test rev 0 c.if-gone.true))
 
 pub returns-in_ok-row-2 : goal.returns-in_ok-row-2
 returns-in_ok-row-2 c = λ d caller asked has.
     let path = c.args.path.now in
     let word = c.args.action.now in
+    let rev = c.args.wanted.rev in
     c.in_ok-row-2.ensures d caller asked has
-    ∙ ap (λ (b : Bool). if b then sync_row d caller path c.args.had word None else sync_row d caller path c.args.wanted word (size_of d path c.args.wanted))
-    (sym (apart_test c.args.wanted 0 c.if-gone.false))
+    ∙ ap (λ (b : Bool). if b then sync_row d caller path c.args.had word None else sync_row d caller path rev word (size_of d path rev))
+    (sym (apart_test rev 0 c.if-gone.false))

@@ -10,22 +10,22 @@ use Rattle.have_sync.proofs.Synced.{have_by}
 use Rattle.have_sync.proofs.syncing.sync_have.Goals as goal
 
 pub returns-in_ok-step-in-Some-clause-step : goal.returns-in_ok-step-in-Some-clause-step
-returns-in_ok-step-in-Some-clause-step c = λ d e reads of.
+returns-in_ok-step-in-Some-clause-step c = λ d e reads of has.
     let caller = c.args.caller.now in
     let path = c.args.path.now in
-    let wanted = c.args.wanted in
+    let wanted = c.args.wanted.rev in
     let again = c.args.again in
     let rows = rows_of c.args.tables.now in
     let step = c.in_ok-step-in-Some.step in
     let word : Some c.in-Some.word.now ≡ sync_word again c.in_ok-had.had wanted = ap (λ o. option_copied o) (sym c.in-Some.is) ∙ c.sync_word-said.ensures in
     subst (λ (h : ℕ). IsMade rows d e (have_by d caller path h wanted (sync_word again h wanted)) step) (c.in_ok-had.ensures.have d of reads.shown.has_have)
-    (subst (λ (w : Option (List ℕ)). IsMade rows d e (have_by d caller path c.in_ok-had.had wanted w) step) word (c.in_ok-step-in-Some.ensures d e reads))
+    (subst (λ (w : Option (List ℕ)). IsMade rows d e (have_by d caller path c.in_ok-had.had wanted w) step) word (c.in_ok-step-in-Some.ensures rows d e reads.shown.asked has))
 
 pub returns-in-None-clause-step : goal.returns-in-None-clause-step
-returns-in-None-clause-step c = λ d e reads of.
+returns-in-None-clause-step c = λ d e reads of has.
     let caller = c.args.caller.now in
     let path = c.args.path.now in
-    let wanted = c.args.wanted in
+    let wanted = c.args.wanted.rev in
     let again = c.args.again in
     let rows = rows_of c.args.tables.now in
     let step = c.new-step.result in

@@ -1,23 +1,33 @@
-use Rattle.std.proofs.Common.{sym, ap, ◌∙◌}
-use Rattle.depot_rows.specs.depot_model.Choice.{chosen}
-use Rattle.label_ops.specs.Tagged.{asked, live_at_choice}
-use Rattle.label_ops.proofs.Tags.{asked_newest, live_is}
+use Rattle.std.proofs.Common.{Bool, Option, sym, ap, subst, ◌∙◌}
+use Rattle.std.specs.Prelude.{IfSome, if◌then◌else◌}
+use Rattle.newest_revisions.specs.Newest.{HasRow, choice_of}
+use Rattle.newest_revisions.specs.declared.newest.Revision.{Revision}
+use Rattle.label_ops.proofs.Tags.{live_at_choice, live_is}
 use Rattle.label_ops.proofs.taking.live_choice.Goals as goal
 
-pub returns-in_ok-rev-clause-rev : goal.returns-in_ok-rev-clause-rev
-returns-in_ok-rev-clause-rev c = λ d reads are.
-    let taking = c.args.taking.now in
-    let caller = taking.caller.now in
+pub returns-then-live-clause-rev : goal.returns-then-live-clause-rev
+returns-then-live-clause-rev c = λ d are sound has there.
+    let caller = c.args.caller.now in
     let path = c.args.path.now in
     let wanted = c.args.wanted.now in
-    let asks = sym c.asks_newest-newest.ensures ∙ c.if-newest.true in
-    c.in_ok-rev.ensures.rev d are reads.sound reads.has_rev
-    ∙ ap (live_at_choice d path) (sym (asked_newest d caller path taking.have wanted asks))
-    ∙ live_is d path (chosen d caller path (asked taking.have wanted))
+    let found = c.in-Some.found in
+    let at = c.in_ok-choice.ensures.choice d are sound has there in
+    let live = c.is_live-live.ensures d path (subst (λ (o : Option Revision). IfSome o (HasRow d path)) c.in-Some.is at.has_row) in
+    ap (λ (b : Bool). if b then found.rev else 0) (sym c.if-live.true ∙ live)
+    ∙ ap (live_at_choice d path) (ap choice_of (sym c.in-Some.is) ∙ at.choice_is) ∙ live_is d caller path wanted
 
-pub returns-in_ok-rev-2-clause-rev : goal.returns-in_ok-rev-2-clause-rev
-returns-in_ok-rev-2-clause-rev c = λ d reads are.
-    let taking = c.args.taking.now in
+pub returns-else-live-clause-rev : goal.returns-else-live-clause-rev
+returns-else-live-clause-rev c = λ d are sound has there.
+    let caller = c.args.caller.now in
     let path = c.args.path.now in
-    c.in_ok-rev-2.ensures d reads.has_rev ∙ ap (live_at_choice d path) (c.in_ok-chosen.ensures d reads)
-    ∙ live_is d path (chosen d taking.caller.now path (asked taking.have c.args.wanted.now))
+    let wanted = c.args.wanted.now in
+    let found = c.in-Some.found in
+    let at = c.in_ok-choice.ensures.choice d are sound has there in
+    let live = c.is_live-live.ensures d path (subst (λ (o : Option Revision). IfSome o (HasRow d path)) c.in-Some.is at.has_row) in
+    ap (λ (b : Bool). if b then found.rev else 0) (sym c.if-live.false ∙ live)
+    ∙ ap (live_at_choice d path) (ap choice_of (sym c.in-Some.is) ∙ at.choice_is) ∙ live_is d caller path wanted
+
+pub returns-in-None-clause-rev : goal.returns-in-None-clause-rev
+returns-in-None-clause-rev c = λ d are sound has there.
+    let at = c.in_ok-choice.ensures.choice d are sound has there in
+    ap (live_at_choice d c.args.path.now) (ap choice_of (sym c.in-None.is) ∙ at.choice_is) ∙ live_is d c.args.caller.now c.args.path.now c.args.wanted.now

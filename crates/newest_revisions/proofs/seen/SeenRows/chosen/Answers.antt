@@ -14,8 +14,8 @@ returns-in-Some-clause-row c = λ d are sound has there.
     let bytes = c.as_bytes-bytes.ensures in
     let r = c.in-Some.row.now in
     let is = ap (λ o. option_copied o) c.in-Some.is in
-    row_seen d path (prints_path path (ap is_path (sym bytes.value) ∙ bytes.path)) rows has c.args.caller.now c.args.wanted.now
-    (c.in_ok-row.ensures.asked r is) r (c.in_ok-row.ensures.row r is rows are) sound
+    row_seen d path (prints_path path (ap is_path (sym bytes.value) ∙ bytes.path)) rows has r (c.in_ok-row.ensures.row r is rows are) c.args.caller.now
+    c.args.wanted.now (c.in_ok-row.ensures.asked r is) sound
 
 pub returns-in-Some-clause-stored : goal.returns-in-Some-clause-stored
 returns-in-Some-clause-stored c = λ are r e.
