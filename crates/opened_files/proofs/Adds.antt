@@ -1,51 +1,49 @@
--- What `add` does with a file, by what was found of it, is what the model does.
-use Rattle.std.proofs.Common.{◌≡◌, ℕ, Bool, true, false, List, [], ◌∷◌, Option, Some, None, refl, ap, ◌∙◌}
-use Rattle.std.specs.Prelude.{is_none, is_some, unwrap_or, if◌then◌else◌}
+-- What `add` and `move` refuse of a new file, one after another, and the file that an argument spells.
+use Rattle.std.proofs.Common.{◌≡◌, ℕ, Bool, true, false, List, [], ◌∷◌, Option, Some, None, refl, ◌∙◌, subst}
+use Rattle.std.specs.Prelude.{if◌then◌else◌, option_map}
 use Rattle.std.specs.Option.{option_to_list}
-use Rattle.depot_rows.specs.depot_path.Path.{printed}
-use Rattle.depot_rows.specs.depot_path.declared.revision.Wanted.TheVariants.{Head}
+use Rattle.depot_rows.specs.table_changes.Changed.{AllRows}
 use Rattle.depot_rows.specs.view_map.Mapping.{files_at}
 use Rattle.depot_rows.specs.depot_model.declared.command.FileArgument.{FileArgument}
 use Rattle.depot_rows.specs.depot_model.declared.refusal.Refusal.{Refusal}
-use Rattle.depot_rows.specs.depot_model.declared.refusal.Refusal.TheVariants.{AlreadyOpen, Exists, NotInView}
+use Rattle.depot_rows.specs.depot_model.declared.refusal.Refusal.TheVariants.{AlreadyOpen, Exists}
+use Rattle.depot_rows.specs.depot_model.declared.reply.Row.{Row}
 use Rattle.depot_rows.specs.depot_model.declared.request.Caller.{Caller}
 use Rattle.depot_rows.specs.depot_model.Arguments.{in_client_syntax}
-use Rattle.depot_rows.specs.depot_model.Choice.{shown}
-use Rattle.depot_rows.specs.depot_model.Deeds.{Deed, Opening, Add}
-use Rattle.depot_rows.specs.depot_model.Opened.{opened}
-use Rattle.depot_rows.specs.depot_model.Revisions.{head, is_live_head}
+use Rattle.depot_rows.specs.depot_model.Deeds.{Deed}
+use Rattle.depot_rows.specs.depot_model.Refusals.{refusal_row}
 use Rattle.depot_rows.specs.depot_model.Step.{Step as ModelStep, refuse_if, unless}
-use Rattle.depot_rows.specs.depot_model.Steps.Adding.{add_file, files_to_add, first_live, opening, spelled}
-use Rattle.depot_rows.specs.depot_model.Steps.Opening.{exclusive_refusal, right_refusal}
+use Rattle.depot_rows.specs.depot_model.Steps.Adding.{files_to_add, first_live, spelled}
+use Rattle.reply_rows.specs.Made.{IsMade, told}
+use Rattle.reply_rows.specs.declared.step.Step.{Step}
 use Rattle.named_files.specs.Asked.{IsAsker}
 use Rattle.named_files.specs.declared.asker.Asker.{Asker}
-use Rattle.opened_files.specs.Adds.{adds_permitted, new_refusal, spelled_file}
-use Rattle.opened_files.specs.Opens.{open_step}
+use Rattle.opened_files.proofs.Refusals.{first_told, passed_first}
+use Rattle.opened_files.specs.Adds.{new_refusal, spelled_file}
 
 -- ---- tests one after another
 
-pub new_tests : (path : List ℕ) (open_ there : Bool) (barred : Option Refusal) (step : ModelStep) → unless (new_refusal path open_ there barred ∷ []) step
+new_tests : (path : List ℕ) (open_ there : Bool) (barred : Option Refusal) (step : ModelStep) → unless (new_refusal path open_ there barred ∷ []) step
     ≡ unless (refuse_if open_ (AlreadyOpen path) ∷ refuse_if there (Exists path) ∷ barred ∷ []) step
 new_tests path true there barred step = refl
 new_tests path false true barred step = refl
 new_tests path false false barred step = refl
 
-pub tests_on : (a b : Option Refusal) (more : List (Option Refusal)) (step : ModelStep) → unless (a ∷ []) (unless (b ∷ []) (unless more step)) ≡ unless (a ∷ b ∷ more) step
-tests_on (Some why) b more step = refl
-tests_on None (Some why) more step = refl
-tests_on None None more step = refl
+module _ (all : AllRows) (d e : List Deed) (path : List ℕ) (is_open there : Bool) (barred : Option Refusal) (model : ModelStep) (found : Option Row) (step : Step) where
+  abbrev tests : List (Option Refusal)
+  tests = refuse_if is_open (AlreadyOpen path) ∷ refuse_if there (Exists path) ∷ barred ∷ []
 
-pub file_added : (d : List Deed) (caller : Caller) (change : Option ℕ) (type path : List ℕ)
-    → unless (right_refusal 3 d caller path ∷ []) (adds_permitted d caller change type path) ≡ add_file d caller change type path
-file_added d caller change type path =
-    let right = right_refusal 3 d caller path in
-    let unseen = refuse_if (is_none (shown d caller Head path)) (NotInView (printed path)) in
-    let open_ = is_some (opened d caller.client path) in
-    let there = is_live_head d path in
-    let barred = exclusive_refusal d path caller.client type in
-    let made = open_step (opening d caller change type path) (shown d caller Head path) in
-    ap (λ (m : ModelStep). unless (right ∷ []) (unless (unseen ∷ []) m)) (new_tests path open_ there barred made)
-    ∙ tests_on right unseen (refuse_if open_ (AlreadyOpen path) ∷ refuse_if there (Exists path) ∷ barred ∷ []) made
+  pub new_told : (row : Row) → found ≡ Some row → found ≡ option_map refusal_row (new_refusal path is_open there barred) → step ≡ told (row ∷ [])
+      → IsMade all d e (unless tests model) step
+  new_told row is made tells =
+      subst (λ (m : ModelStep). IsMade all d e m step) (new_tests path is_open there barred model)
+      (first_told all d e (new_refusal path is_open there barred) [] model found row step is made tells)
+
+  pub new_passed : ((row : Row) → found ≡ Some row → ⊥) → found ≡ option_map refusal_row (new_refusal path is_open there barred) → IsMade all d e model step
+      → IsMade all d e (unless tests model) step
+  new_passed none made is =
+      subst (λ (m : ModelStep). IsMade all d e m step) (new_tests path is_open there barred model)
+      (passed_first all d e (new_refusal path is_open there barred) [] model found step none made is)
 
 -- ---- the file that an argument spells
 
@@ -61,11 +59,3 @@ files_listed d caller asker argument path asked is =
       | None ↦ []
       | Some x ↦ x ∷ []
     ])
-
--- ---- the opening that adds a file
-
-pub added : (d : List Deed) (caller : Caller) (change : Option ℕ) (type path : List ℕ) (base : ℕ) → base ≡ head d path
-    → (let made : Opening = record { client = caller.client; path = path; base = base; action = Add; file_type = type; change = unwrap_or change 0; source = None; moved = None } in made)
-    ≡ opening d caller change type path
-added d caller change type path base is =
-    λ i. record { client = caller.client; path = path; base = is i; action = Add; file_type = type; change = unwrap_or change 0; source = None; moved = None }

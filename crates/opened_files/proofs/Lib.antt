@@ -1,3 +1,4 @@
+pub mod Refusals
 pub mod Locked
 pub mod Own
 pub mod Reopened

@@ -1,9 +1,7 @@
 -- What `move` does with a file, by what was found of it, is what the model does; and its deeds are on the files of the client.
-use Rattle.std.proofs.Common.{◌≡◌, ℕ, Bool, true, false, List, [], ◌∷◌, ◌++◌, Option, Some, None, refl, sym, ap, subst, ◌∙◌, append-nil, arith}
-use Rattle.std.specs.Prelude.{◌==◌, ◌&&◌, length, if◌then◌else◌, is_none, is_some, option_and_then, option_map, unwrap_or}
+use Rattle.std.proofs.Common.{◌≡◌, ℕ, Bool, true, false, List, [], ◌∷◌, ◌++◌, Option, Some, None, refl, sym, ap, subst, ◌∙◌, append-nil}
+use Rattle.std.specs.Prelude.{◌&&◌, if◌then◌else◌, is_none, is_some, option_and_then, unwrap_or}
 use Rattle.std.specs.List.{list_all}
-use Rattle.std.specs.Option.{option_or}
-use Rattle.std.proofs.lemmas.Bool.{true≢false}
 use Rattle.depot_rows.specs.depot_path.Bytes.{same}
 use Rattle.depot_rows.specs.depot_path.Path.{is_path, printed}
 use Rattle.depot_rows.specs.depot_path.declared.revision.Wanted.TheVariants.{Head}
@@ -11,14 +9,12 @@ use Rattle.depot_rows.specs.depot_model.declared.command.FileArgument.{FileArgum
 use Rattle.depot_rows.specs.depot_model.declared.command.PatternArgument.{PatternArgument}
 use Rattle.depot_rows.specs.depot_model.declared.refusal.Refusal.{Refusal}
 use Rattle.depot_rows.specs.depot_model.declared.refusal.Refusal.TheVariants.{AlreadyOpen, Exists, NotInView}
-use Rattle.depot_rows.specs.depot_model.declared.reply.Row.{Row}
 use Rattle.depot_rows.specs.depot_model.declared.request.Caller.{Caller}
 use Rattle.depot_rows.specs.depot_model.Asking.{to_open}
 use Rattle.depot_rows.specs.depot_model.Choice.{shown}
 use Rattle.depot_rows.specs.depot_model.Deeds.{Deed, Open, Shut, Opening, Action, Add, Edit, Delete, Branch, Integrate, MoveAdd, MoveDelete}
 use Rattle.depot_rows.specs.depot_model.Latest.{when}
 use Rattle.depot_rows.specs.depot_model.Opened.{is_moved_with, named_back, opened, partner}
-use Rattle.depot_rows.specs.depot_model.Refusals.{refusal_row}
 use Rattle.depot_rows.specs.depot_model.Revisions.{head, is_live_head}
 use Rattle.depot_rows.specs.depot_model.Step.{Step as ModelStep, in_turn, refuse_if, unless}
 use Rattle.depot_rows.specs.depot_model.Steps.Moving.{move_added, move_again, move_all, move_deeds, move_edited, move_file, move_opening, move_to, movable_refusal, opening_at, renamed, shut}
@@ -30,40 +26,11 @@ use Rattle.depot_rows.specs.declared.deed.Deed.{Deed as Done}
 use Rattle.depot_rows.specs.declared.deed.Deed.TheVariants as dones
 use Rattle.depot_rows.specs.declared.deed.Held.{Held}
 use Rattle.depot_rows.specs.declared.deed.Opening.{Opening as DoneOpening}
-use Rattle.depot_rows.proofs.Keys.{number-is, same-self}
+use Rattle.depot_rows.proofs.Keys.{same-self}
 use Rattle.depot_rows.proofs.Locks.{opened-is}
-use Rattle.opened_files.specs.Adds.{new_refusal}
-use Rattle.opened_files.specs.Moves.{at_target, is_add, is_move_add, is_move_delete, move_step, moves_permitted, moves_to, renamed as renamed_at, target_refusal}
+use Rattle.opened_files.specs.Moves.{at_target, is_add, is_move_add, is_move_delete, move_step, moves_nowhere, renamed as renamed_at}
 use Rattle.opening_reads.specs.OwnOpenings.{is_of}
 use Rattle.reply_rows.proofs.Joined.{follow_on}
-
--- ---- the first reason
-
--- a refusal that holds, and one that doesn't
-pub told_first : (a b : Option Refusal) (row : Row) → Some row ≡ option_map refusal_row a → Some row ≡ option_map refusal_row (option_or a b)
-told_first None b row is = absurd cc
-told_first (Some why) b row is = is
-
-pub told_then : (a b : Option Refusal) (row : Option Row) → None ≡ option_map refusal_row a → row ≡ option_map refusal_row b → row ≡ option_map refusal_row (option_or a b)
-told_then None b row is more = more
-told_then (Some why) b row is more = absurd cc
-
-tests_in_turn : (a b c : Option Refusal) (is_open there : Bool) (barred : Option Refusal) (t : List ℕ) (step : ModelStep)
-    → unless (option_or a (option_or b (option_or c (new_refusal t is_open there barred))) ∷ []) step
-    ≡ unless (a ∷ b ∷ c ∷ refuse_if is_open (AlreadyOpen t) ∷ refuse_if there (Exists t) ∷ barred ∷ []) step
-tests_in_turn (Some why) b c is_open there barred t step = refl
-tests_in_turn None (Some why) c is_open there barred t step = refl
-tests_in_turn None None (Some why) is_open there barred t step = refl
-tests_in_turn None None None true there barred t step = refl
-tests_in_turn None None None false true barred t step = refl
-tests_in_turn None None None false false (Some why) t step = refl
-tests_in_turn None None None false false None t step = refl
-
-pub moved_to : (e : List Deed) (caller : Caller) (change : Option ℕ) (o : Opening) (t : List ℕ)
-    → unless (target_refusal e caller o t ∷ []) (move_step e change o t) ≡ move_to e caller change o t
-moved_to e caller change o t =
-    tests_in_turn (right_refusal to_open e caller t) (movable_refusal o) (refuse_if (is_none (shown e caller Head t)) (NotInView (printed t))) (is_some (opened e caller.client t))
-    (is_live_head e t) (exclusive_refusal e t caller.client o.file_type) t (move_step e change o t)
 
 -- ---- the deeds
 
@@ -95,17 +62,20 @@ module _ (e : List Deed) (change : Option ℕ) (o : DoneOpening) (t : List ℕ) 
       (λ i. if is_added i then move_added e change own t else (if is_moved i then move_again e change own t else move_edited e change own t))
       ∙ sym (by_action own.action (move_added e change own t) (move_again e change own t) (move_edited e change own t))
 
-  pub follow_again : (base : ℕ) (file : Held) (at : DoneOpening) → base ≡ head e t → file ≡ record { client = o.client; path = o.path } → at ≡ at_target o base change t
-      → is_path t ≡ true → is_path o.path ≡ true → Follow e (dones.Shut file ∷ dones.Open at ∷ []) (shut own ∷ Open (opening_at e change own t) ∷ [])
-  follow_again base file at head_is file_is at_is there here = (
-    ap (λ (f : Held). Some (Shut (held_of f))) file_is,
-    ap (λ (f : Held). is_path f.path) file_is ∙ here,
-    (
-      ap (λ (x : DoneOpening). Some (Open (opening_of x))) at_is ∙ ap (λ (n : ℕ). Some (Open (opening_of (at_target o n change t)))) head_is,
-      ap (λ (x : DoneOpening). is_path x.path) at_is ∙ there,
-      tt,
-    ),
-  )
+  pub follow_again : (base : ℕ) (file : Held) (at : DoneOpening) (none shut_ made : List Done) → none ≡ [] → shut_ ≡ none ++ dones.Shut file ∷ [] → made ≡ shut_ ++ dones.Open at ∷ []
+      → base ≡ head e t → file ≡ record { client = o.client; path = o.path } → at ≡ at_target o base change t → is_path t ≡ true → is_path o.path ≡ true
+      → Follow e made (shut own ∷ Open (opening_at e change own t) ∷ [])
+  follow_again base file at none shut_ made none_is shut_is made_is head_is file_is at_is there here =
+      subst (λ (l : List Done). Follow e l (shut own ∷ Open (opening_at e change own t) ∷ []))
+      (sym (made_is ∙ ap (λ (l : List Done). l ++ dones.Open at ∷ []) (shut_is ∙ ap (λ (l : List Done). l ++ dones.Shut file ∷ []) none_is))) (
+        ap (λ (f : Held). Some (Shut (held_of f))) file_is,
+        ap (λ (f : Held). is_path f.path) file_is ∙ here,
+        (
+          ap (λ (x : DoneOpening). Some (Open (opening_of x))) at_is ∙ ap (λ (n : ℕ). Some (Open (opening_of (at_target o n change t)))) head_is,
+          ap (λ (x : DoneOpening). is_path x.path) at_is ∙ there,
+          tt,
+        ),
+      )
 
 -- the other end of a move, which may have been moved away from there
 module _ (e done : List Deed) (old : List Done) (change : Option ℕ) (other : DoneOpening) (t : List ℕ) (was : Follow e old done) where
@@ -125,20 +95,21 @@ module _ (e done : List Deed) (old : List Done) (change : Option ℕ) (other : D
       (sym (append-nil done) ∙ ap (λ (deeds : List Deed). done ++ deeds) (ap end_deeds left ∙ sym (if_left (action_of other.action) (Open (opening_of (renamed_at other change t)) ∷ []) [])))
       was
 
--- ---- some files or none
-
-pub none_there : {A : Type 0} (xs : List A) → (length xs == 0) ≡ true → xs ≡ []
-none_there [] e = refl
-none_there (x ∷ xs) e = let nothing_there : length (x ∷ xs) ≡ 0 = number-is (length (x ∷ xs)) 0 e in absurd (omega arith)
-
-pub some_there : {A : Type 0} (xs : List A) → (length xs == 0) ≡ false → xs ≡ [] → ⊥
-some_there [] e none = true≢false e
-some_there (x ∷ xs) e none = absurd cc
+-- ---- some files
 
 pub some_moved : (d : List Deed) (caller : Caller) (change : Option ℕ) (from : FileArgument) (to : PatternArgument) (paths : List (List ℕ)) → (paths ≡ [] → ⊥)
     → in_turn (move_file caller change from to) d paths ≡ move_all d caller change from to paths
 some_moved d caller change from to [] some = absurd (some refl)
 some_moved d caller change from to (path ∷ paths) some = refl
+
+-- ---- what is done with a file that the caller may open
+
+abbrev pub moves_to : List Deed → Caller → Option ℕ → Opening → List ℕ → Option (List ℕ) → ModelStep
+moves_to e caller change o text target = elim target [ None ↦ moves_nowhere o text | Some t ↦ move_to e caller change o t ]
+
+abbrev pub moves_permitted : List Deed → Caller → Option ℕ → FileArgument → PatternArgument → Opening → ModelStep
+moves_permitted e caller change from to o =
+    let text = target_text e caller from to o.path in moves_to e caller change o text (target_at e caller to text)
 
 -- ---- the deeds are on the files of the client
 
@@ -200,8 +171,11 @@ module _ (e : List Deed) (caller : Caller) (change : Option ℕ) (o : Opening) (
 
 module _ (e : List Deed) (caller : Caller) (change : Option ℕ) (from : FileArgument) (to : PatternArgument) where
   to_own : (o : Opening) → o.client ≡ caller.client → (t : List ℕ) → list_all (is_of caller.client) (move_to e caller change o t).deeds ≡ true
-  to_own o is t = ap (λ (s : ModelStep). list_all (is_of caller.client) s.deeds) (sym (moved_to e caller change o t))
-      ∙ unless_own caller.client (target_refusal e caller o t ∷ []) (move_step e change o t)
+  to_own o is t =
+      unless_own caller.client
+      (right_refusal to_open e caller t ∷ movable_refusal o ∷ refuse_if (is_none (shown e caller Head t)) (NotInView (printed t))
+      ∷ refuse_if (is_some (opened e caller.client t)) (AlreadyOpen t) ∷ refuse_if (is_live_head e t) (Exists t) ∷ exclusive_refusal e t caller.client o.file_type ∷ [])
+      (move_step e change o t)
       (deeds_own e caller change o t (ap (λ (x : List ℕ). same x caller.client) is ∙ same-self caller.client) is)
 
   permitted_own : (o : Opening) → o.client ≡ caller.client → list_all (is_of caller.client) (moves_permitted e caller change from to o).deeds ≡ true

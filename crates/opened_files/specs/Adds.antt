@@ -1,28 +1,19 @@
--- What `add` does with a file once it is known that the caller may open it, where the view shows it, and whether it is there; and what is read for it.
--- This project's own choice.
-use Rattle.std.specs.Prelude.{ℕ, Bool, List, [], ◌∷◌, Option, Some, is_none, is_some, if◌then◌else◌}
-use Rattle.depot_rows.specs.depot_path.Path.{printed}
-use Rattle.depot_rows.specs.depot_path.declared.revision.Wanted.TheVariants.{Head}
+-- The file that an argument of `add` spells, why a file can't be made anew, and what is read for it. This project's own choice.
+use Rattle.std.specs.Prelude.{ℕ, Bool, List, Option, Some, if◌then◌else◌}
 use Rattle.depot_rows.specs.db_records.declared.table.TableId.TheVariants as table_ids
 use Rattle.depot_rows.specs.table_changes.Changed.{AllRows}
 use Rattle.depot_rows.specs.view_map.Mapping.{files_at}
 use Rattle.depot_rows.specs.depot_model.declared.command.FileArgument.{FileArgument}
 use Rattle.depot_rows.specs.depot_model.declared.request.Caller.{Caller}
 use Rattle.depot_rows.specs.depot_model.declared.refusal.Refusal.{Refusal}
-use Rattle.depot_rows.specs.depot_model.declared.refusal.Refusal.TheVariants.{AlreadyOpen, Exists, NotInView}
+use Rattle.depot_rows.specs.depot_model.declared.refusal.Refusal.TheVariants.{AlreadyOpen, Exists}
 use Rattle.depot_rows.specs.depot_model.Arguments.{in_client_syntax}
-use Rattle.depot_rows.specs.depot_model.Choice.{shown}
 use Rattle.depot_rows.specs.depot_model.Deeds.{Deed}
-use Rattle.depot_rows.specs.depot_model.Opened.{opened}
-use Rattle.depot_rows.specs.depot_model.Revisions.{is_live_head}
 use Rattle.depot_rows.specs.depot_model.Rules.{IsSound}
-use Rattle.depot_rows.specs.depot_model.Step.{Step, refuse_if, unless}
-use Rattle.depot_rows.specs.depot_model.Steps.Adding.{first_live, opening}
-use Rattle.depot_rows.specs.depot_model.Steps.Opening.{exclusive_refusal}
+use Rattle.depot_rows.specs.depot_model.Steps.Adding.{first_live}
 use Rattle.depot_rows.specs.Standing.{HasRows}
 use Rattle.named_files.specs.Asked.{IsAsker}
 use Rattle.named_files.specs.declared.asker.Asker.{Asker}
-use Rattle.opened_files.specs.Opens.{open_step}
 
 -- the file of a path that an argument spells
 abbrev pub spelled_file : List Deed → Asker → FileArgument → List ℕ → Option (List ℕ)
@@ -32,16 +23,6 @@ spelled_file d asker argument path =
 -- why a file can't be made anew: it is opened, or there, or another client has it opened alone
 abbrev pub new_refusal : List ℕ → Bool → Bool → Option Refusal → Option Refusal
 new_refusal path is_open there barred = if is_open then Some (AlreadyOpen path) else (if there then Some (Exists path) else barred)
-
-abbrev pub adds_shown : List Deed → Caller → Option ℕ → List ℕ → List ℕ → Option (List ℕ) → Step
-adds_shown d caller change type path place =
-    unless (new_refusal path (is_some (opened d caller.client path)) (is_live_head d path) (exclusive_refusal d path caller.client type) ∷ [])
-    (open_step (opening d caller change type path) place)
-
--- unless the view doesn't show it
-abbrev pub adds_permitted : List Deed → Caller → Option ℕ → List ℕ → List ℕ → Step
-adds_permitted d caller change type path =
-    unless (refuse_if (is_none (shown d caller Head path)) (NotInView (printed path)) ∷ []) (adds_shown d caller change type path (shown d caller Head path))
 
 -- the asker is that of the depot, and so are the opened files and the revisions
 pub record Reads (caller : Caller) (asker : Asker) (rows : AllRows) (d : List Deed) : Type 0 where

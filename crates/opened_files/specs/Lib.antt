@@ -3,7 +3,6 @@ pub mod Locks
 pub mod Moves
 pub mod Opens
 pub mod Partners
-pub mod Reopened
 pub mod Reverts
 pub mod Shown
 pub mod Staying

@@ -12,7 +12,7 @@ use Rattle.depot_rows.specs.depot_model.Rows.{row, path_field, text_field}
 use Rattle.depot_rows.specs.depot_model.Step.{Step, does, nothing, unless, refuse_if}
 use Rattle.depot_rows.specs.depot_model.Rules.{IsSound}
 use Rattle.depot_rows.specs.depot_model.Steps.Opening.{held}
-use Rattle.depot_rows.specs.depot_model.Steps.Reverting.{is_held_by, lock_refusal}
+use Rattle.depot_rows.specs.depot_model.Steps.Reverting.{lock_refusal}
 use Rattle.depot_rows.specs.Standing.{HasRows}
 use Rattle.named_files.specs.Asked.{IsAsker}
 use Rattle.named_files.specs.declared.asker.Asker.{Asker}
@@ -38,13 +38,10 @@ abbrev pub other_of : List ℕ → Option (List ℕ) → Option (List ℕ)
 other_of client None = None
 other_of client (Some who) = if same who client then None else Some who
 
-abbrev pub free_step : Caller → List ℕ → Step
-free_step caller path =
-    does (Free (held caller path) ∷ []) (row (path_field (codes "depotFile") path ∷ text_field (codes "action") (codes "unlocked") ∷ []))
-
-abbrev pub unlocking : Caller → List ℕ → Bool → Option (List ℕ) → Step
-unlocking caller path may who =
-    unless (refuse_if (not may) (Denied (printed path) 4) ∷ []) (if is_held_by caller who then free_step caller path else nothing)
+-- what an unlock does by whether the client has the lock
+abbrev pub unlocking : Caller → List ℕ → Bool → Step
+unlocking caller path own =
+    if own then does (Free (held caller path) ∷ []) (row (path_field (codes "depotFile") path ∷ text_field (codes "action") (codes "unlocked") ∷ [])) else nothing
 
 -- the asker is that of the depot, and the opened files are the depot's
 pub record Reads (caller : Caller) (asker : Asker) (rows : AllRows) (d : List Deed) : Type 0 where

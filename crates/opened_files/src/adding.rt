@@ -5,7 +5,6 @@ ghost use Rattle.std.specs.List.{list_all};
 ghost use Rattle.std.specs.Option.{option_to_list};
 ghost use Rattle.depot_rows.specs.db_records.declared.table.TableId.TheVariants as table_ids;
 ghost use Rattle.depot_rows.specs.table_changes.Changed.{rows_of};
-ghost use Rattle.depot_rows.specs.depot_model.Arguments as arguments_of;
 ghost use Rattle.depot_rows.specs.depot_model.Deeds.{Deed};
 ghost use Rattle.depot_rows.specs.depot_model.Refusals.{refusal_row};
 ghost use Rattle.depot_rows.specs.depot_model.Revisions.{is_live_head as live_head};
@@ -18,16 +17,16 @@ ghost use Rattle.depot_rows.specs.depot_model.declared.refusal.Refusal.TheVarian
 ghost use Rattle.depot_rows.specs.depot_path.Path.{printed};
 ghost use Rattle.depot_rows.specs.Standing.{HasRows};
 ghost use Rattle.reply_rows.specs.Made.{IsMade};
-ghost use Rattle.opened_files.specs.Adds.{Reads, adds_permitted, adds_shown, new_refusal as new_refusal_by, spelled_file as file_spelled};
-ghost use Rattle.opened_files.specs.Opens.{open_step};
+ghost use Rattle.opened_files.specs.Adds.{Reads, new_refusal as new_refusal_by, spelled_file as file_spelled};
 
-use crate::editing::open_file;
+use crate::editing::{new_opening, open_file};
+use crate::had::own_text;
 use command_parts::named_change_refusal;
+use depot_rows::Action;
 use depot_rows::model::{Caller, FileArgument, Row};
-use depot_rows::paths::{ClientPath, DepotPath, Name, Sequence, Text, Wanted};
+use depot_rows::paths::{DepotPath, Name, Sequence, Text, Wanted};
 use depot_rows::protections::Level;
 use depot_rows::tables::Tables;
-use depot_rows::{Action, Opening};
 use file_steps::{FileAct, FileFinder, over_found, within_files};
 use named_files::{Asker, spelled_path};
 use opening_parts::{exclusive_refusal, right_refusal, unseen_row};
@@ -65,10 +64,9 @@ fn spelled_file(
 {
     if in_client_syntax(&asker.client, &argument.spec.pattern) {
         let file = file_at(alloc, tables, &asker.view, &path)?;
-        Ok(file)
-    } else {
-        Ok(Some(path))
+        return Ok(file);
     }
+    Ok(Some(path))
 }
 
 /// The list of a file, if there is one.
@@ -102,31 +100,21 @@ impl<'a> FileFinder for FilesToAdd<'a> {
         tables: &Tables,
         argument: &FileArgument,
     ) -> Result<Sequence<DepotPath>, AllocError> {
-        let spelled = spelled_path(alloc, argument)?;
-        match spelled {
-            Some(path) => {
-                let file = spelled_file(alloc, tables, self.asker, argument, path)?;
-                let files = in_list(alloc, file)?;
-                Ok(files)
-            }
-            None => Ok(Sequence::new(alloc)),
-        }
+        let Some(path) = spelled_path(alloc, argument)? else {
+            return Ok(Sequence::new(alloc));
+        };
+        let file = spelled_file(alloc, tables, self.asker, argument, path)?;
+        let files = in_list(alloc, file)?;
+        Ok(files)
     }
 
     fn missing(&self, alloc: Global, argument: &FileArgument) -> Result<Step, AllocError> {
-        let spelled = spelled_path(alloc, argument)?;
-        match spelled {
-            Some(path) => {
-                let row = unseen_row(alloc, &path)?;
-                let step = Step::tells(alloc, row)?;
-                Ok(step)
-            }
-            None => {
-                let row = not_in_view_row(alloc, argument.text.as_bytes())?;
-                let step = Step::tells(alloc, row)?;
-                Ok(step)
-            }
-        }
+        let Some(path) = spelled_path(alloc, argument)? else {
+            let row = not_in_view_row(alloc, argument.text.as_bytes())?;
+            return Step::tells(alloc, row);
+        };
+        let row = unseen_row(alloc, &path)?;
+        Step::tells(alloc, row)
     }
 }
 
@@ -147,127 +135,12 @@ pub(crate) fn new_refusal(
         let row = already_open_row(alloc, path)?;
         return Ok(Some(row));
     }
-    let there = is_live_head(alloc, tables, path)?;
-    if there {
+    if is_live_head(alloc, tables, path)? {
         let row = exists_row(alloc, path)?;
         return Ok(Some(row));
     }
     let row = exclusive_refusal(alloc, tables, path, client, file_type)?;
     Ok(row)
-}
-
-/// The opening that adds a file.
-fn new_opening(
-    caller: &Caller,
-    path: &DepotPath,
-    base: u32,
-    change: Option<u32>,
-    file_type: &Text,
-) -> Result<Opening, AllocError>
-    ensures { IfOk result (λ opening. opening ≡ record {
-      client = caller.now.client;
-      path = path.now;
-      base = base;
-      action = Action.Add;
-      file_type = file_type.now;
-      change = unwrap_or change 0;
-      source = None;
-      moved = None;
-    }) }
-{
-    let client = caller.client.clone()?;
-    let path = path.clone()?;
-    let file_type = file_type.clone()?;
-    Ok(Opening {
-        client,
-        path,
-        base,
-        action: Action::Add,
-        file_type,
-        change: change.unwrap_or(0),
-        source: None,
-        moved: None,
-    })
-}
-
-/// The step that adds a file.
-fn add_new(
-    alloc: Global,
-    tables: &Tables,
-    caller: &Caller,
-    path: &DepotPath,
-    place: &ClientPath,
-    change: Option<u32>,
-    file_type: &Text,
-) -> Result<Step, AllocError>
-    ensures { IfOk result (λ step. (d e : List Deed) → IsSound d → HasRows (rows_of tables.now) d table_ids.Rev →
-        IsMade (rows_of tables.now) d e (open_step (model.opening d caller.now change file_type.now path.now) (Some place.now)) step) }
-{
-    let base = head_of(alloc, tables, path)?;
-    let opening = new_opening(caller, path, base, change, file_type)?;
-    let step = open_file(alloc, opening, place)?;
-    Ok(step)
-}
-
-impl<'a> Adding<'a> {
-    /// What is done with a file that the view shows.
-    fn add_shown(
-        &self,
-        alloc: Global,
-        tables: &Tables,
-        path: &DepotPath,
-        place: &ClientPath,
-    ) -> Result<Step, AllocError>
-        ensures { IfOk result (λ step. (d e : List Deed) → Reads self.now.caller.now self.now.asker.now (rows_of tables.now) d →
-            IsMade (rows_of tables.now) d e (adds_shown d self.now.caller.now self.now.change self.now.file_type.now path.now (Some place.now)) step) }
-    {
-        let client = &self.caller.client;
-        let open = is_opened_by(alloc, tables, client, path)?;
-        let refusal = new_refusal(alloc, tables, path, client, self.file_type, open)?;
-        match refusal {
-            Some(row) => {
-                let step = Step::tells(alloc, row)?;
-                Ok(step)
-            }
-            None => {
-                let step = add_new(
-                    alloc,
-                    tables,
-                    self.caller,
-                    path,
-                    place,
-                    self.change,
-                    self.file_type,
-                )?;
-                Ok(step)
-            }
-        }
-    }
-
-    /// What is done with a file that the caller may open.
-    fn add_permitted(
-        &self,
-        alloc: Global,
-        tables: &Tables,
-        path: &DepotPath,
-    ) -> Result<Step, AllocError>
-        ensures { IfOk result (λ step. (d e : List Deed) → Reads self.now.caller.now self.now.asker.now (rows_of tables.now) d →
-            IsMade (rows_of tables.now) d e (adds_permitted d self.now.caller.now self.now.change self.now.file_type.now path.now) step) }
-    {
-        let view = &self.asker.view;
-        let place = shown_in_view(alloc, tables, self.caller, view, path, &Wanted::Head)?;
-        match place {
-            Some(place) => {
-                let step = self.add_shown(alloc, tables, path, &place)?;
-                Ok(step)
-            }
-            None => {
-                let row = unseen_row(alloc, path)?;
-                let step = Step::tells(alloc, row)?;
-                Ok(step)
-            }
-        }
-    }
 }
 
 impl<'a> FileAct for Adding<'a> {
@@ -287,17 +160,24 @@ impl<'a> FileAct for Adding<'a> {
         _argument: &FileArgument,
         path: &DepotPath,
     ) -> Result<Step, AllocError> {
-        let refusal = right_refusal(alloc, self.asker, path, Level(3))?;
-        match refusal {
-            Some(row) => {
-                let step = Step::tells(alloc, row)?;
-                Ok(step)
-            }
-            None => {
-                let step = self.add_permitted(alloc, tables, path)?;
-                Ok(step)
-            }
+        if let Some(row) = right_refusal(alloc, self.asker, path, Level(3))? {
+            return Step::tells(alloc, row);
         }
+        let caller = self.caller;
+        let view = &self.asker.view;
+        let Some(place) = shown_in_view(alloc, tables, caller, view, path, &Wanted::Head)? else {
+            let row = unseen_row(alloc, path)?;
+            return Step::tells(alloc, row);
+        };
+        let client = &caller.client;
+        let open = is_opened_by(alloc, tables, client, path)?;
+        if let Some(row) = new_refusal(alloc, tables, path, client, self.file_type, open)? {
+            return Step::tells(alloc, row);
+        }
+        let base = head_of(alloc, tables, path)?;
+        let file_type = own_text(self.file_type)?;
+        let opening = new_opening(caller, path, base, Action::Add, self.change, file_type)?;
+        open_file(alloc, opening, &place)
     }
 
     ghost first = { λ act d. tt };
@@ -315,36 +195,6 @@ fn type_or_text(alloc: Global, file_type: &Option<Text>) -> Result<Text, AllocEr
     }
 }
 
-/// `add` of an asker, where the change isn't refused.
-fn add_paths(
-    alloc: Global,
-    tables: &Tables,
-    caller: &Caller,
-    asker: &Asker,
-    change: Option<u32>,
-    file_type: &Option<Text>,
-    arguments: &[FileArgument],
-) -> Result<Step, AllocError>
-    ensures { IfOk result (λ step. (d : List Deed) → list_all spells_path arguments.now ≡ true → Reads caller.now asker.now (rows_of tables.now) d →
-        IsMade (rows_of tables.now) d d
-        (arguments_of.within_files (arguments_of.over (model.files_to_add d caller.now) (λ a. refuses (refusals.NotInView (printed (model.spelled a))))
-        (λ _. model.add_file d caller.now change (unwrap_or file_type.now (codes "text"))) [] arguments.now)) step) }
-{
-    let own_type = type_or_text(alloc, file_type)?;
-    let files = FilesToAdd { caller, asker };
-    let adding = Adding {
-        caller,
-        asker,
-        change,
-        file_type: &own_type,
-    };
-    let added = over_found(alloc, tables, &files, &adding, arguments);
-    drop(own_type);
-    let done = added?;
-    let step = within_files(alloc, done)?;
-    Ok(step)
-}
-
 /// `add [-c CHANGE] [-t TYPE] PATH...`: opens files that aren't there, to add them with a submit, each argument being a path, from the tables of
 /// groups, protections, forms, changes, opened files and revisions alone. The one error is want of memory.
 pub fn add(
@@ -360,18 +210,21 @@ pub fn add(
         HasRows (rows_of tables.now) d table_ids.Working → HasRows (rows_of tables.now) d table_ids.Rev →
         IsMade (rows_of tables.now) d d (model.add d caller.now change file_type.now arguments.now) step) }
 {
-    let refusal = named_change_refusal(alloc, tables, caller, change)?;
-    match refusal {
-        Some(row) => {
-            let step = Step::tells(alloc, row)?;
-            Ok(step)
-        }
-        None => {
-            let asker = Asker::of(alloc, tables, caller)?;
-            let done = add_paths(alloc, tables, caller, &asker, change, file_type, arguments);
-            drop(asker);
-            let step = done?;
-            Ok(step)
-        }
+    if let Some(row) = named_change_refusal(alloc, tables, caller, change)? {
+        return Step::tells(alloc, row);
     }
+    let asker = Asker::of(alloc, tables, caller)?;
+    let own_type = type_or_text(alloc, file_type)?;
+    let files = FilesToAdd {
+        caller,
+        asker: &asker,
+    };
+    let adding = Adding {
+        caller,
+        asker: &asker,
+        change,
+        file_type: &own_type,
+    };
+    let done = over_found(alloc, tables, &files, &adding, arguments)?;
+    within_files(alloc, done)
 }

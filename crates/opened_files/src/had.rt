@@ -16,7 +16,7 @@ use row_reads::have_of;
 use std::alloc::{AllocError, Global};
 
 /// A copy of a text.
-fn own_text(text: &Text) -> Result<Text, AllocError>
+pub(crate) fn own_text(text: &Text) -> Result<Text, AllocError>
     ensures { IfOk result (λ own. own ≡ text.now) }
 {
     text.clone()

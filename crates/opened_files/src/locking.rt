@@ -3,14 +3,13 @@
 ghost use Rattle.std.specs.Prelude.{◌≡◌, List, IfOk};
 ghost use Rattle.std.specs.Option.{option_copied};
 ghost use Rattle.depot_rows.specs.db_records.declared.table.TableId.TheVariants as table_ids;
-ghost use Rattle.depot_rows.specs.table_changes.Changed.{AllRows, rows_of};
+ghost use Rattle.depot_rows.specs.table_changes.Changed.{rows_of};
 ghost use Rattle.depot_rows.specs.depot_model.Deeds.{Deed};
-ghost use Rattle.depot_rows.specs.depot_model.Opened.{holder};
 ghost use Rattle.depot_rows.specs.depot_model.Rules.{IsSound};
 ghost use Rattle.depot_rows.specs.depot_model.Steps.Reverting as model;
 ghost use Rattle.depot_rows.specs.Standing.{HasRows};
 ghost use Rattle.reply_rows.specs.Made.{IsMade};
-ghost use Rattle.opened_files.specs.Locks.{NoOther, Reads, hold_step, locking as locking_by, other_of as other_in};
+ghost use Rattle.opened_files.specs.Locks.{Reads, other_of as other_in};
 
 use crate::action_rows::action_row;
 use depot_rows::model::{Caller, FileArgument};
@@ -19,8 +18,9 @@ use depot_rows::protections::Level;
 use depot_rows::tables::Tables;
 use file_steps::{FileAct, over, within_files};
 use named_files::{Asker, SelectedFiles};
+use opening_parts::right_refusal;
 use opening_reads::held;
-use reply_rows::{Step, denied_row, locked_row};
+use reply_rows::{Step, locked_row};
 use revision_reads::holder_of;
 use std::alloc::{AllocError, Global};
 
@@ -47,47 +47,6 @@ fn other_of<'a>(client: &Name, who: &'a Option<Name>) -> Option<&'a Name>
     }
 }
 
-/// The step that locks a file.
-fn hold(alloc: Global, caller: &Caller, path: &DepotPath) -> Result<Step, AllocError>
-    ensures { IfOk result (λ step. (all : AllRows) (d e : List Deed) → NoOther caller.now.client (holder e path.now) → IsMade all d e (hold_step caller.now path.now) step) }
-{
-    // the bytes of a path are one
-    let _bytes = path.as_bytes();
-    let file = held(&caller.client, path)?;
-    let row = action_row(alloc, path, b"locked")?;
-    let step = Step::holds(alloc, file, row)?;
-    Ok(step)
-}
-
-/// What a lock does to a file, by the caller's right and by who has its lock.
-fn lock_file(
-    alloc: Global,
-    caller: &Caller,
-    path: &DepotPath,
-    may: bool,
-    who: &Option<Name>,
-) -> Result<Step, AllocError>
-    ensures { IfOk result (λ step. (all : AllRows) (d e : List Deed) → (NoOther caller.now.client who.now → NoOther caller.now.client (holder e path.now)) →
-        IsMade all d e (locking_by caller.now path.now may who.now) step) }
-{
-    if !may {
-        let row = denied_row(alloc, path, Level(4))?;
-        let step = Step::tells(alloc, row)?;
-        return Ok(step);
-    }
-    match other_of(&caller.client, who) {
-        Some(other) => {
-            let row = locked_row(alloc, path, other)?;
-            let step = Step::tells(alloc, row)?;
-            Ok(step)
-        }
-        None => {
-            let step = hold(alloc, caller, path)?;
-            Ok(step)
-        }
-    }
-}
-
 impl<'a> FileAct for Locking<'a> {
     ghost use Rattle.depot_rows.specs.depot_model.Steps.Reverting.{lock_file as step_of_file};
     ghost use Rattle.opened_files.specs.Locks.{Reads, StaysFree};
@@ -106,37 +65,25 @@ impl<'a> FileAct for Locking<'a> {
         _argument: &FileArgument,
         path: &DepotPath,
     ) -> Result<Step, AllocError> {
-        let may = self.asker.may(path, Level(4));
+        if let Some(row) = right_refusal(alloc, self.asker, path, Level(4))? {
+            return Step::tells(alloc, row);
+        }
+        let client = &self.caller.client;
         let who = holder_of(alloc, tables, path)?;
-        let step = lock_file(alloc, self.caller, path, may, &who)?;
-        Ok(step)
+        if let Some(other) = other_of(client, &who) {
+            let row = locked_row(alloc, path, other)?;
+            return Step::tells(alloc, row);
+        }
+        // the bytes of a path are one
+        let _bytes = path.as_bytes();
+        let file = held(client, path)?;
+        let row = action_row(alloc, path, b"locked")?;
+        Step::holds(alloc, file, row)
     }
 
     ghost first = { λ locking d path free. free };
 
     ghost next = { λ locking d e argument path later. lock_stays d e locking.caller.now path later };
-}
-
-/// `lock` of an asker.
-fn lock_asked(
-    alloc: Global,
-    tables: &Tables,
-    caller: &Caller,
-    asker: &Asker,
-    change: Option<u32>,
-    arguments: &[FileArgument],
-) -> Result<Step, AllocError>
-    ensures { IfOk result (λ step. (d : List Deed) → Reads caller.now asker.now (rows_of tables.now) d → IsMade (rows_of tables.now) d d (model.lock d caller.now change arguments.now) step) }
-{
-    let files = SelectedFiles {
-        caller,
-        asker,
-        change,
-    };
-    let locking = Locking { caller, asker };
-    let done = over(alloc, tables, &files, &locking, arguments)?;
-    let step = within_files(alloc, done)?;
-    Ok(step)
 }
 
 /// `lock [-c CHANGE] FILE...`: locks files that the client has opened, in the change where one is given, so that no other client submits them, from
@@ -153,8 +100,15 @@ pub fn lock(
         IsMade (rows_of tables.now) d d (model.lock d caller.now change arguments.now) step) }
 {
     let asker = Asker::of(alloc, tables, caller)?;
-    let done = lock_asked(alloc, tables, caller, &asker, change, arguments);
-    drop(asker);
-    let step = done?;
-    Ok(step)
+    let files = SelectedFiles {
+        caller,
+        asker: &asker,
+        change,
+    };
+    let locking = Locking {
+        caller,
+        asker: &asker,
+    };
+    let done = over(alloc, tables, &files, &locking, arguments)?;
+    within_files(alloc, done)
 }

@@ -1,9 +1,9 @@
 //! `move` (Command-Line Reference, "p4 move", "p4 rename").
 
-ghost use Rattle.std.specs.Prelude.{◌≡◌, ◌++◌, ℕ, true, false, List, IfOk, OnOk, Some, option_map};
+ghost use Rattle.std.specs.Prelude.{◌≡◌, ◌++◌, true, false, List, IfOk, OnOk, Some, option_map};
 ghost use Rattle.depot_rows.specs.db_records.declared.table.TableId.TheVariants as table_ids;
 ghost use Rattle.depot_rows.specs.table_changes.Changed.{AllRows, rows_of};
-ghost use Rattle.depot_rows.specs.depot_model.Arguments.{named as named_in, opened_by, within_files as within_files_in};
+ghost use Rattle.depot_rows.specs.depot_model.Arguments.{opened_by};
 ghost use Rattle.depot_rows.specs.depot_model.Deeds.{Deed as ModelDeed};
 ghost use Rattle.depot_rows.specs.depot_model.Opened.{partner};
 ghost use Rattle.depot_rows.specs.depot_model.Refusals.{refusal_row};
@@ -16,16 +16,15 @@ ghost use Rattle.depot_rows.specs.Effects.{Follow};
 ghost use Rattle.depot_rows.specs.Standing.{HasRows};
 ghost use Rattle.reply_rows.specs.Made.{IsMade, does};
 ghost use Rattle.opening_reads.specs.OwnOpenings.{IsOwn};
-ghost use Rattle.opened_files.specs.Moves.{Reads, ReadsOwn, at_target, back_named, is_add, is_move_add, is_move_delete, moved_row, moves_named, moves_nowhere, moves_permitted, move_step};
+ghost use Rattle.opened_files.specs.Moves.{ReadsOwn, at_target, is_add, is_move_add, is_move_delete, moved_row, moves_nowhere, move_step};
 ghost use Rattle.opened_files.specs.Moves.{added_at as opening_added, edited_at as opening_edited, left_behind as opening_left, renamed as opening_renamed};
-ghost use Rattle.opened_files.specs.Moves.{file_refusal as file_refusal_in, place_refusal as place_refusal_in, taken_refusal as taken_refusal_in, target_refusal as target_refusal_in};
 
 use crate::adding::new_refusal;
 use crate::partners::is_end;
 use command_parts::named_change_refusal;
 use deed_list::Deeds;
 use depot_rows::model::{Caller, FileArgument, PatternArgument, Row};
-use depot_rows::paths::{DepotPath, Sequence, Text, Wanted, print_bytes};
+use depot_rows::paths::{DepotPath, Text, Wanted, print_bytes};
 use depot_rows::protections::Level;
 use depot_rows::tables::Tables;
 use depot_rows::{Action, Opening, Source};
@@ -37,7 +36,7 @@ use reply_rows::{RowBuilder, Step, not_in_view_row, not_movable_row};
 use revision_reads::{head_of, shown_in_view, target_at as file_of_target, target_text};
 use std::alloc::{AllocError, Global};
 
-/// What `move` is asked.
+/// What `move` is asked, and what the client has opened by then.
 #[derive(Drop)]
 struct Moving<'a> {
     caller: &'a Caller,
@@ -45,12 +44,6 @@ struct Moving<'a> {
     change: Option<u32>,
     from: &'a FileArgument,
     to: &'a PatternArgument,
-}
-
-/// A move of files one after another.
-#[derive(Drop)]
-struct MovingInTurn<'a> {
-    moving: &'a Moving<'a>,
     own: OwnOpenings,
 }
 
@@ -190,22 +183,6 @@ fn renamed(other: &Opening, change: Option<u32>, target: &DepotPath) -> Result<O
     Ok(end)
 }
 
-/// The opening of the other end of a move, where it names the file back.
-fn named_back(found: Option<Opening>, path: &DepotPath) -> Option<Opening>
-    ensures { option_map opening_of_deed result ≡ back_named path.now (option_map opening_of_deed found) }
-{
-    match found {
-        Some(opening) => {
-            if is_end(&opening.moved, path) {
-                Some(opening)
-            } else {
-                None
-            }
-        }
-        None => None,
-    }
-}
-
 /// The opening of the other end of a move, where the client has it opened and it names the file back.
 fn other_end(
     alloc: Global,
@@ -216,14 +193,16 @@ fn other_end(
     ensures { IfOk result (λ other. (d e : List ModelDeed) → IsSound d → HasRows (rows_of tables.now) d table_ids.Working → IsOwn own.now opening.now.client d e →
         option_map opening_of_deed other ≡ partner e (opening_of_deed opening.now)) }
 {
-    match &opening.moved {
-        Some(path) => {
-            let found = own.opening(alloc, tables, &opening.client, path)?;
-            let other = named_back(found, &opening.path);
-            Ok(other)
-        }
-        None => Ok(None),
+    let Some(path) = &opening.moved else {
+        return Ok(None);
+    };
+    let Some(other) = own.opening(alloc, tables, &opening.client, path)? else {
+        return Ok(None);
+    };
+    if is_end(&other.moved, &opening.path) {
+        return Ok(Some(other));
     }
+    Ok(None)
 }
 
 /// The deeds for a file that is added.
@@ -288,51 +267,8 @@ fn add_renamed(
     Ok(())
 }
 
-/// The same, where there is such an end.
-fn add_other(
-    deeds: &mut Deeds,
-    other: &Option<Opening>,
-    change: Option<u32>,
-    target: &DepotPath,
-) -> Result<(), AllocError>
-    ensures { OnOk result ((e done : List ModelDeed) → Follow e deeds.old done →
-        Follow e deeds.new (done ++ model.renamed change target.now (option_map opening_of_deed other.now))) }
-{
-    match other {
-        Some(other) => {
-            add_renamed(deeds, other, change, target)?;
-            Ok(())
-        }
-        None => Ok(()),
-    }
-}
-
 /// The deeds for a file that was moved: the file that it was moved from names the new path.
 fn deeds_again(
-    alloc: Global,
-    opening: &Opening,
-    other: &Option<Opening>,
-    base: u32,
-    change: Option<u32>,
-    target: &DepotPath,
-) -> Result<Deeds, AllocError>
-    ensures { IfOk result (λ deeds. (e : List ModelDeed) → base ≡ head e target.now → option_map opening_of_deed other.now ≡ partner e (opening_of_deed opening.now) →
-        Follow e deeds (model.move_again e change (opening_of_deed opening.now) target.now)) }
-{
-    // the bytes of a path are one
-    let _target = target.as_bytes();
-    let _path = opening.path.as_bytes();
-    let file = held(&opening.client, &opening.path)?;
-    let at = opening_at(opening, base, change, target)?;
-    let mut deeds = Deeds::new(alloc);
-    deeds.shut(file)?;
-    deeds.open(at)?;
-    add_other(&mut deeds, other, change, target)?;
-    Ok(deeds)
-}
-
-/// The deeds for a file that was moved, with the other end of its move.
-fn deeds_of_moved(
     alloc: Global,
     tables: &Tables,
     own: &OwnOpenings,
@@ -344,10 +280,18 @@ fn deeds_of_moved(
     ensures { IfOk result (λ deeds. (d e : List ModelDeed) → IsSound d → HasRows (rows_of tables.now) d table_ids.Working → IsOwn own.now opening.now.client d e →
         base ≡ head e target.now → Follow e deeds (model.move_again e change (opening_of_deed opening.now) target.now)) }
 {
-    let other = other_end(alloc, tables, own, opening)?;
-    let made = deeds_again(alloc, opening, &other, base, change, target);
-    drop(other);
-    let deeds = made?;
+    // the bytes of a path are one
+    let _target = target.as_bytes();
+    let _path = opening.path.as_bytes();
+    let file = held(&opening.client, &opening.path)?;
+    let at = opening_at(opening, base, change, target)?;
+    let mut deeds = Deeds::new(alloc);
+    deeds.shut(file)?;
+    deeds.open(at)?;
+    if let Some(other) = other_end(alloc, tables, own, opening)? {
+        add_renamed(&mut deeds, &other, change, target)?;
+        return Ok(deeds);
+    }
     Ok(deeds)
 }
 
@@ -369,7 +313,7 @@ fn move_deeds(
         return Ok(deeds);
     }
     if is_moved(opening) {
-        let deeds = deeds_of_moved(alloc, tables, own, opening, base, change, target)?;
+        let deeds = deeds_again(alloc, tables, own, opening, base, change, target)?;
         return Ok(deeds);
     }
     let deeds = deeds_edited(alloc, opening, base, change, target)?;
@@ -426,171 +370,53 @@ fn move_there(
     let base = head_of(alloc, tables, target)?;
     let row = move_row(alloc, opening, base, target)?;
     let deeds = move_deeds(alloc, tables, own, opening, base, change, target)?;
-    let step = step_of(alloc, deeds, row)?;
-    Ok(step)
+    step_of(alloc, deeds, row)
 }
 
 /// The step of a file whose target is no path, or that no file has.
 fn no_target(alloc: Global, opening: &Opening, text: &Text) -> Result<Step, AllocError>
     ensures { IfOk result (λ step. (all : AllRows) (d e : List ModelDeed) → IsMade all d e (moves_nowhere (opening_of_deed opening.now) text.now) step) }
 {
-    let refusal = movable_refusal(alloc, opening)?;
-    match refusal {
-        Some(row) => {
-            let step = Step::tells(alloc, row)?;
-            Ok(step)
-        }
-        None => {
-            let printed = print_bytes(alloc, text.as_bytes())?;
-            let row = not_in_view_row(alloc, printed.as_bytes())?;
-            let step = Step::tells(alloc, row)?;
-            Ok(step)
-        }
+    if let Some(row) = movable_refusal(alloc, opening)? {
+        return Step::tells(alloc, row);
     }
+    let printed = print_bytes(alloc, text.as_bytes())?;
+    let row = not_in_view_row(alloc, printed.as_bytes())?;
+    Step::tells(alloc, row)
 }
 
 impl<'a> Moving<'a> {
-    /// The row that refuses a target that this client has opened, or that is there, or that another client has opened alone.
-    fn taken_refusal(
-        &self,
-        alloc: Global,
-        tables: &Tables,
-        own: &OwnOpenings,
-        opening: &Opening,
-        target: &DepotPath,
-    ) -> Result<Option<Row>, AllocError>
-        ensures { IfOk result (λ row. (d e : List ModelDeed) → ReadsOwn self.now.caller.now self.now.asker.now self.now.from.now own.now (rows_of tables.now) d e →
-            row ≡ option_map refusal_row (taken_refusal_in e self.now.caller.now (opening_of_deed opening.now) target.now)) }
-    {
-        let client = &self.caller.client;
-        let open = own.is_opened(alloc, tables, client, target)?;
-        let row = new_refusal(alloc, tables, target, client, &opening.file_type, open)?;
-        Ok(row)
-    }
-
-    /// The same, or that the view doesn't show.
-    fn place_refusal(
-        &self,
-        alloc: Global,
-        tables: &Tables,
-        own: &OwnOpenings,
-        opening: &Opening,
-        target: &DepotPath,
-    ) -> Result<Option<Row>, AllocError>
-        ensures { IfOk result (λ row. (d e : List ModelDeed) → ReadsOwn self.now.caller.now self.now.asker.now self.now.from.now own.now (rows_of tables.now) d e →
-            row ≡ option_map refusal_row (place_refusal_in e self.now.caller.now (opening_of_deed opening.now) target.now)) }
-    {
-        let view = &self.asker.view;
-        let place = shown_in_view(alloc, tables, self.caller, view, target, &Wanted::Head)?;
-        match place {
-            Some(place) => {
-                drop(place);
-                let row = self.taken_refusal(alloc, tables, own, opening, target)?;
-                Ok(row)
-            }
-            None => {
-                let row = unseen_row(alloc, target)?;
-                Ok(Some(row))
-            }
-        }
-    }
-
-    /// The same, or the row that refuses the file that is to be moved.
-    fn file_refusal(
-        &self,
-        alloc: Global,
-        tables: &Tables,
-        own: &OwnOpenings,
-        opening: &Opening,
-        target: &DepotPath,
-    ) -> Result<Option<Row>, AllocError>
-        ensures { IfOk result (λ row. (d e : List ModelDeed) → ReadsOwn self.now.caller.now self.now.asker.now self.now.from.now own.now (rows_of tables.now) d e →
-            row ≡ option_map refusal_row (file_refusal_in e self.now.caller.now (opening_of_deed opening.now) target.now)) }
-    {
-        let refusal = movable_refusal(alloc, opening)?;
-        match refusal {
-            Some(row) => Ok(Some(row)),
-            None => {
-                let row = self.place_refusal(alloc, tables, own, opening, target)?;
-                Ok(row)
-            }
-        }
-    }
-
-    /// The row that refuses the move of a file to a target: the first reason.
-    fn target_refusal(
-        &self,
-        alloc: Global,
-        tables: &Tables,
-        own: &OwnOpenings,
-        opening: &Opening,
-        target: &DepotPath,
-    ) -> Result<Option<Row>, AllocError>
-        ensures { IfOk result (λ row. (d e : List ModelDeed) → ReadsOwn self.now.caller.now self.now.asker.now self.now.from.now own.now (rows_of tables.now) d e →
-            row ≡ option_map refusal_row (target_refusal_in e self.now.caller.now (opening_of_deed opening.now) target.now)) }
-    {
-        let refusal = right_refusal(alloc, self.asker, target, Level(3))?;
-        match refusal {
-            Some(row) => Ok(Some(row)),
-            None => {
-                let row = self.file_refusal(alloc, tables, own, opening, target)?;
-                Ok(row)
-            }
-        }
-    }
-
     /// What is done with an opened file that has a target.
     fn move_to(
         &self,
         alloc: Global,
         tables: &Tables,
-        own: &OwnOpenings,
         opening: &Opening,
         target: &DepotPath,
     ) -> Result<Step, AllocError>
-        ensures { IfOk result (λ step. (d e : List ModelDeed) → ReadsOwn self.now.caller.now self.now.asker.now self.now.from.now own.now (rows_of tables.now) d e →
+        ensures { IfOk result (λ step. (d e : List ModelDeed) → ReadsOwn self.now.caller.now self.now.asker.now self.now.from.now self.now.own (rows_of tables.now) d e →
             opening.now.client ≡ self.now.caller.now.client →
             IsMade (rows_of tables.now) d e (model.move_to e self.now.caller.now self.now.change (opening_of_deed opening.now) target.now) step) }
     {
-        let refusal = self.target_refusal(alloc, tables, own, opening, target)?;
-        match refusal {
-            Some(row) => {
-                let step = Step::tells(alloc, row)?;
-                Ok(step)
-            }
-            None => {
-                let step = move_there(alloc, tables, own, opening, self.change, target)?;
-                Ok(step)
-            }
+        if let Some(row) = right_refusal(alloc, self.asker, target, Level(3))? {
+            return Step::tells(alloc, row);
         }
-    }
-
-    /// What is done with an opened file that the caller may open.
-    fn move_permitted(
-        &self,
-        alloc: Global,
-        tables: &Tables,
-        own: &OwnOpenings,
-        opening: &Opening,
-    ) -> Result<Step, AllocError>
-        ensures { IfOk result (λ step. (d e : List ModelDeed) → ReadsOwn self.now.caller.now self.now.asker.now self.now.from.now own.now (rows_of tables.now) d e →
-            opening.now.client ≡ self.now.caller.now.client →
-            IsMade (rows_of tables.now) d e (moves_permitted e self.now.caller.now self.now.change self.now.from.now self.now.to.now (opening_of_deed opening.now)) step) }
-    {
+        if let Some(row) = movable_refusal(alloc, opening)? {
+            return Step::tells(alloc, row);
+        }
+        let caller = self.caller;
         let view = &self.asker.view;
-        let path = &opening.path;
-        let text = target_text(alloc, tables, self.caller, view, self.from, self.to, path)?;
-        let target = file_of_target(alloc, tables, self.caller, view, self.to, &text)?;
-        match target {
-            Some(target) => {
-                let step = self.move_to(alloc, tables, own, opening, &target)?;
-                Ok(step)
-            }
-            None => {
-                let step = no_target(alloc, opening, &text)?;
-                Ok(step)
-            }
+        let place = shown_in_view(alloc, tables, caller, view, target, &Wanted::Head)?;
+        if place.is_none() {
+            let row = unseen_row(alloc, target)?;
+            return Step::tells(alloc, row);
         }
+        let client = &caller.client;
+        let open = self.own.is_opened(alloc, tables, client, target)?;
+        if let Some(row) = new_refusal(alloc, tables, target, client, &opening.file_type, open)? {
+            return Step::tells(alloc, row);
+        }
+        move_there(alloc, tables, &self.own, opening, self.change, target)
     }
 
     /// What is done with an opened file.
@@ -598,23 +424,21 @@ impl<'a> Moving<'a> {
         &self,
         alloc: Global,
         tables: &Tables,
-        own: &OwnOpenings,
         opening: &Opening,
     ) -> Result<Step, AllocError>
-        ensures { IfOk result (λ step. (d e : List ModelDeed) → ReadsOwn self.now.caller.now self.now.asker.now self.now.from.now own.now (rows_of tables.now) d e →
+        ensures { IfOk result (λ step. (d e : List ModelDeed) → ReadsOwn self.now.caller.now self.now.asker.now self.now.from.now self.now.own (rows_of tables.now) d e →
             opening.now.client ≡ self.now.caller.now.client →
             IsMade (rows_of tables.now) d e (model.move_opening e self.now.caller.now self.now.change self.now.from.now self.now.to.now (opening_of_deed opening.now)) step) }
     {
-        let refusal = right_refusal(alloc, self.asker, &opening.path, Level(3))?;
-        match refusal {
-            Some(row) => {
-                let step = Step::tells(alloc, row)?;
-                Ok(step)
-            }
-            None => {
-                let step = self.move_permitted(alloc, tables, own, opening)?;
-                Ok(step)
-            }
+        let path = &opening.path;
+        if let Some(row) = right_refusal(alloc, self.asker, path, Level(3))? {
+            return Step::tells(alloc, row);
+        }
+        let view = &self.asker.view;
+        let text = target_text(alloc, tables, self.caller, view, self.from, self.to, path)?;
+        match file_of_target(alloc, tables, self.caller, view, self.to, &text)? {
+            Some(target) => self.move_to(alloc, tables, opening, &target),
+            None => no_target(alloc, opening, &text),
         }
     }
 
@@ -623,32 +447,25 @@ impl<'a> Moving<'a> {
         &self,
         alloc: Global,
         tables: &Tables,
-        own: &OwnOpenings,
         path: &DepotPath,
     ) -> Result<Step, AllocError>
-        ensures { IfOk result (λ step. (d e : List ModelDeed) → ReadsOwn self.now.caller.now self.now.asker.now self.now.from.now own.now (rows_of tables.now) d e →
+        ensures { IfOk result (λ step. (d e : List ModelDeed) → ReadsOwn self.now.caller.now self.now.asker.now self.now.from.now self.now.own (rows_of tables.now) d e →
             IsMade (rows_of tables.now) d e (model.move_file self.now.caller.now self.now.change self.now.from.now self.now.to.now e path.now) step) }
     {
-        let found = own.opening(alloc, tables, &self.caller.client, path)?;
-        match found {
-            Some(opening) => {
-                let done = self.move_opening(alloc, tables, own, &opening);
-                drop(opening);
-                let step = done?;
-                Ok(step)
-            }
+        match self.own.opening(alloc, tables, &self.caller.client, path)? {
+            Some(opening) => self.move_opening(alloc, tables, &opening),
             None => Ok(Step::new(alloc)),
         }
     }
 }
 
-impl<'a> TurnAct for MovingInTurn<'a> {
+impl<'a> TurnAct for Moving<'a> {
     ghost use Rattle.depot_rows.specs.depot_model.Steps.Moving.{move_file};
     ghost use Rattle.opened_files.specs.Moves.{ReadsOwn};
 
-    ghost stands = { λ act rows d e. ReadsOwn act.moving.now.caller.now act.moving.now.asker.now act.moving.now.from.now act.own rows d e };
+    ghost stands = { λ act rows d e. ReadsOwn act.caller.now act.asker.now act.from.now act.own rows d e };
 
-    ghost acts = { λ act d e path. move_file act.moving.now.caller.now act.moving.now.change act.moving.now.from.now act.moving.now.to.now e path };
+    ghost acts = { λ act d e path. move_file act.caller.now act.change act.from.now act.to.now e path };
 
     fn act(
         &mut self,
@@ -656,64 +473,10 @@ impl<'a> TurnAct for MovingInTurn<'a> {
         tables: &Tables,
         path: &DepotPath,
     ) -> Result<Step, AllocError> {
-        let step = self.moving.move_file(alloc, tables, &self.own, path)?;
+        let step = self.move_file(alloc, tables, path)?;
         self.own.note(step.deeds.as_slice())?;
         Ok(step)
     }
-}
-
-/// The files that the client has opened and that the argument names.
-fn named_files(
-    alloc: Global,
-    tables: &Tables,
-    caller: &Caller,
-    asker: &Asker,
-    from: &FileArgument,
-) -> Result<Sequence<DepotPath>, AllocError>
-    ensures { IfOk result (λ paths. (d : List ModelDeed) → Reads caller.now asker.now from.now (rows_of tables.now) d → HasRows (rows_of tables.now) d table_ids.Domain →
-        paths ≡ named_in false d caller.now (opened_by d caller.now.client) from.now) }
-{
-    let listing = Listing::opened_by(&caller.client)?;
-    let files = HeadFiles {
-        caller,
-        asker,
-        listing: &listing,
-    };
-    let named = named_by(alloc, tables, &files, from);
-    drop(listing);
-    let paths = named?;
-    Ok(paths)
-}
-
-/// `move` of files, of which there may be none.
-fn move_named(
-    alloc: Global,
-    tables: &Tables,
-    moving: &Moving<'_>,
-    paths: &[DepotPath],
-) -> Result<Step, AllocError>
-    ensures { IfOk result (λ step. (d : List ModelDeed) → Reads moving.now.caller.now moving.now.asker.now moving.now.from.now (rows_of tables.now) d →
-        IsMade (rows_of tables.now) d d (model.move_all d moving.now.caller.now moving.now.change moving.now.from.now moving.now.to.now paths.now) step) }
-{
-    if paths.is_empty() {
-        let step = not_open(alloc, moving.from)?;
-        return Ok(step);
-    }
-    let own = OwnOpenings::new(alloc);
-    let mut act = MovingInTurn { moving, own };
-    let step = in_turn(alloc, tables, &mut act, paths)?;
-    Ok(step)
-}
-
-/// `move` of an asker, where the change isn't refused.
-fn move_asked(alloc: Global, tables: &Tables, moving: &Moving<'_>) -> Result<Step, AllocError>
-    ensures { IfOk result (λ step. (d : List ModelDeed) → Reads moving.now.caller.now moving.now.asker.now moving.now.from.now (rows_of tables.now) d → HasRows (rows_of tables.now) d table_ids.Domain →
-        IsMade (rows_of tables.now) d d (within_files_in (moves_named d moving.now.caller.now moving.now.change moving.now.from.now moving.now.to.now)) step) }
-{
-    let paths = named_files(alloc, tables, moving.caller, moving.asker, moving.from)?;
-    let done = move_named(alloc, tables, moving, paths.as_slice())?;
-    let step = within_files(alloc, done)?;
-    Ok(step)
 }
 
 /// `move [-c CHANGE] FROM TO`: files that the client has opened are opened elsewhere, from the tables of groups, protections, forms, opened files,
@@ -731,25 +494,28 @@ pub fn move_files(
         HasRows (rows_of tables.now) d table_ids.Working → HasRows (rows_of tables.now) d table_ids.Rev →
         IsMade (rows_of tables.now) d d (model.move d caller.now change from.now to.now) step) }
 {
-    let refusal = named_change_refusal(alloc, tables, caller, change)?;
-    match refusal {
-        Some(row) => {
-            let step = Step::tells(alloc, row)?;
-            Ok(step)
-        }
-        None => {
-            let asker = Asker::of(alloc, tables, caller)?;
-            let moving = Moving {
-                caller,
-                asker: &asker,
-                change,
-                from,
-                to,
-            };
-            let done = move_asked(alloc, tables, &moving);
-            drop(asker);
-            let step = done?;
-            Ok(step)
-        }
+    if let Some(row) = named_change_refusal(alloc, tables, caller, change)? {
+        return Step::tells(alloc, row);
     }
+    let asker = Asker::of(alloc, tables, caller)?;
+    let listing = Listing::opened_by(&caller.client)?;
+    let files = HeadFiles {
+        caller,
+        asker: &asker,
+        listing: &listing,
+    };
+    let paths = named_by(alloc, tables, &files, from)?;
+    if paths.is_empty() {
+        return not_open(alloc, from);
+    }
+    let mut moving = Moving {
+        caller,
+        asker: &asker,
+        change,
+        from,
+        to,
+        own: OwnOpenings::new(alloc),
+    };
+    let done = in_turn(alloc, tables, &mut moving, paths.as_slice())?;
+    within_files(alloc, done)
 }

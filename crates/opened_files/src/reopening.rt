@@ -1,31 +1,28 @@
 //! `reopen` (Command-Line Reference, "p4 reopen").
 
-ghost use Rattle.std.specs.Prelude.{◌≡◌, [], List, IfOk, None};
+ghost use Rattle.std.specs.Prelude.{◌≡◌, List, IfOk, None};
 ghost use Rattle.depot_rows.specs.db_records.declared.table.TableId.TheVariants as table_ids;
-ghost use Rattle.depot_rows.specs.table_changes.Changed.{AllRows, rows_of};
-ghost use Rattle.depot_rows.specs.depot_model.Arguments as arguments_of;
+ghost use Rattle.depot_rows.specs.table_changes.Changed.{rows_of};
 ghost use Rattle.depot_rows.specs.depot_model.Deeds.{Deed};
 ghost use Rattle.depot_rows.specs.depot_model.Rules.{IsSound};
 ghost use Rattle.depot_rows.specs.depot_model.Steps.Reverting as model;
 ghost use Rattle.depot_rows.specs.Deed.{opening_of as opening_of_deed};
 ghost use Rattle.depot_rows.specs.Standing.{HasRows};
 ghost use Rattle.reply_rows.specs.Made.{IsMade};
-ghost use Rattle.opening_reads.specs.Read.{opening_in_row};
 ghost use Rattle.opened_files.specs.Locks.{Reads};
-ghost use Rattle.opened_files.specs.Reopened.{open_step, reopening as reopening_by};
 
 use command_parts::reopened_change_refusal;
 use depot_rows::Opening;
 use depot_rows::model::{Caller, FileArgument, Row};
-use depot_rows::paths::{DepotPath, Name, Text};
+use depot_rows::paths::{DepotPath, Text};
 use depot_rows::protections::Level;
-use depot_rows::records::WorkingRecord;
 use depot_rows::tables::Tables;
 use file_openings::opening_of;
 use file_steps::{FileAct, over, within_files};
 use named_files::{Asker, SelectedFiles};
+use opening_parts::right_refusal;
 use opening_reads::reopened_in;
-use reply_rows::{RowBuilder, Step, denied_row};
+use reply_rows::{RowBuilder, Step};
 use std::alloc::{AllocError, Global};
 
 /// What `reopen` does with a file.
@@ -47,49 +44,6 @@ fn reopen_row(alloc: Global, opening: &Opening) -> Result<Row, AllocError>
     Ok(row.row())
 }
 
-/// The step that opens a file anew.
-fn open_anew(
-    alloc: Global,
-    client: &Name,
-    path: &DepotPath,
-    row: &WorkingRecord,
-    change: Option<u32>,
-    file_type: &Option<Text>,
-) -> Result<Step, AllocError>
-    ensures { IfOk result (λ step. (all : AllRows) (d e : List Deed) →
-        IsMade all d e (open_step (opening_of_deed (opening_in_row client.now path.now row.now change file_type.now))) step) }
-{
-    // the bytes of a path are one
-    let _bytes = path.as_bytes();
-    let opening = reopened_in(alloc, client, path, row, change, file_type)?;
-    let told = reopen_row(alloc, &opening)?;
-    let step = Step::opens(alloc, opening, told)?;
-    Ok(step)
-}
-
-/// What is done with a file of this row, by the caller's right.
-fn reopen_file(
-    alloc: Global,
-    client: &Name,
-    path: &DepotPath,
-    may: bool,
-    row: &WorkingRecord,
-    change: Option<u32>,
-    file_type: &Option<Text>,
-) -> Result<Step, AllocError>
-    ensures { IfOk result (λ step. (all : AllRows) (d e : List Deed) →
-        IsMade all d e (reopening_by path.now may (opening_of_deed (opening_in_row client.now path.now row.now change file_type.now))) step) }
-{
-    if may {
-        let step = open_anew(alloc, client, path, row, change, file_type)?;
-        Ok(step)
-    } else {
-        let row = denied_row(alloc, path, Level(3))?;
-        let step = Step::tells(alloc, row)?;
-        Ok(step)
-    }
-}
-
 impl<'a> FileAct for Reopening<'a> {
     ghost use Rattle.depot_rows.specs.depot_model.Steps.Reverting.{reopen_file as step_of_file};
     ghost use Rattle.opened_files.specs.Locks.{Reads};
@@ -108,53 +62,22 @@ impl<'a> FileAct for Reopening<'a> {
         path: &DepotPath,
     ) -> Result<Step, AllocError> {
         let client = &self.caller.client;
-        let may = self.asker.may(path, Level(3));
-        let row = opening_of(alloc, tables, client, path)?;
-        match row {
-            Some(row) => {
-                let step = reopen_file(alloc, client, path, may, row, self.change, self.file_type)?;
-                Ok(step)
-            }
-            None => {
-                let step = Step::new(alloc);
-                Ok(step)
-            }
+        let Some(row) = opening_of(alloc, tables, client, path)? else {
+            return Ok(Step::new(alloc));
+        };
+        if let Some(told) = right_refusal(alloc, self.asker, path, Level(3))? {
+            return Step::tells(alloc, told);
         }
+        // the bytes of a path are one
+        let _bytes = path.as_bytes();
+        let opening = reopened_in(alloc, client, path, row, self.change, self.file_type)?;
+        let told = reopen_row(alloc, &opening)?;
+        Step::opens(alloc, opening, told)
     }
 
     ghost first = { λ reopening d. tt };
 
     ghost next = { λ reopening d e argument path later. tt };
-}
-
-/// `reopen` of an asker, where the change isn't refused.
-fn reopen_files(
-    alloc: Global,
-    tables: &Tables,
-    caller: &Caller,
-    asker: &Asker,
-    change: Option<u32>,
-    file_type: &Option<Text>,
-    arguments: &[FileArgument],
-) -> Result<Step, AllocError>
-    ensures { IfOk result (λ step. (d : List Deed) → Reads caller.now asker.now (rows_of tables.now) d →
-        IsMade (rows_of tables.now) d d
-        (arguments_of.within_files (arguments_of.over (model.selected d caller.now None) model.not_open (λ _. model.reopen_file d caller.now change file_type.now) [] arguments.now)) step) }
-{
-    let files = SelectedFiles {
-        caller,
-        asker,
-        change: None,
-    };
-    let reopening = Reopening {
-        caller,
-        asker,
-        change,
-        file_type,
-    };
-    let done = over(alloc, tables, &files, &reopening, arguments)?;
-    let step = within_files(alloc, done)?;
-    Ok(step)
 }
 
 /// `reopen [-c CHANGE] [-t TYPE] FILE...`: moves files that the client has opened into another change, or gives them another type, from the tables
@@ -171,18 +94,21 @@ pub fn reopen(
         HasRows (rows_of tables.now) d table_ids.Domain → HasRows (rows_of tables.now) d table_ids.Change → HasRows (rows_of tables.now) d table_ids.Working →
         IsMade (rows_of tables.now) d d (model.reopen d caller.now change file_type.now arguments.now) step) }
 {
-    let refusal = reopened_change_refusal(alloc, tables, caller, change)?;
-    match refusal {
-        Some(row) => {
-            let step = Step::tells(alloc, row)?;
-            Ok(step)
-        }
-        None => {
-            let asker = Asker::of(alloc, tables, caller)?;
-            let done = reopen_files(alloc, tables, caller, &asker, change, file_type, arguments);
-            drop(asker);
-            let step = done?;
-            Ok(step)
-        }
+    if let Some(row) = reopened_change_refusal(alloc, tables, caller, change)? {
+        return Step::tells(alloc, row);
     }
+    let asker = Asker::of(alloc, tables, caller)?;
+    let files = SelectedFiles {
+        caller,
+        asker: &asker,
+        change: None,
+    };
+    let reopening = Reopening {
+        caller,
+        asker: &asker,
+        change,
+        file_type,
+    };
+    let done = over(alloc, tables, &files, &reopening, arguments)?;
+    within_files(alloc, done)
 }

@@ -7,7 +7,7 @@ ghost use Rattle.depot_rows.specs.table_changes.Changed.{rows_of};
 ghost use Rattle.depot_rows.specs.depot_model.Arguments.{is_in};
 ghost use Rattle.depot_rows.specs.depot_model.Deeds.{Deed};
 ghost use Rattle.depot_rows.specs.depot_model.Rules.{IsSound};
-ghost use Rattle.depot_rows.specs.depot_model.Step.{Step as ModelStep, all_of, both, nothing};
+ghost use Rattle.depot_rows.specs.depot_model.Step.{Step as ModelStep, both, nothing};
 ghost use Rattle.depot_rows.specs.depot_model.Steps.Reverting as model;
 ghost use Rattle.depot_rows.specs.Standing.{HasRows};
 ghost use Rattle.reply_rows.specs.Made.{IsMade};
@@ -61,8 +61,7 @@ fn shut(
     let have = have_of(alloc, tables, &caller.client, path)?;
     let file = held(&caller.client, path)?;
     let row = shut_row(alloc, path, have)?;
-    let step = Step::shuts(alloc, file, row)?;
-    Ok(step)
+    Step::shuts(alloc, file, row)
 }
 
 /// The other end of a move, which goes along with a file that the caller may open.
@@ -82,28 +81,6 @@ fn end_along(
     Ok(other)
 }
 
-/// The step that does so with a file and its other end.
-fn shut_ends(
-    alloc: Global,
-    tables: &Tables,
-    caller: &Caller,
-    path: &DepotPath,
-    other: &Option<DepotPath>,
-) -> Result<Step, AllocError>
-    ensures { IfOk result (λ step. (d e : List Deed) → HasRows (rows_of tables.now) d table_ids.Have →
-        IsMade (rows_of tables.now) d e (all_of (model.shut d caller.now) (path.now ∷ option_to_list other.now)) step) }
-{
-    let mut step = shut(alloc, tables, caller, path)?;
-    match other {
-        Some(other) => {
-            let more = shut(alloc, tables, caller, other)?;
-            step.add(more)?;
-            Ok(step)
-        }
-        None => Ok(step),
-    }
-}
-
 /// What is done with a file that wasn't taken.
 fn revert_file(
     alloc: Global,
@@ -116,17 +93,16 @@ fn revert_file(
     ensures { IfOk result (λ step. (d e : List Deed) → Reads caller.now asker.now (rows_of tables.now) d → path.now ∷ option_to_list other.now ≡ model.both_ends d caller.now path.now →
         IsMade (rows_of tables.now) d e (model.revert_file d caller.now path.now) step) }
 {
-    let refusal = right_refusal(alloc, asker, path, Level(3))?;
-    match refusal {
-        Some(row) => {
-            let step = Step::tells(alloc, row)?;
-            Ok(step)
-        }
-        None => {
-            let step = shut_ends(alloc, tables, caller, path, other)?;
-            Ok(step)
-        }
+    if let Some(row) = right_refusal(alloc, asker, path, Level(3))? {
+        return Step::tells(alloc, row);
     }
+    let mut step = shut(alloc, tables, caller, path)?;
+    let Some(other) = other else {
+        return Ok(step);
+    };
+    let more = shut(alloc, tables, caller, other)?;
+    step.add(more)?;
+    Ok(step)
 }
 
 /// Takes a file with its other end.
@@ -249,27 +225,6 @@ fn revert_over(
     Ok(step)
 }
 
-/// `revert` of an asker.
-fn revert_asked(
-    alloc: Global,
-    tables: &Tables,
-    caller: &Caller,
-    asker: &Asker,
-    change: Option<u32>,
-    arguments: &[FileArgument],
-) -> Result<Step, AllocError>
-    ensures { IfOk result (λ step. (d : List Deed) → Reads caller.now asker.now (rows_of tables.now) d → IsMade (rows_of tables.now) d d (model.revert d caller.now change arguments.now) step) }
-{
-    let files = SelectedFiles {
-        caller,
-        asker,
-        change,
-    };
-    let done = revert_over(alloc, tables, &files, arguments)?;
-    let step = within_files(alloc, done)?;
-    Ok(step)
-}
-
 /// `revert [-c CHANGE] FILE...`: the client has files opened no more, in the change where one is given, each with the other end of its move, from
 /// the tables of groups, protections, forms, have lists and opened files alone. The have list stays. The one error is want of memory.
 pub fn revert(
@@ -284,8 +239,11 @@ pub fn revert(
         IsMade (rows_of tables.now) d d (model.revert d caller.now change arguments.now) step) }
 {
     let asker = Asker::of(alloc, tables, caller)?;
-    let done = revert_asked(alloc, tables, caller, &asker, change, arguments);
-    drop(asker);
-    let step = done?;
-    Ok(step)
+    let files = SelectedFiles {
+        caller,
+        asker: &asker,
+        change,
+    };
+    let done = revert_over(alloc, tables, &files, arguments)?;
+    within_files(alloc, done)
 }

@@ -1,6 +1,6 @@
 //! `opened` (Command-Line Reference, "p4 opened").
 
-ghost use Rattle.std.specs.Prelude.{◌≡◌, ◌∷◌, [], ◌++◌, List, IfOk, OnOk, filter, map, true, false, if◌then◌else◌};
+ghost use Rattle.std.specs.Prelude.{◌≡◌, ◌∷◌, [], ◌++◌, List, IfOk, OnOk, filter, map, if◌then◌else◌};
 ghost use Rattle.depot_rows.specs.db_records.declared.table.TableId.TheVariants as table_ids;
 ghost use Rattle.row_ranges.specs.Ranges.{has_row, range_table};
 ghost use Rattle.depot_rows.specs.table_changes.Changed.{rows_of};
@@ -11,7 +11,6 @@ ghost use Rattle.depot_rows.specs.depot_model.Steps.Reverting as model;
 ghost use Rattle.depot_rows.specs.Standing.{HasRows};
 ghost use Rattle.reply_rows.specs.Made.{IsMade, told};
 ghost use Rattle.file_openings.specs.Openings.{openings, workings};
-ghost use Rattle.named_files.specs.Asked.{IsAsker};
 ghost use Rattle.opened_files.specs.Shown.{is_shown as shown_to, row_of_working};
 
 use depot_rows::model::{Caller, FileArgument, Row};
@@ -47,13 +46,6 @@ fn opened_row(alloc: Global, opening: &WorkingRecord) -> Result<Row, AllocError>
     Ok(row.row())
 }
 
-/// Whether an opening is shown.
-fn is_shown(all: bool, client: &Name, opening: &WorkingRecord) -> bool
-    ensures { result ≡ shown_to all client.now opening.now }
-{
-    all || client.as_bytes() == opening.client.as_bytes()
-}
-
 /// Adds the row of an opening, if it is shown.
 fn add_shown(
     alloc: Global,
@@ -64,7 +56,7 @@ fn add_shown(
 ) -> Result<(), AllocError>
     ensures { OnOk result (rows.new ≡ rows.old ++ (if shown_to all client.now opening.now then row_of_working opening.now ∷ [] else [])) }
 {
-    if is_shown(all, client, opening) {
+    if all || client.as_bytes() == opening.client.as_bytes() {
         rows.push(opened_row(alloc, opening)?)?;
     }
     Ok(())
@@ -126,75 +118,12 @@ impl<'a> FileAct for Showing<'a> {
         _argument: &FileArgument,
         path: &DepotPath,
     ) -> Result<Step, AllocError> {
-        let step = show(alloc, tables, self.all, &self.caller.client, path)?;
-        Ok(step)
+        show(alloc, tables, self.all, &self.caller.client, path)
     }
 
     ghost first = { λ showing d. tt };
 
     ghost next = { λ showing d e argument path later. tt };
-}
-
-/// `opened` for the files of the caller's client.
-fn opened_here(
-    alloc: Global,
-    tables: &Tables,
-    caller: &Caller,
-    asker: &Asker,
-    arguments: &[FileArgument],
-) -> Result<Step, AllocError>
-    ensures { IfOk result (λ step. (d : List Deed) → IsSound d → IsAsker d caller.now asker.now → HasRows (rows_of tables.now) d table_ids.Working →
-        IsMade (rows_of tables.now) d d (model.opened_step d caller.now false arguments.now) step) }
-{
-    let listing = Listing::opened_by(&caller.client)?;
-    let files = ListedFiles {
-        caller,
-        asker,
-        listing: &listing,
-    };
-    let showing = Showing { caller, all: false };
-    let done = over_all(alloc, tables, &files, &showing, arguments);
-    drop(listing);
-    let step = done?;
-    Ok(step)
-}
-
-/// `opened` for the files of all clients.
-fn opened_anywhere(
-    alloc: Global,
-    tables: &Tables,
-    caller: &Caller,
-    asker: &Asker,
-    arguments: &[FileArgument],
-) -> Result<Step, AllocError>
-    ensures { IfOk result (λ step. (d : List Deed) → IsSound d → IsAsker d caller.now asker.now → HasRows (rows_of tables.now) d table_ids.Working →
-        IsMade (rows_of tables.now) d d (model.opened_step d caller.now true arguments.now) step) }
-{
-    let files = OpenedAnywhere { caller, asker };
-    let showing = Showing { caller, all: true };
-    let step = over_all(alloc, tables, &files, &showing, arguments)?;
-    Ok(step)
-}
-
-/// `opened` of an asker.
-fn opened_asked(
-    alloc: Global,
-    tables: &Tables,
-    caller: &Caller,
-    asker: &Asker,
-    all: bool,
-    arguments: &[FileArgument],
-) -> Result<Step, AllocError>
-    ensures { IfOk result (λ step. (d : List Deed) → IsSound d → IsAsker d caller.now asker.now → HasRows (rows_of tables.now) d table_ids.Working →
-        IsMade (rows_of tables.now) d d (model.opened_step d caller.now all arguments.now) step) }
-{
-    if all {
-        let step = opened_anywhere(alloc, tables, caller, asker, arguments)?;
-        Ok(step)
-    } else {
-        let step = opened_here(alloc, tables, caller, asker, arguments)?;
-        Ok(step)
-    }
 }
 
 /// `opened [-a] [FILE...]`: the files that the client has opened, with `-a` those of all clients, from the tables of groups, protections, forms and
@@ -211,8 +140,19 @@ pub fn opened(
         IsMade (rows_of tables.now) d d (model.opened_step d caller.now all arguments.now) step) }
 {
     let asker = Asker::of(alloc, tables, caller)?;
-    let done = opened_asked(alloc, tables, caller, &asker, all, arguments);
-    drop(asker);
-    let step = done?;
-    Ok(step)
+    let showing = Showing { caller, all };
+    if all {
+        let files = OpenedAnywhere {
+            caller,
+            asker: &asker,
+        };
+        return over_all(alloc, tables, &files, &showing, arguments);
+    }
+    let listing = Listing::opened_by(&caller.client)?;
+    let files = ListedFiles {
+        caller,
+        asker: &asker,
+        listing: &listing,
+    };
+    over_all(alloc, tables, &files, &showing, arguments)
 }

@@ -2,13 +2,13 @@
 
 ghost use Rattle.std.specs.Prelude.{◌≡◌, List, IfOk};
 ghost use Rattle.depot_rows.specs.db_records.declared.table.TableId.TheVariants as table_ids;
-ghost use Rattle.depot_rows.specs.table_changes.Changed.{AllRows, rows_of};
+ghost use Rattle.depot_rows.specs.table_changes.Changed.{rows_of};
 ghost use Rattle.depot_rows.specs.depot_model.Deeds.{Deed};
 ghost use Rattle.depot_rows.specs.depot_model.Rules.{IsSound};
 ghost use Rattle.depot_rows.specs.depot_model.Steps.Reverting as model;
 ghost use Rattle.depot_rows.specs.Standing.{HasRows};
 ghost use Rattle.reply_rows.specs.Made.{IsMade};
-ghost use Rattle.opened_files.specs.Locks.{Reads, free_step, unlocking as unlocking_by};
+ghost use Rattle.opened_files.specs.Locks.{Reads};
 
 use crate::action_rows::action_row;
 use depot_rows::model::{Caller, FileArgument};
@@ -17,8 +17,9 @@ use depot_rows::protections::Level;
 use depot_rows::tables::Tables;
 use file_steps::{FileAct, over, within_files};
 use named_files::{Asker, SelectedFiles};
+use opening_parts::right_refusal;
 use opening_reads::held;
-use reply_rows::{Step, denied_row};
+use reply_rows::Step;
 use revision_reads::holder_of;
 use std::alloc::{AllocError, Global};
 
@@ -39,43 +40,6 @@ fn is_own(caller: &Caller, who: &Option<Name>) -> bool
     }
 }
 
-/// The step that unlocks a file.
-fn free(alloc: Global, caller: &Caller, path: &DepotPath) -> Result<Step, AllocError>
-    ensures { IfOk result (λ step. (all : AllRows) (d e : List Deed) → IsMade all d e (free_step caller.now path.now) step) }
-{
-    // the bytes of a path are one
-    let _bytes = path.as_bytes();
-    let file = held(&caller.client, path)?;
-    let row = action_row(alloc, path, b"unlocked")?;
-    let step = Step::frees(alloc, file, row)?;
-    Ok(step)
-}
-
-/// What an unlock does to a file, by the caller's right and by who has its lock.
-fn unlock_file(
-    alloc: Global,
-    caller: &Caller,
-    path: &DepotPath,
-    may: bool,
-    who: &Option<Name>,
-) -> Result<Step, AllocError>
-    ensures { IfOk result (λ step. (all : AllRows) (d e : List Deed) → IsMade all d e (unlocking_by caller.now path.now may who.now) step) }
-{
-    if !may {
-        let row = denied_row(alloc, path, Level(4))?;
-        let step = Step::tells(alloc, row)?;
-        return Ok(step);
-    }
-    let own = is_own(caller, who);
-    if own {
-        let step = free(alloc, caller, path)?;
-        Ok(step)
-    } else {
-        let step = Step::new(alloc);
-        Ok(step)
-    }
-}
-
 impl<'a> FileAct for Unlocking<'a> {
     ghost use Rattle.depot_rows.specs.depot_model.Steps.Reverting.{unlock_file as step_of_file};
     ghost use Rattle.opened_files.specs.Locks.{Reads};
@@ -93,37 +57,23 @@ impl<'a> FileAct for Unlocking<'a> {
         _argument: &FileArgument,
         path: &DepotPath,
     ) -> Result<Step, AllocError> {
-        let may = self.asker.may(path, Level(4));
+        if let Some(row) = right_refusal(alloc, self.asker, path, Level(4))? {
+            return Step::tells(alloc, row);
+        }
         let who = holder_of(alloc, tables, path)?;
-        let step = unlock_file(alloc, self.caller, path, may, &who)?;
-        Ok(step)
+        if !is_own(self.caller, &who) {
+            return Ok(Step::new(alloc));
+        }
+        // the bytes of a path are one
+        let _bytes = path.as_bytes();
+        let file = held(&self.caller.client, path)?;
+        let row = action_row(alloc, path, b"unlocked")?;
+        Step::frees(alloc, file, row)
     }
 
     ghost first = { λ unlocking d. tt };
 
     ghost next = { λ unlocking d e argument path later. tt };
-}
-
-/// `unlock` of an asker.
-fn unlock_asked(
-    alloc: Global,
-    tables: &Tables,
-    caller: &Caller,
-    asker: &Asker,
-    change: Option<u32>,
-    arguments: &[FileArgument],
-) -> Result<Step, AllocError>
-    ensures { IfOk result (λ step. (d : List Deed) → Reads caller.now asker.now (rows_of tables.now) d → IsMade (rows_of tables.now) d d (model.unlock d caller.now change arguments.now) step) }
-{
-    let files = SelectedFiles {
-        caller,
-        asker,
-        change,
-    };
-    let unlocking = Unlocking { caller, asker };
-    let done = over(alloc, tables, &files, &unlocking, arguments)?;
-    let step = within_files(alloc, done)?;
-    Ok(step)
 }
 
 /// `unlock [-c CHANGE] FILE...`: frees the client's locks of files that it has opened, in the change where one is given, from the tables of groups,
@@ -140,8 +90,15 @@ pub fn unlock(
         IsMade (rows_of tables.now) d d (model.unlock d caller.now change arguments.now) step) }
 {
     let asker = Asker::of(alloc, tables, caller)?;
-    let done = unlock_asked(alloc, tables, caller, &asker, change, arguments);
-    drop(asker);
-    let step = done?;
-    Ok(step)
+    let files = SelectedFiles {
+        caller,
+        asker: &asker,
+        change,
+    };
+    let unlocking = Unlocking {
+        caller,
+        asker: &asker,
+    };
+    let done = over(alloc, tables, &files, &unlocking, arguments)?;
+    within_files(alloc, done)
 }

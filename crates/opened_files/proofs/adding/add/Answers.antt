@@ -1,29 +1,43 @@
-use Rattle.std.proofs.Common.{◌≡◌, [], Some, None, ◌∙◌}
-use Rattle.std.specs.Prelude.{codes, unwrap_or}
+use Rattle.std.proofs.Common.{◌≡◌, ℕ, true, List, [], subst}
+use Rattle.std.specs.List.{list_all}
+use Rattle.depot_rows.specs.db_records.declared.table.TableId.TheVariants as table_ids
 use Rattle.depot_rows.specs.depot_path.Path.{printed}
 use Rattle.depot_rows.specs.table_changes.Changed.{rows_of}
 use Rattle.depot_rows.specs.depot_model.declared.command.FileArgument.{FileArgument}
 use Rattle.depot_rows.specs.depot_model.declared.refusal.Refusal.TheVariants.{NotInView}
-use Rattle.depot_rows.specs.depot_model.Arguments.{over, within_files}
+use Rattle.depot_rows.specs.depot_model.Arguments.{over}
+use Rattle.depot_rows.specs.depot_model.Deeds.{Deed}
+use Rattle.depot_rows.specs.depot_model.Rules.{IsSound}
 use Rattle.depot_rows.specs.depot_model.Step.{refuses}
-use Rattle.depot_rows.specs.depot_model.Steps.Adding.{add_file, files_to_add, spelled}
-use Rattle.depot_rows.specs.depot_model.Steps.Opening.{named_change_refusal}
-use Rattle.reply_rows.proofs.Joined.{passed, refused}
+use Rattle.depot_rows.specs.depot_model.Steps.Adding.{add, add_file, files_to_add, spelled}
+use Rattle.depot_rows.specs.depot_model.WellFormed.{spells_path}
+use Rattle.depot_rows.specs.Standing.{HasRows}
+use Rattle.reply_rows.specs.Made.{IsMade}
+use Rattle.reply_rows.specs.declared.step.Step.{Step}
+use Rattle.opened_files.proofs.Refusals.{first_told, if_ok, passed_first}
+use Rattle.opened_files.specs.Adds.{Reads}
 use Rattle.opened_files.proofs.adding.add.Goals as goal
 
-pub returns-in_ok-step-in-Some : goal.returns-in_ok-step-in-Some
-returns-in_ok-step-in-Some c = λ d spell sound group protect domain change working revisions.
-    let caller = c.args.caller.now in
-    let there : Some c.in-Some.row ≡ c.in_ok-refusal.refusal = cc in
-    refused (rows_of c.args.tables.now) d d (named_change_refusal d caller c.args.change)
-    (within_files (over (files_to_add d caller) (λ (a : FileArgument). refuses (NotInView (printed (spelled a)))) (λ _. add_file d caller c.args.change (unwrap_or c.args.file_type.now (codes "text"))) [] c.args.arguments.now))
-    c.in-Some.row c.in_ok-step-in-Some.step (there ∙ c.in_ok-refusal.ensures d change) c.in_ok-step-in-Some.ensures
+pub returns-in-Some : goal.returns-in-Some
+returns-in-Some c =
+    let rows = rows_of c.args.tables.now in
+    let Q : Step → Type 0 = λ step. (d : List Deed) → list_all spells_path c.args.arguments.now ≡ true → IsSound d → HasRows rows d table_ids.Group
+    → HasRows rows d table_ids.Protect → HasRows rows d table_ids.Domain → HasRows rows d table_ids.Change → HasRows rows d table_ids.Working
+    → HasRows rows d table_ids.Rev → IsMade rows d d (add d c.args.caller.now c.args.change c.args.file_type.now c.args.arguments.now) step in
+    if_ok {Q = Q} _ _ c.tells.ensures (λ step told d spell sound group protect domain change working revisions.
+    first_told rows d d _ _ _ _ c.in-Some.row step c.in-Some.is (c.in_ok-row.ensures d change) told)
 
-pub returns-in_ok-step-in-None : goal.returns-in_ok-step-in-None
-returns-in_ok-step-in-None c = λ d spell sound group protect domain change working revisions.
+pub returns : goal.returns
+returns c =
+    let rows = rows_of c.args.tables.now in
+    let Q : Step → Type 0 = λ step. (d : List Deed) → list_all spells_path c.args.arguments.now ≡ true → IsSound d → HasRows rows d table_ids.Group
+    → HasRows rows d table_ids.Protect → HasRows rows d table_ids.Domain → HasRows rows d table_ids.Change → HasRows rows d table_ids.Working
+    → HasRows rows d table_ids.Rev → IsMade rows d d (add d c.args.caller.now c.args.change c.args.file_type.now c.args.arguments.now) step in
+    if_ok {Q = Q} _ _ c.within_files.ensures (λ step within d spell sound group protect domain change working revisions.
     let caller = c.args.caller.now in
-    let none : None ≡ c.in_ok-refusal.refusal = cc in
-    passed (rows_of c.args.tables.now) d d (named_change_refusal d caller c.args.change)
-    (within_files (over (files_to_add d caller) (λ (a : FileArgument). refuses (NotInView (printed (spelled a)))) (λ _. add_file d caller c.args.change (unwrap_or c.args.file_type.now (codes "text"))) [] c.args.arguments.now))
-    c.in_ok-step-in-None.step (none ∙ c.in_ok-refusal.ensures d change)
-    (c.in_ok-step-in-None.ensures d spell (record { sound = sound; asked = c.in_ok-asker-in-None.ensures d sound group protect domain; listed = working; revisions = revisions }))
+    let reads : Reads caller c.in_ok-asker.asker rows d = record { sound = sound; asked = c.in_ok-asker.ensures d sound group protect domain; listed = working; revisions = revisions } in
+    passed_first rows d d _ _ _ _ step c.in_default.not-Some (c.in_ok-row.ensures d change)
+    (within rows d d _
+    (subst (λ (t : List ℕ). IsMade rows d d
+    (over (files_to_add d caller) (λ (a : FileArgument). refuses (NotInView (printed (spelled a)))) (λ _. add_file d caller c.args.change t) [] c.args.arguments.now) c.in_ok-done.done)
+    c.in_ok-own_type.ensures (c.in_ok-done.ensures d spell reads reads))))

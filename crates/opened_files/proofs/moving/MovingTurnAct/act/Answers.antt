@@ -3,11 +3,11 @@ use Rattle.depot_rows.specs.depot_model.Steps.Moving.{move_file}
 use Rattle.depot_rows.specs.Effects.{Follow}
 use Rattle.depot_rows.specs.declared.deed.Deed.{Deed}
 use Rattle.opened_files.proofs.Moves.{file_own}
-use Rattle.opened_files.proofs.moving.MovingInTurnTurnAct.act.Goals as goal
+use Rattle.opened_files.proofs.moving.MovingTurnAct.act.Goals as goal
 
 pub returns-clause-comes : goal.returns-clause-comes
 returns-clause-comes c = λ d e reads.
-    let moving = c.args.self.now.moving.now in
+    let moving = c.args.self.now in
     let caller = moving.caller.now in
     let model = move_file caller moving.change moving.from.now moving.to.now e c.args.path.now in
     record {
