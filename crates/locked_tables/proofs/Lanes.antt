@@ -77,7 +77,7 @@ module _ (lanes more n lane : ℕ) (is : n ≡ lane) (one : has_lane more n ≡ 
 
 -- ---- lanes of tables, of the archive and of parties
 
-small : (table : TableId) → table_number table < archive_lane
+pub small : (table : TableId) → table_number table < archive_lane
 small Counter = omega arith
 small Group = omega arith
 small Protect = omega arith

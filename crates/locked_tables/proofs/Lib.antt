@@ -7,3 +7,4 @@ pub mod Seats
 pub mod Announced
 pub mod Placed
 pub mod Learnt
+pub mod Touched

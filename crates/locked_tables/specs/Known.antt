@@ -1,7 +1,8 @@
 -- What is known behind each lock. This project's own choice.
-use Rattle.std.specs.Prelude.{◌≡◌, ◌<◌, ℕ, zero, suc, ◌+◌, true, false, List, ◌++◌, length}
+use Rattle.std.specs.Prelude.{◌≡◌, ◌<◌, ℕ, zero, suc, ◌+◌, Bool, true, false, List, ◌++◌, length, nat_lt, slice_index_or}
 use Rattle.std.specs.List.{AllByRecursion}
 use mathlib.Core.List.{IsPrefix}
+use Rattle.depot_model.specs.db_records.Table.{table_number}
 use Rattle.depot_model.specs.db_records.declared.table.TableId.{TableId}
 use Rattle.order_words.specs.Lanes.{has_lane, last_touch}
 use Rattle.order_words.specs.Seats.{Run, LaneState, fresh_lane}
@@ -55,3 +56,11 @@ pub record LearnsPlace (lane : ℕ) (before after old new : List Taken) : Type 0
 -- a table is after all entries as it was after those of a list
 abbrev pub IsStill : AllRows → List Taken → TableKnown → Type 0
 IsStill rows order known = rows_after rows order known.table ≡ rows_after rows known.list known.table
+
+-- by its number, the last place that touched each table
+abbrev pub HaveLastTouches : List ℕ → List Taken → Type 0
+HaveLastTouches touched order = (table : TableId) → slice_index_or touched (table_number table) 0 ≡ last_touch lanes_of (table_number table) order
+
+-- a place behind those that are known touches the table
+abbrev pub is_touched : List Taken → TableKnown → Bool
+is_touched order known = nat_lt (length known.list) (last_touch lanes_of (table_number known.table) order)

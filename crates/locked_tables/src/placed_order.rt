@@ -1,12 +1,12 @@
 //! What lies behind the lock of the order.
-ghost use Rattle.std.specs.Prelude.{◌≡◌, ◌≤◌, ◌-◌, ◌^◌, ℕ, [], ◌∷◌, ◌++◌, map, if◌then◌else◌, true, IfOk, IsTrue};
+ghost use Rattle.std.specs.Prelude.{◌≡◌, ◌≤◌, ◌-◌, ◌^◌, ℕ, [], ◌∷◌, ◌++◌, map, if◌then◌else◌, true, not, IfOk, IsTrue};
 ghost use Rattle.std.specs.List.{AllByRecursion};
 ghost use mathlib.Core.List.{IsPrefix};
 ghost use Rattle.depot_model.specs.db_records.declared.table.TableId.{TableId};
 ghost use Rattle.table_changes.specs.Changed.{changed_by};
 ghost use Rattle.order_words.specs.Lanes.{has_lane, is_among};
 ghost use Rattle.locked_tables.specs.Held.{AllHaveLearnt, AllNext, AllStill, OnlyChange, lanes_next};
-ghost use Rattle.locked_tables.specs.Known.{GoesOnWithout, HasPlaceLeft, IsStill, all_places};
+ghost use Rattle.locked_tables.specs.Known.{GoesOnWithout, HasPlaceLeft, IsStill, all_places, is_touched};
 ghost use Rattle.locked_tables.specs.Placing.{lanes_held};
 ghost use Rattle.locked_tables.specs.Taken.{archive_lane, changes_of, end_after, journal_lane, of_party, party_lane, place_of, rows_after, IsOwn, IsParty};
 
@@ -18,7 +18,7 @@ use crate::locked_table::LockedTable;
 use crate::naming::Naming;
 use crate::party_pass::PartyPass;
 use crate::peek::Peek;
-use crate::placing::learn_tables;
+use crate::placing::{learn_tables, touch_tables};
 use crate::taken::Taken;
 use crate::words::OrderWords;
 use depot_model::Place;
@@ -34,13 +34,15 @@ use table_changes::tables::Version;
 pub struct PlacedOrder<N: Naming> {
     seat: OrderSeat<Taken>,
     places: Vec<Place>,
+    /// By a table's number, the last place that touched it, or 0.
+    touched: [u64; 11],
     of: PhantomData<N>,
 }
 
 impl<N: Naming> Model for PlacedOrder<N> {
     ghost use Rattle.std.specs.Prelude.{◌≡◌, ◌≤◌, ℕ, List, map, length, vec_capacity};
     ghost use Rattle.std.specs.List.{AllByRecursion};
-    ghost use Rattle.locked_tables.specs.Known.{all_places};
+    ghost use Rattle.locked_tables.specs.Known.{HaveLastTouches, all_places};
     ghost use Rattle.locked_tables.specs.Taken.{of_party, place_of, TouchesItsParty, TouchesItsTables};
     ghost use Rattle.locked_tables.specs.declared.taken.Taken.{Taken};
 
@@ -48,7 +50,7 @@ impl<N: Naming> Model for PlacedOrder<N> {
 
     ghost view = { λ o. o.seat.list };
 
-    ghost invariant = { λ o. (o.seat.run ≡ N.run) × (o.places.items ≡ map place_of o.seat.list) × AllByRecursion TouchesItsTables o.seat.list × AllByRecursion (TouchesItsParty N.run) o.seat.list × ((party : ℕ) → length (of_party party o.seat.list) ≤ N.places party) × (all_places N.places 16 ≤ vec_capacity o.places) };
+    ghost invariant = { λ o. (o.seat.run ≡ N.run) × (o.places.items ≡ map place_of o.seat.list) × AllByRecursion TouchesItsTables o.seat.list × AllByRecursion (TouchesItsParty N.run) o.seat.list × ((party : ℕ) → length (of_party party o.seat.list) ≤ N.places party) × (all_places N.places 16 ≤ vec_capacity o.places) × HaveLastTouches o.touched o.seat.list };
 }
 
 impl<N: Naming> PlacedOrder<N> {
@@ -66,6 +68,7 @@ impl<N: Naming> PlacedOrder<N> {
         Ok(PlacedOrder {
             seat,
             places: Vec::with_capacity(alloc, room)?,
+            touched: [0; 11],
             of: PhantomData,
         })
     }
@@ -108,6 +111,7 @@ impl<N: Naming> PlacedOrder<N> {
         ensures same { self.new ≡ self.old }
         ensures begins { IsPrefix peek.list self.old }
         ensures still { IsTrue result → IsStill N.rows self.old peek }
+        ensures judged { result ≡ not (is_touched self.old peek) }
     {
         let Peek {
             note,
@@ -116,8 +120,7 @@ impl<N: Naming> PlacedOrder<N> {
             of: _,
         } = peek;
         words.orders.order_meet(&mut self.seat, note);
-        let lane = version.table().number() as u32;
-        words.orders.check(&mut self.seat, lane) <= places
+        self.touched[version.table().number()] <= places
     }
 
     /// A locked table learns the whole order, and is after it as it was after the places that it
@@ -195,6 +198,7 @@ impl<N: Naming> PlacedOrder<N> {
         let place = taken.place();
         let lanes = archive.place(words, &mut self.seat, held, journal, pass, taken);
         self.places.push_reserved(place);
+        touch_tables(&mut self.touched, lanes, self.seat.places());
         lanes
     }
 
@@ -219,6 +223,7 @@ impl<N: Naming> PlacedOrder<N> {
         let PlacedOrder {
             seat: _,
             places,
+            touched: _,
             of: _,
         } = self;
         places

@@ -1,5 +1,5 @@
 //! What is done with the seats of lanes under the lock of the order.
-ghost use Rattle.std.specs.Prelude.{◌≡◌, ◌+◌, ◌-◌, ◌^◌, ◌<◌, ◌≤◌, ℕ, [], ◌∷◌, ◌++◌, ◌||◌, length, drop};
+ghost use Rattle.std.specs.Prelude.{◌≡◌, ◌+◌, ◌-◌, ◌^◌, ◌<◌, ◌≤◌, ℕ, [], ◌∷◌, ◌++◌, ◌||◌, length, drop, slice_index_or, if◌then◌else◌};
 ghost use Rattle.std.specs.List.{AllByRecursion};
 ghost use Rattle.order_words.specs.Lanes.{has_lane, is_among};
 ghost use Rattle.locked_tables.specs.Known.{IsStill};
@@ -92,5 +92,16 @@ pub(crate) fn place_tables<N: Naming>(
                 all
             }
         },
+    }
+}
+
+/// The last places that touched the tables, once a place that touches these lanes is behind them.
+pub(crate) fn touch_tables(touched: &mut [u64; 11], lanes: u32, place: u64)
+    ensures { (n : ℕ) → n < 11 → slice_index_or touched.new n 0 ≡ (if has_lane lanes n then place else slice_index_or touched.old n 0) }
+{
+    for number in 0..11 {
+        if (lanes >> number) % 2 == 1 {
+            touched[number] = place;
+        }
     }
 }

@@ -9,3 +9,4 @@ pub mod Next
 pub mod Fitting
 pub mod Following
 pub mod Ends
+pub mod Judged

@@ -1,8 +1,8 @@
 //! What a command compares under the lock of the order before it is given its place.
-ghost use Rattle.std.specs.Prelude.{◌≡◌, [], IfSome, IsSome, IsTrue};
-ghost use Rattle.std.specs.List.{AllByRecursion};
+ghost use Rattle.std.specs.Prelude.{◌≡◌, not, is_some, IfSome, IsTrue};
+ghost use Rattle.std.specs.List.{AllByRecursion, list_any};
 ghost use Rattle.depot_model.specs.declared.request.Request.{Request};
-ghost use Rattle.locked_tables.specs.Known.{IsStill};
+ghost use Rattle.locked_tables.specs.Known.{IsStill, is_touched};
 ghost use Rattle.locked_tables.specs.Taken.{rows_after};
 ghost use Rattle.table_changes.specs.Changed.{rows_of};
 ghost use Rattle.table_locks.specs.Confirmed.{IsConfirmed};
@@ -20,7 +20,7 @@ fn are_still<N: Naming>(
 ) -> bool
     ensures same { order.new ≡ order.old }
     ensures still { IsTrue result → AllByRecursion (IsStill N.rows order.old) peeks.items }
-    ensures always { peeks.items ≡ [] → IsTrue result }
+    ensures judged { result ≡ not (list_any (is_touched order.old) peeks.items) }
 {
     for peek in peeks {
         if !order.judge(words, peek) {
@@ -33,7 +33,7 @@ fn are_still<N: Naming>(
 impl<'a, N: Naming> Gathered<'a, N> {
     /// What was gathered, where no table that was looked at was touched since: the tables of the
     /// set are then as they are after the whole order, and the held ones know it. Otherwise all
-    /// locks are given back; where no table was only looked at, it doesn't come to this.
+    /// locks are given back.
     pub fn confirm(
         self,
         words: &OrderWords<N>,
@@ -43,7 +43,7 @@ impl<'a, N: Naming> Gathered<'a, N> {
         ensures same { order.new ≡ order.old }
         ensures confirmed { IfSome result (IsConfirmed N.rows order.old self.entry) }
         ensures set { IfSome result (λ confirmed. (request : Request) → Covers self.entry request → HasSet (rows_after N.rows order.old) (rows_of confirmed.tables) request) }
-        ensures always { self.entry.peeks.items ≡ [] → IsSome result }
+        ensures judged { is_some result ≡ not (list_any (is_touched order.old) self.entry.peeks.items) }
     {
         let Gathered {
             mut held,

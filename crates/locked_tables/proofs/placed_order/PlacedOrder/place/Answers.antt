@@ -11,6 +11,7 @@ use Rattle.locked_tables.proofs.Archive.{end_placed}
 use Rattle.locked_tables.proofs.Lanes.{next_of_tables}
 use Rattle.locked_tables.proofs.Placed.{TouchesLanes, counts_kept, of_archive, of_journal, parties_kept, rows_changed_by, tables_kept}
 use Rattle.locked_tables.proofs.Room.{has_room, left_behind}
+use Rattle.locked_tables.proofs.Touched.{touched_next}
 use Rattle.locked_tables.proofs.placed_order.PlacedOrder.place.Goals as goal
 
 pub push_reserved-requires : goal.push_reserved-requires
@@ -47,6 +48,7 @@ invariant_of-self g c =
       parties_kept run entry archive journal party tables touches order after last c.requires.party c.self.invariant.3,
       counts_kept places c.args.pass.now order after entry last placed.own c.requires.party c.requires.room c.self.invariant.4,
       subst (λ (n : ℕ). all_places places 16 ≤ n) (sym c.push_reserved.ensures.capacity) c.self.invariant.5,
+      touched_next c.self.inside.touched _ order after entry c.places.result last c.places.ensures c.touch_tables.ensures c.self.invariant.6,
     )
 
 pub returns-clause-of_archive : goal.returns-clause-of_archive
