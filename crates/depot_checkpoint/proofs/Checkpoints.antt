@@ -1,28 +1,35 @@
 -- What a checkpoint changes in the rows of a depot, and the generation that begins with them.
-use Rattle.std.proofs.Common.{◌≡◌, ◌≢◌, ℕ, ◌+◌, ◌<◌, ◌≤◌, Bool, true, false, List, [], ◌∷◌, Option, Some, None, refl, sym, ap, subst, ◌∙◌, inl, inr, arith}
+use Rattle.std.proofs.Common.{◌≡◌, ◌≢◌, ◌⊎◌, ℕ, ◌+◌, ◌<◌, ◌≤◌, Bool, true, false, List, [], ◌∷◌, Option, Some, None, refl, sym, ap, subst, ◌∙◌, inl, inr, arith}
 use Rattle.std.proofs.lemmas.Bool.Decides.{nat_tests}
 use Rattle.std.specs.Prelude.{All, ◌==◌, codes, nat_le, option_map, unwrap_or, if◌then◌else◌}
 use Rattle.std.specs.List.{AllByRecursion}
 use Rattle.std.proofs.lemmas.List.Elements.{All-from_recursion, recursion_from_All}
 use Rattle.outside_api.specs.Disk.{Files}
+use Rattle.outside_api.specs.Says.{DiskSays}
 use Rattle.checkpoint_file.specs.Checkpoint.{IsCheckpointOf, puts_of}
 use Rattle.checkpoint_file.specs.Generations.{IsNext, IsOfDepot, StandsForEither, of_generation}
+use Rattle.checkpoint_file.proofs.NextRows.{next_rows}
 use Rattle.checkpoint_file.proofs.Texts.{next_records}
 use Rattle.depot_rows.specs.db_records.Key.{key_table}
 use Rattle.depot_rows.specs.db_records.Record.{key_of, table_of}
 use Rattle.depot_rows.specs.db_records.Table.{table_number}
 use Rattle.depot_rows.specs.db_records.declared.change.Change.{Change}
+use Rattle.depot_rows.specs.db_records.declared.key.Key.TheVariants as keys
 use Rattle.depot_rows.specs.db_records.declared.record.Record.{Record}
 use Rattle.depot_rows.specs.db_records.declared.record.Record.TheVariants.{Counter}
 use Rattle.depot_rows.specs.db_records.declared.table.TableId.TheVariants.{Rev}
+use Rattle.depot_rows.specs.db_records.declared.table.TableId.TheVariants as ids
 use Rattle.depot_rows.specs.depot_model.Deeds.{Count, Deed}
 use Rattle.depot_rows.specs.depot_model.Latest.{count_of}
 use Rattle.depot_rows.specs.depot_model.Records.{record_of, unplaced}
 use Rattle.depot_rows.specs.depot_model.Rules.{value_of}
 use Rattle.depot_rows.specs.depot_model.Step.{Step, after}
 use Rattle.depot_rows.specs.depot_model.Steps.Checkpoint.{generation}
-use Rattle.depot_rows.specs.Standing.{Stand, row_in}
+use Rattle.depot_rows.specs.Standing.{HasRows, Stand, row_in}
 use Rattle.disk_journal.specs.Images.{Committed, HasCommitted}
+use Rattle.disk_journal.specs.Keeping.{KeepsOlder}
+use Rattle.disk_journal.specs.Stands.{IsStill, Stands, nothing, opening}
+use Rattle.disk_journal.specs.declared.journal.Journal.{Journal}
 use Rattle.journal_groups.specs.Groups.{AreRecords}
 use Rattle.recovery.specs.Holding.{HasAllRows}
 use Rattle.recovery.specs.Standing.{StandFor}
@@ -33,7 +40,7 @@ use Rattle.sound_form_steps.proofs.Changing.{checkpoint_sound}
 use Rattle.spec_ops.proofs.NextGeneration.{is_last, is_next}
 use Rattle.depot_rows.specs.table_changes.Changed.{AllRows, changed_by, changed_in}
 use Rattle.depot_rows.specs.table_store.Rows.{changed_once}
-use Rattle.depot_checkpoint.specs.Taking.{StandsBeforeOrAfter, checkpointed, next_generation, told_generation}
+use Rattle.depot_checkpoint.specs.Taking.{IsNextOf, MayHaveBegun, StandsBeforeOrAfter, checkpointed, next_generation, told_generation}
 use Rattle.depot_checkpoint.specs.Values.{IsWide}
 
 -- ---- the generation behind one
@@ -153,6 +160,24 @@ module _ (was : Committed) (rows : AllRows) (d : List Deed) (changes : List Chan
     revisions = revisions_stay changes rows counters;
   }
 
+  -- the counter that tells the generation differs
+  some : changes ≢ []
+  some none =
+      let key = keys.Counter (codes "journal") in
+      let now : HasRows rows (checkpointed d) ids.Counter = subst (λ (l : List Change). HasRows (changed_by rows l) (checkpointed d) ids.Counter) none (differences.left ids.Counter (stand.each ids.Counter)) in
+      let same = ap value_of (sym (now key refl) ∙ stand.each ids.Counter key refl) in
+      let next = ap told_generation begun in
+      omega (arith, same, next, tells)
+
+  pub next_has : All (λ (change : Change). IsWide change.row) changes → (text : List ℕ)
+      → (AreRecords (puts_of (changed_by rows changes)) → IsCheckpointOf (was.generation + 1) (changed_by rows changes) text) → IsNextOf was rows d text
+  next_has wide text printed = record {
+    changes = changes;
+    some = some;
+    differences = differences;
+    has = next_rows was (changed_by rows changes) text (printed (next_records was rows changes has (records wide)));
+  }
+
 -- ---- what images stand for
 
 module _ (was : Committed) (rows : AllRows) (d : List Deed) (archive : Files) (of_depot : IsOfDepot was rows d archive) where
@@ -178,3 +203,10 @@ module _ (was : Committed) (rows : AllRows) (d : List Deed) (archive : Files) (o
   pub stands_either : was.generation < 4095 → (image : Files) → StandsForEither (was.generation + 1) d archive image → StandsBeforeOrAfter d archive image
   stands_either below image (inl before) = inl before
   stands_either below image (inr after) = inr (stands_begun below image after)
+
+-- ---- what is in doubt where the disk failed
+
+pub may_have_begun : {D : Type 0} (disk_says : DiskSays D) (old new : Journal D) (was : Committed) (rows : AllRows) (d : List Deed) (older : List (List (List ℕ))) (text : List ℕ) → IsNextOf was rows d text
+    → IsStill disk_says old new was ⊎ Stands disk_says new was (opening text) → KeepsOlder disk_says new older → MayHaveBegun disk_says new was rows d older
+may_have_begun disk_says old new was rows d older text next (inl still) keeps = record { doubt = nothing; next = tt; stands = still.stands; keeps = keeps }
+may_have_begun disk_says old new was rows d older text next (inr stands) keeps = record { doubt = opening text; next = next; stands = stands; keeps = keeps }

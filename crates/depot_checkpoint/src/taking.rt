@@ -1,6 +1,6 @@
 //! Taking a checkpoint.
 
-ghost use Rattle.std.specs.Prelude.{◌≡◌, ◌≢◌, ◌<◌, ◌≤◌, List, None, IfOk, OnOk, Ok, Err};
+ghost use Rattle.std.specs.Prelude.{◌≡◌, ◌≢◌, ◌<◌, ◌≤◌, ℕ, List, None, IfOk, IfSome, IsErr, OnOk, Ok, Err};
 ghost use Rattle.checkpoint_file.specs.Generations.{IsNext, IsOfDepot};
 ghost use Rattle.depot_rows.specs.depot_model.Deeds.{Deed};
 ghost use Rattle.depot_rows.specs.Standing.{Stand};
@@ -13,7 +13,7 @@ ghost use Rattle.recovery.specs.Holding.{HasAllRows};
 ghost use Rattle.recovery.specs.Standing.{StandFor};
 ghost use Rattle.row_changes.specs.Differences.{AreDifferences};
 ghost use Rattle.depot_rows.specs.table_changes.Changed.{AllFitIn, rows_of};
-ghost use Rattle.depot_checkpoint.specs.Taking.{StandsBeforeOrAfter, checkpointed, next_generation, told_generation};
+ghost use Rattle.depot_checkpoint.specs.Taking.{CanBegin, HasBegun, IsNextOf, MayHaveBegun, StandsBeforeOrAfter, checkpointed, next_generation, told_generation};
 ghost use Rattle.depot_checkpoint.specs.declared.fault.TakingFault.TheVariants as faults;
 
 use crate::fault::TakingFault;
@@ -46,7 +46,7 @@ fn checkpoint_changes(alloc: Global, tables: &Tables) -> Result<Vec<Change>, All
 fn next_text(alloc: Global, tables: &Tables, generation: u32) -> Result<Text, AllocError>
     requires { generation < 4095 }
     ensures { IfOk result (λ text. (was : Committed) (d : List Deed) → HasAllRows was (rows_of tables.now) → Stand (rows_of tables.now) d →
-        told_generation d ≡ was.generation → was.generation ≡ generation → IsNext was (rows_of tables.now) d text) }
+        told_generation d ≡ was.generation → was.generation ≡ generation → IsNext was (rows_of tables.now) d text × IsNextOf was (rows_of tables.now) d text) }
 {
     let changes = checkpoint_changes(alloc, tables)?;
     let items = changes.as_slice();
@@ -73,6 +73,11 @@ pub fn take_checkpoint<D: Disk>(
     // At every moment they stand for the depot before or after these.
     ensures any_moment { (was : Committed) (d : List Deed) (archive : Files) → Stands D.says journal.old was nothing → IsOfDepot was (rows_of tables.now) d archive →
         LeavesOnly D.says (disk_of journal.old) (disk_of journal.new) (StandsBeforeOrAfter d archive) }
+    // The journal that was the newest is then one of those before, and the next generation has the rows after these deeds.
+    ensures begun { (was : Committed) (d : List Deed) (older : List (List (List ℕ))) → CanBegin D.says journal.old was (rows_of tables.now) d older →
+        IfOk result (λ begun. IfSome begun (λ number. HasBegun D.says journal.new was (rows_of tables.now) d older)) }
+    ensures begins { (was : Committed) (d : List Deed) (older : List (List (List ℕ))) → CanBegin D.says journal.old was (rows_of tables.now) d older →
+        IsErr result → MayHaveBegun D.says journal.new was (rows_of tables.now) d older }
     ensures untouched { result ≡ Err faults.Memory → journal.new ≡ journal.old }
     ensures never_falls { D.says.faults (disk_of journal.old) ≤ D.says.faults (disk_of journal.new) }
     ensures only { result ≢ Err faults.DiskFault → D.says.faults (disk_of journal.new) ≡ D.says.faults (disk_of journal.old) }

@@ -2,7 +2,7 @@
 
 ghost use Rattle.std.specs.Prelude.{◌≡◌, ◌≤◌, length, OnOk};
 ghost use Rattle.outside_api.specs.Count.{HasCause, counted};
-ghost use Rattle.outside_api.specs.Disk.{Files, After, Follows};
+ghost use Rattle.outside_api.specs.Disk.{Files, After, Follows, StillTells};
 ghost use Rattle.outside_api.specs.Moments.{LeavesOnly};
 ghost use Rattle.disk_journal.specs.Stands.{CanBeAdopted};
 ghost use Rattle.disk_journal.specs.Made.{made, HasMadeFirst, IsBeingMade, SameButFirst, SameOthers};
@@ -13,6 +13,7 @@ use outside_api::{Disk, DiskFault, write_through};
 /// Writes the first checkpoint and an empty journal, and syncs.
 fn make_first<D: Disk>(disk: &mut D) -> Result<(), DiskFault>
     ensures made { OnOk result (Follows HasMadeFirst (D.says.seen disk.old) (D.says.may_leave disk.new)) }
+    ensures told { StillTells (D.says.seen disk.old) (D.says.seen disk.new) }
     ensures crash { Follows SameButFirst (D.says.may_leave disk.old) (D.says.may_leave disk.new) }
     ensures any_moment { LeavesOnly D.says disk.old disk.new (After SameButFirst (D.says.may_leave disk.old)) }
     ensures asked { OnOk result (D.says.calls disk.new ≡ counted 3 (D.says.calls disk.old)) }
@@ -35,6 +36,8 @@ pub fn make_files<D: Disk>(disk: &mut D) -> Result<(), DiskFault>
     ensures closed_root { OnOk result ((image : Files) → D.says.may_leave disk.new image → HasClosedRoot made image) }
     // The other files are as they were read.
     ensures others { OnOk result (Follows SameOthers (D.says.seen disk.old) (D.says.may_leave disk.new)) }
+    // A disk that told what it reads still does, whatever is answered.
+    ensures told { StillTells (D.says.seen disk.old) (D.says.seen disk.new) }
     // Whatever is answered, at every moment the other files stay as they were, and the root as well until the rest stands whole.
     ensures crash { Follows IsBeingMade (D.says.may_leave disk.old) (D.says.may_leave disk.new) }
     ensures any_moment { LeavesOnly D.says disk.old disk.new (After IsBeingMade (D.says.may_leave disk.old)) }

@@ -96,25 +96,40 @@ module _ (files : Files) (rows : AllRows) (hold : Hold files rows) where
   held_fit puts mid same mid_is =
       subst (λ (r : AllRows). AllFitIn r (joined hold.has.groups)) (ap (changed_by no_rows) same ∙ sym mid_is) (fits_behind no_rows hold.has.puts (joined hold.has.groups) hold.has.fit)
 
+  -- and the groups those that are held
+  pub held_same : (generation : ℕ) (groups : List (List Change)) → generation ≡ hold.was.generation → HasGroups 1 (files (1 + 2 * generation)) groups → hold.has.groups ≡ groups
+  held_same generation groups same has =
+      let file = files (1 + 2 * generation) in
+      some_same (sym (groups_are file hold.has.groups (held_groups generation same)) ∙ groups_are file groups has)
+    where
+      some_same : {a b : List (List Change)} → Some a ≡ Some b → a ≡ b
+      some_same e = cc
+
   pub held_rows : (generation : ℕ) (puts : List Change) (groups : List (List Change)) (mid read : AllRows) → generation ≡ hold.was.generation → hold.has.puts ≡ puts → HasGroups 1 (files (1 + 2 * generation)) groups
       → mid ≡ changed_by no_rows puts → read ≡ changed_by mid (joined groups) → (table : TableId) → read table ≡ rows table
   held_rows generation puts groups mid read same puts_are has mid_is read_is table =
-      let file = files (1 + 2 * generation) in
-      let one : hold.has.groups ≡ groups = same_groups (sym (groups_are file hold.has.groups (held_groups generation same)) ∙ groups_are file groups has) in
+      let one = held_same generation groups same has in
       ap (λ (r : AllRows). r table) (
       read_is
       ∙ ap (λ (r : AllRows). changed_by r (joined groups)) (mid_is ∙ ap (changed_by no_rows) (sym puts_are))
       ∙ ap (λ (l : List (List Change)). changed_by (changed_by no_rows hold.has.puts) (joined l)) (sym one)
       ∙ sym (changed_joined no_rows hold.has.puts (joined hold.has.groups)))
       ∙ sym (hold.has.rows_are table)
-    where
-      same_groups : {a b : List (List Change)} → Some a ≡ Some b → a ≡ b
-      same_groups e = cc
 
--- files hold one set of rows
+-- files are of one generation
+pub generation_once : (files : Files) (one other : AllRows) (hold : Hold files one) (h : Hold files other) → h.was.generation ≡ hold.was.generation
+generation_once files one other hold h = sym h.committed.root ∙ hold.committed.root
+
+-- they have one list of groups of it
+pub groups_once : (files : Files) (one other : AllRows) (hold : Hold files one) (h : Hold files other) → h.was.groups ≡ hold.was.groups
+groups_once files one other hold h =
+    let same = held_same files one hold h.was.generation h.has.groups (generation_once files one other hold h) (held_groups files other h h.was.generation refl) in
+    h.has.are.journal ∙ (ap (group_texts 1) (sym same) ∙ sym hold.has.are.journal)
+
+-- and they hold one set of rows
 pub rows_once : (files : Files) (one other : AllRows) → Hold files one → Hold files other → (table : TableId) → other table ≡ one table
 rows_once files one other hold h table =
-    let same : h.was.generation ≡ hold.was.generation = sym h.committed.root ∙ hold.committed.root in
+    let same = generation_once files one other hold h in
     let puts : hold.has.puts ≡ h.has.puts = held_puts files one hold h.was.generation h.has.puts same (held_checkpoint files other h) (held_begins files other h h.was.generation refl) in
     h.has.rows_are table
     ∙ (ap (λ (r : AllRows). r table) (changed_joined no_rows h.has.puts (joined h.has.groups))

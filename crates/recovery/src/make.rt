@@ -2,7 +2,7 @@
 
 ghost use Rattle.std.specs.Prelude.{◌≡◌, ◌≢◌, ◌⊎◌, [], length, OnOk, Err};
 ghost use Rattle.outside_api.specs.Count.{HasRisen};
-ghost use Rattle.outside_api.specs.Disk.{Files, After, Follows, Same};
+ghost use Rattle.outside_api.specs.Disk.{Files, After, Follows, Same, StillTells};
 ghost use Rattle.outside_api.specs.Moments.{LeavesOnly};
 ghost use Rattle.disk_journal.specs.Images.{HasCommitted};
 ghost use Rattle.disk_journal.specs.Made.{made, SameOthers};
@@ -24,6 +24,9 @@ const ROOT: u32 = 0;
 pub fn make_files<D: Disk>(journal: &mut D, archive: &mut D) -> Result<(), MakeFault>
     ensures made { OnOk result ((image : Files) → D.says.may_leave journal.new image → HasCommitted made image) }
     ensures empty_depot { OnOk result ((image contents : Files) → D.says.may_leave journal.new image → StandFor [] image contents) }
+    // Each disk that told what it reads still does, whatever is answered.
+    ensures journal_told { StillTells (D.says.seen journal.old) (D.says.seen journal.new) }
+    ensures archive_told { StillTells (D.says.seen archive.old) (D.says.seen archive.new) }
     // The journal's other files are as they were read.
     ensures others { OnOk result (Follows SameOthers (D.says.seen journal.old) (D.says.may_leave journal.new)) }
     // Whatever is answered, at every moment they stay as they were, and so does the root until the rest is that of an empty depot.

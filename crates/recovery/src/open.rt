@@ -2,7 +2,7 @@
 
 ghost use Rattle.std.specs.Prelude.{◌≡◌, ◌≢◌, ◌≤◌, length, List, IfOk, Err};
 ghost use Rattle.std.specs.Result.{IfErr};
-ghost use Rattle.outside_api.specs.Disk.{Files, NoMore, Same};
+ghost use Rattle.outside_api.specs.Disk.{Files, NoMore, Same, StillTells};
 ghost use Rattle.depot_rows.specs.db_records.declared.table.TableId.{TableId};
 ghost use Rattle.depot_rows.specs.db_records.declared.table.TableId.TheVariants.{Rev};
 ghost use Rattle.disk_journal.specs.Images.{Committed};
@@ -66,6 +66,8 @@ fn read_depot<D: Disk>(alloc: Global, journal: &mut D, archive: &mut D) -> Resul
     ensures read { IfErr result (λ fault. fault ≢ DiskFault → HasSynced D.says journal.old journal.new × HasSynced D.says archive.old archive.new) }
     ensures journal_looks { LooksOnly D.says journal.old journal.new }
     ensures archive_looks { LooksOnly D.says archive.old archive.new }
+    ensures journal_told { StillTells (D.says.seen journal.old) (D.says.seen journal.new) }
+    ensures archive_told { StillTells (D.says.seen archive.old) (D.says.seen archive.new) }
     ensures unfailed { UnlessFault result ((D.says.faults journal.new ≡ D.says.faults journal.old) × (D.says.faults archive.new ≡ D.says.faults archive.old)) }
     ensures cause { AreCauses (D.says.faults journal.old) (D.says.faults journal.new) (D.says.faults archive.old) (D.says.faults archive.new) (result ≡ Err DiskFault) }
 {
@@ -108,6 +110,9 @@ pub fn open_files<D: Disk>(alloc: Global, journal: D, archive: D) -> Result<Open
     ensures archive_synced { IfOk result (λ opened. HasSynced D.says archive (archive_of opened.archive)) }
     ensures journal_looks { LooksOnly D.says journal (journal_disk result) }
     ensures archive_looks { LooksOnly D.says archive (archive_disk result) }
+    // Each disk that told what it reads still does, whatever is answered.
+    ensures journal_told { StillTells (D.says.seen journal) (D.says.seen (journal_disk result)) }
+    ensures archive_told { StillTells (D.says.seen archive) (D.says.seen (archive_disk result)) }
     // Where no fault of a disk is answered the counts of both disks stand.
     ensures unfailed { (IsDiskFault result → ⊥) → (D.says.faults (journal_disk result) ≡ D.says.faults journal) × (D.says.faults (archive_disk result) ≡ D.says.faults archive) }
     ensures cause { AreCauses (D.says.faults journal) (D.says.faults (journal_disk result)) (D.says.faults archive) (D.says.faults (archive_disk result)) (IsDiskFault result) }

@@ -2,6 +2,7 @@ use Rattle.std.proofs.Common.{refl, arith}
 use Rattle.outside_api.specs.Disk.{Files, Holds}
 use Rattle.disk_journal.specs.Images.{IsAtRest}
 use Rattle.disk_journal.specs.Made.{made}
+use Rattle.disk_journal.proofs.Keeping.{tells_two}
 use Rattle.disk_journal.proofs.Made.{made_rest, made_root, first_kept, same_others, begun_same, begun_always, root_same, root_always}
 use Rattle.disk_journal.proofs.make.make_files.Goals as goal
 
@@ -55,3 +56,13 @@ returns-clause-others g c = λ f left.
     let root = c.in_ok-write_through.ensures.durable f left in
     let first = c.in_ok-make_first.ensures.made root.0 (g.met.D.Disk.reads_an_image c.make_first.new.disk root.0 root.1) in
     (first.0, first.1, same_others _ first.0 root.0 f first.2 root.2)
+
+pub returns-in_err-write_through-clause-told : goal.returns-in_err-write_through-clause-told
+returns-in_err-write_through-clause-told g c =
+    let seen = g.D.Disk.says.seen in
+    tells_two (seen c.args.disk.now) (seen c.make_first.new.disk) (seen c.write_through.new.disk) c.make_first.ensures.told c.write_through.ensures.told
+
+pub returns-clause-told : goal.returns-clause-told
+returns-clause-told g c =
+    let seen = g.D.Disk.says.seen in
+    tells_two (seen c.args.disk.now) (seen c.make_first.new.disk) (seen c.write_through.new.disk) c.make_first.ensures.told c.write_through.ensures.told

@@ -1,3 +1,4 @@
+use Rattle.disk_journal.proofs.Keeping.{tells_two}
 use Rattle.disk_journal.proofs.Made.{both_made, first_same, first_always, second_same, second_always}
 use Rattle.disk_journal.proofs.make.make_first.Goals as goal
 
@@ -34,3 +35,13 @@ returns-clause-any_moment g c =
     second_always g.D.Disk.says c.args.disk.now c.write_at.new.self c.write_through.new.disk 9 c.write_at.ensures.crash 5
     (first_always g.D.Disk.says c.args.disk.now c.write_at.new.self c.write_at.new.self 9 c.write_at.ensures.crash (g.met.D.Disk.only_now c.args.disk.now) c.write_at.ensures.time)
     c.write_through.ensures.any_moment
+
+pub returns-in_err-write_through-clause-told : goal.returns-in_err-write_through-clause-told
+returns-in_err-write_through-clause-told g c =
+    let seen = g.D.Disk.says.seen in
+    tells_two (seen c.args.disk.now) (seen c.write_at.new.self) (seen c.write_through.new.disk) c.write_at.ensures.told c.write_through.ensures.told
+
+pub returns-clause-told : goal.returns-clause-told
+returns-clause-told g c =
+    let seen = g.D.Disk.says.seen in
+    tells_two (seen c.args.disk.now) (seen c.write_at.new.self) (seen c.write_through.new.disk) c.write_at.ensures.told c.write_through.ensures.told

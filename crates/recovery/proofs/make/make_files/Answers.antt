@@ -101,6 +101,29 @@ returns-clause-archive_looks g c =
 pub returns-clause-archive_reads : goal.returns-clause-archive_reads
 returns-clause-archive_reads g c = inl c.in_ok-sync.ensures.same
 
+-- ---- what both tell
+
+pub returns-in_err-length-clause-journal_told : goal.returns-in_err-length-clause-journal_told
+returns-in_err-length-clause-journal_told g c f read = (f, c.length.ensures.same.kept f read)
+
+pub returns-in_err-length-clause-archive_told : goal.returns-in_err-length-clause-archive_told
+returns-in_err-length-clause-archive_told g c f read = (f, read)
+
+pub returns-then-length-ne0-clause-journal_told : goal.returns-then-length-ne0-clause-journal_told
+returns-then-length-ne0-clause-journal_told g c f read = (f, c.length.ensures.same.kept f read)
+
+pub returns-then-length-ne0-clause-archive_told : goal.returns-then-length-ne0-clause-archive_told
+returns-then-length-ne0-clause-archive_told g c f read = (f, read)
+
+pub returns-in_err-sync-clause-journal_told : goal.returns-in_err-sync-clause-journal_told
+returns-in_err-sync-clause-journal_told g c f read = (f, c.length.ensures.same.kept f read)
+
+pub returns-in_err-make_files-clause-journal_told : goal.returns-in_err-make_files-clause-journal_told
+returns-in_err-make_files-clause-journal_told g c f read = c.make_files.ensures.told f (c.length.ensures.same.kept f read)
+
+pub returns-clause-journal_told : goal.returns-clause-journal_told
+returns-clause-journal_told g c f read = c.make_files.ensures.told f (c.length.ensures.same.kept f read)
+
 -- ---- the counts
 
 pub returns-in_err-length-clause-unfailed : goal.returns-in_err-length-clause-unfailed

@@ -1,32 +1,31 @@
-use Rattle.std.proofs.Common.{◌≡◌, ℕ, List, ap, sym, subst, ◌∙◌, arith}
+use Rattle.std.proofs.Common.{◌≡◌, ◌≤◌, ℕ, List, length, ap, sym, subst, ◌∙◌, arith}
+use Rattle.outside_api.specs.Disk.{StillTells}
 use Rattle.depot_rows.specs.db_records.declared.record.Record.{Record}
 use Rattle.depot_rows.specs.db_records.declared.table.TableId.{TableId}
-use Rattle.disk_journal.specs.Stands.{CanBeAdopted}
 use Rattle.depot_rows.specs.table_changes.Changed.{AllRows, rows_of}
 use Rattle.depot_rows.specs.depot_model.Deeds.{Deed}
 use Rattle.depot_rows.specs.depot_model.Records.{record_of}
 use Rattle.depot_rows.specs.Standing.{Stand, unplaced_at}
 use Rattle.recovery.specs.Rules.{SuitFiles}
 use Rattle.recovery.proofs.Damaged.{hold_found}
+use Rattle.recovery.proofs.Synced.{can_adopt}
 use Rattle.recovery.proofs.Whole.{hold_of}
 use Rattle.recovery.proofs.open.open_files.Goals as goal
 
 same_stand : (old new : AllRows) (d : List Deed) → ((table : TableId) → new table ≡ old table) → Stand old d → Stand new d
 same_stand old new d same stand = record { sound = stand.sound; each = λ table key of. subst (λ (rows : List Record). unplaced_at rows key ≡ record_of d key) (sym (same table)) (stand.each table key of) }
 
+pub adopt-requires : goal.adopt-requires
+adopt-requires g c = (c.in-Ok.ensures.found.was, can_adopt g.D.Disk.says c.args.journal c.read_depot.new.journal c.in-Ok.found c.in-Ok.ensures.found c.in-Ok.ensures.synced.0)
+
+pub adopt-requires-in-Ok : goal.adopt-requires-in-Ok
+adopt-requires-in-Ok g c = λ files read.
+    subst (λ n. n ≤ length (files 0)) (sym c.archive_end-used.ensures.end) (c.in-Ok.ensures.within files (c.in-Ok.ensures.synced.1.same.no_more files read))
+
 pub returns-in-Ok-clause-open : goal.returns-in-Ok-clause-open
 returns-in-Ok-clause-open g c =
     let found = c.in-Ok.ensures.found in
-    let synced = c.in-Ok.ensures.synced.0 in
-    let adopted : CanBeAdopted g.D.Disk.says c.read_depot.new.journal c.in-Ok.found.generation c.in-Ok.found.end.groups c.in-Ok.found.end.length found.was = record {
-      generation_is = found.generation;
-      last = found.last;
-      are_groups = found.are_groups;
-      count = found.count;
-      length_is = found.long;
-      short = found.short;
-      each = λ image left. found.at_rest image (synced.same.no_more image (synced.durable image left));
-    } in (
+    let adopted = can_adopt g.D.Disk.says c.args.journal c.read_depot.new.journal c.in-Ok.found found c.in-Ok.ensures.synced.0 in (
       found.was,
       record {
         rows = found.has;
@@ -79,3 +78,13 @@ returns-in-Ok-clause-unfailed g c = λ no. (
 
 pub returns-in-Err-clause-unfailed : goal.returns-in-Err-clause-unfailed
 returns-in-Err-clause-unfailed g c = λ no. c.in-Err.ensures.unfailed no
+
+pub returns-in-Ok-clause-journal_told : goal.returns-in-Ok-clause-journal_told
+returns-in-Ok-clause-journal_told g c =
+    let says = g.D.Disk.says in
+    subst (λ (disk : g.row.D.Denot). StillTells (says.seen c.args.journal) (says.seen disk)) (sym c.adopt.ensures.disk) c.read_depot.ensures.journal_told
+
+pub returns-in-Ok-clause-archive_told : goal.returns-in-Ok-clause-archive_told
+returns-in-Ok-clause-archive_told g c =
+    let says = g.D.Disk.says in
+    subst (λ (disk : g.row.D.Denot). StillTells (says.seen c.args.archive) (says.seen disk)) (sym c.adopt-in-Ok.ensures.disk) c.read_depot.ensures.archive_told

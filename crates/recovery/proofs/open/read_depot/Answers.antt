@@ -133,3 +133,18 @@ returns-in_err-end-clause-unfailed g c = unless_passed c.from_residual-in_err-en
 
 pub returns-clause-unfailed : goal.returns-clause-unfailed
 returns-clause-unfailed g c = (c.in_ok-found.ensures.unfailed ∙ c.in_ok-sync.ensures.only, c.in_ok-end.ensures.unfailed ∙ c.in_ok-sync-2.ensures.only)
+
+pub returns-in_err-found-clause-journal_told : goal.returns-in_err-found-clause-journal_told
+returns-in_err-found-clause-journal_told g c files read = (files, c.read_kept_rows.ensures.reads.same.kept files (c.in_ok-sync.ensures.same.kept files read))
+
+pub returns-in_err-end-clause-journal_told : goal.returns-in_err-end-clause-journal_told
+returns-in_err-end-clause-journal_told g c files read = (files, c.read_kept_rows.ensures.reads.same.kept files (c.in_ok-sync.ensures.same.kept files read))
+
+pub returns-in_err-end-clause-archive_told : goal.returns-in_err-end-clause-archive_told
+returns-in_err-end-clause-archive_told g c files read = (files, c.read_contents.ensures.reads.same.kept files (c.in_ok-sync-2.ensures.same.kept files read))
+
+pub returns-clause-journal_told : goal.returns-clause-journal_told
+returns-clause-journal_told g c files read = (files, c.read_kept_rows.ensures.reads.same.kept files (c.in_ok-sync.ensures.same.kept files read))
+
+pub returns-clause-archive_told : goal.returns-clause-archive_told
+returns-clause-archive_told g c files read = (files, c.read_contents.ensures.reads.same.kept files (c.in_ok-sync-2.ensures.same.kept files read))
