@@ -131,12 +131,12 @@ module _ (rows : AllRows) (d : List Deed) (m : ℕ) (changes : List Change) (sta
       go (c ∷ []) some differ own rising = let t = tells c (key_is c differ.0) own.0 in told_in c.op c.row t.0 t.1
       go (c ∷ next ∷ cs) some differ own rising = absurd (apart c next cs (key_is c differ.0) (key_is next differ.1.0) rising)
 
--- ---- what an outcome's changes make
+-- ---- what the changes of a request make
 
-module _ (rows : AllRows) (from : ℕ) (d : List Deed) (request : Request) (outcome : Outcome) (stand : Stand rows d) (is : IsOutcome rows from d request outcome) (some : outcome.changes ≢ []) where
+module _ (rows : AllRows) (d : List Deed) (request : Request) (changes : List Change) (stand : Stand rows d) (differences : AreDifferences rows d (after d (step d request).deeds) changes) (some : changes ≢ []) where
   -- a row differs
-  pub some_differ : RowsDiffer d (after d (step d request).deeds)
-  some_differ = go outcome.changes some (all_differ rows d (after d (step d request).deeds) outcome.changes stand is.changes)
+  pub made_differ : RowsDiffer d (after d (step d request).deeds)
+  made_differ = go changes some (all_differ rows d (after d (step d request).deeds) changes stand differences)
     where
       go : (cs : List Change) → cs ≢ [] → AllByRecursion (λ (change : Change). record_of (after d (step d request).deeds) (changed_key change) ≡ record_of d (changed_key change) → ⊥) cs
           → RowsDiffer d (after d (step d request).deeds)
@@ -144,10 +144,18 @@ module _ (rows : AllRows) (from : ℕ) (d : List Deed) (request : Request) (outc
       go (c ∷ cs) some differ = (changed_key c, λ same. differ.0 (sym same))
 
   -- where a generation is opened, the counter is put
-  pub opened_rows : opens_generation request ≡ true → changed_by rows outcome.changes ≡ changed_in rows (next_told (generation_in d + 1))
-  opened_rows opening = elim (request_deeds request d opening) [
-    | inl none ↦ absurd (some (no_changes rows d (after d (step d request).deeds) outcome.changes stand (λ key. ap (λ (deeds : List Deed). record_of (after d deeds) key) (sym none)) is.changes))
+  pub made_opened : opens_generation request ≡ true → changed_by rows changes ≡ changed_in rows (next_told (generation_in d + 1))
+  made_opened opening = elim (request_deeds request d opening) [
+    | inl none ↦ absurd (some (no_changes rows d (after d (step d request).deeds) changes stand (λ key. ap (λ (deeds : List Deed). record_of (after d deeds) key) (sym none)) differences))
     | inr next ↦
-        telling_rows rows d (generation d + 1) outcome.changes stand (subst (λ (deeds : List Deed). AreDifferences rows d (after d deeds) outcome.changes) next is.changes) some
+        telling_rows rows d (generation d + 1) changes stand (subst (λ (deeds : List Deed). AreDifferences rows d (after d deeds) changes) next differences) some
         ∙ ap (λ (n : ℕ). changed_in rows (next_told (n + 1))) (sym (told_is_counted d))
   ]
+
+-- so do those of an outcome
+module _ (rows : AllRows) (from : ℕ) (d : List Deed) (request : Request) (outcome : Outcome) (stand : Stand rows d) (is : IsOutcome rows from d request outcome) (some : outcome.changes ≢ []) where
+  pub some_differ : RowsDiffer d (after d (step d request).deeds)
+  some_differ = made_differ rows d request outcome.changes stand is.changes some
+
+  pub opened_rows : opens_generation request ≡ true → changed_by rows outcome.changes ≡ changed_in rows (next_told (generation_in d + 1))
+  opened_rows = made_opened rows d request outcome.changes stand is.changes some

@@ -22,10 +22,11 @@ use Rattle.reply_rows.specs.declared.content.RowContent.{RowContent}
 use Rattle.session_loop.specs.Taking.{placed_by}
 use Rattle.stored_contents.specs.Placed.{StandAfter}
 use Rattle.depot_commit.specs.Committing.{AreChangesOf}
-use Rattle.recovery.specs.Holding.{HasAllRows}
+use Rattle.depot_commit.specs.Growing.{IsWritten}
 use Rattle.depot_commit.specs.Holding.{HasItsContents, KeepContents}
+use Rattle.depot_commit.specs.Opening.{opens_generation}
 use Rattle.depot_commit.specs.Writing.{IsWritingOf, StandsBy, with_doubtful}
-use Rattle.depot_commit.specs.Running.{HasRunOver}
+use Rattle.depot_commit.specs.Running.{HasRunOver, IsWrittenFor}
 use Rattle.depot_commit.specs.Storing.{AreAt, HasStored, stores_end}
 use Rattle.depot_commit.proofs.Moved.{over_moved, over_settled, over_unsettled}
 use Rattle.depot_commit.proofs.Steps.{over_done, over_failed, over_faulted}
@@ -86,24 +87,33 @@ module _ {D : Type 0} (disk_says : DiskSays D) (images : Files → Type 0) (used
 
   -- ---- a place was written, or its writing failed
 
-  pub over_committed : (now : AllRows) (opens : Bool) (written : Doubtful) (changes : List Change) → changes ≢ []
-      → IsWritingOf (rows_of tables) now (next_number journal) (generation_of_journal journal) opens written changes → AreChangesOf (rows_of tables) request opens changes
+  pub over_committed : (now : AllRows) (written : Doubtful) (changes : List Change) → changes ≢ []
+      → IsWritingOf (rows_of tables) now (next_number journal) (generation_of_journal journal) (opens_generation request) written changes
+      → IsWritten (next_number journal) (opens_generation request) written changes → AreChangesOf (rows_of tables) request changes
       → KeepContents images used (changed_by (rows_of tables) changes) next → (tables' : Tables) (journal' : Journal D)
       → LeavesOnly disk_says journal.disk journal'.disk (HasWithOrWithout h.was written)
       → (failed : Bool) → StandsBy disk_says journal' h.was written failed → (failed ≡ false → rows_of tables' ≡ now) → (failed ≡ true → rows_of tables' ≡ rows_of tables)
       → HasRunOver disk_says images used tables' journal' since start (places ++ placed_by request failed ∷ [])
-  over_committed now opens written changes some is made contents tables' journal' leaves failed stands done kept =
-      let count = h.stands.count in
-      let number : next_number journal ≡ length h.was.groups + 1 = omega (arith, count) in
-      let with_it = is.has h.was number h.stands.generation h.has in
-      ended with_it failed stands done kept
+  over_committed now written changes some is is_written made contents tables' journal' leaves failed stands done kept = ended failed stands done kept
     where
-      ended : HasAllRows (with_doubtful h.was written) (changed_by (rows_of tables) changes) → (failed : Bool) → StandsBy disk_says journal' h.was written failed → (failed ≡ false → rows_of tables' ≡ now) → (failed ≡ true → rows_of tables' ≡ rows_of tables)
+      number : next_number journal ≡ length h.was.groups + 1
+      number = let count = h.stands.count in omega (arith, count)
+
+      writes : IsWrittenFor (rows_of tables) h.was request written
+      writes = record {
+        changes = changes;
+        some = some;
+        made = made;
+        is = subst (λ (n : ℕ). IsWritten n (opens_generation request) written changes) number is_written;
+        has = is.has h.was number h.stands.generation h.has;
+      }
+
+      ended : (failed : Bool) → StandsBy disk_says journal' h.was written failed → (failed ≡ false → rows_of tables' ≡ now) → (failed ≡ true → rows_of tables' ≡ rows_of tables)
           → HasRunOver disk_says images used tables' journal' since start (places ++ placed_by request failed ∷ [])
-      ended with_it false stands done kept =
-          over_done disk_says images used tables journal since start places request h tables' journal' changes opens written some with_it (is.opened h.was) made contents leaves stands (done refl ∙ is.rows_are)
-      ended with_it true stands done kept =
-          over_failed disk_says images used tables journal since start places request h tables' journal' changes opens written some with_it (is.opened h.was) made contents leaves stands.0 stands.1 stands.2 (kept refl)
+      ended false stands done kept =
+          over_done disk_says images used tables journal since start places request h tables' journal' written writes contents leaves stands (done refl ∙ is.rows_are)
+      ended true stands done kept =
+          over_failed disk_says images used tables journal since start places request h tables' journal' written writes contents leaves stands.0 stands.1 stands.2 (kept refl)
 
 -- where no content is waited for no row has one
 pub none_waits : (rows : AllRows) (d : List Deed) (contents : List (List ℕ)) (reads : List RowContent) → ComeFrom rows d contents reads → reads ≡ [] → contents ≡ []

@@ -17,7 +17,6 @@ use Rattle.session_loop.specs.Taking.{IsProper, placed_by, with_place}
 use Rattle.sound_requests.specs.Asked.{is_typed}
 use Rattle.depot_commit.specs.Committing.{AreChangesOf, AreRowsAfter, IsOutcomeOf}
 use Rattle.depot_commit.specs.Growing.{Chronicle, HasGroups, grown}
-use Rattle.depot_commit.specs.Opening.{opens_generation}
 use Rattle.depot_commit.specs.Placing.{HasRunBeside}
 use Rattle.depot_commit.specs.Running.{HasRunOver}
 use Rattle.depot_commit.specs.Telling.{IsTold, IsUnwritten}
@@ -63,14 +62,14 @@ module _ (told : Told) (unwritten : IsUnwritten told) where
         → IsOutcomeOf (rows_of tables) tables.archive_end request outcome → IsTold outcome request.number told → HasRunOver disk_says images used tables journal since start (places ++ placed_by request told.unread ∷ [])
     ran_unwritten h request outcome proper typed is t = go told.unread refl
       where
-        made : AreChangesOf (rows_of tables) request (opens_generation request) told.changes
+        made : AreChangesOf (rows_of tables) request told.changes
         made = told_changes (rows_of tables) tables.archive_end (taken step start places) request outcome told h.stand is t proper typed
 
         go : (unread : Bool) → told.unread ≡ unread → HasRunOver disk_says images used tables journal since start (places ++ placed_by request unread ∷ [])
         go true unread = over_faulted disk_says images used tables journal since start places request h
         go false read =
-            over_idle disk_says images used tables journal since start places request h (opens_generation request)
-            (subst (AreChangesOf (rows_of tables) request (opens_generation request)) (none_changed told unwritten read) made)
+            over_idle disk_says images used tables journal since start places request h
+            (subst (AreChangesOf (rows_of tables) request) (none_changed told unwritten read) made).stand
 
 -- ---- a command for which nothing counts as stored
 

@@ -4,10 +4,10 @@ use Rattle.archive_file.specs.declared.archive.Archive.{Archive}
 use Rattle.outside_api.specs.Disk.{Files, NoMore}
 use Rattle.outside_api.specs.Moments.{LeavesOnly, weaker}
 use Rattle.outside_api.specs.Says.{DiskSays}
-use Rattle.disk_journal.specs.Images.{Committed, with_generation, with_group}
+use Rattle.disk_journal.specs.Images.{Committed}
 use Rattle.disk_journal.specs.Stands.{Doubtful, nothing, group, opening, HasWithOrWithout, Stands, disk_of}
 use Rattle.disk_journal.specs.declared.journal.Journal.{Journal}
-use Rattle.depot_rows.specs.table_changes.Changed.{AllRows, rows_of}
+use Rattle.depot_rows.specs.table_changes.Changed.{AllRows, changed_by, rows_of}
 use Rattle.depot_rows.specs.table_store.declared.tables.Tables.{Tables}
 use Rattle.depot_rows.specs.depot_model.Commands.{step}
 use Rattle.depot_rows.specs.depot_model.Deeds.{Deed}
@@ -34,8 +34,8 @@ module _ (old new : Files → Type 0) (used used' : ℕ) (le : used ≤ used') (
     kept = contents_kept old new used used' s.rows d le keeps s.stand s.kept;
   }
 
-  fault_moved : (rows : AllRows) (was now : Committed) (start : List Deed) (places : List Placed) → IsOfFault old used rows was now start places → IsOfFault new used' rows was now start places
-  fault_moved rows was now start places f = record {
+  fault_moved : (rows : AllRows) (was : Committed) (doubt : Doubtful) (start : List Deed) (places : List Placed) → IsOfFault old used rows was doubt start places → IsOfFault new used' rows was doubt start places
+  fault_moved rows was doubt start places f = record {
     before = f.before;
     request = f.request;
     later = f.later;
@@ -43,17 +43,14 @@ module _ (old new : Files → Type 0) (used used' : ℕ) (le : used ≤ used') (
     quiet = f.quiet;
     stand = f.stand;
     same_contents = f.same_contents;
-    after_it = f.after_it;
-    has = f.has;
-    stand_after = f.stand_after;
-    generation = f.generation;
-    kept = contents_kept old new used used' f.after_it _ le keeps (f.stand_after (taken step start f.before) f.stand) f.kept;
+    writes = f.writes;
+    kept = contents_kept old new used used' (changed_by rows f.writes.changes) _ le keeps (f.writes.made.stand (taken step start f.before) f.stand) f.kept;
   }
 
   doubt_moved : (rows : AllRows) (was : Committed) (start : List Deed) (places : List Placed) (doubt : Doubtful) → IsDoubtOf old used rows was start places doubt → IsDoubtOf new used' rows was start places doubt
   doubt_moved rows was start places nothing none = tt
-  doubt_moved rows was start places (group text) f = fault_moved rows was (with_group was text) start places f
-  doubt_moved rows was start places (opening checkpoint) f = fault_moved rows was (with_generation was checkpoint) start places f
+  doubt_moved rows was start places (group text) f = fault_moved rows was (group text) start places f
+  doubt_moved rows was start places (opening checkpoint) f = fault_moved rows was (opening checkpoint) start places f
 
   sometime_moved : (start : List Deed) (places : List Placed) (image : Files) → IsKeptSometime old used start places image → IsKeptSometime new used' start places image
   sometime_moved start places image (k, within, kept) = (k, within, kept_leads (StandsWith old used image) (StandsWith new used' image) (stands_moved image) start places k kept)

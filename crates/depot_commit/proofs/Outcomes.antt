@@ -24,7 +24,6 @@ use Rattle.sound_requests.specs.Asked.{is_typed}
 use Rattle.session_loop.specs.Taking.{Answers, IsProper, place_by, placed_by}
 use Rattle.stored_contents.specs.Placed.{StandAfter}
 use Rattle.depot_commit.specs.Committing.{AreChangesOf, IsOutcomeOf, IsToldAt}
-use Rattle.depot_commit.specs.Opening.{opens_generation}
 use Rattle.depot_commit.specs.Telling.{IsTold}
 use Rattle.depot_commit.specs.declared.telling.Told.{Told}
 use Rattle.depot_commit.proofs.Differences.{no_changes}
@@ -41,9 +40,10 @@ has_needed rows d request stand = go request.command refl
 -- what differs after its step, whichever depot has the rows, are changes of it
 pub are_changes : (rows : AllRows) (d : List Deed) (request : Request) (changes : List Change) → Stand rows d → IsProper request → is_typed request ≡ true
     → ((e : List Deed) → Stand rows e → AreDifferences rows e (after e (step e request).deeds) changes) → All (λ (change : Change). IsOf64Bits change.row) changes
-    → All (λ (change : Change). is_counted change.row ≡ true) changes → AreChangesOf rows request (opens_generation request) changes
+    → All (λ (change : Change). is_counted change.row ≡ true) changes → AreChangesOf rows request changes
 are_changes rows d request changes stand proper typed differences small counted = record {
   records = are_records rows d request changes proper typed stand (differences d stand) small counted;
+  differences = differences;
   stand = λ e here. record { sound = sound_after request proper typed e here.sound; each = λ table. (differences e here).left table (here.each table) };
   generation = λ e here some. generation_after request proper e (λ none. some (nothing_changed e here none));
 }
@@ -59,7 +59,7 @@ module _ (rows : AllRows) (from : ℕ) (d : List Deed) (request : Request) (outc
   abbrev next : List Deed
   next = after d (step d request).deeds
 
-  pub told_changes : IsProper request → is_typed request ≡ true → AreChangesOf rows request (opens_generation request) told.changes
+  pub told_changes : IsProper request → is_typed request ≡ true → AreChangesOf rows request told.changes
   told_changes proper typed =
       are_changes rows d request told.changes stand proper typed
       (λ e here. subst (AreDifferences rows e (after e (step e request).deeds)) (sym t.changes) (is e here).changes) t.small t.counted

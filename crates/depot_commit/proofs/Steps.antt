@@ -7,7 +7,7 @@ use Rattle.outside_api.specs.Disk.{Files}
 use Rattle.outside_api.specs.Moments.{LeavesOnly}
 use Rattle.outside_api.specs.Says.{DiskSays}
 use Rattle.depot_rows.specs.db_records.declared.change.Change.{Change}
-use Rattle.disk_journal.specs.Images.{Committed, HasCommitted, with_generation, with_group}
+use Rattle.disk_journal.specs.Images.{Committed, HasCommitted}
 use Rattle.disk_journal.specs.Stands.{Doubtful, nothing, group, opening, HasWithOrWithout, Stands}
 use Rattle.disk_journal.specs.declared.journal.Journal.{Journal}
 use Rattle.depot_rows.specs.table_changes.Changed.{AllRows, changed_by, rows_of}
@@ -24,12 +24,12 @@ use Rattle.depot_rows.specs.depot_model.declared.request.Request.{Request}
 use Rattle.depot_rows.specs.Standing.{Stand}
 use Rattle.recovery.specs.Holding.{HasAllRows}
 use Rattle.session_loop.specs.Taking.{placed_by}
-use Rattle.depot_commit.specs.Committing.{AreChangesOf}
 use Rattle.depot_commit.specs.Holding.{generation_in, SameContents, KeepContents, StandsWith, IsKeptSometime}
-use Rattle.depot_commit.specs.Writing.{IsLeft, next_if, with_doubtful}
-use Rattle.depot_commit.specs.Running.{IsOfFault, IsDoubtOf, HasRunOver}
+use Rattle.depot_commit.specs.Placing.{LeavesRows}
+use Rattle.depot_commit.specs.Writing.{IsLeft, with_doubtful}
+use Rattle.depot_commit.specs.Running.{IsOfFault, IsDoubtOf, IsWrittenFor, HasRunOver}
 use Rattle.depot_commit.proofs.Contents.{contents_alike}
-use Rattle.depot_commit.proofs.Kept.{kept_in_doubt, kept_now}
+use Rattle.depot_commit.proofs.Kept.{kept_in_doubt, kept_now, told_with}
 use Rattle.depot_commit.proofs.Places.{taken-push, taken-append, quiet_more, same_stand, no_difference, kept_more, kept_whole}
 use Rattle.depot_commit.proofs.Staying.{contents_stay}
 
@@ -41,34 +41,31 @@ sometime_more : (images : Files → Type 0) (used : ℕ) (start : List Deed) (pl
 sometime_more images used start places p image (k, le, kept) = (k, omega (arith, length_push places p), kept_more (StandsWith images used image) start places p k le kept)
 
 -- the depot after a fault place, which does nothing, and the places after it
-behind_fault : (images : Files → Type 0) (used : ℕ) (rows : AllRows) (was now : Committed) (start : List Deed) (places : List Placed) → (f : IsOfFault images used rows was now start places) → taken step start places ≡ taken step (taken step start f.before) f.later
-behind_fault images used rows was now start places f = ap (taken step start) f.parts ∙ taken-append start f.before (placed_by f.request true ∷ f.later)
+behind_fault : (images : Files → Type 0) (used : ℕ) (rows : AllRows) (was : Committed) (doubt : Doubtful) (start : List Deed) (places : List Placed) → (f : IsOfFault images used rows was doubt start places) → taken step start places ≡ taken step (taken step start f.before) f.later
+behind_fault images used rows was doubt start places f = ap (taken step start) f.parts ∙ taken-append start f.before (placed_by f.request true ∷ f.later)
 
 module _ (images : Files → Type 0) (used : ℕ) (rows : AllRows) (was : Committed) (start : List Deed) (places : List Placed) (p : Placed) (idle : IsChange (taken step start places) p → ⊥)
     (same_contents : SameContents (taken step start places) (taken step start (places ++ p ∷ []))) where
-  fault_more : (now : Committed) → IsOfFault images used rows was now start places → IsOfFault images used rows was now start (places ++ p ∷ [])
-  fault_more now f =
+  fault_more : (doubt : Doubtful) → IsOfFault images used rows was doubt start places → IsOfFault images used rows was doubt start (places ++ p ∷ [])
+  fault_more doubt f =
       let Idle : List Deed → Type 0 = λ d. IsChange d p → ⊥ in
       record {
         before = f.before;
         request = f.request;
         later = f.later ++ p ∷ [];
         parts = ap (λ (ps : List Placed). ps ++ p ∷ []) f.parts ∙ append_assoc f.before (placed_by f.request true ∷ f.later) (p ∷ []);
-        quiet = quiet_more (taken step start f.before) f.later p f.quiet (subst Idle (behind_fault images used rows was now start places f) idle);
+        quiet = quiet_more (taken step start f.before) f.later p f.quiet (subst Idle (behind_fault images used rows was doubt start places f) idle);
         stand = f.stand;
         same_contents = λ path n. f.same_contents path n ∙ same_contents path n;
-        after_it = f.after_it;
-        has = f.has;
-        stand_after = f.stand_after;
-        generation = f.generation;
+        writes = f.writes;
         kept = f.kept;
       }
 
   -- one more place, after which the depot is another with the same rows and contents, leaves in doubt what was
   doubt_more : (doubt : Doubtful) → IsDoubtOf images used rows was start places doubt → IsDoubtOf images used rows was start (places ++ p ∷ []) doubt
   doubt_more nothing h = tt
-  doubt_more (group text) f = fault_more (with_group was text) f
-  doubt_more (opening checkpoint) f = fault_more (with_generation was checkpoint) f
+  doubt_more (group text) f = fault_more (group text) f
+  doubt_more (opening checkpoint) f = fault_more (opening checkpoint) f
 
 -- an image with or without what was written
 either_way : (was : Committed) (written : Doubtful) (image : Files) → HasWithOrWithout was written image → HasCommitted was image ⊎ HasCommitted (with_doubtful was written) image
@@ -78,7 +75,7 @@ either_way was (opening checkpoint) image either = either
 
 -- what was written is in doubt, where a fault place has written it
 doubt_of_it : (images : Files → Type 0) (used : ℕ) (rows : AllRows) (was : Committed) (start : List Deed) (places : List Placed) (written : Doubtful)
-    → IsOfFault images used rows was (with_doubtful was written) start places → IsDoubtOf images used rows was start places written
+    → IsOfFault images used rows was written start places → IsDoubtOf images used rows was start places written
 doubt_of_it images used rows was start places nothing f = tt
 doubt_of_it images used rows was start places (group text) f = f
 doubt_of_it images used rows was start places (opening checkpoint) f = f
@@ -129,9 +126,9 @@ module _ {D : Type 0} (disk_says : DiskSays D) (images : Files → Type 0) (used
       }
 
   -- the command changed no row
-  pub over_idle : (opens : Bool) → AreChangesOf rows request opens [] → HasRunOver disk_says images used tables journal since start done
-  over_idle opens made =
-      let stand : Stand rows (after current deeds) = made.stand current h.stand in
+  pub over_idle : LeavesRows rows request → HasRunOver disk_says images used tables journal since start done
+  over_idle leaves =
+      let stand : Stand rows (after current deeds) = leaves current h.stand in
       let same_rows : SameRows current (after current deeds) = same_stand rows current (after current deeds) h.stand stand in
       let same_contents : SameContents current (after current deeds) = contents_stay current deeds h.stand.sound stand.sound same_rows in
       let On : List Deed → Type 0 = Stand rows in
@@ -154,9 +151,11 @@ module _ {D : Type 0} (disk_says : DiskSays D) (images : Files → Type 0) (used
         any_moment = λ image left. sometime_more images used start places (placed_by request false) image (h.any_moment image left);
       }
 
-  module _ (tables' : Tables) (journal' : Journal D) (changes : List Change) (opens : Bool) (written : Doubtful) (some : changes ≢ []) (with_it : HasAllRows (with_doubtful h.was written) (changed_by rows changes))
-      (opened : (with_doubtful h.was written).generation ≡ next_if opens h.was.generation) (made : AreChangesOf rows request opens changes)
-      (with_contents : KeepContents images used (changed_by rows changes) (after current deeds)) (leaves : LeavesOnly disk_says journal.disk journal'.disk (HasWithOrWithout h.was written)) where
+  module _ (tables' : Tables) (journal' : Journal D) (written : Doubtful) (writes : IsWrittenFor rows h.was request written)
+      (with_contents : KeepContents images used (changed_by rows writes.changes) (after current deeds)) (leaves : LeavesOnly disk_says journal.disk journal'.disk (HasWithOrWithout h.was written)) where
+    abbrev changes : List Change
+    changes = writes.changes
+
     -- each image since is kept, where each that has what was written is
     moments : (p : Placed) → ((image : Files) → HasCommitted (with_doubtful h.was written) image → IsKeptSometime images used start (places ++ p ∷ []) image) → (image : Files) → disk_says.left_since journal'.disk since image
         → IsKeptSometime images used start (places ++ p ∷ []) image
@@ -173,9 +172,9 @@ module _ {D : Type 0} (disk_says : DiskSays D) (images : Files → Type 0) (used
     pub over_done : Stands disk_says journal' (with_doubtful h.was written) nothing → rows_of tables' ≡ changed_by rows changes → HasRunOver disk_says images used tables' journal' since start done
     over_done stands rows_are =
         let On : List Deed → Type 0 = Stand (changed_by rows changes) in
-        let now : Stand (changed_by rows changes) (taken step start done) = subst On (sym done_is) (made.stand current h.stand) in
+        let now : Stand (changed_by rows changes) (taken step start done) = subst On (sym done_is) (writes.made.stand current h.stand) in
         let generation : generation_in (taken step start done) ≡ (with_doubtful h.was written).generation =
-        ap generation_in done_is ∙ (made.generation current h.stand some ∙ ap (next_if opens) h.generation ∙ sym opened) in
+        ap generation_in done_is ∙ told_with rows h.was request written writes current h.stand h.generation in
         let Has : AllRows → Type 0 = HasAllRows (with_doubtful h.was written) in
         let OnRows : AllRows → Type 0 = λ r. Stand r (taken step start done) in
         let With : List Deed → Type 0 = KeepContents images used (changed_by rows changes) in
@@ -185,7 +184,7 @@ module _ {D : Type 0} (disk_says : DiskSays D) (images : Files → Type 0) (used
           was = with_doubtful h.was written;
           doubt = nothing;
           stands = stands;
-          has = subst Has (sym rows_are) with_it;
+          has = subst Has (sym rows_are) writes.has;
           stand = subst OnRows (sym rows_are) now;
           generation = generation;
           kept = subst WithRows (sym rows_are) kept;
@@ -194,12 +193,12 @@ module _ {D : Type 0} (disk_says : DiskSays D) (images : Files → Type 0) (used
           any_moment = moments (placed_by request false) (λ image committed. (
             length done,
             omega arith,
-            kept_whole (StandsWith images used image) start done (inl (record { was = with_doubtful h.was written; committed = committed; rows = changed_by rows changes; has = with_it; stand = now; generation = generation; kept = kept })),
+            kept_whole (StandsWith images used image) start done (inl (record { was = with_doubtful h.was written; committed = committed; rows = changed_by rows changes; has = writes.has; stand = now; generation = generation; kept = kept })),
           ));
         }
 
     -- what the fault place would have done
-    of_this_fault : IsOfFault images used rows h.was (with_doubtful h.was written) start failed
+    of_this_fault : IsOfFault images used rows h.was written start failed
     of_this_fault = record {
       before = places;
       request = request;
@@ -208,10 +207,7 @@ module _ {D : Type 0} (disk_says : DiskSays D) (images : Files → Type 0) (used
       quiet = tt;
       stand = h.stand;
       same_contents = contents_failed;
-      after_it = changed_by rows changes;
-      has = with_it;
-      stand_after = made.stand;
-      generation = λ d stand is. made.generation d stand some ∙ ap (next_if opens) is ∙ sym opened;
+      writes = writes;
       kept = with_contents;
     }
 
@@ -244,6 +240,6 @@ module _ {D : Type 0} (disk_says : DiskSays D) (images : Files → Type 0) (used
           any_moment = moments (placed_by request true) (λ image committed. (
             length failed,
             omega arith,
-            kept_whole (StandsWith images used image) start failed (inr (kept_in_doubt images used h.was rows start failed h.has (subst On (sym failed_is) h.stand) generation (with_doubtful h.was written) of_this_fault image committed)),
+            kept_whole (StandsWith images used image) start failed (inr (kept_in_doubt images used h.was rows start failed h.has (subst On (sym failed_is) h.stand) generation written of_this_fault image committed)),
           ));
         }

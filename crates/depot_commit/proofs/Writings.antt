@@ -44,7 +44,6 @@ module _ (rows now : AllRows) (number generation : ℕ) (changes : List Change) 
     has = λ was number_is generation_is has.
         let Has : List ℕ → Type 0 = λ t. HasAllRows (with_group was t) (changed_by rows changes) in
         subst Has (sym (text_is ∙ ap (λ (n : ℕ). group_text n changes) number_is)) (group_added was rows changes has is_group fit);
-    opened = λ was. refl;
   }
 
   pub writes_generation : (text : List ℕ) → AreRecords changes → (AreRecords (puts_of now) → IsCheckpointOf (generation + 1) now text) → IsWritingOf rows now number generation true (opening text) changes
@@ -55,5 +54,4 @@ module _ (rows now : AllRows) (number generation : ℕ) (changes : List Change) 
         let Of : ℕ → Type 0 = λ n. IsCheckpointOf (n + 1) now text in
         let Has : AllRows → Type 0 = HasAllRows (with_generation was text) in
         subst Has rows_are (next_rows was now text (subst Of generation_is (is texts)));
-    opened = λ was. refl;
   }

@@ -12,15 +12,19 @@ use Rattle.depot_rows.specs.depot_model.declared.order.Answer.{Answer}
 use Rattle.depot_rows.specs.depot_model.declared.order.Place.{Place}
 use Rattle.depot_rows.specs.depot_model.declared.request.Request.{Request}
 use Rattle.depot_rows.specs.Standing.{Stand}
+use Rattle.row_changes.specs.Differences.{AreDifferences}
 use Rattle.depot_commit.specs.Holding.{generation_in}
+use Rattle.depot_commit.specs.Opening.{opens_generation}
 use Rattle.depot_commit.specs.Writing.{next_if}
 
--- Changes of these rows are those of a request: they have a text, and the rows after them are those of each depot with these rows after the request's
--- step. Where there are some, that depot is of the next generation if the request opens one, and else of the same.
-pub record AreChangesOf (rows : AllRows) (request : Request) (opens : Bool) (changes : List Change) : Type 0 where
+-- Changes of these rows are those of a request: they have a text, they are what differs between these rows and each depot with these rows after the
+-- request's step, and the rows after them are those of that depot. Where there are some, that depot is of the next generation if the request opens one,
+-- and else of the same.
+pub record AreChangesOf (rows : AllRows) (request : Request) (changes : List Change) : Type 0 where
   pub records : AreRecords changes
+  pub differences : (d : List Deed) → Stand rows d → AreDifferences rows d (after d (step d request).deeds) changes
   pub stand : (d : List Deed) → Stand rows d → Stand (changed_by rows changes) (after d (step d request).deeds)
-  pub generation : (d : List Deed) → Stand rows d → changes ≢ [] → generation_in (after d (step d request).deeds) ≡ next_if opens (generation_in d)
+  pub generation : (d : List Deed) → Stand rows d → changes ≢ [] → generation_in (after d (step d request).deeds) ≡ next_if (opens_generation request) (generation_in d)
 
 -- the answer to a place: the reply, or that of a fault
 pub record IsToldAt (place : Place) (reply of_fault : List ℕ) (answer : Answer) : Type 0 where

@@ -1,11 +1,12 @@
 -- A run over the rows of tables and a journal.
-use Rattle.std.specs.Prelude.{◌≡◌, ℕ, ◌≤◌, true, List, ◌∷◌, ◌++◌}
+use Rattle.std.specs.Prelude.{◌≡◌, ◌≢◌, ℕ, ◌≤◌, ◌+◌, true, List, [], ◌∷◌, ◌++◌, length}
 use Rattle.outside_api.specs.Disk.{Files}
 use Rattle.outside_api.specs.Says.{DiskSays}
-use Rattle.disk_journal.specs.Images.{Committed, with_generation, with_group}
-use Rattle.disk_journal.specs.Stands.{Doubtful, nothing, group, opening, Stands}
+use Rattle.depot_rows.specs.db_records.declared.change.Change.{Change}
+use Rattle.disk_journal.specs.Images.{Committed}
+use Rattle.disk_journal.specs.Stands.{Doubtful, nothing, Stands}
 use Rattle.disk_journal.specs.declared.journal.Journal.{Journal}
-use Rattle.depot_rows.specs.table_changes.Changed.{AllRows, rows_of}
+use Rattle.depot_rows.specs.table_changes.Changed.{AllRows, changed_by, rows_of}
 use Rattle.depot_rows.specs.table_store.declared.tables.Tables.{Tables}
 use Rattle.depot_rows.specs.depot_model.Commands.{step}
 use Rattle.depot_rows.specs.depot_model.Deeds.{Deed}
@@ -16,12 +17,24 @@ use Rattle.depot_rows.specs.depot_model.declared.request.Request.{Request}
 use Rattle.depot_rows.specs.Standing.{Stand}
 use Rattle.recovery.specs.Holding.{HasAllRows}
 use Rattle.session_loop.specs.Taking.{placed_by}
+use Rattle.depot_commit.specs.Committing.{AreChangesOf}
+use Rattle.depot_commit.specs.Growing.{IsWritten}
 use Rattle.depot_commit.specs.Holding.{generation_in, SameContents, KeepContents, IsKeptSometime}
+use Rattle.depot_commit.specs.Opening.{opens_generation}
+use Rattle.depot_commit.specs.Writing.{with_doubtful}
 
--- A fault place would have left this committed, with rows of its own: those of each depot with these rows after the step of its request. No place after
--- it is a change, so that the depot has the same rows and contents as before it. These images of the archive's disk, which is used up to a place, have
--- the contents with it too.
-pub record IsOfFault (images : Files → Type 0) (used : ℕ) (rows : AllRows) (was now : Committed) (start : List Deed) (places : List Placed) : Type 0 where
+-- At these rows and what is committed this was written for a request, or is in doubt: the group of its changes, of which there are some, or the next
+-- generation, if the request opens one. With it what is committed has the rows after the changes.
+pub record IsWrittenFor (rows : AllRows) (was : Committed) (request : Request) (written : Doubtful) : Type 0 where
+  pub changes : List Change
+  pub some : changes ≢ []
+  pub made : AreChangesOf rows request changes
+  pub is : IsWritten (length was.groups + 1) (opens_generation request) written changes
+  pub has : HasAllRows (with_doubtful was written) (changed_by rows changes)
+
+-- What is in doubt is what a fault place wrote for its request, at these rows. No place after it is a change, so that the depot has the same rows and
+-- contents as before it. These images of the archive's disk, which is used up to a place, have the contents with it too.
+pub record IsOfFault (images : Files → Type 0) (used : ℕ) (rows : AllRows) (was : Committed) (doubt : Doubtful) (start : List Deed) (places : List Placed) : Type 0 where
   pub before : List Placed
   pub request : Request
   pub later : List Placed
@@ -29,17 +42,13 @@ pub record IsOfFault (images : Files → Type 0) (used : ℕ) (rows : AllRows) (
   pub quiet : NoChange (taken step start before) later
   pub stand : Stand rows (taken step start before)
   pub same_contents : SameContents (taken step start before) (taken step start places)
-  pub after_it : AllRows
-  pub has : HasAllRows now after_it
-  pub stand_after : (d : List Deed) → Stand rows d → Stand after_it (after d (step d request).deeds)
-  pub generation : (d : List Deed) → Stand rows d → generation_in d ≡ was.generation → generation_in (after d (step d request).deeds) ≡ now.generation
-  pub kept : KeepContents images used after_it (after (taken step start before) (step (taken step start before) request).deeds)
+  pub writes : IsWrittenFor rows was request doubt
+  pub kept : KeepContents images used (changed_by rows writes.changes) (after (taken step start before) (step (taken step start before) request).deeds)
 
 -- what is in doubt after places: nothing, or the group or the generation of a fault place
 abbrev pub IsDoubtOf : (Files → Type 0) → ℕ → AllRows → Committed → List Deed → List Placed → Doubtful → Type 0
 IsDoubtOf images used rows was start places nothing = Unit {0}
-IsDoubtOf images used rows was start places (group text) = IsOfFault images used rows was (with_group was text) start places
-IsDoubtOf images used rows was start places (opening checkpoint) = IsOfFault images used rows was (with_generation was checkpoint) start places
+IsDoubtOf images used rows was start places doubt = IsOfFault images used rows was doubt start places
 
 -- A journal at which a group or a generation can be written: what is committed of it is known, and what is in doubt.
 abbrev pub CanCommit : {D : Type 0} → DiskSays D → Journal D → Type 0

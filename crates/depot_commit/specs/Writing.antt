@@ -39,8 +39,7 @@ abbrev pub StandsBy : {D : Type 0} → DiskSays D → Journal D → Committed �
 StandsBy disk_says journal was written false = Stands disk_says journal (with_doubtful was written) nothing
 StandsBy disk_says journal was written true = (now : Doubtful) × IsLeft written now × Stands disk_says journal was now
 
--- With what is written, what is committed has the rows after the changes, and is of the next generation if one is opened.
+-- With what is written, what is committed has the rows after the changes.
 pub record IsWritingOf (rows now : AllRows) (number generation : ℕ) (opens : Bool) (written : Doubtful) (changes : List Change) : Type 0 where
   pub rows_are : now ≡ changed_by rows changes
   pub has : (was : Committed) → number ≡ length was.groups + 1 → generation ≡ was.generation → HasAllRows was rows → HasAllRows (with_doubtful was written) (changed_by rows changes)
-  pub opened : (was : Committed) → (with_doubtful was written).generation ≡ next_if opens was.generation

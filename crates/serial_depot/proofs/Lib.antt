@@ -1,2 +1,2 @@
 pub mod Parts
-mod Quiet
+pub mod Quiet

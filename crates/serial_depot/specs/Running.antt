@@ -1,5 +1,5 @@
 -- A depot in files that has taken commands.
-use Rattle.std.specs.Prelude.{◌≡◌, ℕ, List}
+use Rattle.std.specs.Prelude.{◌≡◌, ℕ, Bool, List}
 use Rattle.outside_api.specs.Disk.{Files}
 use Rattle.outside_api.specs.Says.{DiskSays}
 use Rattle.archive_file.specs.Archive as archives
@@ -7,6 +7,13 @@ use Rattle.disk_journal.specs.Images.{Committed}
 use Rattle.disk_journal.specs.Stands.{Doubtful, Stands, disk_of}
 use Rattle.depot_rows.specs.depot_model.Deeds.{Deed}
 use Rattle.depot_rows.specs.depot_model.Places.{Placed}
+use Rattle.depot_rows.specs.depot_model.declared.request.Request.{Request}
+use Rattle.depot_rows.specs.Standing.{Stand}
+use Rattle.depot_rows.specs.table_changes.Changed.{rows_of}
+use Rattle.command_core.specs.declared.outcome.Outcome.{Outcome}
+use Rattle.depot_commit.specs.Committing.{AreRowsAfter, IsOutcomeOf}
+use Rattle.depot_commit.specs.Growing.{Chronicle, HasGroups, grown}
+use Rattle.depot_commit.specs.Opening.{opens_generation}
 use Rattle.depot_commit.specs.Running.{HasRunOver}
 use Rattle.depot_commit.specs.Storing.{AllReach}
 use Rattle.serial_depot.specs.declared.depot.SerialDepot.{SerialDepot}
@@ -28,3 +35,10 @@ pub record CanTake {D : Type 0} (disk_says : DiskSays D) (depot : SerialDepot D)
 pub record HaveStood {D : Type 0} (disk_says : DiskSays D) (old new : SerialDepot D) : Type 0 where
   pub journal : disk_says.faults (disk_of new.journal) ≡ disk_says.faults (disk_of old.journal)
   pub archive : disk_says.faults (archives.disk_of new.archive) ≡ disk_says.faults (archives.disk_of old.archive)
+
+-- A request got its place: the rows after it, and the groups of the journal, are those before with the changes of its outcome, or the same at a fault place.
+pub record GrowsBy {D : Type 0} (disk_says : DiskSays D) (request : Request) (fault : Bool) (old new : SerialDepot D) : Type 0 where
+  pub outcome : Outcome
+  pub is : IsOutcomeOf (rows_of old.tables) old.tables.archive_end request outcome
+  pub rows : AreRowsAfter (rows_of old.tables) outcome.changes fault (rows_of new.tables)
+  pub groups : (d : List Deed) (c : Chronicle) → Stand (rows_of old.tables) d → HasGroups disk_says old.journal c → HasGroups disk_says new.journal (grown (opens_generation request) fault outcome.changes c)

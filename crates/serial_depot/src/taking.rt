@@ -16,7 +16,7 @@ ghost use Rattle.session_loop.specs.Taking.{Answers, IsProper, with_place};
 ghost use Rattle.depot_commit.specs.Committing.{AreRowsAfter, IsOutcomeOf};
 ghost use Rattle.depot_commit.specs.Growing.{Chronicle, HasGroups, KeepsStored, grown};
 ghost use Rattle.depot_commit.specs.Opening.{opens_generation};
-ghost use Rattle.serial_depot.specs.Running.{CanTake, HasRun, HaveStood};
+ghost use Rattle.serial_depot.specs.Running.{CanTake, GrowsBy, HasRun, HaveStood};
 
 use crate::depot::SerialDepot;
 use archive_file::Archive;
@@ -137,8 +137,9 @@ impl<D: Disk> SerialDepot<D> {
         self.take_outcome(alloc, gate, request, outcome, Some(changed))
     }
 
-    /// Takes the command of a request.
-    fn take_request<G: Gate>(
+    /// Takes the command of a request, and gives its place and its reply. The one error is want of memory, and then nothing is done. The command may be
+    /// held back at the gate.
+    pub fn take_request<G: Gate>(
         &mut self,
         alloc: Global,
         gate: &G,
@@ -152,6 +153,10 @@ impl<D: Disk> SerialDepot<D> {
             IfOk result (Answers start places request.now) }
         ensures nothing { (since : ℕ) (start : List Deed) (places : List Placed) → HasRun D.says self.old since start places →
             OnErr result (HasRun D.says self.new since start places) }
+        ensures grows { IsProper request.now → IfOk result (λ answer. GrowsBy D.says request.now answer.place.fault self.old self.new) }
+        ensures same { OnErr result ((self.new.tables ≡ self.old.tables) × (self.new.journal ≡ self.old.journal)) }
+        // What lies in the archive below the end of what was used stays.
+        ensures stored { KeepsStored D.says self.old.archive self.new.archive }
         // A command after which no row differs makes no call of the journal's disk, and none of the archive's where it prints no content.
         ensures no_write { (d : List Deed) → Stand (rows_of self.old.tables) d → IsProper request.now → SameRows d (after d (step d request.now).deeds) →
             (self.new.journal ≡ self.old.journal) × (self.new.tables ≡ self.old.tables) }

@@ -12,7 +12,7 @@ use Rattle.journal_groups.specs.Groups.{AreRecords}
 use Rattle.recovery.specs.Holding.{group_texts}
 use Rattle.session_loop.specs.Taking.{placed_by}
 use Rattle.stored_contents.specs.Placed.{StandAfter}
-use Rattle.depot_commit.specs.Committing.{AreChangesOf, AreRowsAfter}
+use Rattle.depot_commit.specs.Committing.{AreRowsAfter}
 use Rattle.depot_commit.specs.Growing.{HasGroups, IsWritten, grown}
 use Rattle.depot_commit.specs.Opening.{opens_generation}
 use Rattle.depot_commit.specs.Placing.{HasRunBeside}
@@ -272,7 +272,7 @@ returns-clause-ran g c = λ from before since start places outcome h same proper
     let rows = rows_of tables in
     let request = c.args.request.now in
     let told = c.args.told in
-    let opens = c.opens-opening.result in
+    let opens = opens_generation request in
     let writing = c.in-Ok.following.writing in
     let changes = told.changes in
     let stores = told.stores in
@@ -280,13 +280,16 @@ returns-clause-ran g c = λ from before since start places outcome h same proper
     let next = after current (step current request).deeds in
     let changes_are : c.as_slice.result.now ≡ changes = c.as_slice.ensures in
     let Given : List Change → Type 0 = λ l. IfSome c.args.changed (λ (given : Tables). rows_of given ≡ changed_by rows l) in
-    let made : AreChangesOf rows request opens changes =
-    subst (λ (b : Bool). AreChangesOf rows request b changes) (sym c.opens-opening.ensures) (told_changes rows tables.archive_end current request outcome told h.stand is t proper c.requests_are_typed.ensures) in
+    let made = told_changes rows tables.archive_end current request outcome told h.stand is t proper c.requests_are_typed.ensures in
     let some : changes ≢ [] = c.is_unwritten.ensures.some c.if-is_unwritten.false in
     let fits = told_fits rows tables.archive_end current request outcome told h.stand is t in
-    let writes : IsWritingOf rows (rows_of c.in-Ok.following.changed) (next_number journal) (generation_of_journal journal) opens (left_by writing) changes =
-    subst (IsWritingOf rows (rows_of c.in-Ok.following.changed) (next_number journal) (generation_of_journal journal) opens (left_by writing)) changes_are
-    (c.in-Ok.ensures.writes (subst (AllFitIn rows) (sym changes_are) fits) (subst AreRecords (sym changes_are) made.records) (subst Given (sym (changes_are ∙ t.changes)) given)) in
+    let records = subst AreRecords (sym changes_are) made.records in
+    let Writes : Bool → List Change → Type 0 = λ b l. IsWritingOf rows (rows_of c.in-Ok.following.changed) (next_number journal) (generation_of_journal journal) b (left_by writing) l in
+    let writes = subst (Writes opens) changes_are (subst (λ (b : Bool). Writes b c.as_slice.result.now) c.opens-opening.ensures
+    (c.in-Ok.ensures.writes (subst (AllFitIn rows) (sym changes_are) fits) records (subst Given (sym (changes_are ∙ t.changes)) given))) in
+    let Written : ℕ → Bool → List Change → Type 0 = λ number b l. IsWritten number b (left_by writing) l in
+    let written = subst (λ (number : ℕ). Written number opens changes) (sym c.settle.ensures.number)
+    (subst (Written (next_number journal) opens) changes_are (subst (λ (b : Bool). Written (next_number journal) b c.as_slice.result.now) c.opens-opening.ensures (c.in-Ok.ensures.written records))) in
     let ok = c.in-Ok-settle.ensures.ok h.was h.doubt h.stands in
     let settled = over_settled D.says images used tables journal since start places h settled_journal ok (c.settle.ensures.any_moment h.was h.doubt h.stands) in
     let beside = over_stored D.says images used tables settled_journal since start places request settled stores in
@@ -299,8 +302,8 @@ returns-clause-ran g c = λ from before since start places outcome h same proper
     let Dated : ℕ → Type 0 = λ n. IsWritingOf rows (rows_of c.in-Ok.following.changed) (next_number settled_journal) n opens (left_by writing) changes in
     let same_rows : rows_of c.set_archive_end.new.self ≡ rows_of c.commit-failed.new.tables = λ i table. (c.set_archive_end.ensures.versions table i).rows in
     let done =
-    over_committed D.says (HasStored images used stores) (stores_end stores used) tables settled_journal since start places request beside (rows_of c.in-Ok.following.changed) opens (left_by writing) changes some
-    (subst Dated (sym generation) (subst Numbered (sym c.settle.ensures.number) writes)) made contents c.set_archive_end.new.self c.commit-failed.new.journal (c.commit-failed.ensures.any_moment beside.was still) c.commit-failed.result
+    over_committed D.says (HasStored images used stores) (stores_end stores used) tables settled_journal since start places request beside (rows_of c.in-Ok.following.changed) (left_by writing) changes some
+    (subst Dated (sym generation) (subst Numbered (sym c.settle.ensures.number) writes)) written made contents c.set_archive_end.new.self c.commit-failed.new.journal (c.commit-failed.ensures.any_moment beside.was still) c.commit-failed.result
     (c.commit-failed.ensures.stands beside.was still) (λ e. same_rows ∙ ap rows_of (c.commit-failed.ensures.landed e)) (λ e. same_rows ∙ ap rows_of (c.commit-failed.ensures.failed e)) in
     let more = beside_more D.says g.I.Imaging.images from c.set_archive_end.new.self c.commit-failed.new.journal since start (places ++ placed_by request c.commit-failed.result ∷ []) before stores done in
     let Ran : List (List ℕ) → Bool → Type 0 = λ stored fault.
@@ -333,12 +336,12 @@ returns-clause-grows g c = λ d all outcome stand proper is t has.
     let settled = c.in-Ok-settle.ensures.ok has.was has.doubt has.stands in
     let records = (told_changes (rows_of c.args.tables.now) c.args.tables.now.archive_end d request outcome told stand is t proper c.requests_are_typed.ensures).records in
     let changes_are : c.as_slice.result.now ≡ outcome.changes = c.as_slice.ensures ∙ t.changes in
-    let Written : List Change → Type 0 = λ l. IsWritten (next_number c.args.journal.now) c.opens-opening.result writing l in
-    let written = subst Written changes_are (c.in-Ok.ensures.written (subst AreRecords (sym c.as_slice.ensures) records)) in
     let number : next_number c.args.journal.now ≡ length has.was.groups + 1 = (let count = has.stands.count in omega (arith, count)) in
+    let written = subst (λ (n : ℕ). IsWritten n c.opens-opening.result writing outcome.changes) number
+    (subst (IsWritten (next_number c.args.journal.now) c.opens-opening.result writing) changes_are (c.in-Ok.ensures.written (subst AreRecords (sym c.as_slice.ensures) records))) in
     let some : outcome.changes ≢ [] = λ none. c.is_unwritten.ensures.some c.if-is_unwritten.false (t.changes ∙ none) in
     let done =
-    written_groups says journal has.was all has.are has.are_groups (next_number c.args.journal.now) c.opens-opening.result writing outcome.changes number written failed
+    written_groups says journal has.was all has.are has.are_groups c.opens-opening.result writing outcome.changes written failed
     (c.commit-failed.ensures.stands has.was settled) (c.commit-failed.ensures.keeps has.was older settled (c.settle.ensures.keeps older has.keeps)) in
     subst (λ (fault : Bool). HasGroups says journal (grown (opens_generation request) fault outcome.changes all)) (sym c.land_stored.ensures.fault)
     (subst (λ (opens : Bool). HasGroups says journal (grown opens failed outcome.changes all)) c.opens-opening.ensures

@@ -1,7 +1,5 @@
-use Rattle.std.proofs.Common.{List, sym, subst, ◌∙◌}
-use Rattle.depot_rows.specs.db_records.declared.change.Change.{Change}
+use Rattle.std.proofs.Common.{sym, subst, ◌∙◌}
 use Rattle.depot_commit.specs.Committing.{AreChangesOf}
-use Rattle.depot_commit.specs.Opening.{opens_generation}
 use Rattle.depot_commit.proofs.Outcomes.{answers, told_changes}
 use Rattle.depot_commit.proofs.Idle.{none_changed}
 use Rattle.depot_commit.proofs.unwritten.place_unwritten.Goals as goal
@@ -16,5 +14,4 @@ returns-clause-leaves c = λ rows from outcome proper is t read d stand.
     let request = c.args.request.now in
     let told = c.args.told in
     let none = none_changed told c.requires.unwritten read in
-    let Made : List Change → Type 0 = AreChangesOf rows request (opens_generation request) in
-    (subst Made none (told_changes rows from d request outcome told stand is t proper c.requests_are_typed.ensures)).stand d stand
+    (subst (AreChangesOf rows request) none (told_changes rows from d request outcome told stand is t proper c.requests_are_typed.ensures)).stand d stand
