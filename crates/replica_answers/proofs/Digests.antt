@@ -1,7 +1,6 @@
 -- The row of the revision that a reply's row shows: it is that of the content, which is at its spot and has its digest.
-use Rattle.std.proofs.Common.{◌≡◌, ◌<◌, ◌≤◌, ◌+◌, ◌^◌, ℕ, zero, suc, Bool, true, false, List, [], ◌∷◌, ◌++◌, length, take, drop, Option, Some, None, Ok, Err, inl, inr, refl, sym, ap, subst, ◌∙◌, arith, append_assoc, length-append}
-use Rattle.std.specs.Prelude.{nat_le, option_map}
-use Rattle.std.proofs.lemmas.Bool.Decides.{nat_tests}
+use Rattle.std.proofs.Common.{◌≡◌, ◌<◌, ◌≤◌, ◌+◌, ◌^◌, ℕ, zero, suc, Bool, true, false, List, [], ◌∷◌, ◌++◌, length, take, drop, Option, Some, None, Result, Ok, Err, refl, sym, ap, subst, ◌∙◌, arith, append-nil, append_assoc, length-append}
+use Rattle.std.specs.Prelude.{IfErr, option_map}
 use Rattle.std.proofs.lemmas.Fmt.{decimal_injective}
 use Rattle.std.proofs.Math.Seq.{take-add, take-append_seam}
 use Rattle.std.proofs.lemmas.List.{drop-drop}
@@ -24,11 +23,10 @@ use Rattle.depot_rows.specs.depot_model.declared.reply.Row.{Row}
 use Rattle.depot_rows.specs.Standing.{Stand, row_in}
 use Rattle.depot_rows.specs.table_changes.Changed.{AllRows}
 use Rattle.depots_alike.proofs.Nowhere.{no_revisions}
-use Rattle.recovery.specs.Contents.{bytes_at}
 use Rattle.recovery.specs.Standing.{HasContent, HasContents}
 use Rattle.replica_replies.specs.Prints.{IsShown}
 use Rattle.revision_reads.proofs.FileRows.{number_small, rev_row}
-use Rattle.replica_answers.specs.Printing.{EndsBehind, Gives, IsBadIn, IsFaultOf, IsRowOf, IsUnfit}
+use Rattle.replica_answers.specs.Printing.{AreGiven, EndsBehind, Gives, GrowsTo, IsFaultOf, IsGiven, IsGivenIn, IsRowOf, IsUnfit}
 use Rattle.replica_answers.specs.declared.printing.PrintFault.{PrintFault}
 use Rattle.replica_answers.specs.declared.printing.PrintFault.TheVariants.{Absent, BadContent, Failed, Memory}
 
@@ -140,32 +138,43 @@ module _ (all : AllRows) (d : List Deed) (stand : Stand all d) (bytes : List ℕ
   pub not_behind : EndsBehind bytes revision_row → ⊥
   not_behind behind = let within = there.within in omega (arith, within, behind)
 
--- ---- what is wrong
+-- ---- what is given
 
--- what is wrong in an archive with more bytes is wrong: it ends behind the first ones, or it is in them
-pub bad_before : (before now : List ℕ) (r : RevRecord) → IsFront before now → IsBadIn now r → IsBadIn before r
-bad_before before now r front (inl behind) = let le = front_longer before now front in inl (omega (arith, le, behind))
-bad_before before now r front (inr other) = go (nat_le (r.at + r.length) (length before)) refl
+-- contents that are given are in an archive with more bytes
+pub given_more : (all : AllRows) (before now : List ℕ) (rows : List Row) → IsFront before now → AreGiven all before rows → AreGiven all now rows
+given_more all before now [] front given = tt
+given_more all before now (row ∷ rows) front given = (
+  λ content is.
+      let own = given.0 content is in
+      let r = own.revision in
+      record { revision = r; is = own.is; digested = own.digested; there = has_more before now (record { at = r.at; length = r.length }) content front own.there },
+  given_more all before now rows front given.1,
+)
+
+-- a content that is given is in the row into which it is put
+pub given_in : (all : AllRows) (now : List ℕ) (row : Row) (content : List ℕ) → IsGiven all now row content → IsGivenIn all now (record { fields = row.fields; content = Some content })
+given_in all now row content given other is =
+    let own = given.is in
+    subst (IsGiven all now (record { fields = row.fields; content = Some content })) (same_content is)
+    (record {
+      revision = given.revision;
+      is = record {
+        file = own.file;
+        rev = own.rev;
+        small = own.small;
+        shows = record { more = own.shows.more; fields = own.shows.fields };
+        there = own.there;
+      };
+      digested = given.digested;
+      there = given.there;
+    })
   where
-    go : (b : Bool) → nat_le (r.at + r.length) (length before) ≡ b → IsBadIn before r
-    go false behind = inl (grind (arith, nat_tests))
-    go true is =
-        let within : r.at + r.length ≤ length before = grind (arith, nat_tests) in
-        let there = has_more before now (record { at = r.at; length = r.length }) (bytes_at before r) front (record { within = within; is = refl }) in
-        inr (λ same. other (same ∙ ap digest (sym there.is)))
+    same_content : {x y : List ℕ} → Some x ≡ Some y → x ≡ y
+    same_content e = cc
 
--- what was read has another digest
-pub bad_in : (before now text : List ℕ) (r : RevRecord) → IsFront before now → Has now (record { at = r.at; length = r.length }) text → (r.digest ≡ digest text → ⊥) → IsBadIn before r
-bad_in before now text r front read other = bad_before before now r front (inr (λ same. other (same ∙ ap digest read.is)))
-
-pub fault_before : (all : AllRows) (before now : List ℕ) (row : Row) (fault : PrintFault) → IsFront before now → IsFaultOf all now row fault → IsFaultOf all before row fault
-fault_before all before now row (Absent at) front is =
-    let le = front_longer before now front in
-    let behind = is.such in
-    record { revision = is.revision; is = is.is; place = is.place; such = omega (arith, le, behind) }
-fault_before all before now row (BadContent at) front is = record { revision = is.revision; is = is.is; place = is.place; such = bad_before before now is.revision front is.such }
-fault_before all before now row Failed front is = tt
-fault_before all before now row Memory front is = tt
+-- no byte came
+pub front_same : (before : List ℕ) → IsFront before before
+front_same before = record { more = []; is = sym (append-nil before) }
 
 -- ---- a fault that is handed on
 
@@ -180,6 +189,11 @@ gives_on P Q Failed is = tt
 gives_on P Q Memory is = tt
 gives_on P Q (Absent at) is = is
 gives_on P Q (BadContent at) is = is
+
+-- for want of memory nothing is wrong
+pub memory_tells : {T : Type 0} (Tells : List ℕ → Type 0) (P : List ℕ → PrintFault → Type 0) (before now : List ℕ) → Tells now → IsFront before now → P now Memory → (result : Result T PrintFault)
+    → result ≡ Err Memory → IfErr result (λ fault. GrowsTo Tells before (λ now. P now fault))
+memory_tells Tells P before now told front so result is = subst (λ r. IfErr r (λ fault. GrowsTo Tells before (λ now. P now fault))) (sym is) (now, (told, (front, so)))
 
 pub fault_is : (all : AllRows) (bytes : List ℕ) (row : Row) (fault : PrintFault) → ((at : ℕ) → fault ≡ Absent at → IsUnfit all row (EndsBehind bytes) at) → ((at : ℕ) → fault ≡ BadContent at → ⊥)
     → IsFaultOf all bytes row fault

@@ -1,6 +1,6 @@
 -- Rows into which contents are put from the first one on.
 use Rattle.std.proofs.Common.{◌≡◌, ℕ, zero, suc, ◌<◌, ◌≤◌, List, [], ◌∷◌, ◌++◌, length, map, option_map, take, drop, set, get_or, Option, Some, None, Result, Ok, Err, refl, sym, ap, subst, ◌∙◌, arith, append-nil}
-use Rattle.std.specs.Prelude.{Contains, IfErr, IfOk, IsSome}
+use Rattle.std.specs.Prelude.{IfErr, IfOk}
 use Rattle.std.specs.List.{AllByRecursion}
 use Rattle.std.proofs.lemmas.List.{drop_all, take_all}
 use Rattle.depot_rows.specs.depot_model.declared.reply.Row.{Row}
@@ -12,7 +12,7 @@ use Rattle.depot_rows.specs.table_changes.Changed.{AllRows}
 use Rattle.command_core.specs.Outcomes.{IsFormedBy}
 use Rattle.depot_runs.specs.Replica.{replica_reply}
 use Rattle.reply_rows.specs.Made.{waiting}
-use Rattle.replica_answers.specs.Printing.{AreRowsOf, IsFaultOf, IsPrintFault}
+use Rattle.replica_answers.specs.Printing.{AreRowsOf, GrowsTo, IsFirstFault, IsPrintFault}
 use Rattle.replica_answers.specs.declared.printing.PrintFault.{PrintFault}
 use Rattle.replica_answers.specs.declared.printing.PrintFault.TheVariants.{Absent, BadContent, Failed, Memory}
 
@@ -43,20 +43,6 @@ take_set [] k row lt = absurd (omega arith)
 take_set (first ∷ rows) zero row lt = refl
 take_set (first ∷ rows) (suc k) row lt = ap (λ (l : List Row). first ∷ l) (take_set rows k row (omega (arith, lt)))
 
-pub drop_set : (rows : List Row) (k : ℕ) (row : Row) → drop (suc k) (set rows k row) ≡ drop (suc k) rows
-drop_set [] k row = refl
-drop_set (first ∷ rows) zero row = refl
-drop_set (first ∷ rows) (suc k) row = drop_set rows k row
-
-pub drop_on : (rows other : List Row) (k : ℕ) → drop k rows ≡ drop k other → drop (suc k) rows ≡ drop (suc k) other
-drop_on rows other k same = after rows k ∙ (ap (drop 1) same ∙ sym (after other k))
-  where
-    after : (l : List Row) (k : ℕ) → drop (suc k) l ≡ drop 1 (drop k l)
-    after [] zero = refl
-    after [] (suc k) = refl
-    after (row ∷ l) zero = refl
-    after (row ∷ l) (suc k) = after l k
-
 pub waits_set : (rows : List Row) (k : ℕ) (row d : Row) → waiting row ≡ waiting (get_or rows k d) → map waiting (set rows k row) ≡ map waiting rows
 waits_set [] k row d same = refl
 waits_set (first ∷ rows) zero row d same = ap (λ (r : Row). r ∷ map waiting rows) same
@@ -66,18 +52,11 @@ pub all_push : (P : Row → Type 0) (rows : List Row) (row : Row) → AllByRecur
 all_push P [] row all is = (is, tt)
 all_push P (first ∷ rows) row all is = (all.0, all_push P rows row all.1 is)
 
--- the first of some rows is the row at the place from which they go on
-pub drop_here : (rows other : List Row) (k : ℕ) (d : Row) → k < length rows → drop k rows ≡ drop k other → (k < length other) × (get_or other k d ≡ get_or rows k d)
-drop_here [] other k d lt same = absurd (omega arith)
-drop_here (row ∷ rows) [] zero d lt same = absurd cc
-drop_here (row ∷ rows) (first ∷ other) zero d lt same = (omega arith, ap (λ (l : List Row). get_or l zero d) (sym same))
-drop_here (row ∷ rows) [] (suc k) d lt same = absurd (gone rows k (omega (arith, lt)) same)
-  where
-    gone : (rows : List Row) (k : ℕ) → k < length rows → drop k rows ≡ [] → ⊥
-    gone [] k lt same = omega arith
-    gone (row ∷ rows) zero lt same = cc
-    gone (row ∷ rows) (suc k) lt same = gone rows k (omega (arith, lt)) same
-drop_here (row ∷ rows) (first ∷ other) (suc k) d lt same = let r = drop_here rows other k d (omega (arith, lt)) same in (omega (arith, r.0), r.1)
+-- the rows before a place, that of the place and those behind it
+pub around : (rows : List Row) (k : ℕ) (d : Row) → k < length rows → take k rows ++ get_or rows k d ∷ drop (suc k) rows ≡ rows
+around [] k d lt = absurd (omega arith)
+around (row ∷ rows) zero d lt = refl
+around (row ∷ rows) (suc k) d lt = ap (λ (l : List Row). row ∷ l) (around rows k d (omega (arith, lt)))
 
 -- rows that wait wait for the same
 pub waiting_twice : (rows : List Row) → map waiting (map waiting rows) ≡ map waiting rows
@@ -98,19 +77,19 @@ module _ (all : AllRows) (request : Request) (rows : List Row) (are : (d : List 
       go (Ok reply) same = λ d stand formed. same ∙ (ap (map waiting) (are d stand formed) ∙ waiting_twice (replica_reply d request))
       go (Err fault) same = same
 
-  pub print_fault : (bytes : List ℕ) → IsFormedBy request → IfErr result (λ fault. (row : Row) × (Contains rows row × (IsSome row.content × IsFaultOf all bytes row fault)))
-      → IfErr result (IsPrintFault all request bytes)
-  print_fault bytes formed is = go result is
+  pub print_fault : (Tells : List ℕ → Type 0) (bytes : List ℕ) → IsFormedBy request → IfErr result (λ fault. GrowsTo Tells bytes (λ now. IsFirstFault all now rows fault))
+      → IfErr result (λ fault. GrowsTo Tells bytes (λ now. IsPrintFault all request now fault))
+  print_fault Tells bytes formed is = go result is
     where
-      there : (row : Row) → Contains rows row → (d : List Deed) → Stand all d → Contains (map waiting (replica_reply d request)) row
-      there row found d stand = subst (λ (l : List Row). Contains l row) (are d stand formed) found
+      there : (d : List Deed) → Stand all d → (now : List ℕ) (fault : PrintFault) (is : IsFirstFault all now rows fault) → AreRowsOf d request (is.before ++ is.row ∷ is.after)
+      there d stand now fault is = sym is.are ∙ (ap (map waiting) (are d stand formed) ∙ waiting_twice (replica_reply d request))
 
-      by : (row : Row) → Contains rows row → IsSome row.content → (fault : PrintFault) → IsFaultOf all bytes row fault → IsPrintFault all request bytes fault
-      by row found waits (Absent at) is = record { row = row; there = there row found; waits = waits; unfit = is }
-      by row found waits (BadContent at) is = record { row = row; there = there row found; waits = waits; unfit = is }
-      by row found waits Failed is = tt
-      by row found waits Memory is = tt
+      by : (now : List ℕ) (fault : PrintFault) → IsFirstFault all now rows fault → IsPrintFault all request now fault
+      by now (Absent at) is = record { before = is.before; row = is.row; after = is.after; are = λ d stand. there d stand now (Absent at) is; given = is.given; waits = is.waits; unfit = is.fault_is }
+      by now (BadContent at) is = record { before = is.before; row = is.row; after = is.after; are = λ d stand. there d stand now (BadContent at) is; given = is.given; waits = is.waits; unfit = is.fault_is }
+      by now Failed is = tt
+      by now Memory is = tt
 
-      go : (r : Result Reply PrintFault) → IfErr r (λ fault. (row : Row) × (Contains rows row × (IsSome row.content × IsFaultOf all bytes row fault))) → IfErr r (IsPrintFault all request bytes)
+      go : (r : Result Reply PrintFault) → IfErr r (λ fault. GrowsTo Tells bytes (λ now. IsFirstFault all now rows fault)) → IfErr r (λ fault. GrowsTo Tells bytes (λ now. IsPrintFault all request now fault))
       go (Ok reply) is = is
-      go (Err fault) is = by is.0 is.1.0 is.1.1.0 fault is.1.1.1
+      go (Err fault) is = (is.0, (is.1.0, (is.1.1.0, by is.0 fault is.1.1.1)))

@@ -1,6 +1,6 @@
 //! The answer to `print`, with the contents of an archive.
 
-ghost use Rattle.std.specs.Prelude.{◌≡◌, ◌≤◌, ◌<◌, ◌+◌, ℕ, List, length, decimal, map, Contains, IsSome, IsTrue, Some, IfOk, OnOk, IfSome, Err};
+ghost use Rattle.std.specs.Prelude.{◌≡◌, ◌≤◌, ◌<◌, ◌+◌, ℕ, List, length, decimal, map, IsSome, IsTrue, Some, IfOk, OnOk, IfSome, Err};
 ghost use Rattle.std.specs.Result.{IfErr};
 ghost use Rattle.outside_api.specs.Reaching.{Reaches};
 ghost use Rattle.archive_file.specs.Archive.{Has};
@@ -11,10 +11,10 @@ ghost use Rattle.depot_rows.specs.depot_model.declared.reply.Row.{Row as AnyRow}
 ghost use Rattle.depot_rows.specs.Standing.{Stand};
 ghost use Rattle.depot_rows.specs.table_changes.Changed.{rows_of};
 ghost use Rattle.depot_runs.specs.Replica.{replica_reply};
-ghost use Rattle.recovery.specs.Standing.{HasContents};
+ghost use Rattle.recovery.specs.Standing.{HasContent, HasContents};
 ghost use Rattle.reply_rows.specs.Made.{waiting};
 ghost use Rattle.replica_replies.specs.Prints.{AreShown, IsShown};
-ghost use Rattle.replica_answers.specs.Printing.{AreDigested, AreRowsOf, EndsBehind, Gives, HasPrintCause, IsDigested, IsFaultOf, IsPrintFault, IsRowOf, StandsUnlessFailed};
+ghost use Rattle.replica_answers.specs.Printing.{AreDigested, AreGiven, AreRowsOf, EndsBehind, Gives, GrowsTo, HasPrintCause, IsDigested, IsFaultOf, IsFirstFault, IsGiven, IsGivenIn, IsPrintFault, IsRowOf, StandsUnlessFailed};
 ghost use Rattle.replica_answers.specs.declared.printing.PrintFault.TheVariants as faults;
 
 use crate::answers::waiting_reply;
@@ -130,8 +130,8 @@ fn bytes_of<C: Contents>(
     revision: &RevRecord,
 ) -> Result<Text, PrintFault>
     ensures bytes { (before : List ℕ) → C.tells contents.old before →
-        IfOk result (λ text. (now : List ℕ) × (C.tells contents.new now × (IsFront before now × Has now (record { at = revision.now.at; length = revision.now.length }) text))) }
-    ensures absent { (before : List ℕ) (at : ℕ) → C.tells contents.old before → result ≡ Err (faults.Absent at) → (at ≡ revision.now.at) × EndsBehind before revision.now }
+        IfOk result (λ text. GrowsTo (C.tells contents.new) before (λ now. HasContent now revision.now text)) }
+    ensures absent { (now : List ℕ) (at : ℕ) → C.tells contents.new now → result ≡ Err (faults.Absent at) → (at ≡ revision.now.at) × EndsBehind now revision.now }
     ensures never_bad { (at : ℕ) → result ≡ Err (faults.BadContent at) → ⊥ }
     ensures grows { (before : List ℕ) → C.tells contents.old before → (now : List ℕ) × (C.tells contents.new now × IsFront before now) }
     ensures reached { Reaches C.keeps contents.old contents.new }
@@ -164,7 +164,8 @@ fn content_of<C: Contents>(
     ensures told { (d : List Deed) (content before : List ℕ) → Stand (rows_of tables.now) d → IsShown d row.now content → C.tells contents.old before →
         HasContents before (rows_of tables.now) d → Gives (λ text. text ≡ content) result }
     ensures digested { IfOk result (IsDigested (rows_of tables.now) row.now) }
-    ensures fault { (before : List ℕ) → C.tells contents.old before → IfErr result (IsFaultOf (rows_of tables.now) before row.now) }
+    ensures given { (before : List ℕ) → C.tells contents.old before → IfOk result (λ text. GrowsTo (C.tells contents.new) before (λ now. IsGiven (rows_of tables.now) now row.now text)) }
+    ensures fault { (before : List ℕ) → C.tells contents.old before → IfErr result (λ fault. GrowsTo (C.tells contents.new) before (λ now. IsFaultOf (rows_of tables.now) now row.now fault)) }
     ensures grows { (before : List ℕ) → C.tells contents.old before → (now : List ℕ) × (C.tells contents.new now × IsFront before now) }
     ensures reached { Reaches C.keeps contents.old contents.new }
     ensures only { StandsUnlessFailed (C.faults contents.old) (C.faults contents.new) result }
@@ -192,7 +193,9 @@ fn fill_row<C: Contents>(
         row.old ≡ waiting told → C.tells contents.old before → HasContents before (rows_of tables.now) d → Gives (λ _. row.new ≡ told) result }
     ensures same { OnOk result (waiting row.new ≡ waiting row.old) }
     ensures digested { OnOk result ((content : List ℕ) → row.new.content ≡ Some content → IsDigested (rows_of tables.now) row.new content) }
-    ensures fault { (before : List ℕ) → C.tells contents.old before → IfErr result (λ fault. IsSome row.old.content × IsFaultOf (rows_of tables.now) before row.old fault) }
+    ensures given { (before : List ℕ) → C.tells contents.old before → OnOk result (GrowsTo (C.tells contents.new) before (λ now. IsGivenIn (rows_of tables.now) now row.new)) }
+    ensures fault { (before : List ℕ) → C.tells contents.old before →
+        IfErr result (λ fault. IsSome row.old.content × GrowsTo (C.tells contents.new) before (λ now. IsFaultOf (rows_of tables.now) now row.old fault)) }
     ensures grows { (before : List ℕ) → C.tells contents.old before → (now : List ℕ) × (C.tells contents.new now × IsFront before now) }
     ensures reached { Reaches C.keeps contents.old contents.new }
     ensures only { StandsUnlessFailed (C.faults contents.old) (C.faults contents.new) result }
@@ -216,7 +219,8 @@ fn fill_rows<C: Contents>(
         C.tells contents.old before → HasContents before (rows_of tables.now) d → Gives (λ filled. filled.rows ≡ told) result }
     ensures same { IfOk result (λ filled. map waiting filled.rows ≡ map waiting reply.rows) }
     ensures digested { IfOk result (λ filled. AreDigested (rows_of tables.now) filled.rows) }
-    ensures fault { (before : List ℕ) → C.tells contents.old before → IfErr result (λ fault. (row : AnyRow) × (Contains reply.rows row × (IsSome row.content × IsFaultOf (rows_of tables.now) before row fault))) }
+    ensures given { (before : List ℕ) → C.tells contents.old before → IfOk result (λ filled. GrowsTo (C.tells contents.new) before (λ now. AreGiven (rows_of tables.now) now filled.rows)) }
+    ensures fault { (before : List ℕ) → C.tells contents.old before → IfErr result (λ fault. GrowsTo (C.tells contents.new) before (λ now. IsFirstFault (rows_of tables.now) now reply.rows fault)) }
     ensures reached { Reaches C.keeps contents.old contents.new }
     ensures only { StandsUnlessFailed (C.faults contents.old) (C.faults contents.new) result }
     ensures cause { HasPrintCause (C.faults contents.old) (C.faults contents.new) result }
@@ -246,7 +250,9 @@ pub fn answer_print<C: Contents>(
     ensures digested { IfOk result (λ reply. AreDigested (rows_of replica.now.tables) reply.rows) }
     ensures told { (d : List Deed) (bytes : List ℕ) → Stand (rows_of replica.now.tables) d → IsFormedBy request.now → C.tells contents.old bytes →
         HasContents bytes (rows_of replica.now.tables) d → Gives (λ reply. reply.rows ≡ replica_reply d request.now) result }
-    ensures fault { (bytes : List ℕ) → IsFormedBy request.now → C.tells contents.old bytes → IfErr result (IsPrintFault (rows_of replica.now.tables) request.now bytes) }
+    ensures given { (bytes : List ℕ) → C.tells contents.old bytes → IfOk result (λ reply. GrowsTo (C.tells contents.new) bytes (λ now. AreGiven (rows_of replica.now.tables) now reply.rows)) }
+    ensures fault { (bytes : List ℕ) → IsFormedBy request.now → C.tells contents.old bytes →
+        IfErr result (λ fault. GrowsTo (C.tells contents.new) bytes (λ now. IsPrintFault (rows_of replica.now.tables) request.now now fault)) }
     ensures reached { Reaches C.keeps contents.old contents.new }
     ensures only { StandsUnlessFailed (C.faults contents.old) (C.faults contents.new) result }
     ensures cause { HasPrintCause (C.faults contents.old) (C.faults contents.new) result }

@@ -45,7 +45,7 @@ use Rattle.replica_turns.proofs.Turns.{IsAskedWell, at_place, formed_of}
 -- ---- one turn over a depot that replicas follow
 
 -- the journal of such a depot
-journal_after : {D : Type 0} (disk_says : DiskSays D) (past : Past) (start : List Deed) (places : List Placed) (depot : SerialDepot D) (c : Chronicle) → IsMaster disk_says past start places depot c → IsJournalAfter past start places c
+pub journal_after : {D : Type 0} (disk_says : DiskSays D) (past : Past) (start : List Deed) (places : List Placed) (depot : SerialDepot D) (c : Chronicle) → IsMaster disk_says past start places depot c → IsJournalAfter past start places c
 journal_after disk_says past start places depot c master = record {
   are_groups = master.groups.are_groups;
   changes = master.changes;

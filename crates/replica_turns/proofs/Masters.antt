@@ -1,15 +1,16 @@
 -- A place of a run over the depot that replicas follow.
-use Rattle.std.proofs.Common.{◌≡◌, ◌≢◌, ◌⊎◌, ◌≤◌, ◌<◌, ◌+◌, ℕ, suc, Bool, true, false, List, [], ◌∷◌, ◌++◌, length, take, inl, inr, refl, sym, ap, subst, ◌∙◌, append-nil, arith, length-append}
+use Rattle.std.proofs.Common.{◌≡◌, ◌≢◌, ◌⊎◌, ◌≤◌, ◌<◌, ◌+◌, ℕ, Bool, true, false, List, [], ◌∷◌, ◌++◌, length, take, inl, inr, refl, sym, ap, subst, ◌∙◌, append-nil, arith, length-append}
 use Rattle.std.specs.Prelude.{map}
 use Rattle.std.proofs.Math.Nat.{eq-or-lt_of_le}
-use Rattle.std.proofs.Math.Seq.{get_or-append_seam, take-append_seam, take-length}
-use Rattle.std.proofs.lemmas.List.{length-map, map-append, take-append-le}
+use Rattle.std.proofs.Math.Seq.{get_or-append_seam, take-append_seam}
+use Rattle.std.proofs.lemmas.List.{length-map, map-append}
 use Rattle.outside_api.specs.Link.{IsEarlier, text_of}
 use Rattle.outside_api.specs.Says.{DiskSays}
 use Rattle.archive_file.specs.Archive as archives
 use Rattle.depot_commit.specs.command_core.Outcomes.{IsOutcome}
 use Rattle.depot_commit.specs.command_core.declared.outcome.Outcome.{Outcome}
 use Rattle.depot_rows.specs.db_records.declared.change.Change.{Change}
+use Rattle.depot_rows.specs.db_records.declared.table.TableId.TheVariants.{Rev}
 use Rattle.depot_rows.specs.depot_model.Deeds.{Deed}
 use Rattle.depot_rows.specs.depot_model.Places.{Placed, done_at, taken}
 use Rattle.depot_rows.specs.depot_model.Step.{after}
@@ -19,9 +20,8 @@ use Rattle.depot_runs.specs.Kept.{IsChange}
 use Rattle.depot_runs.specs.Replica.{IsAfterChanges}
 use Rattle.depot_rows.specs.depot_model.Commands.{step}
 use Rattle.journal_groups.specs.Groups.{groups_text}
-use Rattle.recovery.specs.Holding.{group_texts, joined}
-use Rattle.replica_pull.specs.Prefix.{HasGrown, begun, first_rows}
-use Rattle.replica_pull.proofs.Counted.{rows_on, with_groups, with_next}
+use Rattle.recovery.specs.Holding.{group_texts, spots_end}
+use Rattle.replica_pull.specs.Prefix.{HasGrown, first_rows}
 use Rattle.replica_pull.proofs.Taking.{groups_joined}
 use Rattle.depot_commit.specs.Committing.{AreRowsAfter}
 use Rattle.depot_commit.specs.Growing.{Chronicle, HasGroups, KeepsStored, generations_of, grown, with_changes}
@@ -29,13 +29,13 @@ use Rattle.depot_commit.specs.Holding.{KeepContents, generation_in}
 use Rattle.depot_commit.specs.Opening.{opens_generation}
 use Rattle.serial_depot.specs.Running.{HasRun}
 use Rattle.serial_depot.specs.declared.depot.SerialDepot.{SerialDepot}
-use Rattle.depot_commit.proofs.Checkpointed.{next_told, opened_rows, some_differ}
+use Rattle.depot_commit.proofs.Checkpointed.{made_differ}
 use Rattle.depot_commit.proofs.Places.{no_difference, same_stand, taken-push}
 use Rattle.depot_commit.proofs.Stored.{contents_kept}
 use Rattle.session_loop.specs.Taking.{placed_by}
-use Rattle.depot_rows.specs.table_changes.Changed.{AllFitIn, AllRows, changed_by, changed_in, no_rows, rows_of}
-use Rattle.replica_turns.specs.Master.{AllFit, AreChanges, HasNth, IsMaster, IsNth, Past, all_changes, texts_in}
-use Rattle.replica_turns.proofs.Fits.{fit_next, fit_with}
+use Rattle.depot_rows.specs.table_changes.Changed.{AllRows, changed_by, rows_of}
+use Rattle.replica_turns.specs.Master.{AreChanges, HasNth, IsMaster, IsNth, Past, all_changes, first_of, texts_in}
+use Rattle.replica_turns.proofs.OneMore.{IsOneMore, all_now, ends_now, fewer_now, one_longer, one_more, rows_now}
 
 -- ---- places that are changes
 
@@ -69,7 +69,7 @@ nth_longer past start places more n d (inr is) = inr (is.0, is.1, after_longer i
 
 -- ---- texts that grow
 
-earlier_by : (front : List (List ℕ)) (last more : List ℕ) (behind : List (List ℕ)) → IsEarlier (front ++ last ∷ []) (front ++ (last ++ more) ∷ behind)
+pub earlier_by : (front : List (List ℕ)) (last more : List ℕ) (behind : List (List ℕ)) → IsEarlier (front ++ last ∷ []) (front ++ (last ++ more) ∷ behind)
 earlier_by front last more behind =
     let texts = front ++ (last ++ more) ∷ behind in
     let here : text_of texts (length front) ≡ last ++ more = get_or-append_seam front (last ++ more) behind [] in
@@ -136,6 +136,10 @@ module _ {D : Type 0} (disk_says : DiskSays D) (past : Past) (start : List Deed)
         kept = subst (λ (rows : AllRows). KeepContents new_images (archives.used_of new.archive) rows was.depot) (sym same) kept;
       }
 
+  -- where the rows stay, so does the end of their spots
+  ends_stay : rows_of new.tables ≡ rows_of old.tables → (n : ℕ) → n ≤ length (all_changes c) → spots_end (first_of n c Rev) ≤ spots_end (rows_of new.tables Rev)
+  ends_stay same n within = subst (λ (rows : AllRows). spots_end (first_of n c Rev) ≤ spots_end (rows Rev)) (sym same) (master.ends n within)
+
   -- no command was taken
   pub unmoved_master : rows_of new.tables ≡ rows_of old.tables → HasGroups disk_says new.journal c → IsMaster disk_says past start places new c
   unmoved_master same groups = record {
@@ -145,6 +149,7 @@ module _ {D : Type 0} (disk_says : DiskSays D) (past : Past) (start : List Deed)
     count = master.count;
     are_changes = master.are_changes;
     each = λ n within. nth_kept (IsNth past start places) (λ k d is. is) c n refl within;
+    ends = ends_stay same;
     fit = master.fit;
   }
 
@@ -164,33 +169,22 @@ module _ {D : Type 0} (disk_says : DiskSays D) (past : Past) (start : List Deed)
     count = master.count;
     are_changes = changes_idle master.changes start places p master.are_changes idle;
     each = λ n within. nth_kept disk_says past start places old new c master stored (IsNth past start (places ++ p ∷ [])) (nth_longer past start places (p ∷ [])) c n refl within;
+    ends = ends_stay disk_says past start places old new c master stored same;
     fit = master.fit;
   }
 
   -- one change more
   module _ (p : Placed) (is : IsChange current p) (now : Chronicle) (groups : HasGroups disk_says new.journal now) (ran : HasRun disk_says new since start (places ++ p ∷ []))
-      (extra : List (List Change)) (more : all_changes now ≡ all_changes c ++ extra) (one : length extra ≡ 1) (rows : changed_by (rows_of old.tables) (joined extra) ≡ rows_of new.tables)
-      (fit : AllFit c → AllFit now) where
-    rows_now : rows_of new.tables ≡ changed_by no_rows (joined (all_changes now))
-    rows_now =
-        sym rows
-        ∙ ap (λ (r : AllRows). changed_by r (joined extra)) master.rows
-        ∙ sym (rows_on (all_changes c) extra)
-        ∙ ap (λ (l : List (List Change)). changed_by no_rows (joined l)) (sym more)
-
-    long : length (all_changes now) ≡ length (all_changes c) + 1
-    long = let all = ap (length {A = List Change}) more ∙ length-append (all_changes c) extra in omega (arith, all, one)
-
+      (m : IsOneMore c now (rows_of old.tables) (rows_of new.tables)) where
     now_changes : AreChanges (master.changes + 1) start (places ++ p ∷ [])
     now_changes = changes_more master.changes start places p master.are_changes is
 
     counted : length (all_changes now) ≡ past.count + (master.changes + 1)
-    counted = let was = master.count in let all = long in omega (arith, was, all)
+    counted = let was = master.count in let all = one_longer c now (rows_of old.tables) (rows_of new.tables) master.rows m in omega (arith, was, all)
 
     nth_now : (n : ℕ) → (n ≡ length (all_changes now)) ⊎ (n < length (all_changes now)) → HasNth disk_says new.archive (IsNth past start (places ++ p ∷ []) n) now n
     nth_now n (inl last) =
-        let whole : take n (all_changes now) ≡ all_changes now = ap (λ (k : ℕ). take k (all_changes now)) last ∙ take-length (all_changes now) in
-        let same : first_rows n (generations_of now) ≡ rows_of new.tables = ap (λ (l : List (List Change)). changed_by no_rows (joined l)) whole ∙ sym rows_now in
+        let same = all_now c now (rows_of old.tables) (rows_of new.tables) master.rows m n last in
         let images = disk_says.may_leave (archives.disk_of new.archive) in
         record {
           depot = taken step start (places ++ p ∷ []);
@@ -199,26 +193,27 @@ module _ {D : Type 0} (disk_says : DiskSays D) (past : Past) (start : List Deed)
           kept = subst (λ (r : AllRows). KeepContents images (archives.used_of new.archive) r (taken step start (places ++ p ∷ []))) (sym same) ran.over.kept;
         }
     nth_now n (inr less) =
-        let within : n ≤ length (all_changes c) = (let all = long in omega (arith, less, all)) in
-        let first : take n (all_changes now) ≡ take n (all_changes c) = ap (take n) more ∙ take-append-le n (all_changes c) extra within in
-        nth_kept disk_says past start places old new c master stored (IsNth past start (places ++ p ∷ [])) (nth_longer past start places (p ∷ [])) now n (ap (λ (l : List (List Change)). changed_by no_rows (joined l)) first) within
+        let within : n ≤ length (all_changes c) = (let all = one_longer c now (rows_of old.tables) (rows_of new.tables) master.rows m in omega (arith, less, all)) in
+        nth_kept disk_says past start places old new c master stored (IsNth past start (places ++ p ∷ [])) (nth_longer past start places (p ∷ [])) now n
+        (fewer_now c now (rows_of old.tables) (rows_of new.tables) master.rows m n within) within
 
     changed_place : IsMaster disk_says past start (places ++ p ∷ []) new now
     changed_place = record {
       groups = groups;
-      rows = rows_now;
+      rows = rows_now c now (rows_of old.tables) (rows_of new.tables) master.rows m;
       changes = master.changes + 1;
       count = counted;
       are_changes = now_changes;
       each = λ n within. nth_now n (eq-or-lt_of_le within);
-      fit = λ first. fit (master.fit first);
+      ends = ends_now c now (rows_of old.tables) (rows_of new.tables) master.rows m master.ends;
+      fit = λ first. m.fit (master.fit first);
     }
 
   -- ---- the place of a request
 
   module _ (request : Request) (outcome : Outcome) (is : IsOutcome (rows_of old.tables) old.tables.archive_end current request outcome) where
     -- the generation that it tells
-    generation_is : generation_in current + 1 ≡ suc (length c.closed)
+    generation_is : generation_in current ≡ length c.closed
     generation_is =
         let told = h.over.generation in
         let stands = h.over.stands.generation in
@@ -226,32 +221,13 @@ module _ {D : Type 0} (disk_says : DiskSays D) (past : Past) (start : List Deed)
         let same = length-map c.closed (group_texts 1) in
         omega (arith, told, stands, count, same)
 
-    -- the changes of its group fit
-    group_fits : AllFitIn (changed_by no_rows (joined (all_changes c))) (joined (outcome.changes ∷ []))
-    group_fits =
-        subst (AllFitIn (changed_by no_rows (joined (all_changes c)))) (sym (append-nil outcome.changes)) (subst (λ (r : AllRows). AllFitIn r outcome.changes) master.rows is.changes.fit)
-
-    written : (opens : Bool) → opens_generation request ≡ opens → outcome.changes ≢ [] → HasRun disk_says new since start (places ++ placed_by request false ∷ [])
-        → rows_of new.tables ≡ changed_by (rows_of old.tables) outcome.changes → HasGroups disk_says new.journal (with_changes opens outcome.changes c)
-        → IsMaster disk_says past start (places ++ placed_by request false ∷ []) new (with_changes opens outcome.changes c)
-    written false opening some ran rows groups =
-        changed_place (placed_by request false) (refl, some_differ (rows_of old.tables) old.tables.archive_end current request outcome h.over.stand is some) (with_changes false outcome.changes c) groups ran
-        (outcome.changes ∷ []) (with_groups 0 c.closed c.newest (outcome.changes ∷ [])) refl
-        (ap (changed_by (rows_of old.tables)) (append-nil outcome.changes) ∙ sym rows)
-        (λ fits. fit_with 0 no_rows c.closed c.newest (outcome.changes ∷ []) fits group_fits)
-    written true opening some ran rows groups =
-        let index : suc (length c.closed) ≡ 0 + length (c.closed ++ c.newest ∷ []) = (let all = length-append c.closed (c.newest ∷ []) in omega (arith, all)) in
-        let opened = opened_rows (rows_of old.tables) old.tables.archive_end current request outcome h.over.stand is some opening in
-        changed_place (placed_by request false) (refl, some_differ (rows_of old.tables) old.tables.archive_end current request outcome h.over.stand is some) (with_changes true outcome.changes c) groups ran
-        (begun (suc (length c.closed))) (with_next 0 (c.closed ++ c.newest ∷ []) (suc (length c.closed)) index) refl
-        (ap (λ (n : ℕ). changed_by (rows_of old.tables) (joined (begun n))) (sym generation_is) ∙ (again (generation_in current) ∙ (sym opened ∙ sym rows)))
-        (λ fits. fit_next 0 no_rows (c.closed ++ c.newest ∷ []) fits)
-      where
-        one_on : (n : ℕ) → n + 1 ≡ suc n
-        one_on n = omega arith
-
-        again : (n : ℕ) → changed_by (rows_of old.tables) (joined (begun (n + 1))) ≡ changed_in (rows_of old.tables) (next_told (n + 1))
-        again n = ap (λ (k : ℕ). changed_by (rows_of old.tables) (joined (begun k))) (one_on n) ∙ ap (λ (k : ℕ). changed_in (rows_of old.tables) (next_told k)) (sym (one_on n))
+    written : outcome.changes ≢ [] → HasRun disk_says new since start (places ++ placed_by request false ∷ []) → rows_of new.tables ≡ changed_by (rows_of old.tables) outcome.changes
+        → HasGroups disk_says new.journal (with_changes (opens_generation request) outcome.changes c)
+        → IsMaster disk_says past start (places ++ placed_by request false ∷ []) new (with_changes (opens_generation request) outcome.changes c)
+    written some ran rows groups =
+        let now = with_changes (opens_generation request) outcome.changes c in
+        changed_place (placed_by request false) (refl, made_differ (rows_of old.tables) current request outcome.changes h.over.stand is.changes some) now groups ran
+        (subst (IsOneMore c now (rows_of old.tables)) (sym rows) (one_more (rows_of old.tables) current request outcome.changes h.over.stand is.changes some c master.rows generation_is))
 
     pub place_master : (fault : Bool) → HasRun disk_says new since start (places ++ placed_by request fault ∷ []) → AreRowsAfter (rows_of old.tables) outcome.changes fault (rows_of new.tables)
         → HasGroups disk_says new.journal (grown (opens_generation request) fault outcome.changes c)
@@ -273,4 +249,4 @@ module _ {D : Type 0} (disk_says : DiskSays D) (past : Past) (start : List Deed)
             let some : outcome.changes ≢ [] = λ none. (let e = sym same ∙ none in cc) in
             let Grows : List Change → Type 0 = λ cs. HasGroups disk_says new.journal (with_changes (opens_generation request) cs c) in
             let Is : List Change → Type 0 = λ cs. IsMaster disk_says past start (places ++ placed_by request false ∷ []) new (with_changes (opens_generation request) cs c) in
-            subst Is same (written (opens_generation request) refl some ran (rows ∙ ap (changed_by (rows_of old.tables)) (sym same)) (subst Grows (sym same) groups))
+            subst Is same (written some ran (rows ∙ ap (changed_by (rows_of old.tables)) (sym same)) (subst Grows (sym same) groups))

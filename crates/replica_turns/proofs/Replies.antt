@@ -17,7 +17,7 @@ use Rattle.depot_rows.specs.depot_model.declared.request.WordFault.{WordFault}
 use Rattle.depot_rows.specs.Standing.{Stand}
 use Rattle.depot_runs.specs.Replica.{replica_reply}
 use Rattle.recovery.specs.Standing.{HasContents}
-use Rattle.replica_answers.specs.Printing.{AreDigested, AreRowsOf, EndsBehind, IsBadPrint, IsLacking}
+use Rattle.replica_answers.specs.Printing.{AreDigested, AreGiven, AreRowsOf, EndsBehind, IsBadPrint, IsLacking}
 use Rattle.replica_pull.specs.declared.replica.Replica.{Replica}
 use Rattle.replica_replies.specs.Prints.{prints}
 use Rattle.serial_depot.specs.declared.depot.SerialDepot.{SerialDepot}
@@ -33,14 +33,14 @@ module _ {D : Type 0} (depot : SerialDepot D) (disk_says : DiskSays D) (replica 
 
   -- with contents
   pub of_print : prints request.command ≡ true → (rows : List Row) (text : List ℕ) → text ≡ printed rows request.number → ((d : List Deed) → Stand (rows_of replica.tables) d → AreRowsOf d request rows)
-      → AreDigested (rows_of replica.tables) rows
+      → AreDigested (rows_of replica.tables) rows → ((bytes : List ℕ) → IsTold disk_says depot.archive bytes → AreGiven (rows_of replica.tables) bytes rows)
       → ((d : List Deed) (bytes : List ℕ) → Stand (rows_of replica.tables) d → IsTold disk_says depot.archive bytes → HasContents bytes (rows_of replica.tables) d → rows ≡ replica_reply d request)
       → Replies text false
-  of_print prints_it rows text is are digested told = inl (record {
+  of_print prints_it rows text is are digested given told = inl (record {
     depot = depot;
     been = refl;
     reply = λ d stand has. let there = has prints_it in is ∙ ap (λ (l : List Row). printed l request.number) (told d there.0 stand there.1 there.2);
-    digested = λ _. record { rows = rows; is = is; are = are; digested = digested };
+    digested = λ _. record { rows = rows; is = is; are = are; digested = digested; given = given };
   })
 
   -- without one of the contents
@@ -51,10 +51,13 @@ module _ {D : Type 0} (depot : SerialDepot D) (disk_says : DiskSays D) (replica 
   of_bad prints_it at bad (Err error) is = is
 
   -- the spot of one ends behind the archive
-  pub behind_bad : (bytes : List ℕ) (at : ℕ) → IsLacking (rows_of replica.tables) request (EndsBehind bytes) at → IsBadPrint (rows_of replica.tables) request bytes at
+  pub behind_bad : (bytes : List ℕ) (at : ℕ) → IsLacking (rows_of replica.tables) request bytes (EndsBehind bytes) at → IsBadPrint (rows_of replica.tables) request bytes at
   behind_bad bytes at lacking = record {
+    before = lacking.before;
     row = lacking.row;
-    there = lacking.there;
+    after = lacking.after;
+    are = lacking.are;
+    given = lacking.given;
     waits = lacking.waits;
     unfit = record { revision = lacking.unfit.revision; is = lacking.unfit.is; place = lacking.unfit.place; such = inl lacking.unfit.such };
   }

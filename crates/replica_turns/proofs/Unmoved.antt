@@ -1,9 +1,10 @@
 -- A depot is unmoved whose journal was read, or whose archive was.
-use Rattle.std.proofs.Common.{◌≤◌, refl, ◌∙◌, arith}
+use Rattle.std.proofs.Common.{◌≡◌, ◌≤◌, ◌++◌, ◌∷◌, ℕ, List, [], length, refl, ap, ◌∙◌, append-nil, arith}
+use Rattle.std.proofs.lemmas.List.{length-append, length-take}
 use Rattle.outside_api.specs.Reaching.{Reaches, holds}
 use Rattle.outside_api.specs.Says.{DiskSays}
 use Rattle.archive_file.specs.Archive as archives
-use Rattle.archive_file.specs.Contents.{IsLooked}
+use Rattle.archive_file.specs.Contents.{IsFront, IsLooked, IsTold}
 use Rattle.archive_file.specs.declared.archive.Archive.{Archive}
 use Rattle.disk_journal.specs.Stands.{disk_of}
 use Rattle.disk_journal.specs.declared.journal.Journal.{Journal}
@@ -52,3 +53,19 @@ looked_read disk_says old new run = holds (IsRead disk_says old) (read_none disk
       crash = λ files left. read.crash files (look.crash files left);
       used = look.used ∙ read.used;
     }
+
+-- what it tells then is what it told
+pub told_still : {D : Type 0} (disk_says : DiskSays D) (old new : Archive D) → Reaches (IsLooked disk_says) old new → (bytes now : List ℕ) → IsTold disk_says old bytes → IsTold disk_says new now → IsFront bytes now
+    → now ≡ bytes
+told_still disk_says old new run bytes now was is front =
+    let used = (looked_read disk_says old new run).used in
+    let here = was.within in
+    let there = is.within in
+    let short = ap length was.are ∙ length-take (archives.used_of old) (was.files 0) in
+    let long = ap length is.are ∙ length-take (archives.used_of new) (is.files 0) in
+    let longer = ap length front.is ∙ length-append bytes front.more in
+    front.is ∙ (ap (λ (l : List ℕ). bytes ++ l) (empty front.more (omega (arith, used, here, there, short, long, longer))) ∙ append-nil bytes)
+  where
+    empty : (l : List ℕ) → length l ≡ 0 → l ≡ []
+    empty [] none = refl
+    empty (x ∷ l) none = absurd (omega (arith, none))

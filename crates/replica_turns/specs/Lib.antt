@@ -4,6 +4,7 @@ pub mod Master
 pub mod Position
 pub mod Replying
 pub mod Turning
+pub mod Written
 -- what stands below, for the crates above
 pub use Rattle.serial_depot.specs as serial_depot
 pub use Rattle.depot_commit.specs as depot_commit

@@ -6,6 +6,7 @@ use Rattle.outside_api.specs.Says.{DiskSays}
 use Rattle.archive_file.specs.Archive.{disk_of, used_of}
 use Rattle.archive_file.specs.declared.archive.Archive.{Archive}
 use Rattle.depot_rows.specs.db_records.declared.change.Change.{Change}
+use Rattle.depot_rows.specs.db_records.declared.table.TableId.TheVariants.{Rev}
 use Rattle.depot_rows.specs.depot_model.Deeds.{Deed}
 use Rattle.depot_rows.specs.depot_model.Places.{Placed, done_at}
 use Rattle.depot_rows.specs.depot_model.Step.{after}
@@ -14,7 +15,7 @@ use Rattle.depot_runs.specs.Kept.{IsChange}
 use Rattle.depot_runs.specs.Replica.{IsAfterChanges}
 use Rattle.depot_rows.specs.depot_model.Commands.{step}
 use Rattle.journal_groups.specs.Groups.{IsGroup, groups_text}
-use Rattle.recovery.specs.Holding.{joined}
+use Rattle.recovery.specs.Holding.{joined, spots_end}
 use Rattle.replica_pull.specs.Prefix.{FitFrom, HasGrown, changes_from, first_rows}
 use Rattle.depot_commit.specs.Growing.{Chronicle, HasGroups, generations_of}
 use Rattle.depot_commit.specs.Holding.{KeepContents}
@@ -89,7 +90,7 @@ pub record HasNth {D : Type 0} (disk_says : DiskSays D) (archive : Archive D) (I
   pub kept : KeepContents (disk_says.may_leave (disk_of archive)) (used_of archive) (first_rows n (generations_of c)) depot
 
 -- The journal has these groups, which make the rows of the tables; of its changes there are those before the run and those among the places that were taken,
--- and after each number of them it had a depot that is known. They fit where those before the run did.
+-- and after each number of them it had a depot that is known, none of whose spots ended behind those of the tables. They fit where those before the run did.
 pub record IsMaster {D : Type 0} (disk_says : DiskSays D) (past : Past) (start : List Deed) (places : List Placed) (depot : SerialDepot D) (c : Chronicle) : Type 0 where
   pub groups : HasGroups disk_says depot.journal c
   pub rows : rows_of depot.tables ≡ changed_by no_rows (joined (all_changes c))
@@ -97,4 +98,9 @@ pub record IsMaster {D : Type 0} (disk_says : DiskSays D) (past : Past) (start :
   pub count : length (all_changes c) ≡ past.count + changes
   pub are_changes : AreChanges changes start places
   pub each : (n : ℕ) → n ≤ length (all_changes c) → HasNth disk_says depot.archive (IsNth past start places n) c n
+  pub ends : (n : ℕ) → n ≤ length (all_changes c) → spots_end (first_of n c Rev) ≤ spots_end (rows_of depot.tables Rev)
   pub fit : AllFit past.journal → AllFit c
+
+-- the depot is one that replicas follow, after these places
+abbrev pub CanBeFollowed : {D : Type 0} → DiskSays D → Past → List Deed → List Placed → SerialDepot D → Type 0
+CanBeFollowed disk_says past start places depot = (c : Chronicle) × IsMaster disk_says past start places depot c

@@ -20,7 +20,7 @@ use Rattle.depot_rows.specs.depot_model.declared.request.WordFault.{WordFault}
 use Rattle.depot_runs.specs.Replica.{position_row, replica_reply}
 use Rattle.depot_rows.specs.Standing.{Stand}
 use Rattle.recovery.specs.Standing.{HasContents}
-use Rattle.replica_answers.specs.Printing.{AreDigested, AreRowsOf, IsBadPrint}
+use Rattle.replica_answers.specs.Printing.{AreDigested, AreGiven, AreRowsOf, IsBadPrint}
 use Rattle.replica_pull.specs.Replica.{HasMoved, IsStopped}
 use Rattle.replica_pull.specs.declared.fault.PullFault.{PullFault}
 use Rattle.replica_pull.specs.declared.fault.PullFault.TheVariants.{Memory}
@@ -75,12 +75,13 @@ abbrev pub reads_archive : Request → Bool
 reads_archive request = prints request.command
 
 -- Of a `print`, whatever the archive has: its rows are a replica's for each depot for which the replica's rows stand, but for what their contents are, and each
--- content has the digest of the revision that its row shows.
-pub record IsDigestedReply (replica : Replica) (request : Request) (text : List ℕ) : Type 0 where
+-- content has the digest of the revision that its row shows, and is what the archive tells at the spot of that revision.
+pub record IsDigestedReply {D : Type 0} (disk_says : DiskSays D) (depot : SerialDepot D) (replica : Replica) (request : Request) (text : List ℕ) : Type 0 where
   pub rows : List Row
   pub is : text ≡ printed rows request.number
   pub are : (d : List Deed) → Stand (rows_of replica.tables) d → AreRowsOf d request rows
   pub digested : AreDigested (rows_of replica.tables) rows
+  pub given : (bytes : List ℕ) → IsTold disk_says depot.archive bytes → AreGiven (rows_of replica.tables) bytes rows
 
 -- The reply is a replica's for each depot for which its rows stand, and, where it prints contents, whose contents are at their spots in the archive of a depot
 -- of the run.
@@ -90,10 +91,10 @@ pub record IsReplied {D : Type 0} (HasBeen : SerialDepot D → Type 0) (disk_say
   pub reply : (d : List Deed) → Stand (rows_of replica.tables) d
       → (IsTrue (prints request.command) → (bytes : List ℕ) × IsTold disk_says depot.archive bytes × HasContents bytes (rows_of replica.tables) d)
       → text ≡ printed (replica_reply d request) request.number
-  pub digested : IsTrue (prints request.command) → IsDigestedReply replica request text
+  pub digested : IsTrue (prints request.command) → IsDigestedReply disk_says depot replica request text
 
 -- The archive of a depot of the run hasn't the content of a revision that a `print` shows: its spot ends behind what is used of it, or the bytes there have
--- another digest. The reply is the place where it would begin.
+-- another digest. The reply is the place where the first such content would begin.
 pub record IsBadReply {D : Type 0} (HasBeen : SerialDepot D → Type 0) (disk_says : DiskSays D) (replica : Replica) (request : Request) (text : List ℕ) : Type 0 where
   pub prints_it : IsTrue (prints request.command)
   pub depot : SerialDepot D

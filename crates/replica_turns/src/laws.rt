@@ -1,6 +1,7 @@
 //! Laws of replicas that follow a depot which takes commands.
 
 ghost use Rattle.std.specs.Prelude.{◌≡◌, ◌⊎◌, ℕ, Bool, true, List, Result, [], ◌∷◌, ◌++◌, ◌+◌, length};
+ghost use Rattle.archive_file.specs.Archive.{disk_of as archive_disk_of};
 ghost use Rattle.archive_file.specs.Contents.{IsTold};
 ghost use Rattle.depot_commit.specs.command_core.Outcomes.{IsFormedBy, IsOutcome};
 ghost use Rattle.depot_commit.specs.command_core.declared.outcome.Outcome.{Outcome};
@@ -12,6 +13,7 @@ ghost use Rattle.depot_rows.specs.depot_model.Rows.{memory_row};
 ghost use Rattle.depot_rows.specs.depot_model.declared.filter.FilterRule.{FilterRule};
 ghost use Rattle.depot_rows.specs.depot_model.declared.request.Request.{Request};
 ghost use Rattle.depot_rows.specs.depot_model.Commands.{step};
+ghost use Rattle.disk_journal.specs.Stands.{disk_of};
 ghost use Rattle.replica_pull.specs.Prefix.{HasFollowed, IsGoodJournal, Moment};
 ghost use Rattle.depot_commit.specs.Committing.{AreRowsAfter};
 ghost use Rattle.depot_commit.specs.Growing.{Chronicle, HasGroups, KeepsStored, generations_of, grown};
@@ -26,6 +28,7 @@ ghost use Rattle.replica_turns.specs.Along.{IsAlong};
 ghost use Rattle.replica_turns.specs.Going.{IsFresh, IsTurned, is_lost, reply_text};
 ghost use Rattle.replica_turns.specs.Master.{HasGrownTo, IsMaster, Past, texts_in};
 ghost use Rattle.replica_turns.specs.Replying.{HasPulledOf, pulls};
+ghost use Rattle.replica_turns.specs.Written.{Leave, PairGoesOn};
 ghost use Rattle.replica_turns.specs.declared.party.Answered.{Answered};
 ghost use Rattle.replica_turns.specs.declared.party.ReplicaParty.{ReplicaParty};
 
@@ -43,6 +46,13 @@ pub fn depots_grow_by_their_changes<D: Disk>()
     ensures kept { (past : Past) (start : List Deed) (places : List Placed) (old new : AnyDepot D) (c : Chronicle) → IsMaster D.says past start places old c → rows_of new.tables ≡ rows_of old.tables →
         HasGroups D.says new.journal c → KeepsStored D.says old.archive new.archive → IsMaster D.says past start places new c }
     ensures texts { (opens fault : Bool) (changes : List Change) (c : Chronicle) → HasGrownTo c (grown opens fault changes c) }
+{}
+
+/// What such a depot leaves was written from the first change on: both disks tell what they read, and each pair of images has the changes that were done before
+/// and then those among the places, or one more, which a fault place among them would have done.
+pub fn depots_leave_what_was_written<D: Disk>()
+    ensures { (past : Past) (start : List Deed) (places : List Placed) (depot : AnyDepot D) (c : Chronicle) (since : ℕ) → HasRun D.says depot since start places → IsMaster D.says past start places depot c →
+        Leave D.says (disk_of depot.journal) (archive_disk_of depot.archive) (PairGoesOn past start places) }
 {}
 
 /// A replica that follows it goes on telling what it told: each reply other than to `pull` is that of a replica of the depot after the first n changes, cut to

@@ -8,6 +8,9 @@ mod position;
 mod pulling;
 mod replying;
 
-pub use laws::{depots_grow_by_their_changes, pulls_move, replicas_reply_for_their_last_pull};
+pub use laws::{
+    depots_grow_by_their_changes, depots_leave_what_was_written, pulls_move,
+    replicas_reply_for_their_last_pull,
+};
 pub use party::{Answered, ReplicaParty};
 pub use replying::{is_print, is_pull};

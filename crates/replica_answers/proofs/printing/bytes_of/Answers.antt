@@ -5,11 +5,10 @@ use Rattle.replica_answers.proofs.Digests.{front_longer, fronts, has_more, joine
 use Rattle.replica_answers.proofs.printing.bytes_of.Goals as goal
 
 pub returns-in_err-piece_at-clause-absent : goal.returns-in_err-piece_at-clause-absent
-returns-in_err-piece_at-clause-absent g c = λ before at told is.
+returns-in_err-piece_at-clause-absent g c = λ now at told is.
     let e : c.from_residual.result ≡ Err c.in_err-piece_at.field-0.0 = search rules in
-    let now = c.piece_at.ensures.grows before told in
-    let lack = c.in_err-piece_at.ensures.absent now.0 at now.1.0 (sym e ∙ is) in
-    (lack.0, omega (arith, lack.1, front_longer before now.0 now.1.1, c.saturating_add-end.ensures))
+    let lack = c.in_err-piece_at.ensures.absent now at told (sym e ∙ is) in
+    (lack.0, omega (arith, lack.1, c.saturating_add-end.ensures))
 
 pub returns-in_err-piece_at-clause-reached : goal.returns-in_err-piece_at-clause-reached
 returns-in_err-piece_at-clause-reached g c = goes_on stays c.piece_at.ensures.keeps
@@ -48,13 +47,10 @@ loop-at-init g c =
     }
 
 pub returns-in_err-piece-clause-absent : goal.returns-in_err-piece-clause-absent
-returns-in_err-piece-clause-absent g c = λ before at told is.
+returns-in_err-piece-clause-absent g c = λ now at told is.
     let e : c.from_residual-in_err-piece.result ≡ Err c.in_err-piece.field-0.0 = search rules in
-    let inv = c.loop-at.invariant in
-    let mid = inv.told before told in
-    let next = c.piece_at-in-loop-at.ensures.grows mid.0 mid.1.0 in
-    let lack = c.in_err-piece.ensures.absent next.0 at next.1.0 (sym e ∙ is) in
-    (lack.0, omega (arith, lack.1, front_longer before mid.0 mid.1.1.0, front_longer mid.0 next.0 next.1.1, c.min-length.ensures, inv.within, c.loop-at-test.true, c.saturating_add-end.ensures))
+    let lack = c.in_err-piece.ensures.absent now at told (sym e ∙ is) in
+    (lack.0, omega (arith, lack.1, c.min-length.ensures, c.loop-at.invariant.within, c.loop-at-test.true, c.saturating_add-end.ensures))
 
 pub returns-in_err-piece-clause-reached : goal.returns-in_err-piece-clause-reached
 returns-in_err-piece-clause-reached g c = goes_on c.loop-at.invariant.reached c.piece_at-in-loop-at.ensures.keeps

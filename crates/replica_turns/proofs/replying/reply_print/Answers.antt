@@ -1,4 +1,4 @@
-use Rattle.std.proofs.Common.{◌≡◌, ℕ, Err, rules, sym, ap, subst, ◌∙◌}
+use Rattle.std.proofs.Common.{◌≡◌, ℕ, List, Err, rules, sym, ap, subst, ◌∙◌}
 use Rattle.std.proofs.lemmas.Bool.{true≢false}
 use Rattle.std.proofs.lemmas.Result.{IfOk-weaker}
 use Rattle.archive_file.specs.Archive.{disk_of}
@@ -7,40 +7,56 @@ use Rattle.archive_file.specs.declared.archive.Archive.{Archive}
 use Rattle.depot_commit.proofs.Stored.{on_err}
 use Rattle.depot_rows.specs.depot_model.declared.reply.Reply.{Reply}
 use Rattle.depot_rows.specs.table_changes.Changed.{rows_of}
-use Rattle.replica_answers.specs.Printing.{IsPrintFault, StandsUnlessFailed}
+use Rattle.replica_answers.specs.Printing.{AreGiven, IsPrintFault, StandsUnlessFailed}
 use Rattle.replica_answers.specs.declared.printing.PrintFault.{PrintFault}
 use Rattle.replica_answers.specs.declared.printing.PrintFault.TheVariants.{Absent, BadContent}
 use Rattle.replica_turns.specs.Replying.{IsReply}
 use Rattle.replica_turns.specs.declared.party.Answered.{Answered}
 use Rattle.replica_turns.proofs.Replies.{behind_bad, of_bad, of_print}
-use Rattle.replica_turns.proofs.Unmoved.{looked_read}
+use Rattle.replica_turns.proofs.Unmoved.{looked_read, told_still}
 use Rattle.replica_turns.proofs.replying.reply_print.Goals as goal
 
 pub returns-in_ok-text-in-Ok-clause-answered : goal.returns-in_ok-text-in-Ok-clause-answered
 returns-in_ok-text-in-Ok-clause-answered g c = λ depot same formed.
-    subst (λ (a : Answered). IsReply (λ been. been ≡ depot) g.D.Disk.says c.args.replica.now c.args.request.now a.text a.lost) (sym c.tells.ensures)
-    (of_print depot g.D.Disk.says c.args.replica.now c.args.request.now c.requires c.in-Ok.reply.rows c.in_ok-text-in-Ok.text c.in_ok-text-in-Ok.ensures
+    let says = g.D.Disk.says in
+    let all = rows_of c.args.replica.now.tables in
+    let rows = c.in-Ok.reply.rows in
+    let told = λ (bytes : List ℕ) (is : IsTold says depot.archive bytes). subst (λ (archive : Archive g.row.D.Denot). IsTold says archive bytes) same is in
+    subst (λ (a : Answered). IsReply (λ been. been ≡ depot) says c.args.replica.now c.args.request.now a.text a.lost) (sym c.tells.ensures)
+    (of_print depot says c.args.replica.now c.args.request.now c.requires rows c.in_ok-text-in-Ok.text c.in_ok-text-in-Ok.ensures
     (λ d stand. c.in-Ok.ensures.rows d stand formed) c.in-Ok.ensures.digested
-    (λ d bytes stand told has. c.in-Ok.ensures.told d bytes stand formed (subst (λ (archive : Archive g.row.D.Denot). IsTold g.D.Disk.says archive bytes) same told) has))
+    (λ bytes is.
+    let now = c.in-Ok.ensures.given bytes (told bytes is) in
+    subst (λ (b : List ℕ). AreGiven all b rows) (told_still says c.args.archive.now c.answer_print.new.contents c.answer_print.ensures.reached bytes now.0 (told bytes is) now.1.0 now.1.1.0) now.1.1.1)
+    (λ d bytes stand is has. c.in-Ok.ensures.told d bytes stand formed (told bytes is) has))
 
 pub returns-in-Err-Absent-clause-answered : goal.returns-in-Err-Absent-clause-answered
 returns-in-Err-Absent-clause-answered g c = λ depot same formed.
+    let says = g.D.Disk.says in
+    let all = rows_of c.args.replica.now.tables in
     let at = c.in-Err-Absent.at in
     let is : c.in-Err-Absent.field-0 ≡ Absent at = search rules in
-    of_bad depot g.D.Disk.says c.args.replica.now c.args.request.now c.requires at
+    of_bad depot says c.args.replica.now c.args.request.now c.requires at
     (λ bytes told.
-    behind_bad depot g.D.Disk.says c.args.replica.now c.args.request.now bytes at
-    (subst (IsPrintFault (rows_of c.args.replica.now.tables) c.args.request.now bytes) is
-    (c.in-Err-Absent.ensures.fault bytes formed (subst (λ (archive : Archive g.row.D.Denot). IsTold g.D.Disk.says archive bytes) same told))))
+    let was = subst (λ (archive : Archive g.row.D.Denot). IsTold says archive bytes) same told in
+    let now = c.in-Err-Absent.ensures.fault bytes formed was in
+    let still = told_still says c.args.archive.now c.answer_print.new.contents c.answer_print.ensures.reached bytes now.0 was now.1.0 now.1.1.0 in
+    behind_bad depot says c.args.replica.now c.args.request.now bytes at
+    (subst (λ (b : List ℕ). IsPrintFault all c.args.request.now b (Absent at)) still (subst (IsPrintFault all c.args.request.now now.0) is now.1.1.1)))
     c.tells_bad.result c.tells_bad.ensures
 
 pub returns-in-Err-BadContent-clause-answered : goal.returns-in-Err-BadContent-clause-answered
 returns-in-Err-BadContent-clause-answered g c = λ depot same formed.
-    let is : c.in-Err-BadContent.field-0 ≡ BadContent c.in-Err-BadContent.at = search rules in
-    of_bad depot g.D.Disk.says c.args.replica.now c.args.request.now c.requires c.in-Err-BadContent.at
+    let says = g.D.Disk.says in
+    let all = rows_of c.args.replica.now.tables in
+    let at = c.in-Err-BadContent.at in
+    let is : c.in-Err-BadContent.field-0 ≡ BadContent at = search rules in
+    of_bad depot says c.args.replica.now c.args.request.now c.requires at
     (λ bytes told.
-    subst (IsPrintFault (rows_of c.args.replica.now.tables) c.args.request.now bytes) is
-    (c.in-Err-BadContent.ensures.fault bytes formed (subst (λ (archive : Archive g.row.D.Denot). IsTold g.D.Disk.says archive bytes) same told)))
+    let was = subst (λ (archive : Archive g.row.D.Denot). IsTold says archive bytes) same told in
+    let now = c.in-Err-BadContent.ensures.fault bytes formed was in
+    let still = told_still says c.args.archive.now c.answer_print.new.contents c.answer_print.ensures.reached bytes now.0 was now.1.0 now.1.1.0 in
+    subst (λ (b : List ℕ). IsPrintFault all c.args.request.now b (BadContent at)) still (subst (IsPrintFault all c.args.request.now now.0) is now.1.1.1))
     c.tells_bad-in-Err-BadContent.result c.tells_bad-in-Err-BadContent.ensures
 
 pub returns-in_err-text-in-Ok-clause-read : goal.returns-in_err-text-in-Ok-clause-read
