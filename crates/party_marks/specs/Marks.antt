@@ -1,12 +1,12 @@
 -- The marks of parties. This project's own choice.
-use Rattle.std.specs.Prelude.{◌≡◌, ℕ, ◌-◌, ◌^◌, ◌==◌, ◌≤◌, ◌<◌, Bool, true, false, not, List, [], ◌∷◌}
+use Rattle.std.specs.Prelude.{◌≡◌, ℕ, ◌^◌, ◌==◌, ◌≤◌, ◌<◌, Bool, true, false, not, List, [], ◌∷◌}
 use Rattle.std.specs.List.{filter}
 use Rattle.order_words.specs.Seats.{Run, lane_count}
 use Rattle.party_marks.specs.declared.mark.Mark.{Mark}
 
--- the lane of a party
+-- the lane of a party: its number; no party has lane 0
 abbrev pub mark_lane : ℕ → ℕ
-mark_lane party = party - 1
+mark_lane party = party
 
 -- the lanes that a mark touches
 abbrev pub lanes_of : Mark → ℕ

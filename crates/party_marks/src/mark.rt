@@ -31,7 +31,7 @@ impl Mark {
     {
         Mark {
             party,
-            lanes: 1 << (party - 1),
+            lanes: 1 << party,
         }
     }
 }

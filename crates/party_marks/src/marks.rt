@@ -1,8 +1,9 @@
 //! What lies behind the lock.
 ghost use Rattle.std.specs.Prelude.{◌≡◌, ◌<◌, ◌≤◌, ◌-◌, ◌^◌, [], ◌∷◌, ◌++◌, length, OnErr, OnOk};
+ghost use Rattle.std.specs.List.{All};
 ghost use mathlib.Core.List.{IsPrefix};
 ghost use Rattle.party_marks.specs.Known.{with_mark};
-ghost use Rattle.party_marks.specs.Marks.{mark_of, marks_of};
+ghost use Rattle.party_marks.specs.Marks.{IsMarkOf, mark_of, marks_of};
 
 use crate::mark::Mark;
 use crate::mark_pass::MarkPass;
@@ -58,6 +59,13 @@ impl<N: Marking> Marks<N> {
         } else {
             Err(AllocError)
         }
+    }
+
+    /// Each mark is of a party of the run.
+    pub fn parties_are_of_run(&self)
+        ensures { All (IsMarkOf N.marks) self.now.list }
+    {
+        let _places = self.seat.places();
     }
 
     /// Puts a mark of the party behind all others. The party then knows the whole list, in which

@@ -23,14 +23,14 @@ use Rattle.run_parties.specs.Served.{AreApart, AreEnds, AreServed, IsEnd, total_
 use Rattle.run_parties.specs.depot_commit.Growing.{Chronicle}
 use Rattle.run_parties.specs.replica_turns.Along.{IsToldOutput}
 use Rattle.run_parties.specs.replica_turns.Going.{IsFresh, IsReplicaOutput}
-use Rattle.run_parties.specs.replica_turns.Master.{Past}
+use Rattle.run_parties.specs.replica_turns.Master.{CanBeFollowed, IsMaster, Past}
 use Rattle.run_parties.specs.replica_turns.declared.party.ReplicaParty.{ReplicaParty}
 use Rattle.run_parties.specs.serial_depot.Running.{HasRun}
 use Rattle.session_loop.specs.Asking.{AreWellFormed, replica_commands}
 use Rattle.session_loop.specs.Requests.{AreRequestsOf, AreRequestsOfAll}
 use Rattle.session_loop.specs.declared.reading.ReplicaScript.{ReplicaScript}
 use Rattle.session_loop.specs.declared.session.SessionRun.{SessionRun}
-use Rattle.shared_depot.specs.Common.{Masters}
+use Rattle.shared_depot.specs.Common.{Masters, chronicle_after}
 use Rattle.party_threads.proofs.Collecting.{from_map}
 use Rattle.party_threads.proofs.Entries.{names_are}
 use Rattle.party_threads.proofs.Together.{AllHaveTaken, NoneHasPlace, names, served}
@@ -131,6 +131,11 @@ module _ {D K : Type 0} (disk_says : DiskSays D) (end : ℕ) (images : Files →
   -- the depot has run the places of the order
   pub depot_ran : (since : ℕ) (start : List Deed) → begins since start → HasRun disk_says ran.depot since start (map (placed sessions) ran.order.items)
   depot_ran since start begun = subst (λ (places : List Placed). HasRun disk_says ran.depot since start places) (sym places_are) (s.ran_by since start begun)
+
+  -- and replicas follow it after them
+  pub depot_followed : (since : ℕ) (past : Past) (start : List Deed) (c : Chronicle) → begins since start → masters past start c → CanBeFollowed disk_says past start (map (placed sessions) ran.order.items) ran.depot
+  depot_followed since past start c begun follows =
+      (chronicle_after c s.order, subst (λ (places : List Placed). IsMaster disk_says past start places ran.depot (chronicle_after c s.order)) (sym places_are) (s.followed since past start c begun follows))
 
   pub all_served : (since : ℕ) (start : List Deed) → begins since start → AreServed may_give sessions scripts start ran.runs.items (map sink_says.given sinks) (map sink_says.given ran.sinks.items) ran.order.items
   all_served since start begun =

@@ -22,7 +22,7 @@ use Rattle.run_parties.specs.serial_depot.Running.{CanTake, HasRun}
 use Rattle.session_loop.specs.Served.{AreCaused}
 use Rattle.session_loop.specs.Taking.{IsProper}
 use Rattle.session_loop.specs.declared.session.SessionRun.{SessionRun}
-use Rattle.shared_depot.specs.Common.{HasAllStored, Masters, OpenedKnown}
+use Rattle.shared_depot.specs.Common.{HasAllStored, IsFollowed, Masters, OpenedKnown}
 use Rattle.party_threads.specs.Entries.{AreNumbered, HasTaken}
 use Rattle.party_threads.specs.Replicas.{IsReplicaServed}
 use Rattle.party_threads.specs.declared.party.ThreadParty.{ThreadParty}
@@ -107,7 +107,7 @@ abbrev pub IsAmong : ℕ → Taken → Type 0
 IsAmong n entry = (1 ≤ entry.request.party) × (entry.request.party ≤ n)
 
 module _ {D K : Type 0} (disk_says : DiskSays D) (end : ℕ) (images : Files → Type 0) (may_give : ℕ → Type 0) (sink_says : SinkSays K) where
-  -- All parties ran on their threads: there is one order, in which each was served, and which the depot has run. The run is told of a failed disk exactly
+  -- All parties ran on their threads: there is one order, in which each was served, which the depot has run, and after which replicas follow it. The run is told of a failed disk exactly
   -- where a replica was, and then a count of one of the two disks rose.
   pub record HaveRunAll (begins : ℕ → List Deed → Type 0) (masters : Masters) (faults_then contents_then : ℕ) (requests : List (List Request)) (replicas : List (Option ReplicaParty)) (sinks : List K) (ran : ThreadsRun D K) : Type 0 where
     pub order : List Taken
@@ -122,5 +122,6 @@ module _ {D K : Type 0} (disk_says : DiskSays D) (end : ℕ) (images : Files →
     pub can : CanTake disk_says ran.depot
     pub stored : HasAllStored disk_says end images begins order ran.depot.archive
     pub ran_by : (since : ℕ) (start : List Deed) → begins since start → HasRun disk_says ran.depot since start (map placed_of order)
+    pub followed : IsFollowed disk_says begins masters order ran.depot
     pub caused : AreCaused faults_then (disk_says.faults (disk_of ran.depot.journal)) contents_then (disk_says.faults (archives.disk_of ran.depot.archive)) [] ran.order.items
     pub lost : ran.lost ≡ true → OneHasRisen faults_then (disk_says.faults (disk_of ran.depot.journal)) contents_then (disk_says.faults (archives.disk_of ran.depot.archive))

@@ -9,7 +9,7 @@ use Rattle.depot_rows.specs.table_store.declared.tables.Tables.{Tables}
 use Rattle.depot_runs.specs.Run.{placed}
 use Rattle.run_parties.specs.Replicas.{AreReplicasServed, AreReplicasTold}
 use Rattle.run_parties.specs.Served.{AreApart, AreEnds, AreServed}
-use Rattle.run_parties.specs.replica_turns.Master.{IsMaster, Past}
+use Rattle.run_parties.specs.replica_turns.Master.{CanBeFollowed, IsMaster, Past}
 use Rattle.run_parties.specs.depot_commit.Growing.{Chronicle}
 use Rattle.run_parties.specs.serial_depot.Running.{HasRun}
 use Rattle.run_parties.specs.serial_depot.declared.depot.SerialDepot.{SerialDepot}
@@ -79,6 +79,11 @@ module _ {D K : Type 0} (disk_says : DiskSays D) (sink_says : SinkSays K) (may_g
     whole_told well past c master =
         let along = taken.along past (along_first disk_says sink_says may_give sessions scripts depot sinks order none tables same new b since start past c master) in
         replicas_told disk_says sink_says may_give scene taken.end last taken.going taken.done well runs after settled past along
+
+    pub whole_master : (past : Past) (c : Chronicle) → IsMaster disk_says past start [] depot c → CanBeFollowed disk_says past start (map (placed sessions) last.order.items) last.depot
+    whole_master past c master =
+        let along = taken.along past (along_first disk_says sink_says may_give sessions scripts depot sinks order none tables same new b since start past c master) in
+        (along.all, along.master)
 
     pub whole_ran : HasRun disk_says last.depot since start (map (placed sessions) last.order.items)
     whole_ran = taken.going.running.ran

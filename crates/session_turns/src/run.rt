@@ -7,7 +7,7 @@ ghost use Rattle.depot_runs.specs.Run.{placed};
 ghost use Rattle.disk_journal.specs.Stands.{disk_of};
 ghost use Rattle.run_parties.specs.Replicas.{AreReplicasServed, AreReplicasTold, OneHasRisen};
 ghost use Rattle.run_parties.specs.Served.{AreApart, AreEnds, AreServed};
-ghost use Rattle.run_parties.specs.replica_turns.Master.{IsMaster, Past};
+ghost use Rattle.run_parties.specs.replica_turns.Master.{CanBeFollowed, IsMaster, Past};
 ghost use Rattle.run_parties.specs.depot_commit.Growing.{Chronicle};
 ghost use Rattle.run_parties.specs.serial_depot.Running.{CanTake, HasRun};
 ghost use Rattle.session_loop.specs.Asking.{AreWellFormed, commands_of, replica_commands};
@@ -83,6 +83,9 @@ pub fn run_sessions<D: Disk, K: Sink + Drop, C: Clock, G: Gate>(
     ensures told { (past : Past) (since : ℕ) (start : List Deed) (c : Chronicle) → All (λ session. AreWellFormed (commands_of session)) sessions.items → All (λ script. AreWellFormed (replica_commands script)) replicas.items →
         HasRun D.says depot since start [] → IsMaster D.says past start [] depot c →
         IfOk result (λ ran. AreReplicasTold past start sessions.items replicas.items (C.says.may_give clock.now) ran.order.items ran.runs.items (map K.says.given sinks.items) (map K.says.given ran.sinks.items)) }
+    // From a depot that they follow on, the depot at the end is one that they follow after the places.
+    ensures master { (past : Past) (since : ℕ) (start : List Deed) (c : Chronicle) → All (λ session. AreWellFormed (commands_of session)) sessions.items → HasRun D.says depot since start [] → IsMaster D.says past start [] depot c →
+        IfOk result (λ ran. CanBeFollowed D.says past start (map (placed sessions.items) ran.order.items) ran.depot) }
     ensures ran { (since : ℕ) (start : List Deed) → All (λ session. AreWellFormed (commands_of session)) sessions.items → HasRun D.says depot since start [] →
         IfOk result (λ ran. HasRun D.says ran.depot since start (map (placed sessions.items) ran.order.items)) }
     // The order is that of the machine with the turns that the seed draws.

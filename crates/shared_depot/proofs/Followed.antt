@@ -45,6 +45,7 @@ master_idle disk_says past start places more depot c master idle = record {
   each = λ n within.
       let was = master.each n within in
       record { depot = was.depot; is = nth_longer past start places more n was.depot was.is; stand = was.stand; kept = was.kept };
+  ends = master.ends;
   fit = master.fit;
 }
 

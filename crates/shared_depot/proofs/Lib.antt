@@ -13,4 +13,4 @@ mod Held
 mod Marks
 mod Turns
 mod Places
-mod Links
+pub mod Links

@@ -1,18 +1,15 @@
 -- What a link to the journal of a depot at work tells: texts that go on from those that it told, of groups that the journal has.
 use Rattle.std.proofs.Common.{◌≡◌, ◌+◌, ◌++◌, ◌∷◌, [], ℕ, Bool, true, false, List, length, map, Result, Ok, Err, refl, sym, ap, subst, ◌∙◌, append_assoc, append-nil, arith}
-use Rattle.std.specs.Prelude.{IfOk, OnErr, take}
+use Rattle.std.specs.Prelude.{IfOk, OnErr}
 use Rattle.std.specs.Result.{IsErr}
-use Rattle.std.proofs.Math.Seq.{get_or-append_seam, take-append_seam}
 use Rattle.std.proofs.lemmas.Bool.{true≢false}
 use Rattle.std.proofs.lemmas.List.{length-append, map-append}
 use mathlib.Core.List.{IsPrefix}
-use Rattle.archive_file.specs.declared.archive.Archive.{Archive}
 use Rattle.depot_commit.specs.Fetching.{HasTexts}
 use Rattle.depot_commit.specs.Growing.{Chronicle, grown}
 use Rattle.depot_commit.specs.Opening.{opens_generation}
 use Rattle.depot_rows.specs.db_records.declared.change.Change.{Change}
 use Rattle.depot_rows.specs.depot_model.Deeds.{Deed}
-use Rattle.depot_rows.specs.depot_model.Places.{Placed}
 use Rattle.depot_rows.specs.table_changes.Changed.{AllRows}
 use Rattle.depot_rows.specs.table_store.declared.tables.Tables.{Tables}
 use Rattle.disk_journal.specs.declared.journal.Journal.{Journal}
@@ -22,13 +19,16 @@ use Rattle.locked_tables.specs.Taken.{of_party}
 use Rattle.locked_tables.specs.declared.taken.Taken.{Taken}
 use Rattle.outside_api.specs.Count.{HasCause}
 use Rattle.outside_api.specs.Disk.{Files}
-use Rattle.outside_api.specs.Link.{IsEarlier, text_of}
+use Rattle.outside_api.specs.Link.{IsEarlier}
+use Rattle.outside_api.specs.Reaching.{Reaches, holds}
 use Rattle.outside_api.specs.Says.{DiskSays}
+use Rattle.order_words.proofs.Prefixes.{prefix_self, prefix_trans}
 use Rattle.party_marks.specs.declared.mark.Mark.{Mark}
 use Rattle.replica_pull.proofs.Taking.{groups_joined}
+use Rattle.replica_turns.proofs.Along.{journal_after}
 use Rattle.replica_turns.proofs.Following.{has_texts}
-use Rattle.replica_turns.specs.Master.{IsJournalAfter, IsMaster, Past, texts_in}
-use Rattle.serial_depot.specs.declared.depot.SerialDepot.{SerialDepot}
+use Rattle.replica_turns.proofs.Masters.{earlier_by}
+use Rattle.replica_turns.specs.Master.{texts_in}
 use Rattle.shared_depot.proofs.Quietly.{chronicle_append}
 use Rattle.shared_depot.specs.Common.{HasRunOrder, Masters, chronicle_after}
 use Rattle.shared_depot.specs.Link.{HasHeardPlaces, TellsAll, TellsJournal}
@@ -66,20 +66,6 @@ goes_on c (entry ∷ order) =
     on_from (opens_generation entry.request) entry.fault entry.changes c (texts_in (chronicle_after c (entry ∷ order)))
     (goes_on (grown (opens_generation entry.request) entry.fault entry.changes c) order)
 
-earlier_by : (front : List (List ℕ)) (last more : List ℕ) (behind : List (List ℕ)) → IsEarlier (front ++ last ∷ []) (front ++ (last ++ more) ∷ behind)
-earlier_by front last more behind =
-    let all = front ++ (last ++ more) ∷ behind in
-    let here : text_of all (length front) ≡ last ++ more = get_or-append_seam front (last ++ more) behind [] in
-    let whole : take (length last) (text_of all (length front)) ≡ last = ap (take (length last)) here ∙ take-append_seam last more in
-    let front_is : take (length front) all ≡ front = take-append_seam front ((last ++ more) ∷ behind) in
-    let many = length-append front ((last ++ more) ∷ behind) in
-    record {
-      newest = length front;
-      bytes = length last;
-      there = omega (arith, many);
-      is = λ i. sym front_is i ++ sym whole i ∷ [];
-    }
-
 -- the texts after the first places are earlier than those after all
 texts_on : (known order : List Taken) (c : Chronicle) → IsPrefix known order → IsEarlier (texts_in (chronicle_after c known)) (texts_in (chronicle_after c order))
 texts_on known order c (rest, is) =
@@ -103,19 +89,9 @@ module _ {D : Type 0} (disk_says : DiskSays D) (end : ℕ) (images : Files → T
 
   -- it is the journal as it is
   pub told_itself : (order : List Taken) (now : List (List ℕ)) → TellsJournal disk_says end images begins masters order now → IsEarlier now now
-  told_itself order now told = subst (λ (t : List (List ℕ)). IsEarlier t t) (sym told.are) (texts_on order order told.first ([], append-nil order))
+  told_itself order now told = subst (λ (t : List (List ℕ)). IsEarlier t t) (sym told.are) (texts_on order order told.first (prefix_self order))
 
   module _ (rows : AllRows) (faults_then : ℕ) (order : List Taken) (tables : Tables) (journal : Journal D) (was : HasRunOrder disk_says rows end images begins masters faults_then order tables journal) where
-    after_master : (past : Past) (start : List Deed) (places : List Placed) (depot : SerialDepot D) (c : Chronicle) → IsMaster disk_says past start places depot c → IsJournalAfter past start places c
-    after_master past start places depot c master = record {
-      are_groups = master.groups.are_groups;
-      changes = master.changes;
-      count = master.count;
-      are_changes = master.are_changes;
-      each = λ n within. let nth = master.each n within in (nth.depot, nth.is, nth.stand);
-      fit = master.fit;
-    }
-
     -- tables and a journal that have run an order tell its journal
     pub tells_run : TellsAll disk_says end images begins masters order
     tells_run since past start c at begun = record {
@@ -128,7 +104,7 @@ module _ {D : Type 0} (disk_says : DiskSays D) (end : ℕ) (images : Files → T
       are = refl;
       are_groups = (was.written since past start c at begun).groups.are_groups;
       fit = (was.written since past start c at begun).fit;
-      changes = λ archive all. after_master past start _ _ _ (was.followed archive all since past start c at begun);
+      changes = λ archive all. journal_after disk_says past start _ _ _ (was.followed archive all since past start c at begun);
     }
 
     -- of these texts
@@ -146,6 +122,19 @@ heard_all old new order told begins own =
       later = subst (IsPrefix old.list) (sym known) begins;
       own = subst (λ (l : List Taken). of_party old.party l ≡ of_party old.party old.list) (sym known) own;
     }
+
+pub heard_then : (old mid new : PartyKnown) → HasHeardPlaces old mid → HasHeardPlaces mid new → HasHeardPlaces old new
+heard_then old mid new first second = record {
+  party = second.party ∙ first.party;
+  later = prefix_trans old.list mid.list new.list first.later second.later;
+  own = subst (λ (party : ℕ). of_party party new.list ≡ of_party party mid.list) first.party second.own ∙ first.own;
+}
+
+-- over calls of a link, one after another
+pub heard_along : {L : Type 0} (pass : L → PartyKnown) (Kept : L → L → Type 0) {old new : L} → Reaches (λ a b. HasHeardPlaces (pass a) (pass b) × Kept a b) old new → HasHeardPlaces (pass old) (pass new)
+heard_along pass Kept {old} calls =
+    holds (λ link. HasHeardPlaces (pass old) (pass link)) (record { party = refl; later = prefix_self (pass old).list; own = refl })
+    (λ mid next heard call. heard_then (pass old) (pass mid) (pass next) heard call.0) calls
 
 -- ---- an answer that is told on
 

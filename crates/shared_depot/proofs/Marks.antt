@@ -1,8 +1,9 @@
 -- Marks of parties, and the counts of failed disks that they stand for.
-use Rattle.std.proofs.Common.{◌≡◌, ◌≤◌, ◌⊎◌, ◌∙◌, ◌||◌, ◌==◌, ℕ, Bool, true, false, not, cond, List, [], ◌∷◌, ◌++◌, Result, Ok, Err, inl, inr, refl, sym, ap, arith}
+use Rattle.std.proofs.Common.{◌≡◌, ◌≤◌, ◌⊎◌, ◌∙◌, ◌||◌, ◌==◌, ℕ, Bool, true, false, not, cond, List, [], ◌∷◌, ◌++◌, Result, Ok, Err, inl, inr, refl, sym, ap, subst, arith}
 use Rattle.std.specs.Prelude.{IfOk}
 use Rattle.std.proofs.lemmas.Bool.{true≢false}
 use Rattle.outside_api.specs.Count.{HasRisen}
+use Rattle.party_marks.specs.Known.{MarksKnown}
 use Rattle.party_marks.specs.Marks.{has_marks, is_empty, marks_of}
 use Rattle.party_marks.specs.declared.mark.Mark.{Mark}
 use Rattle.replica_turns.specs.Going.{is_lost}
@@ -36,6 +37,10 @@ risen_to before mid now le risen = omega (arith, le, risen)
 -- marks keep their cause
 pub mark_stays : (first mid now : ℕ) → mid ≤ now → (marks : List Mark) → IsMarkCaused first mid marks → IsMarkCaused first now marks
 mark_stays first mid now le marks caused = λ some. risen_to first mid now le (caused some)
+
+-- where there is room for one more they are the same
+pub same_caused : (first now : ℕ) (old new : MarksKnown) → new ≡ old → IsMarkCaused first now old.list → IsMarkCaused first now new.list
+same_caused first now old new same caused = subst (λ (m : MarksKnown). IsMarkCaused first now m.list) (sym same) caused
 
 -- so do those to which one was added where the count rose
 pub mark_caused : (first mid now : ℕ) → first ≤ mid → mid ≤ now → (Lost : Type 0) → (Lost → HasRisen mid now) → (marks after : List Mark) → (is_empty after ≡ false → (is_empty marks ≡ false) ⊎ Lost)

@@ -319,5 +319,8 @@ module _ {D : Type 0} (disk_says : DiskSays D) (rows : AllRows) (end : ℕ) (ima
   pub closed_stored : HasAllStored disk_says end images begins order archive
   closed_stored = has_all disk_says end images begins contents_then (record { list = order; failed = failed }) archive kept
 
+  pub closed_followed : IsFollowed disk_says begins masters order (record { tables = tables; journal = journal; archive = archive })
+  closed_followed = was.followed archive closed_stored
+
   pub closed_run : (since : ℕ) (start : List Deed) → begins since start → HasRun disk_says (record { tables = tables; journal = journal; archive = archive }) since start (map placed_of order)
   closed_run = depot_ran disk_says rows end images begins masters faults_then order tables journal was archive closed_stored

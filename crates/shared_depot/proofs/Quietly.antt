@@ -24,7 +24,6 @@ use Rattle.locked_tables.proofs.Rows.{after_append}
 use Rattle.order_words.specs.Lanes.{has_lane}
 use Rattle.outside_api.specs.Disk.{Files}
 use Rattle.outside_api.specs.Says.{DiskSays}
-use Rattle.depot_commit.specs.Committing.{AreChangesOf}
 use Rattle.depot_commit.specs.Growing.{Chronicle, grown}
 use Rattle.depot_commit.specs.Opening.{opens_generation}
 use Rattle.depot_commit.specs.Placing.{HasRunBeside, LeavesRows}
@@ -163,18 +162,14 @@ module _ (begins : ℕ → List Deed → Type 0) where
       one_more : (places : List Placed) (entry : Taken) → IsQuiet begins rows end entry → Ran places → Ran (places ++ placed_of entry ∷ [])
       one_more places entry is ran = go entry.fault refl
         where
-          left : entry.fault ≡ false → AreChangesOf (rows_of tables) entry.request false []
-          left fine =
-              let leaves : LeavesRows (rows_of tables) entry.request = subst (λ (r : AllRows). LeavesRows r entry.request) (sym same) (is.leaves since start at fine) in
-              record { records = tt; stand = leaves; generation = λ d stand some. absurd (some refl) }
-
           go : (fault : Bool) → entry.fault ≡ fault → Ran (places ++ placed_of entry ∷ [])
           go true failed =
               subst (λ (b : Bool). Ran (places ++ placed_by entry.request b ∷ [])) (sym failed)
               (over_faulted disk_says _ _ tables journal since start places entry.request ran)
           go false fine =
               subst (λ (b : Bool). Ran (places ++ placed_by entry.request b ∷ [])) (sym fine)
-              (over_idle disk_says _ _ tables journal since start places entry.request ran false (left fine))
+              (over_idle disk_says _ _ tables journal since start places entry.request ran
+              (subst (λ (r : AllRows). LeavesRows r entry.request) (sym same) (is.leaves since start at fine)))
 
       pub all_more : (order : List Taken) (places : List Placed) → AllQuiet order → Ran places → Ran (places ++ map placed_of order)
       all_more [] places all ran = subst Ran (sym (append-nil places)) ran

@@ -1,7 +1,6 @@
--- A replica's answer that is told as want of memory, and the turn that it is.
-use Rattle.std.proofs.Common.{◌≡◌, ◌∙◌, ℕ, Bool, true, false, List, [], ◌∷◌, ◌++◌, Result, Ok, Err, Vec, Global, inl, inr, refl, sym, ap, subst}
+-- A replica's answer, and the turn that it is.
+use Rattle.std.proofs.Common.{◌≡◌, ◌∙◌, ℕ, Bool, false, List, [], ◌∷◌, ◌++◌, Result, Ok, Err, Vec, Global, inl, inr, refl, sym, ap, subst}
 use Rattle.std.specs.Prelude.{IfOk, OnErr}
-use Rattle.std.proofs.lemmas.Bool.{true≢false}
 use Rattle.depot_rows.specs.depot_model.Deeds.{Deed}
 use Rattle.depot_rows.specs.depot_model.declared.request.Request.{Request}
 use Rattle.locked_tables.specs.Known.{PartyKnown}
@@ -9,13 +8,13 @@ use Rattle.outside_api.specs.Disk.{Files}
 use Rattle.outside_api.specs.Says.{DiskSays}
 use Rattle.party_marks.specs.Known.{PassKnown}
 use Rattle.replica_turns.specs.Going.{is_lost, reply_text}
-use Rattle.replica_turns.specs.Replying.{IsAnswered, IsAnsweredAs, IsAnsweredBy, pulls}
+use Rattle.replica_turns.specs.Replying.{IsAnswered, IsAnsweredBy}
 use Rattle.replica_turns.specs.declared.party.Answered.{Answered}
 use Rattle.replica_turns.specs.declared.party.ReplicaParty.{ReplicaParty}
 use Rattle.depot_commit.specs.command_core.Outcomes.{IsFormedBy}
 use Rattle.serial_depot.specs.declared.depot.SerialDepot.{SerialDepot}
 use Rattle.shared_depot.specs.Common.{Masters}
-use Rattle.shared_depot.specs.Replicas.{IsReplicaAnswer, IsReplicaTurn, IsToldOn}
+use Rattle.shared_depot.specs.Replicas.{IsAnsweredAlone, IsReplicaAnswer, IsReplicaTurn}
 
 module _ {D : Type 0} (disk_says : DiskSays D) (depot : SerialDepot D) (old new : ReplicaParty) (request : Request) where
   abbrev Been : SerialDepot D → Type 0
@@ -31,22 +30,6 @@ module _ {D : Type 0} (disk_says : DiskSays D) (depot : SerialDepot D) (old new 
   pub answered_so : {E : Type 0} (answer : Result Answered E) → IfOk answer (λ answered. IsAnsweredBy Been disk_says old.replica new.replica request answered.text answered.lost) → OnErr answer (new.replica ≡ old.replica) → AnsweredBy answer
   answered_so (Ok answered) is kept = inl is
   answered_so (Err error) is kept = inr (record { same = kept; reply = refl; kept = refl })
-
-  -- a replica that was answered that a disk failed is as it was
-  same_lost : (text : List ℕ) → AnsweredSo text true → new.replica ≡ old.replica
-  same_lost text (inl is) = go (pulls request.command) is
-    where
-      go : (pull : Bool) → IsAnsweredAs Been disk_says old.replica new.replica request text true pull → new.replica ≡ old.replica
-      go true is = is.0
-      go false is = is.0
-  same_lost text (inr is) = is.same
-
-  -- so it may be answered that no memory was left
-  pub told_on : {E : Type 0} (answer told : Result Answered E) → IsToldOn answer told → AnsweredBy answer → AnsweredBy told
-  told_on {E} answer told (inl same) t = subst (λ (other : Result Answered E). AnsweredBy other) (sym same) t
-  told_on (Ok answered) (Ok other) (inr (lost, err)) t = absurd (true≢false (sym err))
-  told_on (Ok answered) (Err error) (inr (lost, err)) t = inr (record { same = same_lost answered.text (subst (AnsweredSo answered.text) lost t); reply = refl; kept = refl })
-  told_on (Err first) told (inr (lost, err)) t = absurd (true≢false (sym lost))
 
 -- the next command of a replica was taken off its list and answered
 module _ (before mid after : ReplicaParty) (request : Request) (taken : before.left.items ≡ mid.left.items ++ request ∷ []) (left : after.left ≡ mid.left) where
@@ -74,3 +57,7 @@ never_lost (Err error) is = refl
 pub kept_so : {A T E : Type 0} (answer : Result T E) (replica : A) → OnErr answer (replica ≡ replica)
 kept_so (Ok answered) replica = tt
 kept_so (Err error) replica = refl
+
+-- no memory was left, and no disk was asked
+pub without_memory : {D E : Type 0} (disk_says : DiskSays D) (request : Request) (replica : ReplicaParty) (error : E) → IsAnsweredAlone disk_says request replica (Err error)
+without_memory disk_says request replica error = record { answered = λ depot formed. inr (record { same = refl; reply = refl; kept = refl }); kept = refl }

@@ -23,7 +23,7 @@ use Rattle.recovery.specs.Holding.{group_texts, joined}
 use Rattle.replica_pull.proofs.Counted.{rows_on, with_groups, with_next}
 use Rattle.replica_pull.specs.Prefix.{begun}
 use Rattle.replica_turns.proofs.Fits.{fit_next, fit_with}
-use Rattle.replica_turns.specs.Master.{AllFit, Past, all_changes}
+use Rattle.replica_turns.specs.Master.{Past, all_changes}
 use Rattle.shared_depot.specs.Common.{HasFitGroups}
 
 module _ {D : Type 0} (disk_says : DiskSays D) (past : Past) (tables tables' : Tables) (journal journal' : Journal D) (c : Chronicle) (before : HasFitGroups disk_says past tables journal c)

@@ -1,6 +1,5 @@
 -- What a replica is promised whose commands are answered beside those of others. This project's own choice.
 use Rattle.std.specs.Prelude.{◌≡◌, ◌⊎◌, ◌||◌, ℕ, true, false, List, map, Result}
-use Rattle.std.specs.Result.{IsErr}
 use mathlib.Core.List.{IsPrefix}
 use Rattle.archive_file.specs.Archive as archives
 use Rattle.archive_file.specs.declared.archive.Archive.{Archive}
@@ -24,10 +23,6 @@ use Rattle.depot_commit.specs.command_core.Outcomes.{IsFormedBy}
 use Rattle.serial_depot.specs.declared.depot.SerialDepot.{SerialDepot}
 use Rattle.shared_depot.specs.Common.{HasAllStored, IsFollowed, Masters}
 
--- an answer is told on as it is; or, where it tells that a disk failed, maybe as want of memory
-abbrev pub IsToldOn : {E : Type 0} → Result Answered E → Result Answered E → Type 0
-IsToldOn answer told = (told ≡ answer) ⊎ ((is_lost answer ≡ true) × IsErr told)
-
 -- a party has marks now where it had, or where the answer tells that a disk failed
 abbrev pub IsMarkedBy : {E : Type 0} → PassKnown → PassKnown → Result Answered E → Type 0
 IsMarkedBy old new answer = has_marks new.party new.list ≡ (has_marks old.party old.list || is_lost answer)
@@ -44,6 +39,11 @@ module _ {D : Type 0} (disk_says : DiskSays D) (end : ℕ) (images : Files → T
       (archive : Archive D) → HasAllStored disk_says end images begins known archive
       → (depot : SerialDepot D) × (((since : ℕ) (start : List Deed) → begins since start → HasRun disk_says depot since start (map placed_of known)) × IsFollowed disk_says begins masters known depot × Answers depot
       × AllReach (disk_says.may_leave (archives.disk_of depot.archive)) (archives.used_of depot.archive))
+
+-- A command of a replica is answered so over any depot, and the answer tells of no failed disk.
+pub record IsAnsweredAlone {D E : Type 0} (disk_says : DiskSays D) (request : Request) (replica : ReplicaParty) (answer : Result Answered E) : Type 0 where
+  pub answered : (depot : SerialDepot D) → IsFormedBy request → IsAnswered (λ been. been ≡ depot) disk_says replica.replica replica.replica request (reply_text answer request.number) (is_lost answer)
+  pub kept : is_lost answer ≡ false
 
 module _ {D E : Type 0} (disk_says : DiskSays D) (end : ℕ) (images : Files → Type 0) (begins : ℕ → List Deed → Type 0) (masters : Masters) (old new : PartyKnown) (old_marks new_marks : PassKnown) where
   -- The party has learnt places, which are others'. It has marks now where it had, or where the answer tells that a disk failed.

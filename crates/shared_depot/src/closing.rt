@@ -9,7 +9,7 @@ ghost use Rattle.locked_tables.specs.Taken.{IsParty, of_party, place_of, placed_
 ghost use Rattle.party_marks.specs.Marks.{has_marks, is_empty};
 ghost use Rattle.serial_depot.specs.Running.{CanTake, HasRun};
 ghost use Rattle.session_loop.specs.Served.{AreCaused};
-ghost use Rattle.shared_depot.specs.Common.{AreMarksCaused, HasAllStored};
+ghost use Rattle.shared_depot.specs.Common.{AreMarksCaused, HasAllStored, IsFollowed};
 
 use crate::both_marks::BothMarks;
 use crate::common::CommonDepot;
@@ -139,6 +139,8 @@ impl<D: Disk, N: Serving> OpenedDepot<D, N> {
         ensures parties { AllByRecursion (λ taken. IsParty N.run taken.request.party) self.order }
         ensures can { CanTake D.says result.depot }
         ensures ran { (since : ℕ) (start : List Deed) → N.begins since start → HasRun D.says result.depot since start (map placed_of self.order) }
+        // From each depot that replicas follow on, they follow it after the order.
+        ensures followed { IsFollowed D.says N.begins N.masters self.order result.depot }
         ensures stored { HasAllStored D.says N.end N.images N.begins self.order result.depot.archive }
         // There are at most as many fault places as the counts of the two disks rose, and marks only where one rose.
         ensures faults { AreCaused N.faults (D.says.faults (disk_of result.depot.journal)) N.content_faults (D.says.faults (archive_disk_of result.depot.archive)) [] result.order.items }

@@ -1,5 +1,5 @@
 //! Making a shared depot.
-ghost use Rattle.std.specs.Prelude.{◌≡◌, ◌≤◌, ◌-◌, ◌+◌, ◌++◌, ◌↔◌, ℕ, List, [], length, IfOk, OnOk};
+ghost use Rattle.std.specs.Prelude.{◌≡◌, ◌≤◌, ◌<◌, ◌-◌, ◌+◌, ◌++◌, ◌↔◌, ℕ, List, [], length, IfOk, OnOk};
 ghost use Rattle.std.specs.Result.{IfErr};
 ghost use Rattle.archive_file.specs.Archive.{disk_of as archive_disk_of};
 ghost use Rattle.depot_commit.specs.Growing.{Chronicle};
@@ -86,14 +86,14 @@ fn make_passes<N: Naming>(
     Ok(())
 }
 
-/// Makes the passes for marks of the first so many parties, in the same way.
+/// Makes the passes for marks of the first so many parties, in the same way. No party has the first lane.
 fn make_mark_passes<N: Marking>(
     lanes: &mut Vec<LaneSeat<Mark>>,
     passes: &mut Vec<MarkPass<N>>,
     count: u32,
 ) -> Result<(), AllocError>
-    requires few { (count ≤ 16) × (count ≤ lane_count N.marks) }
-    requires seats { lanes.old.items ≡ fresh_lanes N.marks count }
+    requires few { (count ≤ 16) × (count < lane_count N.marks) }
+    requires seats { lanes.old.items ≡ fresh_lanes N.marks (1 + count) }
     ensures { OnOk result (passes.new.items ≡ passes.old.items ++ fresh_marks count) }
 {
     if count == 0 {
@@ -107,20 +107,17 @@ fn make_mark_passes<N: Marking>(
     Ok(())
 }
 
-/// Makes the passes for marks of so many parties of the seats of their lanes, behind which is one more.
+/// Makes the passes for marks of so many parties of the seats of their lanes, before which is one more.
 fn mark_passes<N: Marking>(
     alloc: Global,
     mut lanes: Vec<LaneSeat<Mark>>,
     count: u32,
 ) -> Result<Vec<MarkPass<N>>, AllocError>
-    requires few { (count ≤ 16) × (count ≤ lane_count N.marks) }
+    requires few { (count ≤ 16) × (count < lane_count N.marks) }
     requires seats { lanes.items ≡ fresh_lanes N.marks (1 + count) }
     ensures { IfOk result (λ passes. passes.items ≡ fresh_marks count) }
 {
     let mut passes = Vec::new(alloc);
-    if lanes.pop().is_none() {
-        return Err(AllocError);
-    }
     make_mark_passes(&mut lanes, &mut passes, count)?;
     Ok(passes)
 }
@@ -227,7 +224,7 @@ fn both_passes<N: Serving>(
     archive: Vec<LaneSeat<Mark>>,
     count: u32,
 ) -> Result<Vec<BothMarks<N>>, AllocError>
-    requires few { (count ≤ 16) × (count ≤ lane_count N.marks) × (count ≤ lane_count N.content_marks) }
+    requires few { (count ≤ 16) × (count < lane_count N.marks) × (count < lane_count N.content_marks) }
     requires journal { journal.items ≡ fresh_lanes N.marks (1 + count) }
     requires archive { archive.items ≡ fresh_lanes N.content_marks (1 + count) }
     ensures { IfOk result (λ passes. passes.items ≡ fresh_marks count) }

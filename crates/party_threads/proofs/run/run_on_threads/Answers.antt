@@ -10,13 +10,14 @@ use Rattle.run_parties.proofs.Fresh.{few_left}
 use Rattle.run_parties.specs.Asking.{left_in}
 use Rattle.run_parties.specs.Replicas.{AreReplicasServed, AreReplicasTold, OneHasRisen}
 use Rattle.run_parties.specs.Served.{AreEnds, AreServed}
+use Rattle.run_parties.specs.replica_turns.Master.{CanBeFollowed}
 use Rattle.run_parties.specs.replica_turns.declared.party.ReplicaParty.{ReplicaParty}
 use Rattle.run_parties.specs.serial_depot.Running.{CanTake, HasRun}
 use Rattle.session_loop.specs.Asking.{replica_commands}
 use Rattle.session_loop.specs.Served.{AreCaused}
 use Rattle.session_loop.specs.declared.reading.ReplicaScript.{ReplicaScript}
 use Rattle.party_threads.proofs.Asked.{all_proper, are_asked, as_many, items_of}
-use Rattle.party_threads.proofs.Finishing.{all_ends, all_replicas_served, all_replicas_told, all_served, depot_ran, fresh_count}
+use Rattle.party_threads.proofs.Finishing.{all_ends, all_replicas_served, all_replicas_told, all_served, depot_followed, depot_ran, fresh_count}
 use Rattle.party_threads.specs.Words.{AreFreshWords}
 use Rattle.party_threads.specs.declared.run.ThreadsRun.{ThreadsRun}
 use Rattle.party_threads.proofs.run.run_on_threads.Goals as goal
@@ -96,6 +97,20 @@ returns-in-Ok-clause-told g c = λ past since start all formed well_formed h mas
     IfOk-weaker c.run_named.result _ (λ (ran : Ran). AreReplicasTold past start sessions scripts may_give ran.order.items ran.runs.items (map g.K.Sink.says.given c.args.sinks.items) (map g.K.Sink.says.given ran.sinks.items))
     (λ ran s. all_replicas_told D.says c.args.depot.tables.archive_end (D.says.may_leave (archive_disk_of c.args.depot.archive)) g.K.Sink.says may_give sessions scripts (map items_of requests) asked c.requires.as_many_replicas c.requires.apart
     c.in-Ok.brought.replicas.items c.in-Ok.ensures.replicas _ _ _ _ c.args.sinks.items c.requires.as_many ran s well_formed since past start all (all_proper may_give sessions requests asked formed, h) master)
+    c.run_named.ensures.run
+
+pub returns-in-Ok-clause-master : goal.returns-in-Ok-clause-master
+returns-in-Ok-clause-master g c = λ past since start all formed h master.
+    let D = g.D.Disk in
+    let may_give = g.C.Clock.says.may_give c.args.clock.now in
+    let sessions = c.args.sessions.items in
+    let scripts = c.args.replicas.items in
+    let requests = c.in-Ok.brought.requests.items in
+    let asked = c.in-Ok.ensures.requests in
+    let Ran : Type 0 = ThreadsRun g.row.D.Denot g.row.K.Denot in
+    IfOk-weaker c.run_named.result _ (λ (ran : Ran). CanBeFollowed D.says past start (map (placed sessions) ran.order.items) ran.depot)
+    (λ ran s. depot_followed D.says c.args.depot.tables.archive_end (D.says.may_leave (archive_disk_of c.args.depot.archive)) g.K.Sink.says may_give sessions scripts (map items_of requests) asked c.requires.as_many_replicas c.requires.apart
+    c.in-Ok.brought.replicas.items c.in-Ok.ensures.replicas _ _ _ _ c.args.sinks.items c.requires.as_many ran s since past start all (all_proper may_give sessions requests asked formed, h) master)
     c.run_named.ensures.run
 
 pub returns-in-Ok-clause-ran : goal.returns-in-Ok-clause-ran

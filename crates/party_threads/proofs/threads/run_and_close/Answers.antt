@@ -106,6 +106,7 @@ returns g c =
       can = c.close-depot.ensures.can;
       stored = c.close-depot.ensures.stored;
       ran_by = c.close-depot.ensures.ran;
+      followed = c.close-depot.ensures.followed;
       caused = c.close-depot.ensures.faults;
       lost = λ is. c.close-depot.ensures.marks (collected.marked is);
     }

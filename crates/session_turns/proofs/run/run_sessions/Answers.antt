@@ -4,7 +4,7 @@ use Rattle.depot_rows.specs.depot_model.declared.order.Place.{Place}
 use Rattle.disk_journal.specs.Stands.{disk_of}
 use Rattle.session_loop.specs.Served.{AreCaused, StandWithoutFaults}
 use Rattle.session_turns.proofs.Losing.{not_before}
-use Rattle.session_turns.proofs.Whole.{whole_drawn, whole_ends, whole_ran, whole_replicas, whole_served, whole_told}
+use Rattle.session_turns.proofs.Whole.{whole_drawn, whole_ends, whole_master, whole_ran, whole_replicas, whole_served, whole_told}
 use Rattle.session_turns.proofs.run.run_sessions.Goals as goal
 
 pub returns-clause-served : goal.returns-clause-served
@@ -24,6 +24,12 @@ returns-clause-told g c = λ past since start all formed well h master.
     let rest = c.answer_rest.ensures in
     whole_told _ _ _ _ _ c.args.depot c.args.sinks _ c.new-2.ensures.items _ c.tables.ensures _ c.in-Ok.ensures _ c.requires.as_many_replicas c.requires.apart c.requires.few_parties c.requires.few c.requires.few_replicas
     c.args.seed c.take_all.ensures.turns _ c.deref.ensures.value _ _ rest.none rest.same since start formed h well past all master
+
+pub returns-clause-master : goal.returns-clause-master
+returns-clause-master g c = λ past since start all formed h master.
+    let rest = c.answer_rest.ensures in
+    whole_master _ _ _ _ _ c.args.depot c.args.sinks _ c.new-2.ensures.items _ c.tables.ensures _ c.in-Ok.ensures _ c.requires.as_many_replicas c.requires.apart c.requires.few_parties c.requires.few c.requires.few_replicas
+    c.args.seed c.take_all.ensures.turns _ c.deref.ensures.value _ _ rest.none rest.same since start formed h past all master
 
 pub returns-clause-ran : goal.returns-clause-ran
 returns-clause-ran g c = λ since start formed h.

@@ -1,4 +1,3 @@
-use Rattle.std.proofs.Common.{List, refl}
 use Rattle.depot_commit.specs.Growing.{generations_of}
 use Rattle.replica_pull.proofs.Firsts.{first_changes}
 use Rattle.replica_pull.proofs.Followed.{has_prefix}

@@ -7,10 +7,10 @@ use Rattle.outside_api.specs.Count.{counted}
 use Rattle.serial_depot.specs.Running.{CanTake, HasRun}
 use Rattle.serial_depot.specs.declared.depot.SerialDepot.{SerialDepot}
 use Rattle.session_loop.specs.Served.{AreCaused}
-use Rattle.shared_depot.specs.Common.{AreMarksCaused, HasAllStored, OpenedKnown}
+use Rattle.shared_depot.specs.Common.{AreMarksCaused, HasAllStored, IsFollowed, OpenedKnown}
 use Rattle.shared_depot.specs.Stored.{lost_count}
 use Rattle.shared_depot.proofs.Marks.{both_caused}
-use Rattle.shared_depot.proofs.Order.{closed_can, closed_run, closed_stored}
+use Rattle.shared_depot.proofs.Order.{closed_can, closed_followed, closed_run, closed_stored}
 use Rattle.shared_depot.proofs.Stored.{caused_by}
 use Rattle.shared_depot.proofs.closing.OpenedDepot.close.Goals as goal
 
@@ -29,6 +29,16 @@ returns-clause-ran g c = λ since start at.
     subst (λ (o : OpenedKnown). HasRun D.says c.new.result since start (map placed_of o.order)) c.self.view_is
     (subst (λ (depot : SerialDepot g.row.D.Denot). HasRun D.says depot since start (map placed_of order)) (sym c.new.ensures)
     (closed_run D.says g.N.Naming.rows g.N.Naming.end g.N.Imaging.images g.N.Serving.begins g.N.Serving.masters g.N.Serving.faults g.N.Serving.content_faults order false parts.tables parts.journal parts.archive c.self.invariant.0 c.self.invariant.1 since start at))
+
+pub returns-clause-followed : goal.returns-clause-followed
+returns-clause-followed g c =
+    let D = g.D.Disk in
+    let begins = g.N.Serving.begins in
+    let masters = g.N.Serving.masters in
+    let parts = c.self.inside in
+    subst (λ (o : OpenedKnown). IsFollowed D.says begins masters o.order c.new.result) c.self.view_is
+    (subst (λ (depot : SerialDepot g.row.D.Denot). IsFollowed D.says begins masters parts.order depot) (sym c.new.ensures)
+    (closed_followed D.says g.N.Naming.rows g.N.Naming.end g.N.Imaging.images begins masters g.N.Serving.faults g.N.Serving.content_faults parts.order false parts.tables parts.journal parts.archive c.self.invariant.0 c.self.invariant.1))
 
 pub returns-clause-stored : goal.returns-clause-stored
 returns-clause-stored g c =

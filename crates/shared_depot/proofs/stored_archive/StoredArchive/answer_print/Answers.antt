@@ -1,4 +1,4 @@
-use Rattle.std.proofs.Common.{◌≡◌, ◌||◌, ℕ, Bool, List, map, refl, sym, ap, subst, ◌∙◌}
+use Rattle.std.proofs.Common.{◌≡◌, ◌||◌, ℕ, Bool, List, Err, map, refl, sym, ap, subst, ◌∙◌}
 use mathlib.Core.List.{IsPrefix}
 use Rattle.archive_file.specs.Archive.{disk_of}
 use Rattle.locked_tables.specs.Known.{PartyKnown}
@@ -11,10 +11,10 @@ use Rattle.serial_depot.specs.Running.{HasRun}
 use Rattle.serial_depot.specs.declared.depot.SerialDepot.{SerialDepot}
 use Rattle.shared_depot.specs.Common.{IsArchiveAfter, IsFollowed, KeepsOrder}
 use Rattle.shared_depot.specs.Stored.{ArchiveKnown, lost_in}
-use Rattle.shared_depot.proofs.Marks.{lost_caused, mark_caused, marked_behind}
+use Rattle.shared_depot.proofs.Marks.{lost_caused, mark_caused, marked_behind, same_caused}
 use Rattle.shared_depot.proofs.Order.{archive_learnt, archive_read, depot_ran, has_all}
 use Rattle.shared_depot.proofs.Stored.{caused_on, lost_kept, stores_kept}
-use Rattle.shared_depot.proofs.Turns.{answered_so, kept_so, told_on}
+use Rattle.shared_depot.proofs.Turns.{answered_so, kept_so, without_memory}
 use Rattle.shared_depot.proofs.stored_archive.StoredArchive.answer_print.Goals as goal
 
 pub invariant_of-held : goal.invariant_of-held
@@ -23,8 +23,8 @@ invariant_of-held g c =
     let same = c.tell.ensures.same ∙ c.learn_archive.ensures.same in
     subst (λ (l : List Taken). KeepsOrder D.says g.N.Naming.rows g.N.Naming.end g.N.Imaging.images g.N.Serving.begins g.N.Serving.masters g.N.Serving.faults l c.held.inside.tables) (sym same) c.held.invariant
 
-pub invariant_of-self : goal.invariant_of-self
-invariant_of-self g c =
+pub invariant_of-self-2 : goal.invariant_of-self-2
+invariant_of-self-2 g c =
     let D = g.D.Disk in
     let end = g.N.Naming.end in
     let images = g.N.Imaging.images in
@@ -41,12 +41,23 @@ invariant_of-self g c =
     (caused_on (lost_in known) contents_then (D.says.faults (disk_of old)) (D.says.faults (disk_of new)) was.caused next.never_falls) in (
       subst (λ (l : List Taken). IsArchiveAfter D.says end images begins contents_then (record { list = l; failed = known.failed }) new) (sym c.learn_archive.ensures.learnt)
           (archive_learnt D.says end images begins contents_then known order new read (stores_kept known.list order behind) (lost_kept known.list order behind)),
-      mark_caused contents_then (D.says.faults (disk_of old)) (D.says.faults (disk_of new)) was.no_fewer next.never_falls _ (lost_caused c.answer_print-answer.result _ next.cause) c.self.inside.marks.list c.mark_lost.new.all.list
-          c.mark_lost.ensures.caused c.self.invariant.1,
+      mark_caused contents_then (D.says.faults (disk_of old)) (D.says.faults (disk_of new)) was.no_fewer next.never_falls _ (lost_caused c.answer_print-answer.result _ next.cause) c.make_room.new.self.list
+          c.mark_lost.new.all.list c.mark_lost.ensures.caused (same_caused contents_then (D.says.faults (disk_of old)) c.self.inside.marks c.make_room.new.self c.make_room.ensures.same c.self.invariant.1),
     )
 
 pub invariant_of-marks : goal.invariant_of-marks
 invariant_of-marks g c = c.mark_lost.ensures.party ∙ c.marks.invariant
+
+pub invariant_of-self : goal.invariant_of-self
+invariant_of-self g c = (
+  c.self.invariant.0,
+  same_caused g.N.Serving.content_faults (g.D.Disk.says.faults (disk_of c.self.inside.archive)) c.self.inside.marks c.make_room.new.self c.make_room.ensures.same c.self.invariant.1,
+)
+
+pub returns-in_default : goal.returns-in_default
+returns-in_default g c = record {
+  answer = c.tell_alone.ensures.told c.args.request.now c.args.replica.now (Err (record {})) c.args.marks.now (without_memory g.D.Disk.says c.args.request.now c.args.replica.now (record {}));
+}
 
 pub returns : goal.returns
 returns g c =
@@ -69,7 +80,7 @@ returns g c =
     let known : c.tell.new.pass.list ≡ order = ap (λ (k : PartyKnown). k.list) told ∙ c.learn_archive.ensures.same in
     let marks = c.marks.inside in
     let given = c.mark_lost.new.pass.list in
-    let lost : Bool = is_lost c.mark_lost.result in
+    let lost : Bool = is_lost answer in
     let of_party_is : c.mark_lost.new.pass.party ≡ marks.journal.party = c.mark_lost.ensures.party ∙ c.marks.invariant in
     let marked : has_marks marks.journal.party given ≡ (has_marks marks.journal.party marks.archive.list || lost) =
     ap (λ (p : ℕ). has_marks p given) (sym of_party_is) ∙ (c.mark_lost.ensures.marked ∙ ap (λ (p : ℕ). has_marks p marks.archive.list || lost) c.marks.invariant) in
@@ -87,9 +98,7 @@ returns g c =
                 subst (λ (l : List Taken). HasRun D.says depot since start (map placed_of l)) (sym known)
                 (depot_ran D.says rows end images begins g.N.Serving.masters g.N.Serving.faults order tables journal was archive all since start at),
             subst (λ (l : List Taken). IsFollowed D.says begins g.N.Serving.masters l depot) (sym known) (was.followed archive all),
-            λ formed.
-                told_on D.says depot replica replica request answer c.mark_lost.result c.mark_lost.ensures.told
-                (answered_so D.says depot replica replica request answer (c.answer_print-answer.ensures.answered depot refl formed) (kept_so answer replica.replica)),
+            λ formed. answered_so D.says depot replica replica request answer (c.answer_print-answer.ensures.answered depot refl formed) (kept_so answer replica.replica),
             all.room,
           ),
         );

@@ -1,4 +1,4 @@
-use Rattle.std.proofs.Common.{◌≡◌, ◌++◌, ◌||◌, ℕ, Bool, List, map, refl, sym, ap, subst, ◌∙◌}
+use Rattle.std.proofs.Common.{◌≡◌, ◌++◌, ◌||◌, ℕ, Bool, List, Err, map, refl, sym, ap, subst, ◌∙◌}
 use mathlib.Core.List.{IsPrefix}
 use Rattle.disk_journal.specs.Stands.{disk_of}
 use Rattle.locked_tables.specs.Known.{PartyKnown}
@@ -14,9 +14,9 @@ use Rattle.depot_commit.proofs.Moved.{over_fetched}
 use Rattle.shared_depot.specs.Common.{HasAllStored, HasRunOrder, IsFollowed, KeepsOrder}
 use Rattle.shared_depot.specs.Stored.{stores_of}
 use Rattle.shared_depot.proofs.Committed.{run_on}
-use Rattle.shared_depot.proofs.Marks.{lost_caused, mark_caused, marked_before}
+use Rattle.shared_depot.proofs.Marks.{lost_caused, mark_caused, marked_before, same_caused}
 use Rattle.shared_depot.proofs.Order.{depot_ran, run_fetched}
-use Rattle.shared_depot.proofs.Turns.{answered_so, told_on}
+use Rattle.shared_depot.proofs.Turns.{answered_so, without_memory}
 use Rattle.shared_depot.proofs.written_journal.WrittenJournal.answer_pull.Goals as goal
 
 pub invariant_of-held : goal.invariant_of-held
@@ -25,8 +25,8 @@ invariant_of-held g c =
     subst (λ (l : List Taken). KeepsOrder D.says g.N.Naming.rows g.N.Naming.end g.N.Imaging.images g.N.Serving.begins g.N.Serving.masters g.N.Serving.faults l c.held.inside.tables)
     (sym c.tell.ensures.same) c.held.invariant
 
-pub invariant_of-self : goal.invariant_of-self
-invariant_of-self g c =
+pub invariant_of-self-2 : goal.invariant_of-self-2
+invariant_of-self-2 g c =
     let D = g.D.Disk in
     let rows = g.N.Naming.rows in
     let end = g.N.Naming.end in
@@ -42,12 +42,22 @@ invariant_of-self g c =
           (run_fetched D.says rows end images begins g.N.Serving.masters g.N.Serving.faults order tables old new was
           (was.can.0, (was.can.1.0, next.fetched.stands was.can.0 was.can.1.0 was.can.1.1)) next.never_falls
           (λ since start places h. over_fetched D.says (HasStored images end (stores_of order)) (stores_end (stores_of order) end) tables old since start places h new next.fetched) next.fetched.groups),
-      mark_caused g.N.Serving.faults (D.says.faults (disk_of old)) (D.says.faults (disk_of new)) was.no_fewer next.never_falls _ (lost_caused c.answer_by_journal-answer.result _ next.cause) c.self.inside.marks.list c.mark_lost.new.all.list
-          c.mark_lost.ensures.caused c.self.invariant.1,
+      mark_caused g.N.Serving.faults (D.says.faults (disk_of old)) (D.says.faults (disk_of new)) was.no_fewer next.never_falls _ (lost_caused c.answer_by_journal-answer.result _ next.cause) c.make_room.new.self.list
+          c.mark_lost.new.all.list c.mark_lost.ensures.caused (same_caused g.N.Serving.faults (D.says.faults (disk_of old)) c.self.inside.marks c.make_room.new.self c.make_room.ensures.same c.self.invariant.1),
     )
 
 pub invariant_of-marks : goal.invariant_of-marks
 invariant_of-marks g c = c.marks.invariant ∙ sym c.mark_lost.ensures.party
+
+pub invariant_of-self : goal.invariant_of-self
+invariant_of-self g c = (
+  c.self.invariant.0,
+  same_caused g.N.Serving.faults (g.D.Disk.says.faults (disk_of c.self.inside.journal)) c.self.inside.marks c.make_room.new.self c.make_room.ensures.same c.self.invariant.1,
+)
+
+pub returns-in_default-clause-answer : goal.returns-in_default-clause-answer
+returns-in_default-clause-answer g c =
+    c.tell_alone.ensures.told c.args.request.now c.args.replica.now (Err (record {})) c.args.marks.now (without_memory g.D.Disk.says c.args.request.now c.args.replica.now (record {}))
 
 pub returns-clause-answer : goal.returns-clause-answer
 returns-clause-answer g c =
@@ -69,7 +79,7 @@ returns-clause-answer g c =
     let known : c.tell.new.pass.list ≡ order = told ∙ (c.held.view_is ∙ c.learn_journal.ensures.same) in
     let marks = c.marks.inside in
     let given = c.mark_lost.new.pass.list in
-    let lost : Bool = is_lost c.mark_lost.result in
+    let lost : Bool = is_lost answer in
     let marked : has_marks marks.journal.party given ≡ (has_marks marks.journal.party marks.journal.list || lost) = ap (λ (p : ℕ). has_marks p given) (sym c.mark_lost.ensures.party) ∙ c.mark_lost.ensures.marked in
     record {
       answered = λ archive all.
@@ -81,9 +91,7 @@ returns-clause-answer g c =
                   subst (λ (l : List Taken). HasRun D.says depot since start (map placed_of l)) (sym known)
                   (depot_ran D.says rows end images begins g.N.Serving.masters g.N.Serving.faults order tables journal was archive here since start at),
               subst (λ (l : List Taken). IsFollowed D.says begins g.N.Serving.masters l depot) (sym known) (was.followed archive here),
-              λ formed.
-                  told_on D.says depot replica replica' request answer c.mark_lost.result c.mark_lost.ensures.told
-                  (answered_so D.says depot replica replica' request answer (c.answer_by_journal-answer.ensures.answered depot refl formed) c.answer_by_journal-answer.ensures.kept),
+              λ formed. answered_so D.says depot replica replica' request answer (c.answer_by_journal-answer.ensures.answered depot refl formed) c.answer_by_journal-answer.ensures.kept,
               here.room,
             ),
           );

@@ -1,4 +1,4 @@
-use Rattle.std.proofs.Common.{◌≡◌, ◌∙◌, ◌++◌, List, ℕ, length, sym, ap, subst}
+use Rattle.std.proofs.Common.{◌≡◌, ◌∙◌, ◌++◌, List, length, sym, ap, subst}
 use Rattle.std.specs.Result.{IsErr}
 use Rattle.depot_commit.proofs.Moved.{over_fetched}
 use Rattle.depot_commit.specs.Storing.{HasStored, stores_end}
