@@ -1,11 +1,12 @@
 -- What the mode `checkpoint` promises, by how it ends.
-use Rattle.std.proofs.Common.{◌≡◌, ◌≢◌, ◌≤◌, ℕ, true, false, List, length, Option, refl, sym, ◌∙◌, inl, inr}
+use Rattle.std.proofs.Common.{◌≡◌, ◌≢◌, ◌≤◌, ℕ, true, false, List, [], length, Option, None, refl, sym, subst, ◌∙◌, inl, inr}
+use Rattle.std.specs.Prelude.{IfSome}
 use Rattle.archive_file.specs.Archive as archives
 use Rattle.outside_api.specs.Disk.{Files}
 use Rattle.outside_api.specs.Moments.{LeavesOnly}
 use Rattle.outside_api.specs.Says.{DiskSays, SinkSays}
 use Rattle.checkpoint_file.specs.Generations.{IsOfDepot}
-use Rattle.depot_checkpoint.specs.Taking.{StandsBeforeOrAfter, checkpointed, next_generation}
+use Rattle.depot_checkpoint.specs.Taking.{CanBegin, HasBegun, MayHaveBegun, StandsBeforeOrAfter, checkpointed, next_generation}
 use Rattle.depot_checkpoint.specs.declared.fault.TakingFault.{TakingFault}
 use Rattle.depot_checkpoint.specs.declared.fault.TakingFault.TheVariants as taking_faults
 use Rattle.depot_checkpoint.proofs.Checkpoints.{stands_before}
@@ -13,6 +14,7 @@ use Rattle.depot_rows.specs.depot_model.Deeds.{Deed}
 use Rattle.depot_rows.specs.Standing.{Stand}
 use Rattle.disk_journal.specs.Images.{Committed, generation_of}
 use Rattle.disk_journal.specs.Stands.{disk_of, generation_of_journal}
+use Rattle.disk_journal.specs.declared.journal.Journal.{Journal}
 use Rattle.recovery.specs.Contents.{HoldWhole}
 use Rattle.recovery.specs.Holding.{Hold}
 use Rattle.recovery.specs.Opening.{IsOpen, HasSynced, LooksOnly}
@@ -22,13 +24,19 @@ use Rattle.depot_rows.specs.table_changes.Changed.{rows_of}
 use Rattle.end_lines.specs.Lines.{cause_line, generation_line}
 use Rattle.end_lines.specs.Telling.{OutGot}
 use Rattle.end_lines.specs.declared.cause.Cause.TheVariants as causes
-use Rattle.p4_server.specs.Checkpoint.{Checkpoints, IsInDoubt, IsLine, IsPlaced, IsTaken, IsUntaken}
+use Rattle.replica_turns.specs.Master.{IsMaster, Past}
+use Rattle.replica_turns.specs.Written.{AreWritten, IsWrittenAfter, Leave}
+use Rattle.party_threads.specs.serial_depot.Running.{HasRun}
+use Rattle.p4_server.specs.Checkpoint.{Checkpoints, IsInDoubt, IsLine, IsPlaced, IsTaken, IsUntaken, one_if}
 use Rattle.p4_server.specs.Files.{IsStart, DiskRose, DisksStand, HasOpened}
 use Rattle.p4_server.specs.Opening.{IsUnopened}
 use Rattle.p4_server.specs.Outside.{After, Before}
 use Rattle.p4_server.specs.Telling.{IsUnrun}
+use Rattle.p4_server.proofs.Begun.{can_begin, doubt_leaves, opened_leaves, taken_leaves}
 use Rattle.p4_server.proofs.Contents.{contents_opened, deletes_opened}
 use Rattle.p4_server.proofs.Openings.{fault_of_unopened, complete_of_unopened, opened_of, read_at_start}
+use Rattle.p4_server.proofs.Scheduled.{begins, depot_of}
+use Rattle.p4_server.proofs.Writtens.{written_master}
 
 -- ---- causes
 
@@ -110,6 +118,13 @@ module _ {D S K : Type 0} (disk_says : DiskSays D) (sink_says : SinkSays K) (may
         contents = contents.contents;
       }
 
+  -- the depot of these files has taken no command, and where they were written so replicas may follow it
+  runs : (d : List Deed) → IsStart disk_says before.journal before.archive d → HasRun disk_says (depot_of disk_says opened) (disk_says.moment (disk_of opened.journal)) d []
+  runs = begins disk_says before.journal before.archive opened (depot_of disk_says opened) refl opening synced archive_synced reads now one held stands
+
+  follows : (d : List Deed) → IsStart disk_says before.journal before.archive d → (past : Past) → AreWritten disk_says before.journal before.archive past → IsMaster disk_says past d [] (depot_of disk_says opened) past.journal
+  follows d start = written_master disk_says before.journal before.archive opened opening.0 opening.1 synced archive_synced reads held d start (runs d start)
+
   -- ---- nothing was done
 
   pub untaken_of : after.ended.cause ≡ causes.Memory → IsUnrun after.ended → after.ended.journal ≡ disk_of opened.journal
@@ -123,6 +138,9 @@ module _ {D S K : Type 0} (disk_says : DiskSays D) (sink_says : SinkSays K) (may
       exit = λ j a j_left a_left. at_start d start j a (rw journal_is at j_left) a_left;
       any_moment = λ j a j_left a_left. at_start d start j a (now (disk_of opened.journal) j (rw journal_is at j_left)) a_left;
     };
+    goes_on = λ d start past w. rw (journal_is, archive_is)
+        (opened_leaves disk_says reads opened opening.0 opening.1 d (disk_says.moment (disk_of opened.journal)) (runs d start) past past.journal (follows d start past w) d
+        (λ j a j_left a_left. at_start d start j a j_left (rw archive_is a_left)));
   }
     where
       at_start : (d : List Deed) → IsStart disk_says before.journal before.archive d → (j a : Files) → disk_says.may_leave (disk_of opened.journal) j → disk_says.may_leave after.ended.archive a → StandFor d j a
@@ -130,16 +148,18 @@ module _ {D S K : Type 0} (disk_says : DiskSays D) (sink_says : SinkSays K) (may
 
   -- ---- the checkpoint was taken, or a disk failed meanwhile
 
-  module _ (left : D) (journal_is : after.ended.journal ≡ left)
-      (any_moment : (d : List Deed) (image : Files) → IsOfDepot opening.0 (rows_of opened.tables) d image → LeavesOnly disk_says (disk_of opened.journal) left (StandsBeforeOrAfter d image)) where
+  module _ (left : Journal D) (journal_is : after.ended.journal ≡ disk_of left)
+      (any_moment : (d : List Deed) (image : Files) → IsOfDepot opening.0 (rows_of opened.tables) d image → LeavesOnly disk_says (disk_of opened.journal) (disk_of left) (StandsBeforeOrAfter d image)) where
     since : (d : List Deed) → IsStart disk_says before.journal before.archive d → (j a : Files) → disk_says.left_since after.ended.journal (disk_says.moment (disk_of opened.journal)) j → disk_says.may_leave after.ended.archive a → StandsBeforeOrAfter d a j
     since d start j a j_left a_left = (any_moment d a (of_depot d start a a_left)).each j (rw journal_is at j_left)
 
     pub taken_of : IsPlaced may_give after.ended false → (begun : Option ℕ) → begun ≡ next_generation (generation_of_journal opened.journal)
         → IsLine sink_says before.out after.out after.ended (generation_line begun)
-        → ((d : List Deed) (image : Files) → IsOfDepot opening.0 (rows_of opened.tables) d image → (j : Files) → disk_says.may_leave left j → StandFor (checkpointed d) j image)
+        → ((d : List Deed) (image : Files) → IsOfDepot opening.0 (rows_of opened.tables) d image → (j : Files) → disk_says.may_leave (disk_of left) j → StandFor (checkpointed d) j image)
+        → (begun ≡ None → left ≡ opened.journal)
+        → ((d : List Deed) (older : List (List (List ℕ))) → CanBegin disk_says opened.journal opening.0 (rows_of opened.tables) d older → IfSome begun (λ n. HasBegun disk_says left opening.0 (rows_of opened.tables) d older))
         → IsTaken disk_says sink_says may_give before after
-    taken_of placed begun number line taken = record {
+    taken_of placed begun number line taken none begins = record {
       placed = placed;
       generation = generation_of_journal opened.journal;
       of_root = of_root;
@@ -150,13 +170,21 @@ module _ {D S K : Type 0} (disk_says : DiskSays D) (sink_says : SinkSays K) (may
         exit = λ j a j_left a_left. taken d a (of_depot d start a a_left) j (rw journal_is at j_left);
         any_moment = since d start;
       };
+      goes_on = λ d start past w.
+          let moment = disk_says.moment (disk_of opened.journal) in
+          let can = can_begin disk_says reads opened opening.0 opening.1 d moment (runs d start) past past.journal (follows d start past w) in
+          subst (λ (n : Option ℕ). Leave disk_says after.ended.journal after.ended.archive (IsWrittenAfter past d [] (one_if n) (checkpointed d))) number
+          (rw (journal_is, archive_is)
+          (taken_leaves disk_says reads opened opening.0 opening.1 d moment (runs d start) past past.journal (follows d start past w) left begun none (begins d _ can)
+          (λ j a j_left a_left. taken d a (of_depot d start a (rw archive_is a_left)) j j_left)));
     }
 
     pub in_doubt_of : ((disk : D) (t : ℕ) (files : Files) → t ≤ disk_says.moment disk → disk_says.may_leave disk files → disk_says.left_since disk t files) → IsPlaced may_give after.ended true → after.ended.cause ≡ causes.Fault
         → DiskRose disk_says before after
         → OutGot (sink_says.given before.out) (sink_says.given after.out) (sink_says.faults before.out) (sink_says.faults after.out) (cause_line causes.Fault)
+        → ((d : List Deed) (older : List (List (List ℕ))) → CanBegin disk_says opened.journal opening.0 (rows_of opened.tables) d older → MayHaveBegun disk_says left opening.0 (rows_of opened.tables) d older)
         → IsInDoubt disk_says sink_says may_give before after
-    in_doubt_of counts_now placed cause_is risen line = record {
+    in_doubt_of counts_now placed cause_is risen line begins = record {
       placed = placed;
       cause_is = cause_is;
       risen = risen;
@@ -164,9 +192,19 @@ module _ {D S K : Type 0} (disk_says : DiskSays D) (sink_says : SinkSays K) (may
       opened = disk_of opened.journal;
       is_opened = is_opened;
       kept = λ d start. record {
-        exit = λ j a j_left a_left.
-            let later = (any_moment d a (of_depot d start a a_left)).later in
-            since d start j a (counts_now after.ended.journal (disk_says.moment (disk_of opened.journal)) j (rw journal_is later) j_left) a_left;
+        exit = exit d start;
         any_moment = since d start;
       };
+      goes_on = λ d start past w.
+          let moment = disk_says.moment (disk_of opened.journal) in
+          let can = can_begin disk_says reads opened opening.0 opening.1 d moment (runs d start) past past.journal (follows d start past w) in
+          rw (journal_is, archive_is)
+          (doubt_leaves disk_says reads opened opening.0 opening.1 d moment (runs d start) past past.journal (follows d start past w) left (begins d _ can)
+          (λ j a committed a_left. stands_before opening.0 (rows_of opened.tables) d a (of_depot d start a (rw archive_is a_left)) j committed)
+          (λ j a j_left a_left. exit d start j a (rw journal_is j_left) (rw archive_is a_left)));
     }
+      where
+        exit : (d : List Deed) → IsStart disk_says before.journal before.archive d → (j a : Files) → disk_says.may_leave after.ended.journal j → disk_says.may_leave after.ended.archive a → StandsBeforeOrAfter d a j
+        exit d start j a j_left a_left =
+            let later = (any_moment d a (of_depot d start a a_left)).later in
+            since d start j a (counts_now after.ended.journal (disk_says.moment (disk_of opened.journal)) j (rw journal_is later) j_left) a_left

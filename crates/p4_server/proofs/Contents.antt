@@ -1,5 +1,5 @@
 -- The contents of files that are opened, and the pairs that are kept.
-use Rattle.std.proofs.Common.{◌≡◌, ℕ, List, refl, sym, subst}
+use Rattle.std.proofs.Common.{◌≡◌, List, refl, sym, subst}
 use Rattle.outside_api.specs.Disk.{Files}
 use Rattle.depot_rows.specs.db_records.declared.table.TableId.TheVariants.{Rev}
 use Rattle.depot_rows.specs.depot_model.Deeds.{Deed}
@@ -8,7 +8,7 @@ use Rattle.recovery.specs.Holding.{Hold}
 use Rattle.recovery.specs.Rules.{DeletesAreUnplaced}
 use Rattle.recovery.specs.Standing.{StandFor}
 use Rattle.recovery.proofs.Held.{rows_once}
-use Rattle.party_threads.specs.depot_commit.Holding.{HasItsContents, StandsWith}
+use Rattle.party_threads.specs.depot_commit.Holding.{HasItsContents}
 use Rattle.party_threads.proofs.depot_commit.Contents.{contents_alike}
 
 -- files that stand for a depot have its contents at the spots of the rows that were read of them
@@ -22,17 +22,3 @@ pub deletes_opened : (journal archive : Files) (rows : AllRows) (d : List Deed) 
 deletes_opened journal archive rows d stand hold =
     let own : Hold journal stand.rows = record { was = stand.was; committed = stand.committed; has = stand.has } in
     subst DeletesAreUnplaced (sym (rows_once journal stand.rows rows own hold Rev)) stand.deletes
-
--- an image that stands with all of these stands with this one
-pub pair_stands : (images : Files → Type 0) (used : ℕ) (j a : Files) → images a → (d : List Deed) → StandsWith images used j d → StandFor d j a
-pair_stands images used j a here d stands = record {
-  was = stands.was;
-  committed = stands.committed;
-  rows = stands.rows;
-  has = stands.has;
-  stand = stands.stand;
-  deletes = stands.kept.deletes;
-  generation = stands.generation;
-  within = (stands.kept.contents a here).within;
-  contents = (stands.kept.contents a here).contents;
-}

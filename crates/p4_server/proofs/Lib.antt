@@ -10,10 +10,12 @@ pub mod Ran
 pub mod FaultPlaces
 pub mod Promises
 pub mod Scheduled
+pub mod Begun
 pub mod Checkpoints
 pub mod Loadings
 pub mod Mades
 pub mod Names
+mod Histories
 pub mod Asked
 mod Inits
 pub mod Writtens

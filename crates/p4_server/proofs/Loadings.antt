@@ -14,7 +14,12 @@ use Rattle.load_script.specs.Script.{script_of}
 use Rattle.load_script.specs.declared.lines.LoadFigures.{LoadFigures}
 use Rattle.load_session.specs.Loading.{IsAskedBy, IsLoaded, load_session, numbers_from}
 use Rattle.load_session.proofs.Whole.{load_scripts_whole}
+use Rattle.followed_depot.specs.Following.{HasRunFollowed}
+use Rattle.followed_depot.specs.Masters.{Masters}
+use Rattle.party_threads.specs.depot_commit.Growing.{Chronicle}
 use Rattle.party_threads.specs.serial_depot.Running.{HasRun}
+use Rattle.replica_turns.specs.Master.{CanBeFollowed, Past}
+use Rattle.replica_turns.specs.Written.{AreWritten, Leave, PairGoesOn}
 use Rattle.party_threads.specs.serial_depot.declared.depot.SerialDepot.{SerialDepot}
 use Rattle.session_loop.specs.Served.{AreCaused}
 use Rattle.depot_rows.specs.table_changes.Changed.{AllRows, rows_of}
@@ -30,9 +35,10 @@ use Rattle.p4_server.specs.Files.{IsStart, DiskOrOutRose, DiskRose, DisksStand, 
 use Rattle.p4_server.specs.Opening.{IsUnopened}
 use Rattle.p4_server.specs.Load.{AreKept, IsBegun, IsLoadRun, IsUnbegun, IsLoadTold, IsUnloaded, Loads, LoadsFiles, WereMade, WereThere, depot_after, end_cause, figures_in, load_cause, load_commands}
 use Rattle.p4_server.specs.Outside.{After, Before}
+use Rattle.p4_server.specs.Telling.{IsToldAlone}
 use Rattle.p4_server.proofs.Openings.{fault_of_unopened, complete_of_unopened}
 use Rattle.p4_server.proofs.FaultPlaces.{caused_since, place_rose, rose_since}
-use Rattle.p4_server.proofs.Scheduled.{kept_at, kept_since}
+use Rattle.p4_server.proofs.Scheduled.{kept_at, kept_since, leaves_of}
 
 -- ---- what is told
 
@@ -199,17 +205,32 @@ module _ {D S K : Type 0} (disk_says : DiskSays D) (sink_says : SinkSays K) (may
     any_moment = λ j a j_left a_left. kept_since disk_says depot (disk_says.moment opened) d places ran j a (rw is at j_left) (rw archive_is at a_left);
   }
 
+  -- nothing was run over the depot
+  pub unloaded_of : (depot : SerialDepot D) (opened : D) → after.ended.journal ≡ disk_of depot.journal → after.ended.archive ≡ archives.disk_of depot.archive → HasOpened disk_says before.journal before.archive opened
+      → IsToldAlone sink_says before.out after.out after.ended → after.ended.cause ≡ causes.Memory → ((d : List Deed) → IsStart disk_says before.journal before.archive d → HasRun disk_says depot (disk_says.moment opened) d [])
+      → ((d : List Deed) → IsStart disk_says before.journal before.archive d → HasRun disk_says depot (disk_says.moment opened) d [] → (past : Past) → AreWritten disk_says before.journal before.archive past → CanBeFollowed disk_says past d [] depot)
+      → IsUnloaded disk_says sink_says may_give before after seed count
+  unloaded_of depot opened is archive_is opens told cause_is runs follows = record {
+    told = told;
+    cause_is = cause_is;
+    opened = opened;
+    is_opened = opens;
+    kept = λ d start. load_kept depot opened is archive_is d [] (runs d start);
+    goes_on = λ d start past w. leaves_of disk_says after.ended.journal after.ended.archive depot (disk_says.moment opened) is archive_is d [] (runs d start) past (follows d start (runs d start) past w);
+  }
+
   -- the script was run over the depot
-  pub load_of : (depot : SerialDepot D) (opened : D) (opened_faults opened_contents : ℕ) (rows : AllRows) (order : List Place) (commands : ℕ) (end : ScriptEnd)
+  pub load_of : (masters : Masters) (depot : SerialDepot D) (opened : D) (opened_faults opened_contents : ℕ) (rows : AllRows) (order : List Place) (commands : ℕ) (end : ScriptEnd)
       → after.ended.journal ≡ disk_of depot.journal → after.ended.archive ≡ archives.disk_of depot.archive → rows ≡ rows_of depot.tables → after.ended.order ≡ order → commands ≡ load_commands seed count
       → IsAskedBy (script_of seed count) (load_session seed count) end
       → HasOpened disk_says before.journal before.archive opened
-      → ((d : List Deed) → IsStart disk_says before.journal before.archive d → IsLoaded may_give (HasRun disk_says depot (disk_says.moment opened)) d (load_session seed count) order)
+      → ((d : List Deed) → IsStart disk_says before.journal before.archive d → IsLoaded may_give (HasRunFollowed disk_says masters depot (disk_says.moment opened)) d (load_session seed count) order)
+      → ((d : List Deed) → IsStart disk_says before.journal before.archive d → (past : Past) → AreWritten disk_says before.journal before.archive past → (c : Chronicle) × masters past d c)
       → disk_says.faults before.journal ≤ opened_faults → disk_says.faults before.archive ≤ opened_contents
       → AreCaused opened_faults (disk_says.faults (disk_of depot.journal)) opened_contents (disk_says.faults (archives.disk_of depot.archive)) [] order
       → IsLoadTold (sink_says.given before.out) (sink_says.given after.out) (sink_says.faults before.out) (sink_says.faults after.out) (λ figures. (d : List Deed) → Stand rows d → figures ≡ figures_in commands d) after.ended.cause (load_cause commands end order)
       → Ran
-  load_of depot opened opened_faults opened_contents rows order commands end journal_is archive_is rows_are order_is commands_are read opens loaded no_fewer contents_no_fewer counts told =
+  load_of masters depot opened opened_faults opened_contents rows order commands end journal_is archive_is rows_are order_is commands_are read opens loaded began no_fewer contents_no_fewer counts told =
       let Of : ℕ → Type 0 = λ n. IsLoadTold (sink_says.given before.out) (sink_says.given after.out) (sink_says.faults before.out) (sink_says.faults after.out) (λ figures. (d : List Deed) → Stand rows d → figures ≡ figures_in n d) after.ended.cause (load_cause n end order) in
       let here : Of (load_commands seed count) = subst Of commands_are told in
       record {
@@ -223,12 +244,17 @@ module _ {D S K : Type 0} (disk_says : DiskSays D) (sink_says : SinkSays K) (may
               places = rw order_is ran.places;
               each = λ other. rw order_is (each_placed end order _ ran.each here other);
               kept = subst (λ (o : List Place). Kept opened d (map (placed (load_session seed count ∷ [])) o)) (sym order_is)
-                  (load_kept depot opened journal_is archive_is d (map (placed (load_session seed count ∷ [])) order) ran.ran);
+                  (load_kept depot opened journal_is archive_is d (map (placed (load_session seed count ∷ [])) order) ran.ran.ran);
+              goes_on = λ past w.
+                  let first = began d start past w in
+                  subst (λ (o : List Place). Leave disk_says after.ended.journal after.ended.archive (PairGoesOn past d (map (placed (load_session seed count ∷ [])) o))) (sym order_is)
+                  (leaves_of disk_says after.ended.journal after.ended.archive depot (disk_says.moment opened) journal_is archive_is d (map (placed (load_session seed count ∷ [])) order) ran.ran.ran past
+                  (ran.ran.followed past first.0 first.1));
             };
         fault_places = rw (journal_is, archive_is, order_is)
             (caused_since (disk_says.faults before.journal) opened_faults (disk_says.faults (disk_of depot.journal)) (disk_says.faults before.archive) opened_contents (disk_says.faults (archives.disk_of depot.archive)) order no_fewer contents_no_fewer counts);
         told = rw order_is (told_more (sink_says.given before.out) (sink_says.given after.out) (sink_says.faults before.out) (sink_says.faults after.out) _ _
-            (λ figures known. λ d start. known (depot_after seed count d order) (rw rows_are (loaded d start).ran.over.stand)) after.ended.cause (load_cause (load_commands seed count) end order) here);
+            (λ figures known. λ d start. known (depot_after seed count d order) (rw rows_are (loaded d start).ran.ran.over.stand)) after.ended.cause (load_cause (load_commands seed count) end order) here);
       }
 
 module _ {D S K : Type 0} (disk_says : DiskSays D) (sink_says : SinkSays K) (may_give : ℕ → Type 0) (before : Before D K) (after : After D S K) (seed count : ℕ) where

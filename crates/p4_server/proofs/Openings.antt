@@ -1,6 +1,6 @@
 -- What the faults of opening lead to.
 use Rattle.std.proofs.Common.{◌≡◌, ◌≢◌, ◌⊎◌, List, length, refl, sym, ap, ◌∙◌, inl, inr, ⊎_elim, arith}
-use Rattle.outside_api.specs.Disk.{Files, NoMore}
+use Rattle.outside_api.specs.Disk.{Files, NoMore, StillTells}
 use Rattle.outside_api.specs.Moments.{LeavesOnly}
 use Rattle.outside_api.specs.Says.{DiskSays, SinkSays}
 use Rattle.depot_rows.specs.depot_model.Deeds.{Deed}
@@ -71,6 +71,7 @@ module _ {D S K : Type 0} (disk_says : DiskSays D) (sink_says : SinkSays K) (bef
     (journal_is : after.ended.journal ≡ left_journal) (archive_is : after.ended.archive ≡ left_archive) where
   -- the run of files that weren't opened
   pub unopened_of : (fault : OpenFault) → IsToldAlone sink_says before.out after.out after.ended → after.ended.cause ≡ cause_by fault
+      → StillTells (disk_says.seen before.journal) (disk_says.seen left_journal) → StillTells (disk_says.seen before.archive) (disk_says.seen left_archive)
       → NoMore (disk_says.may_leave before.journal) (disk_says.may_leave left_journal) → NoMore (disk_says.may_leave before.archive) (disk_says.may_leave left_archive) → LeavesOnly disk_says before.journal left_journal (disk_says.may_leave before.journal) → LeavesOnly disk_says before.archive left_archive (disk_says.may_leave before.archive)
       → ((files : Files) → disk_says.seen before.journal files → fault ≡ Unmade → length (files 0) ≡ 0)
       → ((files : Files) → disk_says.seen before.journal files → length (files 0) ≡ 0 → (fault ≡ Unmade) ⊎ SaysNothing fault)
@@ -80,8 +81,10 @@ module _ {D S K : Type 0} (disk_says : DiskSays D) (sink_says : SinkSays K) (bef
       → (fault ≢ DiskFault → HasSynced disk_says before.journal left_journal × HasSynced disk_says before.archive left_archive)
       → (fault ≢ DiskFault → (disk_says.faults left_journal ≡ disk_says.faults before.journal) × (disk_says.faults left_archive ≡ disk_says.faults before.archive))
       → IsUnopened disk_says sink_says before after
-  unopened_of fault told is journal_images archive_images any_moment archive_any_moment unmade exactly stands damaged causes synced unfailed = record {
+  unopened_of fault told is journal_told archive_told journal_images archive_images any_moment archive_any_moment unmade exactly stands damaged causes synced unfailed = record {
     told = told;
+    journal_told = rw journal_is journal_told;
+    archive_told = rw archive_is archive_told;
     journal_images = rw journal_is journal_images;
     archive_images = rw archive_is archive_images;
     any_moment = rw journal_is any_moment;

@@ -6,14 +6,15 @@ use Rattle.outside_api.specs.Count.{HasRisen}
 use Rattle.outside_api.specs.Says.{DiskSays, SourceSays, SinkSays}
 use Rattle.depot_rows.specs.depot_model.Deeds.{Deed}
 use Rattle.depot_rows.specs.depot_model.Order.{IsOrder}
-use Rattle.depot_rows.specs.depot_model.Places.{Placed}
 use Rattle.depot_rows.specs.depot_model.declared.order.Place.{Place}
 use Rattle.depot_rows.specs.depot_model.declared.request.Session.{Session}
 use Rattle.depot_runs.specs.Run.{placed}
 use Rattle.party_threads.specs.replica_turns.Along.{IsToldOutput}
-use Rattle.party_threads.specs.replica_turns.Master.{Past}
+use Rattle.party_threads.specs.replica_turns.Master.{CanBeFollowed, Past}
 use Rattle.party_threads.specs.run_parties.Replicas.{AreReplicasServed, AreReplicasTold}
 use Rattle.party_threads.specs.run_parties.Served.{AreServed, IsEnd, AreEnds as TurnsEnd, session_counts, total_of}
+use Rattle.party_threads.specs.serial_depot.Running.{HasRun}
+use Rattle.party_threads.specs.serial_depot.declared.depot.SerialDepot.{SerialDepot}
 use Rattle.session_loop.specs.Reading.{IsAsked}
 use Rattle.session_loop.specs.declared.reading.ReplicaScript.{ReplicaScript}
 use Rattle.session_loop.specs.declared.session.SessionRun.{SessionRun}
@@ -167,9 +168,9 @@ module _ {S K : Type 0} (source_says : SourceSays S) (sink_says : SinkSays K) wh
             subst (λ (r : SessionRun). T r (outputs name) (sink_says.given party.sink)) (sym its_run)
             (subst (λ (o : Option (List ℕ)). T f.run (outputs name) o) (sym sink_is) (subst (λ (o : Option (List ℕ)). T f.run o (sink_says.given f.sink)) f.pair.gives own))
 
-        pub run_from : (has_run : List Deed → List Placed → Type 0) (IsOrdered : Ordering) → has_run start (map (placed sessions) order) → IsOrdered sessions replicas start order runs
-            → IsRunFrom disk_says source_says sink_says may_give since start has_run IsOrdered began inputs outputs names order lost (ended_parties 1 runs ends sinks) sources
-        run_from has_run IsOrdered ran ordered =
+        pub run_from : (depot : SerialDepot D) (IsOrdered : Ordering) → HasRun disk_says depot since start (map (placed sessions) order) → ((past : Past) → began past → CanBeFollowed disk_says past start (map (placed sessions) order) depot)
+            → IsOrdered sessions replicas start order runs → IsRunFrom disk_says source_says sink_says may_give since start depot IsOrdered began inputs outputs names order lost (ended_parties 1 runs ends sinks) sources
+        run_from depot IsOrdered ran followed ordered =
             let P : List SessionRun → Type 0 = λ rs. IsOrder may_give (session_counts replicas rs) order in
             let Q : List SessionRun → Type 0 = λ rs. IsOrdered sessions replicas start order rs in
             record {
@@ -188,13 +189,14 @@ module _ {S K : Type 0} (source_says : SourceSays S) (sink_says : SinkSays K) wh
               ran = ran;
               ordered = subst Q (sym (runs_are 1 runs ends sinks runs_count ends_count)) ordered;
               told = told_at;
+              followed = followed;
             }
 
 -- where a run began is said by less
 module _ {D S K : Type 0} (disk_says : DiskSays D) (source_says : SourceSays S) (sink_says : SinkSays K) (may_give : ℕ → Type 0) (since : ℕ) (start : List Deed) where
-  pub began_from : (has_run : List Deed → List Placed → Type 0) (IsOrdered : Ordering) (began other : Past → Type 0) (inputs outputs : List ℕ → Option (List ℕ)) (names : List (List ℕ)) (order : List Place) (lost : Bool) (parties : List (PartyEnd K)) (sources : List S)
+  pub began_from : (depot : SerialDepot D) (IsOrdered : Ordering) (began other : Past → Type 0) (inputs outputs : List ℕ → Option (List ℕ)) (names : List (List ℕ)) (order : List Place) (lost : Bool) (parties : List (PartyEnd K)) (sources : List S)
       → ((past : Past) → other past → began past)
-      → IsRunFrom disk_says source_says sink_says may_give since start has_run IsOrdered began inputs outputs names order lost parties sources
-      → IsRunFrom disk_says source_says sink_says may_give since start has_run IsOrdered other inputs outputs names order lost parties sources
-  began_from has_run IsOrdered began other inputs outputs names order lost parties sources leads r =
-      record { headline = r.headline; ran = r.ran; ordered = r.ordered; told = λ past b. r.told past (leads past b) }
+      → IsRunFrom disk_says source_says sink_says may_give since start depot IsOrdered began inputs outputs names order lost parties sources
+      → IsRunFrom disk_says source_says sink_says may_give since start depot IsOrdered other inputs outputs names order lost parties sources
+  began_from depot IsOrdered began other inputs outputs names order lost parties sources leads r =
+      record { headline = r.headline; ran = r.ran; ordered = r.ordered; told = λ past b. r.told past (leads past b); followed = λ past b. r.followed past (leads past b) }

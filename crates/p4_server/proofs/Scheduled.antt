@@ -19,6 +19,9 @@ use Rattle.recovery.specs.Rules.{DeletesAreUnplaced}
 use Rattle.recovery.specs.Standing.{StandFor}
 use Rattle.recovery.specs.declared.open.Opened.{Opened}
 use Rattle.party_threads.specs.depot_commit.Holding.{generation_in, AllHaveContents, KeepContents, StandsWith}
+use Rattle.replica_turns.specs.Master.{CanBeFollowed, Past}
+use Rattle.replica_turns.specs.Written.{AreWritten, Leave, PairGoesOn}
+use Rattle.replica_turns.proofs.Exits.{leaves_written, pair_stands}
 use Rattle.party_threads.specs.serial_depot.Running.{CanTake, HasRun}
 use Rattle.party_threads.specs.serial_depot.declared.depot.SerialDepot.{SerialDepot}
 use Rattle.party_threads.proofs.depot_commit.Kept.{kept_leads, kept_now}
@@ -31,11 +34,10 @@ use Rattle.p4_server.specs.declared.party.NotRun.TheVariants.{Doors, Memory}
 use Rattle.p4_server.specs.Files.{IsStart, HasOpened, PairIsKept}
 use Rattle.p4_server.specs.Headline.{AreEnds, IsRunFrom, Ordering}
 use Rattle.p4_server.specs.Outside.{After, Before, Outside}
-use Rattle.p4_server.specs.Runs.{AreKept, IsRun, unrun_cause}
-use Rattle.p4_server.specs.Telling.{IsReport, IsUntold}
-use Rattle.p4_server.specs.Written.{AreWritten}
+use Rattle.p4_server.specs.Runs.{AreKept, IsRun, IsShut, unrun_cause}
+use Rattle.p4_server.specs.Telling.{IsReport, IsToldAlone, IsUntold}
 use Rattle.p4_server.proofs.FaultPlaces.{caused_since, rose_since}
-use Rattle.p4_server.proofs.Contents.{contents_opened, deletes_opened, pair_stands}
+use Rattle.p4_server.proofs.Contents.{contents_opened, deletes_opened}
 use Rattle.p4_server.proofs.Openings.{read_at_start}
 
 module _ {D : Type 0} (disk_says : DiskSays D) where
@@ -139,6 +141,11 @@ module _ {D : Type 0} (disk_says : DiskSays D) where
 
 -- ---- the end
 
+-- what such a depot leaves, once it is closed, goes on from what was done before
+pub leaves_of : {D : Type 0} (disk_says : DiskSays D) (journal archive : D) (depot : SerialDepot D) (since : ℕ) → journal ≡ disk_of depot.journal → archive ≡ archives.disk_of depot.archive → (d : List Deed) (places : List Placed) → HasRun disk_says depot since d places
+    → (past : Past) → CanBeFollowed disk_says past d places depot → Leave disk_says journal archive (PairGoesOn past d places)
+leaves_of disk_says journal archive depot since is archive_is d places ran past followed = rw (is, archive_is) (leaves_written disk_says past d places since depot ran followed.0 followed.1)
+
 module _ {D S K H : Type 0} (outside : Outside D S K H) (old_doors new_doors : H) (before : Before D K) (after : After D S K) (IsOrdered : Ordering) (names : List (List ℕ)) where
   abbrev Kept : D → List Deed → List Placed → Type 0
   Kept opened d places = AreKept outside old_doors new_doors before after IsOrdered names opened d places
@@ -153,14 +160,14 @@ module _ {D S K H : Type 0} (outside : Outside D S K H) (old_doors new_doors : H
   -- the parties were run over the depot
   pub run_of : (depot : SerialDepot D) (opened : D) (opened_faults opened_contents : ℕ) (order : List Place) (lost : Bool) (parties : List (PartyEnd K)) (sources : List S) → after.ended.journal ≡ disk_of depot.journal → after.ended.archive ≡ archives.disk_of depot.archive → HasOpened outside.disk before.journal before.archive opened → after.ended.order ≡ order
       → AreEnds outside.source outside.sink (outside.doors.input old_doors) names parties sources
-      → ((d : List Deed) → IsStart outside.disk before.journal before.archive d → IsRunFrom outside.disk outside.source outside.sink outside.may_give (outside.disk.moment opened) d (HasRun outside.disk depot (outside.disk.moment opened)) IsOrdered (AreWritten outside.disk before.journal before.archive) (outside.doors.input old_doors) (outside.doors.output old_doors) names order lost parties sources)
+      → ((d : List Deed) → IsStart outside.disk before.journal before.archive d → IsRunFrom outside.disk outside.source outside.sink outside.may_give (outside.disk.moment opened) d depot IsOrdered (AreWritten outside.disk before.journal before.archive) (outside.doors.input old_doors) (outside.doors.output old_doors) names order lost parties sources)
       → outside.disk.faults before.journal ≤ opened_faults → outside.disk.faults before.archive ≤ opened_contents
       → AreCaused opened_faults (outside.disk.faults (disk_of depot.journal)) opened_contents (outside.disk.faults (archives.disk_of depot.archive)) [] order
       → (lost ≡ true → HasRisen opened_faults (outside.disk.faults (disk_of depot.journal)) ⊎ HasRisen opened_contents (outside.disk.faults (archives.disk_of depot.archive)))
       → IsReport outside.sink before.out after.out after.ended order parties sources lost ⊎ IsUntold after.ended
       → IsRun outside old_doors new_doors before after IsOrdered names
   run_of depot opened opened_faults opened_contents order lost parties sources journal_is archive_is opens order_is ends runs no_fewer contents_no_fewer counts lost_rose told =
-      let P : List Place → Type 0 = λ o. (d : List Deed) → IsStart outside.disk before.journal before.archive d → IsRunFrom outside.disk outside.source outside.sink outside.may_give (outside.disk.moment opened) d (HasRun outside.disk depot (outside.disk.moment opened)) IsOrdered (AreWritten outside.disk before.journal before.archive) (outside.doors.input old_doors) (outside.doors.output old_doors) names o lost parties sources in
+      let P : List Place → Type 0 = λ o. (d : List Deed) → IsStart outside.disk before.journal before.archive d → IsRunFrom outside.disk outside.source outside.sink outside.may_give (outside.disk.moment opened) d depot IsOrdered (AreWritten outside.disk before.journal before.archive) (outside.doors.input old_doors) (outside.doors.output old_doors) names o lost parties sources in
       let all = subst P (sym order_is) runs in
       record {
         parties = parties;
@@ -171,11 +178,32 @@ module _ {D S K H : Type 0} (outside : Outside D S K H) (old_doors new_doors : H
         lost = lost;
         lost_rose = λ is. rw (journal_is, archive_is)
             (rose_since (outside.disk.faults before.journal) opened_faults (outside.disk.faults (disk_of depot.journal)) (outside.disk.faults before.archive) opened_contents (outside.disk.faults (archives.disk_of depot.archive)) no_fewer contents_no_fewer (lost_rose is));
-        run = λ d start. record { headline = (all d start).headline; ordered = (all d start).ordered; told = (all d start).told; kept = are_kept depot opened journal_is archive_is d _ (all d start).ran };
+        run = λ d start. record {
+          headline = (all d start).headline;
+          ordered = (all d start).ordered;
+          told = (all d start).told;
+          kept = are_kept depot opened journal_is archive_is d _ (all d start).ran;
+          goes_on = λ past w. leaves_of outside.disk after.ended.journal after.ended.archive depot (outside.disk.moment opened) journal_is archive_is d _ (all d start).ran past ((all d start).followed past w);
+        };
         fault_places = rw (journal_is, archive_is, order_is)
             (caused_since (outside.disk.faults before.journal) opened_faults (outside.disk.faults (disk_of depot.journal)) (outside.disk.faults before.archive) opened_contents (outside.disk.faults (archives.disk_of depot.archive)) order no_fewer contents_no_fewer counts);
         told = elim told [ inl report ↦ inl (report.parties_are, report.sources_are, report.told) | inr untold ↦ inr untold ];
       }
+
+  -- no party was run
+  pub shut_of : (depot : SerialDepot D) (opened : D) → after.ended.journal ≡ disk_of depot.journal → after.ended.archive ≡ archives.disk_of depot.archive → HasOpened outside.disk before.journal before.archive opened
+      → IsToldAlone outside.sink before.out after.out after.ended → ((after.ended.cause ≡ causes.Fault) × HasRisen (outside.doors.faults old_doors) (outside.doors.faults new_doors)) ⊎ (after.ended.cause ≡ causes.Memory)
+      → ((d : List Deed) → IsStart outside.disk before.journal before.archive d → HasRun outside.disk depot (outside.disk.moment opened) d [])
+      → ((d : List Deed) → IsStart outside.disk before.journal before.archive d → HasRun outside.disk depot (outside.disk.moment opened) d [] → (past : Past) → AreWritten outside.disk before.journal before.archive past → CanBeFollowed outside.disk past d [] depot)
+      → IsShut outside old_doors new_doors before after IsOrdered names
+  shut_of depot opened is archive_is opens told why runs follows = record {
+    told = told;
+    why = why;
+    opened = opened;
+    is_opened = opens;
+    kept = λ d start. are_kept depot opened is archive_is d [] (runs d start);
+    goes_on = λ d start past w. leaves_of outside.disk after.ended.journal after.ended.archive depot (outside.disk.moment opened) is archive_is d [] (runs d start) past (follows d start (runs d start) past w);
+  }
 
 -- why the parties weren't run
 pub why_unrun : (cause : Cause) (before now : ℕ) (why : NotRun) → cause ≡ unrun_cause why → (why ≡ Doors → HasRisen before now) → ((cause ≡ causes.Fault) × HasRisen before now) ⊎ (cause ≡ causes.Memory)

@@ -1,6 +1,6 @@
 -- What the mode `checkpoint` promises: it begins the next generation of the files, and asks for no rights (Command-Line Reference, "p4 admin"; that it
 -- is the first command of party 0 is this project's own choice).
-use Rattle.std.specs.Prelude.{◌≡◌, ◌≢◌, ◌⊎◌, ℕ, Bool, true, false, List, [], ◌∷◌}
+use Rattle.std.specs.Prelude.{◌≡◌, ◌≢◌, ◌⊎◌, ℕ, Bool, true, false, List, [], ◌∷◌, Option, Some, None}
 use Rattle.outside_api.specs.Count.{HasRisen}
 use Rattle.outside_api.specs.Disk.{Files}
 use Rattle.outside_api.specs.Says.{DiskSays, SinkSays}
@@ -9,12 +9,14 @@ use Rattle.depot_rows.specs.depot_model.Deeds.{Deed}
 use Rattle.disk_journal.specs.Images.{generation_of}
 use Rattle.recovery.specs.Standing.{StandFor}
 use Rattle.depot_checkpoint.specs.Taking.{StandsBeforeOrAfter, checkpointed, next_generation}
+use Rattle.replica_turns.specs.Master.{Past}
+use Rattle.replica_turns.specs.Written.{IsWrittenAfter}
 use Rattle.wire_text.specs.Giving.{GotFront}
 use Rattle.end_lines.specs.Lines.{cause_line, generation_line}
 use Rattle.end_lines.specs.Telling.{OutGot}
 use Rattle.end_lines.specs.declared.cause.Cause.TheVariants as causes
 use Rattle.p4_server.specs.declared.ended.Ended.{Ended}
-use Rattle.p4_server.specs.Files.{IsStart, EachPair, HasOpened, DiskOrOutRose, DiskRose, DisksStand}
+use Rattle.p4_server.specs.Files.{IsStart, EachPair, GoOn, HasOpened, DiskOrOutRose, DiskRose, DisksStand}
 use Rattle.p4_server.specs.Opening.{IsUnopened}
 use Rattle.p4_server.specs.Outside.{After, Before}
 use Rattle.p4_server.specs.Telling.{IsUnrun}
@@ -37,6 +39,15 @@ IsLine sink_says old_out new_out ended line =
 abbrev pub BeforeOrAfter : List Deed → Files → Files → Type 0
 BeforeOrAfter d j a = StandsBeforeOrAfter d a j
 
+-- a generation that was begun is one change more
+abbrev pub one_if : Option ℕ → ℕ
+one_if None = 0
+one_if (Some generation) = 1
+
+-- the pair is as it was written before, or with the beginning of the next generation
+abbrev pub BeginsOrNot : Past → List Deed → Files → Files → Type 0
+BeginsOrNot past d j a = IsWrittenAfter past d [] 0 d j a ⊎ IsWrittenAfter past d [] 1 (checkpointed d) j a
+
 module _ {D S K : Type 0} (disk_says : DiskSays D) (sink_says : SinkSays K) (may_give : ℕ → Type 0) (before : Before D K) (after : After D S K) where
   -- Each pair of images stands by the one; and each image that the journal's disk left at any moment since it was opened, with each image of the archive's
   -- disk, by the other.
@@ -51,6 +62,7 @@ module _ {D S K : Type 0} (disk_says : DiskSays D) (sink_says : SinkSays K) (may
     pub opened : D
     pub is_opened : HasOpened disk_says before.journal before.archive opened
     pub kept : (d : List Deed) → IsStart disk_says before.journal before.archive d → AreKept opened (StandFor d) (StandFor d)
+    pub goes_on : GoOn disk_says before after (λ past d. IsWrittenAfter past d [] 0 d)
 
   -- The checkpoint has its place, and `out` the line of the generation behind that of the root, which is the limit's exactly behind generation 4,095. The files
   -- stand for the depot after the deeds of `admin checkpoint`, with no rights asked.
@@ -62,6 +74,7 @@ module _ {D S K : Type 0} (disk_says : DiskSays D) (sink_says : SinkSays K) (may
     pub opened : D
     pub is_opened : HasOpened disk_says before.journal before.archive opened
     pub kept : (d : List Deed) → IsStart disk_says before.journal before.archive d → AreKept opened (StandFor (checkpointed d)) (BeforeOrAfter d)
+    pub goes_on : GoOn disk_says before after (λ past d. IsWrittenAfter past d [] (one_if (next_generation generation)) (checkpointed d))
 
   -- A disk failed while the generation was begun, and `out` got the line of a fault alone. The place is a fault, and what it would have done is in doubt.
   pub record IsInDoubt : Type 0 where
@@ -72,6 +85,7 @@ module _ {D S K : Type 0} (disk_says : DiskSays D) (sink_says : SinkSays K) (may
     pub opened : D
     pub is_opened : HasOpened disk_says before.journal before.archive opened
     pub kept : (d : List Deed) → IsStart disk_says before.journal before.archive d → AreKept opened (BeforeOrAfter d) (BeforeOrAfter d)
+    pub goes_on : GoOn disk_says before after BeginsOrNot
 
   pub record Checkpoints : Type 0 where
     pub ends : IsUnopened disk_says sink_says before after ⊎ (IsUntaken ⊎ (IsTaken ⊎ IsInDoubt))

@@ -7,6 +7,8 @@ use Rattle.depot_rows.specs.depot_model.Deeds.{Deed}
 use Rattle.depot_runs.specs.Kept.{IsKept}
 use Rattle.depot_rows.specs.depot_model.Places.{Placed}
 use Rattle.depot_rows.specs.table_changes.Changed.{AllRows}
+use Rattle.replica_turns.specs.Master.{Past}
+use Rattle.replica_turns.specs.Written.{AreWritten, Leave}
 use Rattle.recovery.specs.Contents.{HoldWhole}
 use Rattle.recovery.specs.Looking.{OnlyReads}
 use Rattle.recovery.specs.Opening.{HasSynced, LooksOnly}
@@ -51,6 +53,10 @@ module _ {D S K : Type 0} (disk_says : DiskSays D) (before : Before D K) (after 
   pub record DisksStand : Type 0 where
     pub journal : disk_says.faults after.ended.journal ≡ disk_says.faults before.journal
     pub archive : disk_says.faults after.ended.archive ≡ disk_says.faults before.archive
+
+  -- From each depot for which the files stood, and each history as which they were written, both disks tell what they read, and each pair of images is so.
+  abbrev pub GoOn : (Past → List Deed → Files → Files → Type 0) → Type 0
+  GoOn IsSo = (d : List Deed) → IsStart disk_says before.journal before.archive d → (past : Past) → AreWritten disk_says before.journal before.archive past → Leave disk_says after.ended.journal after.ended.archive (IsSo past d)
 
   -- Both disks read as before, and a crash leaves what they read.
   pub record BothSynced : Type 0 where

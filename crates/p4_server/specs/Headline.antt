@@ -3,16 +3,17 @@ use Rattle.std.specs.Prelude.{◌≡◌, ◌≤◌, ℕ, ◌+◌, Bool, true, fa
 use Rattle.outside_api.specs.Count.{HasRisen}
 use Rattle.outside_api.specs.Says.{DiskSays, SourceSays, SinkSays}
 use Rattle.depot_rows.specs.depot_model.Deeds.{Deed}
-use Rattle.depot_rows.specs.depot_model.Places.{Placed}
 use Rattle.depot_runs.specs.Run.{placed}
 use Rattle.depot_rows.specs.depot_model.declared.order.Place.{Place}
 use Rattle.depot_rows.specs.depot_model.declared.request.Session.{Session}
 use Rattle.depot_rows.specs.depot_model.Order.{IsOrder}
 use Rattle.party_threads.specs.replica_turns.Along.{IsToldOutput}
 use Rattle.party_threads.specs.replica_turns.Going.{IsReplicaOutput}
-use Rattle.party_threads.specs.replica_turns.Master.{Past}
+use Rattle.party_threads.specs.replica_turns.Master.{CanBeFollowed, Past}
 use Rattle.party_threads.specs.run_parties.Replicas.{AreLost}
 use Rattle.party_threads.specs.run_parties.Served.{session_counts, total_of}
+use Rattle.party_threads.specs.serial_depot.Running.{HasRun}
+use Rattle.party_threads.specs.serial_depot.declared.depot.SerialDepot.{SerialDepot}
 use Rattle.session_loop.specs.declared.reading.ReadSession.{ReadSession}
 use Rattle.session_loop.specs.declared.reading.ReplicaScript.{ReplicaScript}
 use Rattle.session_loop.specs.declared.session.SessionRun.{SessionRun}
@@ -95,10 +96,11 @@ module _ {D S K : Type 0} (disk_says : DiskSays D) (source_says : SourceSays S) 
       (i : ℕ) (name : List ℕ) (script : ReplicaScript) (party : PartyEnd K) → slice_get names i ≡ Some name → slice_get replicas i ≡ Some (Some script) → slice_get parties i ≡ Some party
       → IsToldOutput past start (map (placed sessions) order) may_give (i + 1) script (run_of party).commands (run_of party).failed (outputs name) (sink_says.given party.sink)
 
-  -- The headline, who took the commands has run their places, and the order came about so. Where the run began over a depot with such changes before it, the
-  -- replies of replicas are those for numbers of changes.
-  pub record IsRunFrom (has_run : List Deed → List Placed → Type 0) (IsOrdered : Ordering) (began : Past → Type 0) (inputs outputs : List ℕ → Option (List ℕ)) (names : List (List ℕ)) (order : List Place) (lost : Bool) (parties : List (PartyEnd K)) (sources : List S) : Type 0 where
+  -- The headline, the depot has run its places, and the order came about so. Where the run began over a depot with such changes before it, the replies of
+  -- replicas are those for numbers of changes, and they can follow the depot on.
+  pub record IsRunFrom (depot : SerialDepot D) (IsOrdered : Ordering) (began : Past → Type 0) (inputs outputs : List ℕ → Option (List ℕ)) (names : List (List ℕ)) (order : List Place) (lost : Bool) (parties : List (PartyEnd K)) (sources : List S) : Type 0 where
     pub headline : IsHeadline inputs outputs names order lost parties sources
-    pub ran : has_run start (map (placed headline.sessions) order)
+    pub ran : HasRun disk_says depot since start (map (placed headline.sessions) order)
     pub ordered : IsOrdered headline.sessions headline.replicas start order (map run_of parties)
     pub told : (past : Past) → began past → AreRepliesTold past outputs names headline.sessions headline.replicas order parties
+    pub followed : (past : Past) → began past → CanBeFollowed disk_says past start (map (placed headline.sessions) order) depot

@@ -10,9 +10,9 @@ pub mod Dump
 pub mod Parties
 pub mod Checkpoint
 pub mod Headline
+pub mod Histories
 pub mod Runs
 pub mod Schedule
 pub mod Serve
 pub mod Load
 pub mod Promise
-pub mod Written

@@ -2,7 +2,7 @@
 -- prints the figures of the depot after it (this project's own choice).
 use Rattle.std.specs.Prelude.{◌≡◌, ◌≢◌, ◌⊎◌, ◌≤◌, ℕ, ◌==◌, List, [], ◌∷◌, length, map, Option, if◌then◌else◌}
 use Rattle.outside_api.specs.Count.{HasRisen}
-use Rattle.outside_api.specs.Disk.{Files}
+use Rattle.outside_api.specs.Disk.{Files, StillTells}
 use Rattle.outside_api.specs.Says.{DiskSays, SinkSays}
 use Rattle.outside_api.specs.Told.{extended}
 use Rattle.depot_figures.specs.Figures.{bytes_in, changes_in, live_files_in}
@@ -17,6 +17,8 @@ use Rattle.load_script.specs.Script.{script_of}
 use Rattle.load_script.specs.declared.lines.LoadFigures.{LoadFigures}
 use Rattle.load_session.specs.Loading.{IsAskedBy, load_session, numbers_from}
 use Rattle.recovery.specs.Standing.{StandFor}
+use Rattle.replica_turns.specs.Master.{Past}
+use Rattle.replica_turns.specs.Written.{AreWritten, Leave, PairGoesOn, WasWritten, nothing_done}
 use Rattle.session_loop.specs.Asking.{commands_of}
 use Rattle.session_loop.specs.Served.{AreCaused}
 use Rattle.wire_text.specs.Giving.{GotFront}
@@ -27,7 +29,7 @@ use Rattle.end_lines.specs.Telling.{OutGot}
 use Rattle.end_lines.specs.declared.cause.Cause.{Cause}
 use Rattle.end_lines.specs.declared.cause.Cause.TheVariants as causes
 use Rattle.p4_server.specs.Ends.{has_fault_place}
-use Rattle.p4_server.specs.Files.{IsStart, EachPair, HasOpened, PairIsKept, DiskOrOutRose, DiskRose, DisksStand, BothOnlyRead}
+use Rattle.p4_server.specs.Files.{IsStart, EachPair, GoOn, HasOpened, PairIsKept, DiskOrOutRose, DiskRose, DisksStand, BothOnlyRead}
 use Rattle.p4_server.specs.Init.{HasOnlyMade}
 use Rattle.p4_server.specs.Opening.{IsUnopened}
 use Rattle.p4_server.specs.Outside.{After, Before}
@@ -85,13 +87,15 @@ module _ {D S K : Type 0} (disk_says : DiskSays D) (sink_says : SinkSays K) (may
     pub opened : D
     pub is_opened : HasOpened disk_says before.journal before.archive opened
     pub kept : (d : List Deed) → IsStart disk_says before.journal before.archive d → AreKept opened d []
+    pub goes_on : GoOn disk_says before after (λ past d. PairGoesOn past d [])
 
-  -- The places of the order, from that depot on: they are of the script's commands, each of which has its place unless there was no memory, in turn; and
-  -- the files are kept for them.
+  -- The places of the order, from that depot on: they are of the script's commands, each of which has its place unless there was no memory, in turn; the
+  -- files are kept for them, and go on from what was done before.
   pub record IsLoadKept (opened : D) (d : List Deed) : Type 0 where
     pub places : IsOrder may_give (load_commands seed count ∷ []) after.ended.order
     pub each : after.ended.cause ≢ causes.Memory → map (λ place. place.number) after.ended.order ≡ numbers_from 1 (load_commands seed count)
     pub kept : AreKept opened d (map (placed (load_session seed count ∷ [])) after.ended.order)
+    pub goes_on : (past : Past) → AreWritten disk_says before.journal before.archive past → Leave disk_says after.ended.journal after.ended.archive (PairGoesOn past d (map (placed (load_session seed count ∷ [])) after.ended.order))
 
   -- the figures are those of the depot after the places, whatever the depot at the start
   abbrev pub AreFigures : LoadFigures → Type 0
@@ -127,10 +131,14 @@ module _ {D : Type 0} (disk_says : DiskSays D) (old_journal old_archive journal 
     pub was_there : (files : Files) → disk_says.seen old_journal files → length (files 0) ≢ 0
     pub untouched : BothOnlyRead disk_says old_journal journal old_archive archive
 
-  -- The root was empty, and whatever a crash leaves stands for the empty depot.
+  -- The root was empty, and whatever a crash leaves stands for the empty depot, and was written from the first change on. Where the disks told what they read
+  -- they still do.
   pub record WereMade : Type 0 where
+    pub journal_told : StillTells (disk_says.seen old_journal) (disk_says.seen journal)
+    pub archive_told : StillTells (disk_says.seen old_archive) (disk_says.seen archive)
     pub was_empty : (files : Files) → disk_says.seen old_journal files → length (files 0) ≡ 0
     pub empty : EachPair disk_says journal archive (StandFor [])
+    pub written : EachPair disk_says journal archive (WasWritten nothing_done)
 
 module _ {D S K : Type 0} (disk_says : DiskSays D) (sink_says : SinkSays K) (may_give : ℕ → Type 0) (before : Before D K) (after : After D S K) (seed count : ℕ) where
   -- A disk failed before the files were there: nothing was run, and the disks are as making leaves them.

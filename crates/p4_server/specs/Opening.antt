@@ -1,6 +1,6 @@
 -- What a run promises whose files weren't opened.
 use Rattle.std.specs.Prelude.{◌≡◌, ◌≢◌, ◌⊎◌, ℕ, List, length}
-use Rattle.outside_api.specs.Disk.{Files, NoMore}
+use Rattle.outside_api.specs.Disk.{Files, NoMore, StillTells}
 use Rattle.outside_api.specs.Moments.{LeavesOnly}
 use Rattle.outside_api.specs.Says.{DiskSays, SinkSays}
 use Rattle.depot_rows.specs.depot_model.Deeds.{Deed}
@@ -35,9 +35,11 @@ module _ {D S K : Type 0} (disk_says : DiskSays D) (sink_says : SinkSays K) (bef
     pub cause_is : after.ended.cause ≡ causes.Fault
     pub risen : DiskRose disk_says before after
 
-  -- The files weren't opened, and each image, at every moment, is one that the disks had. A count of the disks rises only where a fault is told.
+  -- The files weren't opened, and each image, at every moment, is one that the disks had; where they told what they read they still do. A count of the disks rises only where a fault is told.
   pub record IsUnopened : Type 0 where
     pub told : IsToldAlone sink_says before.out after.out after.ended
+    pub journal_told : StillTells (disk_says.seen before.journal) (disk_says.seen after.ended.journal)
+    pub archive_told : StillTells (disk_says.seen before.archive) (disk_says.seen after.ended.archive)
     pub journal_images : NoMore (disk_says.may_leave before.journal) (disk_says.may_leave after.ended.journal)
     pub archive_images : NoMore (disk_says.may_leave before.archive) (disk_says.may_leave after.ended.archive)
     pub any_moment : LeavesOnly disk_says before.journal after.ended.journal (disk_says.may_leave before.journal)

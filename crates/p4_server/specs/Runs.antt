@@ -5,7 +5,8 @@ use Rattle.outside_api.specs.Disk.{Files}
 use Rattle.depot_rows.specs.depot_model.Deeds.{Deed}
 use Rattle.depot_rows.specs.depot_model.Places.{Placed}
 use Rattle.depot_runs.specs.Run.{placed}
-use Rattle.party_threads.specs.replica_turns.Master.{Past}
+use Rattle.replica_turns.specs.Master.{Past}
+use Rattle.replica_turns.specs.Written.{AreWritten, Leave, PairGoesOn}
 use Rattle.session_loop.specs.Asking.{asking_of}
 use Rattle.session_loop.specs.Served.{AreCaused}
 use Rattle.end_lines.specs.declared.cause.Cause.{Cause}
@@ -14,13 +15,12 @@ use Rattle.p4_server.specs.declared.ended.PartyEnd.{PartyEnd}
 use Rattle.p4_server.specs.declared.party.NotRun.{NotRun}
 use Rattle.p4_server.specs.declared.party.NotRun.TheVariants.{Doors, Memory}
 use Rattle.p4_server.specs.Ends.{run_of}
-use Rattle.p4_server.specs.Files.{IsStart, EachPair, HasOpened, PairIsKept, DiskRose}
+use Rattle.p4_server.specs.Files.{IsStart, EachPair, GoOn, HasOpened, PairIsKept, DiskRose}
 use Rattle.p4_server.specs.Headline.{AreEnds, AreRepliesTold, IsHeadline, Ordering}
 use Rattle.p4_server.specs.Opening.{IsUnopened}
 use Rattle.p4_server.specs.Outside.{After, Before, Outside}
 use Rattle.p4_server.specs.Parties.{OnlyTheseCome}
 use Rattle.p4_server.specs.Telling.{IsToldAlone, IsTold, IsUntold}
-use Rattle.p4_server.specs.Written.{AreWritten}
 
 -- the cause of an end whose parties weren't run
 abbrev pub unrun_cause : NotRun → Cause
@@ -59,6 +59,7 @@ module _ {D S K H : Type 0} (outside : Outside D S K H) (old_doors new_doors : H
     pub opened : D
     pub is_opened : HasOpened outside.disk before.journal before.archive opened
     pub kept : (d : List Deed) → IsStart outside.disk before.journal before.archive d → AreKept opened d []
+    pub goes_on : GoOn outside.disk before after (λ past d. PairGoesOn past d [])
 
   -- the headline from that depot on, how its order came about, and what the files hold after the places of the order
   pub record IsRunKept (opened : D) (lost : Bool) (parties : List (PartyEnd K)) (sources : List S) (d : List Deed) : Type 0 where
@@ -68,6 +69,8 @@ module _ {D S K H : Type 0} (outside : Outside D S K H) (old_doors new_doors : H
     pub told : (past : Past) → AreWritten outside.disk before.journal before.archive past
         → AreRepliesTold outside.disk outside.source outside.sink outside.may_give (outside.disk.moment opened) d past (outside.doors.output old_doors) names headline.sessions headline.replicas after.ended.order parties
     pub kept : AreKept opened d (map (placed headline.sessions) after.ended.order)
+    -- and it goes on from what was done before
+    pub goes_on : (past : Past) → AreWritten outside.disk before.journal before.archive past → Leave outside.disk after.ended.journal after.ended.archive (PairGoesOn past d (map (placed headline.sessions) after.ended.order))
 
   -- The parties were run, and told; where there was no memory to tell them, their ends are lacking.
   pub record IsRun : Type 0 where

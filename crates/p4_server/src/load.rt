@@ -1,10 +1,20 @@
 //! The mode `load`: the run of a script that is made, and the figures of the depot after it.
 
-ghost use Rattle.std.specs.Prelude.{◌≡◌, List, [], IfOk};
+ghost use Rattle.std.specs.Prelude.{◌≡◌, List, ℕ, [], length, IfOk, OnErr};
+ghost use Rattle.archive_file.specs.Archive.{disk_of as archive_disk_of};
 ghost use Rattle.depot_rows.specs.depot_model.Deeds.{Deed};
 ghost use Rattle.depot_rows.specs.Standing.{Stand};
 ghost use Rattle.depot_rows.specs.table_changes.Changed.{rows_of};
+ghost use Rattle.disk_journal.specs.Stands.{disk_of};
+ghost use Rattle.followed_depot.specs.Following.{HasRunFollowed};
 ghost use Rattle.load_script.specs.Lines.{lines_of};
+ghost use Rattle.load_script.specs.Script.{script_of};
+ghost use Rattle.load_session.specs.Loading.{IsAskedBy, IsLoaded, load_session as session_of};
+ghost use Rattle.replica_turns.specs.Master.{CanBeFollowed, Past};
+ghost use Rattle.party_threads.specs.depot_commit.Growing.{Chronicle};
+ghost use Rattle.party_threads.specs.serial_depot.Running.{CanTake, HasRun};
+ghost use Rattle.session_loop.specs.Asking.{commands_of};
+ghost use Rattle.session_loop.specs.Served.{AreCaused, StandWithoutFaults};
 ghost use Rattle.end_lines.specs.Causes.{status_of};
 ghost use Rattle.p4_server.specs.Load.{GivesFigures, IsFigured, IsLoadTold, Loads, LoadsFiles, end_cause, figures_in, load_cause};
 
@@ -16,12 +26,14 @@ use depot_rows::model::Place;
 use depot_rows::paths::{Sequence, Text};
 use depot_rows::tables::Tables;
 use end_lines::{Cause, give_cause, status_code};
+use followed_depot::{FollowedDepot, Following};
 use load_script::{LoadFigures, load_lines};
 use load_session::{LoadRun, run_load};
 use outside_api::{Clock, Disk, Gate, Sink};
 use recovery::{MakeFault, Opened, make_files, open_files};
 use serial_depot::{Closed, SerialDepot};
 use std::alloc::{AllocError, Global};
+use std::marker::Brand;
 use wire_text::{ScriptEnd, give_all};
 
 /// The figures of the depot of these tables.
@@ -136,6 +148,40 @@ fn ended_load<D, S, K: Sink>(
     }
 }
 
+/// A load that was run, if there was memory for its script, and the depot as it left it.
+#[derive(Drop)]
+struct Loaded<D: Disk> {
+    run: Result<LoadRun, AllocError>,
+    depot: SerialDepot<D>,
+}
+
+/// Runs the script of a seed and a number of steps over a depot, which stays one that replicas may follow.
+fn load_depot<D: Disk, C: Clock, G: Gate, F: Following>(
+    alloc: Global,
+    seed: u32,
+    count: u32,
+    clock: &C,
+    gate: &G,
+    depot: SerialDepot<D>,
+) -> Loaded<D>
+    requires can { CanTake D.says depot }
+    requires began { (past : Past) (start : List Deed) (c : Chronicle) → F.masters past start c → CanBeFollowed D.says past start [] depot }
+    ensures unrun { OnErr result.run (result.depot ≡ depot) }
+    ensures read { IfOk result.run (λ run. IsAskedBy (script_of seed count) (session_of seed count) run.end) }
+    ensures commands { IfOk result.run (λ run. run.commands ≡ length (commands_of (session_of seed count))) }
+    ensures loaded { (since : ℕ) (start : List Deed) → HasRun D.says depot since start [] → IfOk result.run (λ run.
+        IsLoaded (C.says.may_give clock.now) (HasRunFollowed D.says F.masters result.depot since) start (session_of seed count) run.order) }
+    ensures stand { IfOk result.run (λ run. StandWithoutFaults (D.says.faults (disk_of depot.journal)) (D.says.faults (disk_of result.depot.journal)) (D.says.faults (archive_disk_of depot.archive)) (D.says.faults (archive_disk_of result.depot.archive)) [] run.order) }
+    ensures faults { IfOk result.run (λ run. AreCaused (D.says.faults (disk_of depot.journal)) (D.says.faults (disk_of result.depot.journal)) (D.says.faults (archive_disk_of depot.archive)) (D.says.faults (archive_disk_of result.depot.archive)) [] run.order) }
+{
+    let mut followed = FollowedDepot::<D, F>::new(depot);
+    let run = run_load(alloc, seed, count, clock, gate, &mut followed);
+    Loaded {
+        run,
+        depot: followed.depot,
+    }
+}
+
 /// Runs the script of a seed and a number of steps over the files of the depot, and tells the figures.
 fn load_files<D: Disk, S, K: Sink, C: Clock, G: Gate>(
     alloc: Global,
@@ -158,8 +204,10 @@ fn load_files<D: Disk, S, K: Sink, C: Clock, G: Gate>(
         Ok(opened) => opened,
         Err(found) => return end_unopened(alloc, found, out),
     };
-    let mut depot = SerialDepot::new(tables, journal, archive);
-    let run = run_load(alloc, seed, count, clock, gate, &mut depot);
+    let depot = SerialDepot::new(tables, journal, archive);
+    let Loaded { run, depot } = load_depot::<D, C, G, Brand>(
+        alloc, seed, count, clock, gate, depot,
+    );
     let Closed {
         tables,
         journal,

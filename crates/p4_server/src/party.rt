@@ -5,8 +5,7 @@ ghost use Rattle.outside_api.specs.Count.{HasRisen};
 ghost use Rattle.archive_file.specs.Archive.{disk_of as archive_disk_of};
 ghost use Rattle.disk_journal.specs.Stands.{disk_of};
 ghost use Rattle.depot_rows.specs.depot_model.Deeds.{Deed};
-ghost use Rattle.party_threads.specs.replica_turns.Master.{IsMaster};
-ghost use Rattle.party_threads.specs.depot_commit.Growing.{Chronicle};
+ghost use Rattle.party_threads.specs.replica_turns.Master.{CanBeFollowed};
 ghost use Rattle.party_threads.specs.serial_depot.Running.{CanTake, HasRun};
 ghost use Rattle.session_loop.specs.Served.{AreCaused, StandWithoutFaults};
 ghost use Rattle.session_turns.specs.Drawn.{IsDrawn};
@@ -196,7 +195,7 @@ pub fn run_parties<H: Doors, D: Disk, C: Clock, G: Gate>(
     ensures told { IfOk result.run CanBeTold }
     ensures ends { IfOk result.run (λ run. AreEnds H.In.says H.Out.says (H.says.input doors.old) (words_of names.now) (parties_of run) run.sources.items) }
     ensures run { (since : ℕ) (start : List Deed) → HasRun D.says depot since start [] → IfOk result.run (λ run.
-        IsRunFrom D.says H.In.says H.Out.says (C.says.may_give clock.now) since start (HasRun D.says result.depot since) (IsDrawn (C.says.may_give clock.now) seed) (λ past. (c : Chronicle) × IsMaster D.says past start [] depot c) (H.says.input doors.old) (H.says.output doors.old) (words_of names.now) run.order run.lost (parties_of run) run.sources.items) }
+        IsRunFrom D.says H.In.says H.Out.says (C.says.may_give clock.now) since start result.depot (IsDrawn (C.says.may_give clock.now) seed) (λ past. CanBeFollowed D.says past start [] depot) (H.says.input doors.old) (H.says.output doors.old) (words_of names.now) run.order run.lost (parties_of run) run.sources.items) }
     ensures lost { IfOk result.run (λ run. run.lost ≡ true → HasRisen (D.says.faults (disk_of depot.journal)) (D.says.faults (disk_of result.depot.journal)) ⊎ HasRisen (D.says.faults (archive_disk_of depot.archive)) (D.says.faults (archive_disk_of result.depot.archive))) }
     ensures stand { IfOk result.run (λ run. run.lost ≡ false → StandWithoutFaults (D.says.faults (disk_of depot.journal)) (D.says.faults (disk_of result.depot.journal)) (D.says.faults (archive_disk_of depot.archive)) (D.says.faults (archive_disk_of result.depot.archive)) [] run.order) }
     ensures faults { IfOk result.run (λ run. AreCaused (D.says.faults (disk_of depot.journal)) (D.says.faults (disk_of result.depot.journal)) (D.says.faults (archive_disk_of depot.archive)) (D.says.faults (archive_disk_of result.depot.archive)) [] run.order) }

@@ -2,6 +2,7 @@ use Rattle.std.proofs.Common.{◌≡◌, Err, inl, inr}
 use Rattle.recovery.specs.declared.fault.MakeFault.TheVariants.{Made, DiskFault}
 use Rattle.p4_server.proofs.Loadings.{loads_begun, loads_unbegun}
 use Rattle.p4_server.proofs.Mades.{both_only_read}
+use Rattle.p4_server.proofs.Writtens.{made_written}
 use Rattle.p4_server.proofs.load.load.Goals as goal
 
 pub returns-in-Ok-clause-loads : goal.returns-in-Ok-clause-loads
@@ -10,7 +11,7 @@ returns-in-Ok-clause-loads g c =
     loads_begun _ _ _ _ _ c.args.seed c.args.count (record {
       made_journal = c.make_files.new.journal;
       made_archive = c.make_files.new.archive;
-      files = inr (record { was_empty = made.unmade; empty = λ j a j_left a_left. made.empty_depot j a j_left });
+      files = inr (record { journal_told = made.journal_told; archive_told = made.archive_told; was_empty = made.unmade; empty = λ j a j_left a_left. made.empty_depot j a j_left; written = λ j a j_left a_left. made_written j a (made.made j j_left) });
       counts = (made.cause.journal_never_falls, made.cause.archive_never_falls);
       loads = c.load_files.ensures.loads;
     })
@@ -39,6 +40,8 @@ returns-in-Err-DiskFault-clause-loads g c =
       cause_is = end.cause;
       risen = rw (end.journal, end.archive) (failed.cause.risen (λ i. Err (fault i)));
       disks = record {
+        journal_told = rw end.journal failed.journal_told;
+        archive_told = rw end.archive failed.archive_told;
         journal_images = rw end.journal failed.images;
         any_moment = rw end.journal failed.any_moment;
         archive_looks = rw end.archive failed.archive_looks;

@@ -56,7 +56,7 @@ returns-in-Ok-run_sessions-clause-run g c = λ since start ran.
     let run = c.in-Ok-run_sessions.ensures in
     rw c.from_vec.ensures (run_from _ _ _ _ _ _ _ _ _ _ _ _ _ c.in-Ok.ensures.came c.in-Ok-read_scripts.ensures.read run.ends _ _ since start _ _ (run.served since start formed ran) (run.replicas since start formed replicas_formed ran) _
     (λ past began. run.told past since start began.0 formed replicas_formed ran began.1) _ _
-    (run.ran since start formed ran) (run.drawn since start formed ran))
+    (run.ran since start formed ran) (λ past began. run.master past since start began.0 formed ran began.1) (run.drawn since start formed ran))
 
 pub returns-in-Ok-run_sessions-clause-faults : goal.returns-in-Ok-run_sessions-clause-faults
 returns-in-Ok-run_sessions-clause-faults g c = rw c.from_vec.ensures c.in-Ok-run_sessions.ensures.faults

@@ -7,7 +7,7 @@ use Rattle.program_words.specs.Words.{words_of}
 use Rattle.p4_server.proofs.Openings.{opened_of, unopened_of}
 use Rattle.p4_server.proofs.Promises.{parties_run, parties_shut, parties_unopened}
 use Rattle.p4_server.proofs.Ran.{began_from}
-use Rattle.p4_server.proofs.Scheduled.{begins, can_take, are_kept, run_of, why_unrun}
+use Rattle.p4_server.proofs.Scheduled.{begins, can_take, run_of, shut_of, why_unrun}
 use Rattle.p4_server.proofs.Writtens.{opened_master}
 use Rattle.p4_server.proofs.serve.serve.Goals as goal
 
@@ -21,7 +21,7 @@ returns-in-Err-clause-serves g c =
     let opens = c.in-Err.ensures in
     let end = c.end_unopened.ensures in
     parties_unopened _ _ _ _ _ _ (words_of c.args.names.now) refl (unopened_of _ _ _ _ _ _ end.journal end.archive c.in-Err.found.fault end.told end.cause
-    opens.journal_looks.no_more opens.archive_looks.no_more opens.journal_looks.any_moment opens.archive_looks.any_moment opens.unmade opens.exactly (λ j a d j_reads a_reads stand. (opens.stands j a d j_reads a_reads stand).0) opens.damaged opens.cause opens.unopened opens.unfailed)
+    opens.journal_told opens.archive_told opens.journal_looks.no_more opens.archive_looks.no_more opens.journal_looks.any_moment opens.archive_looks.any_moment opens.unmade opens.exactly (λ j a d j_reads a_reads stand. (opens.stands j a d j_reads a_reads stand).0) opens.damaged opens.cause opens.unopened opens.unfailed)
 
 pub returns-in-Ok-run-clause-serves : goal.returns-in-Ok-run-clause-serves
 returns-in-Ok-run-clause-serves g c =
@@ -52,14 +52,11 @@ returns-in-Err-run-clause-serves g c =
     -- what is promised of a disk that may go to another thread, on this one
     let disk = g.met.D.Disk g.world.𝓛 g.world.𝓜 g.world.𝓡 ((λ s x. x), (λ x. x), (λ x. x), λ x. x) in
     let same = served.unrun c.in-Err-run.why c.in-Err-run.is in
-    parties_shut _ _ _ _ _ _ (words_of c.args.names.now) served.only (record {
-      told = end.told;
-      why = why_unrun _ _ _ c.in-Err-run.why (end.cause ∙ c.cause_of_unrun.ensures) (λ e. served.doors (c.in-Err-run.is ∙ ap Err e));
-      opened = opened;
-      is_opened = opened_of _ _ _ c.in-Ok.opened opens.exactly opens.whole opens.journal_looks opens.journal_synced;
-      kept = λ d start. are_kept _ _ _ _ _ _ (words_of c.args.names.now) c.new-depot.result opened
-          (end.journal ∙ (c.close-journal.ensures.journal ∙ ap (λ (depot : SerialDepot g.row.D.Denot). disk_of depot.journal) same))
-          (end.archive ∙ (c.close-journal.ensures.archive ∙ ap (λ (depot : SerialDepot g.row.D.Denot). archives.disk_of depot.archive) same)) d _
-          (begins g.D.Disk.says c.args.journal c.args.archive c.in-Ok.opened c.new-depot.result c.new-depot.ensures opens.«open» opens.journal_synced opens.archive_synced disk.reads_an_image disk.only_now disk.reads_one opens.held
-          (λ j a d j_reads a_reads stand. (opens.stands j a d j_reads a_reads stand).1) d start);
-    })
+    parties_shut _ _ _ _ _ _ (words_of c.args.names.now) served.only (shut_of _ _ _ _ _ _ (words_of c.args.names.now) c.new-depot.result opened
+    (end.journal ∙ (c.close-journal.ensures.journal ∙ ap (λ (depot : SerialDepot g.row.D.Denot). disk_of depot.journal) same))
+    (end.archive ∙ (c.close-journal.ensures.archive ∙ ap (λ (depot : SerialDepot g.row.D.Denot). archives.disk_of depot.archive) same))
+    (opened_of _ _ _ c.in-Ok.opened opens.exactly opens.whole opens.journal_looks opens.journal_synced) end.told
+    (why_unrun _ _ _ c.in-Err-run.why (end.cause ∙ c.cause_of_unrun.ensures) (λ e. served.doors (c.in-Err-run.is ∙ ap Err e)))
+    (begins g.D.Disk.says c.args.journal c.args.archive c.in-Ok.opened c.new-depot.result c.new-depot.ensures opens.«open» opens.journal_synced opens.archive_synced disk.reads_an_image disk.only_now disk.reads_one opens.held
+    (λ j a d j_reads a_reads stand. (opens.stands j a d j_reads a_reads stand).1))
+    (λ d start. opened_master g.D.Disk.says c.args.journal c.args.archive c.in-Ok.opened opens.«open».0 opens.«open».1 opens.journal_synced opens.archive_synced disk.reads_an_image opens.held d start c.new-depot.result c.new-depot.ensures))
