@@ -2,6 +2,7 @@
 use Rattle.std.proofs.Common.{◌≡◌, ◌⊎◌, inl, inr, ◌≤◌, ℕ, List, length, refl, sym, ap, subst, ◌∙◌, arith}
 use Rattle.outside_api.specs.Count.{HasRisen}
 use Rattle.outside_api.specs.Says.{DiskSays, SinkSays}
+use Rattle.depot_rows.specs.table_changes.Changed.{rows_of}
 use Rattle.recovery.specs.declared.fault.OpenFault.{OpenFault}
 use Rattle.recovery.specs.declared.fault.OpenFault.TheVariants.{Unmade, Damaged, DiskFault, Memory}
 use Rattle.replica_chain.specs.Chronicle.{Chronicle}
@@ -69,13 +70,14 @@ module _ {D K : Type 0} (disk_says : DiskSays D) (sink_says : SinkSays K) (up no
 
   -- a node that has all
   pub all_of : (generation changes verified : ℕ) → AgreeWith disk_says up node → ((c : Chronicle) → IsNode disk_says up c → IsSoFar c generation changes) → IsPosition node_last generation changes
-      → AreVerified disk_says node_last verified → TakesAll disk_says up node node_last → IsAllTold disk_says sink_says up node old_out new_out ended generation changes verified → Ends
-  all_of generation changes verified agrees upstream position are all told = inr (record {
+      → rows_of node_last.tables ≡ rows_of up.tables → AreVerified disk_says node_last verified → TakesAll disk_says up node node_last → IsAllTold disk_says sink_says up node old_out new_out ended generation changes verified → Ends
+  all_of generation changes verified agrees upstream position rows are all told = inr (record {
     agrees = agrees;
     generation = generation;
     changes = changes;
     upstream = upstream;
     position = position;
+    rows = rows;
     verified = verified;
     are = are;
     all = all;

@@ -80,6 +80,7 @@ module _ {D : Type 0} (disk_says : DiskSays D) where
   stopped_of up node up_last node_last (causes.NodeShut fault) stopped agrees = stopped
   stopped_of up node up_last node_last (causes.Apart departure) stopped agrees = absurd stopped
   stopped_of up node up_last node_last (causes.Bad place) stopped agrees = (agrees, inl stopped)
+  stopped_of up node up_last node_last causes.Incomplete stopped agrees = absurd stopped
   stopped_of up node up_last node_last causes.Fault stopped agrees = tt
   stopped_of up node up_last node_last causes.Memory stopped agrees = agrees
 
@@ -143,5 +144,6 @@ module _ {D : Type 0} (disk_says : DiskSays D) (only_now : (disk : D) (image : F
     tells = stopped.tells;
     stopped = stopped.stopped;
   }
+  stopped_on up up_mid up_last node node_mid node_last followed fewer causes.Incomplete stopped = stopped
   stopped_on up up_mid up_last node node_mid node_last followed fewer causes.Fault stopped = tt
   stopped_on up up_mid up_last node node_mid node_last followed fewer causes.Memory stopped = tt

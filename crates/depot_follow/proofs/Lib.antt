@@ -3,3 +3,4 @@ mod Opened
 mod Followed
 mod Endings
 mod Copied
+mod Tables

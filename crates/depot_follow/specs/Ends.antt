@@ -16,6 +16,7 @@ status_of (causes.Shut fault) = 2
 status_of (causes.NodeShut fault) = 2
 status_of (causes.Apart departure) = 2
 status_of (causes.Bad place) = 2
+status_of causes.Incomplete = 2
 status_of causes.Fault = 4
 status_of causes.Memory = 5
 

@@ -1,6 +1,6 @@
 -- How a node that is open follows an upstream that is (Server Administrator Guide, "Replication"; that a node has all when it has as many changes as its upstream,
 -- in the same generation, is this project's own choice).
-use Rattle.std.specs.Prelude.{◌≡◌, ◌⊎◌, ◌≤◌, ℕ, List, length, count_by, None, take}
+use Rattle.std.specs.Prelude.{◌≡◌, ◌≢◌, ◌⊎◌, ◌≤◌, ℕ, List, length, count_by, None, take}
 use Rattle.outside_api.specs.Count.{HasRisen}
 use Rattle.outside_api.specs.Disk.{Files}
 use Rattle.outside_api.specs.Says.{DiskSays, SinkSays}
@@ -21,7 +21,6 @@ use Rattle.replica_chain.specs.Chronicle.{Chronicle, changes_of, rows_made, text
 use Rattle.replica_chain.specs.Ends.{HasTexts, IsLooked, link_says}
 use Rattle.replica_chain.specs.Masters.{GoesOnBehindNode, HasAllOf, HasNoFewer, IsBehind}
 use Rattle.replica_chain.specs.Node.{IsNode}
-use Rattle.replica_chain.specs.Opening.{AreWritten}
 use Rattle.replica_chain.specs.Pulling.{HasStopped as IsPullStopped}
 use Rattle.replica_chain.specs.declared.apart.Departure.{Departure}
 use Rattle.replica_chain.specs.declared.fault.NodeFault.{NodeFault}
@@ -63,11 +62,12 @@ pub record BeginsAlike {D : Type 0} (disk_says : DiskSays D) (node : Node D) (th
   pub no_further : spots_end (rows_made mine Rev) ≤ spots_end (rows_made theirs Rev)
   pub same : (image : Files) → disk_says.may_leave (archive_disk_of node.archive) image → take (spots_end (rows_made mine Rev)) (image 0) ≡ take (spots_end (rows_made mine Rev)) (archive 0)
 
--- Each pair of images of these disks stands for each depot for which the upstream's files stand, where those were written from the first change on and the node's
--- archive began as theirs.
+-- Each pair of images of these disks stands for each depot for which files stand that have the upstream's rows, in its generation, and the bytes of its archive,
+-- where these rows are those of its changes and the node's archive began as the upstream's.
 abbrev pub StandAlike : {D : Type 0} → DiskSays D → Node D → Node D → Pair D → Type 0
-StandAlike disk_says up node files = (theirs : Chronicle) (journal archive : Files) → disk_says.seen (archive_disk_of up.archive) archive → IsNode disk_says up theirs → AreWritten theirs journal → BeginsAlike disk_says node theirs archive
-    → (d : List Deed) → StandFor d journal archive → (j a : Files) → disk_says.may_leave files.journal j → disk_says.may_leave files.archive a → StandFor d j a
+StandAlike disk_says up node files = (theirs : Chronicle) (journal archive : Files) → disk_says.seen (archive_disk_of up.archive) archive → IsNode disk_says up theirs → BeginsAlike disk_says node theirs archive
+    → (d : List Deed) (stands : StandFor d journal archive) → stands.rows ≡ rows_of up.tables → stands.was.generation ≡ generation_of_journal up.link.journal
+    → (j a : Files) → disk_says.may_leave files.journal j → disk_says.may_leave files.archive a → StandFor d j a
 
 -- Two nodes were only looked at.
 pub record AreLooked {D : Type 0} (disk_says : DiskSays D) (up node up_last node_last : Node D) : Type 0 where
@@ -107,11 +107,18 @@ pub record IsContentBad {D : Type 0} (disk_says : DiskSays D) (up node : Node D)
   pub as_far : (c : Chronicle) → IsNode disk_says up c → IsSoFar c (generation_of_journal node.link.journal) node.changes
   pub first : (a : Files) → disk_says.seen (archive_disk_of node.archive) a → spots_end (rows_of node.tables Rev) ≤ length (a 0) → IsSpotDamage (a 0) (rows_of node.tables Rev) place
 
+-- The node is as far as the upstream was, and its rows aren't the upstream's. So the upstream's aren't those of its changes, or the node wasn't behind these.
+pub record HasOtherRows {D : Type 0} (disk_says : DiskSays D) (up node node_last : Node D) : Type 0 where
+  pub as_far : (c : Chronicle) → IsNode disk_says up c → IsSoFar c (generation_of_journal node_last.link.journal) node_last.changes
+  pub differ : rows_of node_last.tables ≢ rows_of up.tables
+  pub never_behind : (mine theirs : Chronicle) (bytes : List ℕ) → IsNode disk_says up theirs → IsTold disk_says up.archive bytes → IsBehind disk_says node mine (record { texts = texts_of theirs; bytes = bytes }) → ⊥
+
 -- Why a node hasn't all: its journal departs, and nothing was pulled; or it doesn't, and a pull stopped at that place, or the verification did; or it doesn't, and
--- memory was wanting; or the outside failed.
+-- the node has other rows, or memory was wanting; or the outside failed.
 abbrev pub HasStopped : {D : Type 0} → DiskSays D → Node D → Node D → Node D → Node D → ChainCause → Type 0
 HasStopped disk_says up node up_last node_last (causes.Apart departure) = DepartAt disk_says up node departure × AreLooked disk_says up node up_last node_last
 HasStopped disk_says up node up_last node_last (causes.Bad place) = AgreeWith disk_says up node × (HasPullStopped disk_says up node up_last node_last place ⊎ IsContentBad disk_says up node_last place)
+HasStopped disk_says up node up_last node_last causes.Incomplete = AgreeWith disk_says up node × HasOtherRows disk_says up node node_last
 HasStopped disk_says up node up_last node_last causes.Memory = AgreeWith disk_says up node
 HasStopped disk_says up node up_last node_last causes.Fault = Unit {0}
 HasStopped disk_says up node up_last node_last _ = ⊥
@@ -132,14 +139,15 @@ module _ {D K : Type 0} (disk_says : DiskSays D) (sink_says : SinkSays K) (up no
     pub stopped : HasStopped disk_says up node up_last node_last ended.cause
     pub line : GotLines sink_says old_out new_out (chain_line ended.cause)
 
-  -- The node has as many changes as the upstream, in the same generation, and each content. `out` got the three lines; or it failed, which is a fault, and got a
-  -- front of them.
+  -- The node has as many changes as the upstream, in the same generation, its rows, and each content. `out` got the three lines; or it failed, which is a fault,
+  -- and got a front of them.
   pub record HasAll (node_last : Node D) : Type 0 where
     pub agrees : AgreeWith disk_says up node
     pub generation : ℕ
     pub changes : ℕ
     pub upstream : (c : Chronicle) → IsNode disk_says up c → IsSoFar c generation changes
     pub position : IsPosition node_last generation changes
+    pub rows : rows_of node_last.tables ≡ rows_of up.tables
     pub verified : ℕ
     pub are : AreVerified disk_says node_last verified
     pub all : TakesAll disk_says up node node_last

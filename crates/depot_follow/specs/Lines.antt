@@ -14,7 +14,7 @@ apart_line generation place = codes "apart " ++ (decimal generation ++ (codes " 
 abbrev pub bad_line : ℕ → List ℕ
 bad_line place = codes "bad " ++ (decimal place ++ codes "\n")
 
--- `usage`; `unmade` or `damaged DISK FILE PLACE`, of the node behind the word `node`; `apart GENERATION PLACE`; `bad PLACE`; or `fault`
+-- `usage`; `unmade` or `damaged DISK FILE PLACE`, of the node behind the word `node`; `apart GENERATION PLACE`; `bad PLACE`; `incomplete`; or `fault`
 abbrev pub chain_line : ChainCause → List ℕ
 chain_line causes.Done = cause_line server.Done
 chain_line causes.Usage = cause_line server.Usage
@@ -22,6 +22,7 @@ chain_line (causes.Shut fault) = cause_line (cause_by fault)
 chain_line (causes.NodeShut fault) = codes "node " ++ cause_line (cause_by fault)
 chain_line (causes.Apart departure) = apart_line departure.generation departure.place
 chain_line (causes.Bad place) = bad_line place
+chain_line causes.Incomplete = codes "incomplete\n"
 chain_line causes.Fault = cause_line server.Fault
 chain_line causes.Memory = cause_line server.Memory
 

@@ -24,6 +24,9 @@ pub enum ChainCause {
     /// At this place, in bytes from 0, stands the first of the upstream's journal that can't be taken, or the first content that isn't there or hasn't the
     /// digest of its revision.
     Bad(u64),
+    /// The node has all changes that the upstream's journals tell, and other rows than the upstream: an old journal of it is gone or damaged, or it was made
+    /// from rows.
+    Incomplete,
     /// The outside has failed.
     Fault,
     /// There was no memory.
@@ -33,7 +36,8 @@ pub enum ChainCause {
 /// What a following leaves.
 #[derive(Drop)]
 pub struct ChainEnded<D> {
-    /// The status with which the program ends: 0 done, 1 usage, 2 files that aren't there, damaged, apart or bad, 4 a fault of the outside, 5 want of memory.
+    /// The status with which the program ends: 0 done, 1 usage, 2 files that aren't there, damaged, apart, bad or incomplete, 4 a fault of the outside, 5 want of
+    /// memory.
     pub status: u8,
     /// Why it ends.
     pub cause: ChainCause,
@@ -50,8 +54,11 @@ fn status_code(cause: ChainCause) -> u8
     match cause {
         ChainCause::Done => 0,
         ChainCause::Usage => 1,
-        ChainCause::Shut(_) | ChainCause::NodeShut(_) | ChainCause::Apart(_) | ChainCause::Bad(_) =>
-            2,
+        ChainCause::Shut(_)
+        | ChainCause::NodeShut(_)
+        | ChainCause::Apart(_)
+        | ChainCause::Bad(_)
+        | ChainCause::Incomplete => 2,
         ChainCause::Fault => 4,
         ChainCause::Memory => 5,
     }

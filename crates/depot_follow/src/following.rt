@@ -5,11 +5,13 @@ ghost use Rattle.std.specs.Result.{IfErr};
 ghost use Rattle.replica_chain.specs.Chronicle.{Chronicle};
 ghost use Rattle.replica_chain.specs.Masters.{GoesOnBehindNode, HasNoFewer};
 ghost use Rattle.replica_chain.specs.Node.{CanFollow, IsNode};
+ghost use Rattle.depot_rows.specs.table_changes.Changed.{rows_of};
 ghost use Rattle.depot_follow.specs.Following.{AgreeWith, AreVerified, HasStopped, HaveStopped, IsPosition, IsSoFar, TakesAll};
 ghost use Rattle.depot_follow.specs.Opening.{NeverFalls, PairRose, files_of};
 ghost use Rattle.depot_follow.specs.declared.ended.ChainCause.TheVariants as causes;
 
 use crate::ended::ChainCause;
+use crate::rows::same_rows;
 use journal_groups::Moved;
 use outside_api::Disk;
 use replica_chain::Node;
@@ -71,7 +73,7 @@ fn pull_all<D: Disk>(
     Err(ChainCause::Memory)
 }
 
-/// Compares the journals, pulls what the node lacks, and checks each content of the node.
+/// Compares the journals, pulls what the node lacks, compares the rows, and checks each content of the node.
 pub(crate) fn follow<D: Disk>(
     alloc: Global,
     up: &mut Node<D>,
@@ -81,6 +83,7 @@ pub(crate) fn follow<D: Disk>(
     ensures agrees { OnOk result (AgreeWith D.says up.old node.old) }
     ensures upstream { IfOk result (λ figures. (c : Chronicle) → IsNode D.says up.old c → IsSoFar c figures.generation figures.changes) }
     ensures position { IfOk result (λ figures. IsPosition node.new figures.generation figures.changes) }
+    ensures rows { OnOk result (rows_of node.new.tables ≡ rows_of up.old.tables) }
     ensures verified { IfOk result (λ figures. AreVerified D.says node.new figures.verified) }
     ensures all { OnOk result (TakesAll D.says up.old node.old node.new) }
     ensures behind { GoesOnBehindNode D.says up.old up.new node.old node.new }
@@ -95,6 +98,9 @@ pub(crate) fn follow<D: Disk>(
     }
     let (generation, changes) = up.position();
     pull_all(alloc, up, node, generation, changes)?;
+    if !same_rows(node.tables(), up.tables()) {
+        return Err(ChainCause::Incomplete);
+    }
     let verified = node.verify(alloc)?;
     Ok(Figures {
         generation,

@@ -7,6 +7,7 @@ mod ended;
 mod following;
 mod laws;
 mod opening;
+mod rows;
 mod telling;
 mod top;
 

@@ -66,6 +66,7 @@ pub(crate) fn give_end<K: Sink>(out: &mut K, cause: ChainCause) -> Result<(), Gi
         ChainCause::NodeShut(fault) => give_node_shut(out, fault),
         ChainCause::Apart(departure) => give_apart(out, departure),
         ChainCause::Bad(place) => give_bad(out, place),
+        ChainCause::Incomplete => give_pieces(out, &[b"incomplete\n"]),
         ChainCause::Fault => give_cause(out, Cause::Fault),
         ChainCause::Done => give_cause(out, Cause::Done),
         ChainCause::Memory => give_cause(out, Cause::Memory),

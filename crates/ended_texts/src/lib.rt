@@ -27,6 +27,10 @@ pub const HELD: &str = "another program holds this folder; nothing was changed";
 pub const CHAIN_USAGE: &str =
     "follow: the node follows the depot; node WORDS: runs these words over the node";
 
+/// The line that tells that a node has all changes of the depot's journals, and yet not the depot's rows.
+pub const INCOMPLETE: &str =
+    "laitsjop: the node has all changes of depot.journal, and other rows than the depot: an old journal is gone or damaged, or the depot was made from rows; begin the node as a copy of the depot's folders";
+
 /// The line that tells that there was no memory.
 pub const MEMORY: &str = "laitsjop: out of memory";
 

@@ -2,8 +2,8 @@
 
 use chain_server::{Cause, ChainCause, ChainEnded, Ended, PartyCause, PartyEnd, WholeEnded};
 use ended_texts::{
-    CHAIN_USAGE, HELD, MADE, MEMORY, NODE_UNMADE, UNMADE, apart_line, bad_place_line, damaged_line,
-    failed_line, script_line,
+    CHAIN_USAGE, HELD, INCOMPLETE, MADE, MEMORY, NODE_UNMADE, UNMADE, apart_line, bad_place_line,
+    damaged_line, failed_line, script_line,
 };
 use memory_world::MemoryDisk;
 use program_words::usage;
@@ -265,6 +265,7 @@ fn tell_followed<D: Telling>(
             say(rt, line.as_str());
         }
         ChainCause::Bad(place) => say(rt, bad_place_line(alloc, place)?.as_str()),
+        ChainCause::Incomplete => say(rt, INCOMPLETE),
         ChainCause::Fault => {
             tell_disks(rt, alloc, DEPOT, &ended.up.journal, &ended.up.archive)?;
             tell_disks(rt, alloc, NODE, &ended.node.journal, &ended.node.archive)?;

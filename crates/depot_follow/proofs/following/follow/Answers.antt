@@ -1,15 +1,18 @@
-use Rattle.std.proofs.Common.{rules, ◌≡◌, ℕ, Option, Result, Err, sym, ap, subst}
+use Rattle.std.proofs.Common.{rules, ◌≡◌, ℕ, IsTrue, Option, Result, Err, sym, ap, subst, ◌∙◌}
+use Rattle.std.proofs.lemmas.Bool.{false≢true}
 use Rattle.std.specs.Result.{IfErr}
+use Rattle.depot_rows.specs.table_changes.Changed.{rows_of}
 use Rattle.replica_chain.specs.Apart.{IsComparison}
 use Rattle.replica_chain.specs.declared.apart.Departure.{Departure}
 use Rattle.replica_chain.specs.declared.fault.NodeFault.{NodeFault}
+use Rattle.replica_chain.specs.declared.node.Node.{Node}
 use Rattle.replica_chain.proofs.Reached.{goes_then}
 use Rattle.depot_follow.specs.Ends.{cause_by_pull}
 use Rattle.depot_follow.specs.Following.{AgreeWith, HasStopped}
 use Rattle.depot_follow.specs.declared.ended.ChainCause.{ChainCause}
 use Rattle.depot_follow.specs.declared.following.Figures.{Figures}
 use Rattle.depot_follow.proofs.Followed.{agree_of, looked_of, no_fewer_kept, no_fewer_on, stopped_of, stopped_on, verified_of}
-use Rattle.depot_follow.proofs.Copied.{as_far, bad_then, compared, takes_all, verified}
+use Rattle.depot_follow.proofs.Copied.{as_far, bad_then, compared, other_rows, same_tables, takes_all, verified}
 use Rattle.depot_follow.proofs.following.follow.Goals as goal
 
 pub returns-in_err-departure-clause-no_fewer : goal.returns-in_err-departure-clause-no_fewer
@@ -107,3 +110,36 @@ returns-clause-behind g c =
     let verify = c.verify.ensures in
     let pulled = goes_then g.D.Disk.says g.met.D.Disk.only_now c.args.up.now c.departs.new.up c.pull_all.new.up c.args.node.now c.departs.new.self c.pull_all.new.node (compared g.D.Disk.says g.met.D.Disk.only_now c.args.up.now c.args.node.now c.departs.new.up c.departs.new.self departs.links.1 departs.links.0 departs.others.1 departs.others.0) c.pull_all.ensures.behind in
     verified g.D.Disk.says g.met.D.Disk.only_now c.args.up.now c.pull_all.new.up c.args.node.now c.pull_all.new.node c.verify.new.self pulled verify.others verify.reads verify.used
+
+pub returns-then-not-same_rows-clause-no_fewer : goal.returns-then-not-same_rows-clause-no_fewer
+returns-then-not-same_rows-clause-no_fewer g c =
+    no_fewer_on g.D.Disk.says c.args.node.now c.departs.new.self c.pull_all.new.node (no_fewer_kept g.D.Disk.says c.args.node.now c.departs.new.self (λ d. (c.departs.ensures.nodes d).0)) c.pull_all.ensures.no_fewer
+
+pub returns-then-not-same_rows-clause-behind : goal.returns-then-not-same_rows-clause-behind
+returns-then-not-same_rows-clause-behind g c =
+    let departs = c.departs.ensures in
+    goes_then g.D.Disk.says g.met.D.Disk.only_now c.args.up.now c.departs.new.up c.pull_all.new.up c.args.node.now c.departs.new.self c.pull_all.new.node
+    (compared g.D.Disk.says g.met.D.Disk.only_now c.args.up.now c.args.node.now c.departs.new.up c.departs.new.self departs.links.1 departs.links.0 departs.others.1 departs.others.0) c.pull_all.ensures.behind
+
+pub returns-then-not-same_rows-clause-ended : goal.returns-then-not-same_rows-clause-ended
+returns-then-not-same_rows-clause-ended g c =
+    let departs = c.departs.ensures in
+    let node_rows = ap rows_of c.tables.ensures in
+    let up_rows = ap rows_of c.tables-2.ensures in
+    let first = compared g.D.Disk.says g.met.D.Disk.only_now c.args.up.now c.args.node.now c.departs.new.up c.departs.new.self departs.links.1 departs.links.0 departs.others.1 departs.others.0 in (
+      λ texts others of_node of_up. agree_of texts others _ (λ departure. c.in_default.not-Some departure) (c.in_ok-departure.ensures.exactly texts others of_node of_up),
+      other_rows g.D.Disk.says g.met.D.Disk.only_now c.args.up.now c.args.node.now c.departs.new.up c.departs.new.self c.pull_all.new.up c.pull_all.new.node (λ d. (departs.nodes d).1) departs.others.1 first
+          c.pull_all.ensures.behind _ _ (ap (λ (p : ℕ × ℕ). p.0) c.position-generation.ensures) (ap (λ (p : ℕ × ℕ). p.1) c.position-generation.ensures) c.in_ok-pull_all.ensures.position
+          (λ same. false≢true (subst IsTrue c.if-not-same_rows.true (c.same_rows.ensures.1 (node_rows ∙ same ∙ sym up_rows)))),
+    )
+
+pub returns-clause-rows : goal.returns-clause-rows
+returns-clause-rows g c =
+    let verify = c.verify.ensures in
+    let node_rows = ap rows_of c.tables.ensures in
+    let up_rows = ap rows_of c.tables-2.ensures in
+    ap (λ (n : Node g.row.D.Denot). rows_of n.tables) verify.others
+    ∙ sym node_rows
+    ∙ c.same_rows.ensures.0 c.if-not-same_rows.false
+    ∙ up_rows
+    ∙ same_tables g.D.Disk.says g.met.D.Disk.only_now c.args.up.now c.departs.new.up c.pull_all.new.up c.departs.new.self c.pull_all.new.node c.departs.ensures.others.1 c.pull_all.ensures.behind

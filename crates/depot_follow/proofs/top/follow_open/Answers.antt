@@ -25,7 +25,7 @@ returns-in-Ok-give_done-clause-follows g c =
     follows_of g.D.Disk.says g.K.Sink.says c.args.up c.args.node c.follow-followed.new.up c.follow-followed.new.node c.args.out.now c.give_done.new.out c.ended_by.result
     (end.up_is ∙ pair_is c.into_files-up.result _ _ up.journal up.archive) (end.node_is ∙ pair_is c.into_files-node.result _ _ node.journal node.archive) followed.no_fewer followed.behind
     (all_of g.D.Disk.says g.K.Sink.says c.args.up c.args.node c.follow-followed.new.up c.follow-followed.new.node c.args.out.now c.give_done.new.out c.ended_by.result figures.generation figures.changes figures.verified
-    followed.agrees followed.upstream followed.position followed.verified followed.all (inl (end.cause_is, c.in-Ok-give_done.ensures.given.whole)))
+    followed.agrees followed.upstream followed.position followed.rows followed.verified followed.all (inl (end.cause_is, c.in-Ok-give_done.ensures.given.whole)))
     (λ is. absurd (done_unfailed _ end.cause_is is))
 
 pub returns-in-Err-give_done-clause-follows : goal.returns-in-Err-give_done-clause-follows
@@ -39,5 +39,5 @@ returns-in-Err-give_done-clause-follows g c =
     follows_of g.D.Disk.says g.K.Sink.says c.args.up c.args.node c.follow-followed.new.up c.follow-followed.new.node c.args.out.now c.give_done.new.out c.ended_by-in-Err-give_done.result
     (end.up_is ∙ pair_is c.into_files-up.result _ _ up.journal up.archive) (end.node_is ∙ pair_is c.into_files-node.result _ _ node.journal node.archive) followed.no_fewer followed.behind
     (all_of g.D.Disk.says g.K.Sink.says c.args.up c.args.node c.follow-followed.new.up c.follow-followed.new.node c.args.out.now c.give_done.new.out c.ended_by-in-Err-give_done.result figures.generation figures.changes figures.verified
-    followed.agrees followed.upstream followed.position followed.verified followed.all (inr (end.cause_is, failed.cause.risen, failed.given.front)))
+    followed.agrees followed.upstream followed.position followed.rows followed.verified followed.all (inr (end.cause_is, failed.cause.risen, failed.given.front)))
     (λ is. inr (inr failed.cause.risen))

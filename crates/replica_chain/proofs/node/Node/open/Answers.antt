@@ -1,3 +1,4 @@
+use Rattle.recovery.proofs.Synced.{synced_then}
 use Rattle.replica_chain.proofs.Opened.{IsNodeOf, opened_at, opened_can, opened_fresh, opened_is, opened_texts}
 use Rattle.replica_chain.proofs.node.Node.open.Goals as goal
 
@@ -72,3 +73,12 @@ returns-in-Ok-count_journal-clause-fresh g c =
     } in
     let open_now = c.in-Ok.ensures.open in
     opened_fresh says opened open_now.0 open_now.1 journal looked c.in-Ok-count_journal.counts node of c.args.archive c.in-Ok.ensures.archive_synced c.in-Ok.ensures.within
+
+pub returns-in-Ok-count_journal-clause-journal_synced : goal.returns-in-Ok-count_journal-clause-journal_synced
+returns-in-Ok-count_journal-clause-journal_synced g c =
+    rw c.node_of.ensures.parts.0 (synced_then g.D.Disk.says _ _ _ c.in-Ok.ensures.journal_synced.same c.in-Ok.ensures.journal_synced.durable c.count_journal.ensures.looked.reads)
+
+pub returns-in-Err-count_journal-clause-unopened : goal.returns-in-Err-count_journal-clause-unopened
+returns-in-Err-count_journal-clause-unopened g c = λ other.
+    let left = c.not_counted.ensures in
+    rw (left.1, left.2) (synced_then g.D.Disk.says _ _ _ c.in-Ok.ensures.journal_synced.same c.in-Ok.ensures.journal_synced.durable c.count_journal.ensures.looked.reads, c.in-Ok.ensures.archive_synced)
