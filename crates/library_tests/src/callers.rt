@@ -1,12 +1,23 @@
 //! Callers of the libraries that one may use by themselves, with ample memory.
 
+ghost use Rattle.std.specs.Prelude.{◌≡◌, length, IfSome};
+ghost use Rattle.disk_journal.specs.Images.{Committed};
+ghost use Rattle.disk_journal.specs.Stands.{Stands, nothing};
+ghost use Rattle.outside_api.specs.Disk.{Files};
+
+use crate::calls::JOURNAL;
 use archive_file::Archive;
-use depot_path::{DepotPath, Name, Pattern, Sequence, Text};
+use argument_files::named;
+use depot_path::{DepotPath, FileSpec, Name, Pattern, Sequence, Text};
 use depot_rows::forms::{Form, Shape};
+use depot_rows::model::{Caller, FileArgument};
 use depot_rows::protections::{Level, Protects, Who};
-use depot_rows::records::{CounterRecord, Op, Record};
+use depot_rows::records::{Change, CounterRecord, Op, Record};
+use depot_rows::tables::Tables;
 use depot_rows::views::{Mapped, View};
+use disk_journal::{Journal, make_files};
 use memory_world::MemoryDisk;
+use outside_api::{Disk, Fetched};
 use record_text::{print_record, read_record};
 use std::alloc::{AllocError, Global};
 
@@ -125,6 +136,51 @@ fn a_record_is_printed_and_read(rt: HostRuntime) {
     assert!(rt; is_read_again(rt.alloc()) == Some(true));
 }
 
+/// A journal of fresh files on an empty disk.
+fn fresh_journal<D: Disk + Drop>(mut disk: D) -> Option<Journal<D>>
+    requires { (files : Files) → D.says.seen disk files → length (files 0) ≡ 0 }
+    ensures { IfSome result (λ journal. (was : Committed) × Stands D.says journal was nothing) }
+{
+    match make_files(&mut disk) {
+        Ok(()) => Some(Journal::adopt(disk, 0, 0, 0)),
+        Err(_) => None,
+    }
+}
+
+/// Whether a journal gives the group that is committed, and nothing behind it.
+fn gives_what_it_commits<D: Disk>(
+    alloc: Global,
+    journal: &mut Journal<D>,
+    changes: &[Change],
+) -> Option<bool>
+    requires { (was : Committed) × Stands D.says journal.old was nothing }
+{
+    let prepared = journal.prepare(alloc, changes).ok()?;
+    let _ = journal.commit(prepared).ok()?;
+    let mut piece = [0; 100];
+    let fetched = journal.fetch(0, 0, &mut piece).ok()?;
+    let last = journal.fetch(0, 46, &mut [0]).ok()?;
+    let (text, _) = piece.split_at(46);
+    Some(fetched == Fetched::Bytes(46) && text == JOURNAL && last == Fetched::End)
+}
+
+/// Whether a journal in memory gives the group that puts a row.
+fn gives_its_group(alloc: Global) -> Option<bool> {
+    let row = counter(alloc)?;
+    let changes = vec![in alloc; Change { op: Op::Put, row }].ok()?;
+    let given = match fresh_journal(MemoryDisk::new(Vec::new(alloc))) {
+        Some(mut journal) => gives_what_it_commits(alloc, &mut journal, changes.as_slice()),
+        None => None,
+    };
+    drop(changes);
+    given
+}
+
+#[test]
+fn a_journal_gives_what_it_committed(rt: HostRuntime) {
+    assert!(rt; gives_its_group(rt.alloc()) == Some(true));
+}
+
 /// Whether an archive gives what was stored in it.
 fn gives_what_it_stored(alloc: Global) -> Option<bool> {
     let mut archive = Archive::adopt(MemoryDisk::new(Vec::new(alloc)), 0);
@@ -137,4 +193,43 @@ fn gives_what_it_stored(alloc: Global) -> Option<bool> {
 #[test]
 fn an_archive_gives_what_it_stored(rt: HostRuntime) {
     assert!(rt; gives_what_it_stored(rt.alloc()) == Some(true));
+}
+
+/// Ann, in her workspace.
+pub fn ann(alloc: Global) -> Option<Caller> {
+    Some(Caller {
+        user: Name::read(alloc, b"ann").ok()?,
+        client: Name::read(alloc, b"ws1").ok()?,
+        host: Name::read(alloc, b"hostA").ok()?,
+    })
+}
+
+/// How many of two files an argument names, as ann gives it.
+fn count_named(alloc: Global, tables: &Tables, argument: &[u8]) -> Option<usize> {
+    let caller = ann(alloc)?;
+    let argument = FileArgument {
+        text: Text::from_bytes(alloc, argument).ok()?,
+        spec: FileSpec::read(alloc, argument).ok()?,
+    };
+    let main = path_of(alloc, b"//depot/main/a.c")?;
+    let old = path_of(alloc, b"//depot/old/a.c")?;
+    let files = vec![in alloc; main, old].ok()?;
+    let named = named(alloc, tables, &caller, &argument, files.as_slice(), false).ok()?;
+    Some(named.len())
+}
+
+/// Whether arguments name so many files where there are no rows, and so all rights.
+fn names_files(alloc: Global) -> bool {
+    let Ok(tables) = Tables::empty(alloc) else {
+        return false;
+    };
+    let one = count_named(alloc, &tables, b"//depot/main/...");
+    let both = count_named(alloc, &tables, b"//depot/.../*.c");
+    drop(tables);
+    one == Some(1) && both == Some(2)
+}
+
+#[test]
+fn an_argument_names_files(rt: HostRuntime) {
+    assert!(rt; names_files(rt.alloc()));
 }

@@ -16,7 +16,7 @@ use wire_text::ScriptReader;
 const GROUP: &[u8] = b"@nx@ 1 31\n@pv@ 1 @db.counters@ @build@ 7\n";
 
 /// The committed text of a journal with that group.
-const JOURNAL: &[u8] = b"@ex@\n@nx@ 1 31\n@pv@ 1 @db.counters@ @build@ 7\n";
+pub const JOURNAL: &[u8] = b"@ex@\n@nx@ 1 31\n@pv@ 1 @db.counters@ @build@ 7\n";
 
 /// More bytes than there are in any text here.
 const MANY: u64 = 1000;
@@ -46,7 +46,7 @@ fn whole_filter(alloc: Global) -> Option<Filter> {
 }
 
 /// A replica of all files.
-fn whole_replica(alloc: Global) -> Option<Replica> {
+pub fn whole_replica(alloc: Global) -> Option<Replica> {
     Replica::with_filter(alloc, whole_filter(alloc)?).ok()
 }
 
@@ -70,8 +70,8 @@ fn is_no_feed(alloc: Global, text: &[u8], fault: PullFault) -> bool {
     is_refused
 }
 
-/// Whether pulls never lead a replica back, and at last to the end of a journal of one group.
-fn never_goes_back<L: Link>(alloc: Global, replica: &mut Replica, link: &mut L) -> bool {
+/// Whether six pulls, one after another, never lead a replica back.
+pub fn goes_on<L: Link>(alloc: Global, replica: &mut Replica, link: &mut L) -> bool {
     let mut changes = 0;
     for _ in 0..6 {
         let _ = replica.pull(alloc, link);
@@ -81,7 +81,12 @@ fn never_goes_back<L: Link>(alloc: Global, replica: &mut Replica, link: &mut L) 
         }
         changes = now;
     }
-    replica.position() == (0, 1) && replica.awaits() == (0, 46)
+    true
+}
+
+/// Whether pulls never lead a replica back, and at last to the end of a journal of one group.
+fn never_goes_back<L: Link>(alloc: Global, replica: &mut Replica, link: &mut L) -> bool {
+    goes_on(alloc, replica, link) && replica.position() == (0, 1) && replica.awaits() == (0, 46)
 }
 
 /// Whether a new replica follows a journal of one group over a link.

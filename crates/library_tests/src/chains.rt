@@ -14,7 +14,7 @@ use replica_chain::{Node, NodeFault, NotNode, Pair};
 use std::alloc::{AllocError, Global};
 
 /// The committed text of a journal of five changes: a client is saved, a file is added with no bytes and submitted, and edited and submitted as `hello`.
-const JOURNAL: &[u8] = b"@ex@\n\
+pub const JOURNAL: &[u8] = b"@ex@\n\
 @nx@ 1 80\n\
 @pv@ 1 @db.domain@ @client@ @ws1@ @Client:\tws1\n\
 \n\
@@ -113,7 +113,7 @@ fn empty_disks(alloc: Global) -> Pair<MemoryDisk> {
 }
 
 /// The archive with these bytes.
-fn contents_of(alloc: Global, bytes: &[u8]) -> Result<MemoryContents, AllocError> {
+pub fn contents_of(alloc: Global, bytes: &[u8]) -> Result<MemoryContents, AllocError> {
     let bytes = Text::from_bytes(alloc, bytes)?;
     Ok(MemoryContents::new(bytes, Vec::new(alloc)))
 }

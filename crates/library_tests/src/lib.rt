@@ -4,6 +4,9 @@
 //! computed in proofs, here that of dates.
 #![tactic(auto)]
 
+/// A replica that follows a depot while its parties ask it (`shared_depot`).
+#[cfg(test)]
+mod at_work;
 /// Callers of libraries that programs use too (`depot_path`, `view_map`, `protect_table`, `spec_form`, `record_text`, `archive_file`).
 #[cfg(test)]
 mod callers;
@@ -31,6 +34,9 @@ mod losses;
 /// Files and folders of the machine, as the tests make, read and remove them.
 #[cfg(test)]
 mod machine;
+/// A replica's `print`, over an archive in memory (`replica_answers`).
+#[cfg(test)]
+mod prints;
 /// Files that are read and written in turn, the doors to them, and the clock (`real_world`).
 #[cfg(test)]
 mod streams;
