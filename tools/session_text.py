@@ -42,15 +42,21 @@ def run(main: Callable[[], int]) -> int:
     except Stop as stop:
         print(f"{tool}: {stop}", file=sys.stderr)
     except OSError as error:
-        print(f"{tool}: {error.filename}: {error.strerror}", file=sys.stderr)
+        print(f"{tool}: {printable(str(error.filename))}: {error.strerror}", file=sys.stderr)
     except KeyboardInterrupt:
         print(f"{tool}: stopped", file=sys.stderr)
     return 2
 
 
-def read_file(path: str) -> bytes:
+def read_file(path: str, most: int = -1) -> bytes:
+    """The bytes of a file, no more of them than are asked for."""
     with open(path, "rb") as file:
-        return file.read()
+        return file.read(most)
+
+
+def printable(text: str) -> str:
+    """The text with the control characters, by which a terminal does more than show it, written out."""
+    return re.sub(r"[\x00-\x1f\x7f-\x9f]", lambda it: f"\\x{ord(it[0]):02x}", text)
 
 
 def replies_name(script: str) -> str:
@@ -308,7 +314,7 @@ class Row(NamedTuple):
 
     @property
     def is_refusal(self) -> bool:
-        return self.fields[0][0] == "code"
+        return [name for name, _ in self.fields[:1]] == ["code"]
 
 
 class Reply(NamedTuple):
@@ -338,7 +344,7 @@ def read_replies(commands: list[Command], text: bytes) -> Replies:
 
 def read_session(name: str) -> tuple[Script, Replies]:
     """The script in the file of a name, and the replies beside it."""
-    script = read_script(read_file(name))
+    script = read_script(read_file(name, MAX_SCRIPT + 1))
     if not os.path.exists(replies_name(name)):
         raise Stop(f"{replies_name(name)}: no replies are there: run the session first, as ./laitsjop serve {name}")
     return script, read_replies(script.commands, read_file(replies_name(name)))
@@ -357,6 +363,10 @@ class _ReplyReader:
     def read(self) -> bool:
         """Reads the reply to its end; says no where the text ends before."""
         while not self.text.startswith(self.end, self.at):
+            if self.text.startswith(b"\n", self.at):  # a row without a field
+                self.rows.append(Row([], None))
+                self.at += 1
+                continue
             stop = self.text.find(b"\n\n", self.at)
             if stop < 0 or not self.text.startswith(b"... ", self.at):
                 return False
