@@ -10,6 +10,7 @@ use std::alloc::{AllocError, Global};
 use std::fs::{File, OpenOptions};
 use std::io;
 use std::io::ErrorKind;
+use std::os::unix::fs::MetadataExt;
 use std::rt::Files;
 
 /// A file of a party.
@@ -43,8 +44,9 @@ struct Party {
 /// its replies go to the file `NAME.out`, which is made or emptied. It doesn't tell what they hold. Once it is made
 /// its calls take no memory.
 ///
-/// The first door opens the files of all names. It fails where one can't be opened, and before any is where the
-/// replies of a name would go to the script of another. Nothing is emptied before all are open.
+/// The first door opens the files of all names. It fails where one can't be opened, before any is where the replies
+/// of a name would go to the script of another, and where a link leads them to a script. Nothing is emptied before
+/// all are open.
 #[derive(Drop)]
 pub struct FolderDoors<'a, R: Files<File = File>> {
     rt: &'a R,
@@ -149,6 +151,40 @@ fn open_replies<'a, R: Files<File = File>>(
     Ok(())
 }
 
+/// Whether two open files are one, by whatever names or links they were opened.
+fn are_one(one: &File, other: &File) -> io::Result<bool> {
+    let one = one.metadata()?;
+    let other = other.metadata()?;
+    Ok(one.dev() == other.dev() && one.ino() == other.ino())
+}
+
+/// Checks that the file to which replies go is the script of no party.
+fn check_reply(parties: &[Party], replies: &File) -> io::Result<()> {
+    for party in parties {
+        if let Some(script) = &party.script {
+            if are_one(script, replies)? {
+                let message = "it is a link to a script";
+                return Err(io::Error::new(ErrorKind::InvalidInput, message));
+            }
+        }
+    }
+    Ok(())
+}
+
+/// Checks that the files to which the replies go are no scripts.
+fn check_replies<'a>(names: &[&'a str], parties: &[Party]) -> Result<(), DoorFault<'a>> {
+    for (name, party) in names.iter().zip(parties) {
+        if let Some(replies) = &party.replies {
+            check_reply(parties, replies).map_err(|error| DoorFault {
+                name,
+                file: PartyFile::Replies,
+                error,
+            })?;
+        }
+    }
+    Ok(())
+}
+
 /// Empties the file to which the replies of a party go. What has no length, as a pipe, is left as it is.
 fn empty_reply(party: &Party) -> io::Result<()> {
     match &party.replies {
@@ -179,6 +215,7 @@ fn open_all<'a, R: Files<File = File>>(
     check_names(names)?;
     open_scripts(rt, names, parties)?;
     open_replies(rt, names, parties.as_mut_slice())?;
+    check_replies(names, parties.as_slice())?;
     empty_replies(names, parties.as_slice())
 }
 
