@@ -14,15 +14,14 @@ use std::sync::Wait;
 use std::thread::Threads;
 use std::{env, fs, io};
 
-/// Answers the cases of a file up to its end or to the first line with a fault.
-fn answer_cases<R: Threads + Wait + Sync, S: Server>(
+/// Follows the lines of a file of cases up to its end or to the first line with a fault.
+fn follow_lines<'a, R: Threads + Wait + Sync, S: Server>(
     rt: &R,
     server: &S,
-    alloc: Global,
-    cases: &[u8],
+    cases: &'a [u8],
+    world: &mut World<'a>,
     answers: &mut Answers,
 ) -> Result<(), CaseFault> {
-    let mut world = World::new(alloc);
     for line in Cases::new(cases) {
         let followed = match line.step {
             Ok(step) => world.follow(rt, server, step, answers),
@@ -34,6 +33,20 @@ fn answer_cases<R: Threads + Wait + Sync, S: Server>(
         }
     }
     Ok(())
+}
+
+/// Answers the cases of a file up to its end or to the first line with a fault.
+fn answer_cases<R: Threads + Wait + Sync, S: Server>(
+    rt: &R,
+    server: &S,
+    alloc: Global,
+    cases: &[u8],
+    answers: &mut Answers,
+) -> Result<(), CaseFault> {
+    let mut world = World::new(alloc);
+    let answered = follow_lines(rt, server, cases, &mut world, answers);
+    drop(world);
+    answered
 }
 
 /// The answers that are expected of the cases of a file. Nothing where there is no file of them.

@@ -6,7 +6,6 @@ use outside_api::Gate;
 use waiting_gates::{MeetGate, TurnGate};
 
 /// The gate of a run.
-#[derive(Drop)]
 pub enum CaseGate {
     /// It holds nobody.
     Open(OpenGate),
@@ -14,6 +13,16 @@ pub enum CaseGate {
     Turn(TurnGate),
     /// It holds two commands until both came.
     Meet(MeetGate),
+}
+
+impl Drop for CaseGate {
+    fn drop(self) {
+        match self {
+            CaseGate::Open(_) => {}
+            CaseGate::Turn(_) => {}
+            CaseGate::Meet(_) => {}
+        }
+    }
 }
 
 /// The word for whether a thing was so.

@@ -58,7 +58,6 @@ pub struct Source {
 }
 
 /// A file as a client has it opened.
-#[derive(Drop)]
 pub struct Opening {
     pub client: Name,
     pub path: DepotPath,
@@ -73,6 +72,21 @@ pub struct Opening {
     pub moved: Option<DepotPath>,
 }
 
+impl Drop for Opening {
+    fn drop(self) {
+        let Opening {
+            client: _,
+            path: _,
+            base: _,
+            action: _,
+            file_type: _,
+            change: _,
+            source: _,
+            moved: _,
+        } = self;
+    }
+}
+
 /// A file of a client.
 #[derive(Drop)]
 pub struct Held {
@@ -81,13 +95,24 @@ pub struct Held {
 }
 
 /// A resolve that a client owes.
-#[derive(Drop)]
 pub struct Owing {
     pub client: Name,
     pub path: DepotPath,
     pub from: DepotPath,
     pub first: u32,
     pub last: u32,
+}
+
+impl Drop for Owing {
+    fn drop(self) {
+        let Owing {
+            client: _,
+            path: _,
+            from: _,
+            first: _,
+            last: _,
+        } = self;
+    }
 }
 
 /// Revisions of a file that an entry takes in.
@@ -109,7 +134,6 @@ pub struct Stored {
 }
 
 /// A file of a submitted change.
-#[derive(Drop)]
 pub struct Entry {
     pub path: DepotPath,
     /// The number of the revision that it becomes.
@@ -121,6 +145,20 @@ pub struct Entry {
     pub credits: Sequence<Credit>,
     /// The path at the other end of a move.
     pub moved: Option<DepotPath>,
+}
+
+impl Drop for Entry {
+    fn drop(self) {
+        let Entry {
+            path: _,
+            rev: _,
+            action: _,
+            file_type: _,
+            content: _,
+            credits: _,
+            moved: _,
+        } = self;
+    }
 }
 
 /// A submitted change with its files.

@@ -24,22 +24,22 @@ fn option<'a>(alloc: Global, name: &'a str, absent: &'a str, explained: &'a str)
 pub(crate) fn command<'a>(alloc: Global) -> Result<Command<'a>, AllocError>
     ensures { IfOk result (λ command. app_of command ≡ words_app) }
 {
-    let seed = option(alloc, "seed", "1", "for schedule and load: 0 to 2147483647");
-    let count = option(alloc, "count", "100", "for load: its steps, 1 to 10000");
-    let mode = Arg::new(alloc, "MODE")
-        .help("init, serve, schedule, checkpoint, dump or load")
-        .required(true);
-    let name = Arg::new(alloc, "NAME")
-        .help("for serve and schedule: 1 to 16 different names of scripts")
-        .action(ArgAction::Append);
     Command::new(alloc, "laitsjop")
         .no_binary_name(true)
         .disable_help_flag(true)
         .disable_version_flag(true)
-        .arg(seed)?
-        .arg(count)?
-        .arg(mode)?
-        .arg(name)
+        .arg(option(alloc, "seed", "1", "for schedule and load: 0 to 2147483647"))?
+        .arg(option(alloc, "count", "100", "for load: its steps, 1 to 10000"))?
+        .arg(
+            Arg::new(alloc, "MODE")
+                .help("init, serve, schedule, checkpoint, dump or load")
+                .required(true),
+        )?
+        .arg(
+            Arg::new(alloc, "NAME")
+                .help("for serve and schedule: 1 to 16 different names of scripts")
+                .action(ArgAction::Append),
+        )
 }
 
 /// What the words may be, as `clap` explains it: some lines, each with its end. The one error is want of memory.
