@@ -1,2 +1,1 @@
-mod Any
 mod Held

@@ -1,10 +1,12 @@
 -- What rows tell of changes that jobs are fixed by.
-use Rattle.std.proofs.Common.{◌≡◌, ◌≤◌, ◌<◌, ◌+◌, ℕ, Bool, true, false, List, [], ◌∷◌, ◌++◌, length, Option, Some, None, refl, sym, ap, ◌∙◌, arith}
-use Rattle.std.specs.Prelude.{◌||◌, codes, filter, is_some, map, min, nat_lt, not, option_map, if◌then◌else◌}
+use Rattle.std.proofs.Common.{◌≡◌, ◌≤◌, ◌<◌, ◌+◌, ℕ, Bool, true, false, List, [], ◌∷◌, ◌++◌, length, Option, Some, None, refl, ap, ◌∙◌, arith}
+use Rattle.std.specs.Prelude.{◌||◌, filter, is_some, min, nat_lt, not, option_map, if◌then◌else◌}
 use Rattle.std.specs.Borrow.{Bor}
 use Rattle.std.specs.Option.{option_copied, option_map_or}
 use Rattle.depot_rows.specs.spec_form.Form.{FormValue}
 use Rattle.std.proofs.lemmas.Bool.Decides.{nat_tests}
+use Rattle.std.proofs.lemmas.List.{length-append}
+use Rattle.std.proofs.lemmas.List.Elements.{filter-append}
 use Rattle.depot_rows.specs.db_records.declared.record.Record.{Record}
 use Rattle.depot_rows.specs.db_records.declared.record.Record.TheVariants.{Change}
 use Rattle.depot_rows.specs.db_records.declared.rows.ChangeRecord.{ChangeRecord}
@@ -42,25 +44,25 @@ landed_is d n apart = go (pending d n) (landing d n) (apart n)
 
 -- ---- how many fixes there are
 
--- a count of what passes a test, with one more
-pub counted : {A : Type 0} (test : A → Bool) (xs : List A) (x : A) (b : Bool) → b ≡ test x → length (filter test (xs ++ x ∷ [])) ≡ length (filter test xs) + (if b then 1 else 0)
-counted test [] x b e = go b (test x) e
-  where
-    go : (b c : Bool) → b ≡ c → length (if c then x ∷ [] else []) ≡ 0 + (if b then 1 else 0)
-    go true true h = refl
-    go false false h = refl
-    go true false h = absurd cc
-    go false true h = absurd cc
-counted test (y ∷ xs) x b e = go (test y) (counted test xs x b e)
-  where
-    go : (c : Bool) → length (filter test (xs ++ x ∷ [])) ≡ length (filter test xs) + (if b then 1 else 0)
-        → length (if c then y ∷ filter test (xs ++ x ∷ []) else filter test (xs ++ x ∷ [])) ≡ length (if c then y ∷ filter test xs else filter test xs) + (if b then 1 else 0)
-    go true more = let h = more in omega (arith, h)
-    go false more = more
+-- a count of what passes a test, with one more that passes it and with one that doesn't
+module _ {A : Type 0} (test : A → Bool) (xs : List A) (x : A) where
+  added : length (filter test (xs ++ x ∷ [])) ≡ length (filter test xs) + length (if test x then x ∷ [] else [])
+  added = ap (λ (l : List A). length l) (filter-append test xs (x ∷ [])) ∙ length-append (filter test xs) (if test x then x ∷ [] else [])
+
+  pub one_more : test x ≡ true → length (filter test (xs ++ x ∷ [])) ≡ length (filter test xs) + 1
+  one_more e = added ∙ ap (λ (b : Bool). length (filter test xs) + length (if b then x ∷ [] else [])) e
+
+  pub no_more : test x ≡ false → length (filter test (xs ++ x ∷ [])) ≡ length (filter test xs)
+  no_more e =
+      let h : length (filter test (xs ++ x ∷ [])) ≡ length (filter test xs) + 0 = added ∙ ap (λ (b : Bool). length (filter test xs) + length (if b then x ∷ [] else [])) e in
+      omega (arith, h)
 
 -- a sum that stops at a limit above a hundred is above a hundred where the sum is
-pub stopped : (a b : ℕ) → nat_lt 100 (min (a + b) 18446744073709551615) ≡ nat_lt 100 (a + b)
-stopped a b = grind (arith, nat_tests)
+pub are_many : (a b sum : ℕ) → sum ≡ min (a + b) 18446744073709551615 → 100 < sum → nat_lt 100 (a + b) ≡ true
+are_many a b sum e h = grind (arith, nat_tests)
+
+pub are_few : (a b sum : ℕ) → sum ≡ min (a + b) 18446744073709551615 → sum ≤ 100 → nat_lt 100 (a + b) ≡ false
+are_few a b sum e h = grind (arith, nat_tests)
 
 pub fixes_are_then : (d : List Deed) (n : ℕ) (given names : List (List ℕ)) (fixes more : ℕ) → names ≡ distinct given → fixes ≡ length (fixes_of d n)
     → more ≡ length (filter (λ name. not (has_fix d n name)) names) → fixes + more ≡ fixes_then d n given

@@ -1,12 +1,11 @@
 -- Names, each once.
-use Rattle.std.proofs.Common.{◌≡◌, ◌+◌, ◌<◌, ℕ, Bool, true, false, List, [], ◌∷◌, ◌++◌, length, drop, get_or, refl, sym, ap, ◌∙◌, append_assoc}
+use Rattle.std.proofs.Common.{◌≡◌, ℕ, Bool, true, false, List, [], ◌∷◌, ◌++◌, refl, sym, ap, ◌∙◌, append_assoc}
 use Rattle.std.specs.Prelude.{◌||◌, if◌then◌else◌}
 use Rattle.std.specs.List.{list_any}
 use Rattle.std.proofs.lemmas.List.Folds.{list_any-append}
 use Rattle.depot_rows.specs.depot_path.Bytes.{same}
-use Rattle.depot_rows.specs.depot_model.Steps.Jobs.{distinct, distinct_after}
+use Rattle.depot_rows.specs.depot_model.Steps.Jobs.{distinct_after}
 use Rattle.depot_rows.proofs.Keys.{same-is}
-use Rattle.job_ops.specs.Distinct.{once}
 
 -- two lists have the same names
 abbrev Alike : List (List ℕ) → List (List ℕ) → Type 0
@@ -41,14 +40,3 @@ module _ (kept : List (List ℕ)) (name : List ℕ) (names : List (List ℕ)) wh
       ∙ ap (λ (l : List (List ℕ)). kept ++ name ∷ l)
       (alike_after names (kept ++ name ∷ []) (name ∷ kept) (λ x. list_any-append (same x) kept (name ∷ []) ∙ sym (or_swap (same x name) (list_any (same x) kept))))
       ∙ (λ i. kept ++ ((if sym absent i then [] else name ∷ []) ++ distinct_after (name ∷ kept) names))
-
-  -- either
-  abbrev kept_if : Bool → List (List ℕ)
-  kept_if b = if b then kept else kept ++ name ∷ []
-
-  pub once_more : once kept name ++ distinct_after (once kept name) names ≡ kept ++ distinct_after kept (name ∷ names)
-  once_more = by (list_any (same name) kept) refl
-    where
-      by : (b : Bool) → list_any (same name) kept ≡ b → kept_if (list_any (same name) kept) ++ distinct_after (kept_if (list_any (same name) kept)) names ≡ kept ++ distinct_after kept (name ∷ names)
-      by true e = (λ i. kept_if (e i) ++ distinct_after (kept_if (e i)) names) ∙ again e
-      by false e = (λ i. kept_if (e i) ++ distinct_after (kept_if (e i)) names) ∙ anew e

@@ -11,14 +11,14 @@ use Rattle.depot_rows.specs.depot_model.declared.refusal.Refusal.TheVariants.{No
 use Rattle.depot_rows.specs.depot_model.Deeds.{Deed}
 use Rattle.depot_rows.specs.depot_model.Fixes.{fixes_on, job, job_names}
 use Rattle.depot_rows.specs.depot_model.FormRows.{form_fields}
+use Rattle.depot_rows.specs.depot_model.Refusals.{refusal_row}
 use Rattle.depot_rows.specs.depot_model.Rows.{row}
 use Rattle.depot_rows.specs.depot_model.Step.{Step as ModelStep, refuses, tells}
 use Rattle.depot_rows.specs.depot_model.Steps.Jobs.{fix_row, fixes, is_wanted, job_row, job_show, jobs}
 use Rattle.reply_rows.specs.declared.step.Step.{Step}
 use Rattle.reply_rows.specs.Made.{IsMade, told}
-use Rattle.reply_rows.proofs.Bare.{AreBare, refusal_bare, tells_made}
+use Rattle.reply_rows.proofs.Bare.{AreBare, tells_made}
 use Rattle.reply_rows.proofs.Joined.{made_row}
-use Rattle.job_ops.specs.Showing.{shown}
 
 -- rows that are made without contents
 mapped_bare : {A : Type 0} (f : A → Row) → ((x : A) → (f x).content ≡ None) → (xs : List A) → AreBare (map f xs)
@@ -37,7 +37,11 @@ pub fixes_made : (all : AllRows) (d : List Deed) (n : Option ℕ) (name : Option
 fixes_made all d n name rows is =
     told_rows all d (map fix_row (filter (is_wanted n name) (fixes_on d))) rows (mapped_bare fix_row (λ form. refl) (filter (is_wanted n name) (fixes_on d))) is
 
--- a job that is shown
+-- the row of a job, or of the refusal of a name under which none is saved
+abbrev shown : List ℕ → Option FormValue → Row
+shown name None = refusal_row (NoSuchJob name)
+shown name (Some form) = row (form_fields form)
+
 shown_bare : (name : List ℕ) (form : Option FormValue) → (shown name form).content ≡ None
 shown_bare name None = refl
 shown_bare name (Some form) = refl
@@ -47,11 +51,12 @@ shown_is : (name : List ℕ) (form : Option FormValue)
 shown_is name None = refl
 shown_is name (Some form) = refl
 
-pub show_made : (all : AllRows) (d : List Deed) (caller : Caller) (name : List ℕ) (made : Row) (step : Step) → made ≡ shown name (job d name) → step ≡ told (made ∷ [])
-    → IsMade all d d (job_show d caller (Some name)) step
-show_made all d caller name made step is told_is =
-    subst (λ (m : ModelStep). IsMade all d d m step) (shown_is name (job d name))
-    (made_row all d d made (shown name (job d name)) step is (shown_bare name (job d name)) told_is)
+pub show_made : (all : AllRows) (d : List Deed) (caller : Caller) (asked : Option (List ℕ)) (name : List ℕ) (found : Option FormValue) (made : Row) (step : Step) → asked ≡ Some name
+    → found ≡ job d name → made ≡ shown name found → step ≡ told (made ∷ []) → IsMade all d d (job_show d caller asked) step
+show_made all d caller asked name found made step named saved is told_is =
+    subst (λ (o : Option (List ℕ)). IsMade all d d (job_show d caller o) step) (sym named)
+    (subst (λ (m : ModelStep). IsMade all d d m step) (shown_is name (job d name))
+    (made_row all d d made (shown name (job d name)) step (is ∙ ap (shown name) saved) (shown_bare name (job d name)) told_is))
 
 -- one row more, if there is one
 pub row_more : (f : FormValue → Row) (rows new : List Row) (form : Option FormValue) (forms : List FormValue) → new ≡ rows ++ option_to_list (option_map f form)

@@ -1,7 +1,6 @@
 -- Steps of jobs one after another.
-use Rattle.std.proofs.Common.{◌≡◌, ◌+◌, ◌<◌, ℕ, Bool, true, false, List, [], ◌∷◌, ◌++◌, length, take, drop, get_or, Option, Some, None, refl, sym, ap, subst, ◌∙◌, add-one, drop-cons, append-nil}
+use Rattle.std.proofs.Common.{◌≡◌, ℕ, Bool, true, false, List, [], ◌∷◌, ◌++◌, Option, Some, None, refl, sym, ap, subst, ◌∙◌, append-nil}
 use Rattle.std.specs.Prelude.{codes, if◌then◌else◌, is_some}
-use Rattle.std.proofs.lemmas.List.{take_more}
 use Rattle.depot_rows.specs.table_changes.Changed.{AllRows}
 use Rattle.depot_rows.specs.spec_form.Form.{FormValue, with_field}
 use Rattle.depot_rows.specs.depot_model.declared.request.Caller.{Caller}
@@ -11,7 +10,7 @@ use Rattle.depot_rows.specs.depot_model.Deeds.{Deed, FixForm}
 use Rattle.depot_rows.specs.depot_model.Fixes.{closes, fix_form, fix_name, is_on}
 use Rattle.depot_rows.specs.depot_model.Latest.{spec}
 use Rattle.depot_rows.specs.depot_model.Numbers.{landing}
-use Rattle.depot_rows.specs.depot_model.Step.{Step as ModelStep, after, all_of, both, does, nothing}
+use Rattle.depot_rows.specs.depot_model.Step.{Step as ModelStep, after, all_of, both, nothing}
 use Rattle.depot_rows.specs.depot_model.Steps.Jobs.{closes_where, fix_job, fixed_row, unfix, unfix_job}
 use Rattle.depot_rows.specs.Effects.{Follow}
 use Rattle.depot_rows.specs.declared.deed.Deed.{Deed as Done}
@@ -76,13 +75,12 @@ module _ (all : AllRows) (d e : List Deed) (caller : Caller) (n : ℕ) (name : L
 -- ---- a fix that is taken off
 
 module _ (all : AllRows) (d e : List Deed) (n : ℕ) (name : List ℕ) where
-  pub unfixed_made : (form : FormValue) (row : Row) (off : FormValue) (key : List ℕ) (step : Step) → row ≡ fixed_row name n (codes "deleted")
-      → off ≡ with_field (codes "State") (codes "off") form → key ≡ fix_name name n → step.deeds ≡ dones.Spec Fix key off ∷ [] → step.rows ≡ row ∷ [] → step.stores ≡ [] → step.reads ≡ []
-      → IsMade all d e (unfix n name form) step
-  unfixed_made form row off key step row_is off_is key_is deeds rows stores reads =
+  pub unfixed_made : (form : FormValue) (row : Row) (key : List ℕ) (step : Step) → row ≡ fixed_row name n (codes "deleted") → key ≡ fix_name name n
+      → step.deeds ≡ dones.Spec Fix key (with_field (codes "State") (codes "off") form) ∷ [] → step.rows ≡ row ∷ [] → step.stores ≡ [] → step.reads ≡ [] → IsMade all d e (unfix n name form) step
+  unfixed_made form row key step row_is key_is deeds rows stores reads =
       made_of all d e (unfix n name form) step (refl, tt)
       (subst (λ (dones : List Done). Follow e dones (model.Spec FixForm (fix_name name n) (with_field (codes "State") (codes "off") form) ∷ []))
-      (sym (deeds ∙ (λ i. dones.Spec Fix (key_is i) (off_is i) ∷ []))) (refl, tt, tt))
+      (sym (deeds ∙ (λ i. dones.Spec Fix (key_is i) (with_field (codes "State") (codes "off") form) ∷ []))) (refl, tt, tt))
       (rows ∙ ap (λ (r : Row). r ∷ []) row_is) stores reads
 
   abbrev by_form : Option FormValue → ModelStep

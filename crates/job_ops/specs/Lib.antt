@@ -1,3 +1,1 @@
-pub mod Distinct
 pub mod Refusals
-pub mod Showing

@@ -1,6 +1,6 @@
 //! `fixes` (Command-Line Reference, "p4 fixes").
 
-ghost use Rattle.std.specs.Prelude.{◌≡◌, List, IfOk, map};
+ghost use Rattle.std.specs.Prelude.{◌≡◌, List, IfOk};
 ghost use Rattle.depot_rows.specs.db_records.declared.table.TableId.TheVariants as table_ids;
 ghost use Rattle.depot_rows.specs.depot_model.Deeds.{Deed};
 ghost use Rattle.depot_rows.specs.depot_model.Rules.{IsSound};
@@ -28,18 +28,6 @@ fn fix_row(alloc: Global, form: &Form) -> Result<Row, AllocError>
     Ok(row_of(fields))
 }
 
-/// The rows of fixes.
-fn fix_rows(alloc: Global, forms: &[Form]) -> Result<Sequence<Row>, AllocError>
-    ensures { IfOk result (λ rows. rows ≡ map steps.fix_row forms.now) }
-{
-    let mut rows = Sequence::new(alloc);
-    for form in forms {
-        let row = fix_row(alloc, form)?;
-        rows.push(row)?;
-    }
-    Ok(rows)
-}
-
 /// `fixes [-c N] [-j JOB]`, from the table of forms alone. It reads the fixes by the change, or without one those of the job, or all.
 pub fn fix_list(
     alloc: Global,
@@ -50,8 +38,12 @@ pub fn fix_list(
     ensures { IfOk result (λ step. (d : List Deed) → IsSound d → HasRows (rows_of tables.now) d table_ids.Domain →
         IsMade (rows_of tables.now) d d (steps.fixes d change job.now) step) }
 {
-    let forms = fixes_asked(alloc, tables, change, job)?;
-    let rows = fix_rows(alloc, forms.as_slice())?;
+    let fixes = fixes_asked(alloc, tables, change, job)?;
+    let forms = fixes.as_slice();
+    let mut rows = Sequence::new(alloc);
+    for form in forms {
+        rows.push(fix_row(alloc, form)?)?;
+    }
     Ok(Step {
         rows,
         ..Step::new(alloc)

@@ -9,10 +9,8 @@ mod fixing;
 mod jobs;
 mod refusals;
 mod saving;
-mod unfixing;
 
 pub use fixes::fix_list;
-pub use fixing::fix;
+pub use fixing::{fix, fix_delete};
 pub use jobs::{job_list, job_show};
 pub use saving::job_save;
-pub use unfixing::fix_delete;

@@ -1,56 +1,42 @@
--- Forms that are read or refused, and the steps of commands that save them.
-use Rattle.std.proofs.Common.{◌≡◌, ◌≤◌, ◌++◌, get_or, drop, take, arith, ◌⊎◌, inl, inr, ℕ, Bool, true, false, List, [], ◌∷◌, Option, Some, None, Result, Ok, Err, refl, sym, ap, ◌∙◌, subst}
+-- The steps of commands that show and save forms.
+use Rattle.std.proofs.Common.{◌≡◌, ◌≤◌, ◌<◌, ◌+◌, ◌++◌, get_or, drop, arith, ℕ, true, List, [], ◌∷◌, Option, Some, None, Result, Ok, Err, refl, sym, ap, ◌∙◌, subst, append_assoc, append-nil, add-one, drop-cons}
 use Rattle.std.specs.List.{cons_option, list_all}
 use Rattle.std.specs.Option.{option_to_list}
-use Rattle.std.proofs.lemmas.Grind.{common_steps}
-use Rattle.std.proofs.lemmas.List.{append_assoc, append-nil}
-use Rattle.depot_rows.specs.protect_table.Line.{table_of}
-use Rattle.depot_rows.specs.protect_table.declared.fault.ProtectFault.{ProtectFault}
-use Rattle.depot_rows.specs.protect_table.declared.line.ProtectLine.{ProtectLine}
-use Rattle.std.specs.Prelude.{◌-◌, filter_map, map, not, ◌&&◌, nat_lt, length, codes, option_map}
-use Rattle.depot_rows.specs.depot_path.Answers.{Answers, fault_of}
+use Rattle.std.specs.declared.alloc.AllocError.{AllocError}
+use Rattle.std.specs.Prelude.{IfOk, filter_map, map, length, codes, option_map}
+use Rattle.depot_rows.proofs.Keys.{left-true}
 use Rattle.depot_rows.specs.depot_path.Name.{is_name}
-use Rattle.depot_rows.specs.spec_form.Form.{FormValue, lines_of}
-use Rattle.depot_rows.specs.spec_form.Places.{line_place}
-use Rattle.depot_rows.specs.spec_form.Reading.{form_of, no_memory}
-use Rattle.depot_rows.specs.spec_form.declared.fault.FormFault.{FormFault}
-use Rattle.depot_rows.specs.spec_form.declared.fault.FormFaultKind.TheVariants.{Memory}
-use Rattle.depot_rows.specs.spec_form.declared.shape.Shape.{Shape}
+use Rattle.depot_rows.specs.spec_form.Form.{FormValue}
 use Rattle.depot_rows.specs.table_changes.Changed.{AllRows}
-use Rattle.depot_rows.specs.depot_model.declared.refusal.Refusal.{Refusal}
-use Rattle.depot_rows.specs.depot_model.declared.refusal.Refusal.TheVariants.{BadForm, OverLimit}
-use Rattle.depot_rows.specs.depot_model.declared.refusal.Limit.TheVariants.{Protections, View}
 use Rattle.depot_rows.specs.depot_model.declared.reply.Row.{Row}
-use Rattle.depot_rows.specs.depot_model.Deeds.{Deed, Group, Guard, Spec, ClientForm, LabelForm}
+use Rattle.depot_rows.specs.depot_model.Deeds.{Deed, LabelForm}
 use Rattle.depot_rows.specs.depot_model.Latest.{count_name, keys_of, spec, spec_name}
 use Rattle.depot_rows.specs.depot_model.Sorted.{inserted}
+use Rattle.depot_rows.specs.depot_model.Step.{does}
+use Rattle.depot_rows.specs.depot_model.Steps.Clients.{client_row}
 use Rattle.depot_rows.specs.depot_model.Steps.Counters.{counter_of, counter_row, counters}
+use Rattle.depot_rows.specs.depot_model.Steps.Labels.{label_row, labels, listed}
 use Rattle.depot_rows.specs.db_records.declared.rows.CounterRecord.{CounterRecord}
 use Rattle.row_reads.specs.Counters.{counters_of, valued}
-use Rattle.depot_rows.specs.depot_model.Refusals.{refusal_row}
-use Rattle.depot_rows.specs.depot_model.Step.{Step as ModelStep, does, refuses, refuse_if, tells, unless}
-use Rattle.depot_rows.specs.depot_model.Steps.Clients.{client_row, saved as saved_client}
-use Rattle.depot_rows.specs.depot_model.Steps.Labels.{label_row, labels, listed}
-use Rattle.depot_rows.specs.depot_model.Steps.Protections.{kept_line, saved as saved_lines}
-use Rattle.depot_rows.specs.depot_model.Values.{value_of}
-use Rattle.depot_rows.specs.view_map.Reading.{view_of}
-use Rattle.depot_rows.specs.view_map.declared.fault.ViewFault.{ViewFault}
-use Rattle.depot_rows.specs.view_map.declared.line.ViewLine.{ViewLine}
+use Rattle.depot_rows.specs.Effects.{Follow}
+use Rattle.depot_rows.specs.declared.deed.Deed.{Deed as Done}
 use Rattle.reply_rows.specs.declared.step.Step.{Step}
 use Rattle.reply_rows.specs.Made.{IsMade, told}
-use Rattle.reply_rows.specs.Refusing.{first_of}
-use Rattle.reply_rows.proofs.Bare.{AreBare, refuses_made, tells_made}
-use Rattle.spec_ops.specs.Saving.{client_refusals, protect_fault, protect_refusals, saved_alone, saved_row, shown, view_fault, view_refusal}
+use Rattle.reply_rows.proofs.Bare.{AreBare, tells_made}
+use Rattle.reply_rows.proofs.Joined.{made_done}
+use Rattle.spec_ops.specs.Saving.{shown}
 
--- a row that tells what is saved, or a form that is shown, is without a content
-pub shown_bare : (field name : List ℕ) (form : Option FormValue) → (shown field name form).content ≡ None
-shown_bare field name None = refl
-shown_bare field name (Some form) = refl
+-- what a call gives that is told by two clauses
+pub if_both : {Q : Step → Type 0} (A P : Step → Type 0) (result : Result Step AllocError) → IfOk result A → IfOk result P → ((step : Step) → A step → P step → Q step) → IfOk result Q
+if_both A P (Ok step) first second more = more step first second
+if_both A P (Err e) first second more = tt
 
-module _ (all : AllRows) (d : List Deed) where
-  pub tells_one : (row model : Row) (step : Step) → model.content ≡ None → row ≡ model → step ≡ told (row ∷ []) → IsMade all d d (tells (model ∷ [])) step
-  tells_one row model step bare same is =
-      subst (λ (s : Step). IsMade all d d (tells (model ∷ [])) s) (sym (is ∙ (λ i. told (same i ∷ [])))) (tells_made all d d (model ∷ []) (bare, tt))
+-- the step of a deed and a row
+pub does_made : (all : AllRows) (d : List Deed) (done : Done) (deed : Deed) (row is : Row) (started : Step) (deeds : List Done) → Follow d (done ∷ []) (deed ∷ []) → row ≡ is → is.content ≡ None
+    → started ≡ told (row ∷ []) → deeds ≡ started.deeds ++ done ∷ [] → IsMade all d d (does (deed ∷ []) is) (record started { deeds = deeds })
+does_made all d done deed row is started deeds follow same bare tells deeds_are =
+    made_done all d d (done ∷ []) (deed ∷ []) row is (record started { deeds = deeds }) follow same bare
+    (λ i. record { deeds = (deeds_are ∙ ap (λ (s : Step). s.deeds ++ done ∷ []) tells) i; rows = (tells i).rows; stores = (tells i).stores; reads = (tells i).reads })
 
 -- ---- clients and labels
 
@@ -70,71 +56,11 @@ pub label_bare : (name : List ℕ) (form : Option FormValue) → (label_row name
 label_bare name None = refl
 label_bare name (Some form) = refl
 
-abbrev pub client_kept : FormValue → ModelStep
-client_kept form =
-    does (Spec ClientForm (value_of form (codes "Client")) form ∷ []) (saved_row (codes "Client") (value_of form (codes "Client")))
-
-view_last : (input : List ℕ) (own : ModelStep) (read : Result (List ViewLine) ViewFault)
-    → elim read [ Err fault ↦ refuses (BadForm (line_place input (codes "View") (fault.line - 1))) | Ok view ↦ own ]
-    ≡ unless (option_map (view_fault input) (fault_of read) ∷ []) own
-view_last input own (Err fault) = refl
-view_last input own (Ok view) = refl
-
--- tests behind others
-behind : (first second : Option Refusal) (tests : List (Option Refusal)) (own : ModelStep) → unless (first ∷ second ∷ []) (unless tests own) ≡ unless (first ∷ second ∷ tests) own
-behind None None tests own = refl
-behind None (Some why) tests own = refl
-behind (Some why) second tests own = refl
-
-pub client_saved : (input : List ℕ) (form : FormValue) → saved_client input form ≡ unless (client_refusals input form) (client_kept form)
-client_saved input form =
-    let name = value_of form (codes "Client") in
-    let lines = lines_of form (codes "View") in
-    let one = refuse_if (not (is_name name)) (BadForm 0) in
-    let two = refuse_if (nat_lt 200 (length lines)) (OverLimit View) in
-    ap (unless (one ∷ two ∷ [])) (view_last input (client_kept form) (view_of name lines))
-    ∙ behind one two (view_refusal input name lines ∷ []) (client_kept form)
-
-abbrev pub label_kept : FormValue → ModelStep
-label_kept form =
-    does (Spec LabelForm (value_of form (codes "Label")) form ∷ []) (saved_row (codes "Label") (value_of form (codes "Label")))
-
--- what a name that is one leaves of the refusals
-pub last_alone : (name : List ℕ) (last : Option Refusal) → is_name name ≡ true
-    → option_map refusal_row last ≡ option_map refusal_row (first_of (refuse_if (not (is_name name)) (BadForm 0) ∷ last ∷ []))
-last_alone name last e = ap (λ found. option_map refusal_row found) (first_alone last) ∙ ap (λ b. option_map refusal_row (first_of (refuse_if (not b) (BadForm 0) ∷ last ∷ []))) (sym e)
-  where
-    first_alone : (test : Option Refusal) → test ≡ first_of (refuse_if (not true) (BadForm 0) ∷ test ∷ [])
-    first_alone None = refl
-    first_alone (Some why) = refl
-
--- ---- groups and protections
-
-both_true : (a b : Bool) → (a && b) ≡ true → a ≡ true
-both_true true b e = refl
-both_true false b e = absurd cc
+-- ---- groups
 
 pub first_named : (lines : List (List ℕ)) (line : List ℕ) → 1 ≤ length lines → line ≡ get_or lines 0 line → list_all is_name lines ≡ true → is_name line ≡ true
 first_named [] line h e all = absurd (omega arith)
-first_named (first ∷ lines) line h e all = ap is_name e ∙ both_true (is_name first) (list_all is_name lines) all
-
-abbrev pub group_kept : List ℕ → List (List ℕ) → ModelStep
-group_kept name users = does (Group name users ∷ []) (saved_row (codes "Group") name)
-
-abbrev pub lines_kept : List (List ℕ) → ModelStep
-lines_kept lines = does (Guard (map kept_line lines) ∷ []) saved_alone
-
-by_lines : (input : List ℕ) (lines : List (List ℕ)) (own : ModelStep) (read : Result (List ProtectLine) ProtectFault)
-    → elim read [
-      | Err fault ↦ refuses (BadForm (line_place input (codes "Protections") (fault.line - 1)))
-      | Ok protects ↦ unless (refuse_if (nat_lt 1000 (length lines)) (OverLimit Protections) ∷ []) own
-    ]
-    ≡ unless (option_map (protect_fault input) (fault_of read) ∷ refuse_if (nat_lt 1000 (length lines)) (OverLimit Protections) ∷ []) own
-by_lines input lines own (Err fault) = refl
-by_lines input lines own (Ok protects) = refl
-
-pub lines_saved : (input : List ℕ) (lines : List (List ℕ)) → saved_lines input lines ≡ unless (protect_refusals input lines) (lines_kept lines)
-lines_saved input lines = by_lines input lines (lines_kept lines) (table_of lines)
+first_named (first ∷ lines) line h e all = ap is_name e ∙ left-true (is_name first) (list_all is_name lines) all
 
 -- ---- rows of labels
 
@@ -150,18 +76,16 @@ pub labels_made : (all : AllRows) (d : List Deed) (rows : List Row) → rows ≡
 labels_made all d rows e =
     subst (λ (r : List Row). IsMade all d d (labels d) (told r)) (sym e) (tells_made all d d (labels d).rows (labels_bare d (keys_of (spec_name LabelForm) d)))
 
-with_next : (f : List ℕ → Option Row) (rows : List Row) (row : Option Row) (more : List Row) → (rows ++ option_to_list row) ++ more ≡ rows ++ cons_option row more
-with_next f rows None more = ap (λ (r : List Row). r ++ more) (append-nil rows)
-with_next f rows (Some row) more = append_assoc rows (row ∷ []) more
+with_next : (rows : List Row) (row : Option Row) (more : List Row) → (rows ++ option_to_list row) ++ more ≡ rows ++ cons_option row more
+with_next rows None more = ap (λ (r : List Row). r ++ more) (append-nil rows)
+with_next rows (Some row) more = append_assoc rows (row ∷ []) more
 
-all_but_first : (first : List ℕ) (names : List (List ℕ)) → take (length (first ∷ names) - 1) (drop 1 (first ∷ names)) ≡ names
-all_but_first first names = grind (arith, common_steps)
-
-pub row_moved : (f : List ℕ → Option Row) (rows new : List Row) (names : List (List ℕ)) (name : List ℕ) → 1 ≤ length names → name ≡ get_or names 0 name
-    → new ≡ rows ++ option_to_list (f name) → new ++ filter_map f (take (length names - 1) (drop 1 names)) ≡ rows ++ filter_map f names
-row_moved f rows new [] name h e k = absurd (omega arith)
-row_moved f rows new (first ∷ names) name h e k =
-    ap (λ l. new ++ filter_map f l) (all_but_first first names) ∙ ap (λ (r : List Row). r ++ filter_map f names) (k ∙ ap (λ n. rows ++ option_to_list (f n)) e) ∙ with_next f rows (f first) (filter_map f names)
+-- the row of one name more, if there is one
+pub row_moved : (f : List ℕ → Option Row) (rows new : List Row) (names : List (List ℕ)) (i : ℕ) (name : List ℕ) → i < length names → name ≡ get_or names i name
+    → new ≡ rows ++ option_to_list (f name) → new ++ filter_map f (drop (i + 1) names) ≡ rows ++ filter_map f (drop i names)
+row_moved f rows new names i name within is told =
+    ap (λ (r : List Row). r ++ filter_map f (drop (i + 1) names)) told ∙ with_next rows (f name) (filter_map f (drop (i + 1) names))
+    ∙ ap (λ (l : List (List ℕ)). rows ++ filter_map f l) (sym (drop-cons names i name within ∙ (λ j. sym is j ∷ drop (sym (add-one i) j) names)))
 
 -- ---- rows of counters
 

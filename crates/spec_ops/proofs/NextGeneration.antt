@@ -1,5 +1,5 @@
 -- The step of a checkpoint, by the value of the counter that tells the generation.
-use Rattle.std.proofs.Common.{◌≡◌, ℕ, ◌+◌, ◌≤◌, ◌<◌, Bool, true, false, List, [], ◌∷◌, Option, Some, None, refl, sym, ap, subst, ◌∙◌, arith}
+use Rattle.std.proofs.Common.{◌≡◌, ℕ, ◌+◌, ◌≤◌, ◌<◌, Bool, true, false, List, [], ◌∷◌, Option, Some, None, refl, sym, ap, ◌∙◌, arith}
 use Rattle.std.proofs.lemmas.Bool.Decides.{nat_tests}
 use Rattle.std.specs.Prelude.{codes, nat_le, option_map, unwrap_or}
 use Rattle.depot_rows.specs.db_records.declared.key.Key.TheVariants as keys
@@ -8,8 +8,7 @@ use Rattle.depot_rows.specs.db_records.declared.record.Record.TheVariants.{Count
 use Rattle.depot_rows.specs.db_records.declared.table.TableId.TheVariants as table_ids
 use Rattle.depot_rows.specs.depot_model.Deeds.{Count, Deed}
 use Rattle.depot_rows.specs.depot_model.Latest.{count_of}
-use Rattle.depot_rows.specs.depot_model.Records.{record_of, unplaced}
-use Rattle.depot_rows.specs.depot_model.Refusals.{refusal_row}
+use Rattle.depot_rows.specs.depot_model.Records.{unplaced}
 use Rattle.depot_rows.specs.depot_model.Rows.{row, number_field}
 use Rattle.depot_rows.specs.depot_model.Step.{Step, does, refuse_if, refuses, unless}
 use Rattle.depot_rows.specs.depot_model.Steps.Checkpoint.{checkpoint, generation}

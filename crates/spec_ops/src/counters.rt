@@ -1,7 +1,6 @@
 //! `counter` (Command-Line Reference, "p4 counter").
 
-ghost use Rattle.std.specs.Prelude.{◌≡◌, ◌∷◌, [], List, map, IfOk};
-ghost use Rattle.std.specs.Option.{option_copied};
+ghost use Rattle.std.specs.Prelude.{◌≡◌, ◌∷◌, [], List, IfOk};
 ghost use Rattle.depot_rows.specs.db_records.declared.table.TableId.TheVariants as table_ids;
 ghost use Rattle.depot_rows.specs.table_changes.Changed.{AllRows, rows_of};
 ghost use Rattle.depot_rows.specs.table_store.Rows.{row_at};
@@ -15,37 +14,19 @@ ghost use Rattle.spec_ops.specs.Counters.{value_in};
 
 use depot_rows::model::Row;
 use depot_rows::paths::{Name, Sequence, Text};
-use depot_rows::records::{CounterRecord, Key, Record, TableId};
+use depot_rows::records::{Key, Record, TableId};
 use depot_rows::tables::Tables;
-use reply_rows::{Step, number_field, row_of, text_field};
+use reply_rows::{RowBuilder, Step};
 use row_reads::counters_of;
 use std::alloc::{AllocError, Global};
 
-/// The row of a value, 0 standing for none.
-fn value_row(alloc: Global, name: &[u8], value: u64) -> Result<Row, AllocError>
+/// The row of a counter with its value, 0 standing for none.
+fn counter_row(alloc: Global, name: &[u8], value: u64) -> Result<Row, AllocError>
     ensures { IfOk result (λ row. row ≡ model.counter_row name.now value) }
 {
-    let mut fields = Sequence::new(alloc);
-    fields.push(text_field(alloc, b"counter", name)?)?;
-    fields.push(number_field(alloc, b"value", value)?)?;
-    Ok(row_of(fields))
-}
-
-/// The row of a counter.
-fn counter_row(alloc: Global, name: &Name, value: u64) -> Result<Row, AllocError>
-    ensures { IfOk result (λ row. row ≡ model.counter_row name.now value) }
-{
-    value_row(alloc, name.as_bytes(), value)
-}
-
-/// The value in the row of a counter, 0 where there is none.
-fn value_of(row: Option<&Record>) -> u64
-    ensures { result ≡ value_in (option_copied row.entry) }
-{
-    match row {
-        Some(Record::Counter(counter)) => counter.value,
-        _ => 0,
-    }
+    let row = RowBuilder::new(alloc).text(b"counter", name)?;
+    let row = row.number(b"value", value)?;
+    Ok(row.row())
 }
 
 /// The value of a counter, 0 where it has none.
@@ -55,7 +36,10 @@ pub(crate) fn counter_value(alloc: Global, tables: &Tables, name: &Name) -> Resu
     let key = Key::Counter {
         name: Text::from_bytes(alloc, name.as_bytes())?,
     };
-    Ok(value_of(tables.version(TableId::Counter).get(&key)))
+    match tables.version(TableId::Counter).get(&key) {
+        Some(Record::Counter(counter)) => Ok(counter.value),
+        _ => Ok(0),
+    }
 }
 
 /// `counter NAME`, from the table of counters alone.
@@ -63,8 +47,8 @@ pub fn counter_show(alloc: Global, tables: &Tables, name: &Name) -> Result<Step,
     ensures { IfOk result (λ step. (d : List ModelDeed) → HasRows (rows_of tables.now) d table_ids.Counter → IsMade (rows_of tables.now) d d (model.counter_show d name.now) step) }
 {
     let value = counter_value(alloc, tables, name)?;
-    let step = Step::tells(alloc, counter_row(alloc, name, value)?)?;
-    Ok(step)
+    let row = counter_row(alloc, name.as_bytes(), value)?;
+    Step::tells(alloc, row)
 }
 
 /// The same name once more.
@@ -78,8 +62,9 @@ fn copy_of(name: &Name) -> Result<Name, AllocError>
 fn count(alloc: Global, name: &Name, value: Option<u64>, shown: u64) -> Result<Step, AllocError>
     ensures { IfOk result (λ step. (all : AllRows) (d : List ModelDeed) → IsMade all d d (does (Count name.now value ∷ []) (model.counter_row name.now shown)) step) }
 {
-    let mut step = Step::tells(alloc, counter_row(alloc, name, shown)?)?;
+    let row = counter_row(alloc, name.as_bytes(), shown)?;
     let name = copy_of(name)?;
+    let mut step = Step::tells(alloc, row)?;
     step.deeds.count(name, value)?;
     Ok(step)
 }
@@ -98,23 +83,16 @@ pub fn counter_delete(alloc: Global, name: &Name) -> Result<Step, AllocError>
     count(alloc, name, None, 0)
 }
 
-/// The rows of counters.
-fn counter_rows(alloc: Global, counters: &[CounterRecord]) -> Result<Sequence<Row>, AllocError>
-    ensures { IfOk result (λ rows. rows ≡ map (λ c. model.counter_row c.name c.value) counters.now) }
-{
-    let mut rows = Sequence::new(alloc);
-    for counter in counters {
-        rows.push(value_row(alloc, counter.name.as_bytes(), counter.value)?)?;
-    }
-    Ok(rows)
-}
-
 /// `counters`, from the table of counters alone.
 pub fn counter_list(alloc: Global, tables: &Tables) -> Result<Step, AllocError>
     ensures { IfOk result (λ step. (d : List ModelDeed) → HasRows (rows_of tables.now) d table_ids.Counter → IsMade (rows_of tables.now) d d (model.counters d) step) }
 {
-    let counters = counters_of(alloc, tables)?;
-    let rows = counter_rows(alloc, counters.as_slice())?;
+    let found = counters_of(alloc, tables)?;
+    let counters = found.as_slice();
+    let mut rows = Sequence::new(alloc);
+    for counter in counters {
+        rows.push(counter_row(alloc, counter.name.as_bytes(), counter.value)?)?;
+    }
     Ok(Step {
         rows,
         ..Step::new(alloc)

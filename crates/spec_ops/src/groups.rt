@@ -1,49 +1,34 @@
 //! `group` (Command-Line Reference, "p4 group").
 
-ghost use Rattle.std.specs.Prelude.{◌≡◌, ◌∷◌, [], true, List, codes, IfOk, option_map};
+ghost use Rattle.std.specs.Prelude.{◌≡◌, true, List, IfOk};
 ghost use Rattle.std.specs.List.{list_all};
 ghost use Rattle.depot_rows.specs.depot_path.Name.{is_name as name_test};
 ghost use Rattle.depot_rows.specs.db_records.declared.table.TableId.TheVariants as table_ids;
-ghost use Rattle.depot_rows.specs.spec_form.Form.{lines_of};
 ghost use Rattle.depot_rows.specs.table_changes.Changed.{AllRows, rows_of};
-ghost use Rattle.depot_rows.specs.depot_model.Deeds.{Deed, Group};
-ghost use Rattle.depot_rows.specs.depot_model.Refusals.{refusal_row};
-ghost use Rattle.depot_rows.specs.depot_model.Step.{does};
+ghost use Rattle.depot_rows.specs.depot_model.Deeds.{Deed};
 ghost use Rattle.depot_rows.specs.depot_model.Steps.Groups as model;
-ghost use Rattle.depot_rows.specs.depot_model.Values.{value_of};
 ghost use Rattle.depot_rows.specs.Standing.{HasRows};
 ghost use Rattle.reply_rows.specs.Made.{IsMade};
-ghost use Rattle.reply_rows.specs.Refusing.{first_of};
-ghost use Rattle.spec_ops.specs.Saving.{group_refusals, group_row as row_of_group, saved_row as row_of_saved, users_refusals};
 
 use crate::saving::saved_row;
 use command_parts::{named, unread};
 use depot_rows::forms::{Form, Shape, line_place};
-use depot_rows::model::{Limit, Row};
+use depot_rows::model::Limit;
 use depot_rows::paths::{Name, Sequence, Text, is_name};
 use depot_rows::tables::Tables;
 use reply_rows::{Step, bad_form_row, limit_row, push_numbered, row_of, text_field};
 use row_reads::{form_value, users_of};
 use std::alloc::{AllocError, Global};
 
-/// The row of a group with these users.
-fn group_row(alloc: Global, name: &[u8], users: &[Text]) -> Result<Row, AllocError>
-    ensures { IfOk result (λ row. row ≡ row_of_group name.now users.now) }
-{
-    let mut fields = Sequence::new(alloc);
-    fields.push(text_field(alloc, b"Group", name)?)?;
-    push_numbered(alloc, &mut fields, b"Users", users)?;
-    Ok(row_of(fields))
-}
-
 /// `group -o NAME`, from the table of groups alone.
 pub fn group_show(alloc: Global, tables: &Tables, name: &Name) -> Result<Step, AllocError>
     ensures { IfOk result (λ step. (d : List Deed) → HasRows (rows_of tables.now) d table_ids.Group → IsMade (rows_of tables.now) d d (model.group_show d name.now) step) }
 {
     let users = users_of(alloc, tables, name)?;
-    let row = group_row(alloc, name.as_bytes(), users.as_slice())?;
-    let step = Step::tells(alloc, row)?;
-    Ok(step)
+    let mut fields = Sequence::new(alloc);
+    fields.push(text_field(alloc, b"Group", name.as_bytes())?)?;
+    push_numbered(alloc, &mut fields, b"Users", users.as_slice())?;
+    Step::tells(alloc, row_of(fields))
 }
 
 /// Whether all lines are names.
@@ -67,44 +52,29 @@ fn names_of(alloc: Global, lines: &[Text]) -> Result<Sequence<Name>, AllocError>
     Ok(names)
 }
 
-/// The row of the first refusal of users.
-fn users_refusal(alloc: Global, users: &[Text]) -> Result<Option<Row>, AllocError>
-    ensures { IfOk result (λ refused. refused ≡ option_map refusal_row (first_of (users_refusals users.now))) }
+/// The step of a form that could be read.
+fn save(alloc: Global, input: &[u8], form: &Form) -> Result<Step, AllocError>
+    ensures { IfOk result (λ step. (all : AllRows) (d : List Deed) → IsMade all d d (model.saved input.now form.now) step) }
 {
+    let group = form_value(form, "Group");
+    if !is_name(group) {
+        let row = bad_form_row(alloc, 0)?;
+        return Step::tells(alloc, row);
+    }
+    let subgroups = form.lines("Subgroups");
+    if subgroups.len() > 0 {
+        let row = bad_form_row(alloc, line_place(input, "Subgroups", 0))?;
+        return Step::tells(alloc, row);
+    }
+    let users = form.lines("Users");
     if !are_names(users) {
         let row = bad_form_row(alloc, 0)?;
-        return Ok(Some(row));
+        return Step::tells(alloc, row);
     }
     if users.len() > 10_000 {
         let row = limit_row(alloc, Limit::Users)?;
-        return Ok(Some(row));
+        return Step::tells(alloc, row);
     }
-    Ok(None)
-}
-
-/// The row of the first refusal of a group's form.
-fn refusal(alloc: Global, input: &[u8], form: &Form) -> Result<Option<Row>, AllocError>
-    ensures { IfOk result (λ refused. refused ≡ option_map refusal_row (first_of (group_refusals input.now form.now))) }
-{
-    if !is_name(form_value(form, "Group")) {
-        let row = bad_form_row(alloc, 0)?;
-        return Ok(Some(row));
-    }
-    if form.lines("Subgroups").len() > 0 {
-        let row = bad_form_row(alloc, line_place(input, "Subgroups", 0))?;
-        return Ok(Some(row));
-    }
-    let refused = users_refusal(alloc, form.lines("Users"))?;
-    Ok(refused)
-}
-
-/// The step that saves a group.
-fn keep(alloc: Global, group: &[u8], users: &[Text]) -> Result<Step, AllocError>
-    requires name { name_test group.now ≡ true }
-    requires users { list_all name_test users.now ≡ true }
-    ensures { IfOk result (λ step. (all : AllRows) (d : List Deed) →
-        IsMade all d d (does (Group group.now users.now ∷ []) (row_of_saved (codes "Group") group.now)) step) }
-{
     let name = named(alloc, group)?;
     let users = names_of(alloc, users)?;
     let row = saved_row(alloc, b"Group", group)?;
@@ -113,36 +83,13 @@ fn keep(alloc: Global, group: &[u8], users: &[Text]) -> Result<Step, AllocError>
     Ok(step)
 }
 
-/// The step of a form that could be read.
-fn save(alloc: Global, input: &[u8], form: &Form) -> Result<Step, AllocError>
-    ensures { IfOk result (λ step. (all : AllRows) (d : List Deed) → IsMade all d d (model.saved input.now form.now) step) }
-{
-    let refused = refusal(alloc, input, form)?;
-    match refused {
-        Some(row) => {
-            let step = Step::tells(alloc, row)?;
-            Ok(step)
-        }
-        None => {
-            let step = keep(alloc, form_value(form, "Group"), form.lines("Users"))?;
-            Ok(step)
-        }
-    }
-}
-
 /// `group -i`: the group has the users of the form that the input spells. It is refused first where it can't be read, then that its name
 /// is none, that it has subgroups, that one of its users is no name, and that it has more than 10,000 of them.
 pub fn group_save(alloc: Global, input: &[u8]) -> Result<Step, AllocError>
     ensures { IfOk result (λ step. (all : AllRows) (d : List Deed) → IsMade all d d (model.group_save input.now) step) }
 {
     match Form::read(alloc, input, Shape::Group) {
-        Ok(form) => {
-            let step = save(alloc, input, &form)?;
-            Ok(step)
-        }
-        Err(fault) => {
-            let step = unread(alloc, fault)?;
-            Ok(step)
-        }
+        Ok(form) => save(alloc, input, &form),
+        Err(fault) => unread(alloc, fault),
     }
 }

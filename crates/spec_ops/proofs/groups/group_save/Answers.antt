@@ -1,9 +1,21 @@
+use Rattle.std.proofs.Common.{ℕ, List}
 use Rattle.depot_rows.specs.spec_form.declared.shape.Shape.TheVariants.{Group}
-use Rattle.depot_rows.specs.depot_model.Steps.Groups.{saved}
-use Rattle.command_parts.proofs.Refused.{read_made}
+use Rattle.depot_rows.specs.table_changes.Changed.{AllRows}
+use Rattle.depot_rows.specs.depot_model.Deeds.{Deed}
+use Rattle.depot_rows.specs.depot_model.Steps.Groups.{group_save, saved}
+use Rattle.reply_rows.specs.declared.step.Step.{Step}
+use Rattle.reply_rows.specs.Made.{IsMade}
+use Rattle.command_parts.proofs.Refused.{if_ok, read_made, unread_made}
+use Rattle.spec_ops.proofs.Made.{if_both}
 use Rattle.spec_ops.proofs.groups.group_save.Goals as goal
 
-pub returns-in_ok-step-in-Ok : goal.returns-in_ok-step-in-Ok
-returns-in_ok-step-in-Ok c = λ all d.
-    let input = c.args.input.now in
-    read_made all d Group input (saved input) c.in_ok-step-in-Ok.step c.in-Ok.form c.in-Ok.ensures.read (c.in_ok-step-in-Ok.ensures all d)
+abbrev Saves : List ℕ → Step → Type 0
+Saves input step = (all : AllRows) (d : List Deed) → IsMade all d d (group_save input) step
+
+pub returns-in-Ok : goal.returns-in-Ok
+returns-in-Ok c = if_ok {Q = Saves c.args.input.now} _ _ c.save.ensures (λ step made all d.
+    read_made all d Group c.args.input.now (saved c.args.input.now) step c.in-Ok.form c.in-Ok.ensures.read (made all d))
+
+pub returns-in-Err : goal.returns-in-Err
+returns-in-Err c = if_both {Q = Saves c.args.input.now} _ _ _ c.unread.ensures.known c.unread.ensures.told (λ step known told all d.
+    unread_made all d Group c.args.input.now (saved c.args.input.now) step c.in-Err.fault c.in-Err.ensures.read known told)
