@@ -43,25 +43,25 @@ fn is_named(
 
 /// Those of some files that an argument names and that the caller may list, in their order. Where `mapped_only` holds, an argument in client syntax
 /// names the files that the client's view puts at a fitting path; else those that the client shows at one, at the revisions for which the argument asks.
-/// It reads the rights and the view for this one call: who has several arguments makes one [`Asker`] for them all. The one error is want of memory.
+/// The asker is the caller's, and one for all its arguments. The one error is want of memory.
 pub fn named(
     alloc: Global,
     tables: &Tables,
     caller: &Caller,
+    asker: &Asker,
     argument: &FileArgument,
     files: &[DepotPath],
     mapped_only: bool,
 ) -> Result<Sequence<DepotPath>, AllocError>
-    ensures { IfOk result (λ found. (d : List Deed) → NamesBy (rows_of tables.now) d mapped_only → found ≡ named_files mapped_only d caller.now files.now argument.now) }
+    ensures { IfOk result (λ found. (d : List Deed) → NamesBy (rows_of tables.now) d mapped_only → IsAsker d caller.now asker.now →
+        found ≡ named_files mapped_only d caller.now files.now argument.now) }
 {
-    let asker = Asker::of(alloc, tables, caller)?;
     let mut found = Sequence::new(alloc);
     for path in files {
-        if is_named(alloc, tables, caller, &asker, argument, path, mapped_only)? {
+        if is_named(alloc, tables, caller, asker, argument, path, mapped_only)? {
             let own = own_path(path)?;
             found.push(own)?;
         }
     }
-    drop(asker);
     Ok(found)
 }

@@ -16,7 +16,7 @@ ghost use Rattle.named_files.specs.Asked.{IsAsker};
 ghost use Rattle.change_lists.specs.Describing.{content_fields, described_told, fields_at, landed_by, landed_told, numbered_name as name_numbered, record_fields as fields_of_record, revision_fields};
 
 use crate::files::landed_rows;
-use depot_rows::model::{Caller, Field, Row};
+use depot_rows::model::{Field, Row};
 use depot_rows::paths::{Sequence, Text};
 use depot_rows::records::{ChangeRecord, RevRecord};
 use depot_rows::tables::Tables;
@@ -216,8 +216,9 @@ fn describe_found(
     }
 }
 
-/// `describe -s N` of an asker.
-fn describe_asked(
+/// `describe -s N`: a change, and of a submitted one the revisions that it made of files that the caller may list; one without such is as one that
+/// isn't there. It reads the tables of changes and revisions alone, and of the revisions those that the change made.
+pub fn describe(
     alloc: Global,
     tables: &Tables,
     asker: &Asker,
@@ -228,24 +229,5 @@ fn describe_asked(
 {
     let found = change_of(tables, change);
     let step = describe_found(alloc, tables, asker, change, found)?;
-    Ok(step)
-}
-
-/// `describe -s N`: a change, and of a submitted one the revisions that it made of files that the caller may list; one without such is as one that
-/// isn't there. It reads the tables of groups, protections, forms, changes and revisions alone, and of the revisions those that the change made.
-pub fn describe(
-    alloc: Global,
-    tables: &Tables,
-    caller: &Caller,
-    change: u32,
-) -> Result<Step, AllocError>
-    ensures { IfOk result (λ step. (d : List Deed) → IsSound d → HasRows (rows_of tables.now) d table_ids.Group → HasRows (rows_of tables.now) d table_ids.Protect →
-        HasRows (rows_of tables.now) d table_ids.Domain → HasRows (rows_of tables.now) d table_ids.Change → HasRows (rows_of tables.now) d table_ids.Rev →
-        IsMade (rows_of tables.now) d d (model.describe d caller.now change) step) }
-{
-    let asker = Asker::of(alloc, tables, caller)?;
-    let done = describe_asked(alloc, tables, &asker, change);
-    drop(asker);
-    let step = done?;
     Ok(step)
 }

@@ -271,8 +271,13 @@ fn changes_told(
     Ok(rows)
 }
 
-/// `changes` of an asker.
-fn changes_asked(
+/// `changes`: the changes of a status, a user and a client, where they are given, and of these those that made a revision that an argument selects, if
+/// there are arguments; a submitted one where the caller may list one of its files. The greatest number is the first, and there are at most `most`. An
+/// argument that names no file is refused. It reads the tables of forms, have lists, labels, changes and revisions alone. With
+/// arguments it reads of the revisions those of the files that they name, sorts the numbers of their changes, and looks these up from the greatest
+/// down, until there are enough. Else it looks up each number from the greatest down, and of a submitted change that passes the revisions that it made,
+/// until there is one of a file that the caller may list.
+pub fn changes(
     alloc: Global,
     tables: &Tables,
     caller: &Caller,
@@ -283,7 +288,9 @@ fn changes_asked(
     client: &Option<Name>,
     files: &[FileArgument],
 ) -> Result<Step, AllocError>
-    ensures { IfOk result (λ step. (d : List Deed) → ShownReads caller.now asker.now Submitted (rows_of tables.now) d →
+    ensures { IfOk result (λ step. (d : List Deed) → IsSound d → IsAsker d caller.now asker.now → HasRows (rows_of tables.now) d table_ids.Domain →
+        HasRows (rows_of tables.now) d table_ids.Have → HasRows (rows_of tables.now) d table_ids.Label → HasRows (rows_of tables.now) d table_ids.Change →
+        HasRows (rows_of tables.now) d table_ids.Rev →
         IsMade (rows_of tables.now) d d (model.changes d caller.now most status.now user.now client.now files.now) step) }
 {
     let rows = changes_told(
@@ -291,35 +298,5 @@ fn changes_asked(
     )?;
     let mut step = Step::new(alloc);
     step.rows = rows;
-    Ok(step)
-}
-
-/// `changes`: the changes of a status, a user and a client, where they are given, and of these those that made a revision that an argument selects, if
-/// there are arguments; a submitted one where the caller may list one of its files. The greatest number is the first, and there are at most `most`. An
-/// argument that names no file is refused. It reads the tables of groups, protections, forms, have lists, labels, changes and revisions alone. With
-/// arguments it reads of the revisions those of the files that they name, sorts the numbers of their changes, and looks these up from the greatest
-/// down, until there are enough. Else it looks up each number from the greatest down, and of a submitted change that passes the revisions that it made,
-/// until there is one of a file that the caller may list.
-pub fn changes(
-    alloc: Global,
-    tables: &Tables,
-    caller: &Caller,
-    most: Option<u32>,
-    status: &Option<Text>,
-    user: &Option<Name>,
-    client: &Option<Name>,
-    files: &[FileArgument],
-) -> Result<Step, AllocError>
-    ensures { IfOk result (λ step. (d : List Deed) → IsSound d → HasRows (rows_of tables.now) d table_ids.Group → HasRows (rows_of tables.now) d table_ids.Protect →
-        HasRows (rows_of tables.now) d table_ids.Domain → HasRows (rows_of tables.now) d table_ids.Have → HasRows (rows_of tables.now) d table_ids.Label →
-        HasRows (rows_of tables.now) d table_ids.Change → HasRows (rows_of tables.now) d table_ids.Rev →
-        IsMade (rows_of tables.now) d d (model.changes d caller.now most status.now user.now client.now files.now) step) }
-{
-    let asker = Asker::of(alloc, tables, caller)?;
-    let done = changes_asked(
-        alloc, tables, caller, &asker, most, status, user, client, files,
-    );
-    drop(asker);
-    let step = done?;
     Ok(step)
 }

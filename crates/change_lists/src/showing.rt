@@ -185,8 +185,9 @@ fn show_found(
     }
 }
 
-/// `change -o [N]` of an asker.
-fn show_asked(
+/// `change -o [N]`: a change with the opened files that the caller may list; without a number the form for a new one, with those of the default
+/// change. It reads the tables of changes and opened files alone.
+pub fn change_show(
     alloc: Global,
     tables: &Tables,
     caller: &Caller,
@@ -207,23 +208,4 @@ fn show_asked(
             Ok(step)
         }
     }
-}
-
-/// `change -o [N]`: a change with the opened files that the caller may list; without a number the form for a new one, with those of the default
-/// change. It reads the tables of groups, protections, forms, changes and opened files alone.
-pub fn change_show(
-    alloc: Global,
-    tables: &Tables,
-    caller: &Caller,
-    change: Option<u32>,
-) -> Result<Step, AllocError>
-    ensures { IfOk result (λ step. (d : List Deed) → IsSound d → HasRows (rows_of tables.now) d table_ids.Group → HasRows (rows_of tables.now) d table_ids.Protect →
-        HasRows (rows_of tables.now) d table_ids.Domain → HasRows (rows_of tables.now) d table_ids.Change → HasRows (rows_of tables.now) d table_ids.Working →
-        IsMade (rows_of tables.now) d d (model.change_show d caller.now change) step) }
-{
-    let asker = Asker::of(alloc, tables, caller)?;
-    let done = show_asked(alloc, tables, caller, &asker, change);
-    drop(asker);
-    let step = done?;
-    Ok(step)
 }

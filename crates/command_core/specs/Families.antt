@@ -3,7 +3,7 @@ use Rattle.std.specs.Prelude.{Bool, true, false}
 use Rattle.depot_rows.specs.depot_model.declared.command.Command.{Command}
 use Rattle.depot_rows.specs.depot_model.declared.command.Command.TheVariants.{CounterShow, CounterSet, CounterDelete, Counters, ClientShow, ClientSave, LabelShow, LabelSave, Labels, GroupShow, GroupSave, ProtectShow, ProtectSave, Add, Edit, Delete, Move, Revert, Reopen, Lock, Unlock, Opened, ChangeShow, ChangeSave, ChangeDelete, Changes, Describe, Where, Sync, Have, Tag, LabelSync, Files, FileLog, Print, Dirs, FileStat, Integrate, Resolve, Integrated, Checkpoint, Pull, JobShow, JobSave, Jobs, Fix, FixDelete, Fixes, SubmitChange, SubmitDefault, Shelve, ShelveDelete, Unshelve, DescribeShelved}
 
--- counters, clients, labels, groups and protections
+-- counters and forms: of clients, labels, groups and protections, and those of changes that are saved or deleted
 abbrev pub is_spec : Command → Bool
 is_spec (CounterShow name) = true
 is_spec (CounterSet name value) = true
@@ -18,6 +18,8 @@ is_spec (GroupShow name) = true
 is_spec GroupSave = true
 is_spec ProtectShow = true
 is_spec ProtectSave = true
+is_spec ChangeSave = true
+is_spec (ChangeDelete change) = true
 is_spec _ = false
 
 -- opened files
@@ -33,11 +35,9 @@ is_opening (Unlock change files) = true
 is_opening (Opened all files) = true
 is_opening _ = false
 
--- changes
+-- changes that are shown
 abbrev pub is_change : Command → Bool
 is_change (ChangeShow change) = true
-is_change ChangeSave = true
-is_change (ChangeDelete change) = true
 is_change (Changes most status user client files) = true
 is_change (Describe change) = true
 is_change _ = false

@@ -8,7 +8,7 @@ use depot_rows::model::{Command, FileArgument, PatternArgument};
 use depot_rows::protections::Level;
 use std::slice;
 
-/// Whether a command is one of counters or forms.
+/// Whether a command is one of counters or forms, changes that are saved or deleted among them.
 pub(crate) fn is_spec(command: &Command) -> bool
     ensures { result ≡ is_spec_in command.now }
 {
@@ -27,6 +27,8 @@ pub(crate) fn is_spec(command: &Command) -> bool
             | Command::GroupSave
             | Command::ProtectShow
             | Command::ProtectSave
+            | Command::ChangeSave
+            | Command::ChangeDelete { .. }
     )
 }
 
@@ -48,17 +50,13 @@ pub(crate) fn is_opening(command: &Command) -> bool
     )
 }
 
-/// Whether a command is one of changes.
+/// Whether a command shows changes.
 pub(crate) fn is_change(command: &Command) -> bool
     ensures { result ≡ is_change_in command.now }
 {
     matches!(
         command,
-        Command::ChangeShow { .. }
-            | Command::ChangeSave
-            | Command::ChangeDelete { .. }
-            | Command::Changes { .. }
-            | Command::Describe { .. }
+        Command::ChangeShow { .. } | Command::Changes { .. } | Command::Describe { .. }
     )
 }
 

@@ -3,17 +3,19 @@
 ghost use Rattle.std.specs.Prelude.{◌≡◌, List, None, IfOk, IsFalse};
 ghost use Rattle.depot_rows.specs.db_records.declared.table.TableId.TheVariants as table_ids;
 ghost use Rattle.depot_rows.specs.table_changes.Changed.{AllFitIn, rows_of};
+ghost use Rattle.depot_rows.specs.depot_model.Asking.{who_of as who_in};
 ghost use Rattle.depot_rows.specs.depot_model.Commands.{own_step as own_step_of, step, whole_step};
 ghost use Rattle.depot_rows.specs.depot_model.Common.{last_refusals};
 ghost use Rattle.depot_rows.specs.depot_model.Deeds.{Deed};
 ghost use Rattle.depot_rows.specs.depot_model.Rules.{IsSound, NotBoth};
 ghost use Rattle.depot_rows.specs.depot_model.Step.{Step as ModelStep, after};
 ghost use Rattle.depot_rows.specs.Standing.{HasRows};
+ghost use Rattle.named_files.specs.Asked.{IsAsker};
 ghost use Rattle.row_changes.specs.Differences.{AreDifferences};
 ghost use Rattle.reply_rows.specs.Made.{IsMade};
 ghost use Rattle.step_stores.specs.Stored.{IsStoring};
 ghost use Rattle.stored_contents.specs.Placed.{StandAfter};
-ghost use Rattle.command_core.specs.Families.{is_submit as submits};
+ghost use Rattle.command_core.specs.Families.{is_job as is_of_job, is_server as is_of_server, is_spec as is_of_spec, is_submit as submits};
 ghost use Rattle.command_core.specs.Refusing.{first_of};
 ghost use Rattle.command_core.specs.Outcomes.{HasNeeded, HasTouched, IsFormed, IsFormedBy, IsOutcome, IsStep};
 
@@ -33,35 +35,55 @@ use crate::submit_commands::submit_step;
 use crate::syncing_commands::syncing_step;
 use depot_rows::model::{Command, Reply, Request};
 use depot_rows::paths::Sequence;
+use depot_rows::protections::Who;
 use depot_rows::tables::Tables;
+use named_files::Asker;
 use reply_rows::Step;
 use row_changes::row_changes;
+use row_reads::who_of;
 use std::alloc::{AllocError, Global};
 
-/// What a command that is no submit does where no refusal holds that is common to all.
+/// What a command over files that is no submit does for its asker where no refusal holds that is common to all.
+fn files_step(
+    alloc: Global,
+    tables: &Tables,
+    request: &Request,
+    asker: &Asker,
+    command: &Command,
+) -> Result<Step, AllocError>
+    ensures { IfOk result (λ step. (d : List Deed) → IsSound d → IsAsker d request.now.caller asker.now → IsFalse (is_of_spec command.now) →
+        IsFalse (is_of_server command.now) → IsFalse (is_of_job command.now) → IsFalse (submits command.now) → IsFormed command.now →
+        HasTouched (rows_of tables.now) d command.now → IsMade (rows_of tables.now) d d (own_step_of d request.now command.now) step) }
+{
+    if is_opening(command) {
+        return opening_step(alloc, tables, request, asker, command);
+    }
+    if is_change(command) {
+        return change_step(alloc, tables, request, asker, command);
+    }
+    if is_syncing(command) {
+        return syncing_step(alloc, tables, request, asker, command);
+    }
+    if is_history(command) {
+        return history_step(alloc, tables, request, asker, command);
+    }
+    let step = shelf_step(alloc, tables, request, asker, command)?;
+    Ok(step)
+}
+
+/// What a command that is no submit does where no refusal holds that is common to all. Rights and view are made for a command over files alone.
 fn own_step(
     alloc: Global,
     tables: &Tables,
     request: &Request,
+    who: Who,
     command: &Command,
 ) -> Result<Step, AllocError>
-    ensures { IfOk result (λ step. (d : List Deed) → IsSound d → IsFalse (submits command.now) → IsFormed command.now → HasTouched (rows_of tables.now) d command.now →
-        IsMade (rows_of tables.now) d d (own_step_of d request.now command.now) step) }
+    ensures { IfOk result (λ step. (d : List Deed) → IsSound d → who ≡ who_in d request.now.caller → IsFalse (submits command.now) → IsFormed command.now →
+        HasTouched (rows_of tables.now) d command.now → IsMade (rows_of tables.now) d d (own_step_of d request.now command.now) step) }
 {
     if is_spec(command) {
         return spec_step(alloc, tables, request, command);
-    }
-    if is_opening(command) {
-        return opening_step(alloc, tables, request, command);
-    }
-    if is_change(command) {
-        return change_step(alloc, tables, request, command);
-    }
-    if is_syncing(command) {
-        return syncing_step(alloc, tables, request, command);
-    }
-    if is_history(command) {
-        return history_step(alloc, tables, request, command);
     }
     if is_server(command) {
         return server_step(alloc, tables, request, command);
@@ -69,7 +91,10 @@ fn own_step(
     if is_job(command) {
         return job_step(alloc, tables, request, command);
     }
-    let step = shelf_step(alloc, tables, request, command)?;
+    let asker = Asker::with(alloc, tables, &request.caller, who)?;
+    let done = files_step(alloc, tables, request, &asker, command);
+    drop(asker);
+    let step = done?;
     Ok(step)
 }
 
@@ -79,20 +104,25 @@ fn storing_step(
     alloc: Global,
     tables: &Tables,
     request: &Request,
+    who: Who,
     command: &Command,
 ) -> Result<Step, AllocError>
-    ensures { IfOk result (λ step. (d : List Deed) → IsSound d → first_of (last_refusals d command.now) ≡ None →
-        IsFormed command.now → HasTouched (rows_of tables.now) d command.now → IsStoring (rows_of tables.now) tables.now.archive_end d (own_step_of d request.now command.now) step) }
+    ensures { IfOk result (λ step. (d : List Deed) → IsSound d → who ≡ who_in d request.now.caller → first_of (last_refusals d command.now) ≡ None →
+        IsFormed command.now → HasTouched (rows_of tables.now) d command.now →
+        IsStoring (rows_of tables.now) tables.now.archive_end d (own_step_of d request.now command.now) step) }
 {
     if is_submit(command) {
-        let submitted = submit_step(alloc, tables, request, command)?;
+        let asker = Asker::with(alloc, tables, &request.caller, who)?;
+        let done = submit_step(alloc, tables, request, &asker, command);
+        drop(asker);
+        let submitted = done?;
         return Ok(submitted);
     }
-    let step = own_step(alloc, tables, request, command)?;
+    let step = own_step(alloc, tables, request, who, command)?;
     Ok(step)
 }
 
-/// The step of a command: the first refusal that holds, or else its own step.
+/// The step of a command: the first refusal that holds, or else its own step. The caller's groups are read once, for both.
 fn command_step(
     alloc: Global,
     tables: &Tables,
@@ -102,14 +132,15 @@ fn command_step(
     ensures { IfOk result (λ step. (d : List Deed) → IsSound d → IsFormed command.now → HasTouched (rows_of tables.now) d command.now →
         IsStoring (rows_of tables.now) tables.now.archive_end d (whole_step d request.now command.now) step) }
 {
-    let refusal = first_refusal(alloc, tables, &request.caller, command)?;
+    let who = who_of(alloc, tables, &request.caller)?;
+    let refusal = first_refusal(alloc, tables, &request.caller, &who, command)?;
     match refusal {
         Some(row) => {
             let refused = Step::tells(alloc, row)?;
             Ok(refused)
         }
         None => {
-            let step = storing_step(alloc, tables, request, command)?;
+            let step = storing_step(alloc, tables, request, who, command)?;
             Ok(step)
         }
     }

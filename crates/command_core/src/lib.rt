@@ -11,7 +11,6 @@ mod laws;
 mod opening_commands;
 mod outcome;
 mod refusing;
-mod rights;
 mod server_commands;
 mod shelf_commands;
 mod spec_commands;

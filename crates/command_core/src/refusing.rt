@@ -8,7 +8,7 @@ ghost use Rattle.depot_rows.specs.table_changes.Changed.{rows_of};
 ghost use Rattle.depot_rows.specs.depot_model.declared.command.FileArgument.{FileArgument as AnyFile};
 ghost use Rattle.depot_rows.specs.depot_model.About.{about};
 ghost use Rattle.depot_rows.specs.depot_model.Arguments.{in_client_syntax as in_syntax};
-ghost use Rattle.depot_rows.specs.depot_model.Asking.{is_client as client_saved, is_label as label_saved};
+ghost use Rattle.depot_rows.specs.depot_model.Asking.{is_client as client_saved, is_label as label_saved, who_of as who_in};
 ghost use Rattle.depot_rows.specs.depot_model.Common.{asks_client as client_asked, asks_have as have_asked, common_refusals, first_unknown as first_unknown_in, last_refusals, unknown_name as unknown_in, word_refusal};
 ghost use Rattle.depot_rows.specs.depot_model.Deeds.{Deed};
 ghost use Rattle.depot_rows.specs.depot_model.Fixes.{is_fixing as is_fixing_in};
@@ -21,16 +21,16 @@ ghost use Rattle.depot_rows.specs.Standing.{HasRows};
 ghost use Rattle.command_core.specs.Refusing.{first_of};
 
 use crate::about::{files_of, need_of, needs_client, patterns_of};
-use crate::rights::may_anywhere;
 use depot_rows::model::{Caller, Command, FileArgument, PatternArgument, Row, WordFault};
 use depot_rows::paths::{Name, RevSpec, Wanted};
+use depot_rows::protections::Who;
 use depot_rows::tables::Tables;
 use held_changes::{is_fixing, is_shelved};
 use reply_rows::{
     bad_path_row, bad_revision_row, denied_anywhere_row, fixed_row, no_client_row,
     no_such_label_row, shelved_row, unknown_command_row, usage_row,
 };
-use row_reads::{in_client_syntax, is_client, is_label};
+use row_reads::{in_client_syntax, is_client, is_label, protects_of};
 use std::alloc::{AllocError, Global};
 
 /// The row of words that are no command.
@@ -145,19 +145,20 @@ fn lacks_client(
     Ok(!saved)
 }
 
-/// The row of the first of the refusals that are common to all commands, and that holds: the caller has the right nowhere, the client isn't
-/// saved, or a name behind `@` is unknown.
+/// The row of the first of the refusals that are common to all commands, and that holds: the caller, who is given with the groups, has the right
+/// nowhere, the client isn't saved, or a name behind `@` is unknown.
 fn common_refusal(
     alloc: Global,
     tables: &Tables,
     caller: &Caller,
+    who: &Who,
     command: &Command,
 ) -> Result<Option<Row>, AllocError>
-    ensures { IfOk result (λ row. (d : List Deed) → IsSound d → HasRows (rows_of tables.now) d table_ids.Group → HasRows (rows_of tables.now) d table_ids.Protect →
+    ensures { IfOk result (λ row. (d : List Deed) → IsSound d → who.now ≡ who_in d caller.now → HasRows (rows_of tables.now) d table_ids.Protect →
         HasRows (rows_of tables.now) d table_ids.Domain → row ≡ option_map refusal_row (first_of (common_refusals d caller.now (about command.now)))) }
 {
     let need = need_of(command);
-    let may = may_anywhere(alloc, tables, caller, need)?;
+    let may = protects_of(tables).may_any(who, need);
     if !may {
         let row = denied_anywhere_row(alloc, need)?;
         return Ok(Some(row));
@@ -245,12 +246,13 @@ pub(crate) fn first_refusal(
     alloc: Global,
     tables: &Tables,
     caller: &Caller,
+    who: &Who,
     command: &Command,
 ) -> Result<Option<Row>, AllocError>
-    ensures { IfOk result (λ row. (d : List Deed) → IsSound d → HasRows (rows_of tables.now) d table_ids.Group → HasRows (rows_of tables.now) d table_ids.Protect →
+    ensures { IfOk result (λ row. (d : List Deed) → IsSound d → who.now ≡ who_in d caller.now → HasRows (rows_of tables.now) d table_ids.Protect →
         HasRows (rows_of tables.now) d table_ids.Domain → row ≡ option_map refusal_row (first_of (common_refusals d caller.now (about command.now) ++ last_refusals d command.now))) }
 {
-    let common = common_refusal(alloc, tables, caller, command)?;
+    let common = common_refusal(alloc, tables, caller, who, command)?;
     match common {
         Some(row) => Ok(Some(row)),
         None => {

@@ -1,4 +1,4 @@
-//! Counters, clients, labels, groups and protections.
+//! Counters and forms: of clients, labels, groups and protections, and those of changes that are saved or deleted.
 
 ghost use Rattle.std.specs.Prelude.{List, IfOk, IsTrue, ◌≡◌, unwrap_or};
 ghost use Rattle.depot_rows.specs.table_changes.Changed.{rows_of};
@@ -10,6 +10,7 @@ ghost use Rattle.command_core.specs.Families.{is_spec};
 ghost use Rattle.command_core.specs.Outcomes.{HasTouched, IsFormed};
 
 use crate::input::input_of;
+use change_lists::{change_delete, change_save};
 use depot_rows::model::{Command, Request};
 use depot_rows::paths::Name;
 use depot_rows::tables::Tables;
@@ -92,6 +93,14 @@ pub(crate) fn spec_step(
         Command::ProtectSave => {
             let saved = protect_save(alloc, input_of(request))?;
             Ok(saved)
+        }
+        Command::ChangeSave => {
+            let saved = change_save(alloc, tables, request, input_of(request))?;
+            Ok(saved)
+        }
+        Command::ChangeDelete { change } => {
+            let deleted = change_delete(alloc, tables, &request.caller, *change)?;
+            Ok(deleted)
         }
         // A command of another family never comes here.
         _ => Ok(Step::new(alloc)),

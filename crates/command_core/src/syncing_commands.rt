@@ -5,6 +5,7 @@ ghost use Rattle.depot_rows.specs.table_changes.Changed.{rows_of};
 ghost use Rattle.depot_rows.specs.depot_model.Commands.{own_step};
 ghost use Rattle.depot_rows.specs.depot_model.Deeds.{Deed};
 ghost use Rattle.depot_rows.specs.depot_model.Rules.{IsSound};
+ghost use Rattle.named_files.specs.Asked.{IsAsker};
 ghost use Rattle.reply_rows.specs.Made.{IsMade};
 ghost use Rattle.command_core.specs.Families.{is_syncing};
 ghost use Rattle.command_core.specs.Outcomes.{HasTouched, IsFormed};
@@ -14,22 +15,25 @@ use depot_rows::tables::Tables;
 use have_sync::{have, sync, where_is};
 use integ_records::{integrate, resolve};
 use label_ops::{labelsync, tag};
+use named_files::Asker;
 use reply_rows::Step;
 use std::alloc::{AllocError, Global};
 
-/// What a command of have lists, labels and integration does where no refusal holds that is common to all.
+/// What a command of have lists, labels and integration does for its asker where no refusal holds that is common to all.
 pub(crate) fn syncing_step(
     alloc: Global,
     tables: &Tables,
     request: &Request,
+    asker: &Asker,
     command: &Command,
 ) -> Result<Step, AllocError>
-    ensures { IfOk result (λ step. (d : List Deed) → IsSound d → IsTrue (is_syncing command.now) → IsFormed command.now → HasTouched (rows_of tables.now) d command.now →
-        IsMade (rows_of tables.now) d d (own_step d request.now command.now) step) }
+    ensures { IfOk result (λ step. (d : List Deed) → IsSound d → IsAsker d request.now.caller asker.now → IsTrue (is_syncing command.now) →
+        IsFormed command.now → HasTouched (rows_of tables.now) d command.now → IsMade (rows_of tables.now) d d (own_step d request.now command.now) step) }
 {
+    let caller = &request.caller;
     match command {
         Command::Where { paths } => {
-            let placed = where_is(alloc, tables, &request.caller, paths.as_slice())?;
+            let placed = where_is(alloc, tables, caller, asker, paths.as_slice())?;
             Ok(placed)
         }
         Command::Sync {
@@ -40,7 +44,8 @@ pub(crate) fn syncing_step(
             let synced = sync(
                 alloc,
                 tables,
-                &request.caller,
+                caller,
+                asker,
                 *again,
                 *shows,
                 files.as_slice(),
@@ -48,7 +53,7 @@ pub(crate) fn syncing_step(
             Ok(synced)
         }
         Command::Have { files } => {
-            let listed = have(alloc, tables, &request.caller, files.as_slice())?;
+            let listed = have(alloc, tables, caller, asker, files.as_slice())?;
             Ok(listed)
         }
         Command::Tag {
@@ -59,7 +64,8 @@ pub(crate) fn syncing_step(
             let tagged = tag(
                 alloc,
                 tables,
-                &request.caller,
+                caller,
+                asker,
                 label,
                 *removes,
                 files.as_slice(),
@@ -74,7 +80,8 @@ pub(crate) fn syncing_step(
             let synced = labelsync(
                 alloc,
                 tables,
-                &request.caller,
+                caller,
+                asker,
                 label,
                 *labelling,
                 files.as_slice(),
@@ -82,11 +89,11 @@ pub(crate) fn syncing_step(
             Ok(synced)
         }
         Command::Integrate { change, from, to } => {
-            let opened = integrate(alloc, tables, &request.caller, *change, from, to)?;
+            let opened = integrate(alloc, tables, caller, asker, *change, from, to)?;
             Ok(opened)
         }
         Command::Resolve { taking, files } => {
-            let resolved = resolve(alloc, tables, &request.caller, *taking, files.as_slice())?;
+            let resolved = resolve(alloc, tables, caller, asker, *taking, files.as_slice())?;
             Ok(resolved)
         }
         // A command of another family never comes here.

@@ -76,8 +76,9 @@ impl<'a> FileAct for Having<'a> {
     ghost next = { λ having d e argument path later. tt };
 }
 
-/// `have` of an asker.
-fn have_asked(
+/// `have [FILE...]`: the files of the client's have list, with their revisions and their places in the workspace, by the asker's rights and view and
+/// from the table of have lists alone. The one error is want of memory.
+pub fn have(
     alloc: Global,
     tables: &Tables,
     caller: &Caller,
@@ -96,25 +97,6 @@ fn have_asked(
     let having = Having { caller, asker };
     let done = over_all(alloc, tables, &files, &having, arguments);
     drop(listing);
-    let step = done?;
-    Ok(step)
-}
-
-/// `have [FILE...]`: the files of the client's have list, with their revisions and their places in the workspace, from the tables of groups,
-/// protections, forms and have lists alone. The one error is want of memory.
-pub fn have(
-    alloc: Global,
-    tables: &Tables,
-    caller: &Caller,
-    arguments: &[FileArgument],
-) -> Result<Step, AllocError>
-    ensures { IfOk result (λ step. (d : List Deed) → IsSound d → HasRows (rows_of tables.now) d table_ids.Group → HasRows (rows_of tables.now) d table_ids.Protect →
-        HasRows (rows_of tables.now) d table_ids.Domain → HasRows (rows_of tables.now) d table_ids.Have →
-        IsMade (rows_of tables.now) d d (model.have_step d caller.now arguments.now) step) }
-{
-    let asker = Asker::of(alloc, tables, caller)?;
-    let done = have_asked(alloc, tables, caller, &asker, arguments);
-    drop(asker);
     let step = done?;
     Ok(step)
 }

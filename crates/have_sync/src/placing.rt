@@ -2,12 +2,9 @@
 
 ghost use Rattle.std.specs.Prelude.{◌≡◌, ◌∷◌, ◌++◌, [], List, filter, true, if◌then◌else◌, IfOk, OnOk, Some};
 ghost use Rattle.std.specs.List.{list_all};
-ghost use Rattle.depot_rows.specs.db_records.declared.table.TableId.TheVariants as table_ids;
 ghost use Rattle.depot_rows.specs.depot_model.Deeds.{Deed};
-ghost use Rattle.depot_rows.specs.depot_model.Rules.{IsSound};
 ghost use Rattle.depot_rows.specs.depot_model.Steps.Placing as model;
 ghost use Rattle.depot_rows.specs.depot_model.WellFormed.{spells_path};
-ghost use Rattle.depot_rows.specs.Standing.{HasRows};
 ghost use Rattle.reply_rows.specs.Made.{IsMade};
 ghost use Rattle.depot_rows.specs.table_changes.Changed.{rows_of};
 ghost use Rattle.named_files.specs.Asked.{IsAsker};
@@ -181,8 +178,9 @@ impl<'a> FileAct for Placing<'a> {
     ghost next = { λ placing d e argument path later. tt };
 }
 
-/// `where` of an asker.
-fn where_asked(
+/// `where PATH...`: where the client's view puts files, each argument being a path, by the asker's rights and view alone. The one error is want of
+/// memory.
+pub fn where_is(
     alloc: Global,
     tables: &Tables,
     caller: &Caller,
@@ -195,24 +193,5 @@ fn where_asked(
     let files = ToldFiles { caller, asker };
     let placing = Placing { caller, asker };
     let step = over_found(alloc, tables, &files, &placing, arguments)?;
-    Ok(step)
-}
-
-/// `where PATH...`: where the client's view puts files, each argument being a path, from the tables of groups, protections and forms alone. The one
-/// error is want of memory.
-pub fn where_is(
-    alloc: Global,
-    tables: &Tables,
-    caller: &Caller,
-    arguments: &[FileArgument],
-) -> Result<Step, AllocError>
-    ensures { IfOk result (λ step. (d : List Deed) → list_all spells_path arguments.now ≡ true → IsSound d → HasRows (rows_of tables.now) d table_ids.Group →
-        HasRows (rows_of tables.now) d table_ids.Protect → HasRows (rows_of tables.now) d table_ids.Domain →
-        IsMade (rows_of tables.now) d d (model.where_is d caller.now arguments.now) step) }
-{
-    let asker = Asker::of(alloc, tables, caller)?;
-    let done = where_asked(alloc, tables, caller, &asker, arguments);
-    drop(asker);
-    let step = done?;
     Ok(step)
 }

@@ -364,8 +364,11 @@ fn shown_alone(alloc: Global, shows: bool, step: Step) -> Step
     }
 }
 
-/// `sync` of an asker.
-fn sync_asked(
+/// `sync [-f] [-n] [FILE...]`: the client is to have the files at the revisions that the arguments choose, and files that it has opened get a
+/// resolve that is owed; with `-n` it is shown alone. It reads the tables of forms, have lists, labels, resolves, opened files, changes and revisions,
+/// and of each file that is named its rows alone: where no revision is asked for, the walk over the rows of revisions that finds the files gives their
+/// newest ones too, and the have list is passed beside it. The one error is want of memory.
+pub fn sync(
     alloc: Global,
     tables: &Tables,
     caller: &Caller,
@@ -374,7 +377,9 @@ fn sync_asked(
     shows: bool,
     arguments: &[FileArgument],
 ) -> Result<Step, AllocError>
-    ensures { IfOk result (λ step. (d : List Deed) → Reads caller.now asker.now (rows_of tables.now) d →
+    ensures { IfOk result (λ step. (d : List Deed) → IsSound d → IsAsker d caller.now asker.now → HasRows (rows_of tables.now) d table_ids.Domain →
+        HasRows (rows_of tables.now) d table_ids.Have → HasRows (rows_of tables.now) d table_ids.Label → HasRows (rows_of tables.now) d table_ids.Resolve →
+        HasRows (rows_of tables.now) d table_ids.Working → HasRows (rows_of tables.now) d table_ids.Change → HasRows (rows_of tables.now) d table_ids.Rev →
         IsMade (rows_of tables.now) d d (model.sync d caller.now again shows arguments.now) step) }
 {
     let listing = Listing::Submitted;
@@ -395,29 +400,5 @@ fn sync_asked(
     let whole = done?;
     let told = shown_alone(alloc, shows, whole);
     let step = within_files(alloc, told)?;
-    Ok(step)
-}
-
-/// `sync [-f] [-n] [FILE...]`: the client is to have the files at the revisions that the arguments choose, and files that it has opened get a
-/// resolve that is owed; with `-n` it is shown alone. It reads the tables of groups, protections, forms, have lists, labels, resolves, opened
-/// files, changes and revisions, and of each file that is named its rows alone: where no revision is asked for, the walk over the rows of revisions that
-/// finds the files gives their newest ones too, and the have list is passed beside it. The one error is want of memory.
-pub fn sync(
-    alloc: Global,
-    tables: &Tables,
-    caller: &Caller,
-    again: bool,
-    shows: bool,
-    arguments: &[FileArgument],
-) -> Result<Step, AllocError>
-    ensures { IfOk result (λ step. (d : List Deed) → IsSound d → HasRows (rows_of tables.now) d table_ids.Group → HasRows (rows_of tables.now) d table_ids.Protect →
-        HasRows (rows_of tables.now) d table_ids.Domain → HasRows (rows_of tables.now) d table_ids.Have → HasRows (rows_of tables.now) d table_ids.Label →
-        HasRows (rows_of tables.now) d table_ids.Resolve → HasRows (rows_of tables.now) d table_ids.Working → HasRows (rows_of tables.now) d table_ids.Change →
-        HasRows (rows_of tables.now) d table_ids.Rev → IsMade (rows_of tables.now) d d (model.sync d caller.now again shows arguments.now) step) }
-{
-    let asker = Asker::of(alloc, tables, caller)?;
-    let done = sync_asked(alloc, tables, caller, &asker, again, shows, arguments);
-    drop(asker);
-    let step = done?;
     Ok(step)
 }

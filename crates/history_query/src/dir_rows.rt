@@ -135,8 +135,9 @@ fn rows_for(
     Ok(rows)
 }
 
-/// `dirs` of an asker.
-fn dirs_asked(
+/// `dirs DIR...`: the directories of files that aren't deleted, or of the places at which the client shows them, which fit an argument, each once,
+/// by the asker's rights and view and from the table of revisions alone. The one error is want of memory.
+pub fn dirs(
     alloc: Global,
     tables: &Tables,
     caller: &Caller,
@@ -149,24 +150,5 @@ fn dirs_asked(
     let rows = rows_for(alloc, tables, caller, asker, arguments)?;
     let mut step = Step::new(alloc);
     step.rows = rows;
-    Ok(step)
-}
-
-/// `dirs DIR...`: the directories of files that aren't deleted, or of the places at which the client shows them, which fit an argument, each once,
-/// from the tables of groups, protections, forms and revisions alone. The one error is want of memory.
-pub fn dirs(
-    alloc: Global,
-    tables: &Tables,
-    caller: &Caller,
-    arguments: &[FileArgument],
-) -> Result<Step, AllocError>
-    ensures { IfOk result (λ step. (d : List Deed) → IsSound d → HasRows (rows_of tables.now) d table_ids.Group → HasRows (rows_of tables.now) d table_ids.Protect →
-        HasRows (rows_of tables.now) d table_ids.Domain → HasRows (rows_of tables.now) d table_ids.Rev →
-        IsMade (rows_of tables.now) d d (model.dirs d caller.now arguments.now) step) }
-{
-    let asker = Asker::of(alloc, tables, caller)?;
-    let done = dirs_asked(alloc, tables, caller, &asker, arguments);
-    drop(asker);
-    let step = done?;
     Ok(step)
 }

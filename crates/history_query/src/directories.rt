@@ -3,6 +3,7 @@
 ghost use Rattle.std.specs.Prelude.{◌≡◌, ◌<◌, ◌==◌, ◌&&◌, [], List, IfOk, OnOk, Some, flat_map, if◌then◌else◌, length, map, slice_index, take};
 ghost use Rattle.std.specs.Option.{option_to_list};
 ghost use Rattle.depot_rows.specs.db_records.declared.table.TableId.TheVariants as table_ids;
+ghost use Rattle.depot_rows.specs.depot_path.Fit.{fits};
 ghost use Rattle.depot_rows.specs.depot_path.Path.{printed};
 ghost use Rattle.depot_rows.specs.table_changes.Changed.{rows_of};
 ghost use Rattle.depot_rows.specs.depot_path.declared.revision.Wanted.TheVariants.{Head};
@@ -29,6 +30,20 @@ use revision_reads::{is_live_head, shown_by};
 use row_reads::in_client_syntax;
 use std::alloc::{AllocError, Global};
 
+/// Whether a directory fits a pattern.
+pub(crate) fn is_fitting(
+    alloc: Global,
+    pattern: &Pattern,
+    directory: &[u8],
+) -> Result<bool, AllocError>
+    ensures { IfOk result (λ fitting. fitting ≡ fits pattern.now directory.now) }
+{
+    let texts = pattern.texts(alloc, directory)?;
+    let fitting = texts.is_some();
+    drop(texts);
+    Ok(fitting)
+}
+
 /// Adds a directory, if it fits the pattern.
 fn add_fitting(
     alloc: Global,
@@ -38,8 +53,8 @@ fn add_fitting(
 ) -> Result<(), AllocError>
     ensures { OnOk result (set.new ≡ fitting_inserted pattern.now directory.now set.old) }
 {
-    let found = pattern.texts(alloc, directory)?;
-    if found.is_none() {
+    let fitting = is_fitting(alloc, pattern, directory)?;
+    if !fitting {
         return Ok(());
     }
     let text = print_bytes(alloc, directory)?;

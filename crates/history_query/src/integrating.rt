@@ -138,7 +138,9 @@ fn tell_records(
 {
     rows_are_records(tables);
     let range = range_of(alloc, path)?;
-    let rows = rows_listed(alloc, tables, asker, &range)?;
+    let found = rows_listed(alloc, tables, asker, &range);
+    drop(range);
+    let rows = found?;
     let mut step = Step::new(alloc);
     step.rows = rows;
     Ok(step)
@@ -172,8 +174,9 @@ impl<'a> FileAct for Credited<'a> {
     ghost next = { λ credited d e argument path later. tt };
 }
 
-/// `integrated` of an asker.
-fn integrated_asked(
+/// `integrated FILE...`: the integration records of files, from the tables of forms, integration records and revisions alone. Its arguments ask for no
+/// revision. The one error is want of memory.
+pub fn integrated(
     alloc: Global,
     tables: &Tables,
     caller: &Caller,
@@ -193,25 +196,6 @@ fn integrated_asked(
     let act = Credited { caller, asker };
     let done = over(alloc, tables, &files, &act, arguments);
     drop(listing);
-    let step = done?;
-    Ok(step)
-}
-
-/// `integrated FILE...`: the integration records of files, from the tables of groups, protections, forms, integration records and revisions alone.
-/// Its arguments ask for no revision. The one error is want of memory.
-pub fn integrated(
-    alloc: Global,
-    tables: &Tables,
-    caller: &Caller,
-    arguments: &[FileArgument],
-) -> Result<Step, AllocError>
-    ensures { IfOk result (λ step. (d : List Deed) → list_all asks_head arguments.now ≡ true → IsSound d → HasRows (rows_of tables.now) d table_ids.Group →
-        HasRows (rows_of tables.now) d table_ids.Protect → HasRows (rows_of tables.now) d table_ids.Domain → HasRows (rows_of tables.now) d table_ids.Integed →
-        HasRows (rows_of tables.now) d table_ids.Rev → IsMade (rows_of tables.now) d d (model.integrated d caller.now arguments.now) step) }
-{
-    let asker = Asker::of(alloc, tables, caller)?;
-    let done = integrated_asked(alloc, tables, caller, &asker, arguments);
-    drop(asker);
     let step = done?;
     Ok(step)
 }

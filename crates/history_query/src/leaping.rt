@@ -22,7 +22,7 @@ ghost use Rattle.named_files.specs.declared.listing.Listing.TheVariants.{Submitt
 ghost use Rattle.history_query.specs.Directories.{all_fitting, directories_of};
 ghost use Rattle.history_query.specs.Leaping.{IsDepth, behind_directory, behind_file, directory_at, files_from, first_begun, is_dots, is_slash, next_text, texts_at, texts_put};
 
-use crate::directories::is_seen;
+use crate::directories::{is_fitting, is_seen};
 use crate::texts::TextSet;
 use depot_rows::paths::{DepotPath, PathFault, Pattern, Piece, Sequence, Text, print_bytes};
 use depot_rows::records::{Key, Record, TableId};
@@ -180,8 +180,8 @@ fn leap(
         return Ok(from);
     };
     let directory = &bytes[..end];
-    let fitting = pattern.texts(alloc, directory)?;
-    if fitting.is_none() {
+    let fitting = is_fitting(alloc, pattern, directory)?;
+    if !fitting {
         let from = after_directory(alloc, directory)?;
         return Ok(from);
     }

@@ -10,7 +10,6 @@ ghost use Rattle.depot_rows.specs.depot_model.Steps.Listing as model;
 ghost use Rattle.depot_rows.specs.Standing.{HasRows};
 ghost use Rattle.named_files.specs.Asked.{IsAsker};
 ghost use Rattle.reply_rows.specs.Made.{IsMade, told as told_rows};
-ghost use Rattle.history_query.specs.Choosing.{ChoiceReads};
 ghost use Rattle.history_query.specs.Listing.{file_row_of, rows_told};
 ghost use Rattle.history_query.specs.Telling.{told_records};
 
@@ -95,8 +94,9 @@ impl ChoiceAct for Listed {
     }
 }
 
-/// `files` of an asker.
-fn files_asked(
+/// `files [-e] FILE...`: the revisions that arguments choose of files, with `-e` those alone that aren't deleted, from the tables of forms, have
+/// lists, labels, changes and revisions alone. The one error is want of memory.
+pub fn files(
     alloc: Global,
     tables: &Tables,
     caller: &Caller,
@@ -104,31 +104,11 @@ fn files_asked(
     live: bool,
     arguments: &[FileArgument],
 ) -> Result<Step, AllocError>
-    ensures { IfOk result (λ step. (d : List Deed) → IsAsker d caller.now asker.now → ChoiceReads (rows_of tables.now) d →
+    ensures { IfOk result (λ step. (d : List Deed) → IsSound d → IsAsker d caller.now asker.now → HasRows (rows_of tables.now) d table_ids.Domain → HasRows (rows_of tables.now) d table_ids.Have →
+        HasRows (rows_of tables.now) d table_ids.Label → HasRows (rows_of tables.now) d table_ids.Change → HasRows (rows_of tables.now) d table_ids.Rev →
         IsMade (rows_of tables.now) d d (model.files d caller.now live arguments.now) step) }
 {
     let act = Listed { live };
     let step = over_chosen(alloc, tables, caller, asker, &act, arguments)?;
-    Ok(step)
-}
-
-/// `files [-e] FILE...`: the revisions that arguments choose of files, with `-e` those alone that aren't deleted, from the tables of groups,
-/// protections, forms, have lists, labels, changes and revisions alone. The one error is want of memory.
-pub fn files(
-    alloc: Global,
-    tables: &Tables,
-    caller: &Caller,
-    live: bool,
-    arguments: &[FileArgument],
-) -> Result<Step, AllocError>
-    ensures { IfOk result (λ step. (d : List Deed) → IsSound d → HasRows (rows_of tables.now) d table_ids.Group → HasRows (rows_of tables.now) d table_ids.Protect →
-        HasRows (rows_of tables.now) d table_ids.Domain → HasRows (rows_of tables.now) d table_ids.Have → HasRows (rows_of tables.now) d table_ids.Label →
-        HasRows (rows_of tables.now) d table_ids.Change → HasRows (rows_of tables.now) d table_ids.Rev →
-        IsMade (rows_of tables.now) d d (model.files d caller.now live arguments.now) step) }
-{
-    let asker = Asker::of(alloc, tables, caller)?;
-    let done = files_asked(alloc, tables, caller, &asker, live, arguments);
-    drop(asker);
-    let step = done?;
     Ok(step)
 }

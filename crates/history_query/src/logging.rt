@@ -2,6 +2,7 @@
 
 ghost use Rattle.std.specs.Prelude.{◌≡◌, ◌∷◌, ◌++◌, [], List, IfOk, codes, decimal, map, option_map};
 ghost use Rattle.std.specs.Option.{option_copied};
+ghost use Rattle.depot_rows.specs.depot_path.Path.{printed};
 ghost use Rattle.depot_rows.specs.db_records.declared.record.Record.TheVariants.{Change};
 ghost use Rattle.depot_rows.specs.db_records.declared.table.TableId.TheVariants as table_ids;
 ghost use Rattle.depot_rows.specs.table_changes.Changed.{rows_of};
@@ -14,7 +15,6 @@ ghost use Rattle.depot_rows.specs.Standing.{HasRows};
 ghost use Rattle.named_files.specs.Asked.{IsAsker};
 ghost use Rattle.reply_rows.specs.Made.{IsMade, told as told_rows};
 ghost use Rattle.revision_reads.specs.History.{numbered_record, seen};
-ghost use Rattle.history_query.specs.Choosing.{ChoiceReads};
 ghost use Rattle.history_query.specs.Crediting.{credited};
 ghost use Rattle.history_query.specs.Logging.{LogReads, credit_fields, credits_in, digest_fields, fields_by, fields_of, log_row, logged, logged_from, revision_fields, rows_logged, size_fields};
 
@@ -28,6 +28,7 @@ use itoa::Buffer;
 use named_files::Asker;
 use reply_rows::{RowBuilder, Step};
 use revision_reads::{change_of, revisions_up_to};
+use row_ranges::KeyRange;
 use std::alloc::{AllocError, Global};
 
 /// What `filelog` tells of a file.
@@ -318,6 +319,24 @@ fn log_of(
     Ok(made.row())
 }
 
+/// The log of a file up to a revision, with the integration records in a range.
+fn log_in(
+    alloc: Global,
+    tables: &Tables,
+    asker: &Asker,
+    path: &DepotPath,
+    range: &KeyRange,
+    last: u32,
+) -> Result<Row, AllocError>
+    ensures { IfOk result (λ row. (d : List Deed) (caller : Asking) → LogReads caller asker.now (rows_of tables.now) d → range.now ≡ KeyRange.Integrations (printed path.now) →
+        row ≡ log_row d path.now (credits_in d caller path.now) (map numbered_record (model.up_to d path.now last))) }
+{
+    rows_are_records(tables);
+    let credits = credits_of(alloc, tables, asker, range)?;
+    let row = log_of(alloc, tables, path, &credits, last)?;
+    Ok(row)
+}
+
 /// What is told of a file up to a revision.
 fn tell_log(
     alloc: Global,
@@ -329,10 +348,10 @@ fn tell_log(
     ensures { IfOk result (λ step. (d : List Deed) (caller : Asking) → LogReads caller asker.now (rows_of tables.now) d →
         step ≡ told_rows (log_row d path.now (credits_in d caller path.now) (map numbered_record (model.up_to d path.now last)) ∷ [])) }
 {
-    rows_are_records(tables);
     let range = range_of(alloc, path)?;
-    let credits = credits_of(alloc, tables, asker, &range)?;
-    let row = log_of(alloc, tables, path, &credits, last)?;
+    let done = log_in(alloc, tables, asker, path, &range, last);
+    drop(range);
+    let row = done?;
     let step = Step::tells(alloc, row)?;
     Ok(step)
 }
@@ -380,39 +399,21 @@ impl<'a> ChoiceAct for Logged<'a> {
     }
 }
 
-/// `filelog` of an asker.
-fn filelog_asked(
+/// `filelog FILE...`: the revisions of files up to those that arguments choose, the newest first, with their integration records, from the tables
+/// of forms, have lists, labels, integration records, changes and revisions alone. It goes over a file's integration records once. The one error is
+/// want of memory.
+pub fn filelog(
     alloc: Global,
     tables: &Tables,
     caller: &Caller,
     asker: &Asker,
     arguments: &[FileArgument],
 ) -> Result<Step, AllocError>
-    ensures { IfOk result (λ step. (d : List Deed) → IsAsker d caller.now asker.now → ChoiceReads (rows_of tables.now) d → HasRows (rows_of tables.now) d table_ids.Integed →
-        IsMade (rows_of tables.now) d d (model.filelog d caller.now arguments.now) step) }
+    ensures { IfOk result (λ step. (d : List Deed) → IsSound d → IsAsker d caller.now asker.now → HasRows (rows_of tables.now) d table_ids.Domain → HasRows (rows_of tables.now) d table_ids.Have →
+        HasRows (rows_of tables.now) d table_ids.Label → HasRows (rows_of tables.now) d table_ids.Integed → HasRows (rows_of tables.now) d table_ids.Change →
+        HasRows (rows_of tables.now) d table_ids.Rev → IsMade (rows_of tables.now) d d (model.filelog d caller.now arguments.now) step) }
 {
     let act = Logged { asker };
     let step = over_chosen(alloc, tables, caller, asker, &act, arguments)?;
-    Ok(step)
-}
-
-/// `filelog FILE...`: the revisions of files up to those that arguments choose, the newest first, with their integration records, from the tables
-/// of groups, protections, forms, have lists, labels, integration records, changes and revisions alone. It goes over a
-/// file's integration records once. The one error is want of memory.
-pub fn filelog(
-    alloc: Global,
-    tables: &Tables,
-    caller: &Caller,
-    arguments: &[FileArgument],
-) -> Result<Step, AllocError>
-    ensures { IfOk result (λ step. (d : List Deed) → IsSound d → HasRows (rows_of tables.now) d table_ids.Group → HasRows (rows_of tables.now) d table_ids.Protect →
-        HasRows (rows_of tables.now) d table_ids.Domain → HasRows (rows_of tables.now) d table_ids.Have → HasRows (rows_of tables.now) d table_ids.Label →
-        HasRows (rows_of tables.now) d table_ids.Integed → HasRows (rows_of tables.now) d table_ids.Change → HasRows (rows_of tables.now) d table_ids.Rev →
-        IsMade (rows_of tables.now) d d (model.filelog d caller.now arguments.now) step) }
-{
-    let asker = Asker::of(alloc, tables, caller)?;
-    let done = filelog_asked(alloc, tables, caller, &asker, arguments);
-    drop(asker);
-    let step = done?;
     Ok(step)
 }

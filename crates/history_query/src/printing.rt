@@ -13,7 +13,6 @@ ghost use Rattle.depot_rows.specs.depot_model.declared.refusal.Refusal.TheVarian
 ghost use Rattle.depot_rows.specs.Standing.{HasRows};
 ghost use Rattle.named_files.specs.Asked.{IsAsker};
 ghost use Rattle.reply_rows.specs.Made.{IsMade, told as told_rows};
-ghost use Rattle.history_query.specs.Choosing.{ChoiceReads};
 ghost use Rattle.history_query.specs.Printing.{awaited, length_fields, print_row_of, prints, places as places_in};
 
 use crate::choosing::{ChoiceAct, over_chosen};
@@ -142,38 +141,20 @@ impl<'a> ChoiceAct for Printed<'a> {
     }
 }
 
-/// `print` of an asker.
-fn print_asked(
+/// `print FILE...`: the revisions that arguments choose of files, whose rows wait for their contents, from the tables of forms, have lists, labels,
+/// changes and revisions alone. The one error is want of memory.
+pub fn print(
     alloc: Global,
     tables: &Tables,
     caller: &Caller,
     asker: &Asker,
     arguments: &[FileArgument],
 ) -> Result<Step, AllocError>
-    ensures { IfOk result (λ step. (d : List Deed) → IsAsker d caller.now asker.now → ChoiceReads (rows_of tables.now) d →
+    ensures { IfOk result (λ step. (d : List Deed) → IsSound d → IsAsker d caller.now asker.now → HasRows (rows_of tables.now) d table_ids.Domain → HasRows (rows_of tables.now) d table_ids.Have →
+        HasRows (rows_of tables.now) d table_ids.Label → HasRows (rows_of tables.now) d table_ids.Change → HasRows (rows_of tables.now) d table_ids.Rev →
         IsMade (rows_of tables.now) d d (model.print d caller.now arguments.now) step) }
 {
     let act = Printed { asker };
     let step = over_chosen(alloc, tables, caller, asker, &act, arguments)?;
-    Ok(step)
-}
-
-/// `print FILE...`: the revisions that arguments choose of files, whose rows wait for their contents, from the tables of groups, protections,
-/// forms, have lists, labels, changes and revisions alone. The one error is want of memory.
-pub fn print(
-    alloc: Global,
-    tables: &Tables,
-    caller: &Caller,
-    arguments: &[FileArgument],
-) -> Result<Step, AllocError>
-    ensures { IfOk result (λ step. (d : List Deed) → IsSound d → HasRows (rows_of tables.now) d table_ids.Group → HasRows (rows_of tables.now) d table_ids.Protect →
-        HasRows (rows_of tables.now) d table_ids.Domain → HasRows (rows_of tables.now) d table_ids.Have → HasRows (rows_of tables.now) d table_ids.Label →
-        HasRows (rows_of tables.now) d table_ids.Change → HasRows (rows_of tables.now) d table_ids.Rev →
-        IsMade (rows_of tables.now) d d (model.print d caller.now arguments.now) step) }
-{
-    let asker = Asker::of(alloc, tables, caller)?;
-    let done = print_asked(alloc, tables, caller, &asker, arguments);
-    drop(asker);
-    let step = done?;
     Ok(step)
 }

@@ -12,7 +12,6 @@ ghost use Rattle.depot_rows.specs.depot_model.Steps.History as model;
 ghost use Rattle.depot_rows.specs.Standing.{HasRows};
 ghost use Rattle.named_files.specs.Asked.{IsAsker};
 ghost use Rattle.reply_rows.specs.Made.{IsMade, told as told_rows};
-ghost use Rattle.history_query.specs.Choosing.{ChoiceReads};
 ghost use Rattle.history_query.specs.Stating.{have_fields, head_fields, stat_row_of, stats_told};
 ghost use Rattle.history_query.specs.Telling.{told_records};
 
@@ -156,38 +155,20 @@ impl<'a> ChoiceAct for Stated<'a> {
     }
 }
 
-/// `fstat` of an asker.
-fn stat_asked(
+/// `fstat FILE...`: the revisions that arguments choose of files, with what the client has of them, from the tables of forms, have lists, labels,
+/// opened files, changes and revisions alone. The one error is want of memory.
+pub fn file_stat(
     alloc: Global,
     tables: &Tables,
     caller: &Caller,
     asker: &Asker,
     arguments: &[FileArgument],
 ) -> Result<Step, AllocError>
-    ensures { IfOk result (λ step. (d : List Deed) → IsAsker d caller.now asker.now → ChoiceReads (rows_of tables.now) d → HasRows (rows_of tables.now) d table_ids.Working →
-        IsMade (rows_of tables.now) d d (model.fstat d caller.now arguments.now) step) }
+    ensures { IfOk result (λ step. (d : List Deed) → IsSound d → IsAsker d caller.now asker.now → HasRows (rows_of tables.now) d table_ids.Domain → HasRows (rows_of tables.now) d table_ids.Have →
+        HasRows (rows_of tables.now) d table_ids.Label → HasRows (rows_of tables.now) d table_ids.Working → HasRows (rows_of tables.now) d table_ids.Change →
+        HasRows (rows_of tables.now) d table_ids.Rev → IsMade (rows_of tables.now) d d (model.fstat d caller.now arguments.now) step) }
 {
     let act = Stated { asker };
     let step = over_chosen(alloc, tables, caller, asker, &act, arguments)?;
-    Ok(step)
-}
-
-/// `fstat FILE...`: the revisions that arguments choose of files, with what the client has of them, from the tables of groups, protections, forms,
-/// have lists, labels, opened files, changes and revisions alone. The one error is want of memory.
-pub fn file_stat(
-    alloc: Global,
-    tables: &Tables,
-    caller: &Caller,
-    arguments: &[FileArgument],
-) -> Result<Step, AllocError>
-    ensures { IfOk result (λ step. (d : List Deed) → IsSound d → HasRows (rows_of tables.now) d table_ids.Group → HasRows (rows_of tables.now) d table_ids.Protect →
-        HasRows (rows_of tables.now) d table_ids.Domain → HasRows (rows_of tables.now) d table_ids.Have → HasRows (rows_of tables.now) d table_ids.Label →
-        HasRows (rows_of tables.now) d table_ids.Working → HasRows (rows_of tables.now) d table_ids.Change → HasRows (rows_of tables.now) d table_ids.Rev →
-        IsMade (rows_of tables.now) d d (model.fstat d caller.now arguments.now) step) }
-{
-    let asker = Asker::of(alloc, tables, caller)?;
-    let done = stat_asked(alloc, tables, caller, &asker, arguments);
-    drop(asker);
-    let step = done?;
     Ok(step)
 }

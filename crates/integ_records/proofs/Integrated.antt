@@ -1,6 +1,6 @@
--- What is done with a source, test by test, is what the model does, and it is on the files of the caller's client.
-use Rattle.std.proofs.Common.{◌≡◌, ℕ, Bool, true, false, List, [], ◌∷◌, Option, Some, None, length, refl, arith}
-use Rattle.std.specs.Prelude.{◌&&◌, ◌==◌, if◌then◌else◌, is_some, not, unwrap_or}
+-- Some files are integrated in turn, and the deeds are on the files of the caller's client.
+use Rattle.std.proofs.Common.{◌≡◌, ℕ, Bool, true, false, List, [], ◌∷◌, Option, Some, None, refl}
+use Rattle.std.specs.Prelude.{◌&&◌, if◌then◌else◌, is_some, not, unwrap_or}
 use Rattle.std.specs.List.{last_or, list_all}
 use Rattle.depot_rows.specs.depot_path.Bytes.{same}
 use Rattle.depot_rows.specs.depot_path.Path.{printed}
@@ -17,30 +17,24 @@ use Rattle.depot_rows.specs.depot_model.Deeds as model
 use Rattle.depot_rows.specs.depot_model.Deeds.{Deed, Got, Open, Owe, Paid}
 use Rattle.depot_rows.specs.depot_model.Opened.{opened}
 use Rattle.depot_rows.specs.depot_model.Revisions.{head, is_live_at, is_live_head}
-use Rattle.depot_rows.specs.depot_model.Step.{Step as ModelStep, does, in_turn, refuse_if, refuses, unless}
+use Rattle.depot_rows.specs.depot_model.Step.{Step as ModelStep, does, in_turn, nothing, refuse_if, refuses, unless}
 use Rattle.depot_rows.specs.depot_model.Steps.Integrating.{integrate_all, integrate_chosen, integrate_deleted, integrate_file, integrate_live, integrate_revs, integrate_row, integrate_to, new_type, opening, owing, type_at, uncredited}
 use Rattle.depot_rows.specs.depot_model.Steps.Opening.{exclusive_refusal, held, right_refusal}
 use Rattle.depot_rows.specs.depot_model.Steps.Targets.{target_at, target_text}
-use Rattle.depot_rows.proofs.Keys.{number-is, same-self}
+use Rattle.depot_rows.proofs.Keys.{same-self}
 use Rattle.opening_reads.specs.OwnOpenings.{is_of}
-use Rattle.integ_records.specs.Integrates.{integrates_at}
-
--- tests one after another
-pub tests_joined : (a b c f : Option Refusal) (step : ModelStep) → unless (a ∷ []) (unless (b ∷ []) (unless (c ∷ []) (unless (f ∷ []) step))) ≡ unless (a ∷ b ∷ c ∷ f ∷ []) step
-tests_joined (Some why) b c f step = refl
-tests_joined None (Some why) c f step = refl
-tests_joined None None (Some why) f step = refl
-tests_joined None None None (Some why) step = refl
-tests_joined None None None None step = refl
 
 pub some_integrated : (d : List Deed) (caller : Caller) (change : Option ℕ) (from : FileArgument) (to : PatternArgument) (paths : List (List ℕ)) → (paths ≡ [] → ⊥)
     → in_turn (integrate_file d caller change from to) d paths ≡ integrate_all d caller change from to paths
 some_integrated d caller change from to [] some = absurd (some refl)
 some_integrated d caller change from to (path ∷ paths) some = refl
 
-pub no_paths : (paths : List (List ℕ)) → (length paths == 0) ≡ true → paths ≡ []
-no_paths [] e = refl
-no_paths (path ∷ paths) e = let none : length (path ∷ paths) ≡ 0 = number-is (length (path ∷ paths)) 0 e in absurd (omega arith)
+-- by the choice of a revision; a file passed over gives no row
+abbrev pub integrates_at : List Deed → List Deed → Caller → Option ℕ → FileArgument → PatternArgument → List ℕ → Choice → ModelStep
+integrates_at d e caller change from to s choice = elim choice [
+  | PassedOver ↦ nothing
+  | At n ↦ integrate_chosen d e caller change from to s
+]
 
 -- ---- the deeds are on the files of the client
 

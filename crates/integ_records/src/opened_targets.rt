@@ -207,8 +207,7 @@ fn integrate_live(
     let file = held(&pair.caller.client, pair.to)?;
     let row = integrate_row(alloc, pair, ends, Action::Integrate)?;
     let opening = opening_over(pair, base, Action::Integrate, file_type, None)?;
-    let step = opens_got(alloc, opening, file, base, owing, row)?;
-    Ok(step)
+    opens_got(alloc, opening, file, base, owing, row)
 }
 
 /// The step that opens a target for an action, with a resolve that is paid.
@@ -233,37 +232,7 @@ fn integrate_paid(
     let from = own_path(pair.from)?;
     let row = integrate_row(alloc, pair, ends, action)?;
     let opening = opening_over(pair, base, action, file_type, source)?;
-    let step = opens_paid(alloc, opening, owing, file, from, how, row)?;
-    Ok(step)
-}
-
-/// The step that makes a file of live revisions.
-fn branch(
-    alloc: Global,
-    pair: &Pair<'_>,
-    ends: Span,
-    base: u32,
-    file_type: Text,
-) -> Result<Step, AllocError>
-    ensures { IfOk result (λ step. (all : AllRows) (d e : List Deed) → base ≡ head d pair.now.to.now →
-        IsMade all d e (way_step d pair.now.caller.now pair.now.change file_type pair.now.from.now pair.now.to.now ends Way.Branch) step) }
-{
-    let path = own_path(pair.from)?;
-    let source = Source {
-        path,
-        rev: ends.last,
-    };
-    let step = integrate_paid(
-        alloc,
-        pair,
-        ends,
-        base,
-        file_type,
-        Action::Branch,
-        Some(source),
-        How::BranchFrom,
-    )?;
-    Ok(step)
+    opens_paid(alloc, opening, owing, file, from, how, row)
 }
 
 /// The step that opens a target in its way.
@@ -279,16 +248,28 @@ fn integrate_by(
         IsMade all d e (way_step d pair.now.caller.now pair.now.change file_type pair.now.from.now pair.now.to.now ends way) step) }
 {
     match way {
-        Way::Integrate => {
-            let step = integrate_live(alloc, pair, ends, base, file_type)?;
-            Ok(step)
-        }
+        Way::Integrate => integrate_live(alloc, pair, ends, base, file_type),
         Way::Branch => {
-            let step = branch(alloc, pair, ends, base, file_type)?;
-            Ok(step)
+            let path = own_path(pair.from)?;
+            let source = Some(Source {
+                path,
+                rev: ends.last,
+            });
+            let how = How::BranchFrom;
+            integrate_paid(
+                alloc,
+                pair,
+                ends,
+                base,
+                file_type,
+                Action::Branch,
+                source,
+                how,
+            )
         }
         Way::Delete => {
-            let step = integrate_paid(
+            let how = How::DeleteFrom;
+            integrate_paid(
                 alloc,
                 pair,
                 ends,
@@ -296,9 +277,8 @@ fn integrate_by(
                 file_type,
                 Action::Delete,
                 None,
-                How::DeleteFrom,
-            )?;
-            Ok(step)
+                how,
+            )
         }
     }
 }
@@ -308,35 +288,7 @@ fn none_left(alloc: Global, path: &DepotPath) -> Result<Step, AllocError>
     ensures { IfOk result (λ step. (all : AllRows) (d e : List Deed) → IsMade all d e (refuses (refusals.AllIntegrated path.now)) step) }
 {
     let row = all_integrated_row(alloc, path)?;
-    let step = Step::tells(alloc, row)?;
-    Ok(step)
-}
-
-/// What is done with a target where revisions are left to integrate.
-fn integrate_some(
-    alloc: Global,
-    tables: &Tables,
-    pair: &Pair<'_>,
-    ends: Span,
-    file_type: Text,
-) -> Result<Step, AllocError>
-    ensures { IfOk result (λ step. (d e : List Deed) → IsSound d → HasRows (rows_of tables.now) d table_ids.Rev →
-        IsMade (rows_of tables.now) d e (by_ends d pair.now.caller.now pair.now.change file_type pair.now.from.now pair.now.to.now (Some ends)) step) }
-{
-    let source_live = is_live_at(alloc, tables, pair.from, ends.last)?;
-    let target_live = is_live_head(alloc, tables, pair.to)?;
-    let base = head_of(alloc, tables, pair.to)?;
-    let way = way_of(source_live, target_live);
-    match way {
-        Some(way) => {
-            let step = integrate_by(alloc, pair, ends, base, file_type, way)?;
-            Ok(step)
-        }
-        None => {
-            let step = none_left(alloc, pair.to)?;
-            Ok(step)
-        }
-    }
+    Step::tells(alloc, row)
 }
 
 /// What is done with a target by what is left to integrate, from the table of revisions alone.
@@ -350,14 +302,14 @@ pub(crate) fn integrate_ends(
     ensures { IfOk result (λ step. (d e : List Deed) → IsSound d → HasRows (rows_of tables.now) d table_ids.Rev →
         IsMade (rows_of tables.now) d e (by_ends d pair.now.caller.now pair.now.change file_type pair.now.from.now pair.now.to.now ends) step) }
 {
-    match ends {
-        Some(ends) => {
-            let step = integrate_some(alloc, tables, pair, ends, file_type)?;
-            Ok(step)
-        }
-        None => {
-            let step = none_left(alloc, pair.to)?;
-            Ok(step)
-        }
+    let Some(ends) = ends else {
+        return none_left(alloc, pair.to);
+    };
+    let source_live = is_live_at(alloc, tables, pair.from, ends.last)?;
+    let target_live = is_live_head(alloc, tables, pair.to)?;
+    let base = head_of(alloc, tables, pair.to)?;
+    match way_of(source_live, target_live) {
+        Some(way) => integrate_by(alloc, pair, ends, base, file_type, way),
+        None => none_left(alloc, pair.to),
     }
 }

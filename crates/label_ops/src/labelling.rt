@@ -7,6 +7,7 @@ ghost use Rattle.depot_rows.specs.depot_model.Deeds.{Deed};
 ghost use Rattle.depot_rows.specs.depot_model.Rules.{IsSound};
 ghost use Rattle.depot_rows.specs.depot_model.Steps.Tagging as model;
 ghost use Rattle.depot_rows.specs.Standing.{HasRows};
+ghost use Rattle.named_files.specs.Asked.{IsAsker};
 ghost use Rattle.named_files.specs.declared.listing.Listing.TheVariants.{Submitted};
 ghost use Rattle.named_files.specs.Sets.{ShownReads};
 ghost use Rattle.reply_rows.specs.Made.{IsMade};
@@ -62,19 +63,20 @@ fn sync_files<'a>(
 
 /// `labelsync -l LABEL [-a or -d] [FILE...]`: the label has the files at the revisions that the arguments choose, for an argument without one at
 /// those of the client's have list, and loses the other files that are named; with `-a` it keeps them, and with `-d` it loses all that are named.
-/// It is refused where the label isn't saved, or is locked. It reads the tables of groups, protections, forms, have lists, labels, changes and
+/// It is refused where the label isn't saved, or is locked. It reads the tables of forms, have lists, labels, changes and
 /// revisions, and of each file that is named its rows alone. The one error is want of memory.
 pub fn labelsync(
     alloc: Global,
     tables: &Tables,
     caller: &Caller,
+    asker: &Asker,
     label: &Name,
     labelling: Labelling,
     arguments: &[FileArgument],
 ) -> Result<Step, AllocError>
-    ensures { IfOk result (λ step. (d : List Deed) → IsSound d → HasRows (rows_of tables.now) d table_ids.Group → HasRows (rows_of tables.now) d table_ids.Protect →
-        HasRows (rows_of tables.now) d table_ids.Domain → HasRows (rows_of tables.now) d table_ids.Have → HasRows (rows_of tables.now) d table_ids.Label →
-        HasRows (rows_of tables.now) d table_ids.Change → HasRows (rows_of tables.now) d table_ids.Rev →
+    ensures { IfOk result (λ step. (d : List Deed) → IsSound d → IsAsker d caller.now asker.now → HasRows (rows_of tables.now) d table_ids.Domain →
+        HasRows (rows_of tables.now) d table_ids.Have → HasRows (rows_of tables.now) d table_ids.Label → HasRows (rows_of tables.now) d table_ids.Change →
+        HasRows (rows_of tables.now) d table_ids.Rev →
         IsMade (rows_of tables.now) d d (model.labelsync d caller.now label.now labelling arguments.now) step) }
 {
     let there = is_label(alloc, tables, label)?;
@@ -89,9 +91,6 @@ pub fn labelsync(
         let refused = Step::tells(alloc, told)?;
         return Ok(refused);
     }
-    let asker = Asker::of(alloc, tables, caller)?;
-    let done = sync_files(alloc, tables, caller, &asker, label, labelling, arguments);
-    drop(asker);
-    let step = done?;
+    let step = sync_files(alloc, tables, caller, asker, label, labelling, arguments)?;
     Ok(step)
 }

@@ -7,6 +7,7 @@ ghost use Rattle.depot_rows.specs.depot_model.Deeds.{Deed};
 ghost use Rattle.depot_rows.specs.depot_model.Rules.{IsSound};
 ghost use Rattle.depot_rows.specs.depot_model.Steps.Tagging as model;
 ghost use Rattle.depot_rows.specs.Standing.{HasRows};
+ghost use Rattle.named_files.specs.Asked.{IsAsker};
 ghost use Rattle.named_files.specs.declared.listing.Listing.TheVariants.{Submitted};
 ghost use Rattle.named_files.specs.Sets.{ShownReads};
 ghost use Rattle.reply_rows.specs.Made.{IsMade};
@@ -81,20 +82,20 @@ fn tag_all(
 }
 
 /// `tag -l LABEL [-d] FILE...`: the label has the files at the revisions that the arguments choose, with `-d` no more; it is made where it is
-/// absent. It is refused where the label is locked. It reads the tables of groups, protections, forms, have lists, labels, changes and revisions,
+/// absent. It is refused where the label is locked. It reads the tables of forms, have lists, labels, changes and revisions,
 /// and of each file that is named its rows alone. The one error is want of memory.
 pub fn tag(
     alloc: Global,
     tables: &Tables,
     caller: &Caller,
+    asker: &Asker,
     label: &Name,
     removes: bool,
     arguments: &[FileArgument],
 ) -> Result<Step, AllocError>
-    ensures { IfOk result (λ step. (d : List Deed) → IsSound d → HasRows (rows_of tables.now) d table_ids.Group → HasRows (rows_of tables.now) d table_ids.Protect →
-        HasRows (rows_of tables.now) d table_ids.Domain → HasRows (rows_of tables.now) d table_ids.Have → HasRows (rows_of tables.now) d table_ids.Label →
-        HasRows (rows_of tables.now) d table_ids.Change → HasRows (rows_of tables.now) d table_ids.Rev →
-        IsMade (rows_of tables.now) d d (model.tag d caller.now label.now removes arguments.now) step) }
+    ensures { IfOk result (λ step. (d : List Deed) → IsSound d → IsAsker d caller.now asker.now → HasRows (rows_of tables.now) d table_ids.Domain →
+        HasRows (rows_of tables.now) d table_ids.Have → HasRows (rows_of tables.now) d table_ids.Label → HasRows (rows_of tables.now) d table_ids.Change →
+        HasRows (rows_of tables.now) d table_ids.Rev → IsMade (rows_of tables.now) d d (model.tag d caller.now label.now removes arguments.now) step) }
 {
     let locked = is_locked_label(alloc, tables, label)?;
     if locked {
@@ -102,9 +103,6 @@ pub fn tag(
         let refused = Step::tells(alloc, row)?;
         return Ok(refused);
     }
-    let asker = Asker::of(alloc, tables, caller)?;
-    let done = tag_all(alloc, tables, caller, &asker, label, removes, arguments);
-    drop(asker);
-    let step = done?;
+    let step = tag_all(alloc, tables, caller, asker, label, removes, arguments)?;
     Ok(step)
 }

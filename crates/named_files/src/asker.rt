@@ -2,7 +2,7 @@
 
 ghost use Rattle.std.specs.Prelude.{◌≡◌, List, [], IfOk};
 ghost use Rattle.depot_rows.specs.db_records.declared.table.TableId.TheVariants as table_ids;
-ghost use Rattle.depot_rows.specs.depot_model.Asking.{view as view_in};
+ghost use Rattle.depot_rows.specs.depot_model.Asking.{view as view_in, who_of as who_in};
 ghost use Rattle.depot_rows.specs.depot_model.Deeds.{Deed};
 ghost use Rattle.depot_rows.specs.depot_model.Rules.{IsSound};
 ghost use Rattle.depot_rows.specs.Standing.{HasRows};
@@ -16,7 +16,7 @@ use depot_rows::paths::{ClientPath, DepotPath, Name, Pattern};
 use depot_rows::protections::{Level, Protects, Who};
 use depot_rows::tables::Tables;
 use depot_rows::views::{Mapped, View};
-use row_reads::{in_client_syntax, protects_of, view_of, who_of};
+use row_reads::{in_client_syntax, protects_of, view_of};
 use std::alloc::{AllocError, Global};
 
 /// Who asks: the client, the rights and the view.
@@ -70,14 +70,19 @@ fn view_or_none(alloc: Global, tables: &Tables, client: &Name) -> Result<View, A
 }
 
 impl Asker {
-    /// The asker of a request, from the tables of groups, protections and forms alone. The one error is want of memory.
-    pub fn of(alloc: Global, tables: &Tables, caller: &Caller) -> Result<Asker, AllocError>
-        ensures { IfOk result (λ asker. (d : List Deed) → IsSound d → HasRows (rows_of tables.now) d table_ids.Group → HasRows (rows_of tables.now) d table_ids.Protect →
+    /// The asker of a request, from the tables of protections and forms alone; who asks is read before (`who_of` of `row_reads`). The one error is want of
+    /// memory.
+    pub fn with(
+        alloc: Global,
+        tables: &Tables,
+        caller: &Caller,
+        who: Who,
+    ) -> Result<Asker, AllocError>
+        ensures { IfOk result (λ asker. (d : List Deed) → IsSound d → who ≡ who_in d caller.now → HasRows (rows_of tables.now) d table_ids.Protect →
             HasRows (rows_of tables.now) d table_ids.Domain → IsAsker d caller.now asker) }
     {
         let client = own_name(&caller.client)?;
         let protects = protects_of(tables).share()?;
-        let who = who_of(alloc, tables, caller)?;
         let view = view_or_none(alloc, tables, &caller.client)?;
         Ok(Asker {
             client,

@@ -18,7 +18,7 @@ use Rattle.reply_rows.specs.Made.{IsMade, told}
 use Rattle.reply_rows.specs.declared.step.Step.{Step}
 use Rattle.named_files.specs.Asked.{IsAsker}
 use Rattle.named_files.specs.declared.asker.Asker.{Asker}
-use Rattle.opened_files.proofs.Refusals.{first_told, passed_first}
+use Rattle.command_parts.proofs.Refused.{first_told, passed_first}
 use Rattle.opened_files.specs.Adds.{new_refusal, spelled_file}
 
 -- ---- tests one after another

@@ -1,4 +1,3 @@
-pub mod Refusals
 pub mod Locked
 pub mod Own
 pub mod Reopened

@@ -16,6 +16,7 @@ ghost use Rattle.depot_rows.specs.depot_model.WellFormed.{spells_path};
 ghost use Rattle.depot_rows.specs.depot_model.declared.refusal.Refusal.TheVariants as refusals;
 ghost use Rattle.depot_rows.specs.depot_path.Path.{printed};
 ghost use Rattle.depot_rows.specs.Standing.{HasRows};
+ghost use Rattle.named_files.specs.Asked.{IsAsker};
 ghost use Rattle.reply_rows.specs.Made.{IsMade};
 ghost use Rattle.opened_files.specs.Adds.{Reads, new_refusal as new_refusal_by, spelled_file as file_spelled};
 
@@ -196,32 +197,28 @@ fn type_or_text(alloc: Global, file_type: &Option<Text>) -> Result<Text, AllocEr
 }
 
 /// `add [-c CHANGE] [-t TYPE] PATH...`: opens files that aren't there, to add them with a submit, each argument being a path, from the tables of
-/// groups, protections, forms, changes, opened files and revisions alone. The one error is want of memory.
+/// changes, opened files and revisions alone. The one error is want of memory.
 pub fn add(
     alloc: Global,
     tables: &Tables,
     caller: &Caller,
+    asker: &Asker,
     change: Option<u32>,
     file_type: &Option<Text>,
     arguments: &[FileArgument],
 ) -> Result<Step, AllocError>
-    ensures { IfOk result (λ step. (d : List Deed) → list_all spells_path arguments.now ≡ true → IsSound d → HasRows (rows_of tables.now) d table_ids.Group →
-        HasRows (rows_of tables.now) d table_ids.Protect → HasRows (rows_of tables.now) d table_ids.Domain → HasRows (rows_of tables.now) d table_ids.Change →
-        HasRows (rows_of tables.now) d table_ids.Working → HasRows (rows_of tables.now) d table_ids.Rev →
+    ensures { IfOk result (λ step. (d : List Deed) → list_all spells_path arguments.now ≡ true → IsSound d → IsAsker d caller.now asker.now →
+        HasRows (rows_of tables.now) d table_ids.Change → HasRows (rows_of tables.now) d table_ids.Working → HasRows (rows_of tables.now) d table_ids.Rev →
         IsMade (rows_of tables.now) d d (model.add d caller.now change file_type.now arguments.now) step) }
 {
     if let Some(row) = named_change_refusal(alloc, tables, caller, change)? {
         return Step::tells(alloc, row);
     }
-    let asker = Asker::of(alloc, tables, caller)?;
     let own_type = type_or_text(alloc, file_type)?;
-    let files = FilesToAdd {
-        caller,
-        asker: &asker,
-    };
+    let files = FilesToAdd { caller, asker };
     let adding = Adding {
         caller,
-        asker: &asker,
+        asker,
         change,
         file_type: &own_type,
     };

@@ -11,6 +11,7 @@ ghost use Rattle.depot_rows.specs.depot_model.Steps.Editing as model;
 ghost use Rattle.depot_rows.specs.depot_model.WellFormed.{asks_head};
 ghost use Rattle.depot_rows.specs.Deed.{action_of, opening_of as opening_of_deed};
 ghost use Rattle.depot_rows.specs.Standing.{HasRows};
+ghost use Rattle.named_files.specs.Asked.{IsAsker};
 ghost use Rattle.reply_rows.specs.Made.{IsMade};
 ghost use Rattle.opened_files.specs.Opens.{Reads, new_opening as opening_new, open_step, opens_shown};
 
@@ -217,29 +218,29 @@ fn open_had(
     alloc: Global,
     tables: &Tables,
     caller: &Caller,
+    asker: &Asker,
     action: Action,
     change: Option<u32>,
     file_type: &Option<Text>,
     arguments: &[FileArgument],
 ) -> Result<Step, AllocError>
-    ensures { IfOk result (λ step. (d : List Deed) → list_all asks_head arguments.now ≡ true → IsSound d → HasRows (rows_of tables.now) d table_ids.Group →
-        HasRows (rows_of tables.now) d table_ids.Protect → HasRows (rows_of tables.now) d table_ids.Domain → HasRows (rows_of tables.now) d table_ids.Have →
-        HasRows (rows_of tables.now) d table_ids.Working → HasRows (rows_of tables.now) d table_ids.Change → HasRows (rows_of tables.now) d table_ids.Rev →
+    ensures { IfOk result (λ step. (d : List Deed) → list_all asks_head arguments.now ≡ true → IsSound d → IsAsker d caller.now asker.now →
+        HasRows (rows_of tables.now) d table_ids.Domain → HasRows (rows_of tables.now) d table_ids.Have → HasRows (rows_of tables.now) d table_ids.Working →
+        HasRows (rows_of tables.now) d table_ids.Change → HasRows (rows_of tables.now) d table_ids.Rev →
         IsMade (rows_of tables.now) d d (model.open_had (action_of action) d caller.now change file_type.now arguments.now) step) }
 {
     if let Some(row) = named_change_refusal(alloc, tables, caller, change)? {
         return Step::tells(alloc, row);
     }
-    let asker = Asker::of(alloc, tables, caller)?;
     let listing = Listing::had_by(&caller.client)?;
     let files = HeadFiles {
         caller,
-        asker: &asker,
+        asker,
         listing: &listing,
     };
     let act = OpeningHad {
         caller,
-        asker: &asker,
+        asker,
         action,
         change,
         file_type,
@@ -248,25 +249,27 @@ fn open_had(
     within_files(alloc, done)
 }
 
-/// `edit [-c CHANGE] [-t TYPE] FILE...`: opens files that the client has for edit, from the tables of groups, protections, forms, have lists, opened
-/// files, changes and revisions alone. The one error is want of memory.
+/// `edit [-c CHANGE] [-t TYPE] FILE...`: opens files that the client has for edit, from the tables of forms, have lists, opened files, changes
+/// and revisions alone. The one error is want of memory.
 pub fn edit(
     alloc: Global,
     tables: &Tables,
     caller: &Caller,
+    asker: &Asker,
     change: Option<u32>,
     file_type: &Option<Text>,
     arguments: &[FileArgument],
 ) -> Result<Step, AllocError>
-    ensures { IfOk result (λ step. (d : List Deed) → list_all asks_head arguments.now ≡ true → IsSound d → HasRows (rows_of tables.now) d table_ids.Group →
-        HasRows (rows_of tables.now) d table_ids.Protect → HasRows (rows_of tables.now) d table_ids.Domain → HasRows (rows_of tables.now) d table_ids.Have →
-        HasRows (rows_of tables.now) d table_ids.Working → HasRows (rows_of tables.now) d table_ids.Change → HasRows (rows_of tables.now) d table_ids.Rev →
+    ensures { IfOk result (λ step. (d : List Deed) → list_all asks_head arguments.now ≡ true → IsSound d → IsAsker d caller.now asker.now →
+        HasRows (rows_of tables.now) d table_ids.Domain → HasRows (rows_of tables.now) d table_ids.Have → HasRows (rows_of tables.now) d table_ids.Working →
+        HasRows (rows_of tables.now) d table_ids.Change → HasRows (rows_of tables.now) d table_ids.Rev →
         IsMade (rows_of tables.now) d d (model.edit d caller.now change file_type.now arguments.now) step) }
 {
     open_had(
         alloc,
         tables,
         caller,
+        asker,
         Action::Edit,
         change,
         file_type,
@@ -279,18 +282,20 @@ pub fn delete(
     alloc: Global,
     tables: &Tables,
     caller: &Caller,
+    asker: &Asker,
     change: Option<u32>,
     arguments: &[FileArgument],
 ) -> Result<Step, AllocError>
-    ensures { IfOk result (λ step. (d : List Deed) → list_all asks_head arguments.now ≡ true → IsSound d → HasRows (rows_of tables.now) d table_ids.Group →
-        HasRows (rows_of tables.now) d table_ids.Protect → HasRows (rows_of tables.now) d table_ids.Domain → HasRows (rows_of tables.now) d table_ids.Have →
-        HasRows (rows_of tables.now) d table_ids.Working → HasRows (rows_of tables.now) d table_ids.Change → HasRows (rows_of tables.now) d table_ids.Rev →
+    ensures { IfOk result (λ step. (d : List Deed) → list_all asks_head arguments.now ≡ true → IsSound d → IsAsker d caller.now asker.now →
+        HasRows (rows_of tables.now) d table_ids.Domain → HasRows (rows_of tables.now) d table_ids.Have → HasRows (rows_of tables.now) d table_ids.Working →
+        HasRows (rows_of tables.now) d table_ids.Change → HasRows (rows_of tables.now) d table_ids.Rev →
         IsMade (rows_of tables.now) d d (model.delete d caller.now change arguments.now) step) }
 {
     open_had(
         alloc,
         tables,
         caller,
+        asker,
         Action::Delete,
         change,
         &None,

@@ -8,6 +8,7 @@ ghost use Rattle.depot_rows.specs.depot_model.Deeds.{Deed};
 ghost use Rattle.depot_rows.specs.depot_model.Rules.{IsSound};
 ghost use Rattle.depot_rows.specs.depot_model.Steps.Reverting as model;
 ghost use Rattle.depot_rows.specs.Standing.{HasRows};
+ghost use Rattle.named_files.specs.Asked.{IsAsker};
 ghost use Rattle.reply_rows.specs.Made.{IsMade};
 ghost use Rattle.opened_files.specs.Locks.{Reads, other_of as other_in};
 
@@ -87,28 +88,24 @@ impl<'a> FileAct for Locking<'a> {
 }
 
 /// `lock [-c CHANGE] FILE...`: locks files that the client has opened, in the change where one is given, so that no other client submits them, from
-/// the tables of groups, protections, forms and opened files alone. The one error is want of memory.
+/// the table of opened files alone. The one error is want of memory.
 pub fn lock(
     alloc: Global,
     tables: &Tables,
     caller: &Caller,
+    asker: &Asker,
     change: Option<u32>,
     arguments: &[FileArgument],
 ) -> Result<Step, AllocError>
-    ensures { IfOk result (λ step. (d : List Deed) → IsSound d → HasRows (rows_of tables.now) d table_ids.Group → HasRows (rows_of tables.now) d table_ids.Protect →
-        HasRows (rows_of tables.now) d table_ids.Domain → HasRows (rows_of tables.now) d table_ids.Working →
+    ensures { IfOk result (λ step. (d : List Deed) → IsSound d → IsAsker d caller.now asker.now → HasRows (rows_of tables.now) d table_ids.Working →
         IsMade (rows_of tables.now) d d (model.lock d caller.now change arguments.now) step) }
 {
-    let asker = Asker::of(alloc, tables, caller)?;
     let files = SelectedFiles {
         caller,
-        asker: &asker,
+        asker,
         change,
     };
-    let locking = Locking {
-        caller,
-        asker: &asker,
-    };
+    let locking = Locking { caller, asker };
     let done = over(alloc, tables, &files, &locking, arguments)?;
     within_files(alloc, done)
 }

@@ -14,6 +14,7 @@ ghost use Rattle.depot_rows.specs.depot_model.WellFormed.{asks_head};
 ghost use Rattle.depot_rows.specs.Deed.{action_of, opening_of as opening_of_deed};
 ghost use Rattle.depot_rows.specs.Effects.{Follow};
 ghost use Rattle.depot_rows.specs.Standing.{HasRows};
+ghost use Rattle.named_files.specs.Asked.{IsAsker};
 ghost use Rattle.reply_rows.specs.Made.{IsMade, does};
 ghost use Rattle.opening_reads.specs.OwnOpenings.{IsOwn};
 ghost use Rattle.opened_files.specs.Moves.{ReadsOwn, at_target, is_add, is_move_add, is_move_delete, moved_row, moves_nowhere, move_step};
@@ -479,29 +480,29 @@ impl<'a> TurnAct for Moving<'a> {
     }
 }
 
-/// `move [-c CHANGE] FROM TO`: files that the client has opened are opened elsewhere, from the tables of groups, protections, forms, opened files,
-/// changes and revisions alone. The one error is want of memory.
+/// `move [-c CHANGE] FROM TO`: files that the client has opened are opened elsewhere, from the tables of forms, opened files, changes and revisions
+/// alone. The one error is want of memory.
 pub fn move_files(
     alloc: Global,
     tables: &Tables,
     caller: &Caller,
+    asker: &Asker,
     change: Option<u32>,
     from: &FileArgument,
     to: &PatternArgument,
 ) -> Result<Step, AllocError>
-    ensures { IfOk result (λ step. (d : List ModelDeed) → asks_head from.now ≡ true → IsSound d → HasRows (rows_of tables.now) d table_ids.Group →
-        HasRows (rows_of tables.now) d table_ids.Protect → HasRows (rows_of tables.now) d table_ids.Domain → HasRows (rows_of tables.now) d table_ids.Change →
+    ensures { IfOk result (λ step. (d : List ModelDeed) → asks_head from.now ≡ true → IsSound d → IsAsker d caller.now asker.now →
+        HasRows (rows_of tables.now) d table_ids.Domain → HasRows (rows_of tables.now) d table_ids.Change →
         HasRows (rows_of tables.now) d table_ids.Working → HasRows (rows_of tables.now) d table_ids.Rev →
         IsMade (rows_of tables.now) d d (model.move d caller.now change from.now to.now) step) }
 {
     if let Some(row) = named_change_refusal(alloc, tables, caller, change)? {
         return Step::tells(alloc, row);
     }
-    let asker = Asker::of(alloc, tables, caller)?;
     let listing = Listing::opened_by(&caller.client)?;
     let files = HeadFiles {
         caller,
-        asker: &asker,
+        asker,
         listing: &listing,
     };
     let paths = named_by(alloc, tables, &files, from)?;
@@ -510,7 +511,7 @@ pub fn move_files(
     }
     let mut moving = Moving {
         caller,
-        asker: &asker,
+        asker,
         change,
         from,
         to,

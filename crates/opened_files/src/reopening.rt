@@ -8,6 +8,7 @@ ghost use Rattle.depot_rows.specs.depot_model.Rules.{IsSound};
 ghost use Rattle.depot_rows.specs.depot_model.Steps.Reverting as model;
 ghost use Rattle.depot_rows.specs.Deed.{opening_of as opening_of_deed};
 ghost use Rattle.depot_rows.specs.Standing.{HasRows};
+ghost use Rattle.named_files.specs.Asked.{IsAsker};
 ghost use Rattle.reply_rows.specs.Made.{IsMade};
 ghost use Rattle.opened_files.specs.Locks.{Reads};
 
@@ -81,31 +82,31 @@ impl<'a> FileAct for Reopening<'a> {
 }
 
 /// `reopen [-c CHANGE] [-t TYPE] FILE...`: moves files that the client has opened into another change, or gives them another type, from the tables
-/// of groups, protections, forms, changes and opened files alone. The one error is want of memory.
+/// of changes and opened files alone. The one error is want of memory.
 pub fn reopen(
     alloc: Global,
     tables: &Tables,
     caller: &Caller,
+    asker: &Asker,
     change: Option<u32>,
     file_type: &Option<Text>,
     arguments: &[FileArgument],
 ) -> Result<Step, AllocError>
-    ensures { IfOk result (λ step. (d : List Deed) → IsSound d → HasRows (rows_of tables.now) d table_ids.Group → HasRows (rows_of tables.now) d table_ids.Protect →
-        HasRows (rows_of tables.now) d table_ids.Domain → HasRows (rows_of tables.now) d table_ids.Change → HasRows (rows_of tables.now) d table_ids.Working →
+    ensures { IfOk result (λ step. (d : List Deed) → IsSound d → IsAsker d caller.now asker.now → HasRows (rows_of tables.now) d table_ids.Change →
+        HasRows (rows_of tables.now) d table_ids.Working →
         IsMade (rows_of tables.now) d d (model.reopen d caller.now change file_type.now arguments.now) step) }
 {
     if let Some(row) = reopened_change_refusal(alloc, tables, caller, change)? {
         return Step::tells(alloc, row);
     }
-    let asker = Asker::of(alloc, tables, caller)?;
     let files = SelectedFiles {
         caller,
-        asker: &asker,
+        asker,
         change: None,
     };
     let reopening = Reopening {
         caller,
-        asker: &asker,
+        asker,
         change,
         file_type,
     };

@@ -10,6 +10,7 @@ ghost use Rattle.depot_rows.specs.depot_model.Rules.{IsSound};
 ghost use Rattle.depot_rows.specs.depot_model.Step.{Step as ModelStep, both, nothing};
 ghost use Rattle.depot_rows.specs.depot_model.Steps.Reverting as model;
 ghost use Rattle.depot_rows.specs.Standing.{HasRows};
+ghost use Rattle.named_files.specs.Asked.{IsAsker};
 ghost use Rattle.reply_rows.specs.Made.{IsMade};
 ghost use Rattle.opened_files.specs.Reverts.{AreAlike, IsReverted, Reads, shut_row as row_of_shut};
 
@@ -226,22 +227,21 @@ fn revert_over(
 }
 
 /// `revert [-c CHANGE] FILE...`: the client has files opened no more, in the change where one is given, each with the other end of its move, from
-/// the tables of groups, protections, forms, have lists and opened files alone. The have list stays. The one error is want of memory.
+/// the tables of have lists and opened files alone. The have list stays. The one error is want of memory.
 pub fn revert(
     alloc: Global,
     tables: &Tables,
     caller: &Caller,
+    asker: &Asker,
     change: Option<u32>,
     arguments: &[FileArgument],
 ) -> Result<Step, AllocError>
-    ensures { IfOk result (λ step. (d : List Deed) → IsSound d → HasRows (rows_of tables.now) d table_ids.Group → HasRows (rows_of tables.now) d table_ids.Protect →
-        HasRows (rows_of tables.now) d table_ids.Domain → HasRows (rows_of tables.now) d table_ids.Have → HasRows (rows_of tables.now) d table_ids.Working →
-        IsMade (rows_of tables.now) d d (model.revert d caller.now change arguments.now) step) }
+    ensures { IfOk result (λ step. (d : List Deed) → IsSound d → IsAsker d caller.now asker.now → HasRows (rows_of tables.now) d table_ids.Have →
+        HasRows (rows_of tables.now) d table_ids.Working → IsMade (rows_of tables.now) d d (model.revert d caller.now change arguments.now) step) }
 {
-    let asker = Asker::of(alloc, tables, caller)?;
     let files = SelectedFiles {
         caller,
-        asker: &asker,
+        asker,
         change,
     };
     let done = revert_over(alloc, tables, &files, arguments)?;

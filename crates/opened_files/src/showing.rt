@@ -9,6 +9,7 @@ ghost use Rattle.depot_rows.specs.depot_model.Records.{working_record};
 ghost use Rattle.depot_rows.specs.depot_model.Rules.{IsSound};
 ghost use Rattle.depot_rows.specs.depot_model.Steps.Reverting as model;
 ghost use Rattle.depot_rows.specs.Standing.{HasRows};
+ghost use Rattle.named_files.specs.Asked.{IsAsker};
 ghost use Rattle.reply_rows.specs.Made.{IsMade, told};
 ghost use Rattle.file_openings.specs.Openings.{openings, workings};
 ghost use Rattle.opened_files.specs.Shown.{is_shown as shown_to, row_of_working};
@@ -126,32 +127,28 @@ impl<'a> FileAct for Showing<'a> {
     ghost next = { λ showing d e argument path later. tt };
 }
 
-/// `opened [-a] [FILE...]`: the files that the client has opened, with `-a` those of all clients, from the tables of groups, protections, forms and
-/// opened files alone. The one error is want of memory.
+/// `opened [-a] [FILE...]`: the files that the client has opened, with `-a` those of all clients, from the table of opened files alone.
+/// The one error is want of memory.
 pub fn opened(
     alloc: Global,
     tables: &Tables,
     caller: &Caller,
+    asker: &Asker,
     all: bool,
     arguments: &[FileArgument],
 ) -> Result<Step, AllocError>
-    ensures { IfOk result (λ step. (d : List Deed) → IsSound d → HasRows (rows_of tables.now) d table_ids.Group → HasRows (rows_of tables.now) d table_ids.Protect →
-        HasRows (rows_of tables.now) d table_ids.Domain → HasRows (rows_of tables.now) d table_ids.Working →
+    ensures { IfOk result (λ step. (d : List Deed) → IsSound d → IsAsker d caller.now asker.now → HasRows (rows_of tables.now) d table_ids.Working →
         IsMade (rows_of tables.now) d d (model.opened_step d caller.now all arguments.now) step) }
 {
-    let asker = Asker::of(alloc, tables, caller)?;
     let showing = Showing { caller, all };
     if all {
-        let files = OpenedAnywhere {
-            caller,
-            asker: &asker,
-        };
+        let files = OpenedAnywhere { caller, asker };
         return over_all(alloc, tables, &files, &showing, arguments);
     }
     let listing = Listing::opened_by(&caller.client)?;
     let files = ListedFiles {
         caller,
-        asker: &asker,
+        asker,
         listing: &listing,
     };
     over_all(alloc, tables, &files, &showing, arguments)

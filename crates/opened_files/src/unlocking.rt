@@ -7,6 +7,7 @@ ghost use Rattle.depot_rows.specs.depot_model.Deeds.{Deed};
 ghost use Rattle.depot_rows.specs.depot_model.Rules.{IsSound};
 ghost use Rattle.depot_rows.specs.depot_model.Steps.Reverting as model;
 ghost use Rattle.depot_rows.specs.Standing.{HasRows};
+ghost use Rattle.named_files.specs.Asked.{IsAsker};
 ghost use Rattle.reply_rows.specs.Made.{IsMade};
 ghost use Rattle.opened_files.specs.Locks.{Reads};
 
@@ -76,29 +77,25 @@ impl<'a> FileAct for Unlocking<'a> {
     ghost next = { λ unlocking d e argument path later. tt };
 }
 
-/// `unlock [-c CHANGE] FILE...`: frees the client's locks of files that it has opened, in the change where one is given, from the tables of groups,
-/// protections, forms and opened files alone. The one error is want of memory.
+/// `unlock [-c CHANGE] FILE...`: frees the client's locks of files that it has opened, in the change where one is given, from the table of
+/// opened files alone. The one error is want of memory.
 pub fn unlock(
     alloc: Global,
     tables: &Tables,
     caller: &Caller,
+    asker: &Asker,
     change: Option<u32>,
     arguments: &[FileArgument],
 ) -> Result<Step, AllocError>
-    ensures { IfOk result (λ step. (d : List Deed) → IsSound d → HasRows (rows_of tables.now) d table_ids.Group → HasRows (rows_of tables.now) d table_ids.Protect →
-        HasRows (rows_of tables.now) d table_ids.Domain → HasRows (rows_of tables.now) d table_ids.Working →
+    ensures { IfOk result (λ step. (d : List Deed) → IsSound d → IsAsker d caller.now asker.now → HasRows (rows_of tables.now) d table_ids.Working →
         IsMade (rows_of tables.now) d d (model.unlock d caller.now change arguments.now) step) }
 {
-    let asker = Asker::of(alloc, tables, caller)?;
     let files = SelectedFiles {
         caller,
-        asker: &asker,
+        asker,
         change,
     };
-    let unlocking = Unlocking {
-        caller,
-        asker: &asker,
-    };
+    let unlocking = Unlocking { caller, asker };
     let done = over(alloc, tables, &files, &unlocking, arguments)?;
     within_files(alloc, done)
 }

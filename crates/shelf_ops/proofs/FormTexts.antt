@@ -2,7 +2,6 @@
 use Rattle.std.proofs.Common.{◌≡◌, ℕ, true, List, [], ◌∷◌, ◌++◌, ◌⊎◌, Option, Some, None, Result, Ok, Err, inl, inr, refl, sym, ap, subst, ◌∙◌, append_assoc}
 use Rattle.std.specs.Prelude.{codes, decimal, IfSome}
 use Rattle.std.proofs.lemmas.List.Concat.{flat_map-append}
-use Rattle.hex.specs.Hex.{encode_lower}
 use Rattle.depot_rows.specs.depot_path.Answers.{Answers}
 use Rattle.depot_rows.specs.depot_path.Name.{is_name}
 use Rattle.depot_rows.specs.depot_path.Path.{is_path, printed}

@@ -1,34 +1,23 @@
 -- Files that are opened as they were kept in a change, by their forms and what was found of them, are opened as the model opens them.
 use Rattle.std.proofs.Common.{◌≡◌, ◌≤◌, ℕ, Bool, true, false, List, [], ◌∷◌, ◌++◌, Option, Some, None, Result, Ok, Err, inl, inr, refl, sym, ap, subst, ◌∙◌, length, arith, append_assoc}
-use Rattle.std.specs.Prelude.{codes, if◌then◌else◌, is_none, is_some, nat_lt, option_and_then, option_map, unwrap_or}
+use Rattle.std.specs.Prelude.{codes, if◌then◌else◌, nat_lt, option_and_then, option_map, unwrap_or}
 use Rattle.std.proofs.lemmas.Bool.Decides.{nat_tests}
 use Rattle.depot_rows.specs.depot_path.Bytes.{same}
 use Rattle.depot_rows.specs.depot_path.Digits.{number_of}
-use Rattle.depot_rows.specs.depot_path.Path.{is_path, path_of, printed}
+use Rattle.depot_rows.specs.depot_path.Path.{is_path, path_of}
 use Rattle.depot_rows.specs.depot_path.declared.fault.PathFault.{PathFault}
-use Rattle.depot_rows.specs.depot_path.declared.revision.Wanted.TheVariants.{Head}
-use Rattle.depot_rows.specs.db_records.declared.record.Record.TheVariants.{Working}
-use Rattle.depot_rows.specs.db_records.declared.rows.WorkingRecord.{WorkingRecord}
 use Rattle.depot_rows.specs.spec_form.Form.{FormValue, lines_of}
 use Rattle.depot_rows.specs.spec_form.Printing.{printed_form}
 use Rattle.depot_rows.specs.spec_form.declared.shape.Shape.TheVariants.{Shelf as ShelfShape}
 use Rattle.depot_rows.specs.table_changes.Changed.{AllRows}
-use Rattle.depot_rows.specs.depot_model.declared.refusal.Refusal.{Refusal}
-use Rattle.depot_rows.specs.depot_model.declared.refusal.Refusal.TheVariants.{AlreadyOpen, NotInView}
 use Rattle.depot_rows.specs.depot_model.declared.reply.Field.{Field}
-use Rattle.depot_rows.specs.depot_model.declared.reply.Row.{Row}
 use Rattle.depot_rows.specs.depot_model.declared.request.Caller.{Caller}
-use Rattle.depot_rows.specs.depot_model.Asking.{to_open}
-use Rattle.depot_rows.specs.depot_model.Choice.{shown}
-use Rattle.depot_rows.specs.depot_model.Deeds.{Add, Deed, Delete, Edit, Opening, ShelfForm}
+use Rattle.depot_rows.specs.depot_model.Deeds.{Add, Deed, Delete, Edit, ShelfForm}
 use Rattle.depot_rows.specs.depot_model.Latest.{spec, when}
-use Rattle.depot_rows.specs.depot_model.Opened.{opened}
-use Rattle.depot_rows.specs.depot_model.Records.{record_of, working_record}
-use Rattle.depot_rows.specs.depot_model.Refusals.{refusal_row}
+use Rattle.depot_rows.specs.depot_model.Records.{record_of}
 use Rattle.depot_rows.specs.depot_model.Rules.{HasItsSource, HasRev, IsBase, IsKept, IsSound, has_shelf_value, shelf_number, shelf_value}
 use Rattle.depot_rows.specs.depot_model.Shelves.{is_kept, kept, kept_action, kept_base, kept_block, kept_opening, kept_source, shelf_name, source_at as source_in_form}
-use Rattle.depot_rows.specs.depot_model.Step.{Step as ModelStep, nothing, refuse_if, unless}
-use Rattle.depot_rows.specs.depot_model.Steps.Opening.{exclusive_refusal, right_refusal}
+use Rattle.depot_rows.specs.depot_model.Step.{Step as ModelStep, nothing}
 use Rattle.depot_rows.specs.depot_model.Steps.Shelving.{unshelve_file, unshelve_opening}
 use Rattle.depot_rows.specs.depot_model.Values.{first_or_empty, value_of}
 use Rattle.depot_rows.specs.Deed.{action_of, opening_of, source_of}
@@ -41,7 +30,7 @@ use Rattle.reply_rows.specs.Made.{ComeFrom, IsMade, contents_of, waiting}
 use Rattle.sound_deeds.proofs.Read.{has_is, spelled_reads, value_is}
 use Rattle.sound_deeds.proofs.Revised.{rev_low}
 use Rattle.sound_form_steps.proofs.Found.{saved_shelf, spelled}
-use Rattle.shelf_ops.specs.Unshelved.{first_of, given_block, kept_refusal, opened_refusal, opens_kept, opens_waiting, shown_refusal, unshelved_at, word_action}
+use Rattle.shelf_ops.specs.Unshelved.{given_block, opens_kept, opens_waiting, unshelved_at, word_action}
 
 -- ---- the numbers in the form of a kept file
 
@@ -143,64 +132,6 @@ opened_so all d e o place block step pathed made =
     come : (b : Option (List ℕ)) → ComeFrom all d (contents_of (unshelved_at (opening_of o) place b ∷ [])) (given_block b)
     come None = tt
     come (Some bytes) = (refl, tt)
-
--- ---- refusals one after another
-
-pub refused_first : (test : Option Refusal) (tests : List (Option Refusal)) (row : Row) → Some row ≡ option_map refusal_row test → Some row ≡ option_map refusal_row (first_of (test ∷ tests))
-refused_first None tests row e = absurd cc
-refused_first (Some why) tests row e = e
-
-pub passed_first : (test next : Option Refusal) → None ≡ option_map refusal_row test → next ≡ first_of (test ∷ next ∷ [])
-passed_first None None e = refl
-passed_first None (Some why) e = refl
-passed_first (Some why) next e = absurd cc
-
-all_tests : (a b c e : Option Refusal) (step : ModelStep) → unless (first_of (a ∷ first_of (b ∷ first_of (c ∷ e ∷ []) ∷ []) ∷ []) ∷ []) step ≡ unless (a ∷ b ∷ c ∷ e ∷ []) step
-all_tests (Some why) b c e step = refl
-all_tests None (Some why) c e step = refl
-all_tests None None (Some why) e step = refl
-all_tests None None None (Some why) step = refl
-all_tests None None None None step = refl
-
-module _ (d : List Deed) (caller : Caller) (o : Opening) where
-  -- a row of the client's opening, and none
-  pub is_opened : (row : WorkingRecord) → Some (Working row) ≡ option_map (working_record d) (opened d caller.client o.path) → opened_refusal d caller o ≡ Some (AlreadyOpen o.path)
-  is_opened row = go (opened d caller.client o.path)
-    where
-      go : (found : Option Opening) → Some (Working row) ≡ option_map (working_record d) found
-          → first_of (refuse_if (is_some found) (AlreadyOpen o.path) ∷ exclusive_refusal d o.path caller.client o.file_type ∷ []) ≡ Some (AlreadyOpen o.path)
-      go None e = absurd cc
-      go (Some x) e = refl
-
-  pub isnt_opened : None ≡ option_map (working_record d) (opened d caller.client o.path) → exclusive_refusal d o.path caller.client o.file_type ≡ opened_refusal d caller o
-  isnt_opened = go (opened d caller.client o.path)
-    where
-      go : (found : Option Opening) → None ≡ option_map (working_record d) found
-          → exclusive_refusal d o.path caller.client o.file_type ≡ first_of (refuse_if (is_some found) (AlreadyOpen o.path) ∷ exclusive_refusal d o.path caller.client o.file_type ∷ [])
-      go None e = alone (exclusive_refusal d o.path caller.client o.file_type)
-        where
-          alone : (test : Option Refusal) → test ≡ first_of (test ∷ [])
-          alone None = refl
-          alone (Some why) = refl
-      go (Some x) e = absurd cc
-
-  -- a file that is shown, and one that isn't
-  pub isnt_shown : shown_refusal d caller o None ≡ Some (NotInView (printed o.path))
-  isnt_shown = refl
-
-  pub is_shown : (place : List ℕ) → opened_refusal d caller o ≡ shown_refusal d caller o (Some place)
-  is_shown place = alone (opened_refusal d caller o)
-    where
-      alone : (test : Option Refusal) → test ≡ first_of (test ∷ [])
-      alone None = refl
-      alone (Some why) = refl
-
-  pub unshelved_is : (block : Option (List ℕ))
-      → unless (kept_refusal d caller o (shown d caller Head o.path) ∷ []) (opens_kept o (shown d caller Head o.path) block) ≡ unshelve_opening d caller o block
-  unshelved_is block =
-      all_tests (right_refusal to_open d caller o.path) (refuse_if (is_none (shown d caller Head o.path)) (NotInView (printed o.path)))
-      (refuse_if (is_some (opened d caller.client o.path)) (AlreadyOpen o.path)) (exclusive_refusal d o.path caller.client o.file_type)
-      (opens_kept o (shown d caller Head o.path) block)
 
 -- ---- a file that is kept, and one that isn't
 

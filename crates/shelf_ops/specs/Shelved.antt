@@ -1,23 +1,17 @@
--- How a file is kept in the change in which it is opened, why it isn't, and what is read for it (Command-Line Reference, "p4 shelve").
-use Rattle.std.specs.Prelude.{ℕ, ◌&&◌, Bool, false, List, [], ◌∷◌, Option, Some, is_some, not}
+-- How a file is kept in the change in which it is opened, and what is read for it (Command-Line Reference, "p4 shelve").
+use Rattle.std.specs.Prelude.{ℕ, ◌&&◌, Bool, false, List, [], ◌∷◌, Option, Some}
 use Rattle.depot_rows.specs.db_records.declared.table.TableId.TheVariants as tables
 use Rattle.depot_rows.specs.table_changes.Changed.{AllRows}
 use Rattle.depot_rows.specs.depot_model.declared.command.FileArgument.{FileArgument}
-use Rattle.depot_rows.specs.depot_model.declared.refusal.Refusal.{Refusal}
-use Rattle.depot_rows.specs.depot_model.declared.refusal.Refusal.TheVariants.{AlreadyShelved, NoContent, NotShelvable}
 use Rattle.depot_rows.specs.depot_model.declared.request.Caller.{Caller}
-use Rattle.depot_rows.specs.depot_model.declared.request.Request.{Request}
-use Rattle.depot_rows.specs.depot_model.Arguments.{names, over_all}
-use Rattle.depot_rows.specs.depot_model.Asking.{to_open}
+use Rattle.depot_rows.specs.depot_model.Arguments.{names}
 use Rattle.depot_rows.specs.depot_model.Deeds.{Deed, Opening, ShelfForm, Spec}
 use Rattle.depot_rows.specs.depot_model.Opened.{opened}
 use Rattle.depot_rows.specs.depot_model.Rules.{IsSound}
-use Rattle.depot_rows.specs.depot_model.Shelves.{kept, kept_form, shelf_name}
-use Rattle.depot_rows.specs.depot_model.Step.{Step, does, refuse_if}
-use Rattle.depot_rows.specs.depot_model.Steps.Opening.{right_refusal}
-use Rattle.depot_rows.specs.depot_model.Steps.Reverting.{is_selected, not_open}
-use Rattle.depot_rows.specs.depot_model.Steps.Shelving.{is_shelvable, opened_in, shelve_file, shelved_row, within_forms}
-use Rattle.depot_rows.specs.depot_model.Steps.Submitting.{lacks_content}
+use Rattle.depot_rows.specs.depot_model.Shelves.{kept_form, shelf_name}
+use Rattle.depot_rows.specs.depot_model.Step.{Step, does}
+use Rattle.depot_rows.specs.depot_model.Steps.Reverting.{is_selected}
+use Rattle.depot_rows.specs.depot_model.Steps.Shelving.{shelved_row}
 use Rattle.depot_rows.specs.Standing.{HasRows}
 use Rattle.named_files.specs.Asked.{IsAsker}
 use Rattle.named_files.specs.Sets.{at_head}
@@ -35,19 +29,6 @@ pub record OpenedReads (caller : Caller) (asker : Asker) (rows : AllRows) (d : L
 abbrev pub is_at_head : Caller → ℕ → List Deed → FileArgument → List ℕ → Bool
 is_at_head caller n d argument path = is_selected (Some n) (opened d caller.client path) && names false d caller (at_head argument.spec) path
 
--- why an opened file isn't kept
-abbrev pub shelve_refusals : List Deed → Request → Bool → Opening → List (Option Refusal)
-shelve_refusals d request replaces o =
-    right_refusal to_open d request.caller o.path
-    ∷ refuse_if (not (is_shelvable o)) (NotShelvable o.path)
-    ∷ refuse_if (not replaces && is_some (kept d o.change o.path)) (AlreadyShelved o.path)
-    ∷ refuse_if (lacks_content d request o) (NoContent o.path)
-    ∷ []
-
 -- an opened file is kept, with the block that gave its content, where one did
 abbrev pub keeping : Caller → Opening → Option (List ℕ) → Step
 keeping caller o block = does (Spec ShelfForm (shelf_name o.change o.path) (kept_form caller o block) ∷ []) (shelved_row o)
-
--- what is done with the files that arguments name
-abbrev pub shelving : List Deed → Request → ℕ → Bool → List FileArgument → Step
-shelving d request n replaces files = within_forms (over_all (opened_in d request.caller n) not_open (λ _. shelve_file d request replaces) files)

@@ -1,25 +1,17 @@
 -- Files that are opened as they were kept in a change, by what their forms say and what is found of them (Command-Line Reference, "p4 unshelve"), and
 -- what is read for it. Which tables are read is this project's own choice.
-use Rattle.std.specs.Prelude.{ℕ, false, List, [], ◌∷◌, ◌++◌, codes, if◌then◌else◌, Option, Some, None, Err, Ok, drop, is_none, is_some}
+use Rattle.std.specs.Prelude.{ℕ, List, [], ◌∷◌, ◌++◌, codes, if◌then◌else◌, Option, Some, None, Err, Ok, drop}
 use Rattle.hex.specs.Hex.{decode_of}
 use Rattle.depot_rows.specs.depot_path.Bytes.{same}
-use Rattle.depot_rows.specs.depot_path.Path.{printed}
 use Rattle.depot_rows.specs.db_records.declared.table.TableId.TheVariants as tables
 use Rattle.depot_rows.specs.table_changes.Changed.{AllRows}
-use Rattle.depot_rows.specs.depot_model.declared.command.FileArgument.{FileArgument}
-use Rattle.depot_rows.specs.depot_model.declared.refusal.Refusal.{Refusal}
-use Rattle.depot_rows.specs.depot_model.declared.refusal.Refusal.TheVariants.{AlreadyOpen, NotInView}
 use Rattle.depot_rows.specs.depot_model.declared.reply.Row.{Row}
 use Rattle.depot_rows.specs.depot_model.declared.request.Caller.{Caller}
-use Rattle.depot_rows.specs.depot_model.Arguments.{named, no_file, over_all, within_files}
-use Rattle.depot_rows.specs.depot_model.Asking.{to_open}
 use Rattle.depot_rows.specs.depot_model.Deeds.{Deed, Open, Opening}
-use Rattle.depot_rows.specs.depot_model.Opened.{opened}
 use Rattle.depot_rows.specs.depot_model.Rules.{IsSound}
-use Rattle.depot_rows.specs.depot_model.Shelves.{kept_paths}
-use Rattle.depot_rows.specs.depot_model.Step.{Step, does, refuse_if}
-use Rattle.depot_rows.specs.depot_model.Steps.Opening.{exclusive_refusal, opening_row, right_refusal}
-use Rattle.depot_rows.specs.depot_model.Steps.Shelving.{from_fields, unshelve_file}
+use Rattle.depot_rows.specs.depot_model.Step.{Step, does}
+use Rattle.depot_rows.specs.depot_model.Steps.Opening.{opening_row}
+use Rattle.depot_rows.specs.depot_model.Steps.Shelving.{from_fields}
 use Rattle.depot_rows.specs.Standing.{HasRows}
 use Rattle.depot_rows.specs.declared.deed.Action.{Action}
 use Rattle.depot_rows.specs.declared.deed.Action.TheVariants as actions
@@ -48,24 +40,6 @@ word_action word =
 abbrev pub line_block : List ℕ → Option (List ℕ)
 line_block line = elim (decode_of (drop 1 line)) [ Err fault ↦ None | Ok block ↦ Some block ]
 
--- the first refusal that holds
-abbrev pub first_of : List (Option Refusal) → Option Refusal
-first_of [] = None
-first_of (None ∷ tests) = first_of tests
-first_of (Some why ∷ tests) = Some why
-
--- the refusal of a file that the client has opened, or that another one has opened alone
-abbrev pub opened_refusal : List Deed → Caller → Opening → Option Refusal
-opened_refusal d caller o = first_of (refuse_if (is_some (opened d caller.client o.path)) (AlreadyOpen o.path) ∷ exclusive_refusal d o.path caller.client o.file_type ∷ [])
-
--- or that the client shows at no place
-abbrev pub shown_refusal : List Deed → Caller → Opening → Option (List ℕ) → Option Refusal
-shown_refusal d caller o place = first_of (refuse_if (is_none place) (NotInView (printed o.path)) ∷ opened_refusal d caller o ∷ [])
-
--- or that the caller may not open
-abbrev pub kept_refusal : List Deed → Caller → Opening → Option (List ℕ) → Option Refusal
-kept_refusal d caller o place = first_of (right_refusal to_open d caller o.path ∷ shown_refusal d caller o place ∷ [])
-
 -- the row of a file that is opened, with the block of its content where there is one
 abbrev pub unshelved_at : Opening → Option (List ℕ) → Option (List ℕ) → Row
 unshelved_at o place block = record { fields = (opening_row o place).fields ++ from_fields o.source; content = block }
@@ -81,7 +55,3 @@ given_block (Some block) = Given block ∷ []
 -- the same as the code has it: a row that waits for the block
 abbrev pub opens_waiting : Done → Row → Option (List ℕ) → Made
 opens_waiting o row block = record { deeds = dones.Open o ∷ []; rows = row ∷ []; stores = []; reads = given_block block }
-
--- what is done with the files that arguments name
-abbrev pub unshelving : List Deed → Caller → ℕ → ℕ → List FileArgument → Step
-unshelving d caller n change files = within_files (over_all (named false d caller (kept_paths d n)) no_file (λ _. unshelve_file d caller n change) files)

@@ -18,7 +18,7 @@ ghost use Rattle.shelf_ops.specs.Described.{change_fields as fields_of_change, c
 
 use crate::keeping::{kept_form, listable_files};
 use depot_rows::forms::Form;
-use depot_rows::model::{Caller, Field, Row};
+use depot_rows::model::{Field, Row};
 use depot_rows::paths::{DepotPath, Sequence, Text};
 use depot_rows::records::ChangeRecord;
 use depot_rows::tables::Tables;
@@ -197,8 +197,9 @@ fn change_row(
     Ok(told)
 }
 
-/// `describe -S N` of an asker.
-fn describe_asked(
+/// `describe -S N`: a change with the files that are kept in it, of those that the caller may list; a change without such is refused. It reads the
+/// tables of forms and changes alone, and of the forms of shelved files those of the change alone.
+pub fn describe_shelved(
     alloc: Global,
     tables: &Tables,
     asker: &Asker,
@@ -210,30 +211,9 @@ fn describe_asked(
     let files = listable_files(alloc, tables, asker, change)?;
     if files.is_empty() {
         let row = no_shelf_row(alloc, change)?;
-        let refused = Step::tells(alloc, row)?;
-        return Ok(refused);
+        return Step::tells(alloc, row);
     }
     let found = change_of(tables, change);
-    let told = change_row(alloc, tables, change, found, files.as_slice())?;
-    let step = Step::tells(alloc, told)?;
-    Ok(step)
-}
-
-/// `describe -S N`: a change with the files that are kept in it, of those that the caller may list; a change without such is refused. It reads the
-/// tables of groups, protections, forms and changes alone, and of the forms of shelved files those of the change alone.
-pub fn describe_shelved(
-    alloc: Global,
-    tables: &Tables,
-    caller: &Caller,
-    change: u32,
-) -> Result<Step, AllocError>
-    ensures { IfOk result (λ step. (d : List Deed) → IsSound d → HasRows (rows_of tables.now) d table_ids.Group → HasRows (rows_of tables.now) d table_ids.Protect →
-        HasRows (rows_of tables.now) d table_ids.Domain → HasRows (rows_of tables.now) d table_ids.Change →
-        IsMade (rows_of tables.now) d d (model.describe_shelved d caller.now change) step) }
-{
-    let asker = Asker::of(alloc, tables, caller)?;
-    let done = describe_asked(alloc, tables, &asker, change);
-    drop(asker);
-    let step = done?;
-    Ok(step)
+    let row = change_row(alloc, tables, change, found, files.as_slice())?;
+    Step::tells(alloc, row)
 }

@@ -1,15 +1,16 @@
 //! The files that are kept in a change.
 
-ghost use Rattle.std.specs.Prelude.{◌≡◌, ◌++◌, ◌∷◌, [], ℕ, List, filter, flat_map, IfOk, OnOk, is_some};
+ghost use Rattle.std.specs.Prelude.{◌≡◌, ◌++◌, ◌∷◌, [], ℕ, List, filter, flat_map, IfOk, OnOk, is_some, option_map};
 ghost use Rattle.std.specs.Option.{option_to_list};
 ghost use Rattle.depot_rows.specs.db_records.declared.table.TableId.TheVariants as table_ids;
 ghost use Rattle.depot_rows.specs.table_changes.Changed.{rows_of};
 ghost use Rattle.depot_rows.specs.depot_model.declared.request.Caller.{Caller as AnyCaller};
 ghost use Rattle.depot_rows.specs.depot_model.Deeds.{Deed};
+ghost use Rattle.depot_rows.specs.depot_model.Refusals.{refusal_row};
 ghost use Rattle.depot_rows.specs.depot_model.Rules.{IsSound};
 ghost use Rattle.depot_rows.specs.depot_model.Shelves as model;
 ghost use Rattle.depot_rows.specs.Standing.{HasRows};
-ghost use Rattle.depot_rows.specs.depot_model.Steps.Shelving.{listable};
+ghost use Rattle.depot_rows.specs.depot_model.Steps.Shelving.{listable, shelf_refusal as refusal_of_shelf};
 ghost use Rattle.named_files.specs.Asked.{IsAsker};
 ghost use Rattle.named_files.specs.Listed.{path_in_text};
 ghost use Rattle.shelf_ops.specs.Kept.{if_kept as kept_if, kept_file, listable_file};
@@ -18,11 +19,13 @@ ghost use Rattle.shelf_ops.specs.ShelfRows.{beginning, shelf_file, shelf_files a
 use crate::shelf_rows::{beginning_of, rows_in, shelf_text};
 use depot_rows::SpecKind;
 use depot_rows::forms::Form;
+use depot_rows::model::Row;
 use depot_rows::paths::{DepotPath, PathFault, Sequence, Text};
 use depot_rows::protections::Level;
 use depot_rows::records::{Record, TableId};
 use depot_rows::tables::Tables;
 use named_files::Asker;
+use reply_rows::no_shelf_row;
 use row_reads::{form_value, saved_form};
 use std::alloc::{AllocError, Global};
 
@@ -234,4 +237,22 @@ pub(crate) fn listable_files(
     let kept = kept_files(alloc, tables, change)?;
     let files = listable_among(alloc, asker, kept.as_slice())?;
     Ok(files)
+}
+
+/// The row that refuses a change that keeps no file which the asker may list, from the table of forms alone.
+pub(crate) fn shelf_refusal(
+    alloc: Global,
+    tables: &Tables,
+    asker: &Asker,
+    change: u32,
+) -> Result<Option<Row>, AllocError>
+    ensures { IfOk result (λ row. (d : List Deed) (caller : AnyCaller) → IsSound d → IsAsker d caller asker.now → HasRows (rows_of tables.now) d table_ids.Domain →
+        row ≡ option_map refusal_row (refusal_of_shelf d caller change)) }
+{
+    let files = listable_files(alloc, tables, asker, change)?;
+    if files.is_empty() {
+        let row = no_shelf_row(alloc, change)?;
+        return Ok(Some(row));
+    }
+    Ok(None)
 }

@@ -1,6 +1,6 @@
 //! `shelve` (Command-Line Reference, "p4 shelve").
 
-ghost use Rattle.std.specs.Prelude.{◌≡◌, ◌&&◌, ◌∷◌, [], ℕ, List, Some, IfOk, is_some, not, option_map, true};
+ghost use Rattle.std.specs.Prelude.{◌≡◌, ◌&&◌, ℕ, List, Some, IfOk, is_some, not, option_map, true};
 ghost use Rattle.std.specs.List.{list_all};
 ghost use Rattle.std.specs.Option.{option_copied};
 ghost use Rattle.depot_rows.specs.db_records.declared.table.TableId.TheVariants as table_ids;
@@ -13,13 +13,12 @@ ghost use Rattle.depot_rows.specs.depot_model.Rules.{IsSound};
 ghost use Rattle.depot_rows.specs.depot_model.Shelves.{kept};
 ghost use Rattle.depot_rows.specs.depot_model.Step.{refuse_if};
 ghost use Rattle.depot_rows.specs.depot_model.Steps.Shelving as model;
-ghost use Rattle.depot_rows.specs.depot_model.Steps.Submitting.{lacks_content as lacks_content_in};
 ghost use Rattle.depot_rows.specs.depot_model.WellFormed.{asks_head};
 ghost use Rattle.depot_rows.specs.Deed.{opening_of};
 ghost use Rattle.depot_rows.specs.Standing.{HasRows};
+ghost use Rattle.named_files.specs.Asked.{IsAsker};
 ghost use Rattle.reply_rows.specs.Made.{IsMade};
-ghost use Rattle.reply_rows.specs.Refusing.{first_of};
-ghost use Rattle.shelf_ops.specs.Shelved.{OpenedReads, keeping, shelve_refusals, shelving as shelving_in};
+ghost use Rattle.shelf_ops.specs.Shelved.{OpenedReads, keeping};
 
 use crate::forms::shelf_form;
 use crate::keeping::{kept_form, shelf_name};
@@ -72,8 +71,7 @@ fn keep(
     let row = shelved_row(alloc, opening)?;
     let name = shelf_name(alloc, opening.change, &opening.path)?;
     let form = shelf_form(alloc, caller, opening, block)?;
-    let step = saves(alloc, name, form, row)?;
-    Ok(step)
+    saves(alloc, name, form, row)
 }
 
 /// Whether a file is opened for an action with which files are kept.
@@ -88,17 +86,6 @@ fn is_shelvable(opening: &Opening) -> bool
     }
 }
 
-/// The row that refuses a file that is opened for an action with which files aren't kept.
-fn action_refusal(alloc: Global, opening: &Opening) -> Result<Option<Row>, AllocError>
-    ensures { IfOk result (λ row. row ≡ option_map refusal_row (refuse_if (not (model.is_shelvable (opening_of opening.now))) (refusals.NotShelvable opening.now.path))) }
-{
-    if is_shelvable(opening) {
-        return Ok(None);
-    }
-    let row = not_shelvable_row(alloc, &opening.path)?;
-    Ok(Some(row))
-}
-
 /// Whether a file is kept in a change.
 fn is_kept_in(
     alloc: Global,
@@ -110,9 +97,7 @@ fn is_kept_in(
         kept_there ≡ is_some (kept d change path.now)) }
 {
     let form = kept_form(alloc, tables, change, path)?;
-    let is_kept = form.is_some();
-    drop(form);
-    Ok(is_kept)
+    Ok(form.is_some())
 }
 
 /// The row that refuses a file that is kept already, unless it is kept anew.
@@ -128,8 +113,7 @@ fn kept_refusal(
     if replaces {
         return Ok(None);
     }
-    let is_kept = is_kept_in(alloc, tables, opening.change, &opening.path)?;
-    if !is_kept {
+    if !is_kept_in(alloc, tables, opening.change, &opening.path)? {
         return Ok(None);
     }
     let row = already_shelved_row(alloc, &opening.path)?;
@@ -137,68 +121,6 @@ fn kept_refusal(
 }
 
 impl<'a> Shelving<'a> {
-    /// The row that refuses a file that lacks its content.
-    fn content_refusal(
-        &self,
-        alloc: Global,
-        tables: &Tables,
-        opening: &Opening,
-    ) -> Result<Option<Row>, AllocError>
-        ensures { IfOk result (λ row. (d : List ModelDeed) → OpenedReads self.now.request.now.caller self.now.asker.now (rows_of tables.now) d →
-            opening.now.client ≡ self.now.request.now.caller.client →
-            row ≡ option_map refusal_row (refuse_if (lacks_content_in d self.now.request.now (opening_of opening.now)) (refusals.NoContent opening.now.path))) }
-    {
-        let lacks = lacks_content(alloc, tables, self.asker, &self.request.contents, opening)?;
-        if !lacks {
-            return Ok(None);
-        }
-        let row = no_content_row(alloc, &opening.path)?;
-        Ok(Some(row))
-    }
-
-    /// The row of the first refusal of an opened file.
-    fn refusal(
-        &self,
-        alloc: Global,
-        tables: &Tables,
-        opening: &Opening,
-    ) -> Result<Option<Row>, AllocError>
-        ensures { IfOk result (λ row. (d : List ModelDeed) → OpenedReads self.now.request.now.caller self.now.asker.now (rows_of tables.now) d →
-            opening.now.client ≡ self.now.request.now.caller.client →
-            row ≡ option_map refusal_row (first_of (shelve_refusals d self.now.request.now self.now.replaces (opening_of opening.now)))) }
-    {
-        let denied = right_refusal(alloc, self.asker, &opening.path, Level(3))?;
-        if denied.is_some() {
-            return Ok(denied);
-        }
-        let unfit = action_refusal(alloc, opening)?;
-        if unfit.is_some() {
-            return Ok(unfit);
-        }
-        let is_kept = kept_refusal(alloc, tables, self.replaces, opening)?;
-        if is_kept.is_some() {
-            return Ok(is_kept);
-        }
-        let lacking = self.content_refusal(alloc, tables, opening)?;
-        Ok(lacking)
-    }
-
-    /// The step by which an opened file is kept that isn't refused.
-    fn keep_opening(
-        &self,
-        alloc: Global,
-        tables: &Tables,
-        opening: &Opening,
-    ) -> Result<Step, AllocError>
-        ensures { IfOk result (λ step. (d e : List ModelDeed) (path : List ℕ) → OpenedReads self.now.request.now.caller self.now.asker.now (rows_of tables.now) d →
-            opened d self.now.request.now.caller.client path ≡ Some (opening_of opening.now) →
-            IsMade (rows_of tables.now) d e (keeping self.now.request.now.caller (opening_of opening.now) (model.block_given d self.now.request.now (opening_of opening.now))) step) }
-    {
-        let block = block_given(alloc, tables, self.asker, &self.request.contents, opening)?;
-        let step = keep(alloc, &self.request.caller, opening, block)?;
-        Ok(step)
-    }
-
     /// What is done with an opened file.
     fn shelve_opening(
         &self,
@@ -210,17 +132,23 @@ impl<'a> Shelving<'a> {
             opened d self.now.request.now.caller.client path ≡ Some (opening_of opening.now) →
             IsMade (rows_of tables.now) d e (model.shelve_opening d self.now.request.now self.now.replaces (opening_of opening.now)) step) }
     {
-        let refusal = self.refusal(alloc, tables, opening)?;
-        match refusal {
-            Some(row) => {
-                let step = Step::tells(alloc, row)?;
-                Ok(step)
-            }
-            None => {
-                let step = self.keep_opening(alloc, tables, opening)?;
-                Ok(step)
-            }
+        if let Some(row) = right_refusal(alloc, self.asker, &opening.path, Level(3))? {
+            return Step::tells(alloc, row);
         }
+        if !is_shelvable(opening) {
+            let row = not_shelvable_row(alloc, &opening.path)?;
+            return Step::tells(alloc, row);
+        }
+        if let Some(row) = kept_refusal(alloc, tables, self.replaces, opening)? {
+            return Step::tells(alloc, row);
+        }
+        let request = self.request;
+        if lacks_content(alloc, tables, self.asker, &request.contents, opening)? {
+            let row = no_content_row(alloc, &opening.path)?;
+            return Step::tells(alloc, row);
+        }
+        let block = block_given(alloc, tables, self.asker, &request.contents, opening)?;
+        keep(alloc, &request.caller, opening, block)
     }
 }
 
@@ -241,16 +169,9 @@ impl<'a> FileAct for Shelving<'a> {
         _argument: &FileArgument,
         path: &DepotPath,
     ) -> Result<Step, AllocError> {
-        let found = opening_by(alloc, tables, &self.request.caller.client, path)?;
-        match found {
-            Some(opening) => {
-                let step = self.shelve_opening(alloc, tables, &opening)?;
-                Ok(step)
-            }
-            None => {
-                let step = Step::new(alloc);
-                Ok(step)
-            }
+        match opening_by(alloc, tables, &self.request.caller.client, path)? {
+            Some(opening) => self.shelve_opening(alloc, tables, &opening),
+            None => Ok(Step::new(alloc)),
         }
     }
 
@@ -259,8 +180,12 @@ impl<'a> FileAct for Shelving<'a> {
     ghost next = { λ act d e argument path later. tt };
 }
 
-/// What `shelve` does with files.
-fn shelve_files(
+/// `shelve -c N [-f] [FILE...]`: keeps files in the pending change in which the client has them opened, with the blocks that give their contents. It is
+/// refused where the change isn't a pending one of the caller's user and client. A file is refused first that the caller may not open, then that is
+/// opened for another action than add, edit and delete, then, without `-f`, that is kept already, then that lacks its content; and all of it where more
+/// than 10,000 files or more than 16,777,216 bytes of blocks would be kept. It reads the tables of forms, opened files, changes and revisions
+/// alone, and of the forms of shelved files those of the files that it keeps alone. The one error is want of memory.
+pub fn shelve(
     alloc: Global,
     tables: &Tables,
     request: &Request,
@@ -269,9 +194,14 @@ fn shelve_files(
     replaces: bool,
     arguments: &[FileArgument],
 ) -> Result<Step, AllocError>
-    ensures { IfOk result (λ step. (d : List ModelDeed) → list_all asks_head arguments.now ≡ true → OpenedReads request.now.caller asker.now (rows_of tables.now) d →
-        IsMade (rows_of tables.now) d d (shelving_in d request.now change replaces arguments.now) step) }
+    ensures { IfOk result (λ step. (d : List ModelDeed) → list_all asks_head arguments.now ≡ true → IsSound d → IsAsker d request.now.caller asker.now →
+        HasRows (rows_of tables.now) d table_ids.Domain → HasRows (rows_of tables.now) d table_ids.Working →
+        HasRows (rows_of tables.now) d table_ids.Change → HasRows (rows_of tables.now) d table_ids.Rev →
+        IsMade (rows_of tables.now) d d (model.shelve d request.now change replaces arguments.now) step) }
 {
+    if let Some(row) = change_refusal(alloc, tables, &request.caller, change)? {
+        return Step::tells(alloc, row);
+    }
     let files = OpenedHeads {
         caller: &request.caller,
         asker,
@@ -283,40 +213,5 @@ fn shelve_files(
         replaces,
     };
     let done = over_all(alloc, tables, &files, &act, arguments)?;
-    let step = within_forms(alloc, done)?;
-    Ok(step)
-}
-
-/// `shelve -c N [-f] [FILE...]`: keeps files in the pending change in which the client has them opened, with the blocks that give their contents. It is
-/// refused where the change isn't a pending one of the caller's user and client. A file is refused first that the caller may not open, then that is
-/// opened for another action than add, edit and delete, then, without `-f`, that is kept already, then that lacks its content; and all of it where more
-/// than 10,000 files or more than 16,777,216 bytes of blocks would be kept. It reads the tables of groups, protections, forms, opened files, changes and
-/// revisions alone, and of the forms of shelved files those of the files that it keeps alone. The one error is want of memory.
-pub fn shelve(
-    alloc: Global,
-    tables: &Tables,
-    request: &Request,
-    change: u32,
-    replaces: bool,
-    arguments: &[FileArgument],
-) -> Result<Step, AllocError>
-    ensures { IfOk result (λ step. (d : List ModelDeed) → list_all asks_head arguments.now ≡ true → IsSound d → HasRows (rows_of tables.now) d table_ids.Group →
-        HasRows (rows_of tables.now) d table_ids.Protect → HasRows (rows_of tables.now) d table_ids.Domain → HasRows (rows_of tables.now) d table_ids.Working →
-        HasRows (rows_of tables.now) d table_ids.Change → HasRows (rows_of tables.now) d table_ids.Rev →
-        IsMade (rows_of tables.now) d d (model.shelve d request.now change replaces arguments.now) step) }
-{
-    let refusal = change_refusal(alloc, tables, &request.caller, change)?;
-    match refusal {
-        Some(row) => {
-            let step = Step::tells(alloc, row)?;
-            Ok(step)
-        }
-        None => {
-            let asker = Asker::of(alloc, tables, &request.caller)?;
-            let done = shelve_files(alloc, tables, request, &asker, change, replaces, arguments);
-            drop(asker);
-            let step = done?;
-            Ok(step)
-        }
-    }
+    within_forms(alloc, done)
 }

@@ -1,37 +1,34 @@
 //! `unshelve` (Command-Line Reference, "p4 unshelve").
 
-ghost use Rattle.std.specs.Prelude.{◌≡◌, ◌++◌, ◌∷◌, [], true, List, IfOk, OnOk, Some, option_map};
+ghost use Rattle.std.specs.Prelude.{◌≡◌, ◌++◌, [], true, List, IfOk, OnOk, Some, option_map};
 ghost use Rattle.std.specs.List.{list_all};
 ghost use Rattle.std.specs.Option.{option_copied};
 ghost use Rattle.depot_rows.specs.db_records.declared.table.TableId.TheVariants as table_ids;
 ghost use Rattle.depot_rows.specs.table_changes.Changed.{AllRows, rows_of};
 ghost use Rattle.depot_rows.specs.depot_model.Deeds.{Deed as ModelDeed};
-ghost use Rattle.depot_rows.specs.depot_model.Refusals.{refusal_row};
 ghost use Rattle.depot_rows.specs.depot_model.Rules.{IsSound};
-ghost use Rattle.depot_rows.specs.depot_model.Shelves.{kept, kept_block as block_of_form, kept_opening as opening_of_form};
-ghost use Rattle.depot_rows.specs.depot_model.Step.{unless};
 ghost use Rattle.depot_rows.specs.depot_model.Steps.Shelving as model;
 ghost use Rattle.depot_rows.specs.depot_model.WellFormed.{asks_head};
 ghost use Rattle.depot_rows.specs.Deed.{opening_of as opening_of_deed, source_of as source_of_deed};
 ghost use Rattle.depot_rows.specs.Standing.{HasRows};
+ghost use Rattle.named_files.specs.Asked.{IsAsker};
 ghost use Rattle.reply_rows.specs.Made.{IsMade, waiting};
-ghost use Rattle.shelf_ops.specs.Unshelved.{UnshelvingReads, given_block, kept_refusal, opened_refusal as refusal_of_opened, opens_kept, opens_waiting, shown_refusal as refusal_of_shown, unshelved_at, unshelving as unshelving_in};
+ghost use Rattle.shelf_ops.specs.Unshelved.{UnshelvingReads, given_block, opens_kept, opens_waiting, unshelved_at};
 
-use crate::keeping::{kept_form, listable_files};
+use crate::keeping::{kept_form, shelf_refusal};
 use crate::kept_heads::KeptHeads;
 use crate::kept_openings::{kept_block, kept_opening};
 use command_parts::named_change_refusal;
-use depot_rows::forms::Form;
 use depot_rows::model::{Caller, Field, FileArgument, Row};
 use depot_rows::paths::{ClientPath, DepotPath, Sequence, Text, Wanted};
 use depot_rows::protections::Level;
 use depot_rows::tables::Tables;
 use depot_rows::{Opening, Source};
-use file_openings::opening_of;
 use file_steps::{FileAct, over_all, within_files};
 use named_files::Asker;
 use opening_parts::{exclusive_refusal, opening_row, right_refusal, unseen_row};
-use reply_rows::{RowContent, Step, already_open_row, no_shelf_row, number_field, path_field};
+use opening_reads::is_opened_by;
+use reply_rows::{RowContent, Step, already_open_row, number_field, path_field};
 use revision_reads::shown_of;
 use std::alloc::{AllocError, Global};
 
@@ -114,93 +111,18 @@ fn opens(alloc: Global, opening: Opening, row: Row, block: Option<Text>) -> Resu
 fn open_kept(
     alloc: Global,
     opening: Opening,
-    place: Option<&ClientPath>,
+    place: &ClientPath,
     block: Option<Text>,
 ) -> Result<Step, AllocError>
-    ensures { IfOk result (λ step. (all : AllRows) (d e : List ModelDeed) →
-        IsMade all d e (opens_kept (opening_of_deed opening) (option_copied place.entry) block) step) }
+    ensures { IfOk result (λ step. (all : AllRows) (d e : List ModelDeed) → IsMade all d e (opens_kept (opening_of_deed opening) (Some place.now) block) step) }
 {
     // the bytes of a path are one
     let _bytes = opening.path.as_bytes();
-    let row = unshelved_row(alloc, &opening, place, &block)?;
-    let step = opens(alloc, opening, row, block)?;
-    Ok(step)
-}
-
-/// The row that refuses a file that the client has opened, or that another one has opened alone.
-fn opened_refusal(
-    alloc: Global,
-    tables: &Tables,
-    caller: &Caller,
-    opening: &Opening,
-) -> Result<Option<Row>, AllocError>
-    ensures { IfOk result (λ row. (d : List ModelDeed) → IsSound d → HasRows (rows_of tables.now) d table_ids.Working →
-        row ≡ option_map refusal_row (refusal_of_opened d caller.now (opening_of_deed opening.now))) }
-{
-    let found = opening_of(alloc, tables, &caller.client, &opening.path)?;
-    match found {
-        Some(_) => {
-            let row = already_open_row(alloc, &opening.path)?;
-            Ok(Some(row))
-        }
-        None => {
-            let row = exclusive_refusal(
-                alloc,
-                tables,
-                &opening.path,
-                &caller.client,
-                &opening.file_type,
-            )?;
-            Ok(row)
-        }
-    }
-}
-
-/// The same of a file that the client shows at a place, or that it doesn't show.
-fn shown_refusal(
-    alloc: Global,
-    tables: &Tables,
-    caller: &Caller,
-    opening: &Opening,
-    place: Option<&ClientPath>,
-) -> Result<Option<Row>, AllocError>
-    ensures { IfOk result (λ row. (d : List ModelDeed) → IsSound d → HasRows (rows_of tables.now) d table_ids.Working →
-        row ≡ option_map refusal_row (refusal_of_shown d caller.now (opening_of_deed opening.now) (option_copied place.entry))) }
-{
-    match place {
-        Some(_) => {
-            let row = opened_refusal(alloc, tables, caller, opening)?;
-            Ok(row)
-        }
-        None => {
-            let row = unseen_row(alloc, &opening.path)?;
-            Ok(Some(row))
-        }
-    }
+    let row = unshelved_row(alloc, &opening, Some(place), &block)?;
+    opens(alloc, opening, row, block)
 }
 
 impl<'a> Unshelving<'a> {
-    /// The row that refuses a file, which the client shows at a place if there is one.
-    fn refusal(
-        &self,
-        alloc: Global,
-        tables: &Tables,
-        opening: &Opening,
-        place: Option<&ClientPath>,
-    ) -> Result<Option<Row>, AllocError>
-        ensures { IfOk result (λ row. (d : List ModelDeed) → UnshelvingReads self.now.caller.now self.now.asker.now (rows_of tables.now) d →
-            row ≡ option_map refusal_row (kept_refusal d self.now.caller.now (opening_of_deed opening.now) (option_copied place.entry))) }
-    {
-        let denied = right_refusal(alloc, self.asker, &opening.path, Level(3))?;
-        match denied {
-            Some(row) => Ok(Some(row)),
-            None => {
-                let row = shown_refusal(alloc, tables, self.caller, opening, place)?;
-                Ok(row)
-            }
-        }
-    }
-
     /// What is done with a file that is to be opened so, with the block of its content where there is one.
     fn unshelve_opening(
         &self,
@@ -212,37 +134,23 @@ impl<'a> Unshelving<'a> {
         ensures { IfOk result (λ step. (d e : List ModelDeed) → UnshelvingReads self.now.caller.now self.now.asker.now (rows_of tables.now) d →
             IsMade (rows_of tables.now) d e (model.unshelve_opening d self.now.caller.now (opening_of_deed opening) block) step) }
     {
-        let place = shown_of(alloc, tables, self.caller, &opening.path, &Wanted::Head)?;
-        let refusal = self.refusal(alloc, tables, &opening, place.as_ref())?;
-        match refusal {
-            Some(row) => {
-                let step = Step::tells(alloc, row)?;
-                Ok(step)
-            }
-            None => {
-                let step = open_kept(alloc, opening, place.as_ref(), block)?;
-                Ok(step)
-            }
+        let path = &opening.path;
+        if let Some(row) = right_refusal(alloc, self.asker, path, Level(3))? {
+            return Step::tells(alloc, row);
         }
-    }
-
-    /// What is done with a file that is kept, by its form.
-    fn unshelve_form(
-        &self,
-        alloc: Global,
-        tables: &Tables,
-        path: &DepotPath,
-        form: &Form,
-    ) -> Result<Step, AllocError>
-        ensures { IfOk result (λ step. (d e : List ModelDeed) → UnshelvingReads self.now.caller.now self.now.asker.now (rows_of tables.now) d →
-            kept d self.now.shelved path.now ≡ Some form.now →
-            IsMade (rows_of tables.now) d e
-            (model.unshelve_opening d self.now.caller.now (opening_of_form self.now.caller.now self.now.change path.now form.now) (block_of_form form.now)) step) }
-    {
-        let block = kept_block(alloc, form)?;
-        let opening = kept_opening(alloc, self.caller, self.change, path, form)?;
-        let step = self.unshelve_opening(alloc, tables, opening, block)?;
-        Ok(step)
+        let Some(place) = shown_of(alloc, tables, self.caller, path, &Wanted::Head)? else {
+            let row = unseen_row(alloc, path)?;
+            return Step::tells(alloc, row);
+        };
+        let client = &self.caller.client;
+        if is_opened_by(alloc, tables, client, path)? {
+            let row = already_open_row(alloc, path)?;
+            return Step::tells(alloc, row);
+        }
+        if let Some(row) = exclusive_refusal(alloc, tables, path, client, &opening.file_type)? {
+            return Step::tells(alloc, row);
+        }
+        open_kept(alloc, opening, &place, block)
     }
 }
 
@@ -263,14 +171,12 @@ impl<'a> FileAct for Unshelving<'a> {
         _argument: &FileArgument,
         path: &DepotPath,
     ) -> Result<Step, AllocError> {
-        let found = kept_form(alloc, tables, self.shelved, path)?;
-        match found {
-            Some(form) => {
-                let step = self.unshelve_form(alloc, tables, path, &form)?;
-                Ok(step)
-            }
-            None => Ok(Step::new(alloc)),
-        }
+        let Some(form) = kept_form(alloc, tables, self.shelved, path)? else {
+            return Ok(Step::new(alloc));
+        };
+        let block = kept_block(alloc, &form)?;
+        let opening = kept_opening(alloc, self.caller, self.change, path, &form)?;
+        self.unshelve_opening(alloc, tables, opening, block)
     }
 
     ghost first = { λ act d. tt };
@@ -278,19 +184,30 @@ impl<'a> FileAct for Unshelving<'a> {
     ghost next = { λ act d e argument path later. tt };
 }
 
-/// What `unshelve` does with files, which it opens in a change, 0 for the default one.
-fn unshelve_files(
+/// `unshelve -s SHELVED [-c CHANGE] [FILE...]`: opens files as they were kept in a change, and prints their contents where blocks gave them. It is
+/// refused where the change in which it opens them isn't a pending one of the caller's user and client, or where the caller may list no file that is
+/// kept. It reads the tables of forms, opened files, changes and revisions alone, and of the forms of shelved files those of the
+/// change alone. The one error is want of memory.
+pub fn unshelve(
     alloc: Global,
     tables: &Tables,
     caller: &Caller,
     asker: &Asker,
     shelved: u32,
-    change: u32,
+    change: Option<u32>,
     arguments: &[FileArgument],
 ) -> Result<Step, AllocError>
-    ensures { IfOk result (λ step. (d : List ModelDeed) → list_all asks_head arguments.now ≡ true → UnshelvingReads caller.now asker.now (rows_of tables.now) d →
-        IsMade (rows_of tables.now) d d (unshelving_in d caller.now shelved change arguments.now) step) }
+    ensures { IfOk result (λ step. (d : List ModelDeed) → list_all asks_head arguments.now ≡ true → IsSound d → IsAsker d caller.now asker.now →
+        HasRows (rows_of tables.now) d table_ids.Domain → HasRows (rows_of tables.now) d table_ids.Working →
+        HasRows (rows_of tables.now) d table_ids.Change → HasRows (rows_of tables.now) d table_ids.Rev →
+        IsMade (rows_of tables.now) d d (model.unshelve d caller.now shelved change arguments.now) step) }
 {
+    if let Some(row) = named_change_refusal(alloc, tables, caller, change)? {
+        return Step::tells(alloc, row);
+    }
+    if let Some(row) = shelf_refusal(alloc, tables, asker, shelved)? {
+        return Step::tells(alloc, row);
+    }
     let files = KeptHeads {
         caller,
         asker,
@@ -300,68 +217,8 @@ fn unshelve_files(
         caller,
         asker,
         shelved,
-        change,
+        change: change.unwrap_or(0),
     };
     let done = over_all(alloc, tables, &files, &act, arguments)?;
-    let step = within_files(alloc, done)?;
-    Ok(step)
-}
-
-/// `unshelve` of an asker, where the change in which files are opened isn't refused.
-fn unshelve_asked(
-    alloc: Global,
-    tables: &Tables,
-    caller: &Caller,
-    asker: &Asker,
-    shelved: u32,
-    change: u32,
-    arguments: &[FileArgument],
-) -> Result<Step, AllocError>
-    ensures { IfOk result (λ step. (d : List ModelDeed) → list_all asks_head arguments.now ≡ true → UnshelvingReads caller.now asker.now (rows_of tables.now) d →
-        IsMade (rows_of tables.now) d d (unless (model.shelf_refusal d caller.now shelved ∷ []) (unshelving_in d caller.now shelved change arguments.now)) step) }
-{
-    let listable = listable_files(alloc, tables, asker, shelved)?;
-    let none = listable.is_empty();
-    drop(listable);
-    if none {
-        let row = no_shelf_row(alloc, shelved)?;
-        let refused = Step::tells(alloc, row)?;
-        return Ok(refused);
-    }
-    let step = unshelve_files(alloc, tables, caller, asker, shelved, change, arguments)?;
-    Ok(step)
-}
-
-/// `unshelve -s SHELVED [-c CHANGE] [FILE...]`: opens files as they were kept in a change, and prints their contents where blocks gave them. It is
-/// refused where the change in which it opens them isn't a pending one of the caller's user and client, or where the caller may list no file that is
-/// kept. It reads the tables of groups, protections, forms, opened files, changes and revisions alone, and of the forms of shelved files those of the
-/// change alone. The one error is want of memory.
-pub fn unshelve(
-    alloc: Global,
-    tables: &Tables,
-    caller: &Caller,
-    shelved: u32,
-    change: Option<u32>,
-    arguments: &[FileArgument],
-) -> Result<Step, AllocError>
-    ensures { IfOk result (λ step. (d : List ModelDeed) → list_all asks_head arguments.now ≡ true → IsSound d → HasRows (rows_of tables.now) d table_ids.Group →
-        HasRows (rows_of tables.now) d table_ids.Protect → HasRows (rows_of tables.now) d table_ids.Domain → HasRows (rows_of tables.now) d table_ids.Working →
-        HasRows (rows_of tables.now) d table_ids.Change → HasRows (rows_of tables.now) d table_ids.Rev →
-        IsMade (rows_of tables.now) d d (model.unshelve d caller.now shelved change arguments.now) step) }
-{
-    let refusal = named_change_refusal(alloc, tables, caller, change)?;
-    match refusal {
-        Some(row) => {
-            let step = Step::tells(alloc, row)?;
-            Ok(step)
-        }
-        None => {
-            let asker = Asker::of(alloc, tables, caller)?;
-            let number = change.unwrap_or(0);
-            let done = unshelve_asked(alloc, tables, caller, &asker, shelved, number, arguments);
-            drop(asker);
-            let step = done?;
-            Ok(step)
-        }
-    }
+    within_files(alloc, done)
 }

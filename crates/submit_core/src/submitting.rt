@@ -203,8 +203,8 @@ fn land_unless(
     }
 }
 
-/// The step of a change of an asker, 0 standing for the default one.
-fn submit_asked(
+/// The step of a change, 0 standing for the default one.
+fn submit(
     alloc: Global,
     tables: &Tables,
     request: &Request,
@@ -230,25 +230,6 @@ fn submit_asked(
     Ok(step)
 }
 
-/// The step of a change, 0 standing for the default one.
-fn submit(
-    alloc: Global,
-    tables: &Tables,
-    request: &Request,
-    change: u32,
-    text: &Text,
-) -> Result<Step, AllocError>
-    ensures { IfOk result (λ step. (d : List Deed) → HasSubmitted (rows_of tables.now) d → HasRows (rows_of tables.now) d table_ids.Group → HasRows (rows_of tables.now) d table_ids.Protect →
-        IsAsked d request.now change →
-        IsStoring (rows_of tables.now) tables.now.archive_end d (model.submit d request.now change text.now) step) }
-{
-    let asker = Asker::of(alloc, tables, &request.caller)?;
-    let done = submit_asked(alloc, tables, request, &asker, change, text);
-    drop(asker);
-    let step = done?;
-    Ok(step)
-}
-
 /// `submit -d TEXT`: submits the files that the client has opened in its default change, from the tables of counters, groups, protections, forms,
 /// opened files, resolves and revisions alone. It is refused first that no file is opened in it, then that the description is too long; then, by
 /// path, the first file that the caller may not write, that another client has locked, whose base isn't the newest revision, for which a resolve is
@@ -258,16 +239,17 @@ pub fn submit_default(
     alloc: Global,
     tables: &Tables,
     request: &Request,
+    asker: &Asker,
     text: &Text,
 ) -> Result<Step, AllocError>
-    ensures { IfOk result (λ step. (d : List Deed) → IsSound d → HasRows (rows_of tables.now) d table_ids.Counter → HasRows (rows_of tables.now) d table_ids.Group →
-        HasRows (rows_of tables.now) d table_ids.Protect → HasRows (rows_of tables.now) d table_ids.Domain → HasRows (rows_of tables.now) d table_ids.Resolve →
+    ensures { IfOk result (λ step. (d : List Deed) → IsSound d → IsAsker d request.now.caller asker.now → HasRows (rows_of tables.now) d table_ids.Counter →
+        HasRows (rows_of tables.now) d table_ids.Domain → HasRows (rows_of tables.now) d table_ids.Resolve →
         HasRows (rows_of tables.now) d table_ids.Working → HasRows (rows_of tables.now) d table_ids.Rev →
         IsStoring (rows_of tables.now) tables.now.archive_end d (model.submit_default d request.now text.now) step) }
 {
     // the bytes of a name are one
     let _user = request.caller.user.as_bytes();
-    let step = submit(alloc, tables, request, 0, text)?;
+    let step = submit(alloc, tables, request, asker, 0, text)?;
     Ok(step)
 }
 
@@ -276,18 +258,18 @@ fn submit_pending(
     alloc: Global,
     tables: &Tables,
     request: &Request,
+    asker: &Asker,
     change: u32,
 ) -> Result<Step, AllocError>
-    ensures { IfOk result (λ step. (d : List Deed) (p : Pending) → HasSubmitted (rows_of tables.now) d → HasRows (rows_of tables.now) d table_ids.Group →
-        HasRows (rows_of tables.now) d table_ids.Protect → HasRows (rows_of tables.now) d table_ids.Change → IsFalse (is_shelved d change) →
-        pending d change ≡ Some p → p.client ≡ request.now.caller.client →
+    ensures { IfOk result (λ step. (d : List Deed) (p : Pending) → HasSubmitted (rows_of tables.now) d → IsAsker d request.now.caller asker.now →
+        HasRows (rows_of tables.now) d table_ids.Change → IsFalse (is_shelved d change) → pending d change ≡ Some p → p.client ≡ request.now.caller.client →
         IsStoring (rows_of tables.now) tables.now.archive_end d (model.submit d request.now change p.text) step) }
 {
     // the bytes of a name are one
     let _user = request.caller.user.as_bytes();
     match change_of(tables, change) {
         Some(row) => {
-            let step = submit(alloc, tables, request, change, &row.text)?;
+            let step = submit(alloc, tables, request, asker, change, &row.text)?;
             Ok(step)
         }
         None => {
@@ -303,12 +285,13 @@ pub fn submit_change(
     alloc: Global,
     tables: &Tables,
     request: &Request,
+    asker: &Asker,
     change: u32,
 ) -> Result<Step, AllocError>
-    ensures { IfOk result (λ step. (d : List Deed) → IsSound d → IsFalse (is_shelved d change) → HasRows (rows_of tables.now) d table_ids.Counter →
-        HasRows (rows_of tables.now) d table_ids.Group → HasRows (rows_of tables.now) d table_ids.Protect → HasRows (rows_of tables.now) d table_ids.Domain →
-        HasRows (rows_of tables.now) d table_ids.Resolve → HasRows (rows_of tables.now) d table_ids.Working → HasRows (rows_of tables.now) d table_ids.Change →
-        HasRows (rows_of tables.now) d table_ids.Rev →
+    ensures { IfOk result (λ step. (d : List Deed) → IsSound d → IsFalse (is_shelved d change) → IsAsker d request.now.caller asker.now →
+        HasRows (rows_of tables.now) d table_ids.Counter → HasRows (rows_of tables.now) d table_ids.Domain →
+        HasRows (rows_of tables.now) d table_ids.Resolve → HasRows (rows_of tables.now) d table_ids.Working →
+        HasRows (rows_of tables.now) d table_ids.Change → HasRows (rows_of tables.now) d table_ids.Rev →
         IsStoring (rows_of tables.now) tables.now.archive_end d (model.submit_change d request.now change) step) }
 {
     let refusal = change_refusal(alloc, tables, &request.caller, change)?;
@@ -318,7 +301,7 @@ pub fn submit_change(
             Ok(step)
         }
         None => {
-            let step = submit_pending(alloc, tables, request, change)?;
+            let step = submit_pending(alloc, tables, request, asker, change)?;
             Ok(step)
         }
     }

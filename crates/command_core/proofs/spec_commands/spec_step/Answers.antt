@@ -4,6 +4,7 @@ use Rattle.depot_rows.specs.db_records.declared.table.TableId.TheVariants as tab
 use Rattle.depot_rows.specs.table_changes.Changed.{rows_of}
 use Rattle.depot_rows.specs.depot_model.declared.command.Command.{Command}
 use Rattle.depot_rows.specs.depot_model.Commands.{own_step}
+use Rattle.depot_rows.specs.depot_model.Steps.Changing.{change_save}
 use Rattle.depot_rows.specs.depot_model.Steps.Clients.{client_save, client_show}
 use Rattle.depot_rows.specs.depot_model.Steps.Groups.{group_save}
 use Rattle.depot_rows.specs.depot_model.Steps.Placing.{have_step}
@@ -91,3 +92,16 @@ returns-in_ok-saved-in-ProtectSave c = λ d sound family formed has.
     let saved = c.in_ok-saved-in-ProtectSave in
     let P : Command → Type 0 = λ k. IsMade (rows_of c.args.tables.now) d d (own_step d c.args.request.now k) saved.saved in
     subst P (sym c.in-ProtectSave.is) (subst (λ input. IsMade (rows_of c.args.tables.now) d d (protect_save input) saved.saved) c.input_of-in-ProtectSave.ensures (saved.ensures (rows_of c.args.tables.now) d))
+
+pub returns-in_ok-saved-in-ChangeSave : goal.returns-in_ok-saved-in-ChangeSave
+returns-in_ok-saved-in-ChangeSave c = λ d sound family formed has.
+    let saved = c.in_ok-saved-in-ChangeSave in
+    let P : Command → Type 0 = λ k. HasTouched (rows_of c.args.tables.now) d k → IsMade (rows_of c.args.tables.now) d d (own_step d c.args.request.now k) saved.saved in
+    subst P (sym c.in-ChangeSave.is) (λ has. subst (λ (input : List ℕ). IsMade (rows_of c.args.tables.now) d d (change_save d c.args.request.now input) saved.saved) c.input_of-in-ChangeSave.ensures
+    (saved.ensures d sound (has tables.Counter refl) (has tables.Change refl) (has tables.Working refl))) has
+
+pub returns-in_ok-deleted-in-ChangeDelete : goal.returns-in_ok-deleted-in-ChangeDelete
+returns-in_ok-deleted-in-ChangeDelete c = λ d sound family formed has.
+    let deleted = c.in_ok-deleted-in-ChangeDelete in
+    let P : Command → Type 0 = λ k. HasTouched (rows_of c.args.tables.now) d k → IsMade (rows_of c.args.tables.now) d d (own_step d c.args.request.now k) deleted.deleted in
+    subst P (sym c.in-ChangeDelete.is) (λ has. deleted.ensures d sound (has tables.Change refl) (has tables.Working refl)) has

@@ -11,17 +11,15 @@ use Rattle.command_core.proofs.Refusals.{not_shelved}
 use Rattle.command_core.proofs.submit_commands.submit_step.Goals as goal
 
 pub returns-in_ok-submitted-in-SubmitDefault : goal.returns-in_ok-submitted-in-SubmitDefault
-returns-in_ok-submitted-in-SubmitDefault c = λ d sound family none has.
+returns-in_ok-submitted-in-SubmitDefault c = λ d sound asked family none has.
     let submitted = c.in_ok-submitted-in-SubmitDefault in
     let P : Command → Type 0 = λ k. HasTouched (rows_of c.args.tables.now) d k
     → IsStoring (rows_of c.args.tables.now) c.args.tables.now.archive_end d (own_step d c.args.request.now k) submitted.submitted in
-    subst P (sym c.in-SubmitDefault.is) (λ has. submitted.ensures d sound (has tables.Counter refl) (has tables.Group refl) (has tables.Protect refl)
-    (has tables.Domain refl) (has tables.Resolve refl) (has tables.Working refl) (has tables.Rev refl)) has
+    subst P (sym c.in-SubmitDefault.is) (λ has. submitted.ensures d sound asked (has tables.Counter refl) (has tables.Domain refl) (has tables.Resolve refl) (has tables.Working refl) (has tables.Rev refl)) has
 
 pub returns-in_ok-submitted-in-SubmitChange : goal.returns-in_ok-submitted-in-SubmitChange
-returns-in_ok-submitted-in-SubmitChange c = λ d sound family none has.
+returns-in_ok-submitted-in-SubmitChange c = λ d sound asked family none has.
     let submitted = c.in_ok-submitted-in-SubmitChange in
     let P : Command → Type 0 = λ k. first_of (last_refusals d k) ≡ None → HasTouched (rows_of c.args.tables.now) d k
     → IsStoring (rows_of c.args.tables.now) c.args.tables.now.archive_end d (own_step d c.args.request.now k) submitted.submitted in
-    subst P (sym c.in-SubmitChange.is) (λ none has. submitted.ensures d sound (not_shelved _ _ none) (has tables.Counter refl) (has tables.Group refl)
-    (has tables.Protect refl) (has tables.Domain refl) (has tables.Resolve refl) (has tables.Working refl) (has tables.Change refl) (has tables.Rev refl)) none has
+    subst P (sym c.in-SubmitChange.is) (λ none has. submitted.ensures d sound (not_shelved _ _ none) asked (has tables.Counter refl) (has tables.Domain refl) (has tables.Resolve refl) (has tables.Working refl) (has tables.Change refl) (has tables.Rev refl)) none has

@@ -16,49 +16,49 @@ use Rattle.command_core.specs.Outcomes.{IsFormed, HasTouched}
 use Rattle.command_core.proofs.syncing_commands.syncing_step.Goals as goal
 
 pub returns-in_ok-placed-in-Where : goal.returns-in_ok-placed-in-Where
-returns-in_ok-placed-in-Where c = λ d sound family formed has.
+returns-in_ok-placed-in-Where c = λ d sound asked family formed has.
     let placed = c.in_ok-placed-in-Where in
     let P : Command → Type 0 = λ k. IsFormed k → HasTouched (rows_of c.args.tables.now) d k → IsMade (rows_of c.args.tables.now) d d (own_step d c.args.request.now k) placed.placed in
     subst P (sym c.in-Where.is) (λ formed has. subst (λ (xs : List FileArgument). IsTrue (list_all spells_path xs) → IsMade (rows_of c.args.tables.now) d d (where_is d c.args.request.now.caller xs) placed.placed) c.as_slice.ensures
-    (λ promised. placed.ensures d promised sound (has tables.Group refl) (has tables.Protect refl) (has tables.Domain refl)) formed.0) formed has
+    (λ promised. placed.ensures d promised asked) formed.0) formed has
 
 pub returns-in_ok-synced-in-Sync : goal.returns-in_ok-synced-in-Sync
-returns-in_ok-synced-in-Sync c = λ d sound family formed has.
+returns-in_ok-synced-in-Sync c = λ d sound asked family formed has.
     let synced = c.in_ok-synced-in-Sync in
     let P : Command → Type 0 = λ k. HasTouched (rows_of c.args.tables.now) d k → IsMade (rows_of c.args.tables.now) d d (own_step d c.args.request.now k) synced.synced in
     subst P (sym c.in-Sync.is) (λ has. subst (λ (xs : List FileArgument). IsMade (rows_of c.args.tables.now) d d (sync d c.args.request.now.caller c.in-Sync.again c.in-Sync.shows xs) synced.synced) c.as_slice-in-Sync.ensures
-    (synced.ensures d sound (has tables.Group refl) (has tables.Protect refl) (has tables.Domain refl) (has tables.Have refl) (has tables.Label refl) (has tables.Resolve refl) (has tables.Working refl) (has tables.Change refl) (has tables.Rev refl))) has
+    (synced.ensures d sound asked (has tables.Domain refl) (has tables.Have refl) (has tables.Label refl) (has tables.Resolve refl) (has tables.Working refl) (has tables.Change refl) (has tables.Rev refl))) has
 
 pub returns-in_ok-listed-in-Have : goal.returns-in_ok-listed-in-Have
-returns-in_ok-listed-in-Have c = λ d sound family formed has.
+returns-in_ok-listed-in-Have c = λ d sound asked family formed has.
     let listed = c.in_ok-listed-in-Have in
     let P : Command → Type 0 = λ k. HasTouched (rows_of c.args.tables.now) d k → IsMade (rows_of c.args.tables.now) d d (own_step d c.args.request.now k) listed.listed in
     subst P (sym c.in-Have.is) (λ has. subst (λ (xs : List FileArgument). IsMade (rows_of c.args.tables.now) d d (have_step d c.args.request.now.caller xs) listed.listed) c.as_slice-in-Have.ensures
-    (listed.ensures d sound (has tables.Group refl) (has tables.Protect refl) (has tables.Domain refl) (has tables.Have refl))) has
+    (listed.ensures d sound asked (has tables.Have refl))) has
 
 pub returns-in_ok-tagged-in-Tag : goal.returns-in_ok-tagged-in-Tag
-returns-in_ok-tagged-in-Tag c = λ d sound family formed has.
+returns-in_ok-tagged-in-Tag c = λ d sound asked family formed has.
     let tagged = c.in_ok-tagged-in-Tag in
     let P : Command → Type 0 = λ k. HasTouched (rows_of c.args.tables.now) d k → IsMade (rows_of c.args.tables.now) d d (own_step d c.args.request.now k) tagged.tagged in
     subst P (sym c.in-Tag.is) (λ has. subst (λ (xs : List FileArgument). IsMade (rows_of c.args.tables.now) d d (tag d c.args.request.now.caller c.in-Tag.label c.in-Tag.removes xs) tagged.tagged) c.as_slice-in-Tag.ensures
-    (tagged.ensures d sound (has tables.Group refl) (has tables.Protect refl) (has tables.Domain refl) (has tables.Have refl) (has tables.Label refl) (has tables.Change refl) (has tables.Rev refl))) has
+    (tagged.ensures d sound asked (has tables.Domain refl) (has tables.Have refl) (has tables.Label refl) (has tables.Change refl) (has tables.Rev refl))) has
 
 pub returns-in_ok-synced-in-LabelSync : goal.returns-in_ok-synced-in-LabelSync
-returns-in_ok-synced-in-LabelSync c = λ d sound family formed has.
+returns-in_ok-synced-in-LabelSync c = λ d sound asked family formed has.
     let synced = c.in_ok-synced-in-LabelSync in
     let P : Command → Type 0 = λ k. HasTouched (rows_of c.args.tables.now) d k → IsMade (rows_of c.args.tables.now) d d (own_step d c.args.request.now k) synced.synced in
     subst P (sym c.in-LabelSync.is) (λ has. subst (λ (xs : List FileArgument). IsMade (rows_of c.args.tables.now) d d (labelsync d c.args.request.now.caller c.in-LabelSync.label c.in-LabelSync.labelling xs) synced.synced) c.as_slice-in-LabelSync.ensures
-    (synced.ensures d sound (has tables.Group refl) (has tables.Protect refl) (has tables.Domain refl) (has tables.Have refl) (has tables.Label refl) (has tables.Change refl) (has tables.Rev refl))) has
+    (synced.ensures d sound asked (has tables.Domain refl) (has tables.Have refl) (has tables.Label refl) (has tables.Change refl) (has tables.Rev refl))) has
 
 pub returns-in_ok-opened-in-Integrate : goal.returns-in_ok-opened-in-Integrate
-returns-in_ok-opened-in-Integrate c = λ d sound family formed has.
+returns-in_ok-opened-in-Integrate c = λ d sound asked family formed has.
     let opened = c.in_ok-opened-in-Integrate in
     let P : Command → Type 0 = λ k. HasTouched (rows_of c.args.tables.now) d k → IsMade (rows_of c.args.tables.now) d d (own_step d c.args.request.now k) opened.opened in
-    subst P (sym c.in-Integrate.is) (λ has. opened.ensures d sound (has tables.Group refl) (has tables.Protect refl) (has tables.Domain refl) (has tables.Have refl) (has tables.Label refl) (has tables.Integed refl) (has tables.Working refl) (has tables.Change refl) (has tables.Rev refl)) has
+    subst P (sym c.in-Integrate.is) (λ has. opened.ensures d sound asked (has tables.Domain refl) (has tables.Have refl) (has tables.Label refl) (has tables.Integed refl) (has tables.Working refl) (has tables.Change refl) (has tables.Rev refl)) has
 
 pub returns-in_ok-resolved-in-Resolve : goal.returns-in_ok-resolved-in-Resolve
-returns-in_ok-resolved-in-Resolve c = λ d sound family formed has.
+returns-in_ok-resolved-in-Resolve c = λ d sound asked family formed has.
     let resolved = c.in_ok-resolved-in-Resolve in
     let P : Command → Type 0 = λ k. IsFormed k → HasTouched (rows_of c.args.tables.now) d k → IsMade (rows_of c.args.tables.now) d d (own_step d c.args.request.now k) resolved.resolved in
     subst P (sym c.in-Resolve.is) (λ formed has. subst (λ (xs : List FileArgument). IsTrue (list_all asks_head xs) → IsMade (rows_of c.args.tables.now) d d (resolve d c.args.request.now.caller c.in-Resolve.taking xs) resolved.resolved) c.as_slice-in-Resolve.ensures
-    (λ asks. resolved.ensures d asks sound (has tables.Group refl) (has tables.Protect refl) (has tables.Domain refl) (has tables.Resolve refl) (has tables.Working refl) (has tables.Rev refl)) formed.1) formed has
+    (λ asks. resolved.ensures d asks sound asked (has tables.Domain refl) (has tables.Resolve refl) (has tables.Working refl) (has tables.Rev refl)) formed.1) formed has

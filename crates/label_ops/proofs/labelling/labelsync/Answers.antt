@@ -15,7 +15,7 @@ abbrev refused_by : List ℕ → ModelStep → Bool → Bool → ModelStep
 refused_by label whole there locked = unless (refuse_if (not there) (NoSuchLabel label) ∷ refuse_if locked (LabelLocked label) ∷ []) whole
 
 pub returns-then-not-there : goal.returns-then-not-there
-returns-then-not-there c = λ d sound group protect domain have has_label change rev.
+returns-then-not-there c = λ d sound asked domain have has_label change rev.
     let label = c.args.label.now in
     let rows = rows_of c.args.tables.now in
     let labelling = c.args.labelling in
@@ -26,7 +26,7 @@ returns-then-not-there c = λ d sound group protect domain have has_label change
     (made_refusal rows d d (NoSuchLabel label) c.in_ok-row.row c.in_ok-absent.absent c.in_ok-row.ensures c.in_ok-absent.ensures))
 
 pub returns-then-locked : goal.returns-then-locked
-returns-then-locked c = λ d sound group protect domain have has_label change rev.
+returns-then-locked c = λ d sound asked domain have has_label change rev.
     let label = c.args.label.now in
     let rows = rows_of c.args.tables.now in
     let labelling = c.args.labelling in
@@ -38,7 +38,7 @@ returns-then-locked c = λ d sound group protect domain have has_label change re
     (made_refusal rows d d (LabelLocked label) c.in_ok-told.told c.in_ok-refused.refused c.in_ok-told.ensures c.in_ok-refused.ensures)))
 
 pub returns : goal.returns
-returns c = λ d sound group protect domain have has_label change rev.
+returns c = λ d sound asked domain have has_label change rev.
     let label = c.args.label.now in
     let rows = rows_of c.args.tables.now in
     let labelling = c.args.labelling in
@@ -49,7 +49,7 @@ returns c = λ d sound group protect domain have has_label change rev.
     (subst (λ (b : Bool). IsMade rows d d (refused_by label whole true b) c.in_ok-step.step) (sym c.if-locked.false ∙ c.in_ok-locked.ensures d sound domain)
     (c.in_ok-step.ensures d (record {
       sound = sound;
-      asked = c.in_ok-asker.ensures d sound group protect domain;
+      asked = asked;
       listed = rev;
       has_have = have;
       has_label = has_label;

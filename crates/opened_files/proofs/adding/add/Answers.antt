@@ -14,28 +14,29 @@ use Rattle.depot_rows.specs.depot_model.WellFormed.{spells_path}
 use Rattle.depot_rows.specs.Standing.{HasRows}
 use Rattle.reply_rows.specs.Made.{IsMade}
 use Rattle.reply_rows.specs.declared.step.Step.{Step}
-use Rattle.opened_files.proofs.Refusals.{first_told, if_ok, passed_first}
+use Rattle.named_files.specs.Asked.{IsAsker}
+use Rattle.command_parts.proofs.Refused.{first_told, if_ok, passed_first}
 use Rattle.opened_files.specs.Adds.{Reads}
 use Rattle.opened_files.proofs.adding.add.Goals as goal
 
 pub returns-in-Some : goal.returns-in-Some
 returns-in-Some c =
     let rows = rows_of c.args.tables.now in
-    let Q : Step → Type 0 = λ step. (d : List Deed) → list_all spells_path c.args.arguments.now ≡ true → IsSound d → HasRows rows d table_ids.Group
-    → HasRows rows d table_ids.Protect → HasRows rows d table_ids.Domain → HasRows rows d table_ids.Change → HasRows rows d table_ids.Working
-    → HasRows rows d table_ids.Rev → IsMade rows d d (add d c.args.caller.now c.args.change c.args.file_type.now c.args.arguments.now) step in
-    if_ok {Q = Q} _ _ c.tells.ensures (λ step told d spell sound group protect domain change working revisions.
+    let Q : Step → Type 0 = λ step. (d : List Deed) → list_all spells_path c.args.arguments.now ≡ true → IsSound d
+    → IsAsker d c.args.caller.now c.args.asker.now → HasRows rows d table_ids.Change → HasRows rows d table_ids.Working → HasRows rows d table_ids.Rev
+    → IsMade rows d d (add d c.args.caller.now c.args.change c.args.file_type.now c.args.arguments.now) step in
+    if_ok {Q = Q} _ _ c.tells.ensures (λ step told d spell sound asked change working revisions.
     first_told rows d d _ _ _ _ c.in-Some.row step c.in-Some.is (c.in_ok-row.ensures d change) told)
 
 pub returns : goal.returns
 returns c =
     let rows = rows_of c.args.tables.now in
-    let Q : Step → Type 0 = λ step. (d : List Deed) → list_all spells_path c.args.arguments.now ≡ true → IsSound d → HasRows rows d table_ids.Group
-    → HasRows rows d table_ids.Protect → HasRows rows d table_ids.Domain → HasRows rows d table_ids.Change → HasRows rows d table_ids.Working
-    → HasRows rows d table_ids.Rev → IsMade rows d d (add d c.args.caller.now c.args.change c.args.file_type.now c.args.arguments.now) step in
-    if_ok {Q = Q} _ _ c.within_files.ensures (λ step within d spell sound group protect domain change working revisions.
+    let Q : Step → Type 0 = λ step. (d : List Deed) → list_all spells_path c.args.arguments.now ≡ true → IsSound d
+    → IsAsker d c.args.caller.now c.args.asker.now → HasRows rows d table_ids.Change → HasRows rows d table_ids.Working → HasRows rows d table_ids.Rev
+    → IsMade rows d d (add d c.args.caller.now c.args.change c.args.file_type.now c.args.arguments.now) step in
+    if_ok {Q = Q} _ _ c.within_files.ensures (λ step within d spell sound asked change working revisions.
     let caller = c.args.caller.now in
-    let reads : Reads caller c.in_ok-asker.asker rows d = record { sound = sound; asked = c.in_ok-asker.ensures d sound group protect domain; listed = working; revisions = revisions } in
+    let reads : Reads caller c.args.asker.now rows d = record { sound = sound; asked = asked; listed = working; revisions = revisions } in
     passed_first rows d d _ _ _ _ step c.in_default.not-Some (c.in_ok-row.ensures d change)
     (within rows d d _
     (subst (λ (t : List ℕ). IsMade rows d d

@@ -8,7 +8,7 @@ use Rattle.depot_rows.specs.declared.deed.Deed.TheVariants as dones
 use Rattle.reply_rows.specs.Made.{IsMade}
 use Rattle.reply_rows.specs.declared.step.Step.{Step}
 use Rattle.reply_rows.proofs.Joined.{made_done}
-use Rattle.opened_files.proofs.Refusals.{if_ok}
+use Rattle.command_parts.proofs.Refused.{if_ok}
 use Rattle.opened_files.specs.Opens.{open_step}
 use Rattle.opened_files.proofs.editing.open_file.Goals as goal
 

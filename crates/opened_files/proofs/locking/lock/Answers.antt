@@ -9,18 +9,18 @@ use Rattle.depot_rows.specs.depot_model.Steps.Reverting.{lock, lock_file}
 use Rattle.depot_rows.specs.Standing.{HasRows}
 use Rattle.reply_rows.specs.Made.{IsMade}
 use Rattle.reply_rows.specs.declared.step.Step.{Step}
+use Rattle.named_files.specs.Asked.{IsAsker}
 use Rattle.named_files.proofs.Selection.{over_selected}
-use Rattle.opened_files.proofs.Refusals.{if_ok}
+use Rattle.command_parts.proofs.Refused.{if_ok}
 use Rattle.opened_files.proofs.locking.lock.Goals as goal
 
 pub returns : goal.returns
 returns c =
     let rows = rows_of c.args.tables.now in
-    let Q : Step → Type 0 = λ step. (d : List Deed) → IsSound d → HasRows rows d table_ids.Group → HasRows rows d table_ids.Protect → HasRows rows d table_ids.Domain
-    → HasRows rows d table_ids.Working → IsMade rows d d (lock d c.args.caller.now c.args.change c.args.arguments.now) step in
-    if_ok {Q = Q} _ _ c.within_files.ensures (λ step within d sound group protect domain working.
+    let Q : Step → Type 0 = λ step. (d : List Deed) → IsSound d → IsAsker d c.args.caller.now c.args.asker.now → HasRows rows d table_ids.Working
+    → IsMade rows d d (lock d c.args.caller.now c.args.change c.args.arguments.now) step in
+    if_ok {Q = Q} _ _ c.within_files.ensures (λ step within d sound asked working.
     let caller = c.args.caller.now in
-    let asked = c.in_ok-asker.ensures d sound group protect domain in
     within rows d d _
     (subst (λ (m : ModelStep). IsMade rows d d m c.in_ok-done.done) (over_selected d caller c.args.change (λ (a : FileArgument). lock_file d caller) c.args.arguments.now)
     (c.in_ok-done.ensures d (record { sound = sound; asked = asked; listed = working }) (record { sound = sound; asked = asked; listed = working }))))

@@ -6,7 +6,7 @@ use Rattle.depot_rows.specs.depot_model.Steps.Moving.{opening_at, renamed, shut}
 use Rattle.depot_rows.specs.Deed.{opening_of}
 use Rattle.depot_rows.specs.Effects.{Follow}
 use Rattle.depot_rows.specs.declared.deed.Opening.{Opening as Done}
-use Rattle.opened_files.proofs.Refusals.{none_found}
+use Rattle.command_parts.proofs.Refused.{none_found}
 use Rattle.opened_files.proofs.Moves.{follow_again}
 use Rattle.opened_files.proofs.moving.deeds_again.Goals as goal
 

@@ -15,19 +15,21 @@ use Rattle.depot_rows.specs.depot_model.WellFormed.{asks_head}
 use Rattle.depot_rows.specs.Standing.{HasRows}
 use Rattle.reply_rows.specs.Made.{IsMade}
 use Rattle.reply_rows.specs.declared.step.Step.{Step}
+use Rattle.named_files.specs.Asked.{IsAsker}
+use Rattle.named_files.specs.declared.asker.Asker.{Asker}
 use Rattle.named_files.specs.Listed.{files_of, listing_table}
 use Rattle.named_files.specs.Sets.{at_head}
 use Rattle.named_files.specs.declared.listing.Listing.{Listing}
 use Rattle.named_files.specs.declared.listing.Listing.TheVariants.{OpenedBy}
 use Rattle.named_files.proofs.Heads.{at_own_head}
-use Rattle.opened_files.proofs.Refusals.{first_told, if_ok, passed_first}
+use Rattle.command_parts.proofs.Refused.{first_told, if_ok, passed_first}
 use Rattle.opened_files.proofs.Moves.{some_moved}
 use Rattle.opened_files.proofs.moving.move_files.Goals as goal
 
-abbrev Moves : AllRows → Caller → Option ℕ → FileArgument → PatternArgument → Step → Type 0
-Moves rows caller change from to step =
-    (d : List Deed) → asks_head from ≡ true → IsSound d → HasRows rows d table_ids.Group → HasRows rows d table_ids.Protect → HasRows rows d table_ids.Domain
-    → HasRows rows d table_ids.Change → HasRows rows d table_ids.Working → HasRows rows d table_ids.Rev → IsMade rows d d (move d caller change from to) step
+abbrev Moves : AllRows → Caller → Asker → Option ℕ → FileArgument → PatternArgument → Step → Type 0
+Moves rows caller asker change from to step =
+    (d : List Deed) → asks_head from ≡ true → IsSound d → IsAsker d caller asker → HasRows rows d table_ids.Domain → HasRows rows d table_ids.Change
+    → HasRows rows d table_ids.Working → HasRows rows d table_ids.Rev → IsMade rows d d (move d caller change from to) step
 
 -- the files at their heads are those that the argument names
 heads_named : (d : List Deed) (caller : Caller) (from : FileArgument) (listing : Listing) (paths : List (List ℕ)) → asks_head from ≡ true → listing ≡ OpenedBy caller.client
@@ -39,7 +41,7 @@ heads_named d caller from listing paths asks is are =
 pub returns-in-Some : goal.returns-in-Some
 returns-in-Some c =
     let rows = rows_of c.args.tables.now in
-    if_ok {Q = Moves rows c.args.caller.now c.args.change c.args.from.now c.args.to.now} _ _ c.tells.ensures (λ step told d asks sound group protect domain change working revisions.
+    if_ok {Q = Moves rows c.args.caller.now c.args.asker.now c.args.change c.args.from.now c.args.to.now} _ _ c.tells.ensures (λ step told d asks sound asked domain change working revisions.
     first_told rows d d _ [] _ _ c.in-Some.row step c.in-Some.is (c.in_ok-row.ensures d change) told)
 
 pub returns-then-is_empty : goal.returns-then-is_empty
@@ -48,8 +50,7 @@ returns-then-is_empty c =
     let caller = c.args.caller.now in
     let from = c.args.from.now in
     let to = c.args.to.now in
-    if_ok {Q = Moves rows caller c.args.change from to} _ _ c.not_open.ensures (λ step made d asks sound group protect domain change working revisions.
-    let asked = c.in_ok-asker.ensures d sound group protect domain in
+    if_ok {Q = Moves rows caller c.args.asker.now c.args.change from to} _ _ c.not_open.ensures (λ step made d asks sound asked domain change working revisions.
     let is = c.in_ok-listing.ensures in
     let listed = subst (λ (l : Listing). HasRows rows d (listing_table l)) (sym is) working in
     let paths_are = heads_named d caller from c.in_ok-listing.listing c.in_ok-paths.paths asks is
@@ -64,8 +65,7 @@ returns c =
     let caller = c.args.caller.now in
     let from = c.args.from.now in
     let to = c.args.to.now in
-    if_ok {Q = Moves rows caller c.args.change from to} _ _ c.within_files.ensures (λ step within d asks sound group protect domain change working revisions.
-    let asked = c.in_ok-asker.ensures d sound group protect domain in
+    if_ok {Q = Moves rows caller c.args.asker.now c.args.change from to} _ _ c.within_files.ensures (λ step within d asks sound asked domain change working revisions.
     let is = c.in_ok-listing.ensures in
     let listed = subst (λ (l : Listing). HasRows rows d (listing_table l)) (sym is) working in
     let paths_are = heads_named d caller from c.in_ok-listing.listing c.in_ok-paths.paths asks is

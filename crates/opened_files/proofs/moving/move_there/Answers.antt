@@ -11,7 +11,7 @@ use Rattle.reply_rows.specs.Made.{IsMade}
 use Rattle.reply_rows.specs.declared.step.Step.{Step}
 use Rattle.reply_rows.proofs.Joined.{made_done}
 use Rattle.opening_reads.specs.OwnOpenings.{IsOwn}
-use Rattle.opened_files.proofs.Refusals.{if_ok}
+use Rattle.command_parts.proofs.Refused.{if_ok}
 use Rattle.opened_files.specs.Moves.{move_step, moved_row}
 use Rattle.opened_files.proofs.Later.{head_later}
 use Rattle.opened_files.proofs.moving.move_there.Goals as goal

@@ -8,7 +8,7 @@ use Rattle.depot_rows.specs.Deed.{opening_of}
 use Rattle.reply_rows.specs.Made.{IsMade}
 use Rattle.reply_rows.specs.declared.step.Step.{Step}
 use Rattle.reply_rows.proofs.Joined.{made_refusal}
-use Rattle.opened_files.proofs.Refusals.{first_told, if_ok, passed_first}
+use Rattle.command_parts.proofs.Refused.{first_told, if_ok, passed_first}
 use Rattle.opened_files.specs.Moves.{moves_nowhere}
 use Rattle.opened_files.proofs.moving.no_target.Goals as goal
 

@@ -5,7 +5,7 @@ use Rattle.depot_rows.specs.depot_model.Latest.{when}
 use Rattle.depot_rows.specs.depot_model.Opened.{is_moved_with, named_back}
 use Rattle.depot_rows.specs.Deed.{opening_of}
 use Rattle.depot_rows.specs.declared.deed.Opening.{Opening as Done}
-use Rattle.opened_files.proofs.Refusals.{none_found}
+use Rattle.command_parts.proofs.Refused.{none_found}
 use Rattle.opened_files.proofs.moving.other_end.Goals as goal
 
 -- the opening at the other end of a move, where it names a file back

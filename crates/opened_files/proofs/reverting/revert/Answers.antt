@@ -7,14 +7,15 @@ use Rattle.depot_rows.specs.depot_model.Steps.Reverting.{revert}
 use Rattle.depot_rows.specs.Standing.{HasRows}
 use Rattle.reply_rows.specs.Made.{IsMade}
 use Rattle.reply_rows.specs.declared.step.Step.{Step}
-use Rattle.opened_files.proofs.Refusals.{if_ok}
+use Rattle.named_files.specs.Asked.{IsAsker}
+use Rattle.command_parts.proofs.Refused.{if_ok}
 use Rattle.opened_files.proofs.reverting.revert.Goals as goal
 
 pub returns : goal.returns
 returns c =
     let rows = rows_of c.args.tables.now in
-    let Q : Step → Type 0 = λ step. (d : List Deed) → IsSound d → HasRows rows d table_ids.Group → HasRows rows d table_ids.Protect → HasRows rows d table_ids.Domain
-    → HasRows rows d table_ids.Have → HasRows rows d table_ids.Working → IsMade rows d d (revert d c.args.caller.now c.args.change c.args.arguments.now) step in
-    if_ok {Q = Q} _ _ c.within_files.ensures (λ step within d sound group protect domain had working.
+    let Q : Step → Type 0 = λ step. (d : List Deed) → IsSound d → IsAsker d c.args.caller.now c.args.asker.now → HasRows rows d table_ids.Have
+    → HasRows rows d table_ids.Working → IsMade rows d d (revert d c.args.caller.now c.args.change c.args.arguments.now) step in
+    if_ok {Q = Q} _ _ c.within_files.ensures (λ step within d sound asked had working.
     within rows d d _
-    (c.in_ok-done.ensures d (record { sound = sound; asked = c.in_ok-asker.ensures d sound group protect domain; had = had; listed = working })))
+    (c.in_ok-done.ensures d (record { sound = sound; asked = asked; had = had; listed = working })))

@@ -7,7 +7,7 @@ use Rattle.depot_rows.specs.depot_model.Steps.Reverting.{both_ends, revert_file,
 use Rattle.reply_rows.specs.Made.{IsMade}
 use Rattle.reply_rows.specs.declared.step.Step.{Step}
 use Rattle.reply_rows.proofs.Joined.{both_nothing}
-use Rattle.opened_files.proofs.Refusals.{first_told, if_ok, none_found, passed_first}
+use Rattle.command_parts.proofs.Refused.{first_told, if_ok, none_found, passed_first}
 use Rattle.opening_parts.proofs.Joined.{joined_made}
 use Rattle.opened_files.specs.Reverts.{Reads}
 use Rattle.opened_files.proofs.reverting.revert_file.Goals as goal

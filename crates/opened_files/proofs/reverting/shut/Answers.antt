@@ -13,7 +13,7 @@ use Rattle.reply_rows.specs.Made.{IsMade}
 use Rattle.reply_rows.specs.declared.step.Step.{Step}
 use Rattle.reply_rows.proofs.Joined.{made_done}
 use Rattle.depot_rows.specs.table_changes.Changed.{rows_of}
-use Rattle.opened_files.proofs.Refusals.{if_ok}
+use Rattle.command_parts.proofs.Refused.{if_ok}
 use Rattle.opened_files.specs.Reverts.{shut_row}
 use Rattle.opened_files.proofs.reverting.shut.Goals as goal
 

@@ -10,30 +10,31 @@ use Rattle.depot_rows.specs.depot_model.Steps.Reverting.{not_open, opened_files,
 use Rattle.depot_rows.specs.Standing.{HasRows}
 use Rattle.reply_rows.specs.Made.{IsMade}
 use Rattle.reply_rows.specs.declared.step.Step.{Step}
+use Rattle.named_files.specs.Asked.{IsAsker}
 use Rattle.named_files.specs.Listed.{files_of, listing_table}
 use Rattle.named_files.specs.Sets.{rows_without}
 use Rattle.named_files.specs.declared.listing.Listing.{Listing}
-use Rattle.opened_files.proofs.Refusals.{if_ok}
+use Rattle.command_parts.proofs.Refused.{if_ok}
 use Rattle.opened_files.proofs.Own.{opened_by_is}
 use Rattle.opened_files.proofs.showing.opened.Goals as goal
 
 pub returns-then-all : goal.returns-then-all
 returns-then-all c =
     let rows = rows_of c.args.tables.now in
-    let Q : Step → Type 0 = λ step. (d : List Deed) → IsSound d → HasRows rows d table_ids.Group → HasRows rows d table_ids.Protect → HasRows rows d table_ids.Domain
-    → HasRows rows d table_ids.Working → IsMade rows d d (opened_step d c.args.caller.now c.args.all c.args.arguments.now) step in
-    if_ok {Q = Q} _ _ c.over_all.ensures (λ step made d sound group protect domain working.
+    let Q : Step → Type 0 = λ step. (d : List Deed) → IsSound d → IsAsker d c.args.caller.now c.args.asker.now → HasRows rows d table_ids.Working
+    → IsMade rows d d (opened_step d c.args.caller.now c.args.all c.args.arguments.now) step in
+    if_ok {Q = Q} _ _ c.over_all.ensures (λ step made d sound asked working.
     let caller = c.args.caller.now in
     subst (λ (b : Bool). IsMade rows d d (over_all (named true d caller (opened_files b d caller)) not_open (show_opened c.args.all d caller) c.args.arguments.now) step)
     (sym c.if-all.true)
-    (made d (record { sound = sound; asked = c.in_ok-asker.ensures d sound group protect domain; listed = working }) working))
+    (made d (record { sound = sound; asked = asked; listed = working }) working))
 
 pub returns : goal.returns
 returns c =
     let rows = rows_of c.args.tables.now in
-    let Q : Step → Type 0 = λ step. (d : List Deed) → IsSound d → HasRows rows d table_ids.Group → HasRows rows d table_ids.Protect → HasRows rows d table_ids.Domain
-    → HasRows rows d table_ids.Working → IsMade rows d d (opened_step d c.args.caller.now c.args.all c.args.arguments.now) step in
-    if_ok {Q = Q} _ _ c.over_all-2.ensures (λ step made d sound group protect domain working.
+    let Q : Step → Type 0 = λ step. (d : List Deed) → IsSound d → IsAsker d c.args.caller.now c.args.asker.now → HasRows rows d table_ids.Working
+    → IsMade rows d d (opened_step d c.args.caller.now c.args.all c.args.arguments.now) step in
+    if_ok {Q = Q} _ _ c.over_all-2.ensures (λ step made d sound asked working.
     let caller = c.args.caller.now in
     let show_it = show_opened c.args.all d caller in
     let is = c.in_ok-listing.ensures in
@@ -45,6 +46,6 @@ returns c =
     (subst P is
     (made d (record {
       sound = sound;
-      asked = c.in_ok-asker.ensures d sound group protect domain;
+      asked = asked;
       listed = subst (λ (l : Listing). HasRows rows d (listing_table l)) (sym is) working;
     }) working))))

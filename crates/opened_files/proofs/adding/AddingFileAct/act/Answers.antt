@@ -13,7 +13,7 @@ use Rattle.depot_rows.specs.declared.deed.Action.TheVariants.{Add}
 use Rattle.depot_rows.specs.declared.deed.Opening.{Opening as DoneOpening}
 use Rattle.reply_rows.specs.Made.{IsMade}
 use Rattle.reply_rows.specs.declared.step.Step.{Step}
-use Rattle.opened_files.proofs.Refusals.{first_told, holding_told, if_ok, none_found, passed_first, passed_if}
+use Rattle.command_parts.proofs.Refused.{first_told, holding_told, if_ok, none_found, passed_first, passed_if}
 use Rattle.opened_files.specs.Adds.{Reads, new_refusal}
 use Rattle.opened_files.specs.Opens.{new_opening, open_step}
 use Rattle.opened_files.specs.declared.adding.Adding.{Adding}

@@ -3,7 +3,7 @@ use Rattle.std.specs.Option.{option_to_list}
 use Rattle.depot_rows.specs.depot_model.Steps.Adding.{spelled}
 use Rattle.depot_rows.specs.depot_model.WellFormed.{spells_path}
 use Rattle.named_files.proofs.Spelled.{found_is, is_found}
-use Rattle.opened_files.proofs.Refusals.{none_found}
+use Rattle.command_parts.proofs.Refused.{none_found}
 use Rattle.opened_files.proofs.Adds.{files_listed}
 use Rattle.opened_files.proofs.adding.FilesToAddFileFinder.find.Goals as goal
 

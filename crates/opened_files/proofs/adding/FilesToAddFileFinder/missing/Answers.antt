@@ -12,7 +12,7 @@ use Rattle.reply_rows.specs.Made.{IsMade}
 use Rattle.reply_rows.specs.declared.step.Step.{Step}
 use Rattle.reply_rows.proofs.Joined.{made_refusal}
 use Rattle.named_files.proofs.Spelled.{found_is, is_found}
-use Rattle.opened_files.proofs.Refusals.{if_ok, none_found}
+use Rattle.command_parts.proofs.Refused.{if_ok, none_found}
 use Rattle.opened_files.proofs.adding.FilesToAddFileFinder.missing.Goals as goal
 
 abbrev Done : FileArgument → Step → Type 0

@@ -9,7 +9,7 @@ use Rattle.depot_rows.specs.Deed.{action_of, opening_of}
 use Rattle.depot_rows.specs.declared.deed.Opening.{Opening as Done}
 use Rattle.reply_rows.specs.Made.{IsMade}
 use Rattle.reply_rows.specs.declared.step.Step.{Step}
-use Rattle.opened_files.proofs.Refusals.{first_told, if_ok, passed_first}
+use Rattle.command_parts.proofs.Refused.{first_told, if_ok, passed_first}
 use Rattle.opened_files.specs.Opens.{Reads, new_opening, open_step, opens_shown}
 use Rattle.opened_files.specs.declared.editing.OpeningHad.{OpeningHad}
 use Rattle.opened_files.proofs.Opens.{shown_by}

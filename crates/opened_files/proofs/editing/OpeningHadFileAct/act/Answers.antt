@@ -9,7 +9,7 @@ use Rattle.depot_rows.specs.Deed.{action_of, opening_of}
 use Rattle.depot_rows.specs.declared.deed.Opening.{Opening as DoneOpening}
 use Rattle.reply_rows.specs.Made.{IsMade}
 use Rattle.reply_rows.specs.declared.step.Step.{Step}
-use Rattle.opened_files.proofs.Refusals.{first_told, holding_told, if_ok, none_found, passed_first, passed_if}
+use Rattle.command_parts.proofs.Refused.{first_told, holding_told, if_ok, none_found, passed_first, passed_if}
 use Rattle.opened_files.specs.Opens.{Reads, opens_shown}
 use Rattle.opened_files.specs.declared.editing.OpeningHad.{OpeningHad}
 use Rattle.opened_files.proofs.editing.OpeningHadFileAct.act.Goals as goal

@@ -14,7 +14,7 @@ use Rattle.depot_rows.specs.declared.deed.Deed.TheVariants as dones
 use Rattle.reply_rows.specs.Made.{IsMade}
 use Rattle.reply_rows.specs.declared.step.Step.{Step}
 use Rattle.reply_rows.proofs.Joined.{made_done, made_refusal}
-use Rattle.opened_files.proofs.Refusals.{first_told, if_ok, none_found, passed_first}
+use Rattle.command_parts.proofs.Refused.{first_told, if_ok, none_found, passed_first}
 use Rattle.opened_files.specs.Locks.{NoOther, Reads, StaysFree, locking, other_of}
 use Rattle.opened_files.specs.declared.locking.Locking.{Locking}
 use Rattle.opened_files.proofs.Locked.{locks, may_hold, none_other, other_locks}

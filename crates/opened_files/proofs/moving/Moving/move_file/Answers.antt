@@ -11,7 +11,7 @@ use Rattle.depot_rows.proofs.Locks.{opened-is}
 use Rattle.reply_rows.specs.Made.{IsMade}
 use Rattle.reply_rows.specs.declared.step.Step.{Step}
 use Rattle.reply_rows.proofs.Bare.{tells_made}
-use Rattle.opened_files.proofs.Refusals.{if_ok}
+use Rattle.command_parts.proofs.Refused.{if_ok}
 use Rattle.opened_files.specs.Moves.{ReadsOwn}
 use Rattle.opened_files.proofs.moving.Moving.move_file.Goals as goal
 

@@ -9,7 +9,7 @@ use Rattle.depot_rows.specs.declared.deed.Opening.{Opening as Done}
 use Rattle.reply_rows.specs.Made.{IsMade}
 use Rattle.reply_rows.specs.declared.step.Step.{Step}
 use Rattle.revision_reads.specs.Choice.{HaveRows, wanted_tables}
-use Rattle.opened_files.proofs.Refusals.{first_told, if_ok, passed_first}
+use Rattle.command_parts.proofs.Refused.{first_told, if_ok, passed_first}
 use Rattle.opened_files.specs.Moves.{ReadsOwn}
 use Rattle.opened_files.specs.declared.moving.Moving.{Moving}
 use Rattle.opened_files.proofs.Later.{asked_later, head_wanted, target_at_later, target_text_later}

@@ -12,7 +12,7 @@ use Rattle.depot_rows.specs.declared.deed.Opening.{Opening as Done}
 use Rattle.reply_rows.specs.Made.{IsMade}
 use Rattle.reply_rows.specs.declared.step.Step.{Step}
 use Rattle.opening_reads.specs.OwnOpenings.{IsOwn}
-use Rattle.opened_files.proofs.Refusals.{first_told, holding_told, if_ok, passed_first, passed_if}
+use Rattle.command_parts.proofs.Refused.{first_told, holding_told, if_ok, passed_first, passed_if}
 use Rattle.opening_reads.proofs.OwnDeeds.{exclusive_still}
 use Rattle.opened_files.specs.Adds.{new_refusal}
 use Rattle.opened_files.specs.Moves.{ReadsOwn}

@@ -15,7 +15,7 @@ use Rattle.reply_rows.specs.Made.{IsMade}
 use Rattle.reply_rows.specs.declared.step.Step.{Step}
 use Rattle.reply_rows.proofs.Bare.{tells_made}
 use Rattle.reply_rows.proofs.Joined.{made_done}
-use Rattle.opened_files.proofs.Refusals.{first_told, if_ok, none_found, passed_first}
+use Rattle.command_parts.proofs.Refused.{first_told, if_ok, none_found, passed_first}
 use Rattle.opened_files.specs.Locks.{Reads}
 use Rattle.opened_files.specs.declared.reopening.Reopening.{Reopening}
 use Rattle.opened_files.proofs.Reopened.{not_reopened, reopened_by}

@@ -10,7 +10,7 @@ use Rattle.depot_rows.specs.Standing.{HasRows}
 use Rattle.reply_rows.specs.Made.{IsMade, told}
 use Rattle.reply_rows.specs.declared.step.Step.{Step}
 use Rattle.reply_rows.proofs.Bare.{tells_made}
-use Rattle.opened_files.proofs.Refusals.{if_ok}
+use Rattle.command_parts.proofs.Refused.{if_ok}
 use Rattle.opened_files.proofs.OpenedRows.{all_shown, bare}
 use Rattle.opened_files.proofs.showing.ShowingFileAct.act.Goals as goal
 

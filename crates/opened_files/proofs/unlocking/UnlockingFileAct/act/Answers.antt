@@ -13,7 +13,7 @@ use Rattle.reply_rows.specs.Made.{IsMade}
 use Rattle.reply_rows.specs.declared.step.Step.{Step}
 use Rattle.reply_rows.proofs.Bare.{tells_made}
 use Rattle.reply_rows.proofs.Joined.{made_done}
-use Rattle.opened_files.proofs.Refusals.{first_told, if_ok, passed_first}
+use Rattle.command_parts.proofs.Refused.{first_told, if_ok, passed_first}
 use Rattle.opened_files.proofs.Locked.{may_free}
 use Rattle.opened_files.specs.Locks.{Reads, unlocking}
 use Rattle.opened_files.specs.declared.unlocking.Unlocking.{Unlocking}
