@@ -1,9 +1,9 @@
 //! The text of a checkpoint.
 
-ghost use Rattle.std.specs.Prelude.{◌≡◌, ◌+◌, ◌≤◌, ◌++◌, length, IfOk};
+ghost use Rattle.std.specs.Prelude.{◌≡◌, ◌+◌, ◌++◌, length, IfOk};
 ghost use Rattle.depot_rows.specs.db_records.declared.change.Op.TheVariants.{Put as PutOp};
 ghost use Rattle.journal_groups.specs.Groups.{AreRecords, body_of, head_of};
-ghost use Rattle.record_text.specs.Grammar.{largest_wide, spelling};
+ghost use Rattle.record_text.specs.Grammar.{spelling};
 ghost use Rattle.depot_rows.specs.table_changes.Changed.{rows_of};
 ghost use Rattle.checkpoint_file.specs.Checkpoint.{IsCheckpointOf, checkpoint_text, puts, puts_of};
 ghost use Rattle.checkpoint_file.specs.Tables.{AreTables, IsTable};

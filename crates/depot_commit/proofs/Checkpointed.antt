@@ -4,8 +4,6 @@ use Rattle.std.specs.Prelude.{codes, map, nat_le, if◌then◌else◌}
 use Rattle.std.specs.List.{AllByRecursion}
 use Rattle.std.specs.List.Sorted.{IsStrictlySortedBy}
 use Rattle.std.specs.declared.cmp.Ordering.TheVariants.{Equal, Less}
-use Rattle.command_core.specs.Outcomes.{IsOutcome}
-use Rattle.command_core.specs.declared.outcome.Outcome.{Outcome}
 use Rattle.depot_rows.specs.db_records.Key.{key_cmp, key_table}
 use Rattle.depot_rows.specs.db_records.declared.change.Change.{Change}
 use Rattle.depot_rows.specs.db_records.declared.change.Op.{Op}
@@ -151,11 +149,3 @@ module _ (rows : AllRows) (d : List Deed) (request : Request) (changes : List Ch
         telling_rows rows d (generation d + 1) changes stand (subst (λ (deeds : List Deed). AreDifferences rows d (after d deeds) changes) next differences) some
         ∙ ap (λ (n : ℕ). changed_in rows (next_told (n + 1))) (sym (told_is_counted d))
   ]
-
--- so do those of an outcome
-module _ (rows : AllRows) (from : ℕ) (d : List Deed) (request : Request) (outcome : Outcome) (stand : Stand rows d) (is : IsOutcome rows from d request outcome) (some : outcome.changes ≢ []) where
-  pub some_differ : RowsDiffer d (after d (step d request).deeds)
-  some_differ = made_differ rows d request outcome.changes stand is.changes some
-
-  pub opened_rows : opens_generation request ≡ true → changed_by rows outcome.changes ≡ changed_in rows (next_told (generation_in d + 1))
-  opened_rows = made_opened rows d request outcome.changes stand is.changes some

@@ -24,6 +24,16 @@ older_in : (older : List (List (List ℕ))) (below : ℕ) (d c : Files) → 1 + 
 older_in older below d c far same are = λ g lt.
     closed_in (get_or older g []) (1 + 2 * g) d c (same (1 + 2 * g) (omega arith) (omega (arith, far, lt))) (are g lt)
 
+-- one generation more
+pub older_more : (older : List (List (List ℕ))) (groups : List (List ℕ)) (image : Files) → AreOlder older image → IsClosed groups (image (1 + 2 * length older)) → AreOlder (older ++ groups ∷ []) image
+older_more older groups image are last = λ g lt. at g (eq-or-lt_of_le (let long = length-append older (groups ∷ []) in omega (arith, long, lt)))
+  where
+    at : (g : ℕ) → (g ≡ length older) ⊎ (g < length older) → IsClosed (get_or (older ++ groups ∷ []) g []) (image (1 + 2 * g))
+    at g (inr lt) = subst (λ (x : List (List ℕ)). IsClosed x (image (1 + 2 * g))) (sym (get_or-append older (groups ∷ []) [] g lt)) (are g lt)
+    at g (inl is) =
+        let here : get_or (older ++ groups ∷ []) g [] ≡ groups = ap (λ (n : ℕ). get_or (older ++ groups ∷ []) n []) is ∙ get_or-append_seam older groups [] [] in
+        subst (λ (x : List (List ℕ)). IsClosed x (image (1 + 2 * g))) (sym here) (subst (λ (n : ℕ). IsClosed groups (image (1 + 2 * n))) (sym is) last)
+
 module _ {D : Type 0} (disk_says : DiskSays D) (old new : Journal D) (older : List (List (List ℕ))) (keeps : KeepsOlder disk_says old older) where
   -- the generation is the same
   pub older_kept : (below : ℕ) → 1 + 2 * generation_of_journal old ≤ below → generation_of_journal new ≡ generation_of_journal old → StillTells (disk_says.seen old.disk) (disk_says.seen new.disk)
@@ -61,15 +71,6 @@ module _ {D : Type 0} (disk_says : DiskSays D) (old new : Journal D) (older : Li
         closed_in was.groups (1 + 2 * was.generation) from.0 image same
         (record { are_groups = stands.are_groups; byte = rest.byte; closed = rest.closed; behind = rest.behind; is = rest.form.file }) in
         let all : length older ≡ was.generation = (let is = stands.generation in omega (arith, is, count)) in
-        either_way was.groups image (older_in older below from.0 image (omega (arith, far, count)) from.2 (keeps.each from.0 from.1))
+        older_more older was.groups image (older_in older below from.0 image (omega (arith, far, count)) from.2 (keeps.each from.0 from.1))
         (subst (λ (n : ℕ). IsClosed was.groups (image (1 + 2 * n))) (sym all) newest);
   }
-    where
-      either_way : (groups : List (List ℕ)) (image : Files) → AreOlder older image → IsClosed groups (image (1 + 2 * length older)) → AreOlder (older ++ groups ∷ []) image
-      either_way groups image are last = λ g lt. at g (eq-or-lt_of_le (let long = length-append older (groups ∷ []) in omega (arith, long, lt)))
-        where
-          at : (g : ℕ) → (g ≡ length older) ⊎ (g < length older) → IsClosed (get_or (older ++ groups ∷ []) g []) (image (1 + 2 * g))
-          at g (inr lt) = subst (λ (x : List (List ℕ)). IsClosed x (image (1 + 2 * g))) (sym (get_or-append older (groups ∷ []) [] g lt)) (are g lt)
-          at g (inl is) =
-              let here : get_or (older ++ groups ∷ []) g [] ≡ groups = ap (λ (n : ℕ). get_or (older ++ groups ∷ []) n []) is ∙ get_or-append_seam older groups [] [] in
-              subst (λ (x : List (List ℕ)). IsClosed x (image (1 + 2 * g))) (sym here) (subst (λ (n : ℕ). IsClosed groups (image (1 + 2 * n))) (sym is) last)

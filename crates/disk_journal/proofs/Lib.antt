@@ -4,10 +4,10 @@ mod Forms
 mod Grouped
 mod Heads
 mod Images
-mod Keeping
+pub mod Keeping
 mod Made
 mod Linked
 mod Opening
 mod Runs
 mod Scanning
-mod Standing
+pub mod Standing

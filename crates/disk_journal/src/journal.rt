@@ -75,7 +75,7 @@ impl<D: Disk> Journal<D> {
     ghost use Rattle.disk_journal.specs.declared.journal.Doubt.TheVariants.{Nothing};
     ghost use Rattle.disk_journal.specs.Keeping.{KeepsOlder};
     ghost use Rattle.disk_journal.specs.Marks.{HasClosedMark, IsShut};
-    ghost use Rattle.disk_journal.specs.Images.{Committed, HasCommitted, with_group, with_generation, HasEither};
+    ghost use Rattle.disk_journal.specs.Images.{Committed, with_group, with_generation, HasEither};
     ghost use Rattle.disk_journal.specs.Stands.{Doubtful, nothing, group, opening, HasWithOrWithout, Stands, IsStill, CanBeAdopted, group_of, IsPrepared, next_number, generation_of_journal, disk_of};
 
     /// The journal of a disk on which nothing is in doubt, with so many groups in a committed text of

@@ -11,6 +11,7 @@ use Rattle.disk_journal.specs.Made.{made, HasFirstFiles, IsBeingMade, SameOthers
 use Rattle.depot_rows.specs.table_changes.Changed.{no_rows}
 use Rattle.depot_rows.specs.depot_model.Rules.{IsSound}
 use Rattle.recovery.specs.Holding.{Hold}
+use Rattle.recovery.specs.Looking.{OnlyReads}
 use Rattle.recovery.specs.Making.{HoldsNoRow, IsBare, IsEmptyButRoot, IsMaking}
 use Rattle.recovery.specs.Opening.{LooksOnly}
 use Rattle.recovery.specs.declared.fault.MakeFault.{MakeFault}
@@ -84,6 +85,10 @@ module _ {D : Type 0} (disk_says : DiskSays D) (old mid new : D) where
   pub looked : ((c : Files) → disk_says.left_since old (disk_says.moment old) c → disk_says.may_leave old c) → NoMore (disk_says.may_leave old) (disk_says.may_leave mid) → Passes disk_says old mid
       → LooksOnly disk_says old mid
   looked only_now crash time = record { no_more = crash; any_moment = goes_on disk_says old old mid (disk_says.may_leave old) (always_here only_now) time crash }
+
+  -- a disk that was looked at and reads as before
+  pub only_looked : Same (disk_says.seen old) (disk_says.seen mid) → LooksOnly disk_says old mid → OnlyReads disk_says old mid
+  only_looked same looks = record { same = same; no_more = looks.no_more; any_moment = looks.any_moment }
 
   -- the journal's disk that was looked at
   pub looked_images : LooksOnly disk_says old mid → Follows IsMaking (disk_says.may_leave old) (disk_says.may_leave mid)

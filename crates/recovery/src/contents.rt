@@ -1,13 +1,13 @@
 //! The contents of revisions at their spots in the archive, and their digests.
 
-ghost use Rattle.std.specs.Prelude.{◌≡◌, ◌≢◌, ◌≤◌, ◌<◌, ◌+◌, ◌^◌, ℕ, List, length, take, drop, IfOk, OnOk, Err};
+ghost use Rattle.std.specs.Prelude.{◌≡◌, ◌≢◌, ◌≤◌, ◌<◌, ◌+◌, ◌^◌, length, IfOk, OnOk, Err};
 ghost use Rattle.std.specs.Result.{IfErr};
 ghost use Rattle.outside_api.specs.Disk.{Files};
 ghost use Rattle.depot_rows.specs.db_records.declared.table.TableId.TheVariants.{Rev};
 ghost use Rattle.depot_rows.specs.depot_model.Records.{digest};
 ghost use Rattle.depot_rows.specs.table_changes.Changed.{rows_of};
 ghost use Rattle.recovery.specs.Contents.{HasDigested, IsWhole, AreWhole, IsBadAt, IsSpotDamage, bytes_at};
-ghost use Rattle.recovery.specs.Faults.{IsReadOrSaysNothing, IsOfArchive, IfDamaged, SaysNothing, UnlessFault};
+ghost use Rattle.recovery.specs.Faults.{IsOfArchive, IfDamaged, UnlessFault};
 ghost use Rattle.recovery.specs.Holding.{spot_end, spots_end};
 ghost use Rattle.recovery.specs.Looking.{OnlyReads, IsCause};
 ghost use Rattle.recovery.specs.declared.fault.DepotDisk.TheVariants.{Archive};

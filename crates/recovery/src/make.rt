@@ -20,7 +20,7 @@ const ROOT: u32 = 0;
 
 /// Makes the files of an empty depot: the first checkpoint and an empty journal, and then the root, so
 /// that there are no files before the rest stands whole. Takes no memory. Where the root isn't empty it
-/// makes nothing.
+/// writes nothing.
 pub fn make_files<D: Disk>(journal: &mut D, archive: &mut D) -> Result<(), MakeFault>
     ensures made { OnOk result ((image : Files) → D.says.may_leave journal.new image → HasCommitted made image) }
     ensures empty_depot { OnOk result ((image contents : Files) → D.says.may_leave journal.new image → StandFor [] image contents) }
@@ -38,6 +38,8 @@ pub fn make_files<D: Disk>(journal: &mut D, archive: &mut D) -> Result<(), MakeF
     ensures unmade { (files : Files) → D.says.seen journal.old files → OnOk result (length (files 0) ≡ 0) }
     ensures there { (files : Files) → D.says.seen journal.old files → result ≡ Err Made → length (files 0) ≢ 0 }
     ensures exactly { (files : Files) → D.says.seen journal.old files → length (files 0) ≢ 0 → (result ≡ Err Made) ⊎ (result ≡ Err DiskFault) }
+    // Whatever is answered, where the root isn't empty nothing is written.
+    ensures kept { (files : Files) → D.says.seen journal.old files → length (files 0) ≢ 0 → OnlyReads D.says journal.old journal.new × (archive.new ≡ archive.old) }
     ensures untouched { result ≡ Err Made → OnlyReads D.says journal.old journal.new × (archive.new ≡ archive.old) }
     ensures unfailed { result ≢ Err DiskFault → (D.says.faults journal.new ≡ D.says.faults journal.old) × (D.says.faults archive.new ≡ D.says.faults archive.old) }
     ensures cause { AreCauses (D.says.faults journal.old) (D.says.faults journal.new) (D.says.faults archive.old) (D.says.faults archive.new) (result ≡ Err DiskFault) }

@@ -2,7 +2,7 @@
 
 ghost use Rattle.std.specs.Prelude.{◌≡◌, ◌≢◌, ◌≤◌, length, List, IfOk, Err};
 ghost use Rattle.std.specs.Result.{IfErr};
-ghost use Rattle.outside_api.specs.Disk.{Files, NoMore, Same, StillTells};
+ghost use Rattle.outside_api.specs.Disk.{Files, StillTells};
 ghost use Rattle.depot_rows.specs.db_records.declared.table.TableId.{TableId};
 ghost use Rattle.depot_rows.specs.db_records.declared.table.TableId.TheVariants.{Rev};
 ghost use Rattle.disk_journal.specs.Images.{Committed};
@@ -16,7 +16,7 @@ ghost use Rattle.recovery.specs.Contents.{AreWhole, HoldWhole};
 ghost use Rattle.recovery.specs.Damage.{IsDamage};
 ghost use Rattle.recovery.specs.Holding.{Hold, spots_end};
 ghost use Rattle.recovery.specs.Standing.{StandFor};
-ghost use Rattle.recovery.specs.Looking.{OnlyReads, AreCauses};
+ghost use Rattle.recovery.specs.Looking.{AreCauses};
 ghost use Rattle.recovery.specs.Reading.{HasFound};
 ghost use Rattle.recovery.specs.Rules.{SuitFiles};
 ghost use Rattle.recovery.specs.Opening.{IsOpen, HasSynced, LooksOnly, journal_disk, archive_disk, IsUnmade, IsDiskFault, OpensOrSaysNothing, UnmadeOrSaysNothing};

@@ -1,8 +1,7 @@
 //! The puts of a checkpoint, one after another.
 
-ghost use Rattle.std.specs.Prelude.{◌≡◌, ◌↔◌, [], ◌∷◌, ◌++◌, List, IfOk, IsTrue, IsFalse};
+ghost use Rattle.std.specs.Prelude.{◌↔◌, [], ◌∷◌, ◌++◌, List, IfOk, IsTrue, IsFalse};
 ghost use Rattle.depot_rows.specs.db_records.declared.change.Change.{Change};
-ghost use Rattle.depot_rows.specs.table_changes.Changed.{changed_by, no_rows};
 ghost use Rattle.depot_rows.specs.table_changes.Drafts.{rows_of_draft};
 ghost use Rattle.recovery.specs.Holding.{ArePuts};
 ghost use Rattle.recovery.specs.Reading.{HasPut, IsLastOf};

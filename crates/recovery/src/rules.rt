@@ -1,6 +1,6 @@
 //! The rules that rows keep, and the generation that they tell.
 
-ghost use Rattle.std.specs.Prelude.{◌≡◌, ◌≢◌, ◌≤◌, length, IfOk, IsTrue, OnOk, Err};
+ghost use Rattle.std.specs.Prelude.{◌≡◌, ◌≤◌, length, IfOk, IsTrue, OnOk, Err};
 ghost use Rattle.std.specs.Result.{IfErr};
 ghost use Rattle.outside_api.specs.Disk.{Files};
 ghost use Rattle.depot_rows.specs.db_records.declared.table.TableId.{TableId};

@@ -1,5 +1,5 @@
 use Rattle.std.proofs.Common.{refl, arith}
-use Rattle.outside_api.specs.Disk.{Files, Holds}
+use Rattle.outside_api.specs.Disk.{Files}
 use Rattle.disk_journal.specs.Images.{IsAtRest}
 use Rattle.disk_journal.specs.Made.{made}
 use Rattle.disk_journal.proofs.Keeping.{tells_two}

@@ -1,7 +1,7 @@
 use Rattle.std.proofs.Common.{inl, inr, refl, ◌∙◌}
 use Rattle.depot_rows.proofs.depot_model.Empty.{empty_is_sound}
 use Rattle.recovery.proofs.Empty.{made_stands, made_committed}
-use Rattle.recovery.proofs.Making.{looks_at_none, looked, looked_images, looked_moments, made_images, made_moments, others_read, disk_fault}
+use Rattle.recovery.proofs.Making.{looks_at_none, looked, looked_images, looked_moments, made_images, made_moments, only_looked, others_read, disk_fault}
 use Rattle.recovery.proofs.make.make_files.Goals as goal
 
 pub returns-clause-empty_depot : goal.returns-clause-empty_depot
@@ -65,6 +65,20 @@ returns-clause-any_moment g c =
     made_moments g.D.Disk.says c.args.journal.now c.length.new.self c.make_files.new.disk empty_is_sound
     (looked g.D.Disk.says c.args.journal.now c.length.new.self c.length.new.self (g.met.D.Disk.only_now c.args.journal.now) c.length.ensures.crash c.length.ensures.time)
     c.make_files.ensures.any_moment
+
+pub returns-in_err-length-clause-kept : goal.returns-in_err-length-clause-kept
+returns-in_err-length-clause-kept g c = λ files read other. (
+  only_looked g.D.Disk.says c.args.journal.now c.length.new.self c.length.new.self c.length.ensures.same
+      (looked g.D.Disk.says c.args.journal.now c.length.new.self c.length.new.self (g.met.D.Disk.only_now c.args.journal.now) c.length.ensures.crash c.length.ensures.time),
+  refl,
+)
+
+pub returns-then-length-ne0-clause-kept : goal.returns-then-length-ne0-clause-kept
+returns-then-length-ne0-clause-kept g c = λ files read other. (
+  only_looked g.D.Disk.says c.args.journal.now c.length.new.self c.length.new.self c.length.ensures.same
+      (looked g.D.Disk.says c.args.journal.now c.length.new.self c.length.new.self (g.met.D.Disk.only_now c.args.journal.now) c.length.ensures.crash c.length.ensures.time),
+  refl,
+)
 
 -- ---- the archive's disk
 

@@ -1,5 +1,4 @@
-use Rattle.std.proofs.Common.{◌≡◌, ◌++◌, length, sym, ap, subst, ◌∙◌, arith, length-append}
-use Rattle.journal_groups.specs.Groups.{group_text}
+use Rattle.std.proofs.Common.{◌++◌, length, sym, ap, subst, ◌∙◌, arith, length-append}
 use Rattle.disk_journal.specs.Stands.{next_number}
 use Rattle.disk_journal.specs.Text.{IsGroup, mark}
 use Rattle.disk_journal.proofs.Grouped.{before_mark, body_within, is_group}
