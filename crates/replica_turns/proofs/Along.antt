@@ -143,50 +143,57 @@ told_of disk_says reads archive tells room = (
 -- ---- replies one after another
 
 module _ (past : Past) (start : List Deed) (places : List Placed) (rules : List FilterRule) where
-  abbrev Told : ℕ → Replica → List Request → List (List ℕ) → Replica → Type 0
-  Told before old requests texts new = AreTold past start places rules before old requests texts new
+  abbrev Told : ℕ → Replica → List ℕ → List Request → List (List ℕ) → Replica → Type 0
+  Told before old counts requests texts new = AreTold past start places rules before old counts requests texts new
 
-  told_many : (before : ℕ) (old new : Replica) (requests : List Request) (texts : List (List ℕ)) → Told before old requests texts new → length requests ≡ length texts
-  told_many before old new [] [] are = refl
-  told_many before old new [] (text ∷ texts) are = absurd are
-  told_many before old new (request ∷ requests) [] are = absurd are
-  told_many before old new (request ∷ requests) (text ∷ texts) are = ap suc (told_many are.0 are.1 new requests texts are.5)
+  told_many : (before : ℕ) (old new : Replica) (counts : List ℕ) (requests : List Request) (texts : List (List ℕ)) → Told before old counts requests texts new → length requests ≡ length texts
+  told_many before old new [] [] [] are = refl
+  told_many before old new [] [] (text ∷ texts) are = absurd are
+  told_many before old new [] (request ∷ requests) texts are = absurd are
+  told_many before old new (count ∷ counts) [] texts are = absurd are
+  told_many before old new (count ∷ counts) (request ∷ requests) [] are = absurd are
+  told_many before old new (count ∷ counts) (request ∷ requests) (text ∷ texts) are = ap suc (told_many count are.0 new counts requests texts are.4)
 
   -- one more, when all places were taken
-  told_more : (before : ℕ) (old mid new : Replica) (requests : List Request) (texts : List (List ℕ)) (request : Request) (text : List ℕ) → before ≤ length places → Told before old requests texts mid
-      → IsToldAs past start places rules mid new request text (pulls request.command) → Told before old (requests ++ request ∷ []) (texts ++ text ∷ []) new
-  told_more before old mid new [] [] request text low are is =
+  told_more : (before : ℕ) (old mid new : Replica) (counts : List ℕ) (requests : List Request) (texts : List (List ℕ)) (request : Request) (text : List ℕ) → before ≤ length places
+      → Told before old counts requests texts mid → IsToldAs past start places rules mid new request text (pulls request.command)
+      → Told before old (counts ++ length places ∷ []) (requests ++ request ∷ []) (texts ++ text ∷ []) new
+  told_more before old mid new [] [] [] request text low are is =
       let As : List Placed → Replica → Type 0 = λ all r. IsToldAs past start all rules r new request text (pulls request.command) in
-      (length places, new, low, omega arith, subst (λ (all : List Placed). As all old) (sym (take-length places)) (subst (As places) are is), refl)
-  told_more before old mid new [] (t ∷ texts) request text low are is = absurd are
-  told_more before old mid new (r ∷ requests) [] request text low are is = absurd are
-  told_more before old mid new (r ∷ requests) (t ∷ texts) request text low are is =
-      (are.0, are.1, are.2, are.3, are.4, told_more are.0 are.1 mid new requests texts request text are.3 are.5 is)
+      (new, low, omega arith, subst (λ (all : List Placed). As all old) (sym (take-length places)) (subst (As places) are is), refl)
+  told_more before old mid new [] [] (t ∷ texts) request text low are is = absurd are
+  told_more before old mid new [] (r ∷ requests) texts request text low are is = absurd are
+  told_more before old mid new (count ∷ counts) [] texts request text low are is = absurd are
+  told_more before old mid new (count ∷ counts) (r ∷ requests) [] request text low are is = absurd are
+  told_more before old mid new (count ∷ counts) (r ∷ requests) (t ∷ texts) request text low are is =
+      (are.0, are.1, are.2, are.3, told_more count are.0 mid new counts requests texts request text are.2 are.4 is)
 
   -- so it was among more places
-  told_longer : (more : List Placed) (before : ℕ) (old new : Replica) (requests : List Request) (texts : List (List ℕ)) → Told before old requests texts new
-      → AreTold past start (places ++ more) rules before old requests texts new
-  told_longer more before old new [] [] are = are
-  told_longer more before old new [] (text ∷ texts) are = absurd are
-  told_longer more before old new (request ∷ requests) [] are = absurd are
-  told_longer more before old new (request ∷ requests) (text ∷ texts) are =
-      let within = are.3 in
+  told_longer : (more : List Placed) (before : ℕ) (old new : Replica) (counts : List ℕ) (requests : List Request) (texts : List (List ℕ)) → Told before old counts requests texts new
+      → AreTold past start (places ++ more) rules before old counts requests texts new
+  told_longer more before old new [] [] [] are = are
+  told_longer more before old new [] [] (text ∷ texts) are = absurd are
+  told_longer more before old new [] (request ∷ requests) texts are = absurd are
+  told_longer more before old new (count ∷ counts) [] texts are = absurd are
+  told_longer more before old new (count ∷ counts) (request ∷ requests) [] are = absurd are
+  told_longer more before old new (count ∷ counts) (request ∷ requests) (text ∷ texts) are =
+      let within = are.2 in
       let long = length-append places more in
-      let As : List Placed → Type 0 = λ all. IsToldAs past start all rules old are.1 request text (pulls request.command) in
-      (are.0, are.1, are.2, omega (arith, within, long), subst As (sym (take-append-le are.0 places more within)) are.4, told_longer more are.0 are.1 new requests texts are.5)
+      let As : List Placed → Type 0 = λ all. IsToldAs past start all rules old are.0 request text (pulls request.command) in
+      (are.0, are.1, omega (arith, within, long), subst As (sym (take-append-le count places more within)) are.3, told_longer more count are.0 new counts requests texts are.4)
 
 -- ---- a party
 
 module _ (past : Past) (start : List Deed) (places : List Placed) (may_give : ℕ → Type 0) (party : ℕ) (script : ReplicaScript) (p : ReplicaParty) where
   -- a new replica has told nothing
-  pub along_first : (c : Chronicle) → IsFresh may_give party script p → AreWellFormed script.session.commands → IsAlong past start places may_give party script p c []
+  pub along_first : (c : Chronicle) → IsFresh may_give party script p → AreWellFormed script.session.commands → IsAlong past start places may_give party script p c [] []
   along_first c fresh formed =
       record { formed = formed; answered = []; asked = fresh.asked; moments = []; followed = fresh.is_new; first = p.replica; is_new = fresh.is_new; told = refl }
 
   -- the journal grew
-  pub along_later : (c now : Chronicle) → HasGrown (texts_in c) (texts_in now) → (texts : List (List ℕ)) → IsAlong past start places may_give party script p c texts
-      → IsAlong past start places may_give party script p now texts
-  along_later c now grown texts along = record {
+  pub along_later : (c now : Chronicle) → HasGrown (texts_in c) (texts_in now) → (counts : List ℕ) (texts : List (List ℕ)) → IsAlong past start places may_give party script p c counts texts
+      → IsAlong past start places may_give party script p now counts texts
+  along_later c now grown counts texts along = record {
     formed = along.formed;
     answered = along.answered;
     asked = along.asked;
@@ -198,9 +205,9 @@ module _ (past : Past) (start : List Deed) (places : List Placed) (may_give : �
   }
 
   -- there are more places
-  pub along_longer : (c : Chronicle) (more : List Placed) (texts : List (List ℕ)) → IsAlong past start places may_give party script p c texts
-      → IsAlong past start (places ++ more) may_give party script p c texts
-  along_longer c more texts along = record {
+  pub along_longer : (c : Chronicle) (more : List Placed) (counts : List ℕ) (texts : List (List ℕ)) → IsAlong past start places may_give party script p c counts texts
+      → IsAlong past start (places ++ more) may_give party script p c counts texts
+  along_longer c more counts texts along = record {
     formed = along.formed;
     answered = along.answered;
     asked = along.asked;
@@ -208,27 +215,27 @@ module _ (past : Past) (start : List Deed) (places : List Placed) (may_give : �
     followed = along.followed;
     first = along.first;
     is_new = along.is_new;
-    told = told_longer past start places script.filter more 0 along.first p.replica along.answered texts along.told;
+    told = told_longer past start places script.filter more 0 along.first p.replica counts along.answered texts along.told;
   }
 
-  pub along_grown : (c now : Chronicle) (more : List Placed) → HasGrown (texts_in c) (texts_in now) → (texts : List (List ℕ)) → IsAlong past start places may_give party script p c texts
-      → IsAlong past start (places ++ more) may_give party script p now texts
-  along_grown c now more grown texts along = along_longer now more texts (along_later c now grown texts along)
+  pub along_grown : (c now : Chronicle) (more : List Placed) → HasGrown (texts_in c) (texts_in now) → (counts : List ℕ) (texts : List (List ℕ)) → IsAlong past start places may_give party script p c counts texts
+      → IsAlong past start (places ++ more) may_give party script p now counts texts
+  along_grown c now more grown counts texts along = along_longer now more counts texts (along_later c now grown counts texts along)
 
 module _ {D E : Type 0} (disk_says : DiskSays D) (reads : (disk : D) (files : Files) → disk_says.seen disk files → disk_says.may_leave disk files) (past : Past) (start : List Deed) (places : List Placed)
     (depot : SerialDepot D) (c : Chronicle) (master : IsMaster disk_says past start places depot c) (tells : (bytes : List ℕ) × IsTold disk_says depot.archive bytes)
     (may_give : ℕ → Type 0) (party : ℕ) (script : ReplicaScript) where
   -- it took its turn
-  pub along_turned : (old new : ReplicaParty) (texts : List (List ℕ)) (result : Result Answered E) → IsAlong past start places may_give party script old c texts → IsTurned disk_says depot old new result
-      → IsAlong past start places may_give party script new c (texts ++ reply_text result (length texts + 1) ∷ [])
-  along_turned old new texts result along turn =
+  pub along_turned : (old new : ReplicaParty) (counts : List ℕ) (texts : List (List ℕ)) (result : Result Answered E) → IsAlong past start places may_give party script old c counts texts → IsTurned disk_says depot old new result
+      → IsAlong past start places may_give party script new c (counts ++ length places ∷ []) (texts ++ reply_text result (length texts + 1) ∷ [])
+  along_turned old new counts texts result along turn =
       let request = turn.request in
       let left : reverse old.left.items ≡ request ∷ reverse new.left.items = ap reverse turn.left ∙ reverse-append new.left.items (request ∷ []) in
       let asked : AreRequests may_give party 1 script.session.caller script.session.commands (along.answered ++ request ∷ reverse new.left.items) =
       subst (λ (behind : List Request). AreRequests may_give party 1 script.session.caller script.session.commands (along.answered ++ behind)) left along.asked in
       let here = at_place may_give party 1 script.session.caller script.session.commands along.answered request (reverse new.left.items) asked
       (recursion_from_All IsAskedWell script.session.commands along.formed) in
-      let many = told_many past start places script.filter 0 along.first old.replica along.answered texts along.told in
+      let many = told_many past start places script.filter 0 along.first old.replica counts along.answered texts along.told in
       let number : request.number ≡ length texts + 1 = let is = here.0 in omega (arith, is, many) in
       let told = turn_told disk_says reads past start places depot c master tells script.filter old.replica new.replica along.moments along.followed request (reply_text result request.number)
       (pulls request.command) (is_lost result) (turn.answered (formed_of request here.1)) in
@@ -241,5 +248,5 @@ module _ {D E : Type 0} (disk_says : DiskSays D) (reads : (disk : D) (files : Fi
         followed = told.1;
         first = along.first;
         is_new = along.is_new;
-        told = told_more past start places script.filter 0 along.first old.replica new.replica along.answered texts request (reply_text result (length texts + 1)) (omega arith) along.told (subst P number told.2);
+        told = told_more past start places script.filter 0 along.first old.replica new.replica counts along.answered texts request (reply_text result (length texts + 1)) (omega arith) along.told (subst P number told.2);
       }

@@ -1,10 +1,8 @@
 -- What a depot that replicas follow leaves: each pair of images was written from the first change on, perhaps with the change of a fault place.
-use Rattle.std.proofs.Common.{◌≡◌, ◌⊎◌, ◌≤◌, ◌<◌, ◌+◌, ◌*◌, ℕ, Bool, true, false, List, [], ◌∷◌, ◌++◌, Some, length, take, inl, inr, refl, sym, ap, subst, ◌∙◌, append_assoc, arith, length-append}
-use Rattle.std.specs.Prelude.{get_or, map}
+use Rattle.std.proofs.Common.{◌≡◌, ◌⊎◌, ◌≤◌, ◌<◌, ◌+◌, ◌*◌, ℕ, Bool, true, false, List, [], ◌∷◌, ◌++◌, Some, length, take, inl, inr, refl, sym, ap, subst, ◌∙◌, arith, length-append}
+use Rattle.std.specs.Prelude.{map}
 use Rattle.std.specs.List.{AllByRecursion}
-use Rattle.std.proofs.Math.ListN.{get_or-append}
-use Rattle.std.proofs.Math.Nat.{eq-or-lt_of_le}
-use Rattle.std.proofs.Math.Seq.{get_or-append_seam, take-append_seam}
+use Rattle.std.proofs.Math.Seq.{take-append_seam}
 use Rattle.std.proofs.lemmas.Bool.{cases_order}
 use Rattle.std.proofs.lemmas.List.{length-map}
 use Rattle.outside_api.specs.Disk.{Files}
@@ -21,6 +19,8 @@ use Rattle.disk_journal.specs.Older.{AreOlder, IsClosed}
 use Rattle.disk_journal.specs.Stands.{Doubtful, HasWithOrWithout, IsImage, Stands, disk_of, group, nothing, opening}
 use Rattle.disk_journal.specs.Text.{AreGroups, blocks}
 use Rattle.disk_journal.specs.declared.journal.Journal.{Journal}
+use Rattle.disk_journal.proofs.Keeping.{older_more}
+use Rattle.disk_journal.proofs.Standing.{image_text}
 use Rattle.journal_groups.specs.Committed as texts
 use Rattle.journal_groups.specs.Groups.{IsGroup, groups_text, mark}
 use Rattle.journal_groups.proofs.Committed.{groups_are}
@@ -56,12 +56,6 @@ groups_once gs hs are others same = some_groups (sym (groups_are text gs (its gs
     its : (groups : List (List Change)) → AllByRecursion IsGroup groups → groups_text 1 groups ≡ groups_text 1 hs → texts.HasGroups 1 text groups
     its groups are is = record { byte = 109; after = []; closed = λ e. omega (arith, e); are_groups = are; parts = ap (λ (t : List ℕ). t ++ (mark 109 ++ [])) (sym is) }
 
--- the file of the newest groups begins with them
-image_text : (was : Committed) (doubt : Doubtful) (image : Files) → IsImage was doubt image → (rest : List ℕ) × (image (1 + 2 * was.generation) ≡ blocks was.groups ++ rest)
-image_text was nothing image is = (mark is.byte ++ is.behind, is.form.file ∙ append_assoc (blocks was.groups) (mark is.byte) is.behind)
-image_text was (opening checkpoint) image is = (mark is.byte ++ is.behind, is.form.file ∙ append_assoc (blocks was.groups) (mark is.byte) is.behind)
-image_text was (group g) image is = (mark is.byte ++ (g ++ mark 109 ++ is.behind), is.form.file ∙ append_assoc (blocks was.groups) (mark is.byte) (g ++ mark 109 ++ is.behind))
-
 same_front : (xs ys rest others : List ℕ) → length xs ≡ length ys → xs ++ rest ≡ ys ++ others → xs ≡ ys
 same_front xs ys rest others long same =
     sym (take-append_seam xs rest) ∙ (ap (take (length xs)) same ∙ (ap (λ (n : ℕ). take n (ys ++ others)) long ∙ take-append_seam ys others))
@@ -90,16 +84,6 @@ module _ {D : Type 0} (disk_says : DiskSays D) (journal : Journal D) (c : Chroni
       has.are.journal ∙ ap (group_texts 1) (groups_once has.groups c.newest has.are.are_groups.1 (last_of (AllByRecursion IsGroup) c.closed c.newest groups.are_groups) texts)
 
 -- ---- an image of the journal's disk
-
--- one generation more
-older_more : (older : List (List (List ℕ))) (groups : List (List ℕ)) (image : Files) → AreOlder older image → IsClosed groups (image (1 + 2 * length older)) → AreOlder (older ++ groups ∷ []) image
-older_more older groups image are last = λ g lt. at g (eq-or-lt_of_le (let long = length-append older (groups ∷ []) in omega (arith, long, lt)))
-  where
-    at : (g : ℕ) → (g ≡ length older) ⊎ (g < length older) → IsClosed (get_or (older ++ groups ∷ []) g []) (image (1 + 2 * g))
-    at g (inr lt) = subst (λ (x : List (List ℕ)). IsClosed x (image (1 + 2 * g))) (sym (get_or-append older (groups ∷ []) [] g lt)) (are g lt)
-    at g (inl is) =
-        let here : get_or (older ++ groups ∷ []) g [] ≡ groups = ap (λ (n : ℕ). get_or (older ++ groups ∷ []) n []) is ∙ get_or-append_seam older groups [] [] in
-        subst (λ (x : List (List ℕ)). IsClosed x (image (1 + 2 * g))) (sym here) (subst (λ (n : ℕ). IsClosed groups (image (1 + 2 * n))) (sym is) last)
 
 -- The groups c are those of what is committed.
 module _ (c : Chronicle) (are_groups : AreGroupsOf c) (was : Committed) (generation : was.generation ≡ length c.closed) (newest : was.groups ≡ group_texts 1 c.newest) (journal : Files) where

@@ -1,6 +1,6 @@
 -- A replica's turns one after another.
 use Rattle.std.proofs.Common.{◌≡◌, ◌≤◌, ◌+◌, ◌++◌, ◌∷◌, [], ℕ, suc, List, Bool, true, false, Result, Ok, Err, length, inl, inr, refl, sym, ap, subst, ◌∙◌, append_assoc, arith}
-use Rattle.std.specs.Prelude.{◌||◌, IfOk, reverse}
+use Rattle.std.specs.Prelude.{IfOk, reverse}
 use Rattle.std.specs.List.{AllByRecursion}
 use Rattle.std.proofs.Math.Seq.{take-length}
 use Rattle.std.proofs.lemmas.List.{length-append, reverse-append, take-append-le}
@@ -22,18 +22,10 @@ use Rattle.session_loop.specs.Taking.{IsProper}
 use Rattle.session_loop.specs.declared.reading.ReplicaScript.{ReplicaScript}
 use Rattle.serial_depot.specs.Running.{HasRun}
 use Rattle.serial_depot.specs.declared.depot.SerialDepot.{SerialDepot}
-use Rattle.replica_turns.specs.Going.{AreAnswered, IsFresh, IsGoing, IsTurned, reply_text, is_lost}
+use Rattle.replica_turns.specs.Going.{AreAnswered, IsFresh, IsGoing, IsTurned, one_if, reply_text, is_lost}
 use Rattle.replica_turns.specs.Replying.{IsAnswered, IsAnsweredAs, IsPullAnswer, IsReply, pulls}
 use Rattle.replica_turns.specs.declared.party.Answered.{Answered}
 use Rattle.replica_turns.specs.declared.party.ReplicaParty.{ReplicaParty}
-
-or_assoc : (a b c : Bool) → ((a || b) || c) ≡ (a || (b || c))
-or_assoc true b c = refl
-or_assoc false b c = refl
-
-or_false : (a : Bool) → (a || false) ≡ a
-or_false true = refl
-or_false false = refl
 
 -- ---- requests
 
@@ -93,87 +85,91 @@ module _ {D : Type 0} (HasBeen Other : SerialDepot D → Type 0) (disk_says : Di
 -- ---- over more places
 
 module _ {D : Type 0} (disk_says : DiskSays D) (since : ℕ) (start : List Deed) (places : List Placed) where
-  abbrev AreFrom : ℕ → Replica → Replica → List Request → List (List ℕ) → Bool → Type 0
-  AreFrom before old new requests texts lost = AreAnswered disk_says since start places before old new requests texts lost
+  abbrev AreFrom : ℕ → Replica → Replica → List ℕ → List Request → List (List ℕ) → ℕ → Type 0
+  AreFrom before old new counts requests texts lost = AreAnswered disk_says since start places before old new counts requests texts lost
 
-  answers_longer : (more : List Placed) (before : ℕ) (old new : Replica) (requests : List Request) (texts : List (List ℕ)) (lost : Bool) → AreFrom before old new requests texts lost
-      → AreAnswered disk_says since start (places ++ more) before old new requests texts lost
-  answers_longer more before old new [] [] lost are = are
-  answers_longer more before old new [] (text ∷ texts) lost are = absurd are
-  answers_longer more before old new (request ∷ requests) [] lost are = absurd are
-  answers_longer more before old new (request ∷ requests) (text ∷ texts) lost are =
-      let within = are.5 in
+  answers_longer : (more : List Placed) (before : ℕ) (old new : Replica) (counts : List ℕ) (requests : List Request) (texts : List (List ℕ)) (lost : ℕ) → AreFrom before old new counts requests texts lost
+      → AreAnswered disk_says since start (places ++ more) before old new counts requests texts lost
+  answers_longer more before old new [] [] [] lost are = are
+  answers_longer more before old new [] [] (text ∷ texts) lost are = absurd are
+  answers_longer more before old new [] (request ∷ requests) texts lost are = absurd are
+  answers_longer more before old new (count ∷ counts) [] texts lost are = absurd are
+  answers_longer more before old new (count ∷ counts) (request ∷ requests) [] lost are = absurd are
+  answers_longer more before old new (count ∷ counts) (request ∷ requests) (text ∷ texts) lost are =
+      let within = are.4 in
       let long = length-append places more in
-      let As : List Placed → Type 0 = λ taken. IsAnswered (λ depot. HasRun disk_says depot since start taken) disk_says old are.1 request text are.2 in (
+      let As : List Placed → Type 0 = λ taken. IsAnswered (λ depot. HasRun disk_says depot since start taken) disk_says old are.0 request text are.1 in (
         are.0,
         are.1,
         are.2,
         are.3,
-        are.4,
         omega (arith, within, long),
-        are.6,
-        subst As (sym (take-append-le are.0 places more within)) are.7,
-        answers_longer more are.0 are.1 new requests texts are.3 are.8,
+        are.5,
+        subst As (sym (take-append-le count places more within)) are.6,
+        answers_longer more count are.0 new counts requests texts are.2 are.7,
       )
 
   -- ---- one more answer
 
-  as_many : (before : ℕ) (old new : Replica) (requests : List Request) (texts : List (List ℕ)) (lost : Bool) → AreFrom before old new requests texts lost → length requests ≡ length texts
-  as_many before old new [] [] lost are = refl
-  as_many before old new [] (text ∷ texts) lost are = absurd are
-  as_many before old new (request ∷ requests) [] lost are = absurd are
-  as_many before old new (request ∷ requests) (text ∷ texts) lost are = ap suc (as_many are.0 are.1 new requests texts are.3 are.8)
+  as_many : (before : ℕ) (old new : Replica) (counts : List ℕ) (requests : List Request) (texts : List (List ℕ)) (lost : ℕ) → AreFrom before old new counts requests texts lost
+      → length requests ≡ length texts
+  as_many before old new [] [] [] lost are = refl
+  as_many before old new [] [] (text ∷ texts) lost are = absurd are
+  as_many before old new [] (request ∷ requests) texts lost are = absurd are
+  as_many before old new (count ∷ counts) [] texts lost are = absurd are
+  as_many before old new (count ∷ counts) (request ∷ requests) [] lost are = absurd are
+  as_many before old new (count ∷ counts) (request ∷ requests) (text ∷ texts) lost are = ap suc (as_many count are.0 new counts requests texts are.2 are.7)
 
   -- over a depot that has run all places
-  one_more : (before : ℕ) (old mid new : Replica) (requests : List Request) (texts : List (List ℕ)) (lost : Bool) (request : Request) (text : List ℕ) (last : Bool) → before ≤ length places
-      → AreFrom before old mid requests texts lost → IsAnswered (λ depot. HasRun disk_says depot since start places) disk_says mid new request text last
-      → AreFrom before old new (requests ++ request ∷ []) (texts ++ text ∷ []) (lost || last)
-  one_more before old mid new [] [] lost request text last low are is =
+  one_more : (before : ℕ) (old mid new : Replica) (counts : List ℕ) (requests : List Request) (texts : List (List ℕ)) (lost : ℕ) (request : Request) (text : List ℕ) (last : Bool) → before ≤ length places
+      → AreFrom before old mid counts requests texts lost → IsAnswered (λ depot. HasRun disk_says depot since start places) disk_says mid new request text last
+      → AreFrom before old new (counts ++ length places ∷ []) (requests ++ request ∷ []) (texts ++ text ∷ []) (lost + one_if last)
+  one_more before old mid new [] [] [] lost request text last low are is =
       let As : List Placed → Replica → Type 0 = λ all r. IsAnswered (λ depot. HasRun disk_says depot since start all) disk_says r new request text last in (
-        length places,
         new,
         last,
-        false,
+        0,
         low,
         omega arith,
-        ap (λ (l : Bool). l || last) are.1 ∙ sym (or_false last),
+        (let none = are.1 in omega (arith, none)),
         subst (λ (all : List Placed). As all old) (sym (take-length places)) (subst (As places) are.0 is),
         (refl, refl),
       )
-  one_more before old mid new [] (t ∷ texts) lost request text last low are is = absurd are
-  one_more before old mid new (r ∷ requests) [] lost request text last low are is = absurd are
-  one_more before old mid new (r ∷ requests) (t ∷ texts) lost request text last low are is = (
+  one_more before old mid new [] [] (t ∷ texts) lost request text last low are is = absurd are
+  one_more before old mid new [] (r ∷ requests) texts lost request text last low are is = absurd are
+  one_more before old mid new (count ∷ counts) [] texts lost request text last low are is = absurd are
+  one_more before old mid new (count ∷ counts) (r ∷ requests) [] lost request text last low are is = absurd are
+  one_more before old mid new (count ∷ counts) (r ∷ requests) (t ∷ texts) lost request text last low are is = (
     are.0,
     are.1,
-    are.2,
-    are.3 || last,
+    are.2 + one_if last,
+    are.3,
     are.4,
-    are.5,
-    ap (λ (l : Bool). l || last) are.6 ∙ or_assoc are.2 are.3 last,
-    are.7,
-    one_more are.0 are.1 mid new requests texts are.3 request text last are.5 are.8 is,
+    (let some = are.5 in omega (arith, some)),
+    are.6,
+    one_more count are.0 mid new counts requests texts are.2 request text last are.4 are.7 is,
   )
 
 -- ---- a party
 
 module _ {D : Type 0} (disk_says : DiskSays D) (since : ℕ) (start : List Deed) (places : List Placed) (may_give : ℕ → Type 0) (party : ℕ) (script : ReplicaScript) where
   -- a fresh party of well-formed commands is going, with no reply
-  pub begins : (p : ReplicaParty) → IsFresh may_give party script p → AreWellFormed script.session.commands → IsGoing disk_says since start places may_give party script p [] false
+  pub begins : (p : ReplicaParty) → IsFresh may_give party script p → AreWellFormed script.session.commands → IsGoing disk_says since start places may_give party script p [] [] 0
   begins p fresh formed =
       record { formed = formed; answered = []; asked = fresh.asked; first = p.replica; is_new = fresh.is_new; are = (refl, refl) }
 
   -- over a depot that has run all places it goes on by one turn
-  pub goes_on : {E : Type 0} (depot : SerialDepot D) (old new : ReplicaParty) (texts : List (List ℕ)) (lost : Bool) (result : Result Answered E) → HasRun disk_says depot since start places
-      → IsGoing disk_says since start places may_give party script old texts lost → IsTurned disk_says depot old new result
-      → IsGoing disk_says since start places may_give party script new (texts ++ reply_text result (length texts + 1) ∷ []) (lost || is_lost result)
-  goes_on depot old new texts lost result ran going turn =
+  pub goes_on : {E : Type 0} (depot : SerialDepot D) (old new : ReplicaParty) (counts : List ℕ) (texts : List (List ℕ)) (lost : ℕ) (result : Result Answered E) → HasRun disk_says depot since start places
+      → IsGoing disk_says since start places may_give party script old counts texts lost → IsTurned disk_says depot old new result
+      → IsGoing disk_says since start places may_give party script new (counts ++ length places ∷ []) (texts ++ reply_text result (length texts + 1) ∷ []) (lost + one_if (is_lost result))
+  goes_on depot old new counts texts lost result ran going turn =
       let request = turn.request in
       let left : reverse old.left.items ≡ request ∷ reverse new.left.items = ap reverse turn.left ∙ reverse-append new.left.items (request ∷ []) in
       let asked : AreRequests may_give party 1 script.session.caller script.session.commands (going.answered ++ request ∷ reverse new.left.items) =
       subst (λ (behind : List Request). AreRequests may_give party 1 script.session.caller script.session.commands (going.answered ++ behind)) left going.asked in
       let here = at_place may_give party 1 script.session.caller script.session.commands going.answered request (reverse new.left.items) asked
       (recursion_from_All IsAskedWell script.session.commands going.formed) in
-      let many = as_many disk_says since start places 0 going.first old.replica going.answered texts lost going.are in
+      let many = as_many disk_says since start places 0 going.first old.replica counts going.answered texts lost going.are in
       let number : request.number ≡ length texts + 1 = let is = here.0 in omega (arith, is, many) in
       let Ran : SerialDepot D → Type 0 = λ other. HasRun disk_says other since start places in
       let one : IsAnswered Ran disk_says old.replica new.replica request (reply_text result request.number) (is_lost result) =
@@ -187,18 +183,18 @@ module _ {D : Type 0} (disk_says : DiskSays D) (since : ℕ) (start : List Deed)
         first = going.first;
         is_new = going.is_new;
         are =
-            one_more disk_says since start places 0 going.first old.replica new.replica going.answered texts lost request (reply_text result (length texts + 1)) (is_lost result) (omega arith) going.are
+            one_more disk_says since start places 0 going.first old.replica new.replica counts going.answered texts lost request (reply_text result (length texts + 1)) (is_lost result) (omega arith) going.are
             (subst (λ (n : ℕ). IsAnswered Ran disk_says old.replica new.replica request (reply_text result n) (is_lost result)) number one);
       }
 
   -- it has answered so over more places too
-  pub going_longer : (more : List Placed) (p : ReplicaParty) (texts : List (List ℕ)) (lost : Bool) → IsGoing disk_says since start places may_give party script p texts lost
-      → IsGoing disk_says since start (places ++ more) may_give party script p texts lost
-  going_longer more p texts lost going = record {
+  pub going_longer : (more : List Placed) (p : ReplicaParty) (counts : List ℕ) (texts : List (List ℕ)) (lost : ℕ) → IsGoing disk_says since start places may_give party script p counts texts lost
+      → IsGoing disk_says since start (places ++ more) may_give party script p counts texts lost
+  going_longer more p counts texts lost going = record {
     formed = going.formed;
     answered = going.answered;
     asked = going.asked;
     first = going.first;
     is_new = going.is_new;
-    are = answers_longer disk_says since start places more 0 going.first p.replica going.answered texts lost going.are;
+    are = answers_longer disk_says since start places more 0 going.first p.replica counts going.answered texts lost going.are;
   }

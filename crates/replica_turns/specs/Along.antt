@@ -1,5 +1,5 @@
 -- What a replica's replies are by the depot that it follows (Server Administrator Guide, on filtered replicas, which answer from their own rows).
-use Rattle.std.specs.Prelude.{◌≡◌, ◌≤◌, ◌<◌, ◌⊎◌, ◌++◌, ◌^◌, ℕ, Bool, true, false, IsTrue, List, [], ◌∷◌, length, reverse, take, Option}
+use Rattle.std.specs.Prelude.{◌≡◌, ◌≤◌, ◌<◌, ◌⊎◌, ◌++◌, ◌^◌, ℕ, Bool, true, false, IsTrue, List, [], ◌∷◌, length, reverse, take, Option, IfSome}
 use Rattle.depot_rows.specs.depot_model.Cut.{cut}
 use Rattle.depot_rows.specs.depot_model.Deeds.{Deed}
 use Rattle.depot_rows.specs.depot_model.Places.{Placed}
@@ -56,18 +56,18 @@ IsToldAs past start places rules old new request text false = (new ≡ old) × I
 
 -- ---- replies one after another
 
--- To commands of a replica, one after another, each when so many of the places were taken, no fewer than at the command before. Each reply other than to `pull`
--- is for the number of changes that the last `pull` told.
-abbrev pub AreTold : Past → List Deed → List Placed → List FilterRule → ℕ → Replica → List Request → List (List ℕ) → Replica → Type 0
-AreTold past start places rules before old [] [] new = new ≡ old
-AreTold past start places rules before old (request ∷ requests) (text ∷ texts) new =
-    (count : ℕ) × (next : Replica) × (before ≤ count) × (count ≤ length places) × IsToldAs past start (take count places) rules old next request text (pulls request.command)
-    × AreTold past start places rules count next requests texts new
-AreTold past start places rules before old _ _ new = ⊥
+-- To commands of a replica, one after another, each when so many of the places were taken as its count says, which is no less than that of the command before.
+-- Each reply other than to `pull` is for the number of changes that the last `pull` told.
+abbrev pub AreTold : Past → List Deed → List Placed → List FilterRule → ℕ → Replica → List ℕ → List Request → List (List ℕ) → Replica → Type 0
+AreTold past start places rules before old [] [] [] new = new ≡ old
+AreTold past start places rules before old (count ∷ counts) (request ∷ requests) (text ∷ texts) new =
+    (next : Replica) × (before ≤ count) × (count ≤ length places) × IsToldAs past start (take count places) rules old next request text (pulls request.command)
+    × AreTold past start places rules count next counts requests texts new
+AreTold past start places rules before old _ _ _ new = ⊥
 
--- The party has answered the first commands of its script, as many as there are texts, with these replies, from a new replica on. It has pulled of journals that
--- grew to the one with these groups.
-pub record IsAlong (past : Past) (start : List Deed) (places : List Placed) (may_give : ℕ → Type 0) (party : ℕ) (script : ReplicaScript) (p : ReplicaParty) (c : Chronicle) (texts : List (List ℕ)) : Type 0 where
+-- The party has answered the first commands of its script, as many as there are texts, with these replies, from a new replica on, when as many places were taken
+-- as these counts say. It has pulled of journals that grew to the one with these groups.
+pub record IsAlong (past : Past) (start : List Deed) (places : List Placed) (may_give : ℕ → Type 0) (party : ℕ) (script : ReplicaScript) (p : ReplicaParty) (c : Chronicle) (counts : List ℕ) (texts : List (List ℕ)) : Type 0 where
   pub formed : AreWellFormed script.session.commands
   pub answered : List Request
   pub asked : AreRequests may_give party 1 script.session.caller script.session.commands (answered ++ reverse p.left.items)
@@ -75,13 +75,15 @@ pub record IsAlong (past : Past) (start : List Deed) (places : List Placed) (may
   pub followed : HasFollowed script.filter (texts_in c) p.replica moments
   pub first : Replica
   pub is_new : IsNew script.filter first
-  pub told : AreTold past start places script.filter 0 first answered texts p.replica
+  pub told : AreTold past start places script.filter 0 first counts answered texts p.replica
 
--- A replica's first commands were answered so, as many, and its sink got the replies.
-pub record IsToldOutput (past : Past) (start : List Deed) (places : List Placed) (may_give : ℕ → Type 0) (party : ℕ) (script : ReplicaScript) (commands : ℕ) (failed : Bool) (before now : Option (List ℕ)) : Type 0 where
+-- A replica's first commands were answered so, as many, when as many places were taken as these counts say, where they are told; and its sink got the replies.
+pub record IsToldOutput (past : Past) (start : List Deed) (places : List Placed) (may_give : ℕ → Type 0) (party : ℕ) (script : ReplicaScript) (at_turns : Option (List ℕ)) (commands : ℕ) (failed : Bool) (before now : Option (List ℕ)) : Type 0 where
   pub replica : ReplicaParty
   pub journal : Chronicle
   pub texts : List (List ℕ)
   pub count : length texts ≡ commands
-  pub along : IsAlong past start places may_give party script replica journal texts
+  pub counts : List ℕ
+  pub counted : IfSome at_turns (λ told. counts ≡ told)
+  pub along : IsAlong past start places may_give party script replica journal counts texts
   pub got : HasGotTexts failed texts before now

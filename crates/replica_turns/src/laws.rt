@@ -56,16 +56,16 @@ pub fn depots_leave_what_was_written<D: Disk>()
 {}
 
 /// A replica that follows it goes on telling what it told: each reply other than to `pull` is that of a replica of the depot after the first n changes, cut to
-/// its filter, where n is what its last `pull` told, and 0 before one. Its commands are answered after numbers of places that don't fall, and each `pull` that
-/// tells a position took of the journal as it is after so many.
+/// its filter, where n is what its last `pull` told, and 0 before one. Its commands are answered after numbers of places that don't fall, the last of them after
+/// all places, and each `pull` that tells a position took of the journal as it is after so many.
 pub fn replicas_reply_for_their_last_pull<D: Disk, C: Clock>(clock: &C)
     ensures first { (past : Past) (start : List Deed) (places : List Placed) (party : ℕ) (script : ReplicaScript) (p : ReplicaParty) (c : Chronicle) →
-        IsFresh (C.says.may_give clock.now) party script p → AreWellFormed script.session.commands → IsAlong past start places (C.says.may_give clock.now) party script p c [] }
-    ensures grown { (past : Past) (start : List Deed) (places more : List Placed) (party : ℕ) (script : ReplicaScript) (p : ReplicaParty) (c now : Chronicle) (texts : List (List ℕ)) →
-        HasGrownTo c now → IsAlong past start places (C.says.may_give clock.now) party script p c texts → IsAlong past start (places ++ more) (C.says.may_give clock.now) party script p now texts }
-    ensures turned { (past : Past) (start : List Deed) (places : List Placed) (depot : AnyDepot D) (bytes : List ℕ) (party : ℕ) (script : ReplicaScript) (old new : ReplicaParty) (c : Chronicle) (texts : List (List ℕ)) (result : Result Answered (Unit {0})) →
-        IsMaster D.says past start places depot c → IsTold D.says depot.archive bytes → IsAlong past start places (C.says.may_give clock.now) party script old c texts →
-        IsTurned D.says depot old new result → IsAlong past start places (C.says.may_give clock.now) party script new c (texts ++ reply_text result (length texts + 1) ∷ []) }
+        IsFresh (C.says.may_give clock.now) party script p → AreWellFormed script.session.commands → IsAlong past start places (C.says.may_give clock.now) party script p c [] [] }
+    ensures grown { (past : Past) (start : List Deed) (places more : List Placed) (party : ℕ) (script : ReplicaScript) (p : ReplicaParty) (c now : Chronicle) (counts : List ℕ) (texts : List (List ℕ)) →
+        HasGrownTo c now → IsAlong past start places (C.says.may_give clock.now) party script p c counts texts → IsAlong past start (places ++ more) (C.says.may_give clock.now) party script p now counts texts }
+    ensures turned { (past : Past) (start : List Deed) (places : List Placed) (depot : AnyDepot D) (bytes : List ℕ) (party : ℕ) (script : ReplicaScript) (old new : ReplicaParty) (c : Chronicle) (counts : List ℕ) (texts : List (List ℕ)) (result : Result Answered (Unit {0})) →
+        IsMaster D.says past start places depot c → IsTold D.says depot.archive bytes → IsAlong past start places (C.says.may_give clock.now) party script old c counts texts →
+        IsTurned D.says depot old new result → IsAlong past start places (C.says.may_give clock.now) party script new c (counts ++ length places ∷ []) (texts ++ reply_text result (length texts + 1) ∷ []) }
 {
     let _clock = clock;
 }

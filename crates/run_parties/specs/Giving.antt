@@ -26,9 +26,9 @@ Got true text before now = GotFront before now text
 
 -- ---- a replica
 
--- The sink has the replies of a replica to the commands that its run tells of. Whether one of them tells that a disk failed.
-pub record HasGiven {D : Type 0} (disk_says : DiskSays D) (since : ℕ) (start : List Deed) (places : List Placed) (may_give : ℕ → Type 0) (party : ℕ) (script : ReplicaScript) (p : ReplicaParty) (run : SessionRun) (lost : Bool) (before now : Option (List ℕ)) : Type 0 where
+-- The sink has the replies of a replica to the commands that its run tells of, each over as many places as its count. So many of them tell that a disk failed.
+pub record HasGiven {D : Type 0} (disk_says : DiskSays D) (since : ℕ) (start : List Deed) (places : List Placed) (may_give : ℕ → Type 0) (party : ℕ) (script : ReplicaScript) (p : ReplicaParty) (run : SessionRun) (counts : List ℕ) (lost : ℕ) (before now : Option (List ℕ)) : Type 0 where
   pub texts : List (List ℕ)
   pub count : length texts ≡ run.commands
-  pub going : IsGoing disk_says since start places may_give party script p texts lost
+  pub going : IsGoing disk_says since start places may_give party script p counts texts lost
   pub got : HasGotTexts run.failed texts before now

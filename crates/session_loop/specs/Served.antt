@@ -20,10 +20,15 @@ use Rattle.session_loop.specs.Taking.{placed_by}
 abbrev pub fault_count : List Place → ℕ
 fault_count order = count_by (λ place. place.fault) order
 
+-- The two counts of faults rose together by at least so many. One that stands at its last value counts as risen by any number.
+abbrev pub HaveRisenBy : ℕ → ℕ → ℕ → ℕ → ℕ → Type 0
+HaveRisenBy failures before now contents_before contents_now =
+    (n : ℕ) × (m : ℕ) × (failures ≡ n + m) × (counted n before ≤ now) × (counted m contents_before ≤ contents_now)
+
 -- the fault places that came are at most as many as the two counts rose together
 abbrev pub AreCaused : ℕ → ℕ → ℕ → ℕ → List Place → List Place → Type 0
 AreCaused before now contents_before contents_now old_order new_order =
-    (n : ℕ) × (m : ℕ) × (fault_count new_order ≡ fault_count old_order + (n + m)) × (counted n before ≤ now) × (counted m contents_before ≤ contents_now)
+    (k : ℕ) × (fault_count new_order ≡ fault_count old_order + k) × HaveRisenBy k before now contents_before contents_now
 
 -- where no fault place came the two counts stand
 abbrev pub StandWithoutFaults : ℕ → ℕ → ℕ → ℕ → List Place → List Place → Type 0

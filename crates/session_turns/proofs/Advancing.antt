@@ -1,10 +1,11 @@
 -- One more turn of one of the parties, which is a session's or a replica's.
-use Rattle.std.proofs.Common.{◌≡◌, ℕ, zero, suc, ◌+◌, ◌<◌, Bool, true, false, cond, List, [], ◌∷◌, ◌++◌, drop, get_or, length, map, Option, Some, None, refl, sym, ap, subst, ◌∙◌, arith, inl, inr, Vec, Global}
+use Rattle.std.proofs.Common.{◌≡◌, ℕ, zero, suc, ◌+◌, ◌<◌, Bool, true, false, cond, List, [], ◌∷◌, ◌++◌, drop, get_or, length, map, set, Option, Some, None, refl, sym, ap, subst, ◌∙◌, arith, inl, inr, Vec, Global}
 use Rattle.std.specs.Prelude.{slice_get, option_map}
+use Rattle.std.specs.List.{sum}
 use Rattle.std.specs.Option.{IsSomeAnd}
-use Rattle.std.proofs.lemmas.Bool.{lt-ltb, ltb-true}
-use Rattle.std.proofs.lemmas.Option.{get_or_from_slice_get, slice_get-map, slice_get_cases}
-use Rattle.std.proofs.lemmas.List.{get_or_past, map-append}
+use Rattle.std.proofs.lemmas.Bool.{eq-eqb, lt-ltb, ltb-true, ne_eqb}
+use Rattle.std.proofs.lemmas.Option.{get_or_from_slice_get, slice_get-map, slice_get_cases, slice_get_within}
+use Rattle.std.proofs.lemmas.List.{get_or_past, length-map, map-append}
 use Rattle.outside_api.specs.Disk.{Files}
 use Rattle.outside_api.specs.Says.{DiskSays, SinkSays}
 use Rattle.depot_rows.specs.depot_model.Places.{Placed}
@@ -14,24 +15,28 @@ use Rattle.depot_rows.specs.depot_model.declared.request.Session.{Session}
 use Rattle.depot_runs.specs.Run.{placed}
 use Rattle.lock_core.specs.Drawing.{has_other}
 use Rattle.lock_core.specs.declared.machine.LockCore.{LockCore}
-use Rattle.lock_machine.specs.Machine.{Fault}
+use Rattle.lock_machine.specs.Machine.{Commit, Fault}
 use Rattle.lock_machine.proofs.Places.{set_here, some_is}
 use Rattle.run_parties.proofs.Slots.{also_at, at_set}
 use Rattle.run_parties.specs.depot_commit.Growing.{Chronicle, HasGroups, KeepsStored}
+use Rattle.run_parties.specs.replica_turns.Going.{is_lost, one_if}
 use Rattle.run_parties.proofs.replica_turns.Along.{told_of}
 use Rattle.run_parties.specs.serial_depot.Running.{CanTake, HasRun}
+use Rattle.session_loop.proofs.Faults.{risen_by_more}
 use Rattle.session_loop.specs.Asking.{replica_commands}
 use Rattle.session_loop.specs.Requests.{AreRequestsOfAll}
+use Rattle.session_loop.specs.Served.{fault_count}
 use Rattle.session_loop.specs.declared.reading.ReplicaScript.{ReplicaScript}
 use Rattle.session_loop.specs.declared.session.SessionRun.{SessionRun}
-use Rattle.session_turns.proofs.Following.{IsReplicaTurn, following_longer, following_stays, following_turned}
+use Rattle.session_turns.proofs.Following.{IsReplicaTurn, all_lost, following_longer, following_stays, following_turned, loss_after}
 use Rattle.session_turns.proofs.Telling.{along_replica, along_session}
 use Rattle.session_turns.proofs.Within.{served_other, stay_more}
+use Rattle.session_turns.specs.Along.{AreAlong}
 use Rattle.session_turns.specs.Answering.{has_more_at}
-use Rattle.session_turns.specs.Drawn.{Progress, Turn, advanced, others_turned, turned}
+use Rattle.session_turns.specs.Drawn.{Progress, Turn, advanced, counted, others_turned, turned}
 use Rattle.session_turns.specs.Going.{Advances, AreFollowing, AreGoing, IsLeft}
 use Rattle.session_turns.specs.Running.{Scene, left_after}
-use Rattle.session_turns.specs.Taking.{IsRunning, TakesTurn}
+use Rattle.session_turns.specs.Taking.{HaveCauses, IsRunning, TakesTurn}
 use Rattle.session_turns.specs.declared.replicas.Replicas.{Replicas}
 use Rattle.session_turns.specs.declared.turns.Turns.{Turns}
 use Rattle.depot_rows.specs.table_changes.Changed.{rows_of}
@@ -122,32 +127,38 @@ module _ {D K : Type 0} (disk_says : DiskSays D) (sink_says : SinkSays K) (may_g
 
   -- ---- a session
 
-  pub session_advances : has_other p.others i ≡ false → new.replicas ≡ old.replicas → TakesTurn disk_says sink_says may_give scene p.machine i old new → Advances disk_says sink_says may_give scene p i old new
-  session_advances none same t =
+  pub session_advances : has_other p.others i ≡ false → new.replicas ≡ old.replicas → HaveCauses disk_says old new → TakesTurn disk_says sink_says may_give scene p.machine i old new → Advances disk_says sink_says may_give scene p i old new
+  session_advances none same (k, came, causes) t =
       let turn : Turn = record { party = i; how = t.how; stops = t.stops } in
       let is : advanced p turn ≡ record p { machine = turned p.machine turn } =
-      ap (λ (b : Bool). cond b (record p { others = others_turned p.others turn }) (record p { machine = turned p.machine turn })) none in
+      ap (λ (b : Bool). cond b (record p { others = others_turned p.others turn; turn_counts = counted p i }) (record p { machine = turned p.machine turn })) none in
       let now = map sink_says.given old.sinks.items in
       let now' = map sink_says.given new.sinks.items in
-      let F : List Placed → Replicas → Type 0 = λ places rs. AreFollowing disk_says scene.since scene.start places may_give scene.scripts rs new.runs.items scene.before now' in
-      let stays = following_stays disk_says scene.since scene.start (placed_all old.order.items) may_give scene.scripts old.replicas old.runs.items new.runs.items scene.before now now'
+      let F : List Placed → Replicas → Type 0 = λ places rs. AreFollowing disk_says scene.since scene.start places may_give scene.scripts rs r.losses p.turn_counts new.runs.items scene.before now' in
+      let stays = following_stays disk_says scene.since scene.start (placed_all old.order.items) may_give scene.scripts old.replicas r.losses p.turn_counts old.runs.items new.runs.items scene.before now now'
       (λ j script at_script.
       let one = t.others j script at_script in
       (one.0, slice_get-map sink_says.given new.sinks.items j ∙ (ap (option_map sink_says.given) one.1 ∙ sym (slice_get-map sink_says.given old.sinks.items j)))) r.following in
       let all : placed_all old.order.items ++ placed_all t.grown.0 ≡ placed_all new.order.items =
       sym (map-append (placed scene.sessions) old.order.items t.grown.0) ∙ ap (map (placed scene.sessions)) (sym t.grown.1) in
-      let longer = following_longer disk_says scene.since scene.start (placed_all old.order.items) may_give scene.scripts (placed_all t.grown.0) old.replicas new.runs.items scene.before now' stays in
+      let longer = following_longer disk_says scene.since scene.start (placed_all old.order.items) may_give scene.scripts (placed_all t.grown.0) old.replicas r.losses p.turn_counts new.runs.items scene.before now' stays in
       record {
         how = t.how;
         stops = t.stops;
         going = subst Going (sym is) (record {
           running = t.running;
           others = r.others ∙ ap (λ (rs : Replicas). rs.others.items) (sym same);
+          losses = r.losses;
           following = subst (F (placed_all new.order.items)) (sym same) (subst (λ (places : List Placed). F places old.replicas) all longer);
+          failures =
+              let all_told : fault_count new.order.items + sum r.losses ≡ (fault_count old.order.items + sum r.losses) + k = omega (arith, came) in
+              risen_by_more (fault_count old.order.items + sum r.losses) k (fault_count new.order.items + sum r.losses) _ _ _ _ _ _ all_told r.failures causes;
         });
         failed = t.failed;
         stay = t.stay;
-        along = λ past h. along_session disk_says sink_says may_give past scene old new h same t.others t.grown.0 t.grown.1 (t.grows past h.all h.master);
+        along = λ past h.
+            let Along : Progress → Type 0 = λ q. AreAlong disk_says sink_says may_give past scene q.turn_counts new in
+            subst Along (sym is) (along_session disk_says sink_says may_give past scene p.turn_counts old new h same t.others t.grown.0 t.grown.1 (t.grows past h.all h.master));
       }
 
   -- ---- a replica
@@ -158,31 +169,55 @@ module _ {D K : Type 0} (disk_says : DiskSays D) (sink_says : SinkSays K) (may_g
       → CanTake disk_says old.depot → Advances disk_says sink_says may_give scene p i old new
   replica_advances here has t ran reads groups stored can =
       let turn : Turn = record { party = i; how = Fault; stops = t.failed } in
-      let is : advanced p turn ≡ record p { others = others_turned p.others turn } =
-      ap (λ (b : Bool). cond b (record p { others = others_turned p.others turn }) (record p { machine = turned p.machine turn })) has in
+      let is : advanced p turn ≡ record p { others = others_turned p.others turn; turn_counts = counted p i } =
+      ap (λ (b : Bool). cond b (record p { others = others_turned p.others turn; turn_counts = counted p i }) (record p { machine = turned p.machine turn })) has in
       let run_is : here.run ≡ t.answered.run = some_is (sym here.at_run ∙ t.answered.at_run) in
       let whole : t.answered.run.failed ≡ false = ap (λ (x : SessionRun). x.failed) (sym run_is) ∙ here.whole in
       let here_is = r.following.left i here.script t.answered.run here.at_script t.answered.at_run in
       let same_other : here_is.other ≡ here.left.other = some_is (sym here_is.at_other ∙ here.left.at_other) in
       let some = here.some in
-      let F : List Place → Type 0 = λ o. AreFollowing disk_says scene.since scene.start (placed_all o) may_give scene.scripts new.replicas new.runs.items scene.before (map sink_says.given new.sinks.items) in
+      let lost = is_lost t.stepped.result in
+      let losses' : List ℕ = set r.losses i (loss_after r.losses i lost) in
+      let F : List Place → Type 0 = λ o. AreFollowing disk_says scene.since scene.start (placed_all o) may_give scene.scripts new.replicas losses' (counted p i) new.runs.items scene.before (map sink_says.given new.sinks.items) in
       record {
         how = Fault;
         stops = t.failed;
         going = subst Going (sym is) (record {
           running = running t here.at_script;
           others = ap (λ (os : List ℕ). others_turned os turn) r.others ∙ sym t.others;
+          losses = losses';
           following = subst F (ap (λ (o : Vec Place Global). o.items) (sym t.order)) (following_turned disk_says scene.since scene.start (placed_all old.order.items) may_give scene.scripts sink_says old new
-              r.running.ran i here.script here.at_script here.left.p here.left.at_party scene.before t whole r.following (omega (arith, some, same_other)));
+              r.running.ran i here.script here.at_script here.left.p here.left.at_party scene.before t whole r.losses p.turn_counts (counted p i) count_here count_there r.following (omega (arith, some, same_other)));
+          failures =
+              let same_order : fault_count new.order.items ≡ fault_count old.order.items = ap (λ (o : Vec Place Global). fault_count o.items) t.order in
+              let within = slice_get_within scene.scripts i (Some here.script) here.at_script in
+              let count = r.following.told.count in
+              let one_more = all_lost r.losses i lost (omega (arith, within, count)) in
+              let all_told : fault_count new.order.items + sum losses' ≡ (fault_count old.order.items + sum r.losses) + one_if lost = omega (arith, same_order, one_more) in
+              risen_by_more (fault_count old.order.items + sum r.losses) (one_if lost) (fault_count new.order.items + sum losses') _ _ _ _ _ _ all_told r.failures t.stepped.risen;
         });
         failed = λ bad.
             let run' : SessionRun = record { commands = t.answered.run.commands + 1; failed = t.failed } in
             let P : Option SessionRun → Type 0 = λ found. IsSomeAnd found (λ (x : SessionRun). x.failed ≡ true) in
             subst P (sym (ap (λ (rs : List SessionRun). slice_get rs i) t.answered.runs ∙ set_here old.runs.items i t.answered.run run' t.answered.at_run)) bad;
         stay = stay_more sink_says [] old.runs.items new.runs.items old.sinks.items new.sinks.items i t.text t.failed t.answered whole;
-        along = λ past h. along_replica disk_says sink_says may_give past scene old new h reads (told_of disk_says reads old.depot.archive r.running.ran.tells can.room) i here.script here.at_script here.left.p here.left.at_party t whole (groups h.all h.master.groups) stored;
+        along = λ past h.
+            let Along : Progress → Type 0 = λ q. AreAlong disk_says sink_says may_give past scene q.turn_counts new in
+            subst Along (sym is) (along_replica disk_says sink_says may_give past scene p.turn_counts old new h reads (told_of disk_says reads old.depot.archive r.running.ran.tells can.room) i here.script here.at_script here.left.p here.left.at_party t whole
+            (counted p i) count_here count_there (groups h.all h.master.groups) stored);
       }
     where
+      -- its turn is counted, over all places
+      many : length p.machine.order ≡ length (placed_all old.order.items)
+      many = sym (length-map p.machine.order (λ (c : Commit). c.place)) ∙ ap (length {A = Placed}) (sym r.running.under_way.order_is)
+
+      count_here : counted p i i ≡ p.turn_counts i ++ length (placed_all old.order.items) ∷ []
+      count_here =
+          ap (λ (b : Bool). cond b (p.turn_counts i ++ length p.machine.order ∷ []) (p.turn_counts i)) (eq-eqb i i refl) ∙ ap (λ (n : ℕ). p.turn_counts i ++ n ∷ []) many
+
+      count_there : (j : ℕ) → (i ≡ j → ⊥) → counted p i j ≡ p.turn_counts j
+      count_there j apart = ap (λ (b : Bool). cond b (p.turn_counts j ++ length p.machine.order ∷ []) (p.turn_counts j)) (ne_eqb j i (λ e. apart (sym e)))
+
       running : IsReplicaTurn disk_says sink_says i here.left.p old new → slice_get scene.scripts i ≡ Some (Some here.script) → IsRunning disk_says sink_says may_give scene p.machine new
       running t at_script =
           let u = r.running.under_way in

@@ -7,6 +7,8 @@ use Rattle.std.proofs.lemmas.List.Elements.{recursion_from_All}
 use Rattle.std.proofs.lemmas.List.FromFn.{get_or-range_with_len, length-range_with_len}
 use Rattle.std.proofs.lemmas.Option.{get_or_from_slice_get, slice_get-get_or, slice_get-map, slice_get_within}
 use Rattle.outside_api.specs.Says.{DiskSays, SinkSays}
+use Rattle.archive_file.specs.Archive.{disk_of as archive_disk_of}
+use Rattle.disk_journal.specs.Stands.{disk_of}
 use Rattle.lock_core.specs.Drawing.{has_other, may_go_on}
 use Rattle.lock_machine.specs.Machine.{is_enabled}
 use Rattle.lock_machine.proofs.Places.{neither, some_is}
@@ -14,6 +16,7 @@ use Rattle.run_parties.proofs.Slots.{all_at}
 use Rattle.run_parties.specs.Replicas.{AreReplicasServed, AreReplicasTold}
 use Rattle.run_parties.specs.replica_turns.Master.{Past}
 use Rattle.session_loop.specs.Asking.{AreWellFormed, replica_commands}
+use Rattle.session_loop.specs.Served.{HaveRisenBy}
 use Rattle.session_loop.specs.declared.reading.ReplicaScript.{ReplicaScript}
 use Rattle.session_loop.specs.declared.session.SessionRun.{SessionRun}
 use Rattle.session_turns.specs.Along.{AreAlong}
@@ -80,19 +83,22 @@ module _ {D K : Type 0} (disk_says : DiskSays D) (sink_says : SinkSays K) (may_g
       }
 
   -- they got what replicas answer, also where what is left is answered then
-  pub replicas_served : AreReplicasServed disk_says may_give scene.sessions scene.scripts scene.since scene.start turns.order.items runs turns.replicas.lost scene.before (map sink_says.given sinks)
+  pub replicas_served : AreReplicasServed disk_says may_give scene.sessions scene.scripts scene.since scene.start turns.order.items (λ i. Some (p.turn_counts i)) runs turns.replicas.lost
+      (λ failures. HaveRisenBy failures scene.faults (disk_says.faults (disk_of turns.depot.journal)) scene.content_faults (disk_says.faults (archive_disk_of turns.depot.archive))) scene.before (map sink_says.given sinks)
   replicas_served = record {
-    flags = r.following.flags;
+    losses = r.losses;
     told = r.following.told;
+    failures = r.failures;
     each = λ i script run had got at_script at_run at_had at_got.
         let is = settled i script run got at_script at_run at_got in
         let g = r.following.gave i script run is.left.p had got at_script is.at_run is.left.at_party at_had is.at_got is.well in
-        record { replica = is.left.p; texts = g.texts; count = g.count; going = g.going; got = g.got };
+        record { replica = is.left.p; texts = g.texts; count = g.count; counts = p.turn_counts i; counted = refl; going = g.going; got = g.got };
   }
 
   -- and they told it along the depot that they followed
-  pub replicas_told : (past : Past) → AreAlong disk_says sink_says may_give past scene turns → AreReplicasTold past scene.start scene.sessions scene.scripts may_give turns.order.items runs scene.before (map sink_says.given sinks)
+  pub replicas_told : (past : Past) → AreAlong disk_says sink_says may_give past scene p.turn_counts turns
+      → AreReplicasTold past scene.start scene.sessions scene.scripts may_give turns.order.items (λ i. Some (p.turn_counts i)) runs scene.before (map sink_says.given sinks)
   replicas_told past along = λ i script run had got at_script at_run at_had at_got.
       let is = settled i script run got at_script at_run at_got in
       let t = along.told i script run is.left.p had got at_script is.at_run is.left.at_party at_had is.at_got is.well in
-      record { replica = is.left.p; journal = along.all; texts = t.texts; count = t.count; along = t.along; got = t.got }
+      record { replica = is.left.p; journal = along.all; texts = t.texts; count = t.count; counts = p.turn_counts i; counted = refl; along = t.along; got = t.got }

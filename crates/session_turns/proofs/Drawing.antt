@@ -23,7 +23,7 @@ use Rattle.seeded_numbers.specs.Numbers.{next_number, value_of}
 use Rattle.session_loop.specs.Asking.{replica_commands}
 use Rattle.session_loop.specs.declared.reading.ReplicaScript.{ReplicaScript}
 use Rattle.session_turns.proofs.Events.{acted_is}
-use Rattle.session_turns.specs.Drawn.{AreDrawn, Progress, Turn, advanced, ended, going, left_after_turn, others_turned, replica_totals, turned}
+use Rattle.session_turns.specs.Drawn.{AreDrawn, Progress, Turn, advanced, counted, ended, going, left_after_turn, others_turned, replica_totals, turned}
 use Rattle.session_turns.specs.Going.{all_left}
 
 -- ---- one more turn
@@ -140,7 +140,7 @@ either_first false b e none = absurd (let both : true ≡ false = sym e ∙ none
 pub advanced_less : (p : Progress) (turn : Turn) → may_go_on p.machine p.others turn.party ≡ true → all_left (advanced p turn) < all_left p
 advanced_less p turn may = go (has_other p.others turn.party) refl
   where
-    go : (b : Bool) → has_other p.others turn.party ≡ b → all_left (cond b (record p { others = others_turned p.others turn }) (record p { machine = turned p.machine turn })) < all_left p
+    go : (b : Bool) → has_other p.others turn.party ≡ b → all_left (cond b (record p { others = others_turned p.others turn; turn_counts = counted p turn.party }) (record p { machine = turned p.machine turn })) < all_left p
     go true has = let less = other_less p.others turn has in omega (arith, less)
     go false none = let less = turned_less p.machine turn (either_first (is_enabled p.machine turn.party) (has_other p.others turn.party) may none) in omega (arith, less)
 

@@ -1,8 +1,11 @@
 -- The replicas of a run from turn to turn.
-use Rattle.std.proofs.Common.{◌≡◌, ℕ, zero, suc, ◌+◌, ◌-◌, ◌<◌, Bool, true, false, List, [], ◌∷◌, ◌++◌, get_or, length, map, set, Option, Some, refl, sym, ap, subst, ◌∙◌, arith, inl, inr}
-use Rattle.std.specs.Prelude.{◌||◌, slice_get, option_map}
-use Rattle.std.specs.List.{list_any}
+use Rattle.std.proofs.Common.{◌≡◌, ℕ, ◌+◌, ◌-◌, ◌<◌, Bool, true, false, List, [], ◌∷◌, ◌++◌, get_or, length, map, set, Option, Some, add-zero, sym, ap, subst, ◌∙◌, arith, inl, inr}
+use Rattle.std.specs.Prelude.{◌||◌, nat_lt, slice_get, option_map}
+use Rattle.std.specs.List.{sum}
+use Rattle.std.proofs.Math.Bool.{or-false, or-true}
+use Rattle.std.proofs.lemmas.Bool.{lt-ltb}
 use Rattle.std.proofs.lemmas.List.{get_or-set_other, get_or-set_same, length-append, length-set, map-set}
+use Rattle.std.proofs.lemmas.List.Sums.{sum_by-set}
 use Rattle.std.proofs.lemmas.Option.{get_or_from_slice_get, slice_get-map, slice_get_within}
 use Rattle.outside_api.specs.Says.{DiskSays, SinkSays}
 use Rattle.depot_rows.specs.depot_model.Deeds.{Deed}
@@ -13,7 +16,7 @@ use Rattle.run_parties.proofs.Slots.{at_set}
 use Rattle.run_parties.proofs.replica_turns.Turns.{goes_on, going_longer}
 use Rattle.run_parties.specs.Giving.{Got, HasGiven}
 use Rattle.run_parties.specs.Replicas.{AreLost}
-use Rattle.run_parties.specs.replica_turns.Going.{HasGotTexts, IsGoing, is_lost, reply_text}
+use Rattle.run_parties.specs.replica_turns.Going.{HasGotTexts, IsGoing, is_lost, one_if, reply_text}
 use Rattle.run_parties.specs.replica_turns.declared.party.ReplicaParty.{ReplicaParty}
 use Rattle.run_parties.specs.serial_depot.Running.{HasRun}
 use Rattle.session_loop.specs.Asking.{AreWellFormed}
@@ -25,31 +28,27 @@ use Rattle.session_turns.specs.Going.{AreFollowing, IsLeft, IsStepped}
 use Rattle.session_turns.specs.declared.replicas.Replicas.{Replicas}
 use Rattle.session_turns.specs.declared.turns.Turns.{Turns}
 
--- ---- the flags
+-- ---- how many replies tell that a disk failed
 
-one_or : (f x rest : Bool) → ((f || x) || rest) ≡ ((f || rest) || x)
-one_or true x rest = refl
-one_or false true true = refl
-one_or false true false = refl
-one_or false false true = refl
-one_or false false false = refl
+-- the number of a party's, after one more reply
+abbrev pub loss_after : List ℕ → ℕ → Bool → ℕ
+loss_after losses i lost = get_or losses i 0 + one_if lost
 
-or_more : (f rest x : Bool) → (f || (rest || x)) ≡ ((f || rest) || x)
-or_more true rest x = refl
-or_more false rest x = refl
+-- and so of all
+pub all_lost : (losses : List ℕ) (i : ℕ) (lost : Bool) → i < length losses → sum (set losses i (loss_after losses i lost)) ≡ sum losses + one_if lost
+all_lost losses i lost low = let same = sum_by-set (λ (n : ℕ). n) losses i (loss_after losses i lost) 0 low in omega (arith, same)
 
--- one of them is raised, or not
-any_set : (flags : List Bool) (i : ℕ) (x : Bool) → i < length flags → list_any (λ (flag : Bool). flag) (set flags i (get_or flags i false || x)) ≡ (list_any (λ (flag : Bool). flag) flags || x)
-any_set [] i x low = absurd (omega arith)
-any_set (f ∷ flags) zero x low = one_or f x (list_any (λ (flag : Bool). flag) flags)
-any_set (f ∷ flags) (suc i) x low = ap (λ (b : Bool). f || b) (any_set flags i x (omega arith)) ∙ or_more f (list_any (λ (flag : Bool). flag) flags) x
+-- there is one, or not
+some_lost : (n : ℕ) (lost : Bool) → nat_lt 0 (n + one_if lost) ≡ (nat_lt 0 n || lost)
+some_lost n true = lt-ltb 0 (n + 1) (omega arith) ∙ sym (or-true (nat_lt 0 n))
+some_lost n false = ap (nat_lt 0) (add-zero n) ∙ sym (or-false (nat_lt 0 n))
 
 -- A replica took its turn: its sink got the text, and one command fewer is left to it, or none where the sink failed.
 pub record IsReplicaTurn {D K : Type 0} (disk_says : DiskSays D) (sink_says : SinkSays K) (at : ℕ) (p : ReplicaParty) (old new : Turns D K) : Type 0 where
   pub mid : Replicas
   pub text : ℕ → List ℕ
   pub failed : Bool
-  pub stepped : IsStepped disk_says old.depot at p old.replicas mid text
+  pub stepped : IsStepped disk_says old.depot new.depot at p old.replicas mid text
   pub parties : new.replicas.parties.items ≡ mid.parties.items
   pub lost : new.replicas.lost ≡ mid.lost
   pub others : new.replicas.others.items ≡ set old.replicas.others.items at (left_after_turn (get_or old.replicas.others.items at 0) failed)
@@ -62,37 +61,35 @@ pub record IsReplicaTurn {D K : Type 0} (disk_says : DiskSays D) (sink_says : Si
 -- ---- all replicas
 
 module _ {D : Type 0} (disk_says : DiskSays D) (since : ℕ) (start : List Deed) (places : List Placed) (may_give : ℕ → Type 0) (scripts : List (Option ReplicaScript)) where
-  abbrev Following : Replicas → List SessionRun → List (Option (List ℕ)) → List (Option (List ℕ)) → Type 0
-  Following replicas runs before now = AreFollowing disk_says since start places may_give scripts replicas runs before now
+  abbrev Following : Replicas → List ℕ → (ℕ → List ℕ) → List SessionRun → List (Option (List ℕ)) → List (Option (List ℕ)) → Type 0
+  Following replicas losses counts runs before now = AreFollowing disk_says since start places may_give scripts replicas losses counts runs before now
 
   -- over more places
-  pub following_longer : (more : List Placed) (replicas : Replicas) (runs : List SessionRun) (before now : List (Option (List ℕ))) → Following replicas runs before now
-      → AreFollowing disk_says since start (places ++ more) may_give scripts replicas runs before now
-  following_longer more replicas runs before now h = record {
+  pub following_longer : (more : List Placed) (replicas : Replicas) (losses : List ℕ) (counts : ℕ → List ℕ) (runs : List SessionRun) (before now : List (Option (List ℕ))) → Following replicas losses counts runs before now
+      → AreFollowing disk_says since start (places ++ more) may_give scripts replicas losses counts runs before now
+  following_longer more replicas losses counts runs before now h = record {
     count = h.count;
     none = h.none;
     left = h.left;
-    flags = h.flags;
     told = h.told;
     gave = λ i script run p given got at_script at_run at_party at_given at_got formed.
         let g = h.gave i script run p given got at_script at_run at_party at_given at_got formed in
         record {
           texts = g.texts;
           count = g.count;
-          going = going_longer disk_says since start places may_give (i + 1) script more p g.texts (get_or h.flags i false) g.going;
+          going = going_longer disk_says since start places may_give (i + 1) script more p (counts i) g.texts (get_or losses i 0) g.going;
           got = g.got;
         };
   }
 
   -- where no replica got anything
-  pub following_stays : (replicas : Replicas) (runs runs' : List SessionRun) (before now now' : List (Option (List ℕ)))
+  pub following_stays : (replicas : Replicas) (losses : List ℕ) (counts : ℕ → List ℕ) (runs runs' : List SessionRun) (before now now' : List (Option (List ℕ)))
       → ((i : ℕ) (script : ReplicaScript) → slice_get scripts i ≡ Some (Some script) → (slice_get runs' i ≡ slice_get runs i) × (slice_get now' i ≡ slice_get now i))
-      → Following replicas runs before now → Following replicas runs' before now'
-  following_stays replicas runs runs' before now now' same h = record {
+      → Following replicas losses counts runs before now → Following replicas losses counts runs' before now'
+  following_stays replicas losses counts runs runs' before now now' same h = record {
     count = h.count;
     none = h.none;
     left = λ i script run at_script at_run. h.left i script run at_script (sym (same i script at_script).0 ∙ at_run);
-    flags = h.flags;
     told = h.told;
     gave = λ i script run p given got at_script at_run at_party at_given at_got formed.
         h.gave i script run p given got at_script (sym (same i script at_script).0 ∙ at_run) at_party at_given (sym (same i script at_script).1 ∙ at_got) formed;
@@ -102,7 +99,8 @@ module _ {D : Type 0} (disk_says : DiskSays D) (since : ℕ) (start : List Deed)
 
   module _ {K : Type 0} (sink_says : SinkSays K) (old new : Turns D K) (ran : HasRun disk_says old.depot since start places) (i : ℕ) (script : ReplicaScript) (at_script : slice_get scripts i ≡ Some (Some script)) (p : ReplicaParty)
       (at_party : slice_get old.replicas.parties.items i ≡ Some (Some p)) (before : List (Option (List ℕ))) (t : IsReplicaTurn disk_says sink_says i p old new) (whole : t.answered.run.failed ≡ false)
-      (h : Following old.replicas old.runs.items before (map sink_says.given old.sinks.items)) where
+      (losses : List ℕ) (counts counts' : ℕ → List ℕ) (count_here : counts' i ≡ counts i ++ length places ∷ []) (count_there : (j : ℕ) → (i ≡ j → ⊥) → counts' j ≡ counts j)
+      (h : Following old.replicas losses counts old.runs.items before (map sink_says.given old.sinks.items)) where
     abbrev run' : SessionRun
     run' = record { commands = t.answered.run.commands + 1; failed = t.failed }
 
@@ -112,27 +110,30 @@ module _ {D : Type 0} (disk_says : DiskSays D) (since : ℕ) (start : List Deed)
     parties_are : new.replicas.parties.items ≡ set old.replicas.parties.items i (Some next)
     parties_are = t.parties ∙ t.stepped.parties
 
-    -- the flags
-    low : i < length h.flags
+    -- its failed disks
+    low : i < length losses
     low = let within = slice_get_within scripts i (Some script) at_script in let count = h.told.count in omega (arith, within, count)
 
-    abbrev flag : Bool
-    flag = get_or h.flags i false || is_lost t.stepped.result
+    abbrev lost : Bool
+    lost = is_lost t.stepped.result
 
-    abbrev flags' : List Bool
-    flags' = set h.flags i flag
+    abbrev loss : ℕ
+    loss = loss_after losses i lost
 
-    flag_here : get_or flags' i false ≡ flag
-    flag_here = get_or-set_same h.flags i flag false low
+    abbrev losses' : List ℕ
+    losses' = set losses i loss
 
-    flag_there : (j : ℕ) → (i ≡ j → ⊥) → get_or flags' j false ≡ get_or h.flags j false
-    flag_there j apart = get_or-set_other h.flags i j flag false (λ e. apart (sym e))
+    loss_here : get_or losses' i 0 ≡ loss
+    loss_here = get_or-set_same losses i loss 0 low
 
-    flags_told : AreLost scripts flags' new.replicas.lost
-    flags_told = record {
-      count = length-set h.flags i flag ∙ h.told.count;
-      none = λ j at_none. flag_there j (λ e. let both = sym at_none ∙ (ap (slice_get scripts) (sym e) ∙ at_script) in cc) ∙ h.told.none j at_none;
-      one = t.lost ∙ (t.stepped.lost_is ∙ (ap (λ (b : Bool). b || is_lost t.stepped.result) h.told.one ∙ sym (any_set h.flags i (is_lost t.stepped.result) low)));
+    loss_there : (j : ℕ) → (i ≡ j → ⊥) → get_or losses' j 0 ≡ get_or losses j 0
+    loss_there j apart = get_or-set_other losses i j loss 0 (λ e. apart (sym e))
+
+    losses_told : AreLost scripts losses' new.replicas.lost
+    losses_told = record {
+      count = length-set losses i loss ∙ h.told.count;
+      none = λ j at_none. loss_there j (λ e. let both = sym at_none ∙ (ap (slice_get scripts) (sym e) ∙ at_script) in cc) ∙ h.told.none j at_none;
+      one = t.lost ∙ (t.stepped.lost_is ∙ (ap (λ (b : Bool). b || lost) h.told.one ∙ sym (ap (nat_lt 0) (all_lost losses i lost low) ∙ some_lost (sum losses) lost)));
     }
 
     abbrev pub was : IsLeft script old.replicas i t.answered.run
@@ -160,7 +161,7 @@ module _ {D : Type 0} (disk_says : DiskSays D) (since : ℕ) (start : List Deed)
               omega (arith, one, before_it, some);
         }
 
-    gave_here : (had : Option (List ℕ)) → slice_get before i ≡ Some had → AreWellFormed script.session.commands → HasGiven disk_says since start places may_give (i + 1) script next run' (get_or flags' i false) had (sink_says.given t.answered.new)
+    gave_here : (had : Option (List ℕ)) → slice_get before i ≡ Some had → AreWellFormed script.session.commands → HasGiven disk_says since start places may_give (i + 1) script next run' (counts' i) (get_or losses' i 0) had (sink_says.given t.answered.new)
     gave_here had at_had formed =
         let got_at : slice_get (map sink_says.given old.sinks.items) i ≡ Some (sink_says.given t.answered.sink) = slice_get-map sink_says.given old.sinks.items i ∙ ap (option_map sink_says.given) t.answered.at_sink in
         let g = h.gave i script t.answered.run p had (sink_says.given t.answered.sink) at_script t.answered.at_run at_party at_had got_at formed in
@@ -173,15 +174,16 @@ module _ {D : Type 0} (disk_says : DiskSays D) (since : ℕ) (start : List Deed)
           texts = g.texts ++ text ∷ [];
           count = (let long = length-append g.texts (text ∷ []) in let same = g.count in omega (arith, long, same));
           going =
-              subst (IsGoing disk_says since start places may_give (i + 1) script next (g.texts ++ text ∷ [])) (sym flag_here)
-              (goes_on disk_says since start places may_give (i + 1) script old.depot p next g.texts (get_or h.flags i false) result ran g.going t.stepped.turned);
+              subst (λ (cs : List ℕ). IsGoing disk_says since start places may_give (i + 1) script next cs (g.texts ++ text ∷ []) (get_or losses' i 0)) (sym count_here)
+              (subst (IsGoing disk_says since start places may_give (i + 1) script next (counts i ++ length places ∷ []) (g.texts ++ text ∷ [])) (sym loss_here)
+              (goes_on disk_says since start places may_give (i + 1) script old.depot p next (counts i) g.texts (get_or losses i 0) result ran g.going t.stepped.turned));
           got = got_more t.failed g.texts text had (sink_says.given t.answered.sink) (sink_says.given t.answered.new) (subst P whole g.got) gives;
         }
 
     sinks_are : map sink_says.given new.sinks.items ≡ set (map sink_says.given old.sinks.items) i (sink_says.given t.answered.new)
     sinks_are = ap (map sink_says.given) t.answered.sinks ∙ map-set sink_says.given old.sinks.items i t.answered.new
 
-    pub following_turned : 0 < was.other → Following new.replicas new.runs.items before (map sink_says.given new.sinks.items)
+    pub following_turned : 0 < was.other → Following new.replicas losses' counts' new.runs.items before (map sink_says.given new.sinks.items)
     following_turned some = record {
       count = ap (length {A = ℕ}) t.others ∙ (length-set old.replicas.others.items i (left_after_turn (get_or old.replicas.others.items i 0) t.failed) ∙ h.count);
       none = λ j other at_none at_other.
@@ -207,8 +209,7 @@ module _ {D : Type 0} (disk_says : DiskSays D) (since : ℕ) (start : List Deed)
                   total = l.total;
                 }
           ];
-      flags = flags';
-      told = flags_told;
+      told = losses_told;
       gave = λ j script' run q had got at_script' at_run at_q at_had at_got formed.
           elim (at_set old.runs.items i j run' run (ap (λ (rs : List SessionRun). slice_get rs j) (sym t.answered.runs) ∙ at_run)) [
             | inl here ↦
@@ -217,13 +218,14 @@ module _ {D : Type 0} (disk_says : DiskSays D) (since : ℕ) (start : List Deed)
                 let got_is : sink_says.given t.answered.new ≡ got =
                 some_is (sym (set_here (map sink_says.given old.sinks.items) i (sink_says.given t.answered.sink) (sink_says.given t.answered.new) (slice_get-map sink_says.given old.sinks.items i ∙ ap (option_map sink_says.given) t.answered.at_sink))
                 ∙ (sym (ap (λ (os : List (Option (List ℕ))). slice_get os i) sinks_are) ∙ (ap (slice_get (map sink_says.given new.sinks.items)) here.0 ∙ at_got))) in
-                let G : ℕ → ReplicaScript → ReplicaParty → SessionRun → Option (List ℕ) → Type 0 = λ k s r x o. HasGiven disk_says since start places may_give (k + 1) s r x (get_or flags' k false) had o in
+                let G : ℕ → ReplicaScript → ReplicaParty → SessionRun → Option (List ℕ) → Type 0 = λ k s r x o. HasGiven disk_says since start places may_give (k + 1) s r x (counts' k) (get_or losses' k 0) had o in
                 let first : G i script next run' (sink_says.given t.answered.new) = gave_here had (ap (slice_get before) here.0 ∙ at_had) (subst (λ (s : ReplicaScript). AreWellFormed s.session.commands) (sym same) formed) in
                 subst (λ (x : SessionRun). G j script' q x got) (sym here.1) (subst (λ (k : ℕ). G k script' q run' got) here.0 (subst (λ (s : ReplicaScript). G i s q run' got) same
                 (subst (λ (r : ReplicaParty). G i script r run' got) party (subst (λ (o : Option (List ℕ)). G i script next run' o) got_is first))))
             | inr there ↦
                 let g = h.gave j script' run q had got at_script' there.1 (sym (set_there old.replicas.parties.items i j (Some next) there.0) ∙ (sym (ap (λ (ps : List (Option ReplicaParty)). slice_get ps j) parties_are) ∙ at_q)) at_had
                 (sym (set_there (map sink_says.given old.sinks.items) i j (sink_says.given t.answered.new) there.0) ∙ (sym (ap (λ (os : List (Option (List ℕ))). slice_get os j) sinks_are) ∙ at_got)) formed in
-                subst (λ (b : Bool). HasGiven disk_says since start places may_give (j + 1) script' q run b had got) (sym (flag_there j there.0)) g
+                subst (λ (cs : List ℕ). HasGiven disk_says since start places may_give (j + 1) script' q run cs (get_or losses' j 0) had got) (sym (count_there j there.0))
+                (subst (λ (n : ℕ). HasGiven disk_says since start places may_give (j + 1) script' q run (counts j) n had got) (sym (loss_there j there.0)) g)
           ];
     }

@@ -1,7 +1,7 @@
 -- The replicas of a run before its first turn.
-use Rattle.std.proofs.Common.{◌≡◌, ℕ, zero, suc, ◌+◌, Bool, false, List, [], ◌∷◌, get_or, length, map, Option, Some, None, refl, sym, ap, subst, ◌∙◌, arith}
-use Rattle.std.specs.Prelude.{slice_get, option_map}
-use Rattle.std.specs.List.{list_any}
+use Rattle.std.proofs.Common.{◌≡◌, ℕ, zero, suc, ◌+◌, false, List, [], ◌∷◌, get_or, length, map, Option, Some, None, refl, sym, ap, subst, ◌∙◌, arith}
+use Rattle.std.specs.Prelude.{nat_lt, slice_get, option_map}
+use Rattle.std.specs.List.{sum}
 use Rattle.std.proofs.lemmas.List.{length-map}
 use Rattle.std.proofs.lemmas.Option.{slice_get-map}
 use Rattle.outside_api.specs.Says.{DiskSays}
@@ -42,18 +42,18 @@ lefts_are may_give party (s ∷ scripts) (q ∷ parties) all = λ k. one s q all
     one (Some s) None is = absurd is
     one (Some s) (Some q) is = is.1
 
--- no flag is raised
-abbrev unraised : List (Option ReplicaScript) → List Bool
-unraised scripts = map (λ (script : Option ReplicaScript). false) scripts
+-- no reply tells that a disk failed
+abbrev pub no_losses : List (Option ReplicaScript) → List ℕ
+no_losses scripts = map (λ (script : Option ReplicaScript). 0) scripts
 
-unraised_at : (scripts : List (Option ReplicaScript)) (i : ℕ) → get_or (unraised scripts) i false ≡ false
-unraised_at [] i = refl
-unraised_at (script ∷ scripts) zero = refl
-unraised_at (script ∷ scripts) (suc i) = unraised_at scripts i
+none_lost_at : (scripts : List (Option ReplicaScript)) (i : ℕ) → get_or (no_losses scripts) i 0 ≡ 0
+none_lost_at [] i = refl
+none_lost_at (script ∷ scripts) zero = refl
+none_lost_at (script ∷ scripts) (suc i) = none_lost_at scripts i
 
-none_raised : (scripts : List (Option ReplicaScript)) → list_any (λ (flag : Bool). flag) (unraised scripts) ≡ false
-none_raised [] = refl
-none_raised (script ∷ scripts) = none_raised scripts
+pub none_lost : (scripts : List (Option ReplicaScript)) → sum (no_losses scripts) ≡ 0
+none_lost [] = refl
+none_lost (script ∷ scripts) = none_lost scripts
 
 module _ {D : Type 0} (disk_says : DiskSays D) (since : ℕ) (start : List Deed) (places : List Placed) (may_give : ℕ → Type 0) (scripts : List (Option ReplicaScript)) (replicas : Replicas) (bounds : List ℕ) (before : List (Option (List ℕ)))
     (are : AreFresh may_give 1 scripts replicas.parties.items) (others : replicas.others.items ≡ replica_totals scripts) where
@@ -76,7 +76,7 @@ module _ {D : Type 0} (disk_says : DiskSays D) (since : ℕ) (start : List Deed)
       }
 
   fresh_given : (i : ℕ) (script : ReplicaScript) (q : ReplicaParty) (had got : Option (List ℕ)) → AreWellFormed script.session.commands → slice_get scripts i ≡ Some (Some script)
-      → slice_get replicas.parties.items i ≡ Some (Some q) → had ≡ got → HasGiven disk_says since start places may_give (i + 1) script q fresh (get_or (unraised scripts) i false) had got
+      → slice_get replicas.parties.items i ≡ Some (Some q) → had ≡ got → HasGiven disk_says since start places may_give (i + 1) script q fresh [] (get_or (no_losses scripts) i 0) had got
   fresh_given i script q had got well at at_q same =
       let p = party_at may_give 1 scripts replicas.parties.items are i script at in
       let is : p.0 ≡ q = some_is (some_is (sym p.1 ∙ at_q)) in
@@ -86,20 +86,19 @@ module _ {D : Type 0} (disk_says : DiskSays D) (since : ℕ) (start : List Deed)
       record {
         texts = [];
         count = refl;
-        going = subst (IsGoing disk_says since start places may_give (i + 1) script q []) (sym (unraised_at scripts i)) (begins disk_says since start places may_give (i + 1) script q one well);
+        going = subst (IsGoing disk_says since start places may_give (i + 1) script q [] []) (sym (none_lost_at scripts i)) (begins disk_says since start places may_give (i + 1) script q one well);
         got = sym same ∙ sym (extended-nil had);
       }
 
-  pub following_first : replicas.lost ≡ false → AreFollowing disk_says since start places may_give scripts replicas (fresh_runs bounds) before before
+  pub following_first : replicas.lost ≡ false → AreFollowing disk_says since start places may_give scripts replicas (no_losses scripts) (λ i. []) (fresh_runs bounds) before before
   following_first none = record {
     count = ap (length {A = ℕ}) others ∙ length-map scripts (λ (s : Option ReplicaScript). length (replica_commands s));
     none = λ i other at_none at_other. some_is (sym at_other ∙ other_at i None at_none);
     left = λ i script run at_script at_run.
         let P : SessionRun → Type 0 = IsLeft script replicas i in
         subst P (sym (fresh_at bounds i run at_run)) (fresh_left i script at_script);
-    flags = unraised scripts;
-    told = record { count = length-map scripts (λ (script : Option ReplicaScript). false); none = λ i at_none. unraised_at scripts i; one = none ∙ sym (none_raised scripts) };
+    told = record { count = length-map scripts (λ (script : Option ReplicaScript). 0); none = λ i at_none. none_lost_at scripts i; one = none ∙ sym (ap (nat_lt 0) (none_lost scripts)) };
     gave = λ i script run p given got at_script at_run at_party at_given at_got well.
-        let P : SessionRun → Type 0 = λ r. HasGiven disk_says since start places may_give (i + 1) script p r (get_or (unraised scripts) i false) given got in
+        let P : SessionRun → Type 0 = λ r. HasGiven disk_says since start places may_give (i + 1) script p r [] (get_or (no_losses scripts) i 0) given got in
         subst P (sym (fresh_at bounds i run at_run)) (fresh_given i script p given got well at_script at_party (some_is (sym at_given ∙ at_got)));
   }

@@ -8,14 +8,14 @@ use Rattle.session_loop.specs.Served.{AreCaused}
 -- what had risen has risen
 pub risen_before : (before mid now contents_before contents_mid contents_now : ℕ) (first second : List Place) → AreCaused mid now contents_mid contents_now first second → OneHasRisen before mid contents_before contents_mid
     → OneHasRisen before now contents_before contents_now
-risen_before before mid now contents_before contents_mid contents_now first second (n, m, some, rises, contents_rise) (inl one) = inl (omega (arith, rises, one))
-risen_before before mid now contents_before contents_mid contents_now first second (n, m, some, rises, contents_rise) (inr one) = inr (omega (arith, contents_rise, one))
+risen_before before mid now contents_before contents_mid contents_now first second (k, some, (n, m, both, rises, contents_rise)) (inl one) = inl (omega (arith, rises, one))
+risen_before before mid now contents_before contents_mid contents_now first second (k, some, (n, m, both, rises, contents_rise)) (inr one) = inr (omega (arith, contents_rise, one))
 
 -- what has risen since has risen
 pub risen_after : (before mid now contents_before contents_mid contents_now : ℕ) (first second : List Place) → AreCaused before mid contents_before contents_mid first second → OneHasRisen mid now contents_mid contents_now
     → OneHasRisen before now contents_before contents_now
-risen_after before mid now contents_before contents_mid contents_now first second (n, m, some, rises, contents_rise) (inl one) = inl (omega (arith, rises, one))
-risen_after before mid now contents_before contents_mid contents_now first second (n, m, some, rises, contents_rise) (inr one) = inr (omega (arith, contents_rise, one))
+risen_after before mid now contents_before contents_mid contents_now first second (k, some, (n, m, both, rises, contents_rise)) (inl one) = inl (omega (arith, rises, one))
+risen_after before mid now contents_before contents_mid contents_now first second (k, some, (n, m, both, rises, contents_rise)) (inr one) = inr (omega (arith, contents_rise, one))
 
 pub lost_more : (old mid new : Bool) (before between now contents_before contents_between contents_now : ℕ) (first second third : List Place) → AreCaused before between contents_before contents_between first second
     → AreCaused between now contents_between contents_now second third → HasLost old mid before between contents_before contents_between → HasLost mid new between now contents_between contents_now

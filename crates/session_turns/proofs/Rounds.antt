@@ -36,7 +36,7 @@ module _ {D K : Type 0} (disk_says : DiskSays D) (sink_says : SinkSays K) (may_g
     pub drawn : AreDrawn x p turns last progress
     pub going : AreGoing disk_says sink_says may_give scene progress now
     pub stops : All (StopsFailed now.runs.items) turns
-    pub along : (past : Past) → AreAlong disk_says sink_says may_give past scene first → AreAlong disk_says sink_says may_give past scene now
+    pub along : (past : Past) → AreAlong disk_says sink_says may_give past scene p.turn_counts first → AreAlong disk_says sink_says may_give past scene progress.turn_counts now
     pub fuel_is : all_left progress ≤ fuel
 
   pub none_so_far : (last fuel : ℕ) → x ≡ last → AreGoing disk_says sink_says may_give scene p first → all_left p ≤ fuel → AreSoFar first last fuel

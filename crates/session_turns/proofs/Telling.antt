@@ -35,7 +35,7 @@ use Rattle.session_turns.specs.declared.replicas.Replicas.{Replicas}
 use Rattle.depot_rows.specs.table_changes.Changed.{rows_of}
 use Rattle.wire_text.proofs.Pieces.{extended-nil}
 
-module _ {D K : Type 0} (disk_says : DiskSays D) (sink_says : SinkSays K) (may_give : ℕ → Type 0) (past : Past) (scene : Scene) (old new : Turns D K) (h : AreAlong disk_says sink_says may_give past scene old) where
+module _ {D K : Type 0} (disk_says : DiskSays D) (sink_says : SinkSays K) (may_give : ℕ → Type 0) (past : Past) (scene : Scene) (counts : ℕ → List ℕ) (old new : Turns D K) (h : AreAlong disk_says sink_says may_give past scene counts old) where
   abbrev order : List Place
   order = old.order.items
 
@@ -46,7 +46,7 @@ module _ {D K : Type 0} (disk_says : DiskSays D) (sink_says : SinkSays K) (may_g
   -- ---- a session's turn, at which no replica got anything
 
   pub along_session : new.replicas ≡ old.replicas → ((i : ℕ) (script : ReplicaScript) → slice_get scene.scripts i ≡ Some (Some script) → IsSameAt i old.runs.items new.runs.items old.sinks.items new.sinks.items)
-      → (more : List Place) → new.order.items ≡ order ++ more → GrowsTo disk_says past scene.start (map (placed scene.sessions) new.order.items) new.depot h.all → AreAlong disk_says sink_says may_give past scene new
+      → (more : List Place) → new.order.items ≡ order ++ more → GrowsTo disk_says past scene.start (map (placed scene.sessions) new.order.items) new.depot h.all → AreAlong disk_says sink_says may_give past scene counts new
   along_session replicas same more longer grows = record {
     all = grows.0;
     master = grows.1;
@@ -57,8 +57,8 @@ module _ {D K : Type 0} (disk_says : DiskSays D) (sink_says : SinkSays K) (may_g
         record {
           texts = t.texts;
           count = t.count;
-          along = subst (λ (ps : List Placed). IsAlong past scene.start ps may_give (i + 1) script p grows.0 t.texts) (sym (ap (map (placed scene.sessions)) longer ∙ map-append (placed scene.sessions) order more))
-              (along_grown past scene.start places may_give (i + 1) script p h.all grows.0 (map (placed scene.sessions) more) grows.2 t.texts t.along);
+          along = subst (λ (ps : List Placed). IsAlong past scene.start ps may_give (i + 1) script p grows.0 (counts i) t.texts) (sym (ap (map (placed scene.sessions)) longer ∙ map-append (placed scene.sessions) order more))
+              (along_grown past scene.start places may_give (i + 1) script p h.all grows.0 (map (placed scene.sessions) more) grows.2 (counts i) t.texts t.along);
           got = t.got;
         };
   }
@@ -67,7 +67,8 @@ module _ {D K : Type 0} (disk_says : DiskSays D) (sink_says : SinkSays K) (may_g
 
   module _ (reads : (disk : D) (files : Files) → disk_says.seen disk files → disk_says.may_leave disk files) (told : (bytes : List ℕ) × IsTold disk_says old.depot.archive bytes) (i : ℕ) (script : ReplicaScript)
       (at_script : slice_get scene.scripts i ≡ Some (Some script)) (p : ReplicaParty) (at_party : slice_get old.replicas.parties.items i ≡ Some (Some p)) (t : IsReplicaTurn disk_says sink_says i p old new)
-      (whole : t.answered.run.failed ≡ false) where
+      (whole : t.answered.run.failed ≡ false)
+      (counts' : ℕ → List ℕ) (count_here : counts' i ≡ counts i ++ length places ∷ []) (count_there : (j : ℕ) → (i ≡ j → ⊥) → counts' j ≡ counts j) where
     abbrev run' : SessionRun
     run' = record { commands = t.answered.run.commands + 1; failed = t.failed }
 
@@ -83,7 +84,7 @@ module _ {D K : Type 0} (disk_says : DiskSays D) (sink_says : SinkSays K) (may_g
     got_at : slice_get (map sink_says.given old.sinks.items) i ≡ Some (sink_says.given t.answered.sink)
     got_at = slice_get-map sink_says.given old.sinks.items i ∙ ap (option_map sink_says.given) t.answered.at_sink
 
-    told_here : (had : Option (List ℕ)) → slice_get scene.before i ≡ Some had → AreWellFormed script.session.commands → HasToldAlong past scene.start places may_give (i + 1) script next run' h.all had (sink_says.given t.answered.new)
+    told_here : (had : Option (List ℕ)) → slice_get scene.before i ≡ Some had → AreWellFormed script.session.commands → HasToldAlong past scene.start places may_give (i + 1) script next run' h.all (counts' i) had (sink_says.given t.answered.new)
     told_here had at_had formed =
         let g = h.told i script t.answered.run p had (sink_says.given t.answered.sink) at_script t.answered.at_run at_party at_had got_at formed in
         let result = t.stepped.result in
@@ -95,13 +96,14 @@ module _ {D K : Type 0} (disk_says : DiskSays D) (sink_says : SinkSays K) (may_g
           texts = g.texts ++ text ∷ [];
           count = (let long = length-append g.texts (text ∷ []) in let same = g.count in omega (arith, long, same));
           along =
-              along_turned disk_says reads past scene.start places old.depot h.all h.master told may_give (i + 1) script p next g.texts result g.along t.stepped.turned;
+              subst (λ (cs : List ℕ). IsAlong past scene.start places may_give (i + 1) script next h.all cs (g.texts ++ text ∷ [])) (sym count_here)
+              (along_turned disk_says reads past scene.start places old.depot h.all h.master told may_give (i + 1) script p next (counts i) g.texts result g.along t.stepped.turned);
           got = got_more t.failed g.texts text had (sink_says.given t.answered.sink) (sink_says.given t.answered.new) (subst P whole g.got) gives;
         }
 
-    pub along_replica : HasGroups disk_says new.depot.journal h.all → KeepsStored disk_says old.depot.archive new.depot.archive → AreAlong disk_says sink_says may_give past scene new
+    pub along_replica : HasGroups disk_says new.depot.journal h.all → KeepsStored disk_says old.depot.archive new.depot.archive → AreAlong disk_says sink_says may_give past scene counts' new
     along_replica groups stored =
-        let Now : Vec Place Global → Type 0 = λ o. AreAlong disk_says sink_says may_give past scene (record new { order = o }) in
+        let Now : Vec Place Global → Type 0 = λ o. AreAlong disk_says sink_says may_give past scene counts' (record new { order = o }) in
         subst Now (sym t.order) (record {
           all = h.all;
           master = unmoved_master disk_says past scene.start places old.depot new.depot h.all h.master stored (ap rows_of t.tables) groups;
@@ -113,20 +115,21 @@ module _ {D K : Type 0} (disk_says : DiskSays D) (sink_says : SinkSays K) (may_g
                     let got_is : sink_says.given t.answered.new ≡ got =
                     some_is (sym (set_here (map sink_says.given old.sinks.items) i (sink_says.given t.answered.sink) (sink_says.given t.answered.new) got_at)
                     ∙ (sym (ap (λ (os : List (Option (List ℕ))). slice_get os i) sinks_are) ∙ (ap (slice_get (map sink_says.given new.sinks.items)) here.0 ∙ at_got))) in
-                    let G : ℕ → ReplicaScript → ReplicaParty → SessionRun → Option (List ℕ) → Type 0 = λ k s r x o. HasToldAlong past scene.start places may_give (k + 1) s r x h.all had o in
+                    let G : ℕ → ReplicaScript → ReplicaParty → SessionRun → Option (List ℕ) → Type 0 = λ k s r x o. HasToldAlong past scene.start places may_give (k + 1) s r x h.all (counts' k) had o in
                     let first : G i script next run' (sink_says.given t.answered.new) = told_here had (ap (slice_get scene.before) here.0 ∙ at_had) (subst (λ (s : ReplicaScript). AreWellFormed s.session.commands) (sym same) formed) in
                     subst (λ (x : SessionRun). G j script' q x got) (sym here.1) (subst (λ (k : ℕ). G k script' q run' got) here.0 (subst (λ (s : ReplicaScript). G i s q run' got) same
                     (subst (λ (r : ReplicaParty). G i script r run' got) party (subst (λ (o : Option (List ℕ)). G i script next run' o) got_is first))))
                 | inr there ↦
-                    h.told j script' run q had got at_script' there.1 (sym (set_there old.replicas.parties.items i j (Some next) there.0) ∙ (sym (ap (λ (ps : List (Option ReplicaParty)). slice_get ps j) parties_are) ∙ at_q)) at_had
-                    (sym (set_there (map sink_says.given old.sinks.items) i j (sink_says.given t.answered.new) there.0) ∙ (sym (ap (λ (os : List (Option (List ℕ))). slice_get os j) sinks_are) ∙ at_got)) formed
+                    subst (λ (cs : List ℕ). HasToldAlong past scene.start places may_give (j + 1) script' q run h.all cs had got) (sym (count_there j there.0))
+                    (h.told j script' run q had got at_script' there.1 (sym (set_there old.replicas.parties.items i j (Some next) there.0) ∙ (sym (ap (λ (ps : List (Option ReplicaParty)). slice_get ps j) parties_are) ∙ at_q)) at_had
+                    (sym (set_there (map sink_says.given old.sinks.items) i j (sink_says.given t.answered.new) there.0) ∙ (sym (ap (λ (os : List (Option (List ℕ))). slice_get os j) sinks_are) ∙ at_got)) formed)
               ];
         })
 
 -- ---- before the first turn
 
 pub along_begins : {D K : Type 0} (disk_says : DiskSays D) (sink_says : SinkSays K) (may_give : ℕ → Type 0) (past : Past) (scene : Scene) (turns : Turns D K) (all : Chronicle) → AreFresh may_give 1 scene.scripts turns.replicas.parties.items
-    → turns.runs.items ≡ fresh_runs turns.totals.items → scene.before ≡ map sink_says.given turns.sinks.items → IsMaster disk_says past scene.start (map (placed scene.sessions) turns.order.items) turns.depot all → AreAlong disk_says sink_says may_give past scene turns
+    → turns.runs.items ≡ fresh_runs turns.totals.items → scene.before ≡ map sink_says.given turns.sinks.items → IsMaster disk_says past scene.start (map (placed scene.sessions) turns.order.items) turns.depot all → AreAlong disk_says sink_says may_give past scene (λ i. []) turns
 along_begins disk_says sink_says may_give past scene turns all are runs_are before_is master = record {
   all = all;
   master = master;
@@ -138,7 +141,7 @@ along_begins disk_says sink_says may_give past scene turns all are runs_are befo
       let F : ℕ → ReplicaParty → Type 0 = λ n r. IsFresh may_give n script r in
       let one : IsFresh may_give (i + 1) script p = subst (λ (n : ℕ). F n p) e (subst (F (1 + i)) is q.2.0) in
       let same : had ≡ got = some_is (sym at_had ∙ (ap (λ (os : List (Option (List ℕ))). slice_get os i) before_is ∙ at_got)) in
-      let P : SessionRun → Type 0 = λ r. HasToldAlong past scene.start places may_give (i + 1) script p r all had got in
+      let P : SessionRun → Type 0 = λ r. HasToldAlong past scene.start places may_give (i + 1) script p r all [] had got in
       subst P (sym (fresh_at turns.totals.items i run (ap (λ (rs : List SessionRun). slice_get rs i) (sym runs_are) ∙ at_run))) (record {
         texts = [];
         count = refl;

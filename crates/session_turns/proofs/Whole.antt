@@ -1,19 +1,21 @@
 -- A run from its beginning to its end.
-use Rattle.std.proofs.Common.{◌≡◌, ℕ, ◌≤◌, ◌<◌, ◌^◌, List, [], Option, length, map, refl, sym, ap, subst, ◌∙◌, Vec, Global}
+use Rattle.std.proofs.Common.{◌≡◌, ℕ, ◌≤◌, ◌<◌, ◌^◌, List, [], Option, Some, length, map, refl, sym, ap, subst, ◌∙◌, Vec, Global}
 use Rattle.std.specs.Prelude.{All}
 use Rattle.outside_api.specs.Says.{DiskSays, SinkSays}
+use Rattle.archive_file.specs.Archive.{disk_of as archive_disk_of}
 use Rattle.depot_rows.specs.depot_model.Deeds.{Deed}
 use Rattle.depot_rows.specs.depot_model.declared.order.Place.{Place}
 use Rattle.depot_rows.specs.depot_model.declared.request.Session.{Session}
 use Rattle.depot_rows.specs.table_store.declared.tables.Tables.{Tables}
 use Rattle.depot_runs.specs.Run.{placed}
-use Rattle.run_parties.specs.Replicas.{AreReplicasServed, AreReplicasTold}
+use Rattle.disk_journal.specs.Stands.{disk_of}
 use Rattle.run_parties.specs.Served.{AreApart, AreEnds, AreServed}
 use Rattle.run_parties.specs.replica_turns.Master.{CanBeFollowed, IsMaster, Past}
 use Rattle.run_parties.specs.depot_commit.Growing.{Chronicle}
 use Rattle.run_parties.specs.serial_depot.Running.{HasRun}
 use Rattle.run_parties.specs.serial_depot.declared.depot.SerialDepot.{SerialDepot}
 use Rattle.session_loop.specs.Asking.{AreWellFormed, commands_of, replica_commands}
+use Rattle.session_loop.specs.Served.{HaveRisenBy}
 use Rattle.session_loop.specs.declared.reading.ReplicaScript.{ReplicaScript}
 use Rattle.session_loop.specs.declared.session.SessionRun.{SessionRun}
 use Rattle.session_turns.proofs.Answered.{replicas_served, replicas_told}
@@ -22,9 +24,10 @@ use Rattle.session_turns.proofs.Opening.{along_first, begins, few_turns, progres
 use Rattle.session_turns.proofs.Rounds.{all_stay}
 use Rattle.session_turns.specs.Answering.{AnswersNone, AreDone, IsDoneAt, IsSameAt}
 use Rattle.session_turns.specs.Beginning.{HasBegun}
+use Rattle.session_turns.specs.Counted.{AreCounted}
 use Rattle.session_turns.specs.Drawn.{IsDrawn, Progress}
 use Rattle.session_turns.specs.Going.{AreGoing, TakesTurns, all_left}
-use Rattle.session_turns.specs.Running.{AreTotals, AreWithin, Scene, fresh_runs}
+use Rattle.session_turns.specs.Running.{AreTotals, AreWithin, Scene}
 use Rattle.session_turns.specs.Taking.{StayWithin}
 use Rattle.session_turns.specs.declared.beginning.Beginning.{Beginning}
 use Rattle.session_turns.specs.declared.turns.Turns.{Turns}
@@ -70,16 +73,6 @@ module _ {D K : Type 0} (disk_says : DiskSays D) (sink_says : SinkSays K) (may_g
     pub whole_served : AreServed may_give sessions scripts start runs (map sink_says.given sinks.items) (map sink_says.given after) last.order.items
     whole_served = rest.served sessions scripts start (map sink_says.given sinks.items) last.order.items taken.going.running.under_way.served
 
-    pub whole_replicas : All (λ (script : Option ReplicaScript). AreWellFormed (replica_commands script)) scripts
-        → AreReplicasServed disk_says may_give sessions scripts since start last.order.items runs last.replicas.lost (map sink_says.given sinks.items) (map sink_says.given after)
-    whole_replicas well = replicas_served disk_says sink_says may_give scene taken.end last taken.going taken.done well runs after settled
-
-    pub whole_told : All (λ (script : Option ReplicaScript). AreWellFormed (replica_commands script)) scripts → (past : Past) (c : Chronicle) → IsMaster disk_says past start [] depot c
-        → AreReplicasTold past start sessions scripts may_give last.order.items runs (map sink_says.given sinks.items) (map sink_says.given after)
-    whole_told well past c master =
-        let along = taken.along past (along_first disk_says sink_says may_give sessions scripts depot sinks order none tables same new b since start past c master) in
-        replicas_told disk_says sink_says may_give scene taken.end last taken.going taken.done well runs after settled past along
-
     pub whole_master : (past : Past) (c : Chronicle) → IsMaster disk_says past start [] depot c → CanBeFollowed disk_says past start (map (placed sessions) last.order.items) last.depot
     whole_master past c master =
         let along = taken.along past (along_first disk_says sink_says may_give sessions scripts depot sinks order none tables same new b since start past c master) in
@@ -88,7 +81,11 @@ module _ {D K : Type 0} (disk_says : DiskSays D) (sink_says : SinkSays K) (may_g
     pub whole_ran : HasRun disk_says last.depot since start (map (placed sessions) last.order.items)
     whole_ran = taken.going.running.ran
 
-    pub whole_drawn : IsDrawn may_give seed sessions scripts start last.order.items runs
+    -- how many places there were at the turns
+    abbrev counts : ℕ → Option (List ℕ)
+    counts = λ i. Some (taken.end.turn_counts i)
+
+    whole_drawn : IsDrawn may_give seed sessions scripts start last.order.items counts runs
     whole_drawn = record {
       requests = b.requests;
       asked = b.asked;
@@ -100,4 +97,17 @@ module _ {D K : Type 0} (disk_says : DiskSays D) (sink_says : SinkSays K) (may_g
       told = taken.going.running.shows.run.told;
       order_is = taken.going.running.under_way.order_is;
       stops = all_stay last.runs.items runs taken.turns rest.stay taken.stops;
+      counts = λ i. refl;
+    }
+
+    pub whole_counted : AreCounted disk_says may_give seed depot sessions scripts since start last.order.items runs last.replicas.lost
+        (λ failures. HaveRisenBy failures (disk_says.faults (disk_of depot.journal)) (disk_says.faults (disk_of last.depot.journal)) (disk_says.faults (archive_disk_of depot.archive)) (disk_says.faults (archive_disk_of last.depot.archive)))
+        (map sink_says.given sinks.items) (map sink_says.given after)
+    whole_counted = record {
+      turn_counts = counts;
+      drawn = whole_drawn;
+      served = λ well. replicas_served disk_says sink_says may_give scene taken.end last taken.going taken.done well runs after settled;
+      told = λ well past c master.
+          let along = taken.along past (along_first disk_says sink_says may_give sessions scripts depot sinks order none tables same new b since start past c master) in
+          replicas_told disk_says sink_says may_give scene taken.end last taken.going taken.done well runs after settled past along;
     }

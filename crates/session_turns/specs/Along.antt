@@ -20,17 +20,18 @@ use Rattle.session_turns.specs.declared.turns.Turns.{Turns}
 abbrev pub GrowsTo : {D : Type 0} → DiskSays D → Past → List Deed → List Placed → SerialDepot D → Chronicle → Type 0
 GrowsTo disk_says past start places depot c = (now : Chronicle) × IsMaster disk_says past start places depot now × HasGrownTo c now
 
--- The sink has the replies of a replica to the commands that its run tells of, as it tells them along the depot that it follows.
-pub record HasToldAlong (past : Past) (start : List Deed) (places : List Placed) (may_give : ℕ → Type 0) (party : ℕ) (script : ReplicaScript) (p : ReplicaParty) (run : SessionRun) (c : Chronicle) (before now : Option (List ℕ)) : Type 0 where
+-- The sink has the replies of a replica to the commands that its run tells of, as it tells them along the depot that it follows, each when as many places were
+-- taken as its count says.
+pub record HasToldAlong (past : Past) (start : List Deed) (places : List Placed) (may_give : ℕ → Type 0) (party : ℕ) (script : ReplicaScript) (p : ReplicaParty) (run : SessionRun) (c : Chronicle) (counts : List ℕ) (before now : Option (List ℕ)) : Type 0 where
   pub texts : List (List ℕ)
   pub count : length texts ≡ run.commands
-  pub along : IsAlong past start places may_give party script p c texts
+  pub along : IsAlong past start places may_give party script p c counts texts
   pub got : HasGotTexts run.failed texts before now
 
--- The depot is one that replicas follow, and each of them tells along it, where its commands are well-formed.
-pub record AreAlong {D K : Type 0} (disk_says : DiskSays D) (sink_says : SinkSays K) (may_give : ℕ → Type 0) (past : Past) (scene : Scene) (turns : Turns D K) : Type 0 where
+-- The depot is one that replicas follow, and each of them tells along it, where its commands are well-formed, when as many places were taken as its counts say.
+pub record AreAlong {D K : Type 0} (disk_says : DiskSays D) (sink_says : SinkSays K) (may_give : ℕ → Type 0) (past : Past) (scene : Scene) (counts : ℕ → List ℕ) (turns : Turns D K) : Type 0 where
   pub all : Chronicle
   pub master : IsMaster disk_says past scene.start (map (placed scene.sessions) turns.order.items) turns.depot all
   pub told : (i : ℕ) (script : ReplicaScript) (run : SessionRun) (p : ReplicaParty) (had got : Option (List ℕ)) → slice_get scene.scripts i ≡ Some (Some script) → slice_get turns.runs.items i ≡ Some run
       → slice_get turns.replicas.parties.items i ≡ Some (Some p) → slice_get scene.before i ≡ Some had → slice_get (map sink_says.given turns.sinks.items) i ≡ Some got → AreWellFormed script.session.commands
-      → HasToldAlong past scene.start (map (placed scene.sessions) turns.order.items) may_give (i + 1) script p run all had got
+      → HasToldAlong past scene.start (map (placed scene.sessions) turns.order.items) may_give (i + 1) script p run all (counts i) had got

@@ -1,6 +1,6 @@
 -- The turns that the numbers after a seed draw, and the order to which they lead. That a party whose sink failed takes no further command, and that the turns
 -- of replicas are drawn with those of the sessions, is this project's own choice.
-use Rattle.std.specs.Prelude.{◌≡◌, ◌-◌, ℕ, Bool, true, List, [], ◌∷◌, length, map, get_or, slice_get, slice_set, All, IsSomeAnd, Option, Some, if◌then◌else◌}
+use Rattle.std.specs.Prelude.{◌≡◌, ◌-◌, ◌++◌, nat_eq, ℕ, Bool, true, List, [], ◌∷◌, length, map, get_or, slice_get, slice_set, All, IsSomeAnd, Option, Some, if◌then◌else◌}
 use Rattle.depot_rows.specs.depot_model.Deeds.{Deed}
 use Rattle.depot_rows.specs.depot_model.Tables.{needs_of}
 use Rattle.depot_rows.specs.depot_model.declared.order.Place.{Place}
@@ -43,15 +43,21 @@ others_turned others turn = slice_set others turn.party (left_after_turn (get_or
 
 -- ---- all turns
 
--- How far a run is: the machine of its sessions, and how many commands each replica has left.
+-- How far a run is: the machine of its sessions, how many commands each replica has left, and how many places the order had at each of its turns so far, by its
+-- place among the parties, from 0.
 pub record Progress : Type 0 where
   pub machine : State
   pub others : List ℕ
+  pub turn_counts : ℕ → List ℕ
 
--- The turn of a replica that has commands left leaves the machine as it is, and any other turn is one of the machine.
+-- the counts after the turn of a replica
+abbrev pub counted : Progress → ℕ → ℕ → List ℕ
+counted p party i = if nat_eq i party then p.turn_counts i ++ length p.machine.order ∷ [] else p.turn_counts i
+
+-- The turn of a replica that has commands left leaves the machine as it is and is counted, and any other turn is one of the machine.
 abbrev pub advanced : Progress → Turn → Progress
 advanced p turn =
-    if has_other p.others turn.party then record p { others = others_turned p.others turn }
+    if has_other p.others turn.party then record p { others = others_turned p.others turn; turn_counts = counted p turn.party }
     else record p { machine = turned p.machine turn }
 
 -- the parties that may go on
@@ -74,15 +80,16 @@ abbrev pub replica_totals : List (Option ReplicaScript) → List ℕ
 replica_totals replicas = map (λ script. length (replica_commands script)) replicas
 
 -- The order is that of the machine, whose parties ask what the sessions ask, after the turns that the numbers after the seed draw until no party may go
--- on. It tells of each place the tables that it changed.
-pub record IsDrawn (may_give : ℕ → Type 0) (seed : ℕ) (sessions : List (Option Session)) (replicas : List (Option ReplicaScript)) (start : List Deed) (order : List Place) (runs : List SessionRun) : Type 0 where
+-- on. It tells of each place the tables that it changed. The counts are how many places it had at each turn of each replica.
+pub record IsDrawn (may_give : ℕ → Type 0) (seed : ℕ) (sessions : List (Option Session)) (replicas : List (Option ReplicaScript)) (start : List Deed) (order : List Place) (turn_counts : ℕ → Option (List ℕ)) (runs : List SessionRun) : Type 0 where
   pub requests : List (List Request)
   pub asked : AreRequestsOfAll may_give 1 sessions requests
   pub turns : List Turn
   pub last : ℕ
   pub end : Progress
-  pub drawn : AreDrawn seed (record { machine = beginning requests; others = replica_totals replicas }) turns last end
+  pub drawn : AreDrawn seed (record { machine = beginning requests; others = replica_totals replicas; turn_counts = λ i. [] }) turns last end
   pub done : going end ≡ []
   pub told : IsTold start end.machine.order
   pub order_is : map (placed sessions) order ≡ map (λ c. c.place) end.machine.order
   pub stops : All (StopsFailed runs) turns
+  pub counts : (i : ℕ) → turn_counts i ≡ Some (end.turn_counts i)

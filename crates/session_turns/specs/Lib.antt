@@ -1,6 +1,7 @@
 pub mod Drawn
 pub mod Running
 pub mod Beginning
+pub mod Counted
 pub mod Answering
 pub mod Along
 pub mod Taking

@@ -42,7 +42,8 @@ fresh_runs totals = map (λ total. fresh) totals
 
 -- ---- all parties
 
--- What stays the same in all turns of a run: what its parties ask, the depot from which the files began and the moment since when, and what each sink had got.
+-- What stays the same in all turns of a run: what its parties ask, the depot from which the files began and the moment since when, what each sink had got, and the counts
+-- of faults of the journal's disk and of that of the contents.
 pub record Scene : Type 0 where
   pub sessions : List (Option Session)
   pub scripts : List (Option ReplicaScript)
@@ -50,6 +51,8 @@ pub record Scene : Type 0 where
   pub since : ℕ
   pub start : List Deed
   pub before : List (Option (List ℕ))
+  pub faults : ℕ
+  pub content_faults : ℕ
 
 -- The sessions' sinks have the replies of the commands that were taken, and the machine is at their order, with the rest of the requests.
 pub record IsUnderWay (may_give : ℕ → Type 0) (scene : Scene) (s : State) (runs : List SessionRun) (now : List (Option (List ℕ))) (order : List Place) : Type 0 where

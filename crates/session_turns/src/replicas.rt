@@ -104,7 +104,7 @@ impl Replicas {
         ensures groups { (c : Chronicle) → HasGroups D.says depot.old.journal c → HasGroups D.says depot.new.journal c }
         ensures stored { KeepsStored D.says depot.old.archive depot.new.archive }
         ensures others { self.new.others ≡ self.old.others }
-        ensures stepped { (p : AnyParty) → slice_get self.old.parties.items at ≡ Some (Some p) → 0 < length p.left.items → IsStepped D.says depot.old at p self.old self.new (text_of result) }
+        ensures stepped { (p : AnyParty) → slice_get self.old.parties.items at ≡ Some (Some p) → 0 < length p.left.items → IsStepped D.says depot.old depot.new at p self.old self.new (text_of result) }
         ensures never_falls { D.says.faults (disk_of depot.old.journal) ≤ D.says.faults (disk_of depot.new.journal) }
         ensures never_falls_contents { D.says.faults (archive_disk_of depot.old.archive) ≤ D.says.faults (archive_disk_of depot.new.archive) }
         ensures told { self.new.lost ≡ false → (self.old.lost ≡ false) × HaveStood D.says depot.old depot.new }

@@ -5,14 +5,14 @@ ghost use Rattle.archive_file.specs.Archive.{disk_of as archive_disk_of};
 ghost use Rattle.depot_rows.specs.depot_model.Deeds.{Deed};
 ghost use Rattle.depot_runs.specs.Run.{placed};
 ghost use Rattle.disk_journal.specs.Stands.{disk_of};
-ghost use Rattle.run_parties.specs.Replicas.{AreReplicasServed, AreReplicasTold, OneHasRisen};
+ghost use Rattle.run_parties.specs.Replicas.{OneHasRisen};
 ghost use Rattle.run_parties.specs.Served.{AreApart, AreEnds, AreServed};
 ghost use Rattle.run_parties.specs.replica_turns.Master.{CanBeFollowed, IsMaster, Past};
 ghost use Rattle.run_parties.specs.depot_commit.Growing.{Chronicle};
 ghost use Rattle.run_parties.specs.serial_depot.Running.{CanTake, HasRun};
 ghost use Rattle.session_loop.specs.Asking.{AreWellFormed, commands_of, replica_commands};
-ghost use Rattle.session_loop.specs.Served.{AreCaused, StandWithoutFaults};
-ghost use Rattle.session_turns.specs.Drawn.{IsDrawn};
+ghost use Rattle.session_loop.specs.Served.{AreCaused, HaveRisenBy, StandWithoutFaults};
+ghost use Rattle.session_turns.specs.Counted.{AreCounted};
 
 use crate::answers::answer_rest;
 use crate::beginning::Beginning;
@@ -76,21 +76,15 @@ pub fn run_sessions<D: Disk, K: Sink + Drop, C: Clock, G: Gate>(
     // From each depot from which the depot in files begins, where the commands are well-formed.
     ensures served { (since : ℕ) (start : List Deed) → All (λ session. AreWellFormed (commands_of session)) sessions.items → HasRun D.says depot since start [] →
         IfOk result (λ ran. AreServed (C.says.may_give clock.now) sessions.items replicas.items start ran.runs.items (map K.says.given sinks.items) (map K.says.given ran.sinks.items) ran.order.items) }
-    ensures replicas { (since : ℕ) (start : List Deed) → All (λ session. AreWellFormed (commands_of session)) sessions.items → All (λ script. AreWellFormed (replica_commands script)) replicas.items → HasRun D.says depot since start [] →
-        IfOk result (λ ran. AreReplicasServed D.says (C.says.may_give clock.now) sessions.items replicas.items since start ran.order.items ran.runs.items ran.lost (map K.says.given sinks.items) (map K.says.given ran.sinks.items)) }
-    // Along a depot that they follow the replies of replicas are, but for those to `pull`, those of the depot after its first changes, as many as the last
-    // `pull` told, cut to their filters; and each `pull` that tells a position took of the journal as it was then.
-    ensures told { (past : Past) (since : ℕ) (start : List Deed) (c : Chronicle) → All (λ session. AreWellFormed (commands_of session)) sessions.items → All (λ script. AreWellFormed (replica_commands script)) replicas.items →
-        HasRun D.says depot since start [] → IsMaster D.says past start [] depot c →
-        IfOk result (λ ran. AreReplicasTold past start sessions.items replicas.items (C.says.may_give clock.now) ran.order.items ran.runs.items (map K.says.given sinks.items) (map K.says.given ran.sinks.items)) }
+    // The order is that of the machine with the turns that the seed draws, and each command of a replica is answered over as many places as it had at its turn. Fault
+    // places and replies of a failed disk are together at most as many as the counts of the two disks rose.
+    ensures counted { (since : ℕ) (start : List Deed) → All (λ session. AreWellFormed (commands_of session)) sessions.items → HasRun D.says depot since start [] →
+        IfOk result (λ ran. AreCounted D.says (C.says.may_give clock.now) seed depot sessions.items replicas.items since start ran.order.items ran.runs.items ran.lost (λ failures. HaveRisenBy failures (D.says.faults (disk_of depot.journal)) (D.says.faults (disk_of ran.depot.journal)) (D.says.faults (archive_disk_of depot.archive)) (D.says.faults (archive_disk_of ran.depot.archive))) (map K.says.given sinks.items) (map K.says.given ran.sinks.items)) }
     // From a depot that they follow on, the depot at the end is one that they follow after the places.
     ensures master { (past : Past) (since : ℕ) (start : List Deed) (c : Chronicle) → All (λ session. AreWellFormed (commands_of session)) sessions.items → HasRun D.says depot since start [] → IsMaster D.says past start [] depot c →
         IfOk result (λ ran. CanBeFollowed D.says past start (map (placed sessions.items) ran.order.items) ran.depot) }
     ensures ran { (since : ℕ) (start : List Deed) → All (λ session. AreWellFormed (commands_of session)) sessions.items → HasRun D.says depot since start [] →
         IfOk result (λ ran. HasRun D.says ran.depot since start (map (placed sessions.items) ran.order.items)) }
-    // The order is that of the machine with the turns that the seed draws.
-    ensures drawn { (since : ℕ) (start : List Deed) → All (λ session. AreWellFormed (commands_of session)) sessions.items → HasRun D.says depot since start [] →
-        IfOk result (λ ran. IsDrawn (C.says.may_give clock.now) seed sessions.items replicas.items start ran.order.items ran.runs.items) }
 
     ensures ends { IfOk result (λ ran. AreEnds K.says sessions.items replicas.items ran.runs.items sinks.items ran.sinks.items) }
 

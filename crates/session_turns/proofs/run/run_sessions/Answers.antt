@@ -1,10 +1,10 @@
-use Rattle.std.proofs.Common.{◌≡◌, List, sym, subst}
+use Rattle.std.proofs.Common.{List, subst}
 use Rattle.archive_file.specs.Archive.{disk_of as archive_disk_of}
 use Rattle.depot_rows.specs.depot_model.declared.order.Place.{Place}
 use Rattle.disk_journal.specs.Stands.{disk_of}
 use Rattle.session_loop.specs.Served.{AreCaused, StandWithoutFaults}
 use Rattle.session_turns.proofs.Losing.{not_before}
-use Rattle.session_turns.proofs.Whole.{whole_drawn, whole_ends, whole_master, whole_ran, whole_replicas, whole_served, whole_told}
+use Rattle.session_turns.proofs.Whole.{whole_counted, whole_ends, whole_master, whole_ran, whole_served}
 use Rattle.session_turns.proofs.run.run_sessions.Goals as goal
 
 pub returns-clause-served : goal.returns-clause-served
@@ -12,18 +12,6 @@ returns-clause-served g c = λ since start formed h.
     let rest = c.answer_rest.ensures in
     whole_served _ _ _ _ _ c.args.depot c.args.sinks _ c.new-2.ensures.items _ c.tables.ensures _ c.in-Ok.ensures _ c.requires.as_many_replicas c.requires.apart c.requires.few_parties c.requires.few c.requires.few_replicas
     c.args.seed c.take_all.ensures.turns _ c.deref.ensures.value _ _ rest.none rest.same since start formed h
-
-pub returns-clause-replicas : goal.returns-clause-replicas
-returns-clause-replicas g c = λ since start formed well h.
-    let rest = c.answer_rest.ensures in
-    whole_replicas _ _ _ _ _ c.args.depot c.args.sinks _ c.new-2.ensures.items _ c.tables.ensures _ c.in-Ok.ensures _ c.requires.as_many_replicas c.requires.apart c.requires.few_parties c.requires.few c.requires.few_replicas
-    c.args.seed c.take_all.ensures.turns _ c.deref.ensures.value _ _ rest.none rest.same since start formed h well
-
-pub returns-clause-told : goal.returns-clause-told
-returns-clause-told g c = λ past since start all formed well h master.
-    let rest = c.answer_rest.ensures in
-    whole_told _ _ _ _ _ c.args.depot c.args.sinks _ c.new-2.ensures.items _ c.tables.ensures _ c.in-Ok.ensures _ c.requires.as_many_replicas c.requires.apart c.requires.few_parties c.requires.few c.requires.few_replicas
-    c.args.seed c.take_all.ensures.turns _ c.deref.ensures.value _ _ rest.none rest.same since start formed h well past all master
 
 pub returns-clause-master : goal.returns-clause-master
 returns-clause-master g c = λ past since start all formed h master.
@@ -37,10 +25,10 @@ returns-clause-ran g c = λ since start formed h.
     whole_ran _ _ _ _ _ c.args.depot c.args.sinks _ c.new-2.ensures.items _ c.tables.ensures _ c.in-Ok.ensures _ c.requires.as_many_replicas c.requires.apart c.requires.few_parties c.requires.few c.requires.few_replicas
     c.args.seed c.take_all.ensures.turns _ c.deref.ensures.value _ _ rest.none rest.same since start formed h
 
-pub returns-clause-drawn : goal.returns-clause-drawn
-returns-clause-drawn g c = λ since start formed h.
+pub returns-clause-counted : goal.returns-clause-counted
+returns-clause-counted g c = λ since start formed h.
     let rest = c.answer_rest.ensures in
-    whole_drawn _ _ _ _ _ c.args.depot c.args.sinks _ c.new-2.ensures.items _ c.tables.ensures _ c.in-Ok.ensures _ c.requires.as_many_replicas c.requires.apart c.requires.few_parties c.requires.few c.requires.few_replicas
+    whole_counted _ _ _ _ _ c.args.depot c.args.sinks _ c.new-2.ensures.items _ c.tables.ensures _ c.in-Ok.ensures _ c.requires.as_many_replicas c.requires.apart c.requires.few_parties c.requires.few c.requires.few_replicas
     c.args.seed c.take_all.ensures.turns _ c.deref.ensures.value _ _ rest.none rest.same since start formed h
 
 pub returns-clause-ends : goal.returns-clause-ends

@@ -1,4 +1,4 @@
-use Rattle.std.proofs.Common.{ℕ, List, Option, length, map, sym, ap, subst, ◌∙◌, arith, Vec, Global}
+use Rattle.std.proofs.Common.{List, Option, length, map, sym, ap, subst, ◌∙◌, arith, Vec, Global}
 use Rattle.depot_rows.specs.Standing.{Stand}
 use Rattle.depot_rows.specs.depot_model.declared.request.Request.{Request}
 use Rattle.depot_rows.specs.depot_model.declared.request.Session.{Session}

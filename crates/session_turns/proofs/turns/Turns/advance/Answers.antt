@@ -1,4 +1,4 @@
-use Rattle.std.proofs.Common.{◌≡◌, true, false, List, ℕ, sym, ap, ◌∙◌, inl}
+use Rattle.std.proofs.Common.{◌≡◌, false, List, ℕ, sym, ap, ◌∙◌, inl}
 use Rattle.lock_core.specs.Drawing.{has_other}
 use Rattle.lock_machine.specs.Machine.{is_enabled}
 use Rattle.session_turns.proofs.Advancing.{session_advances}
@@ -16,7 +16,7 @@ returns-else-has_left-clause-turn g c = λ scene p r may.
     let none : has_other p.others party ≡ false = ap (λ (os : List ℕ). has_other os party) r.others ∙ (sym c.has_left.ensures ∙ c.if-has_left.false) in
     let enabled = either_first (is_enabled p.machine party) (has_other p.others party) may none in
     let taken = c.take_turn.ensures.turn scene p.machine r.running enabled in
-    (taken.0, session_advances _ _ _ scene p c.args.self.now _ r party none c.take_turn.ensures.replicas taken.1)
+    (taken.0, session_advances _ _ _ scene p c.args.self.now _ r party none c.take_turn.ensures.replicas c.take_turn.ensures.faults taken.1)
 
 pub returns-then-has_left-clause-within : goal.returns-then-has_left-clause-within
 returns-then-has_left-clause-within g c = c.take_replica_turn.ensures.within
