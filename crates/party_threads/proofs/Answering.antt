@@ -1,5 +1,5 @@
 -- A replica's answers, one after another, each over a depot that had run the places of all that its party knew then, and that it follows.
-use Rattle.std.proofs.Common.{◌≡◌, ◌≤◌, ◌+◌, ◌||◌, ℕ, Bool, true, false, List, [], ◌∷◌, ◌++◌, length, map, Option, Result, Ok, Err, refl, sym, ap, subst, ◌∙◌, arith}
+use Rattle.std.proofs.Common.{◌≡◌, ◌≤◌, ◌+◌, ℕ, Bool, true, false, List, [], ◌∷◌, ◌++◌, length, map, Option, None, Result, Ok, Err, refl, sym, ap, subst, ◌∙◌, arith}
 use Rattle.std.proofs.lemmas.List.{length-append, map-append}
 use mathlib.Core.List.{IsPrefix}
 use Rattle.archive_file.specs.declared.archive.Archive.{Archive}
@@ -12,7 +12,8 @@ use Rattle.outside_api.specs.Count.{HasRisen}
 use Rattle.outside_api.specs.Disk.{Files}
 use Rattle.outside_api.specs.Says.{DiskSays, SinkSays}
 use Rattle.party_marks.specs.Known.{PassKnown}
-use Rattle.party_marks.specs.Marks.{has_marks}
+use Rattle.party_marks.specs.Marks.{marks_of}
+use Rattle.party_marks.specs.declared.mark.Mark.{Mark}
 use Rattle.run_parties.proofs.Outputs.{got_more}
 use Rattle.run_parties.proofs.Replicas.{plain, turned_plain}
 use Rattle.run_parties.proofs.replica_turns.Along.{along_first, along_later, along_longer, along_turned, told_of}
@@ -23,7 +24,7 @@ use Rattle.run_parties.specs.Served.{IsEnd}
 use Rattle.run_parties.specs.depot_commit.Growing.{Chronicle, grown}
 use Rattle.run_parties.specs.depot_commit.Opening.{opens_generation}
 use Rattle.run_parties.specs.replica_turns.Along.{IsAlong, IsToldOutput}
-use Rattle.run_parties.specs.replica_turns.Going.{HasGotTexts, IsFresh, IsGoing, IsReplicaOutput, is_lost, reply_text}
+use Rattle.run_parties.specs.replica_turns.Going.{HasGotTexts, IsFresh, IsGoing, IsReplicaOutput, is_lost, one_if, reply_text}
 use Rattle.run_parties.specs.replica_turns.Master.{Past}
 use Rattle.run_parties.specs.replica_turns.declared.party.Answered.{Answered}
 use Rattle.run_parties.specs.replica_turns.declared.party.ReplicaParty.{ReplicaParty}
@@ -32,7 +33,7 @@ use Rattle.session_loop.specs.declared.reading.ReplicaScript.{ReplicaScript}
 use Rattle.shared_depot.proofs.Fronts.{stored_front}
 use Rattle.shared_depot.proofs.Quietly.{chronicle_append}
 use Rattle.shared_depot.specs.Common.{HasAllStored, Masters, chronicle_after}
-use Rattle.shared_depot.specs.Replicas.{IsReplicaTurn}
+use Rattle.shared_depot.specs.Replicas.{IsReplicaTurn, mark_count}
 use Rattle.wire_text.proofs.Pieces.{extended-nil}
 use Rattle.party_threads.specs.Replicas.{IsReplicaServed, IsStep}
 
@@ -52,7 +53,7 @@ turn_plain disk_says end images begins masters old new old_marks new_marks p q r
     later = t.heard.later;
     own = t.heard.own;
     marks_party = t.heard.marks_party;
-    marked = t.heard.marked ∙ ap (λ (b : Bool). has_marks old_marks.party old_marks.list || b) (lost_plain result);
+    marked = t.heard.marked ∙ ap (λ (b : Bool). mark_count old_marks + one_if b) (lost_plain result);
   };
 }
 
@@ -63,48 +64,48 @@ longer : (known order : List Taken) (first : IsPrefix known order) → map place
 longer known order first = sym (map-append placed_of known first.0) ∙ ap (map placed_of) first.1
 
 module _ {D : Type 0} (disk_says : DiskSays D) (since : ℕ) (start : List Deed) (may_give : ℕ → Type 0) (party : ℕ) (script : ReplicaScript) (known order : List Taken) (first : IsPrefix known order) where
-  going_wider : (p : ReplicaParty) (texts : List (List ℕ)) (lost : Bool) → IsGoing disk_says since start (map placed_of known) may_give party script p texts lost
-      → IsGoing disk_says since start (map placed_of order) may_give party script p texts lost
-  going_wider p texts lost going =
-      subst (λ (places : List Placed). IsGoing disk_says since start places may_give party script p texts lost) (longer known order first)
-      (going_longer disk_says since start (map placed_of known) may_give party script (map placed_of first.0) p texts lost going)
+  going_wider : (p : ReplicaParty) (counts : List ℕ) (texts : List (List ℕ)) (lost : ℕ) → IsGoing disk_says since start (map placed_of known) may_give party script p counts texts lost
+      → IsGoing disk_says since start (map placed_of order) may_give party script p counts texts lost
+  going_wider p counts texts lost going =
+      subst (λ (places : List Placed). IsGoing disk_says since start places may_give party script p counts texts lost) (longer known order first)
+      (going_longer disk_says since start (map placed_of known) may_give party script (map placed_of first.0) p counts texts lost going)
 
-  pub output_wider : (commands : ℕ) (failed lost : Bool) (before now : Option (List ℕ)) → IsReplicaOutput disk_says since start (map placed_of known) may_give party script commands failed lost before now
-      → IsReplicaOutput disk_says since start (map placed_of order) may_give party script commands failed lost before now
+  pub output_wider : (commands : ℕ) (failed : Bool) (lost : ℕ) (before now : Option (List ℕ)) → IsReplicaOutput disk_says since start (map placed_of known) may_give party script None commands failed lost before now
+      → IsReplicaOutput disk_says since start (map placed_of order) may_give party script None commands failed lost before now
   output_wider commands failed lost before now o =
-      record { replica = o.replica; texts = o.texts; count = o.count; going = going_wider o.replica o.texts lost o.going; got = o.got }
+      record { replica = o.replica; texts = o.texts; count = o.count; counts = o.counts; counted = o.counted; going = going_wider o.replica o.counts o.texts lost o.going; got = o.got }
 
 -- ---- along a depot that is followed
 
 module _ (may_give : ℕ → Type 0) (party : ℕ) (script : ReplicaScript) (past : Past) (start : List Deed) where
   -- the journal grew by more places
-  along_places : (places : List Placed) (q : ReplicaParty) (c : Chronicle) (rest : List Taken) (texts : List (List ℕ)) → IsAlong past start places may_give party script q c texts
-      → IsAlong past start places may_give party script q (chronicle_after c rest) texts
-  along_places places q c [] texts along = along
-  along_places places q c (entry ∷ rest) texts along =
+  along_places : (places : List Placed) (q : ReplicaParty) (c : Chronicle) (rest : List Taken) (counts : List ℕ) (texts : List (List ℕ)) → IsAlong past start places may_give party script q c counts texts
+      → IsAlong past start places may_give party script q (chronicle_after c rest) counts texts
+  along_places places q c [] counts texts along = along
+  along_places places q c (entry ∷ rest) counts texts along =
       let next = grown (opens_generation entry.request) entry.fault entry.changes c in
-      along_places places q next rest texts
-      (along_later past start places may_give party script q c next (texts_grow (opens_generation entry.request) entry.fault entry.changes c) texts along)
+      along_places places q next rest counts texts
+      (along_later past start places may_give party script q c next (texts_grow (opens_generation entry.request) entry.fault entry.changes c) counts texts along)
 
   module _ (known order : List Taken) (first : IsPrefix known order) where
     -- it goes on over a longer order
-    along_longer_order : (q : ReplicaParty) (c : Chronicle) (texts : List (List ℕ)) → IsAlong past start (map placed_of known) may_give party script q c texts
-        → IsAlong past start (map placed_of order) may_give party script q c texts
-    along_longer_order q c texts along =
-        subst (λ (places : List Placed). IsAlong past start places may_give party script q c texts) (longer known order first) (along_longer past start (map placed_of known) may_give party script q c (map placed_of first.0) texts along)
+    along_longer_order : (q : ReplicaParty) (c : Chronicle) (counts : List ℕ) (texts : List (List ℕ)) → IsAlong past start (map placed_of known) may_give party script q c counts texts
+        → IsAlong past start (map placed_of order) may_give party script q c counts texts
+    along_longer_order q c counts texts along =
+        subst (λ (places : List Placed). IsAlong past start places may_give party script q c counts texts) (longer known order first) (along_longer past start (map placed_of known) may_give party script q c (map placed_of first.0) counts texts along)
 
-    along_on : (q : ReplicaParty) (c : Chronicle) (texts : List (List ℕ)) → IsAlong past start (map placed_of known) may_give party script q (chronicle_after c known) texts
-        → IsAlong past start (map placed_of order) may_give party script q (chronicle_after c order) texts
-    along_on q c texts along =
+    along_on : (q : ReplicaParty) (c : Chronicle) (counts : List ℕ) (texts : List (List ℕ)) → IsAlong past start (map placed_of known) may_give party script q (chronicle_after c known) counts texts
+        → IsAlong past start (map placed_of order) may_give party script q (chronicle_after c order) counts texts
+    along_on q c counts texts along =
         let before = chronicle_after c known in
-        subst (λ (now : Chronicle). IsAlong past start (map placed_of order) may_give party script q now texts) (sym (chronicle_append c known first.0) ∙ ap (chronicle_after c) first.1)
-        (along_places (map placed_of order) q before first.0 texts (along_longer_order q before texts along))
+        subst (λ (now : Chronicle). IsAlong past start (map placed_of order) may_give party script q now counts texts) (sym (chronicle_append c known first.0) ∙ ap (chronicle_after c) first.1)
+        (along_places (map placed_of order) q before first.0 counts texts (along_longer_order q before counts texts along))
 
     -- what was told is told over it too
-    pub told_wider : (commands : ℕ) (failed : Bool) (before now : Option (List ℕ)) → IsToldOutput past start (map placed_of known) may_give party script commands failed before now
-        → IsToldOutput past start (map placed_of order) may_give party script commands failed before now
+    pub told_wider : (commands : ℕ) (failed : Bool) (before now : Option (List ℕ)) → IsToldOutput past start (map placed_of known) may_give party script None commands failed before now
+        → IsToldOutput past start (map placed_of order) may_give party script None commands failed before now
     told_wider commands failed before now o =
-        record { replica = o.replica; journal = o.journal; texts = o.texts; count = o.count; along = along_longer_order o.replica o.journal o.texts o.along; got = o.got }
+        record { replica = o.replica; journal = o.journal; texts = o.texts; count = o.count; counts = o.counts; counted = o.counted; along = along_longer_order o.replica o.journal o.counts o.texts o.along; got = o.got }
 
 module _ {D K : Type 0} (disk_says : DiskSays D) (end : ℕ) (images : Files → Type 0) (begins : ℕ → List Deed → Type 0) (masters : Masters) (sink_says : SinkSays K) (may_give : ℕ → Type 0) (party : ℕ) (p : ReplicaParty)
     (first : K) where
@@ -114,14 +115,14 @@ module _ {D K : Type 0} (disk_says : DiskSays D) (end : ℕ) (images : Files →
   -- the replies to the first commands, so many, along the depot that the replica follows, which the sink got
   abbrev Told : Past → List Deed → Chronicle → ReplicaScript → ℕ → Bool → List Taken → ReplicaParty → K → Type 0
   Told past start c script n failed known q sink =
-      (texts : List (List ℕ)) × (length texts ≡ n) × IsAlong past start (map placed_of known) may_give party script q (chronicle_after c known) texts × HasGotTexts failed texts (sink_says.given first) (sink_says.given sink)
+      (counts : List ℕ) × (texts : List (List ℕ)) × (length texts ≡ n) × IsAlong past start (map placed_of known) may_give party script q (chronicle_after c known) counts texts × HasGotTexts failed texts (sink_says.given first) (sink_says.given sink)
 
   -- The replica answered its first commands, so many, and the sink got the replies.
   pub record HasAnswered (n : ℕ) (failed : Bool) (known : PartyKnown) (marks : PassKnown) (q : ReplicaParty) (sink : K) : Type 0 where
     pub party_is : known.party ≡ party
     pub none : of_party party known.list ≡ []
     pub gave : (archive : Archive D) → Stored known.list archive → (since : ℕ) (start : List Deed) (script : ReplicaScript) → begins since start → IsFresh may_give party script p → AreWellFormed script.session.commands
-        → HasGiven disk_says since start (map placed_of known.list) may_give party script q (record { commands = n; failed = failed }) (has_marks marks.party marks.list) (sink_says.given first) (sink_says.given sink)
+        → (counts : List ℕ) × HasGiven disk_says since start (map placed_of known.list) may_give party script q (record { commands = n; failed = failed }) counts (mark_count marks) (sink_says.given first) (sink_says.given sink)
     pub told : (archive : Archive D) → Stored known.list archive → (since : ℕ) (past : Past) (start : List Deed) (c : Chronicle) (script : ReplicaScript) → begins since start → masters past start c → IsFresh may_give party script p
         → AreWellFormed script.session.commands → Told past start c script n failed known.list q sink
     pub counts : sink_says.faults first ≤ sink_says.faults sink
@@ -131,11 +132,13 @@ module _ {D K : Type 0} (disk_says : DiskSays D) (end : ℕ) (images : Files →
     party_is = party_is;
     none = ap (of_party party) none;
     gave = λ archive all since start script begun fresh well.
-        let Given : Bool → Type 0 = λ lost. HasGiven disk_says since start (map placed_of known.list) may_give party script p (record { commands = 0; failed = false }) lost (sink_says.given first) (sink_says.given first) in
-        subst Given (sym (ap (has_marks marks.party) unmarked))
-        (record { texts = []; count = refl; going = fresh_goes disk_says since start (map placed_of known.list) may_give party script p fresh well; got = sym (extended-nil (sink_says.given first)) });
+        let Given : ℕ → Type 0 = λ lost. HasGiven disk_says since start (map placed_of known.list) may_give party script p (record { commands = 0; failed = false }) [] lost (sink_says.given first) (sink_says.given first) in (
+          [],
+          subst Given (sym (ap (λ (l : List Mark). length (marks_of marks.party l)) unmarked))
+              (record { texts = []; count = refl; going = fresh_goes disk_says since start (map placed_of known.list) may_give party script p fresh well; got = sym (extended-nil (sink_says.given first)) }),
+        );
     told = λ archive all since past start c script begun follows fresh well.
-        ([], refl, along_first past start (map placed_of known.list) may_give party script p (chronicle_after c known.list) fresh well, sym (extended-nil (sink_says.given first)));
+        ([], [], refl, along_first past start (map placed_of known.list) may_give party script p (chronicle_after c known.list) fresh well, sym (extended-nil (sink_says.given first)));
     counts = omega arith;
   }
 
@@ -155,36 +158,40 @@ module _ {D K : Type 0} (disk_says : DiskSays D) (end : ℕ) (images : Files →
     one_longer texts text count = let long = length-append texts (text ∷ []) in omega (arith, long, count)
 
     more_given : (archive : Archive D) → Stored new.list archive → (since : ℕ) (start : List Deed) (script : ReplicaScript) → begins since start
-        → HasGiven disk_says since start (map placed_of old.list) may_give party script q (record { commands = n; failed = false }) (has_marks old_marks.party old_marks.list) (sink_says.given first) (sink_says.given sink)
-        → HasGiven disk_says since start (map placed_of new.list) may_give party script r (record { commands = n + 1; failed = failed }) (has_marks new_marks.party new_marks.list) (sink_says.given first) (sink_says.given now)
-    more_given archive all since start script begun was =
+        → (counts : List ℕ) × HasGiven disk_says since start (map placed_of old.list) may_give party script q (record { commands = n; failed = false }) counts (mark_count old_marks) (sink_says.given first) (sink_says.given sink)
+        → (counts : List ℕ) × HasGiven disk_says since start (map placed_of new.list) may_give party script r (record { commands = n + 1; failed = failed }) counts (mark_count new_marks) (sink_says.given first) (sink_says.given now)
+    more_given archive all since start script begun (counts, was) =
         let places = map placed_of new.list in
         let heard = step.turn.heard in
         let over = step.turn.turned archive all in
-        let before = has_marks old_marks.party old_marks.list in
-        let going = going_wider disk_says since start may_give party script old.list new.list heard.later q was.texts before was.going in
+        let before = mark_count old_marks in
+        let going = going_wider disk_says since start may_give party script old.list new.list heard.later q counts was.texts before was.going in
         let result = step.result in
         let text = reply_text result (length was.texts + 1) in
-        let Goes : Bool → Type 0 = IsGoing disk_says since start places may_give party script r (was.texts ++ text ∷ []) in
-        record {
-          texts = was.texts ++ text ∷ [];
-          count = one_longer was.texts text was.count;
-          going = subst Goes (sym heard.marked) (goes_on disk_says since start places may_give party script over.0 q r was.texts before result (over.1.0 since start begun) going over.1.2);
-          got = more_got was.texts was.count was.got;
-        }
+        let Goes : ℕ → Type 0 = IsGoing disk_says since start places may_give party script r (counts ++ length places ∷ []) (was.texts ++ text ∷ []) in (
+          counts ++ length places ∷ [],
+          record {
+            texts = was.texts ++ text ∷ [];
+            count = one_longer was.texts text was.count;
+            going = subst Goes (sym heard.marked) (goes_on disk_says since start places may_give party script over.0 q r counts was.texts before result (over.1.0 since start begun) going over.1.2);
+            got = more_got was.texts was.count was.got;
+          },
+        )
 
     more_told : (archive : Archive D) → Stored new.list archive → (since : ℕ) (past : Past) (start : List Deed) (c : Chronicle) (script : ReplicaScript) → begins since start → masters past start c
         → Told past start c script n false old.list q sink → Told past start c script (n + 1) failed new.list r now
     more_told archive all since past start c script begun follows was =
         let over = step.turn.turned archive all in
-        let texts = was.0 in
-        let along = along_on may_give party script past start old.list new.list step.turn.heard.later q c texts was.2 in
+        let counts = was.0 in
+        let texts = was.1 in
+        let along = along_on may_give party script past start old.list new.list step.turn.heard.later q c counts texts was.3 in
         let told = told_of disk_says reads over.0.archive (over.1.0 since start begun).tells over.1.3 in
         let text = reply_text step.result (length texts + 1) in (
+          counts ++ length (map placed_of new.list) ∷ [],
           texts ++ text ∷ [],
-          one_longer texts text was.1,
-          along_turned disk_says reads past start (map placed_of new.list) over.0 (chronicle_after c new.list) (over.1.1 since past start c begun follows) told may_give party script q r texts step.result along over.1.2,
-          more_got texts was.1 was.3,
+          one_longer texts text was.2,
+          along_turned disk_says reads past start (map placed_of new.list) over.0 (chronicle_after c new.list) (over.1.1 since past start c begun follows) told may_give party script q r counts texts step.result along over.1.2,
+          more_got texts was.2 was.4,
         )
 
     pub answered_more : HasAnswered (n + 1) failed new new_marks r now
@@ -215,14 +222,14 @@ module _ {D K : Type 0} (disk_says : DiskSays D) (end : ℕ) (images : Files →
   -- its sink got them so
   pub replica_served : (n : ℕ) (failed : Bool) (known : PartyKnown) (marks : PassKnown) (q : ReplicaParty) (sink : K) → HasAnswered n failed known marks q sink
       → IsEnd sink_says (length p.left.items) (record { commands = n; failed = failed }) first sink
-      → IsReplicaServed disk_says end images begins masters sink_says may_give party p (record { commands = n; failed = failed }) (has_marks marks.party marks.list) first sink known.list
+      → IsReplicaServed disk_says end images begins masters sink_says may_give party p (record { commands = n; failed = failed }) (mark_count marks) first sink known.list
   replica_served n failed known marks q sink a ends = record {
     gave = λ archive all since start script begun fresh well.
         let g = a.gave archive all since start script begun fresh well in
-        record { replica = q; texts = g.texts; count = g.count; going = g.going; got = g.got };
+        record { replica = q; texts = g.1.texts; count = g.1.count; counts = g.0; counted = tt; going = g.1.going; got = g.1.got };
     told = λ archive all since past start c script begun follows fresh well.
         let t = a.told archive all since past start c script begun follows fresh well in
-        record { replica = q; journal = chronicle_after c known.list; texts = t.0; count = t.1; along = t.2; got = t.3 };
+        record { replica = q; journal = chronicle_after c known.list; texts = t.1; count = t.2; counts = t.0; counted = tt; along = t.3; got = t.4 };
     end = ends;
     none = a.none;
   }

@@ -1,5 +1,5 @@
 -- What the parties leave is what each was answered by itself, over one order.
-use Rattle.std.proofs.Common.{◌≡◌, ◌≤◌, ◌+◌, ◌⊎◌, ℕ, zero, suc, Bool, true, false, List, [], ◌∷◌, ◌++◌, length, map, Option, Some, None, Vec, Global, refl, sym, ap, subst, ◌∙◌, arith, inl, inr}
+use Rattle.std.proofs.Common.{◌≡◌, ◌≤◌, ◌+◌, ◌⊎◌, ℕ, zero, suc, Bool, List, [], ◌∷◌, ◌++◌, length, map, Option, Some, None, Vec, Global, refl, sym, ap, subst, ◌∙◌, arith, inl, inr}
 use Rattle.std.specs.Prelude.{◌||◌, All, get_or, slice_get, option_map}
 use Rattle.std.specs.List.{AllByRecursion, list_any}
 use Rattle.std.proofs.Math.Bool.{or-false}
@@ -17,8 +17,8 @@ use Rattle.order_words.specs.Seats.{Run, lane_count}
 use Rattle.outside_api.specs.Disk.{Files}
 use Rattle.outside_api.specs.Says.{DiskSays, SinkSays}
 use Rattle.party_marks.specs.Known.{PassKnown}
-use Rattle.party_marks.specs.Marks.{is_empty}
-use Rattle.run_parties.proofs.Slots.{all_at}
+use Rattle.party_marks.specs.Marks.{marks_of}
+use Rattle.run_parties.proofs.Slots.{all_at, also_at}
 use Rattle.run_parties.specs.Asking.{left_in}
 use Rattle.run_parties.specs.replica_turns.declared.party.ReplicaParty.{ReplicaParty}
 use Rattle.session_loop.specs.declared.session.SessionRun.{SessionRun}
@@ -27,7 +27,7 @@ use Rattle.shared_depot.specs.Common.{Masters, OpenedKnown}
 use Rattle.shared_depot.specs.Sharing.{fresh_marks, fresh_passes}
 use Rattle.party_threads.proofs.Answering.{output_wider, told_wider}
 use Rattle.party_threads.proofs.Entries.{all_push, heard}
-use Rattle.party_threads.specs.Parties.{AreAllServed, AreAsked, AreCollected, AreFreshParties, HaveRun, IsAmong, IsAsked, IsHeard, IsPartyServed, IsReady, is_marked}
+use Rattle.party_threads.specs.Parties.{AreAllServed, AreAsked, AreCollected, AreFreshParties, HaveRun, IsAmong, IsAsked, IsHeard, IsPartyServed, IsReady, is_marked, loss_count}
 use Rattle.party_threads.specs.declared.party.ThreadParty.{ThreadParty}
 
 -- ---- places of lists
@@ -51,31 +51,23 @@ pub each_at : {X : Type 0} (P : X → Type 0) (xs : List X) → ((i : ℕ) (x : 
 each_at P [] each = tt
 each_at P (x ∷ xs) each = (each 0 x refl, each_at P xs (λ i y at. each (suc i) y at))
 
-pub flag_at : {X : Type 0} (flag : X → Bool) (xs : List X) (i : ℕ) (x : X) → slice_get xs i ≡ Some x → get_or (map flag xs) i false ≡ flag x
-flag_at flag [] i x at = absurd cc
-flag_at flag (y ∷ xs) zero x at = ap flag (same_Some _ _ at)
-flag_at flag (y ∷ xs) (suc i) x at = flag_at flag xs i x at
-
-pub any_map : {X : Type 0} (flag : X → Bool) (xs : List X) → list_any flag xs ≡ list_any (λ (f : Bool). f) (map flag xs)
-any_map flag [] = refl
-any_map flag (x ∷ xs) = ap (λ (b : Bool). flag x || b) (any_map flag xs)
+pub count_at : {X : Type 0} (count : X → ℕ) (xs : List X) (i : ℕ) (x : X) → slice_get xs i ≡ Some x → get_or (map count xs) i 0 ≡ count x
+count_at count [] i x at = absurd cc
+count_at count (y ∷ xs) zero x at = ap count (same_Some _ _ at)
+count_at count (y ∷ xs) (suc i) x at = count_at count xs i x at
 
 any_push : {X : Type 0} (flag : X → Bool) (xs : List X) (x : X) → list_any flag (xs ++ x ∷ []) ≡ list_any flag xs || flag x
 any_push flag xs x = list_any-append flag xs (x ∷ []) ∙ ap (λ (b : Bool). list_any flag xs || b) (or-false (flag x))
 
-either_of : (a b : Bool) → (a || b) ≡ true → (a ≡ true) ⊎ (b ≡ true)
-either_of true b is = inl refl
-either_of false b is = inr is
-
 -- one more party leaves what it has
 pub collected_more : {K N : Type 0} (known : OpenedKnown) (done : List (ThreadParty K N)) (party : ThreadParty K N) (runs new_runs : List SessionRun) (sinks new_sinks : List K) (lost told now : Bool) → AreCollected known done runs sinks lost → IsHeard known.order party.pass
-    → new_runs ≡ runs ++ party.run ∷ [] → new_sinks ≡ sinks ++ party.sink ∷ [] → told ≡ is_marked party → (told ≡ true → is_empty known.marks ≡ false) → now ≡ lost || told → AreCollected known (done ++ party ∷ []) new_runs new_sinks now
-collected_more {K} {N} known done party runs new_runs sinks new_sinks lost told now c hears by_run by_sink told_is some now_is = record {
+    → new_runs ≡ runs ++ party.run ∷ [] → new_sinks ≡ sinks ++ party.sink ∷ [] → told ≡ is_marked party → marks_of party.marks.party known.marks ≡ marks_of party.marks.party party.marks.list → now ≡ lost || told → AreCollected known (done ++ party ∷ []) new_runs new_sinks now
+collected_more {K} {N} known done party runs new_runs sinks new_sinks lost told now c hears by_run by_sink told_is own now_is = record {
   heard = all_push (λ (p : ThreadParty K N). IsHeard known.order p.pass) done party c.heard hears;
   runs_are = by_run ∙ (ap (λ (l : List SessionRun). l ++ party.run ∷ []) c.runs_are ∙ sym (map-append (λ (p : ThreadParty K N). p.run) done (party ∷ [])));
   sinks_are = by_sink ∙ (ap (λ (l : List K). l ++ party.sink ∷ []) c.sinks_are ∙ sym (map-append (λ (p : ThreadParty K N). p.sink) done (party ∷ [])));
   told = now_is ∙ ((λ i. c.told i || told_is i) ∙ sym (any_push (λ (p : ThreadParty K N). is_marked p) done party));
-  marked = λ is. elim (either_of lost told (sym now_is ∙ is)) [ inl before ↦ c.marked before | inr last ↦ some last ];
+  marked = all_push (λ (p : ThreadParty K N). marks_of p.marks.party known.marks ≡ marks_of p.marks.party p.marks.list) done party c.marked own;
 }
 
 -- ---- passes
@@ -119,11 +111,11 @@ among_of run n lanes (entry ∷ order) parties =
     ((low, omega (arith, lane, lanes)), among_of run n lanes order parties.1)
 
 module _ {D K : Type 0} (disk_says : DiskSays D) (end : ℕ) (images : Files → Type 0) (may_give : ℕ → Type 0) (sink_says : SinkSays K) (begins : ℕ → List Deed → Type 0) (masters : Masters) where
-  abbrev Served : ℕ → List Request → Option ReplicaParty → SessionRun → Bool → K → K → List Taken → Type 0
+  abbrev Served : ℕ → List Request → Option ReplicaParty → SessionRun → ℕ → K → K → List Taken → Type 0
   Served = IsPartyServed disk_says end images may_give sink_says begins masters
 
   -- what a party was answered is the same over all of an order that its entries begin, if it has no more entries of its own
-  served_heard : (party : ℕ) (requests : List Request) (replica : Option ReplicaParty) (run : SessionRun) (lost : Bool) (old new : K) (known order : List Taken) → IsPrefix known order → of_party party order ≡ of_party party known
+  served_heard : (party : ℕ) (requests : List Request) (replica : Option ReplicaParty) (run : SessionRun) (lost : ℕ) (old new : K) (known order : List Taken) → IsPrefix known order → of_party party order ≡ of_party party known
       → Served party requests replica run lost old new known → Served party requests replica run lost old new order
   served_heard party requests None run lost old new known order first own s = (record { taken = heard may_give begins party requests run (sink_says.given old) (sink_says.given new) known order s.0.taken first own; end = s.0.end }, s.1)
   served_heard party requests (Some p) run lost old new known order first own s = record {
@@ -168,16 +160,22 @@ module _ {D K : Type 0} (disk_says : DiskSays D) (end : ℕ) (images : Files →
 
     -- behind the last
     module _ (news : List (ThreadParty K N)) (run : HaveRun disk_says end images may_give sink_says begins masters olds news) (known : OpenedKnown) (runs : List SessionRun) (left : List K) (lost : Bool) (collected : AreCollected known news runs left lost) where
-      one_served : (p q : ThreadParty K N) (i : ℕ) → slice_get olds i ≡ Some p → slice_get news i ≡ Some q → Served (i + 1) p.requests.items p.replica q.run (is_marked q) p.sink q.sink known.order
+      one_served : (p q : ThreadParty K N) (i : ℕ) → slice_get olds i ≡ Some p → slice_get news i ≡ Some q → Served (i + 1) p.requests.items p.replica q.run (loss_count q) p.sink q.sink known.order
       one_served p q i at_p at_q =
           let one = run i p q at_p at_q in
           let hears = all_at (λ (r : ThreadParty K N). IsHeard known.order r.pass) news i q collected.heard at_q in
           let own : of_party p.pass.party known.order ≡ of_party p.pass.party q.pass.list = subst (λ (party : ℕ). of_party party known.order ≡ of_party party q.pass.list) one.same hears.own in
           let party = ap (λ (k : PartyKnown). k.party) (pass_at i p at_p) in
-          let Whole : ℕ → Type 0 = λ k. Served k p.requests.items p.replica q.run (is_marked q) p.sink q.sink known.order in
-          subst Whole party (served_heard p.pass.party p.requests.items p.replica q.run (is_marked q) p.sink q.sink q.pass.list known.order hears.begins own one.served)
+          let Whole : ℕ → Type 0 = λ k. Served k p.requests.items p.replica q.run (loss_count q) p.sink q.sink known.order in
+          subst Whole party (served_heard p.pass.party p.requests.items p.replica q.run (loss_count q) p.sink q.sink q.pass.list known.order hears.begins own one.served)
 
-      pub served_all : AreAllServed disk_says end images may_give sink_says begins masters (map items_of requests) replicas runs (map (λ (r : ThreadParty K N). is_marked r) news) sinks left known.order
+      -- each has the marks of its number
+      pub numbered : (i : ℕ) (q : ThreadParty K N) → slice_get news i ≡ Some q → length news ≡ length olds → q.marks.party ≡ i + 1
+      numbered i q at_q as_long =
+          let p = also_at news olds i q as_long at_q in
+          (run i p.0 q p.1 at_q).same_marks ∙ ap (λ (k : PassKnown). k.party) (marks_at i p.0 p.1)
+
+      pub served_all : AreAllServed disk_says end images may_give sink_says begins masters (map items_of requests) replicas runs (map (λ (r : ThreadParty K N). loss_count r) news) sinks left known.order
       served_all i own replica ran old new at_own at_replica at_run at_old at_new =
           let asks = from_map items_of requests i own at_own in
           let p = from_map (λ (r : ThreadParty K N). r.requests) olds i asks.0 (ap (λ (rs : List (Vec Request Global)). slice_get rs i) fresh.asks ∙ asks.1) in
@@ -186,12 +184,12 @@ module _ {D K : Type 0} (disk_says : DiskSays D) (end : ℕ) (images : Files →
           let replica_is : p.0.replica ≡ replica = same_Some _ _ (sym (at_map (λ (r : ThreadParty K N). r.replica) olds replicas i p.0 fresh.follows p.1) ∙ at_replica) in
           let old_is : p.0.sink ≡ old = same_Some _ _ (sym (at_map (λ (r : ThreadParty K N). r.sink) olds sinks i p.0 fresh.gives p.1) ∙ at_old) in
           let new_is : q.0.sink ≡ new = same_Some _ _ (sym (at_map (λ (r : ThreadParty K N). r.sink) news left i q.0 (sym collected.sinks_are) q.1) ∙ at_new) in
-          let flag = sym (flag_at (λ (r : ThreadParty K N). is_marked r) news i q.0 q.1) in
-          let Alone : List Request → Option ReplicaParty → SessionRun → Bool → K → K → Type 0 = λ rs o r l x y. Served (i + 1) rs o r l x y known.order in
+          let count = sym (count_at (λ (r : ThreadParty K N). loss_count r) news i q.0 q.1) in
+          let Alone : List Request → Option ReplicaParty → SessionRun → ℕ → K → K → Type 0 = λ rs o r l x y. Served (i + 1) rs o r l x y known.order in
           let one = one_served p.0 q.0 i p.1 q.1 in
-          let by_own = subst (λ (rs : List Request). Alone rs p.0.replica q.0.run (is_marked q.0) p.0.sink q.0.sink) own_is one in
-          let by_replica = subst (λ (o : Option ReplicaParty). Alone own o q.0.run (is_marked q.0) p.0.sink q.0.sink) replica_is by_own in
-          let by_run = subst (λ (r : SessionRun). Alone own replica r (is_marked q.0) p.0.sink q.0.sink) q.2 by_replica in
-          let by_flag = subst (λ (l : Bool). Alone own replica ran l p.0.sink q.0.sink) flag by_run in
-          let lost = get_or (map (λ (r : ThreadParty K N). is_marked r) news) i false in
-          subst (λ (y : K). Alone own replica ran lost old y) new_is (subst (λ (x : K). Alone own replica ran lost x q.0.sink) old_is by_flag)
+          let by_own = subst (λ (rs : List Request). Alone rs p.0.replica q.0.run (loss_count q.0) p.0.sink q.0.sink) own_is one in
+          let by_replica = subst (λ (o : Option ReplicaParty). Alone own o q.0.run (loss_count q.0) p.0.sink q.0.sink) replica_is by_own in
+          let by_run = subst (λ (r : SessionRun). Alone own replica r (loss_count q.0) p.0.sink q.0.sink) q.2 by_replica in
+          let by_count = subst (λ (l : ℕ). Alone own replica ran l p.0.sink q.0.sink) count by_run in
+          let lost = get_or (map (λ (r : ThreadParty K N). loss_count r) news) i 0 in
+          subst (λ (y : K). Alone own replica ran lost old y) new_is (subst (λ (x : K). Alone own replica ran lost x q.0.sink) old_is by_count)

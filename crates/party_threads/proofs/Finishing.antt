@@ -1,10 +1,13 @@
 -- A run whose parties have ended, and what it leaves.
-use Rattle.std.proofs.Common.{◌≡◌, ◌+◌, ℕ, zero, suc, Bool, false, List, [], ◌∷◌, length, map, Option, Some, None, refl, sym, ap, subst, ◌∙◌, arith}
-use Rattle.std.specs.Prelude.{All, get_or, slice_get}
-use Rattle.std.specs.List.{AllByRecursion}
+use Rattle.std.proofs.Common.{◌≡◌, ◌<◌, ◌≤◌, ◌+◌, ℕ, zero, suc, Bool, true, List, [], ◌∷◌, length, map, Option, Some, None, inl, inr, refl, sym, ap, subst, ◌∙◌, arith}
+use Rattle.std.specs.Prelude.{All, get_or, nat_lt, slice_get}
+use Rattle.std.specs.List.{AllByRecursion, sum}
+use Rattle.std.proofs.lemmas.Bool.{ltb-true}
 use Rattle.std.proofs.lemmas.List.{length-map}
 use Rattle.std.proofs.lemmas.List.Elements.{recursion_from_All}
 use Rattle.std.proofs.lemmas.Option.{same_Some}
+use Rattle.archive_file.specs.Archive.{disk_of as archive_disk_of}
+use Rattle.outside_api.specs.Count.{counted}
 use Rattle.outside_api.specs.Disk.{Files}
 use Rattle.outside_api.specs.Says.{DiskSays, SinkSays}
 use Rattle.depot_model.specs.Deeds.{Deed}
@@ -13,12 +16,13 @@ use Rattle.depot_model.specs.declared.order.Place.{Place}
 use Rattle.depot_model.specs.declared.request.Request.{Request}
 use Rattle.depot_model.specs.declared.request.Session.{Session}
 use Rattle.depot_runs.specs.Run.{placed}
+use Rattle.disk_journal.specs.Stands.{disk_of}
 use Rattle.locked_tables.specs.Taken.{placed_of}
 use Rattle.run_parties.proofs.Fresh.{party_at}
 use Rattle.run_parties.proofs.Making.{asked_count, many_of}
 use Rattle.run_parties.proofs.Slots.{all_at, also_at}
 use Rattle.run_parties.specs.Asking.{AreFresh}
-use Rattle.run_parties.specs.Replicas.{AreReplicasServed, AreReplicasTold}
+use Rattle.run_parties.specs.Replicas.{AreReplicasServed, AreReplicasTold, OneHasRisen}
 use Rattle.run_parties.specs.Served.{AreApart, AreEnds, AreServed, IsEnd, total_of}
 use Rattle.run_parties.specs.depot_commit.Growing.{Chronicle}
 use Rattle.run_parties.specs.replica_turns.Along.{IsToldOutput}
@@ -27,7 +31,9 @@ use Rattle.run_parties.specs.replica_turns.Master.{CanBeFollowed, IsMaster, Past
 use Rattle.run_parties.specs.replica_turns.declared.party.ReplicaParty.{ReplicaParty}
 use Rattle.run_parties.specs.serial_depot.Running.{HasRun}
 use Rattle.session_loop.specs.Asking.{AreWellFormed, replica_commands}
+use Rattle.session_loop.proofs.Faults.{risen_by_fewer}
 use Rattle.session_loop.specs.Requests.{AreRequestsOf, AreRequestsOfAll}
+use Rattle.session_loop.specs.Served.{AreCaused, HaveRisenBy, fault_count}
 use Rattle.session_loop.specs.declared.reading.ReplicaScript.{ReplicaScript}
 use Rattle.session_loop.specs.declared.session.SessionRun.{SessionRun}
 use Rattle.shared_depot.specs.Common.{Masters, chronicle_after}
@@ -66,6 +72,31 @@ fresh_count may_give party [] (q ∷ parties) all = absurd all
 fresh_count may_give party (s ∷ scripts) [] all = absurd all
 fresh_count may_give party (s ∷ scripts) (q ∷ parties) all = ap suc (fresh_count may_give (suc party) scripts parties all.1)
 
+-- ---- failed disks
+
+-- the fault places alone are no more
+pub faults_caused : (order : List Place) (losses : List ℕ) (before now contents_before contents_now : ℕ) → HaveRisenBy (fault_count order + sum losses) before now contents_before contents_now
+    → AreCaused before now contents_before contents_now [] order
+faults_caused order losses before now contents_before contents_now risen = (
+  fault_count order,
+  omega arith,
+  risen_by_fewer (fault_count order) (fault_count order + sum losses) before now contents_before contents_now (omega arith) risen,
+)
+
+some_rose : (failures before now contents_before contents_now : ℕ) → 0 < failures → HaveRisenBy failures before now contents_before contents_now → OneHasRisen before now contents_before contents_now
+some_rose failures before now contents_before contents_now some (n, m, all, risen, contents_risen) = go n all risen
+  where
+    go : (n : ℕ) → failures ≡ n + m → counted n before ≤ now → OneHasRisen before now contents_before contents_now
+    go zero all risen = inr (omega (arith, some, all, contents_risen))
+    go (suc n) all risen = inl (omega (arith, risen))
+
+-- where a replica was told of one, one failed
+pub one_rose : (order : List Place) (losses : List ℕ) (lost : Bool) (before now contents_before contents_now : ℕ) → lost ≡ nat_lt 0 (sum losses) → HaveRisenBy (fault_count order + sum losses) before now contents_before contents_now
+    → lost ≡ true → OneHasRisen before now contents_before contents_now
+one_rose order losses lost before now contents_before contents_now told risen is =
+    let some = ltb-true 0 (sum losses) (sym told ∙ is) in
+    some_rose (fault_count order + sum losses) before now contents_before contents_now (omega (arith, some)) risen
+
 -- ---- the parties
 
 module _ {D K : Type 0} (disk_says : DiskSays D) (end : ℕ) (images : Files → Type 0) (sink_says : SinkSays K) (may_give : ℕ → Type 0)
@@ -84,7 +115,7 @@ module _ {D K : Type 0} (disk_says : DiskSays D) (end : ℕ) (images : Files →
   among : AllByRecursion (IsAmong (length sessions)) s.order
   among = let Among : ℕ → Type 0 = λ n. AllByRecursion (IsAmong n) s.order in subst Among count s.among
 
-  abbrev Served : ℕ → List Request → Option ReplicaParty → SessionRun → Bool → K → K → Type 0
+  abbrev Served : ℕ → List Request → Option ReplicaParty → SessionRun → ℕ → K → K → Type 0
   Served party own replica run lost old new = IsPartyServed disk_says end images may_give sink_says begins masters party own replica run lost old new s.order
 
   -- a party that is known to have a script, or none
@@ -93,7 +124,7 @@ module _ {D K : Type 0} (disk_says : DiskSays D) (end : ℕ) (images : Files →
     run : SessionRun
     old : K
     new : K
-    is : Served (i + 1) own replica run (get_or s.flags i false) old new
+    is : Served (i + 1) own replica run (get_or s.losses i 0) old new
 
   there : (i : ℕ) (script : Option ReplicaScript) → slice_get scripts i ≡ Some script → (replica : Option ReplicaParty) → slice_get parties i ≡ Some replica → IsThere i replica
   there i script at replica at_replica =
@@ -154,7 +185,7 @@ module _ {D K : Type 0} (disk_says : DiskSays D) (end : ℕ) (images : Files →
     new : K
     old_is : sink_says.given old ≡ had
     new_is : sink_says.given new ≡ got
-    served : IsReplicaServed disk_says end images begins masters sink_says may_give (i + 1) p run (get_or s.flags i false) old new s.order
+    served : IsReplicaServed disk_says end images begins masters sink_says may_give (i + 1) p run (get_or s.losses i 0) old new s.order
 
   replica_at : All (λ (script : Option ReplicaScript). AreWellFormed (replica_commands script)) scripts → (i : ℕ) (script : ReplicaScript) (run : SessionRun) (had got : Option (List ℕ)) → slice_get scripts i ≡ Some (Some script)
       → slice_get ran.runs.items i ≡ Some run → slice_get (map sink_says.given sinks) i ≡ Some had → slice_get (map sink_says.given ran.sinks.items) i ≡ Some got → IsReplicaThere i script run had got
@@ -177,30 +208,32 @@ module _ {D K : Type 0} (disk_says : DiskSays D) (end : ℕ) (images : Files →
       }
 
   pub all_replicas_served : All (λ (script : Option ReplicaScript). AreWellFormed (replica_commands script)) scripts → (since : ℕ) (start : List Deed) → begins since start
-      → AreReplicasServed disk_says may_give sessions scripts since start ran.order.items ran.runs.items ran.lost (map sink_says.given sinks) (map sink_says.given ran.sinks.items)
+      → AreReplicasServed disk_says may_give sessions scripts since start ran.order.items (λ party. None) ran.runs.items ran.lost
+      (λ failures. HaveRisenBy failures faults_then (disk_says.faults (disk_of ran.depot.journal)) contents_then (disk_says.faults (archive_disk_of ran.depot.archive))) (map sink_says.given sinks) (map sink_says.given ran.sinks.items)
   all_replicas_served formed since start begun = record {
-    flags = s.flags;
+    losses = s.losses;
     told = record {
-      count = s.flags_count ∙ (count ∙ sym as_many);
+      count = s.losses_count ∙ (count ∙ sym as_many);
       none = λ i none. (there i None none None (none_at may_give 1 scripts parties first i none)).is.1;
       one = s.told;
     };
+    failures = s.failures;
     each = λ i script run had got at_script at_run at_had at_got.
         let r = replica_at formed i script run had got at_script at_run at_had at_got in
-        let flag = get_or s.flags i false in
+        let lost = get_or s.losses i 0 in
         let gave = r.served.gave ran.depot.archive s.stored since start script begun r.fresh r.well in
-        let Output : List Placed → Option (List ℕ) → Option (List ℕ) → Type 0 = λ places x y. IsReplicaOutput disk_says since start places may_give (i + 1) script run.commands run.failed flag x y in
+        let Output : List Placed → Option (List ℕ) → Option (List ℕ) → Type 0 = λ places x y. IsReplicaOutput disk_says since start places may_give (i + 1) script None run.commands run.failed lost x y in
         subst (λ (places : List Placed). Output places had got) (sym places_are)
         (subst (λ (y : Option (List ℕ)). Output (map placed_of s.order) had y) r.new_is (subst (λ (x : Option (List ℕ)). Output (map placed_of s.order) x (sink_says.given r.new)) r.old_is gave));
   }
 
   -- along a depot that they follow
   pub all_replicas_told : All (λ (script : Option ReplicaScript). AreWellFormed (replica_commands script)) scripts → (since : ℕ) (past : Past) (start : List Deed) (c : Chronicle) → begins since start → masters past start c
-      → AreReplicasTold past start sessions scripts may_give ran.order.items ran.runs.items (map sink_says.given sinks) (map sink_says.given ran.sinks.items)
+      → AreReplicasTold past start sessions scripts may_give ran.order.items (λ party. None) ran.runs.items (map sink_says.given sinks) (map sink_says.given ran.sinks.items)
   all_replicas_told formed since past start c begun follows i script run had got at_script at_run at_had at_got =
       let r = replica_at formed i script run had got at_script at_run at_had at_got in
       let told = r.served.told ran.depot.archive s.stored since past start c script begun follows r.fresh r.well in
-      let Output : List Placed → Option (List ℕ) → Option (List ℕ) → Type 0 = λ places x y. IsToldOutput past start places may_give (i + 1) script run.commands run.failed x y in
+      let Output : List Placed → Option (List ℕ) → Option (List ℕ) → Type 0 = λ places x y. IsToldOutput past start places may_give (i + 1) script None run.commands run.failed x y in
       subst (λ (places : List Placed). Output places had got) (sym places_are)
       (subst (λ (y : Option (List ℕ)). Output (map placed_of s.order) had y) r.new_is (subst (λ (x : Option (List ℕ)). Output (map placed_of s.order) x (sink_says.given r.new)) r.old_is told))
 

@@ -2,7 +2,7 @@
 
 ghost use Rattle.std.specs.Prelude.{◌≡◌, ◌≤◌, ◌<◌, ◌+◌, [], length};
 ghost use Rattle.party_threads.specs.Replicas.{IsReplicaServed, IsStep};
-ghost use Rattle.party_marks.specs.Marks.{has_marks};
+ghost use Rattle.shared_depot.specs.Replicas.{mark_count};
 
 use locked_tables::PartyPass;
 use outside_api::{Clock, Disk, Sink};
@@ -50,7 +50,8 @@ pub(crate) fn answer_commands<R: Wait, D: Disk, K: Sink, C: Clock, N: Serving>(
     requires unmarked { marks.old.list ≡ [] }
     requires few { length replica.left.items ≤ 67108864 }
     ensures party { pass.new.party ≡ pass.old.party }
-    ensures served { IsReplicaServed D.says N.end N.images N.begins N.masters K.says (C.says.may_give clock.now) pass.old.party replica result (has_marks marks.new.party marks.new.list) sink.old sink.new pass.new.list }
+    ensures marks_party { marks.new.party ≡ marks.old.party }
+    ensures served { IsReplicaServed D.says N.end N.images N.begins N.masters K.says (C.says.may_give clock.now) pass.old.party replica result (mark_count marks.new) sink.old sink.new pass.new.list }
 {
     let total = replica.left_count();
     for number in 0..total {

@@ -1,6 +1,6 @@
 //! The run of all parties.
 
-ghost use Rattle.std.specs.Prelude.{◌≡◌, ◌≤◌, ℕ, List, [], true, length, map, All, IfErr, IfOk};
+ghost use Rattle.std.specs.Prelude.{◌≡◌, ◌≤◌, ℕ, List, [], None, true, false, length, map, All, IfErr, IfOk};
 ghost use Rattle.archive_file.specs.Archive.{disk_of as archive_disk_of};
 ghost use Rattle.depot_model.specs.Deeds.{Deed};
 ghost use Rattle.depot_runs.specs.Run.{placed};
@@ -13,7 +13,7 @@ ghost use Rattle.run_parties.specs.replica_turns.Master.{CanBeFollowed, IsMaster
 ghost use Rattle.run_parties.specs.serial_depot.Running.{CanTake, HasRun};
 ghost use Rattle.session_loop.specs.Asking.{AreWellFormed, commands_of, replica_commands};
 ghost use Rattle.session_loop.specs.Requests.{AreRequestsOfAll};
-ghost use Rattle.session_loop.specs.Served.{AreCaused};
+ghost use Rattle.session_loop.specs.Served.{AreCaused, HaveRisenBy, StandWithoutFaults};
 ghost use Rattle.party_threads.specs.Words.{AreFreshWords};
 
 use crate::threads::run_named;
@@ -151,12 +151,12 @@ pub fn run_on_threads<
     ensures served { (since : ℕ) (start : List Deed) → All (λ session. AreWellFormed (commands_of session)) sessions.items → HasRun D.says depot since start [] →
         IfOk result (λ ran. AreServed (C.says.may_give clock.now) sessions.items replicas.items start ran.runs.items (map K.says.given sinks.items) (map K.says.given ran.sinks.items) ran.order.items) }
     ensures replicas { (since : ℕ) (start : List Deed) → All (λ session. AreWellFormed (commands_of session)) sessions.items → All (λ script. AreWellFormed (replica_commands script)) replicas.items → HasRun D.says depot since start [] →
-        IfOk result (λ ran. AreReplicasServed D.says (C.says.may_give clock.now) sessions.items replicas.items since start ran.order.items ran.runs.items ran.lost (map K.says.given sinks.items) (map K.says.given ran.sinks.items)) }
+        IfOk result (λ ran. AreReplicasServed D.says (C.says.may_give clock.now) sessions.items replicas.items since start ran.order.items (λ party. None) ran.runs.items ran.lost (λ failures. HaveRisenBy failures (D.says.faults (disk_of depot.journal)) (D.says.faults (disk_of ran.depot.journal)) (D.says.faults (archive_disk_of depot.archive)) (D.says.faults (archive_disk_of ran.depot.archive))) (map K.says.given sinks.items) (map K.says.given ran.sinks.items)) }
     // Along a depot that they follow the replies of replicas are, but for those to `pull`, those of the depot after its first changes, as many as the last
     // `pull` told, cut to their filters; and each `pull` that tells a position took of the journal as it was then.
     ensures told { (past : Past) (since : ℕ) (start : List Deed) (c : Chronicle) → All (λ session. AreWellFormed (commands_of session)) sessions.items → All (λ script. AreWellFormed (replica_commands script)) replicas.items →
         HasRun D.says depot since start [] → IsMaster D.says past start [] depot c →
-        IfOk result (λ ran. AreReplicasTold past start sessions.items replicas.items (C.says.may_give clock.now) ran.order.items ran.runs.items (map K.says.given sinks.items) (map K.says.given ran.sinks.items)) }
+        IfOk result (λ ran. AreReplicasTold past start sessions.items replicas.items (C.says.may_give clock.now) ran.order.items (λ party. None) ran.runs.items (map K.says.given sinks.items) (map K.says.given ran.sinks.items)) }
     // From a depot that they follow on, the depot at the end is one that they follow after the places.
     ensures master { (past : Past) (since : ℕ) (start : List Deed) (c : Chronicle) → All (λ session. AreWellFormed (commands_of session)) sessions.items → HasRun D.says depot since start [] → IsMaster D.says past start [] depot c →
         IfOk result (λ ran. CanBeFollowed D.says past start (map (placed sessions.items) ran.order.items) ran.depot) }
@@ -166,7 +166,9 @@ pub fn run_on_threads<
     ensures ends { IfOk result (λ ran. AreEnds K.says sessions.items replicas.items ran.runs.items sinks.items ran.sinks.items) }
 
     // There are at most as many fault places as the counts of the two disks rose, and a replica was answered that a disk failed only where one of them rose.
+    // Where neither is, both stand.
     ensures faults { IfOk result (λ ran. AreCaused (D.says.faults (disk_of depot.journal)) (D.says.faults (disk_of ran.depot.journal)) (D.says.faults (archive_disk_of depot.archive)) (D.says.faults (archive_disk_of ran.depot.archive)) [] ran.order.items) }
+    ensures stand { IfOk result (λ ran. ran.lost ≡ false → StandWithoutFaults (D.says.faults (disk_of depot.journal)) (D.says.faults (disk_of ran.depot.journal)) (D.says.faults (archive_disk_of depot.archive)) (D.says.faults (archive_disk_of ran.depot.archive)) [] ran.order.items) }
     ensures lost { IfOk result (λ ran. ran.lost ≡ true → OneHasRisen (D.says.faults (disk_of depot.journal)) (D.says.faults (disk_of ran.depot.journal)) (D.says.faults (archive_disk_of depot.archive)) (D.says.faults (archive_disk_of ran.depot.archive))) }
 {
     match bring(alloc, sessions, replicas, clock) {

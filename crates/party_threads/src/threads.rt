@@ -7,7 +7,7 @@ ghost use Rattle.depot_model.specs.Deeds.{Deed};
 ghost use Rattle.disk_journal.specs.Stands.{disk_of};
 ghost use Rattle.outside_api.specs.Disk.{Files};
 ghost use Rattle.order_words.specs.Seats.{lane_count};
-ghost use Rattle.party_marks.specs.Marks.{is_empty};
+ghost use Rattle.party_marks.specs.Marks.{marks_of};
 ghost use Rattle.party_threads.specs.Parties.{AreAsked, AreCollected, HasRunParty, HaveRun, HaveRunAll, IsHeard, IsReady, is_marked};
 ghost use Rattle.party_threads.specs.Rooms.{IsRoom};
 ghost use Rattle.party_threads.specs.Words.{AreFreshWords};
@@ -81,7 +81,7 @@ fn hear_party<D: Disk, K: Sink + Drop, N: Serving>(
     ensures sinks_len { vec_len sinks.new ≡ vec_len sinks.old + 1 }
     ensures sinks_room { vec_capacity sinks.old ≤ vec_capacity sinks.new }
     ensures told { result ≡ is_marked party }
-    ensures marked { result ≡ true → is_empty depot.old.marks ≡ false }
+    ensures marked { marks_of party.marks.party depot.old.marks ≡ marks_of party.marks.party party.marks.list }
 {
     let ThreadParty {
         requests,
@@ -172,6 +172,8 @@ fn run_and_close<
     requires passes { shared.passes.items ≡ fresh_passes (length requests.items) }
     requires marks { shared.marks.items ≡ fresh_marks (length requests.items) }
     requires lanes { lane_count N.run ≡ 13 + length requests.items }
+    requires mark_lanes { lane_count N.marks ≡ 1 + length requests.items }
+    requires content_lanes { lane_count N.content_marks ≡ 1 + length requests.items }
     requires as_many { length sinks.items ≡ length requests.items }
     requires as_many_replicas { length replicas.items ≡ length requests.items }
     requires asked { AreAsked N.begins (map (λ own. own.items) requests.items) }

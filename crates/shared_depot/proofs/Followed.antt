@@ -54,9 +54,9 @@ grown_own : (opens fault : Bool) (changes : List Change) (c : Chronicle) → gro
 grown_own opens true changes c = grown_fault opens changes c
 grown_own opens false changes c = refl
 
-module _ {D : Type 0} (disk_says : DiskSays D) (rows : AllRows) (end : ℕ) (images : Files → Type 0) (begins : ℕ → List Deed → Type 0) (masters : Masters) (faults_then : ℕ) where
+module _ {D : Type 0} (disk_says : DiskSays D) (rows : AllRows) (end : ℕ) (images : Files → Type 0) (begins : ℕ → List Deed → Type 0) (masters : Masters) where
   abbrev Ran : List Taken → Tables → Journal D → Type 0
-  Ran order tables journal = HasRunOrder disk_says rows end images begins masters faults_then order tables journal
+  Ran order tables journal = HasRunOrder disk_says rows end images begins masters order tables journal
 
   abbrev Followed : List Taken → Tables → Journal D → Type 0
   Followed order tables journal =
@@ -70,7 +70,7 @@ module _ {D : Type 0} (disk_says : DiskSays D) (rows : AllRows) (end : ℕ) (ima
       let places : map placed_of known ++ map placed_of rest ≡ map placed_of order = sym (map-append placed_of known rest) ∙ ap (map placed_of) on.begins_it.1 in
       let master = was.followed archive (stored_front disk_says end images begins known order archive on.begins_it all) since past start c at begun in
       let stand : Stand (rows_after rows known) (taken step start (map placed_of known)) =
-      subst (λ (r : AllRows). Stand r (taken step start (map placed_of known))) (all_rows disk_says rows end images begins masters faults_then known tables journal was) (was.ran since start at).stand in
+      subst (λ (r : AllRows). Stand r (taken step start (map placed_of known))) (all_rows disk_says rows end images begins masters known tables journal was) (was.ran since start at).stand in
       let longer = master_idle disk_says past start (map placed_of known) (map placed_of rest) depot (chronicle_after c known) master
       (λ n are. subst (AreChanges n start) (sym places) (on.idle n since start at stand are)) in
       subst (IsMaster disk_says past start (map placed_of order) depot) (sym (on.chronicle c))
@@ -107,7 +107,7 @@ module _ {D : Type 0} (disk_says : DiskSays D) (rows : AllRows) (end : ℕ) (ima
         let new : SerialDepot D = record { tables = tables'; journal = journal'; archive = archive } in
         let before = stored_front disk_says end images begins order (order ++ entry ∷ []) archive (entry ∷ [], refl) all in
         let master = was.followed archive before since past start c at begun in
-        let h = depot_ran disk_says rows end images begins masters faults_then order tables journal was archive before since start at in
+        let h = depot_ran disk_says rows end images begins masters order tables journal was archive before since start at in
         let Beside : List (List ℕ) → Type 0 = λ stores. HasRunBeside disk_says images end stores tables' journal' since start (map placed_of order ++ placed_by request fault ∷ []) in
         let h' = beside_ran disk_says end images begins (order ++ entry ∷ []) tables' journal' archive all since start at (map placed_of order ++ placed_by request fault ∷ []) (subst Beside (sym stores_are) (ran since start at)) in
         let now = place_master disk_says past start (map placed_of order) old new (chronicle_after c order) master since h (record { below = λ spot bytes le has. has; more = omega arith }) request outcome

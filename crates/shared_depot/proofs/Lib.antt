@@ -8,9 +8,9 @@ pub mod Fronts
 mod Written
 mod Followed
 mod Committed
-mod Ended
 mod Held
 mod Marks
 mod Turns
+mod Tried
 mod Places
 pub mod Links

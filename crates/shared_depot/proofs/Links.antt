@@ -91,7 +91,7 @@ module _ {D : Type 0} (disk_says : DiskSays D) (end : ℕ) (images : Files → T
   pub told_itself : (order : List Taken) (now : List (List ℕ)) → TellsJournal disk_says end images begins masters order now → IsEarlier now now
   told_itself order now told = subst (λ (t : List (List ℕ)). IsEarlier t t) (sym told.are) (texts_on order order told.first (prefix_self order))
 
-  module _ (rows : AllRows) (faults_then : ℕ) (order : List Taken) (tables : Tables) (journal : Journal D) (was : HasRunOrder disk_says rows end images begins masters faults_then order tables journal) where
+  module _ (rows : AllRows) (order : List Taken) (tables : Tables) (journal : Journal D) (was : HasRunOrder disk_says rows end images begins masters order tables journal) where
     -- tables and a journal that have run an order tell its journal
     pub tells_run : TellsAll disk_says end images begins masters order
     tells_run since past start c at begun = record {

@@ -1,5 +1,5 @@
 -- Tables and a journal that have run an order, and an archive in which its contents were stored, before and after one more command.
-use Rattle.std.proofs.Common.{◌≡◌, ◌≤◌, ◌+◌, ℕ, Bool, true, false, cond, List, [], ◌∷◌, ◌++◌, map, refl, sym, ap, subst, ◌∙◌, append-nil, arith}
+use Rattle.std.proofs.Common.{◌≡◌, ℕ, Bool, true, false, List, [], ◌∷◌, ◌++◌, map, refl, sym, ap, subst, ◌∙◌, append-nil, arith}
 use Rattle.std.specs.Prelude.{if◌then◌else◌}
 use mathlib.Core.List.{map-append}
 use Rattle.archive_file.specs.Archive.{disk_of as archive_disk_of, used_of}
@@ -12,13 +12,11 @@ use Rattle.depot_rows.specs.depot_model.Printed.{printed}
 use Rattle.depot_rows.specs.depot_model.declared.order.Answer.{Answer}
 use Rattle.depot_rows.specs.depot_model.declared.request.Request.{Request}
 use Rattle.depot_rows.specs.depot_model.Commands.{step}
-use Rattle.disk_journal.specs.Stands.{disk_of}
 use Rattle.disk_journal.specs.declared.journal.Journal.{Journal}
 use Rattle.locked_tables.specs.Known.{GoesOnWithout, PartyKnown}
-use Rattle.locked_tables.specs.Taken.{IsOwn, archive_lane, end_after, place_of, placed_of, rows_after}
+use Rattle.locked_tables.specs.Taken.{IsOwn, archive_lane, end_after, journal_lane, place_of, placed_of, rows_after}
 use Rattle.locked_tables.specs.declared.taken.Taken.{Taken}
 use Rattle.order_words.specs.Lanes.{has_lane}
-use Rattle.outside_api.specs.Count.{HasRisen, counted}
 use Rattle.outside_api.specs.Disk.{Files, NoMore}
 use Rattle.outside_api.specs.Says.{DiskSays}
 use Rattle.depot_commit.specs.Committing.{AreRowsAfter, IsOutcomeOf}
@@ -40,9 +38,9 @@ use Rattle.depot_rows.specs.table_changes.Changed.{AllRows, changed_by, rows_of}
 use Rattle.depot_rows.specs.table_store.declared.tables.Tables.{Tables}
 use Rattle.shared_depot.specs.Common.{HasAllStored, HasRunOrder, IsArchiveAfter, IsFollowed, IsLostPlace, HasFitGroups, Masters, chronicle_after}
 use Rattle.shared_depot.specs.Room.{StandsAfter}
-use Rattle.shared_depot.specs.Sharing.{IsTakenAt}
-use Rattle.shared_depot.specs.Stored.{ArchiveKnown, images_after, is_lost, is_unwritten, lost_count, lost_in, stored_end, stores_of, unwritten_count}
-use Rattle.shared_depot.proofs.Stored.{count_caused, count_one, lost_kept, lost_risen, stores_kept, stores_touched}
+use Rattle.shared_depot.specs.Sharing.{ChangesRows, IsTakenAt}
+use Rattle.shared_depot.specs.Stored.{images_after, stored_end, stores_of}
+use Rattle.shared_depot.proofs.Stored.{stores_kept, stores_touched}
 
 -- beside an archive in which the contents of an order were stored tables and a journal are a depot that has run what they have run
 pub beside_ran : {D : Type 0} (disk_says : DiskSays D) (end : ℕ) (images : Files → Type 0) (begins : ℕ → List Deed → Type 0) (order : List Taken) (tables : Tables) (journal : Journal D) (archive : Archive D)
@@ -55,9 +53,9 @@ beside_ran disk_says end images begins order tables journal archive all since st
 }
 
 module _ {D : Type 0} (disk_says : DiskSays D)
-    (rows : AllRows) (end : ℕ) (images : Files → Type 0) (begins : ℕ → List Deed → Type 0) (masters : Masters) (faults_then : ℕ) where
+    (rows : AllRows) (end : ℕ) (images : Files → Type 0) (begins : ℕ → List Deed → Type 0) (masters : Masters) where
   abbrev Ran : List Taken → Tables → Journal D → Type 0
-  Ran order tables journal = HasRunOrder disk_says rows end images begins masters faults_then order tables journal
+  Ran order tables journal = HasRunOrder disk_says rows end images begins masters order tables journal
 
   module _ (order : List Taken) (tables : Tables) (journal : Journal D) (was : Ran order tables journal) where
     -- the rows are those after the order
@@ -85,7 +83,7 @@ module _ {D : Type 0} (disk_says : DiskSays D)
         ∙ ap (λ (all : AllRows). changed_by all changes) (sym all_rows))
 
     -- a command has the place of an entry behind them, and these contents were stored
-    pub run_more : (tables' : Tables) (journal' : Journal D) → CanCommit disk_says journal' → disk_says.faults (disk_of journal) ≤ disk_says.faults (disk_of journal')
+    pub run_more : (tables' : Tables) (journal' : Journal D) → CanCommit disk_says journal'
         → (entry : Taken) (changes : List Change) (stored : List (List ℕ)) → AreRowsAfter (rows_of tables) changes entry.fault (rows_of tables')
         → entry.changes ≡ (if entry.fault then [] else changes)
         → ((table : TableId) → rows_after rows (order ++ entry ∷ []) table ≡ changed_by (rows_after rows order) entry.changes table)
@@ -95,9 +93,8 @@ module _ {D : Type 0} (disk_says : DiskSays D)
         → ((since : ℕ) (past : Past) (start : List Deed) (c : Chronicle) → begins since start → masters past start c → HasFitGroups disk_says past tables' journal' (chronicle_after c (order ++ entry ∷ [])))
         → ((archive : Archive D) → HasAllStored disk_says end images begins (order ++ entry ∷ []) archive
         → IsFollowed disk_says begins masters (order ++ entry ∷ []) (record { tables = tables'; journal = journal'; archive = archive }))
-        → (is_unwritten entry ≡ true → HasRisen (disk_says.faults (disk_of journal)) (disk_says.faults (disk_of journal')))
         → Ran (order ++ entry ∷ []) tables' journal'
-    run_more tables' journal' can le entry changes stored rows_now own rows_placed end_placed ends stores_are ran written followed risen = record {
+    run_more tables' journal' can entry changes stored rows_now own rows_placed end_placed ends stores_are ran written followed = record {
       can = can;
       rows_are = λ table. left table entry.fault entry.changes own rows_now ∙ sym (rows_placed table);
       end_is = sym end_placed;
@@ -107,9 +104,6 @@ module _ {D : Type 0} (disk_says : DiskSays D)
           (subst (λ (l : List (List ℕ)). HasRunBeside disk_says images end l tables' journal' since start (map placed_of order ++ placed_of entry ∷ [])) (sym stores_are) (ran since start at));
       written = written;
       followed = followed;
-      caused = subst (λ (n : ℕ). counted n faults_then ≤ disk_says.faults (disk_of journal')) (sym (count_one is_unwritten order entry))
-          (count_caused (unwritten_count order) faults_then (disk_says.faults (disk_of journal)) (disk_says.faults (disk_of journal')) (is_unwritten entry) was.caused le risen);
-      no_fewer = let before = was.no_fewer in omega (arith, before, le);
     }
       where
         left : (table : TableId) (fault : Bool) (made : List Change) → made ≡ (if fault then [] else changes) → AreRowsAfter (rows_of tables) changes fault (rows_of tables')
@@ -126,11 +120,11 @@ module _ {D : Type 0} (disk_says : DiskSays D)
     depot_ran archive all since start at = beside_ran disk_says end images begins order tables journal archive all since start at (map placed_of order) (was.ran since start at)
 
   -- a journal of which bytes were read, or none, is as good
-  pub run_fetched : (order : List Taken) (tables : Tables) (journal journal' : Journal D) → Ran order tables journal → CanCommit disk_says journal' → disk_says.faults (disk_of journal) ≤ disk_says.faults (disk_of journal')
+  pub run_fetched : (order : List Taken) (tables : Tables) (journal journal' : Journal D) → Ran order tables journal → CanCommit disk_says journal'
       → ((since : ℕ) (start : List Deed) (places : List Placed) → HasRunBeside disk_says images end (stores_of order) tables journal since start places
       → HasRunBeside disk_says images end (stores_of order) tables journal' since start places)
       → ((c : Chronicle) → HasGroups disk_says journal c → HasGroups disk_says journal' c) → Ran order tables journal'
-  run_fetched order tables journal journal' was can le same groups = record {
+  run_fetched order tables journal journal' was can same groups = record {
     can = can;
     rows_are = was.rows_are;
     end_is = was.end_is;
@@ -143,89 +137,64 @@ module _ {D : Type 0} (disk_says : DiskSays D)
         let master = was.followed archive all since past start c at begun in
         unmoved_master disk_says past start (map placed_of order) (record { tables = tables; journal = journal; archive = archive }) (record { tables = tables; journal = journal'; archive = archive })
         (chronicle_after c order) master (record { below = λ spot bytes le has. has; more = omega arith }) refl (groups (chronicle_after c order) master.groups);
-    caused = let before = was.caused in omega (arith, before, le);
-    no_fewer = let before = was.no_fewer in omega (arith, before, le);
   }
 
 -- ---- an archive
 
 module _ {D : Type 0} (disk_says : DiskSays D)
-    (end : ℕ) (images : Files → Type 0) (begins : ℕ → List Deed → Type 0) (faults_then : ℕ) where
-  abbrev Kept : ArchiveKnown → Archive D → Type 0
-  Kept known archive = IsArchiveAfter disk_says end images begins faults_then known archive
+    (end : ℕ) (images : Files → Type 0) (begins : ℕ → List Deed → Type 0) where
+  abbrev Kept : List Taken → Archive D → Type 0
+  Kept order archive = IsArchiveAfter disk_says end images begins order archive
 
   -- more places are known, none of which touched its lane
-  pub archive_learnt : (known : ArchiveKnown) (order : List Taken) (archive : Archive D) → Kept known archive → stores_of order ≡ stores_of known.list → lost_count order ≡ lost_count known.list
-      → Kept (record { list = order; failed = known.failed }) archive
-  archive_learnt known order archive was stores lost = record {
-    used = was.used ∙ ap (λ (l : List (List ℕ)). stores_end l end) (sym stores);
-    among = subst (λ (l : List (List ℕ)). NoMore (HasStored images end l) (disk_says.may_leave (archive_disk_of archive))) (sym stores) was.among;
-    room = was.room;
-    tells = was.tells;
-    caused = let before = was.caused in omega (arith, before, lost);
-    no_fewer = was.no_fewer;
-  }
-
-  -- it has the contents of the places that are known
-  pub has_all : (known : ArchiveKnown) (archive : Archive D) → Kept known archive → HasAllStored disk_says end images begins known.list archive
-  has_all known archive was = record { used = let used = was.used in omega (arith, used); among = was.among; room = was.room; tells = was.tells }
-
-  -- contents were read of it, or none
-  pub archive_read : (known : ArchiveKnown) (archive archive' : Archive D) → Kept known archive → IsRead disk_says archive archive' → disk_says.faults (archive_disk_of archive) ≤ disk_says.faults (archive_disk_of archive')
-      → (failed : Bool) → counted (lost_in (record { list = known.list; failed = failed })) faults_then ≤ disk_says.faults (archive_disk_of archive') → Kept (record { list = known.list; failed = failed }) archive'
-  archive_read known archive archive' was read le failed caused = record {
-    used = read.used ∙ was.used;
-    among = λ image left. was.among image (read.crash image left);
-    room = λ image left. let far = was.room image (read.crash image left) in let same = read.used in omega (arith, far, same);
-    tells = λ since start at. let told = was.tells since start at in (told.0, read.same.kept told.0 told.1);
-    caused = caused;
-    no_fewer = let before = was.no_fewer in omega (arith, before, le);
-  }
-
-  -- a place more, whose contents were stored
-  pub archive_more : (known : ArchiveKnown) (archive archive' : Archive D) → Kept known archive → (entry : Taken) (stored : List (List ℕ)) → stores_of (known.list ++ entry ∷ []) ≡ stores_of known.list ++ stored
-      → StoresBehind disk_says stored archive archive' → disk_says.faults (archive_disk_of archive) ≤ disk_says.faults (archive_disk_of archive') → (failed : Bool)
-      → counted (lost_in (record { list = known.list ++ entry ∷ []; failed = failed })) faults_then ≤ disk_says.faults (archive_disk_of archive') → Kept (record { list = known.list ++ entry ∷ []; failed = failed }) archive'
-  archive_more known archive archive' was entry stored stores behind le failed caused = record {
-    used = used_on disk_says images end (stores_of known.list) stored archive archive' was.used behind ∙ ap (λ (l : List (List ℕ)). stores_end l end) (sym stores);
-    among = subst (λ (l : List (List ℕ)). NoMore (HasStored images end l) (disk_says.may_leave (archive_disk_of archive'))) (sym stores)
-        (among_on disk_says images end (stores_of known.list) stored archive archive' was.used was.among behind);
-    room = behind.room;
-    tells = λ since start at. let told = was.tells since start at in behind.tells told.0 told.1;
-    caused = caused;
-    no_fewer = let before = was.no_fewer in omega (arith, before, le);
-  }
-
-  -- the same behind an order that goes on without touching its lane
-  pub archive_then : (known order : List Taken) (failed : Bool) (archive archive' : Archive D) → Kept (record { list = known; failed = failed }) archive → GoesOnWithout archive_lane known order → (entry : Taken) (stored : List (List ℕ))
-      → has_lane entry.lanes archive_lane ≡ true → entry.stores ≡ stored → StoresBehind disk_says stored archive archive' → disk_says.faults (archive_disk_of archive) ≤ disk_says.faults (archive_disk_of archive')
-      → (is_lost entry ≡ true → HasRisen (disk_says.faults (archive_disk_of archive)) (disk_says.faults (archive_disk_of archive'))) → Kept (record { list = order ++ entry ∷ []; failed = failed }) archive'
-  archive_then known order failed archive archive' was on entry stored touches stores behind le risen =
-      let here : Kept (record { list = order; failed = failed }) archive =
-      archive_learnt (record { list = known; failed = failed }) order archive was (stores_kept known order on) (lost_kept known order on) in
-      archive_more (record { list = order; failed = failed }) archive archive' here entry stored (stores_touched order entry touches ∙ ap (λ (l : List (List ℕ)). stores_of order ++ l) stores) behind le failed
-      (subst (λ (n : ℕ). counted (n + cond failed 1 0) faults_then ≤ disk_says.faults (archive_disk_of archive')) (sym (count_one is_lost order entry))
-      (lost_risen (lost_count order) faults_then (disk_says.faults (archive_disk_of archive)) (disk_says.faults (archive_disk_of archive')) failed (is_lost entry) here.caused le risen))
-
--- a place more for the command without one, for which its disk failed: it stored nothing
-module _ {D : Type 0} (disk_says : DiskSays D)
-    (end : ℕ) (images : Files → Type 0) (begins : ℕ → List Deed → Type 0) (faults_then : ℕ) where
-  pub archive_placed : (order after : List Taken) (archive : Archive D) → IsArchiveAfter disk_says end images begins faults_then (record { list = order; failed = true }) archive
-      → IsLostPlace order after → IsArchiveAfter disk_says end images begins faults_then (record { list = after; failed = false }) archive
-  archive_placed order after archive was place =
-      let stores : stores_of after ≡ stores_of order =
-      ap stores_of place.placed ∙ (stores_touched order place.entry place.touches ∙ (ap (λ (l : List (List ℕ)). stores_of order ++ l) place.unstored ∙ append-nil (stores_of order))) in
+  pub archive_learnt : (known order : List Taken) (archive : Archive D) → Kept known archive → GoesOnWithout archive_lane known order → Kept order archive
+  archive_learnt known order archive was on =
+      let stores = stores_kept known order on in
       record {
         used = was.used ∙ ap (λ (l : List (List ℕ)). stores_end l end) (sym stores);
         among = subst (λ (l : List (List ℕ)). NoMore (HasStored images end l) (disk_says.may_leave (archive_disk_of archive))) (sym stores) was.among;
         room = was.room;
         tells = was.tells;
-        caused =
-            let before = was.caused in
-            let count = ap lost_count place.placed ∙ count_one is_lost order place.entry in
-            let one = ap (λ (b : Bool). let n : ℕ = cond b 1 0 in n) place.lost in
-            omega (arith, before, count, one);
-        no_fewer = was.no_fewer;
+      }
+
+  -- it has the contents of the places that are known
+  pub has_all : (known : List Taken) (archive : Archive D) → Kept known archive → HasAllStored disk_says end images begins known archive
+  has_all known archive was = record { used = let used = was.used in omega (arith, used); among = was.among; room = was.room; tells = was.tells }
+
+  -- contents were read of it, or none
+  pub archive_read : (known : List Taken) (archive archive' : Archive D) → Kept known archive → IsRead disk_says archive archive' → Kept known archive'
+  archive_read known archive archive' was read = record {
+    used = read.used ∙ was.used;
+    among = λ image left. was.among image (read.crash image left);
+    room = λ image left. let far = was.room image (read.crash image left) in let same = read.used in omega (arith, far, same);
+    tells = λ since start at. let told = was.tells since start at in (told.0, read.same.kept told.0 told.1);
+  }
+
+  -- A content couldn't be read, and the command has its place, at which nothing was stored.
+  pub archive_placed : (order after : List Taken) (archive archive' : Archive D) → Kept order archive → IsRead disk_says archive archive' → IsLostPlace order after → Kept after archive'
+  archive_placed order after archive archive' was read place =
+      let now = archive_read order archive archive' was read in
+      let stores : stores_of after ≡ stores_of order =
+      ap stores_of place.placed ∙ (stores_touched order place.entry place.touches ∙ (ap (λ (l : List (List ℕ)). stores_of order ++ l) place.unstored ∙ append-nil (stores_of order))) in
+      record {
+        used = now.used ∙ ap (λ (l : List (List ℕ)). stores_end l end) (sym stores);
+        among = subst (λ (l : List (List ℕ)). NoMore (HasStored images end l) (disk_says.may_leave (archive_disk_of archive'))) (sym stores) now.among;
+        room = now.room;
+        tells = now.tells;
+      }
+
+  -- A place more behind an order that goes on without touching its lane, whose contents were stored.
+  pub archive_then : (known order : List Taken) (archive archive' : Archive D) → Kept known archive → GoesOnWithout archive_lane known order → (entry : Taken)
+      → has_lane entry.lanes archive_lane ≡ true → StoresBehind disk_says entry.stores archive archive' → Kept (order ++ entry ∷ []) archive'
+  archive_then known order archive archive' before on entry touches behind =
+      let was = archive_learnt known order archive before on in
+      let stores = stores_touched order entry touches in
+      record {
+        used = used_on disk_says images end (stores_of order) entry.stores archive archive' was.used behind ∙ ap (λ (l : List (List ℕ)). stores_end l end) (sym stores);
+        among = subst (λ (l : List (List ℕ)). NoMore (HasStored images end l) (disk_says.may_leave (archive_disk_of archive'))) (sym stores)
+            (among_on disk_says images end (stores_of order) entry.stores archive archive' was.used was.among behind);
+        room = behind.room;
+        tells = λ since start at. let told = was.tells since start at in behind.tells told.0 told.1;
       }
 
 -- ---- what the party is promised
@@ -248,8 +217,9 @@ module _ (begins : ℕ → List Deed → Type 0) (order after : List Taken) (old
         ∙ ap (λ (b : Bool). printed (told_at step (taken step start places) (placed_by request b)) request.number) same_fault);
   }
 
-  pub taken_so : ((since : ℕ) (start : List Deed) → begins since start → Answers start (map placed_of order) request told) → IsTakenAt begins old new request answer
-  taken_so promised = record {
+  pub taken_so : ((since : ℕ) (start : List Deed) → begins since start → Answers start (map placed_of order) request told)
+      → (has_lane entry.lanes journal_lane ≡ true → (since : ℕ) (start : List Deed) → begins since start → ChangesRows (taken step start (map placed_of order)) request) → IsTakenAt begins old new request answer
+  taken_so promised writes = record {
     before = order;
     entry = entry;
     known = knows ∙ ap (λ (l : List Taken). record old { list = l }) more;
@@ -258,6 +228,7 @@ module _ (begins : ℕ → List Deed → Type 0) (order after : List Taken) (old
     asks = asks;
     place = ap (λ (a : Answer). a.place) is;
     answers = λ since start at. answers_so start (map placed_of order) (promised since start at);
+    writes = writes;
   }
 
 -- ---- parts that have run no place
@@ -270,8 +241,8 @@ module _ {D : Type 0} (disk_says : DiskSays D) (rows : AllRows) (end : ℕ) (ima
   there = sym can.end ∙ end_is
 
   pub fresh_run : (masters : Masters) → ((past : Past) (start : List Deed) (c : Chronicle) → masters past start c → IsMaster disk_says past start [] depot c)
-      → (faults_then : ℕ) → faults_then ≡ disk_says.faults (disk_of depot.journal) → HasRunOrder disk_says rows end images begins masters faults_then [] depot.tables depot.journal
-  fresh_run masters first faults_then same = record {
+      → HasRunOrder disk_says rows end images begins masters [] depot.tables depot.journal
+  fresh_run masters first = record {
     can = (can.was, (can.doubt, can.stands));
     rows_are = rows_are;
     end_is = end_is;
@@ -287,40 +258,35 @@ module _ {D : Type 0} (disk_says : DiskSays D) (rows : AllRows) (end : ℕ) (ima
         unmoved_master disk_says past start [] depot (record { tables = depot.tables; journal = depot.journal; archive = archive }) c master
         (record { below = λ spot bytes le has image left. (all.among image left).below spot bytes (omega (arith, le, there)) (λ other may. has other (fewer other may)); more = omega (arith, used, there) })
         refl master.groups;
-    caused = omega (arith, same);
-    no_fewer = omega (arith, same);
   }
 
-  pub fresh_archive : (faults_then : ℕ) → faults_then ≡ disk_says.faults (archive_disk_of depot.archive)
-      → IsArchiveAfter disk_says end images begins faults_then (record { list = []; failed = false }) depot.archive
-  fresh_archive faults_then same = record {
+  pub fresh_archive : IsArchiveAfter disk_says end images begins [] depot.archive
+  fresh_archive = record {
     used = there;
     among = λ image left. record { below = λ spot bytes le all. all image (among image left); stored = tt; reach = let far = can.room image left in omega (arith, far, there) };
     room = can.room;
     tells = λ since start at. (ran since start at).tells;
-    caused = omega (arith, same);
-    no_fewer = omega (arith, same);
   }
 
 -- ---- the parts put together
 
-module _ {D : Type 0} (disk_says : DiskSays D) (rows : AllRows) (end : ℕ) (images : Files → Type 0) (begins : ℕ → List Deed → Type 0) (masters : Masters) (faults_then contents_then : ℕ)
-    (order : List Taken) (failed : Bool) (tables : Tables) (journal : Journal D) (archive : Archive D) (was : HasRunOrder disk_says rows end images begins masters faults_then order tables journal)
-    (kept : IsArchiveAfter disk_says end images begins contents_then (record { list = order; failed = failed }) archive) where
+module _ {D : Type 0} (disk_says : DiskSays D) (rows : AllRows) (end : ℕ) (images : Files → Type 0) (begins : ℕ → List Deed → Type 0) (masters : Masters)
+    (order : List Taken) (tables : Tables) (journal : Journal D) (archive : Archive D) (was : HasRunOrder disk_says rows end images begins masters order tables journal)
+    (kept : IsArchiveAfter disk_says end images begins order archive) where
   pub closed_can : CanTake disk_says (record { tables = tables; journal = journal; archive = archive })
   closed_can = record {
     was = was.can.0;
     doubt = was.can.1.0;
     stands = was.can.1.1;
-    end = stored_there disk_says rows end images begins masters faults_then order tables journal was ∙ sym kept.used;
+    end = stored_there disk_says rows end images begins masters order tables journal was ∙ sym kept.used;
     room = kept.room;
   }
 
   pub closed_stored : HasAllStored disk_says end images begins order archive
-  closed_stored = has_all disk_says end images begins contents_then (record { list = order; failed = failed }) archive kept
+  closed_stored = has_all disk_says end images begins order archive kept
 
   pub closed_followed : IsFollowed disk_says begins masters order (record { tables = tables; journal = journal; archive = archive })
   closed_followed = was.followed archive closed_stored
 
   pub closed_run : (since : ℕ) (start : List Deed) → begins since start → HasRun disk_says (record { tables = tables; journal = journal; archive = archive }) since start (map placed_of order)
-  closed_run = depot_ran disk_says rows end images begins masters faults_then order tables journal was archive closed_stored
+  closed_run = depot_ran disk_says rows end images begins masters order tables journal was archive closed_stored

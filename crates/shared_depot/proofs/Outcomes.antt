@@ -22,7 +22,7 @@ use Rattle.needed_tables.specs.Needed.{AgreeOnNeeded}
 use Rattle.session_loop.specs.Taking.{IsProper}
 use Rattle.depot_rows.specs.table_changes.Changed.{AllRows, rows_of}
 use Rattle.table_locks.specs.declared.gathered.Gathered.{Gathered}
-use Rattle.shared_depot.specs.Ready.{IsFoundOver, IsGatheredFor}
+use Rattle.shared_depot.specs.Ready.{IsFoundFor, IsGatheredFor}
 use Rattle.outside_api.specs.Disk.{Files}
 use Rattle.depot_commit.specs.Committing.{IsOutcomeOf}
 use Rattle.depot_commit.specs.Holding.{KeepContents}
@@ -30,7 +30,7 @@ use Rattle.depot_commit.specs.Telling.{IsReplyOf}
 use Rattle.depot_commit.specs.declared.telling.Told.{Told}
 use Rattle.depot_commit.specs.Storing.{HasStored, stores_end}
 use Rattle.shared_depot.specs.Room.{IsDueAfter, IsStillSo, IsToldAfter, StandsAfter}
-use Rattle.shared_depot.specs.Stored.{ArchiveKnown, images_after, stored_end, stores_of}
+use Rattle.shared_depot.specs.Stored.{images_after, stored_end, stores_of}
 use Rattle.shared_depot.proofs.Sets.{changes_in_set}
 
 -- a command that is well-formed is formed
@@ -75,23 +75,24 @@ reply_here rows end images begins order now here request told due since start at
     (subst (λ (l : List Taken). KeepContents (images_after images end l) (stored_end end l) all d) here kept)
 
 -- what was printed over the places that were known behind the lock of the archive is told after the whole order, behind which its lane wasn't touched
-told_after : (end : ℕ) (images : Files → Type 0) (begins : ℕ → List Deed → Type 0) (archive : Option (MutexGuard ArchiveKnown)) (order : List Taken) (request : Request) (outcome : Outcome) (told : Told)
-    → IfSome archive (λ guard. stores_of order ≡ stores_of (mutex_guard_value guard).list)
-    → ((known : List Taken) → IfSome archive (λ guard. known ≡ (mutex_guard_value guard).list) → IsToldAfter end images begins known request outcome told) → IsToldAfter end images begins order request outcome told
+told_after : (end : ℕ) (images : Files → Type 0) (begins : ℕ → List Deed → Type 0) (archive : Option (MutexGuard (List Taken))) (order : List Taken) (request : Request) (outcome : Outcome) (told : Told)
+    → IfSome archive (λ guard. stores_of order ≡ stores_of (mutex_guard_value guard))
+    → ((known : List Taken) → IfSome archive (λ guard. known ≡ mutex_guard_value guard) → IsToldAfter end images begins known request outcome told) → IsToldAfter end images begins order request outcome told
 told_after end images begins None order request outcome told same found = found order tt
 told_after end images begins (Some guard) order request outcome told same found = λ since start at rows from d stand is kept.
-    found (mutex_guard_value guard).list refl since start at rows from d stand is (subst (λ (stores : List (List ℕ)). KeepContents (HasStored images end stores) (stores_end stores end) rows d) same kept)
+    found (mutex_guard_value guard) refl since start at rows from d stand is (subst (λ (stores : List (List ℕ)). KeepContents (HasStored images end stores) (stores_end stores end) rows d) same kept)
 
 -- What was found over gathered tables that are still so after an order is due after it.
 pub due_after : {N : Type 0} (rows : AllRows) (end : ℕ) (images : Files → Type 0) (begins : ℕ → List Deed → Type 0) (order : List Taken) (g : Gathered N) (whole : Bool) (needs : Needs) (request : Request)
-    (archive : Option (MutexGuard ArchiveKnown)) (told : Told) → IsGatheredFor rows whole needs g → AreOfWords request.command needs → ((since : ℕ) (start : List Deed) → begins since start → IsProper request)
-    → IsFoundOver end images begins g archive request told → IsStillSo rows end order g told.changes told.stores
-    → IfSome archive (λ guard. stores_of order ≡ stores_of (mutex_guard_value guard).list) → IsDueAfter rows end images begins order request told
-due_after rows end images begins order g whole needs request archive told gathered set proper found still same = record {
-  outcome = found.outcome;
-  tells = found.tells;
-  stands = stands_after rows end begins order g whole needs request found.outcome gathered set proper found.found
-      (subst (λ (stores : List (List ℕ)). IsStillSo rows end order g found.outcome.changes stores) found.tells.stores
-      (subst (λ (changes : List Change). IsStillSo rows end order g changes told.stores) found.tells.changes still));
-  reply = told_after end images begins archive order request found.outcome told same found.reply;
-}
+    (archive : Option (MutexGuard (List Taken))) (told : Told) → IsGatheredFor rows whole needs g → IsFoundFor end images begins needs g archive request told → IsStillSo rows end order g told.changes told.stores
+    → IfSome archive (λ guard. stores_of order ≡ stores_of (mutex_guard_value guard)) → IsDueAfter rows end images begins order request told
+due_after rows end images begins order g whole needs request archive told gathered is still same =
+    let found = is.found in
+    record {
+      outcome = found.outcome;
+      tells = found.tells;
+      stands = stands_after rows end begins order g whole needs request found.outcome gathered is.words is.proper found.found
+          (subst (λ (stores : List (List ℕ)). IsStillSo rows end order g found.outcome.changes stores) found.tells.stores
+          (subst (λ (changes : List Change). IsStillSo rows end order g changes told.stores) found.tells.changes still));
+      reply = told_after end images begins archive order request found.outcome told same found.reply;
+    }

@@ -1,6 +1,6 @@
 -- Places at which nothing is written leave the rows, the contents, the groups and the run of tables and a journal.
 use Rattle.std.proofs.Common.{◌≡◌, ℕ, Bool, true, false, cond, List, [], ◌∷◌, ◌++◌, inl, inr, map, refl, sym, ap, subst, ◌∙◌, append_assoc, append-nil, arith}
-use Rattle.std.specs.Prelude.{if◌then◌else◌}
+use Rattle.std.specs.Prelude.{count_by, if◌then◌else◌}
 use Rattle.std.specs.List.{AllByRecursion}
 use Rattle.std.proofs.lemmas.Bool.{true≢false}
 use mathlib.Core.List.{map-append}
@@ -33,7 +33,7 @@ use Rattle.depot_commit.proofs.Steps.{over_faulted, over_idle}
 use Rattle.replica_turns.specs.Master.{AreChanges}
 use Rattle.session_loop.specs.Taking.{placed_by}
 use Rattle.shared_depot.specs.Common.{AreQuiet, GoesOnQuietly, IsQuiet, chronicle_after}
-use Rattle.shared_depot.specs.Stored.{is_unwritten, stores_of, unwritten_count}
+use Rattle.shared_depot.specs.Stored.{is_unwritten, stores_of}
 use Rattle.shared_depot.proofs.Stored.{count_append, count_first, stores_append}
 
 -- ---- orders one behind another
@@ -125,7 +125,7 @@ module _ (begins : ℕ → List Deed → Type 0) where
     none_stored [] all = refl
     none_stored (entry ∷ order) all = ap (λ (l : List (List ℕ)). l ++ stores_of order) (stores_left rows end entry all.0) ∙ none_stored order all.1
 
-    none_unwritten : (order : List Taken) → AllQuiet order → unwritten_count order ≡ 0
+    none_unwritten : (order : List Taken) → AllQuiet order → count_by is_unwritten order ≡ 0
     none_unwritten [] all = refl
     none_unwritten (entry ∷ order) all =
         let rest = none_unwritten order all.1 in
@@ -201,7 +201,7 @@ module _ {D : Type 0} (disk_says : DiskSays D) (rows : AllRows) (end : ℕ) (ima
             (changes_behind n start (map placed_of known) (map placed_of behind) are
             (none_changes begins (rows_after rows known) (end_after end known) since start at (taken step start (map placed_of known)) stand behind here));
         unwritten =
-            let parts = ap unwritten_count on.parts ∙ count_append is_unwritten known behind in
+            let parts = ap (count_by is_unwritten) on.parts ∙ count_append is_unwritten known behind in
             let none = none_unwritten begins (rows_after rows known) (end_after end known) behind here in
             omega (arith, parts, none);
         runs = λ tables journal same since start at ran.

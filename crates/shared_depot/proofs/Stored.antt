@@ -1,5 +1,5 @@
 -- What an order's places say of the archive, with one place more, and where no further one touches its lane.
-use Rattle.std.proofs.Common.{◌≡◌, ◌≤◌, ◌+◌, ◌&&◌, ◌||◌, ℕ, Bool, true, false, not, cond, List, [], ◌∷◌, ◌++◌, map, refl, sym, ap, ◌∙◌, append_assoc, append-nil, arith}
+use Rattle.std.proofs.Common.{◌≡◌, ◌≤◌, ◌+◌, ◌&&◌, ℕ, Bool, true, false, not, cond, List, [], ◌∷◌, ◌++◌, map, refl, sym, ap, ◌∙◌, append_assoc, append-nil, arith}
 use Rattle.std.specs.Prelude.{count_by, if◌then◌else◌}
 use Rattle.std.specs.List.{AllByRecursion}
 use Rattle.std.proofs.lemmas.List.Sums.{sum_by-append, sum_by_push}
@@ -9,8 +9,8 @@ use Rattle.locked_tables.specs.Taken.{archive_lane, place_of}
 use Rattle.locked_tables.specs.declared.taken.Taken.{Taken}
 use Rattle.order_words.specs.Lanes.{has_lane}
 use Rattle.outside_api.specs.Count.{HasRisen, counted}
-use Rattle.session_loop.specs.Served.{AreCaused, fault_count}
-use Rattle.shared_depot.specs.Stored.{is_lost, is_unwritten, lost_count, stores_of, unwritten_count}
+use Rattle.session_loop.specs.Served.{fault_count}
+use Rattle.shared_depot.specs.Stored.{is_lost, is_unwritten, stores_of}
 
 abbrev Spares : Taken → Type 0
 Spares taken = has_lane taken.lanes archive_lane ≡ false
@@ -66,15 +66,23 @@ pub spared_not_lost : (entry : Taken) → has_lane entry.lanes archive_lane ≡ 
 spared_not_lost entry is = ap (λ (b : Bool). entry.fault && (b && entry.lost)) is ∙ never entry.fault
 
 -- where the journal's disk failed the place is that of a fault
-pub unwritten_fails : (entry : Taken) → is_unwritten entry ≡ true → entry.fault ≡ true
+unwritten_fails : (entry : Taken) → is_unwritten entry ≡ true → entry.fault ≡ true
 unwritten_fails entry is = go entry.fault (not (has_lane entry.lanes archive_lane && entry.lost)) is
   where
     go : (fault other : Bool) → fault && other ≡ true → fault ≡ true
     go true other both = refl
     go false other both = both
 
--- and where the archive's lane is touched, it wasn't the archive's
-pub unwritten_kept : (entry : Taken) → has_lane entry.lanes archive_lane ≡ true → is_unwritten entry ≡ true → entry.lost ≡ false
+-- so it is where the archive's did
+pub lost_fails : (entry : Taken) → is_lost entry ≡ true → entry.fault ≡ true
+lost_fails entry is = go entry.fault (has_lane entry.lanes archive_lane && entry.lost) is
+  where
+    go : (fault other : Bool) → fault && other ≡ true → fault ≡ true
+    go true other both = refl
+    go false other both = both
+
+-- where the archive's lane is touched, and the journal's disk failed, it wasn't the archive's
+unwritten_kept : (entry : Taken) → has_lane entry.lanes archive_lane ≡ true → is_unwritten entry ≡ true → entry.lost ≡ false
 unwritten_kept entry touches is = go entry.fault (has_lane entry.lanes archive_lane) entry.lost touches is
   where
     go : (fault touched lost : Bool) → touched ≡ true → fault && not (touched && lost) ≡ true → lost ≡ false
@@ -82,6 +90,11 @@ unwritten_kept entry touches is = go entry.fault (has_lane entry.lanes archive_l
     go true true false here both = refl
     go true false lost here both = absurd cc
     go false touched lost here both = absurd cc
+
+-- so it failed there, and the archive's didn't; without the archive's lane that one never does
+pub unwritten_only : (held : Bool) (entry : Taken) → has_lane entry.lanes archive_lane ≡ held → (held ≡ false → entry.lost ≡ false) → is_unwritten entry ≡ true → (entry.fault ≡ true) × (entry.lost ≡ false)
+unwritten_only true entry touches kept failed = (unwritten_fails entry failed, unwritten_kept entry touches failed)
+unwritten_only false entry touches kept failed = (unwritten_fails entry failed, kept refl)
 
 -- where it was, the entry says so
 pub lost_of : (entry : Taken) → is_lost entry ≡ true → entry.lost ≡ true
@@ -104,7 +117,7 @@ written_so entry touches lost = (λ k. entry.fault && not (touches k && lost k))
 pub lost_so : (entry : Taken) → has_lane entry.lanes archive_lane ≡ true → entry.fault ≡ true → entry.lost ≡ true → is_lost entry ≡ true
 lost_so entry touches fault lost = λ k. fault k && (touches k && lost k)
 
-none_lost : (order : List Taken) → AllByRecursion Spares order → lost_count order ≡ 0
+none_lost : (order : List Taken) → AllByRecursion Spares order → count_by is_lost order ≡ 0
 none_lost [] all = refl
 none_lost (taken ∷ order) all =
     let rest = none_lost order all.1 in
@@ -112,9 +125,9 @@ none_lost (taken ∷ order) all =
     let here = ap (λ (b : Bool). let n : ℕ = cond b 1 0 in n) (spared_not_lost taken all.0) in
     omega (arith, rest, first, here)
 
-pub lost_kept : (known order : List Taken) → GoesOnWithout archive_lane known order → lost_count order ≡ lost_count known
+pub lost_kept : (known order : List Taken) → GoesOnWithout archive_lane known order → count_by is_lost order ≡ count_by is_lost known
 lost_kept known order on =
-    let all = ap lost_count on.parts ∙ count_append is_lost known on.behind in
+    let all = ap (count_by is_lost) on.parts ∙ count_append is_lost known on.behind in
     let none = none_lost on.behind on.untouched in
     omega (arith, all, none)
 
@@ -124,7 +137,7 @@ either_disk true false = refl
 either_disk false lost = refl
 
 -- each fault is of one of the two disks
-pub all_faults : (order : List Taken) → fault_count (map place_of order) ≡ unwritten_count order + lost_count order
+pub all_faults : (order : List Taken) → fault_count (map place_of order) ≡ count_by is_unwritten order + count_by is_lost order
 all_faults [] = refl
 all_faults (taken ∷ order) =
     let rest = all_faults order in
@@ -133,10 +146,6 @@ all_faults (taken ∷ order) =
     let lost = count_first is_lost taken order in
     let here = either_disk taken.fault (has_lane taken.lanes archive_lane && taken.lost) in
     omega (arith, rest, all, unwritten, lost, here)
-
-pub caused_by : (order : List Taken) (before now contents_before contents_now : ℕ) → counted (unwritten_count order) before ≤ now → counted (lost_count order) contents_before ≤ contents_now
-    → AreCaused before now contents_before contents_now [] (map place_of order)
-caused_by order before now contents_before contents_now commits contents = let all = all_faults order in (unwritten_count order, lost_count order, omega (arith, all), commits, contents)
 
 -- one place more, at which a count rose if its disk failed
 pub count_caused : (count before mid now : ℕ) (failed : Bool) → counted count before ≤ mid → mid ≤ now → (failed ≡ true → HasRisen mid now) → counted (count + cond failed 1 0) before ≤ now
@@ -147,22 +156,3 @@ count_caused count before mid now false was le risen = omega (arith, was, le)
 pub never_fails : (before now : ℕ) (lost : Bool) → before ≡ 0 → now ≡ 0 → (lost ≡ true → HasRisen before now) → lost ≡ false
 never_fails before now false none still risen = refl
 never_fails before now true none still risen = let more = risen refl in absurd (omega (arith, none, still, more))
-
--- the archive's disk failed for a command that has its place then: its count rose
-pub lost_risen : (count before mid now : ℕ) (failed lost : Bool) → counted (count + cond failed 1 0) before ≤ mid → mid ≤ now → (lost ≡ true → HasRisen mid now) → counted (count + cond lost 1 0 + cond failed 1 0) before ≤ now
-lost_risen count before mid now failed true was le risen = let more = risen refl in omega (arith, was, more)
-lost_risen count before mid now failed false was le risen = omega (arith, was, le)
-
--- its disk failed for a command without a place: its count rose, or it had failed for one before
-pub failed_caused : (count before mid now : ℕ) (failed unread : Bool) → counted (count + cond failed 1 0) before ≤ mid → mid ≤ now → (unread ≡ true → HasRisen mid now) → counted (count + cond (failed || unread) 1 0) before ≤ now
-failed_caused count before mid now true unread was le risen = omega (arith, was, le)
-failed_caused count before mid now false true was le risen = let more = risen refl in omega (arith, was, more)
-failed_caused count before mid now false false was le risen = omega (arith, was, le)
-
-pub caused_on : (count before mid now : ℕ) → counted count before ≤ mid → mid ≤ now → counted count before ≤ now
-caused_on count before mid now was le = omega (arith, was, le)
-
--- where the one without a place is left out
-pub placed_caused : (count before now : ℕ) (failed : Bool) → counted (count + cond failed 1 0) before ≤ now → counted (count + 0) before ≤ now
-placed_caused count before now true was = omega (arith, was)
-placed_caused count before now false was = was

@@ -1,7 +1,7 @@
 -- What a journal has makes the rows of the tables, and fits, when a command is committed.
 use Rattle.std.proofs.Common.{◌≡◌, ◌≢◌, ◌+◌, ℕ, suc, Bool, true, false, List, [], ◌∷◌, ◌++◌, length, refl, sym, ap, subst, ◌∙◌, append-nil, arith}
 use Rattle.std.proofs.lemmas.List.{length-append, length-map}
-use Rattle.depot_commit.proofs.Checkpointed.{next_told, opened_rows}
+use Rattle.depot_commit.proofs.Checkpointed.{made_opened, next_told}
 use Rattle.depot_commit.specs.Committing.{AreRowsAfter}
 use Rattle.depot_commit.specs.Growing.{Chronicle, HasGroups, grown, with_changes}
 use Rattle.depot_commit.specs.Holding.{generation_in}
@@ -57,7 +57,7 @@ module _ {D : Type 0} (disk_says : DiskSays D) (past : Past) (tables tables' : T
   }
   written_as true opening some rows groups =
       let index : suc (length c.closed) ≡ 0 + length (c.closed ++ c.newest ∷ []) = (let all = length-append c.closed (c.newest ∷ []) in omega (arith, all)) in
-      let opened = opened_rows (rows_of tables) tables.archive_end (taken step start places) request outcome h.stand is some opening in
+      let opened = made_opened (rows_of tables) (taken step start places) request outcome.changes h.stand is.changes some opening in
       let told = generation_in (taken step start places) + 1 in
       let begins : changed_in (rows_of tables) (next_told told) ≡ changed_by (rows_of tables) (joined (begun (suc (length c.closed)))) = ap (λ (n : ℕ). changed_in (rows_of tables) (next_told n)) generation_is in
       record {

@@ -1,20 +1,18 @@
 -- What lies behind the locks of the archive, of the journal and of the order. This project's own choice.
-use Rattle.std.specs.Prelude.{◌≡◌, ◌≤◌, ◌⊎◌, ℕ, true, false, List, [], ◌∷◌, ◌++◌, map, if◌then◌else◌}
+use Rattle.std.specs.Prelude.{◌≡◌, ◌≤◌, ◌+◌, ℕ, Bool, true, false, List, [], ◌∷◌, ◌++◌, length, map, count_by, if◌then◌else◌}
 use mathlib.Core.List.{IsPrefix}
 use Rattle.archive_file.specs.Archive.{disk_of as archive_disk_of, used_of}
 use Rattle.archive_file.specs.declared.archive.Archive.{Archive}
 use Rattle.depot_rows.specs.db_records.declared.table.TableId.{TableId}
 use Rattle.depot_rows.specs.depot_model.Deeds.{Deed}
 use Rattle.depot_rows.specs.table_store.declared.tables.Tables.{Tables}
-use Rattle.disk_journal.specs.Stands.{disk_of}
 use Rattle.disk_journal.specs.declared.journal.Journal.{Journal}
-use Rattle.locked_tables.specs.Taken.{archive_lane, end_after, journal_lane, placed_of, rows_after, rows_behind}
+use Rattle.locked_tables.specs.Taken.{archive_lane, end_after, journal_lane, place_of, placed_of, rows_after, rows_behind}
 use Rattle.locked_tables.specs.declared.taken.Taken.{Taken}
 use Rattle.order_words.specs.Lanes.{has_lane}
-use Rattle.outside_api.specs.Count.{HasRisen, counted}
+use Rattle.outside_api.specs.Count.{counted}
 use Rattle.outside_api.specs.Disk.{Files, NoMore}
 use Rattle.outside_api.specs.Says.{DiskSays}
-use Rattle.party_marks.specs.Marks.{is_empty}
 use Rattle.party_marks.specs.declared.mark.Mark.{Mark}
 use Rattle.depot_commit.specs.Growing.{Chronicle, HasGroups, grown}
 use Rattle.depot_commit.specs.Opening.{opens_generation}
@@ -28,7 +26,8 @@ use Rattle.depot_rows.specs.Standing.{Stand}
 use Rattle.recovery.specs.Holding.{joined}
 use Rattle.replica_turns.specs.Master.{AllFit, AreChanges, IsMaster, Past, all_changes}
 use Rattle.serial_depot.specs.declared.depot.SerialDepot.{SerialDepot}
-use Rattle.shared_depot.specs.Stored.{ArchiveKnown, images_after, is_lost, is_unwritten, lost_in, stored_end, stores_of, unwritten_count}
+use Rattle.session_loop.specs.Served.{fault_count}
+use Rattle.shared_depot.specs.Stored.{images_after, is_lost, is_unwritten, stored_end, stores_of}
 
 module _ {D : Type 0} (disk_says : DiskSays D) where
   -- An archive in which the contents of an order's places were stored, and maybe others behind them; all that is used of it is there.
@@ -64,8 +63,8 @@ module _ {D : Type 0} (disk_says : DiskSays D) where
 
   -- Tables and a journal have run the places of an order: the rows and the end of the archive are those after it, from each moment and depot from which
   -- they began it they have taken the commands of these places, beside an archive in which the contents of these places were stored, the journal has the
-  -- groups that were written at them, replicas follow them beside each such archive, and no more of the places are faults of the journal's disk than its count rose.
-  pub record HasRunOrder (rows : AllRows) (end : ℕ) (images : Files → Type 0) (begins : ℕ → List Deed → Type 0) (masters : Masters) (faults_then : ℕ) (order : List Taken) (tables : Tables) (journal : Journal D) : Type 0 where
+  -- groups that were written at them, and replicas follow them beside each such archive.
+  pub record HasRunOrder (rows : AllRows) (end : ℕ) (images : Files → Type 0) (begins : ℕ → List Deed → Type 0) (masters : Masters) (order : List Taken) (tables : Tables) (journal : Journal D) : Type 0 where
     pub can : CanCommit disk_says journal
     pub rows_are : (table : TableId) → rows_of tables table ≡ rows_after rows order table
     pub end_is : tables.archive_end ≡ end_after end order
@@ -73,22 +72,18 @@ module _ {D : Type 0} (disk_says : DiskSays D) where
     pub ran : (since : ℕ) (start : List Deed) → begins since start → HasRunBeside disk_says images end (stores_of order) tables journal since start (map placed_of order)
     pub written : (since : ℕ) (past : Past) (start : List Deed) (c : Chronicle) → begins since start → masters past start c → HasFitGroups past tables journal (chronicle_after c order)
     pub followed : (archive : Archive D) → HasAllStored disk_says end images begins order archive → IsFollowed begins masters order (record { tables = tables; journal = journal; archive = archive })
-    pub caused : counted (unwritten_count order) faults_then ≤ disk_says.faults (disk_of journal)
-    pub no_fewer : faults_then ≤ disk_says.faults (disk_of journal)
 
   -- An archive in which the contents of an order's places were stored: what its disk may leave is among the images that tell so, it is used up to where
-  -- they end, and contents can be stored there. For no more commands it failed than its disk's count rose.
-  pub record IsArchiveAfter (end : ℕ) (images : Files → Type 0) (begins : ℕ → List Deed → Type 0) (faults_then : ℕ) (known : ArchiveKnown) (archive : Archive D) : Type 0 where
-    pub used : used_of archive ≡ stored_end end known.list
-    pub among : NoMore (images_after images end known.list) (disk_says.may_leave (archive_disk_of archive))
+  -- they end, and contents can be stored there.
+  pub record IsArchiveAfter (end : ℕ) (images : Files → Type 0) (begins : ℕ → List Deed → Type 0) (order : List Taken) (archive : Archive D) : Type 0 where
+    pub used : used_of archive ≡ stored_end end order
+    pub among : NoMore (images_after images end order) (disk_says.may_leave (archive_disk_of archive))
     pub room : AllReach (disk_says.may_leave (archive_disk_of archive)) (used_of archive)
     pub tells : (since : ℕ) (start : List Deed) → begins since start → (files : Files) × disk_says.seen (archive_disk_of archive) files
-    pub caused : counted (lost_in known) faults_then ≤ disk_says.faults (archive_disk_of archive)
-    pub no_fewer : faults_then ≤ disk_says.faults (archive_disk_of archive)
 
   -- some tables and a journal have run the places of an order
-  abbrev pub WasRun : AllRows → ℕ → (Files → Type 0) → (ℕ → List Deed → Type 0) → Masters → ℕ → List Taken → Type 0
-  WasRun rows end images begins masters faults_then order = (tables : Tables) × ((journal : Journal D) × HasRunOrder rows end images begins masters faults_then order tables journal)
+  abbrev pub WasRun : AllRows → ℕ → (Files → Type 0) → (ℕ → List Deed → Type 0) → Masters → List Taken → Type 0
+  WasRun rows end images begins masters order = (tables : Tables) × ((journal : Journal D) × HasRunOrder rows end images begins masters order tables journal)
 
 -- ---- places at which nothing is written
 
@@ -116,10 +111,10 @@ pub record IsLostPlace (before after : List Taken) : Type 0 where
 
 module _ {D : Type 0} (disk_says : DiskSays D) where
   -- What is kept of an order: tables show the rows after it, the places that don't touch the journal's lane are quiet, and it was run.
-  pub record KeepsOrder (rows : AllRows) (end : ℕ) (images : Files → Type 0) (begins : ℕ → List Deed → Type 0) (masters : Masters) (faults_then : ℕ) (order : List Taken) (tables : Tables) : Type 0 where
+  pub record KeepsOrder (rows : AllRows) (end : ℕ) (images : Files → Type 0) (begins : ℕ → List Deed → Type 0) (masters : Masters) (order : List Taken) (tables : Tables) : Type 0 where
     pub shown : (table : TableId) → rows_of tables table ≡ rows_after rows order table
     pub quiet : AreQuiet begins rows end order
-    pub run : WasRun disk_says rows end images begins masters faults_then order
+    pub run : WasRun disk_says rows end images begins masters order
 
 -- Behind an order and a place at which something was to be written the rows are those after its changes, and so much of the archive is used.
 pub record IsEntered (rows : AllRows) (end : ℕ) (order : List Taken) (entry : Taken) (used : ℕ) : Type 0 where
@@ -138,18 +133,21 @@ module _ {D : Type 0} (disk_says : DiskSays D) where
     pub chronicle : (c : Chronicle) → chronicle_after c order ≡ chronicle_after c known
     pub idle : (n since : ℕ) (start : List Deed) → begins since start → Stand (rows_after rows known) (taken step start (map placed_of known)) → AreChanges n start (map placed_of known)
         → AreChanges n start (map placed_of order)
-    pub unwritten : unwritten_count order ≡ unwritten_count known
+    pub unwritten : count_by is_unwritten order ≡ count_by is_unwritten known
     pub runs : (tables : Tables) (journal : Journal D) → ((table : TableId) → rows_of tables table ≡ rows_after rows known table) → (since : ℕ) (start : List Deed) → begins since start
         → HasRunBeside disk_says images end (stores_of known) tables journal since start (map placed_of known)
         → HasRunBeside disk_says images end (stores_of known) tables journal since start (map placed_of order)
 
--- where there is a mark, a count has risen
-abbrev pub IsMarkCaused : ℕ → ℕ → List Mark → Type 0
-IsMarkCaused before now marks = is_empty marks ≡ false → HasRisen before now
+-- none of the places is that of a fault
+abbrev pub AreFaultless : List Taken → Type 0
+AreFaultless order = fault_count (map place_of order) ≡ 0
 
--- the count of one of the two disks has
-abbrev pub AreMarksCaused : ℕ → ℕ → ℕ → ℕ → List Mark → Type 0
-AreMarksCaused faults_then faults_now contents_then contents_now marks = is_empty marks ≡ false → HasRisen faults_then faults_now ⊎ HasRisen contents_then contents_now
+-- The count of a disk since a run began, after an order: it has risen once for each place at which the disk failed, and once more for each mark; where there is
+-- neither a mark nor a place of a fault it stands.
+pub record IsCountAfter (failed_at : Taken → Bool) (before now : ℕ) (order : List Taken) (marks : List Mark) : Type 0 where
+  pub caused : counted (count_by failed_at order + length marks) before ≤ now
+  pub no_fewer : before ≤ now
+  pub stand : AreFaultless order → length marks ≡ 0 → now ≡ before
 
 -- what is known once all threads have ended: the order, and all marks
 pub record OpenedKnown : Type 0 where

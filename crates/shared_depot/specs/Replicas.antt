@@ -1,5 +1,5 @@
 -- What a replica is promised whose commands are answered beside those of others. This project's own choice.
-use Rattle.std.specs.Prelude.{◌≡◌, ◌⊎◌, ◌||◌, ℕ, true, false, List, map, Result}
+use Rattle.std.specs.Prelude.{◌≡◌, ◌+◌, ℕ, false, List, length, map, Result}
 use mathlib.Core.List.{IsPrefix}
 use Rattle.archive_file.specs.Archive as archives
 use Rattle.archive_file.specs.declared.archive.Archive.{Archive}
@@ -12,9 +12,8 @@ use Rattle.locked_tables.specs.declared.taken.Taken.{Taken}
 use Rattle.outside_api.specs.Disk.{Files}
 use Rattle.outside_api.specs.Says.{DiskSays}
 use Rattle.party_marks.specs.Known.{PassKnown}
-use Rattle.party_marks.specs.Marks.{has_marks, is_empty}
-use Rattle.party_marks.specs.declared.mark.Mark.{Mark}
-use Rattle.replica_turns.specs.Going.{IsTurned, is_lost, reply_text}
+use Rattle.party_marks.specs.Marks.{marks_of}
+use Rattle.replica_turns.specs.Going.{IsTurned, is_lost, one_if, reply_text}
 use Rattle.replica_turns.specs.Replying.{IsAnswered}
 use Rattle.replica_turns.specs.declared.party.Answered.{Answered}
 use Rattle.replica_turns.specs.declared.party.ReplicaParty.{ReplicaParty}
@@ -23,13 +22,13 @@ use Rattle.depot_commit.specs.command_core.Outcomes.{IsFormedBy}
 use Rattle.serial_depot.specs.declared.depot.SerialDepot.{SerialDepot}
 use Rattle.shared_depot.specs.Common.{HasAllStored, IsFollowed, Masters}
 
--- a party has marks now where it had, or where the answer tells that a disk failed
-abbrev pub IsMarkedBy : {E : Type 0} → PassKnown → PassKnown → Result Answered E → Type 0
-IsMarkedBy old new answer = has_marks new.party new.list ≡ (has_marks old.party old.list || is_lost answer)
+-- how many marks a party has made
+abbrev pub mark_count : PassKnown → ℕ
+mark_count known = length (marks_of known.party known.list)
 
--- there are marks now only where there were, or where the answer tells that a disk failed
-abbrev pub AreMarkedBy : {E : Type 0} → List Mark → List Mark → Result Answered E → Type 0
-AreMarkedBy old new answer = is_empty new ≡ false → (is_empty old ≡ false) ⊎ (is_lost answer ≡ true)
+-- a party has one more now just where the answer tells that a disk failed
+abbrev pub IsMarkedBy : {E : Type 0} → PassKnown → PassKnown → Result Answered E → Type 0
+IsMarkedBy old new answer = mark_count new ≡ mark_count old + one_if (is_lost answer)
 
 module _ {D : Type 0} (disk_says : DiskSays D) (end : ℕ) (images : Files → Type 0) (begins : ℕ → List Deed → Type 0) (masters : Masters) (known : List Taken) where
   -- Over a depot in files that had run all places that the party knows now, from each moment and depot from which it began, and that replicas follow. Where it
@@ -46,7 +45,7 @@ pub record IsAnsweredAlone {D E : Type 0} (disk_says : DiskSays D) (request : Re
   pub kept : is_lost answer ≡ false
 
 module _ {D E : Type 0} (disk_says : DiskSays D) (end : ℕ) (images : Files → Type 0) (begins : ℕ → List Deed → Type 0) (masters : Masters) (old new : PartyKnown) (old_marks new_marks : PassKnown) where
-  -- The party has learnt places, which are others'. It has marks now where it had, or where the answer tells that a disk failed.
+  -- The party has learnt places, which are others'. It has one mark more just where the answer tells that a disk failed.
   pub record HasHeard (result : Result Answered E) : Type 0 where
     pub party : new.party ≡ old.party
     pub later : IsPrefix old.list new.list

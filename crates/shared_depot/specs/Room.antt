@@ -1,5 +1,5 @@
 -- What a command has under the lock of the journal before it is committed, and what it is answered. This project's own choice.
-use Rattle.std.specs.Prelude.{◌≡◌, ◌⊎◌, ◌++◌, ℕ, Bool, true, IsTrue, IfSome, List, [], ◌∷◌, Option}
+use Rattle.std.specs.Prelude.{◌≡◌, ◌⊎◌, ◌++◌, ℕ, Bool, true, false, IsTrue, IfSome, List, [], ◌∷◌, Option}
 use Rattle.std.specs.Sync.Mutex.{mutex_guard_value}
 use Rattle.std.specs.declared.sync.MutexGuard.{MutexGuard}
 use Rattle.depot_commit.specs.command_core.declared.outcome.Outcome.{Outcome}
@@ -21,20 +21,16 @@ use Rattle.depot_rows.specs.table_changes.Changed.{AllRows, changed_by, rows_of}
 use Rattle.table_locks.specs.Gathered.{Covers, HasSet}
 use Rattle.table_locks.specs.Prepared.{IsPrepared, are_held}
 use Rattle.table_locks.specs.declared.gathered.Gathered.{Gathered}
-use Rattle.shared_depot.specs.Stored.{ArchiveKnown, images_after, is_lost, stored_end}
+use Rattle.shared_depot.specs.Stored.{images_after, is_lost, stored_end}
 use Rattle.shared_depot.specs.declared.room.Room.{Room}
 
 -- if the lock of the archive is held, so much of the archive is used after the places that are known behind it
-abbrev pub IsEndKnown : ℕ → ℕ → Option (MutexGuard ArchiveKnown) → Type 0
-IsEndKnown end used archive = IfSome archive (λ guard. used ≡ end_after end (mutex_guard_value guard).list)
+abbrev pub IsEndKnown : ℕ → ℕ → Option (MutexGuard (List Taken)) → Type 0
+IsEndKnown end used archive = IfSome archive (λ guard. used ≡ end_after end (mutex_guard_value guard))
 
 -- behind the lock of the archive, if it is held, an order is known
-abbrev pub IsAtOrder : List Taken → Option (MutexGuard ArchiveKnown) → Type 0
-IsAtOrder order archive = IfSome archive (λ guard. (mutex_guard_value guard).list ≡ order)
-
--- and that its disk failed for a command without a place
-abbrev pub IsFailed : Option (MutexGuard ArchiveKnown) → Type 0
-IsFailed archive = IfSome archive (λ guard. (mutex_guard_value guard).failed ≡ true)
+abbrev pub IsAtOrder : List Taken → Option (MutexGuard (List Taken)) → Type 0
+IsAtOrder order archive = IfSome archive (λ guard. mutex_guard_value guard ≡ order)
 
 module _ {N : Type 0} where
   -- Room is made for what a command changes behind an order: the versions that are to follow, and the tables after the changes, twice.
@@ -52,7 +48,7 @@ module _ {N : Type 0} where
 
 module _ {S L : Type 0} where
   -- A command has its place behind an order: the archive's lane, if it is held, has learnt that, and what the entry says that it stored was stored. Where
-  -- the archive's disk failed its count rose.
+  -- the archive's disk failed its count rose, and it stands where the place isn't that of a fault.
   pub record IsStoredBehind (Learns : List Taken → List Taken → L → L → Type 0) (held : Bool) (stores : List (List ℕ) → S → S → Type 0) (faults : S → ℕ) (lane lane' : L) (store store' : S) : Type 0 where
     pub order : List Taken
     pub entry : Taken
@@ -60,6 +56,7 @@ module _ {S L : Type 0} where
     pub touches : has_lane entry.lanes archive_lane ≡ held
     pub stored : stores entry.stores store store'
     pub caused : is_lost entry ≡ true → HasRisen (faults store) (faults store')
+    pub stand : entry.fault ≡ false → faults store' ≡ faults store
 
 -- the outcome is the request's over the tables after the order, from each depot from which the run began
 abbrev pub StandsAfter : AllRows → ℕ → (ℕ → List Deed → Type 0) → List Taken → Request → Outcome → Type 0

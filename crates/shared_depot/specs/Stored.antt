@@ -1,5 +1,5 @@
 -- What the places of an order say of the archive, and which disk failed at those of a fault. This project's own choice.
-use Rattle.std.specs.Prelude.{◌&&◌, ◌+◌, ℕ, Bool, not, List, [], ◌∷◌, ◌++◌, count_by, if◌then◌else◌}
+use Rattle.std.specs.Prelude.{◌&&◌, ℕ, Bool, not, List, [], ◌∷◌, ◌++◌, if◌then◌else◌}
 use Rattle.locked_tables.specs.Taken.{archive_lane}
 use Rattle.locked_tables.specs.declared.taken.Taken.{Taken}
 use Rattle.order_words.specs.Lanes.{has_lane}
@@ -30,22 +30,3 @@ is_lost taken = taken.fault && (has_lane taken.lanes archive_lane && taken.lost)
 -- or the journal's
 abbrev pub is_unwritten : Taken → Bool
 is_unwritten taken = taken.fault && not (has_lane taken.lanes archive_lane && taken.lost)
-
--- at how many places it was the archive's
-abbrev pub lost_count : List Taken → ℕ
-lost_count order = count_by is_lost order
-
--- and at how many the journal's
-abbrev pub unwritten_count : List Taken → ℕ
-unwritten_count order = count_by is_unwritten order
-
--- ---- behind the lock of the archive
-
--- a beginning of the order, and whether the archive's disk failed for a command that has no place yet
-pub record ArchiveKnown : Type 0 where
-  pub list : List Taken
-  pub failed : Bool
-
--- how often it failed for a command: at these places, and for the one without a place
-abbrev pub lost_in : ArchiveKnown → ℕ
-lost_in known = lost_count known.list + (if known.failed then 1 else 0)

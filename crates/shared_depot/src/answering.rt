@@ -1,12 +1,13 @@
 //! The answer to a command of a replica.
-ghost use Rattle.std.specs.Prelude.{◌≡◌, ◌<◌, Result, true, false};
+ghost use Rattle.std.specs.Prelude.{◌≡◌, ◌<◌, ◌+◌, Result, length, true, false};
 ghost use Rattle.std.specs.declared.alloc.AllocError.{AllocError as AnyError};
 ghost use Rattle.depot_rows.specs.depot_model.declared.request.Request.{Request as AnyRequest};
 ghost use Rattle.party_marks.specs.Known.{PassKnown};
+ghost use Rattle.replica_turns.specs.Going.{is_lost, one_if};
 ghost use Rattle.replica_turns.specs.Replying.{pulls, reads_archive};
 ghost use Rattle.replica_turns.specs.declared.party.Answered.{Answered as AnyAnswered};
 ghost use Rattle.replica_turns.specs.declared.party.ReplicaParty.{ReplicaParty as AnyParty};
-ghost use Rattle.shared_depot.specs.Replicas.{AreMarkedBy, IsAnsweredAlone, IsMarkedBy, IsReplicaAnswer};
+ghost use Rattle.shared_depot.specs.Replicas.{IsAnsweredAlone, IsMarkedBy, IsReplicaAnswer};
 
 use crate::both_marks::BothMarks;
 use crate::common::CommonDepot;
@@ -32,7 +33,7 @@ fn mark_lost<N: Marking>(
     requires { 0 < all.old.room }
     ensures party { pass.new.party ≡ pass.old.party }
     ensures marked { IsMarkedBy pass.old pass.new answer.now }
-    ensures caused { AreMarkedBy all.old.list all.new.list answer.now }
+    ensures more { length all.new.list ≡ length all.old.list + one_if (is_lost answer.now) }
 {
     if let Ok(answered) = answer {
         if answered.lost {

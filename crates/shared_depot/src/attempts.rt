@@ -1,47 +1,42 @@
 //! How a command is made ready for its place.
-ghost use Rattle.std.specs.Prelude.{◌≡◌, ◌⊎◌, ℕ, List, None, [], true, false, IfOk, IfSome, IsSome, IsTrue, IsFalse, OnOk};
+ghost use Rattle.std.specs.Prelude.{◌≡◌, ◌≢◌, ◌⊎◌, None, [], false, IfOk, IfSome, IsSome, IsTrue, IsFalse, OnErr, OnOk};
 ghost use Rattle.std.specs.Sync.Mutex.{mutex_guard_value};
-ghost use Rattle.depot_commit.specs.command_core.Outcomes.{HasNeeded, IsFormedBy, IsOutcome};
-ghost use Rattle.depot_commit.specs.Telling.{IsTold, IsUnwritten};
-ghost use Rattle.depot_commit.specs.command_core.declared.outcome.Outcome.{Outcome as AnyOutcome};
+ghost use Rattle.depot_commit.specs.Telling.{IsUnwritten};
 ghost use Rattle.command_needs.specs.Sets.{AreOfWords};
-ghost use Rattle.depot_rows.specs.depot_model.Deeds.{Deed};
-ghost use Rattle.depot_rows.specs.depot_model.Rules.{IsSound};
 ghost use Rattle.depot_rows.specs.depot_model.declared.request.Request.{Request as AnyRequest};
 ghost use Rattle.locked_tables.specs.Taken.{end_after, rows_after};
-ghost use Rattle.locked_tables.specs.declared.taken.Taken.{Taken};
-ghost use Rattle.session_loop.specs.Taking.{IsProper};
 ghost use Rattle.depot_rows.specs.table_changes.Changed.{AllFitIn, rows_of};
 ghost use Rattle.table_locks.specs.Confirmed.{IsConfirmed};
 ghost use Rattle.table_locks.specs.Gathered.{IsShown};
 ghost use Rattle.table_locks.specs.Prepared.{are_held};
 ghost use Rattle.table_locks.specs.declared.gathered.Gathered.{Gathered as AnyGathered};
-ghost use Rattle.shared_depot.specs.Ready.{IsFoundOver, IsGatheredFor, IsQuietFor, IsReadyFor, IsSettled, IsTakenFor, IsWritingFor};
-ghost use Rattle.shared_depot.specs.Room.{IsAtOrder, IsEndKnown, IsFailed, IsRoomFor, IsToldAfter, StandsAfter};
+ghost use Rattle.shared_depot.specs.Ready.{IsFoundFor, IsGatheredFor, IsQuietFor, IsReadyFor, IsSettled, IsTakenFor, IsTried, IsWritingFor, MayTake};
+ghost use Rattle.shared_depot.specs.Room.{IsAtOrder, IsEndKnown, IsRoomFor};
 ghost use Rattle.shared_depot.specs.Stored.{stores_of};
 ghost use Rattle.shared_depot.specs.declared.ready.Attempt.TheVariants as attempts;
 
 use crate::common::CommonDepot;
-use crate::ready::{Attempt, Quiet, Ready, Writing};
+use crate::reading::{Reading, tell_over};
+use crate::ready::{Attempt, Quiet, Ready, Tried, Writing};
 use crate::room::Room;
 use crate::serving::Serving;
 use crate::shared::SharedDepot;
 use crate::stored_archive::StoredArchive;
 use crate::written_journal::{WrittenJournal, share_tables};
 use command_core::{Outcome, evaluate};
-use command_needs::{Needs, request_needs};
-use depot_commit::{Told, tell};
+use command_needs::Needs;
+use depot_commit::Told;
 use depot_rows::model::Request;
 use depot_rows::records::TableId;
-use locked_tables::{Naming, OrderWords};
+use locked_tables::{Naming, OrderWords, PartyPass};
 use outside_api::{Disk, Gate};
 use std::alloc::{AllocError, Global};
 use std::sync::{MutexGuard, Wait};
 use table_locks::{Confirmed, Gathered, gather};
 
-/// How often a command that only reads looks at its tables again, where it was overtaken, before it holds
-/// its set.
-const LOOKS_AGAIN: u32 = 3;
+/// How often a command that only reads looks at its tables, where it was overtaken, before it holds its
+/// set.
+const LOOKS: u32 = 4;
 
 /// Whether a command stores nothing, or the archive may be stored in.
 fn may_store_so(told: &Told, may: bool) -> bool
@@ -63,34 +58,6 @@ fn kept_where<'a, D: Disk, N: Serving>(
     } else {
         drop(archive);
         None
-    }
-}
-
-/// Prints the reply of an outcome, with the contents that it waits for, if the lock of the archive is
-/// held. The one error is that of `tell`.
-fn tell_over<'a, D: Disk, N: Serving>(
-    alloc: Global,
-    archive: Option<MutexGuard<'a, StoredArchive<D, N>>>,
-    outcome: Outcome,
-    number: u32,
-) -> Result<(Told, Option<MutexGuard<'a, StoredArchive<D, N>>>), AllocError>
-    requires none { archive ≡ None → outcome.reads ≡ [] }
-    ensures told { IfOk result (λ r. IsTold outcome number r.0) }
-    ensures reply { (request : AnyRequest) (order : List Taken) → request.number ≡ number → IfOk result (λ r. IfSome r.1 (λ guard. order ≡ (mutex_guard_value guard).list) → IsToldAfter N.end N.images N.begins order request outcome r.0) }
-    ensures failed { IfOk result (λ r. r.0.unread ≡ true → IsFailed r.1) }
-    ensures read { IfOk result (λ r. r.1 ≡ None → r.0.unread ≡ false) }
-    ensures list { IfOk result (λ r. (end used : ℕ) → IsEndKnown end used archive.entry → IsEndKnown end used r.1) }
-    ensures held { IfOk result (λ r. r.1 ≡ None → archive.entry ≡ None) }
-{
-    match archive {
-        None => {
-            let told = tell(alloc, outcome, number)?;
-            Ok((told, None))
-        }
-        Some(mut guard) => {
-            let told = guard.tell(alloc, outcome, number)?;
-            Ok((told, Some(guard)))
-        }
     }
 }
 
@@ -128,13 +95,13 @@ impl<D: Disk, N: Serving> CommonDepot<D, N> {
         ensures held { result ≡ None → archive.entry ≡ None }
         ensures learnt { IsAtOrder self.old result }
         ensures still { IsEndKnown N.end (end_after N.end self.old) archive.entry }
-        ensures stores { IfSome archive.entry (λ guard. stores_of self.old ≡ stores_of (mutex_guard_value guard).list) }
-        ensures failed { IsFailed archive.entry → IsFailed result }
+        ensures stores { IfSome archive.entry (λ guard. stores_of self.old ≡ stores_of (mutex_guard_value guard)) }
     {
         match archive {
             None => None,
             Some(mut guard) => {
-                self.learn_archive(words, &mut *guard);
+                let held = &mut *guard;
+                self.learn_archive(words, &mut held.lane);
                 Some(guard)
             }
         }
@@ -253,28 +220,6 @@ impl<D: Disk, N: Serving> SharedDepot<D, N> {
         }
     }
 
-    /// Takes the lock of the order for what is told of a command for whose reply a content couldn't be
-    /// read. Its place is that of a fault whatever the tables are, so none has to be as it was seen.
-    fn quiet_unread<'a, R: Wait>(
-        &'a self,
-        rt: &R,
-        archive: Option<MutexGuard<'a, StoredArchive<D, N>>>,
-        told: Told,
-    ) -> Quiet<'a, D, N>
-        requires unread { told.unread ≡ true }
-        requires failed { IsFailed archive }
-        requires read { archive ≡ None → told.unread ≡ false }
-        ensures { (request : AnyRequest) (outcome : AnyOutcome) → IsTold outcome request.number told → IsQuietFor N.rows N.end N.images N.begins request result }
-    {
-        let mut common = self.common.lock(rt);
-        let archive = common.learn_held(&self.words, archive);
-        Quiet {
-            common,
-            archive,
-            told,
-        }
-    }
-
     /// Takes the lock of the order for what is told of an outcome that was found over gathered tables,
     /// where they are still so, as they are where the whole set is held, and nothing more is written. The
     /// error is that of `settle`.
@@ -285,17 +230,14 @@ impl<D: Disk, N: Serving> SharedDepot<D, N> {
         whole: bool,
         gathered: Gathered<'a, N>,
         archive: Option<MutexGuard<'a, StoredArchive<D, N>>>,
-        request: &Request,
         told: Told,
     ) -> Result<Option<Quiet<'a, D, N>>, AllocError>
         requires gathered { IsGatheredFor N.rows whole needs.now gathered }
         requires end { (told.stores ≡ []) ⊎ IsEndKnown N.end gathered.tables.archive_end archive }
-        requires needs { AreOfWords request.now.command needs.now }
-        requires proper { (since : ℕ) (start : List Deed) → N.begins since start → IsProper request.now }
-        requires found { IsFoundOver N.end N.images N.begins gathered archive request.now told }
         requires unwritten { IsUnwritten told }
         requires read { told.unread ≡ false }
-        ensures quiet { IfOk result (λ found. IfSome found (IsQuietFor N.rows N.end N.images N.begins request.now)) }
+        ensures quiet { (request : AnyRequest) → IsFoundFor N.end N.images N.begins needs.now gathered.entry archive.entry request told →
+            IfOk result (λ found. IfSome found (IsQuietFor N.rows N.end N.images N.begins request)) }
         ensures always { IfOk result (λ found. IsTrue whole → IsSome found) }
     {
         let mut common = self.common.lock(rt);
@@ -303,11 +245,7 @@ impl<D: Disk, N: Serving> SharedDepot<D, N> {
             Ok(Some(Settled { confirmed, archive })) => {
                 drop(confirmed);
                 drop(archive);
-                Ok(Some(Quiet {
-                    common,
-                    archive: None,
-                    told,
-                }))
+                Ok(Some(Quiet { common, told }))
             }
             Ok(None) => {
                 drop(told);
@@ -352,17 +290,15 @@ impl<D: Disk, N: Serving> SharedDepot<D, N> {
         whole: bool,
         gathered: Gathered<'a, N>,
         archive: Option<MutexGuard<'a, StoredArchive<D, N>>>,
-        request: &Request,
         told: Told,
     ) -> Result<Option<Writing<'a, D, N>>, AllocError>
         requires gathered { IsGatheredFor N.rows whole needs.now gathered }
         requires end { (told.stores ≡ []) ⊎ IsEndKnown N.end gathered.tables.archive_end archive }
-        requires needs { AreOfWords request.now.command needs.now }
-        requires proper { (since : ℕ) (start : List Deed) → N.begins since start → IsProper request.now }
-        requires found { IsFoundOver N.end N.images N.begins gathered archive request.now told }
         requires fit { AllFitIn (rows_of gathered.tables) told.changes }
+        requires some { told.changes ≢ [] }
         requires read { told.unread ≡ false }
-        ensures writing { IfOk result (λ found. IfSome found (IsWritingFor N.rows N.end N.images N.begins request.now)) }
+        ensures writing { (request : AnyRequest) → IsFoundFor N.end N.images N.begins needs.now gathered.entry archive.entry request told →
+            IfOk result (λ found. IfSome found (IsWritingFor N.rows N.end N.images N.begins request)) }
         ensures always { IfOk result (λ found. IsTrue whole → IsSome found) }
     {
         let mut journal = self.journal.lock(rt);
@@ -403,26 +339,23 @@ impl<D: Disk, N: Serving> SharedDepot<D, N> {
         whole: bool,
         gathered: Gathered<'a, N>,
         archive: Option<MutexGuard<'a, StoredArchive<D, N>>>,
-        request: &Request,
         told: Told,
     ) -> Result<Option<Ready<'a, D, N>>, AllocError>
         requires gathered { IsGatheredFor N.rows whole needs.now gathered }
         requires end { (told.stores ≡ []) ⊎ IsEndKnown N.end gathered.tables.archive_end archive }
-        requires needs { AreOfWords request.now.command needs.now }
-        requires proper { (since : ℕ) (start : List Deed) → N.begins since start → IsProper request.now }
-        requires found { IsFoundOver N.end N.images N.begins gathered archive request.now told }
         requires fit { AllFitIn (rows_of gathered.tables) told.changes }
         requires read { told.unread ≡ false }
-        ensures ready { IfOk result (λ found. IfSome found (IsReadyFor N.rows N.end N.images N.begins request.now)) }
+        ensures ready { (request : AnyRequest) → IsFoundFor N.end N.images N.begins needs.now gathered.entry archive.entry request told →
+            IfOk result (λ found. IfSome found (IsReadyFor N.rows N.end N.images N.begins request)) }
         ensures always { IfOk result (λ found. IsTrue whole → IsSome found) }
     {
         if told.is_unwritten() {
-            match self.quiet_for(rt, needs, whole, gathered, archive, request, told)? {
+            match self.quiet_for(rt, needs, whole, gathered, archive, told)? {
                 Some(quiet) => Ok(Some(Ready::Quiet(quiet))),
                 None => Ok(None),
             }
         } else {
-            match self.writing_for(rt, alloc, needs, whole, gathered, archive, request, told)? {
+            match self.writing_for(rt, alloc, needs, whole, gathered, archive, told)? {
                 Some(writing) => Ok(Some(Ready::Writing(writing))),
                 None => Ok(None),
             }
@@ -431,69 +364,114 @@ impl<D: Disk, N: Serving> SharedDepot<D, N> {
 
     /// One attempt to make a command ready: with the tables that it only reads looked at, or with its whole
     /// set held. The gate is passed before contents are read, so that a command that only reads the archive
-    /// doesn't hold its lock there. Where one couldn't be read the command is at a fault, overtaken or not.
-    /// Answers nothing where a table was changed since it was looked at, to which an attempt with the whole
-    /// set doesn't come.
+    /// doesn't hold its lock there. Where one couldn't be read the command has its place, that of a fault,
+    /// overtaken or not. Answers nothing where a table was changed since it was looked at, to which an attempt
+    /// with the whole set doesn't come.
     fn attempt<'a, R: Wait, G: Gate>(
         &'a self,
         rt: &R,
         alloc: Global,
         gate: &G,
+        pass: &mut PartyPass<N>,
         needs: &Needs,
         attempt: Attempt,
-        request: &Request,
-    ) -> Result<Option<Ready<'a, D, N>>, AllocError>
-        requires needs { AreOfWords request.now.command needs.now }
-        requires proper { (since : ℕ) (start : List Deed) → N.begins since start → IsProper request.now }
-        ensures ready { IfOk result (λ found. IfSome found (IsReadyFor N.rows N.end N.images N.begins request.now)) }
+        asked: &mut Option<Request>,
+    ) -> Result<Option<Tried<'a, D, N>>, AllocError>
+        requires some { IsSome asked.old }
+        requires needs { IfSome asked.old (λ request. AreOfWords request.command needs.now) }
+        requires may { IfSome asked.old (MayTake N.places N.begins pass.old) }
+        ensures tried { IfOk result (λ found. IfSome found (IsTried N.rows N.end N.images N.begins pass.old pass.new asked.old asked.new)) }
+        ensures overtaken { IfOk result (λ found. found ≡ None → (pass.new ≡ pass.old) × (asked.new ≡ asked.old)) }
+        ensures nothing { OnErr result (pass.new ≡ pass.old) }
         ensures always { IfOk result (λ found. attempt ≡ attempts.Whole → IsSome found) }
     {
         let whole = attempt.holds_set();
         let (gathered, archive) = self.reach(rt, alloc, needs, whole)?;
         let stores = archive.is_some();
+        let request = asked.as_ref().unwrap();
+        let number = request.number;
         let outcome = evaluate(alloc, gathered.tables(), request)?;
         if matches!(attempt, Attempt::First) {
-            gate.pass(request.party, request.number);
+            gate.pass(request.party, number);
         }
         let archive = self.archive_for(rt, archive, &outcome);
-        let (told, archive) = tell_over(alloc, archive, outcome, request.number)?;
-        if told.is_unread() {
-            drop(gathered);
-            return Ok(Some(Ready::Quiet(self.quiet_unread(rt, archive, told))));
+        let (reading, archive) = tell_over(rt, self, alloc, pass, archive, outcome, number, asked)?;
+        match reading {
+            Reading::Placed(answer) => {
+                drop(archive);
+                drop(gathered);
+                Ok(Some(Tried::Placed(answer)))
+            }
+            Reading::Told(told) => {
+                if !may_store_so(&told, stores) {
+                    drop(told);
+                    return Err(AllocError);
+                }
+                match self.ready_for(rt, alloc, needs, whole, gathered, archive, told)? {
+                    Some(ready) => Ok(Some(Tried::Ready(ready))),
+                    None => Ok(None),
+                }
+            }
         }
-        if !may_store_so(&told, stores) {
-            drop(told);
-            return Err(AllocError);
-        }
-        self.ready_for(rt, alloc, needs, whole, gathered, archive, request, told)
     }
 
-    /// Makes the command of a request ready for its place. One that only reads and was overtaken looks at its
-    /// tables again a few times; else, and in the end, the whole set is held.
+    /// Attempts that only look at tables that aren't written, as many at most, up to one that isn't
+    /// overtaken. The first one passes the gate.
+    fn look<'a, R: Wait, G: Gate>(
+        &'a self,
+        rt: &R,
+        alloc: Global,
+        gate: &G,
+        pass: &mut PartyPass<N>,
+        needs: &Needs,
+        times: u32,
+        asked: &mut Option<Request>,
+    ) -> Result<Option<Tried<'a, D, N>>, AllocError>
+        requires some { IsSome asked.old }
+        requires needs { IfSome asked.old (λ request. AreOfWords request.command needs.now) }
+        requires may { IfSome asked.old (MayTake N.places N.begins pass.old) }
+        ensures tried { IfOk result (λ found. IfSome found (IsTried N.rows N.end N.images N.begins pass.old pass.new asked.old asked.new)) }
+        ensures overtaken { IfOk result (λ found. found ≡ None → (pass.new ≡ pass.old) × (asked.new ≡ asked.old)) }
+        ensures nothing { OnErr result (pass.new ≡ pass.old) }
+    {
+        for look in 0..times {
+            let way = if look == 0 {
+                Attempt::First
+            } else {
+                Attempt::Again
+            };
+            let again = self.attempt(rt, alloc, gate, pass, needs, way, asked)?;
+            if again.is_some() {
+                return Ok(again);
+            }
+        }
+        Ok(None)
+    }
+
+    /// Makes the command that is asked ready for its place, or has it placed where a content couldn't be
+    /// read. One that only reads and was overtaken looks at its tables again a few times; else, and in the
+    /// end, the whole set is held.
     pub(crate) fn ready<'a, R: Wait, G: Gate>(
         &'a self,
         rt: &R,
         alloc: Global,
         gate: &G,
-        request: &Request,
-    ) -> Result<Ready<'a, D, N>, AllocError>
-        requires { (since : ℕ) (start : List Deed) → N.begins since start → IsProper request.now }
-        ensures { IfOk result (IsReadyFor N.rows N.end N.images N.begins request.now) }
+        pass: &mut PartyPass<N>,
+        needs: &Needs,
+        asked: &mut Option<Request>,
+    ) -> Result<Tried<'a, D, N>, AllocError>
+        requires some { IsSome asked.old }
+        requires needs { IfSome asked.old (λ request. AreOfWords request.command needs.now) }
+        requires may { IfSome asked.old (MayTake N.places N.begins pass.old) }
+        ensures tried { IfOk result (IsTried N.rows N.end N.images N.begins pass.old pass.new asked.old asked.new) }
+        ensures nothing { OnErr result (pass.new ≡ pass.old) }
     {
-        let needs = &request_needs(request);
-        let first = self.attempt(rt, alloc, gate, needs, Attempt::First, request)?;
-        if let Some(ready) = first {
-            return Ok(ready);
+        let times = if needs.writes.is_empty() { LOOKS } else { 1 };
+        let looked = self.look(rt, alloc, gate, pass, needs, times, asked)?;
+        if let Some(tried) = looked {
+            return Ok(tried);
         }
-        if needs.writes.is_empty() {
-            for _ in 0..LOOKS_AGAIN {
-                let again = self.attempt(rt, alloc, gate, needs, Attempt::Again, request)?;
-                if let Some(ready) = again {
-                    return Ok(ready);
-                }
-            }
-        }
-        let whole = self.attempt(rt, alloc, gate, needs, Attempt::Whole, request)?;
+        let whole = self.attempt(rt, alloc, gate, pass, needs, Attempt::Whole, asked)?;
         Ok(whole.unwrap())
     }
 }

@@ -1,15 +1,15 @@
 //! A shared depot once all threads have ended.
-ghost use Rattle.std.specs.Prelude.{◌≡◌, ◌≤◌, ℕ, List, [], map, true, false};
+ghost use Rattle.std.specs.Prelude.{◌≡◌, ◌≤◌, ◌+◌, ◌⊎◌, ℕ, List, [], length, map};
 ghost use Rattle.std.specs.List.{AllByRecursion};
 ghost use mathlib.Core.List.{IsPrefix};
 ghost use Rattle.archive_file.specs.Archive.{disk_of as archive_disk_of};
 ghost use Rattle.depot_rows.specs.depot_model.Deeds.{Deed};
 ghost use Rattle.disk_journal.specs.Stands.{disk_of};
 ghost use Rattle.locked_tables.specs.Taken.{IsParty, of_party, place_of, placed_of};
-ghost use Rattle.party_marks.specs.Marks.{has_marks, is_empty};
+ghost use Rattle.party_marks.specs.Marks.{MayMark, marks_of};
 ghost use Rattle.serial_depot.specs.Running.{CanTake, HasRun};
-ghost use Rattle.session_loop.specs.Served.{AreCaused};
-ghost use Rattle.shared_depot.specs.Common.{AreMarksCaused, HasAllStored, IsFollowed};
+ghost use Rattle.session_loop.specs.Served.{HaveRisenBy, StandWithoutFaults, fault_count};
+ghost use Rattle.shared_depot.specs.Common.{HasAllStored, IsFollowed};
 
 use crate::both_marks::BothMarks;
 use crate::common::CommonDepot;
@@ -43,18 +43,19 @@ pub struct OpenedDepot<D: Disk, N: Serving> {
 }
 
 impl<D: Disk, N: Serving> Model for OpenedDepot<D, N> {
-    ghost use Rattle.std.specs.Prelude.{◌++◌, false};
+    ghost use Rattle.std.specs.Prelude.{◌++◌};
     ghost use Rattle.archive_file.specs.Archive.{disk_of as archive_disk_of};
     ghost use Rattle.disk_journal.specs.Stands.{disk_of};
-    ghost use Rattle.shared_depot.specs.Common.{HasRunOrder, IsArchiveAfter, IsMarkCaused, OpenedKnown};
+    ghost use Rattle.shared_depot.specs.Common.{HasRunOrder, IsArchiveAfter, IsCountAfter, OpenedKnown};
+    ghost use Rattle.shared_depot.specs.Stored.{is_lost, is_unwritten};
 
     ghost Value = { OpenedKnown };
 
     ghost view = { λ o. record { order = o.order; marks = o.marks.list ++ o.content_marks.list } };
 
-    ghost invariant = { λ o. HasRunOrder D.says N.rows N.end N.images N.begins N.masters N.faults o.order o.tables o.journal ×
-        IsArchiveAfter D.says N.end N.images N.begins N.content_faults (record { list = o.order; failed = false }) o.archive ×
-        IsMarkCaused N.faults (D.says.faults (disk_of o.journal)) o.marks.list × IsMarkCaused N.content_faults (D.says.faults (archive_disk_of o.archive)) o.content_marks.list };
+    ghost invariant = { λ o. HasRunOrder D.says N.rows N.end N.images N.begins N.masters o.order o.tables o.journal ×
+        IsArchiveAfter D.says N.end N.images N.begins o.order o.archive ×
+        IsCountAfter is_unwritten N.faults (D.says.faults (disk_of o.journal)) o.order o.marks.list × IsCountAfter is_lost N.content_faults (D.says.faults (archive_disk_of o.archive)) o.order o.content_marks.list };
 }
 
 /// What a shared depot that is closed gives back.
@@ -82,7 +83,6 @@ impl<D: Disk, N: Serving> SharedDepot<D, N> {
         let StoredArchive {
             mut lane,
             archive,
-            failed: _,
             marks: content_marks,
         } = archive.into_inner();
         let WrittenJournal {
@@ -118,13 +118,13 @@ impl<D: Disk, N: Serving> SharedDepot<D, N> {
 
 impl<D: Disk, N: Serving> OpenedDepot<D, N> {
     /// A party learns the whole order, which begins with what it knew; each of its own places was
-    /// known to it. Where it has marks, they are among all.
+    /// known to it, and so was each mark.
     pub fn hear(&mut self, pass: &mut PartyPass<N>, marks: &mut BothMarks<N>)
         ensures same { self.new ≡ self.old }
         ensures told { pass.new ≡ record pass.old { list = self.old.order } }
         ensures begins { IsPrefix pass.old.list self.old.order }
         ensures own { of_party pass.old.party self.old.order ≡ of_party pass.old.party pass.old.list }
-        ensures marked { has_marks marks.old.party marks.old.list ≡ true → is_empty self.old.marks ≡ false }
+        ensures marked { marks_of marks.old.party self.old.marks ≡ marks_of marks.old.party marks.old.list }
     {
         self.order.tell(&self.words, pass);
         self.marks.tell(&self.mark_words, &mut marks.journal);
@@ -142,9 +142,11 @@ impl<D: Disk, N: Serving> OpenedDepot<D, N> {
         // From each depot that replicas follow on, they follow it after the order.
         ensures followed { IsFollowed D.says N.begins N.masters self.order result.depot }
         ensures stored { HasAllStored D.says N.end N.images N.begins self.order result.depot.archive }
-        // There are at most as many fault places as the counts of the two disks rose, and marks only where one rose.
-        ensures faults { AreCaused N.faults (D.says.faults (disk_of result.depot.journal)) N.content_faults (D.says.faults (archive_disk_of result.depot.archive)) [] result.order.items }
-        ensures marks { AreMarksCaused N.faults (D.says.faults (disk_of result.depot.journal)) N.content_faults (D.says.faults (archive_disk_of result.depot.archive)) self.marks }
+        // Each mark is of a party that may mark.
+        ensures mark_parties { AllByRecursion (λ mark. MayMark N.marks mark.party ⊎ MayMark N.content_marks mark.party) self.marks }
+        // The fault places and the marks together are at most as many as the counts of the two disks rose. Where there is neither, the counts stand.
+        ensures failures { HaveRisenBy (fault_count result.order.items + length self.marks) N.faults (D.says.faults (disk_of result.depot.journal)) N.content_faults (D.says.faults (archive_disk_of result.depot.archive)) }
+        ensures stand { length self.marks ≡ 0 → StandWithoutFaults N.faults (D.says.faults (disk_of result.depot.journal)) N.content_faults (D.says.faults (archive_disk_of result.depot.archive)) [] result.order.items }
         ensures never_falls { N.faults ≤ D.says.faults (disk_of result.depot.journal) }
         ensures never_falls_contents { N.content_faults ≤ D.says.faults (archive_disk_of result.depot.archive) }
     {
@@ -156,10 +158,12 @@ impl<D: Disk, N: Serving> OpenedDepot<D, N> {
             tables,
             journal,
             archive,
-            marks: _,
-            content_marks: _,
+            marks,
+            content_marks,
         } = self;
         order.parties_are_of_run();
+        marks.parties_are_of_run();
+        content_marks.parties_are_of_run();
         Closed {
             depot: SerialDepot::new(tables, journal, archive),
             order: order.into_places(),

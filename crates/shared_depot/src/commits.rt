@@ -1,5 +1,5 @@
 //! The commit of a command that writes.
-ghost use Rattle.std.specs.Prelude.{◌≡◌, ◌≤◌, ℕ, List, [], false, IfOk, OnErr};
+ghost use Rattle.std.specs.Prelude.{◌≡◌, ◌≢◌, ◌≤◌, ℕ, List, [], false, IfOk, OnErr};
 ghost use Rattle.depot_rows.specs.depot_model.Deeds.{Deed};
 ghost use Rattle.locked_tables.specs.Known.{HasPlaceLeft};
 ghost use Rattle.session_loop.specs.Taking.{IsProper};
@@ -41,6 +41,7 @@ impl<D: Disk, N: Serving> WrittenJournal<D, N> {
         requires held { S.is_archive ≡ A.is_held }
         requires used { S.ends_at store.old (stored_end N.end self.old) }
         requires some { A.is_held ≡ false → told.stores ≡ [] }
+        requires changes { told.changes ≢ [] }
         requires read { told.unread ≡ false }
         requires due { IsDueAfter N.rows N.end N.images N.begins self.old request told }
         requires proper { (since : ℕ) (start : List Deed) → N.begins since start → IsProper request }

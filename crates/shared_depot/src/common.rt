@@ -7,16 +7,15 @@ ghost use Rattle.depot_rows.specs.depot_model.Tables.{needs_of};
 ghost use Rattle.depot_rows.specs.depot_model.declared.request.Request.{Request};
 ghost use Rattle.depot_rows.specs.table_changes.Changed.{rows_of};
 ghost use Rattle.disk_journal.specs.declared.journal.Journal.{Journal};
-ghost use Rattle.locked_tables.specs.Taken.{end_after, rows_after};
+ghost use Rattle.locked_tables.specs.Known.{GoesOnWithout};
+ghost use Rattle.locked_tables.specs.Taken.{archive_lane, end_after, rows_after};
 ghost use Rattle.table_locks.specs.Confirmed.{IsConfirmed};
 ghost use Rattle.table_locks.specs.Gathered.{Covers, HasSet, IsShown};
 ghost use Rattle.shared_depot.specs.Common.{AreQuiet, GoesOnQuietly, HasRunOrder, WasRun};
-ghost use Rattle.shared_depot.specs.Stored.{lost_count, stores_of};
 
 use crate::serving::Serving;
-use crate::stored_archive::StoredArchive;
 use depot_rows::tables::Tables;
-use locked_tables::{LockedJournal, OrderWords, PlacedOrder};
+use locked_tables::{LockedArchive, LockedJournal, OrderWords, PlacedOrder};
 use outside_api::Disk;
 use std::marker::{Model, PhantomData};
 use table_locks::{Confirmed, Gathered};
@@ -40,7 +39,7 @@ impl<D: Disk, N: Serving> Model for CommonDepot<D, N> {
 
     ghost view = { λ c. c.order };
 
-    ghost invariant = { λ c. KeepsOrder D.says N.rows N.end N.images N.begins N.masters N.faults c.order c.tables };
+    ghost invariant = { λ c. KeepsOrder D.says N.rows N.end N.images N.begins N.masters c.order c.tables };
 }
 
 impl<D: Disk, N: Serving> CommonDepot<D, N> {
@@ -48,7 +47,7 @@ impl<D: Disk, N: Serving> CommonDepot<D, N> {
     pub(crate) fn new(order: PlacedOrder<N>, tables: Tables) -> CommonDepot<D, N>
         requires order { order ≡ [] }
         requires rows { (table : TableId) → rows_of tables table ≡ N.rows table }
-        requires run { WasRun D.says N.rows N.end N.images N.begins N.masters N.faults [] }
+        requires run { WasRun D.says N.rows N.end N.images N.begins N.masters [] }
         ensures { result ≡ [] }
     {
         CommonDepot {
@@ -73,16 +72,14 @@ impl<D: Disk, N: Serving> CommonDepot<D, N> {
         gathered.confirm(words, &mut self.order)
     }
 
-    /// The archive's lane learns the whole order, behind whose places that it knew none touches it. So
-    /// the archive has the contents of the whole order.
-    pub(crate) fn learn_archive(&mut self, words: &OrderWords<N>, archive: &mut StoredArchive<D, N>)
+    /// The archive's lane learns the whole order, behind whose places that it knew none touches it.
+    pub(crate) fn learn_archive(&mut self, words: &OrderWords<N>, lane: &mut LockedArchive<N>)
         ensures same { self.new ≡ self.old }
-        ensures learnt { archive.new ≡ record archive.old { list = self.old } }
-        ensures end { end_after N.end self.old ≡ end_after N.end archive.old.list }
-        ensures stores { stores_of self.old ≡ stores_of archive.old.list }
-        ensures lost { lost_count self.old ≡ lost_count archive.old.list }
+        ensures learnt { lane.new ≡ self.old }
+        ensures behind { GoesOnWithout archive_lane lane.old self.old }
+        ensures end { end_after N.end self.old ≡ end_after N.end lane.old }
     {
-        self.order.learn_archive(words, &mut archive.lane);
+        self.order.learn_archive(words, lane);
     }
 
     /// The journal's lane learns the whole order, behind whose places that it knew none touches it: at

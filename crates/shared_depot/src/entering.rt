@@ -51,7 +51,7 @@ impl<D: Disk, N: Serving> CommonDepot<D, N> {
         // Behind each order that goes on quietly some tables and journal have run it with this place.
         requires ran { (order : List AnyTaken) (lanes : ℕ) → GoesOnQuietly D.says N.rows N.end N.images N.begins lane.old order →
             has_lane lanes archive_lane ≡ A.is_held → IsEntered N.rows N.end order (record taken { lanes = lanes }) (if A.is_held then taken.end else end_after N.end order) →
-            WasRun D.says N.rows N.end N.images N.begins N.masters N.faults (order ++ record taken { lanes = lanes } ∷ []) }
+            WasRun D.says N.rows N.end N.images N.begins N.masters (order ++ record taken { lanes = lanes } ∷ []) }
         ensures placed { self.new ≡ self.old ++ record taken { lanes = result } ∷ [] }
         ensures on { GoesOnQuietly D.says N.rows N.end N.images N.begins lane.old self.old }
         ensures lane { lane.new ≡ self.new }

@@ -10,7 +10,9 @@
 //!   finds over all these what the command does. No other thread waits for that but those that write a table
 //!   that the command writes, or want the archive.
 //! - It passes the gate. If the reply waits for contents, it takes the lock of the archive, and reads
-//!   them. It prints the reply. A command that neither stores nor reads doesn't touch the archive.
+//!   them. Where one can't be read, it takes the lock of the order too, and the command has the next place,
+//!   that of a fault. Else it prints the reply. A command that neither stores nor reads doesn't touch the
+//!   archive.
 //! - If the command writes nothing, it takes the lock of the order, and the command has the next place.
 //! - Else it takes the lock of the journal, and under it that of the order for a moment. Then what is in
 //!   doubt is settled, what the command stores is stored, and what it changes is committed. It takes the
@@ -41,6 +43,7 @@ mod link;
 mod making;
 mod of_archive;
 mod quiet;
+mod reading;
 mod ready;
 mod room;
 mod serving;

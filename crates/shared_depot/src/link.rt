@@ -1,9 +1,8 @@
 //! A link to the journal of a depot at work.
-ghost use Rattle.std.specs.Prelude.{◌≡◌, ◌⊎◌, ◌<◌, ℕ, List, false, length, IfOk, Ok};
-ghost use Rattle.std.specs.Result.{IsErr};
+ghost use Rattle.std.specs.Prelude.{◌≡◌, ◌≤◌, ◌<◌, ◌+◌, ℕ, List, length, is_err, IfOk, Ok};
 ghost use Rattle.outside_api.specs.Count.{HasCause};
 ghost use Rattle.outside_api.specs.Link.{Answers, Fits};
-ghost use Rattle.party_marks.specs.Marks.{is_empty};
+ghost use Rattle.replica_turns.specs.Going.{one_if};
 ghost use Rattle.shared_depot.specs.Link.{HasHeardPlaces, TellsAll, TellsJournal};
 
 use crate::both_marks::BothMarks;
@@ -36,7 +35,8 @@ fn tell_fetched<N: Marking>(
 ) -> Result<Fetched, Failed>
     ensures told { IfOk result (λ told. fetched ≡ Ok told) }
     ensures party { pass.new.party ≡ pass.old.party }
-    ensures caused { is_empty all.new.list ≡ false → (is_empty all.old.list ≡ false) ⊎ IsErr fetched }
+    ensures marked { length all.new.list ≤ length all.old.list + one_if (is_err fetched) }
+    ensures none { length all.new.list ≡ 0 → length all.old.list + one_if (is_err fetched) ≡ 0 }
     ensures cause { HasCause (length pass.old.list) (length pass.new.list) result }
 {
     match fetched {

@@ -25,7 +25,7 @@ use table_locks::Prepared;
 impl<D: Disk, N: Serving> CommonDepot<D, N> {
     /// Gives a command its place that writes nothing more. Where a content couldn't be read it is that of a
     /// fault, and it touches the archive's lane, which is held then; the archive ends where it did.
-    fn place_quiet<A: ArchiveLane<N>>(
+    pub(crate) fn place_quiet<A: ArchiveLane<N>>(
         &mut self,
         words: &OrderWords<N>,
         alloc: Global,
@@ -86,28 +86,7 @@ impl<'a, D: Disk, N: Serving> Quiet<'a, D, N> {
         requires party { request.party ≡ pass.old.party }
         ensures { IsTakenAt N.begins pass.old pass.new request result }
     {
-        let Quiet {
-            mut common,
-            archive,
-            told,
-        } = self;
-        match archive {
-            None => common.place_quiet(words, alloc, pass, &mut NoLane, 0, told, request),
-            Some(mut guard) => {
-                let held = &mut *guard;
-                let end = held.lane.end();
-                let answer = common.place_quiet(
-                    words,
-                    alloc,
-                    pass,
-                    &mut held.lane,
-                    end,
-                    told,
-                    request,
-                );
-                held.failed = false;
-                answer
-            }
-        }
+        let Quiet { mut common, told } = self;
+        common.place_quiet(words, alloc, pass, &mut NoLane, 0, told, request)
     }
 }

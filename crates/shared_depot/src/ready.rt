@@ -8,15 +8,14 @@ use crate::serving::Serving;
 use crate::stored_archive::StoredArchive;
 use crate::written_journal::WrittenJournal;
 use depot_commit::Told;
+use depot_rows::model::Answer;
 use outside_api::Disk;
 use std::sync::MutexGuard;
 
-/// What a command is answered that writes nothing more, with the lock of the order, and that of the
-/// archive where a content couldn't be read.
+/// What a command is answered that writes nothing more, with the lock of the order.
 #[derive(Drop)]
 pub(crate) struct Quiet<'a, D: Disk, N: Serving> {
     pub(crate) common: MutexGuard<'a, CommonDepot<D, N>>,
-    pub(crate) archive: Option<MutexGuard<'a, StoredArchive<D, N>>>,
     pub(crate) told: Told,
 }
 
@@ -59,4 +58,12 @@ impl Attempt {
 pub(crate) enum Ready<'a, D: Disk, N: Serving> {
     Quiet(Quiet<'a, D, N>),
     Writing(Writing<'a, D, N>),
+}
+
+/// What an attempt came to that no other command overtook.
+#[derive(Drop)]
+pub(crate) enum Tried<'a, D: Disk, N: Serving> {
+    Ready(Ready<'a, D, N>),
+    /// A content couldn't be read, and the command has its place.
+    Placed(Answer),
 }

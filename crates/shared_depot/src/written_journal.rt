@@ -2,6 +2,7 @@
 ghost use Rattle.std.specs.Prelude.{◌≡◌, [], IfOk};
 ghost use Rattle.depot_rows.specs.db_records.declared.table.TableId.{TableId};
 ghost use Rattle.depot_rows.specs.table_changes.Changed.{AllFitIn, changed_by, rows_of};
+ghost use Rattle.disk_journal.specs.Stands.{disk_of};
 ghost use Rattle.locked_tables.specs.Taken.{end_after, rows_after};
 ghost use Rattle.shared_depot.specs.Common.{GoesOnQuietly, HasRunOrder};
 
@@ -19,7 +20,8 @@ use std::marker::Model;
 
 /// The journal and the tables, which have run a beginning of the order behind which nothing was written,
 /// with the seat of the journal's lane, and the marks of parties that were told that the journal's disk
-/// failed: while there is one, the count of the disk has risen. Contracts see that beginning.
+/// failed: the count of the disk has risen for each of these, and for each place at which it failed.
+/// Contracts see that beginning.
 #[derive(Drop)]
 pub(crate) struct WrittenJournal<D: Disk, N: Serving> {
     pub(crate) lane: LockedJournal<N>,
@@ -32,14 +34,15 @@ impl<D: Disk, N: Serving> Model for WrittenJournal<D, N> {
     ghost use Rattle.std.specs.Prelude.{List};
     ghost use Rattle.disk_journal.specs.Stands.{disk_of};
     ghost use Rattle.locked_tables.specs.declared.taken.Taken.{Taken};
-    ghost use Rattle.shared_depot.specs.Common.{HasRunOrder, IsMarkCaused};
+    ghost use Rattle.shared_depot.specs.Common.{HasRunOrder, IsCountAfter};
+    ghost use Rattle.shared_depot.specs.Stored.{is_unwritten};
 
     ghost Value = { List Taken };
 
     ghost view = { λ w. w.lane };
 
-    ghost invariant = { λ w. HasRunOrder D.says N.rows N.end N.images N.begins N.masters N.faults w.lane w.tables w.journal ×
-        IsMarkCaused N.faults (D.says.faults (disk_of w.journal)) w.marks.list };
+    ghost invariant = { λ w. HasRunOrder D.says N.rows N.end N.images N.begins N.masters w.lane w.tables w.journal ×
+        IsCountAfter is_unwritten N.faults (D.says.faults (disk_of w.journal)) w.lane w.marks.list };
 }
 
 /// The tables once more. The one error is want of memory.
@@ -59,7 +62,8 @@ impl<D: Disk, N: Serving> WrittenJournal<D, N> {
     ) -> WrittenJournal<D, N>
         requires lane { lane ≡ [] }
         requires marks { marks.list ≡ [] }
-        requires run { HasRunOrder D.says N.rows N.end N.images N.begins N.masters N.faults [] tables journal }
+        requires run { HasRunOrder D.says N.rows N.end N.images N.begins N.masters [] tables journal }
+        requires count { D.says.faults (disk_of journal) ≡ N.faults }
         ensures { result ≡ [] }
     {
         WrittenJournal {

@@ -1,7 +1,7 @@
 use Rattle.std.proofs.Common.{◌≡◌, ◌+◌, ◌∙◌, ℕ, Bool, true, false, refl, subst, arith}
 use Rattle.party_threads.proofs.Answering.{answered_more, answered_none, failed_end, replica_served}
 use Rattle.party_threads.specs.Replicas.{IsReplicaServed, IsStep}
-use Rattle.party_marks.specs.Marks.{has_marks}
+use Rattle.shared_depot.specs.Replicas.{mark_count}
 use Rattle.party_threads.proofs.replicas.answer_commands.Goals as goal
 
 pub loop-number-init : goal.loop-number-init
@@ -10,6 +10,7 @@ loop-number-init g c =
     let few = c.requires.few in
     let total = c.left_count-total.ensures (omega (arith, few)) in
     record {
+      marks_party = refl;
       total = total;
       left = omega (arith, total);
       answered = answered_none D.says g.N.Naming.end g.N.Imaging.images g.N.Serving.begins g.N.Serving.masters g.K.Sink.says (g.C.Clock.says.may_give c.args.clock.now) c.args.pass.now.party c.args.replica c.args.sink.now
@@ -27,6 +28,7 @@ loop-number-preserved g c =
     let all = was.left in
     let fewer = next.left in
     record {
+      marks_party = next.step.turn.heard.marks_party ∙ was.marks_party;
       total = was.total;
       left = omega (arith, all, fewer);
       answered = answered_more D.says g.N.Naming.end g.N.Imaging.images g.N.Serving.begins g.N.Serving.masters g.K.Sink.says (g.C.Clock.says.may_give c.args.clock.now) c.args.pass.now.party c.args.replica c.args.sink.now
@@ -70,10 +72,16 @@ returns-clause-served g c =
     let total = was.total in
     let test = c.loop-number-test.false in
     let last : at.number ≡ c.left_count-total.result = omega (arith, all, test) in
-    let Served : ℕ → Type 0 = λ n. IsReplicaServed D.says end images begins g.N.Serving.masters g.K.Sink.says may_give party c.args.replica (record { commands = n; failed = false }) (has_marks at.marks.party at.marks.list) c.args.sink.now at.sink at.pass.list in
+    let Served : ℕ → Type 0 = λ n. IsReplicaServed D.says end images begins g.N.Serving.masters g.K.Sink.says may_give party c.args.replica (record { commands = n; failed = false }) (mark_count at.marks) c.args.sink.now at.sink at.pass.list in
     subst Served last
     (replica_served D.says end images begins g.N.Serving.masters g.K.Sink.says may_give party c.args.replica c.args.sink.now at.number false at.pass at.marks at.replica at.sink was.answered
     (record { all = λ whole. omega (arith, last, total); within = omega (arith, last, total); counts = was.answered.counts; cause = λ failed. absurd cc }))
 
 pub returns-clause-party : goal.returns-clause-party
 returns-clause-party g c = c.loop-number.invariant.answered.party_is
+
+pub returns-then-answer_command-clause-marks_party : goal.returns-then-answer_command-clause-marks_party
+returns-then-answer_command-clause-marks_party g c = c.answer_command.ensures.step.turn.heard.marks_party ∙ c.loop-number.invariant.marks_party
+
+pub returns-clause-marks_party : goal.returns-clause-marks_party
+returns-clause-marks_party g c = c.loop-number.invariant.marks_party

@@ -1,4 +1,4 @@
-use Rattle.std.proofs.Common.{◌≡◌, ◌≤◌, ℕ, true, [], length, map, Option, Vec, Global, sym, ap, subst, ◌∙◌, arith}
+use Rattle.std.proofs.Common.{◌≡◌, ◌≤◌, ℕ, true, false, [], length, map, Option, None, Vec, Global, sym, ap, subst, ◌∙◌, arith}
 use Rattle.std.proofs.lemmas.List.{length-map}
 use Rattle.std.proofs.lemmas.List.Elements.{All-from_recursion, recursion_from_All}
 use Rattle.std.proofs.lemmas.Result.{IfOk-weaker}
@@ -14,10 +14,10 @@ use Rattle.run_parties.specs.replica_turns.Master.{CanBeFollowed}
 use Rattle.run_parties.specs.replica_turns.declared.party.ReplicaParty.{ReplicaParty}
 use Rattle.run_parties.specs.serial_depot.Running.{CanTake, HasRun}
 use Rattle.session_loop.specs.Asking.{replica_commands}
-use Rattle.session_loop.specs.Served.{AreCaused}
+use Rattle.session_loop.specs.Served.{AreCaused, HaveRisenBy, StandWithoutFaults}
 use Rattle.session_loop.specs.declared.reading.ReplicaScript.{ReplicaScript}
 use Rattle.party_threads.proofs.Asked.{all_proper, are_asked, as_many, items_of}
-use Rattle.party_threads.proofs.Finishing.{all_ends, all_replicas_served, all_replicas_told, all_served, depot_followed, depot_ran, fresh_count}
+use Rattle.party_threads.proofs.Finishing.{all_ends, all_replicas_served, all_replicas_told, all_served, depot_followed, depot_ran, faults_caused, fresh_count, one_rose}
 use Rattle.party_threads.specs.Words.{AreFreshWords}
 use Rattle.party_threads.specs.declared.run.ThreadsRun.{ThreadsRun}
 use Rattle.party_threads.proofs.run.run_on_threads.Goals as goal
@@ -80,7 +80,9 @@ returns-in-Ok-clause-replicas g c = λ since start formed well_formed h.
     let requests = c.in-Ok.brought.requests.items in
     let asked = c.in-Ok.ensures.requests in
     let Ran : Type 0 = ThreadsRun g.row.D.Denot g.row.K.Denot in
-    IfOk-weaker c.run_named.result _ (λ (ran : Ran). AreReplicasServed D.says may_give sessions scripts since start ran.order.items ran.runs.items ran.lost (map g.K.Sink.says.given c.args.sinks.items) (map g.K.Sink.says.given ran.sinks.items))
+    IfOk-weaker c.run_named.result _ (λ (ran : Ran). AreReplicasServed D.says may_give sessions scripts since start ran.order.items (λ party. None) ran.runs.items ran.lost
+    (λ failures. HaveRisenBy failures (D.says.faults (disk_of c.args.depot.journal)) (D.says.faults (disk_of ran.depot.journal)) (D.says.faults (archive_disk_of c.args.depot.archive)) (D.says.faults (archive_disk_of ran.depot.archive)))
+    (map g.K.Sink.says.given c.args.sinks.items) (map g.K.Sink.says.given ran.sinks.items))
     (λ ran s. all_replicas_served D.says c.args.depot.tables.archive_end (D.says.may_leave (archive_disk_of c.args.depot.archive)) g.K.Sink.says may_give sessions scripts (map items_of requests) asked c.requires.as_many_replicas c.requires.apart
     c.in-Ok.brought.replicas.items c.in-Ok.ensures.replicas _ _ _ _ c.args.sinks.items c.requires.as_many ran s well_formed since start (all_proper may_give sessions requests asked formed, h))
     c.run_named.ensures.run
@@ -94,7 +96,7 @@ returns-in-Ok-clause-told g c = λ past since start all formed well_formed h mas
     let requests = c.in-Ok.brought.requests.items in
     let asked = c.in-Ok.ensures.requests in
     let Ran : Type 0 = ThreadsRun g.row.D.Denot g.row.K.Denot in
-    IfOk-weaker c.run_named.result _ (λ (ran : Ran). AreReplicasTold past start sessions scripts may_give ran.order.items ran.runs.items (map g.K.Sink.says.given c.args.sinks.items) (map g.K.Sink.says.given ran.sinks.items))
+    IfOk-weaker c.run_named.result _ (λ (ran : Ran). AreReplicasTold past start sessions scripts may_give ran.order.items (λ party. None) ran.runs.items (map g.K.Sink.says.given c.args.sinks.items) (map g.K.Sink.says.given ran.sinks.items))
     (λ ran s. all_replicas_told D.says c.args.depot.tables.archive_end (D.says.may_leave (archive_disk_of c.args.depot.archive)) g.K.Sink.says may_give sessions scripts (map items_of requests) asked c.requires.as_many_replicas c.requires.apart
     c.in-Ok.brought.replicas.items c.in-Ok.ensures.replicas _ _ _ _ c.args.sinks.items c.requires.as_many ran s well_formed since past start all (all_proper may_give sessions requests asked formed, h) master)
     c.run_named.ensures.run
@@ -147,8 +149,12 @@ returns-in-Ok-clause-can g c =
 
 pub returns-in-Ok-clause-faults : goal.returns-in-Ok-clause-faults
 returns-in-Ok-clause-faults g c =
-    IfOk-weaker c.run_named.result _ (λ (ran : ThreadsRun g.row.D.Denot g.row.K.Denot). AreCaused (g.D.Disk.says.faults (disk_of c.args.depot.journal)) (g.D.Disk.says.faults (disk_of ran.depot.journal)) (g.D.Disk.says.faults (archive_disk_of c.args.depot.archive)) (g.D.Disk.says.faults (archive_disk_of ran.depot.archive)) [] ran.order.items) (λ ran s. s.caused) c.run_named.ensures.run
+    IfOk-weaker c.run_named.result _ (λ (ran : ThreadsRun g.row.D.Denot g.row.K.Denot). AreCaused (g.D.Disk.says.faults (disk_of c.args.depot.journal)) (g.D.Disk.says.faults (disk_of ran.depot.journal)) (g.D.Disk.says.faults (archive_disk_of c.args.depot.archive)) (g.D.Disk.says.faults (archive_disk_of ran.depot.archive)) [] ran.order.items) (λ ran s. faults_caused ran.order.items s.losses _ _ _ _ s.failures) c.run_named.ensures.run
 
 pub returns-in-Ok-clause-lost : goal.returns-in-Ok-clause-lost
 returns-in-Ok-clause-lost g c =
-    IfOk-weaker c.run_named.result _ (λ (ran : ThreadsRun g.row.D.Denot g.row.K.Denot). ran.lost ≡ true → OneHasRisen (g.D.Disk.says.faults (disk_of c.args.depot.journal)) (g.D.Disk.says.faults (disk_of ran.depot.journal)) (g.D.Disk.says.faults (archive_disk_of c.args.depot.archive)) (g.D.Disk.says.faults (archive_disk_of ran.depot.archive))) (λ ran s. s.lost) c.run_named.ensures.run
+    IfOk-weaker c.run_named.result _ (λ (ran : ThreadsRun g.row.D.Denot g.row.K.Denot). ran.lost ≡ true → OneHasRisen (g.D.Disk.says.faults (disk_of c.args.depot.journal)) (g.D.Disk.says.faults (disk_of ran.depot.journal)) (g.D.Disk.says.faults (archive_disk_of c.args.depot.archive)) (g.D.Disk.says.faults (archive_disk_of ran.depot.archive))) (λ ran s. one_rose ran.order.items s.losses ran.lost _ _ _ _ s.told s.failures) c.run_named.ensures.run
+
+pub returns-in-Ok-clause-stand : goal.returns-in-Ok-clause-stand
+returns-in-Ok-clause-stand g c =
+    IfOk-weaker c.run_named.result _ (λ (ran : ThreadsRun g.row.D.Denot g.row.K.Denot). ran.lost ≡ false → StandWithoutFaults (g.D.Disk.says.faults (disk_of c.args.depot.journal)) (g.D.Disk.says.faults (disk_of ran.depot.journal)) (g.D.Disk.says.faults (archive_disk_of c.args.depot.archive)) (g.D.Disk.says.faults (archive_disk_of ran.depot.archive)) [] ran.order.items) (λ ran s. s.stand) c.run_named.ensures.run

@@ -1,6 +1,6 @@
-use Rattle.std.proofs.Common.{◌≡◌, true, false, [], ◌∷◌, length, ap, subst, ◌∙◌, append_assoc, arith}
+use Rattle.std.proofs.Common.{◌≡◌, [], ◌∷◌, length, ap, subst, ◌∙◌, append_assoc, arith}
 use Rattle.std.specs.Vec.Iter.{into_iter_items}
-use Rattle.party_marks.specs.Marks.{is_empty}
+use Rattle.party_marks.specs.Marks.{marks_of}
 use Rattle.shared_depot.specs.Common.{OpenedKnown}
 use Rattle.party_threads.proofs.Collecting.{collected_more}
 use Rattle.party_threads.specs.Parties.{IsHeard}
@@ -28,7 +28,7 @@ loop-party-preserved g c =
     record {
       same = next.same ∙ known;
       collected = collected_more c.args.depot.now at.yielded party at.runs.items new.runs.items at.sinks.items new.sinks.items at.lost c.hear_party-told.result c.either-lost.result was.collected
-          (subst (λ (o : OpenedKnown). IsHeard o.order party.pass) known next.heard) next.runs next.sinks next.told (subst (λ (o : OpenedKnown). c.hear_party-told.result ≡ true → is_empty o.marks ≡ false) known next.marked) c.either-lost.ensures;
+          (subst (λ (o : OpenedKnown). IsHeard o.order party.pass) known next.heard) next.runs next.sinks next.told (subst (λ (o : OpenedKnown). marks_of party.marks.party o.marks ≡ marks_of party.marks.party party.marks.list) known next.marked) c.either-lost.ensures;
       items = append_assoc at.yielded (party ∷ []) rest ∙ rw (← steps) was.items;
       left = omega arith;
       room = omega (arith, room, short, runs_len, runs_room);

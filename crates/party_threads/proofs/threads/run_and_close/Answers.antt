@@ -1,16 +1,21 @@
-use Rattle.std.proofs.Common.{◌≡◌, ◌≤◌, ◌++◌, ℕ, List, length, map, take, drop, Vec, Global, sym, ap, subst, ◌∙◌, arith}
-use Rattle.std.specs.Prelude.{All, vec_capacity}
-use Rattle.std.specs.List.{AllByRecursion}
+use Rattle.std.proofs.Common.{◌≡◌, ◌≤◌, ◌+◌, ◌++◌, ℕ, Some, List, length, map, take, drop, Vec, Global, sym, ap, subst, ◌∙◌, arith}
+use Rattle.std.specs.Prelude.{All, nat_lt, slice_get, vec_capacity}
+use Rattle.std.specs.List.{AllByRecursion, sum}
 use Rattle.std.proofs.Math.Seq.{take-append_seam}
+use Rattle.std.proofs.lemmas.Bool.{ltb-false}
 use Rattle.std.proofs.lemmas.List.{length-map}
+use Rattle.archive_file.specs.Archive.{disk_of as archive_disk_of}
 use Rattle.depot_model.specs.declared.request.Request.{Request}
+use Rattle.disk_journal.specs.Stands.{disk_of}
 use Rattle.locked_tables.specs.Known.{PartyKnown}
 use Rattle.party_marks.specs.Known.{PassKnown}
+use Rattle.session_loop.specs.Served.{HaveRisenBy, fault_count}
 use Rattle.session_loop.specs.declared.session.SessionRun.{SessionRun}
 use Rattle.shared_depot.specs.Common.{OpenedKnown}
 use Rattle.shared_depot.specs.Sharing.{fresh_marks, fresh_passes}
-use Rattle.party_threads.proofs.Collecting.{among_of, any_map, as_many, length_fresh, length_fresh_marks, ready, served_all}
-use Rattle.party_threads.specs.Parties.{AreCollected, AreFreshParties, HaveRun, IsAmong, IsReady, is_marked}
+use Rattle.party_threads.proofs.Collecting.{among_of, as_many, length_fresh, length_fresh_marks, numbered, ready, served_all}
+use Rattle.party_threads.proofs.Marked.{add_up, all_theirs, any_made}
+use Rattle.party_threads.specs.Parties.{AreCollected, AreFreshParties, HaveRun, IsAmong, IsReady, loss_count}
 use Rattle.party_threads.specs.declared.party.ThreadParty.{ThreadParty}
 use Rattle.party_threads.proofs.threads.run_and_close.Goals as goal
 
@@ -93,20 +98,29 @@ returns g c =
     let many : length news ≡ length (map items requests) =
     as_long ∙ (as_many D.says end images may_give g.K.Sink.says begins g.N.Serving.masters requests replicas sinks olds fresh ∙ sym asked) in
     let Among : ℕ → Type 0 = λ n. AllByRecursion (IsAmong n) known.order in
+    let long : length news ≡ length requests = many ∙ asked in
+    let numbers = λ (i : ℕ) (q : Party) (at_q : slice_get news i ≡ Some q). numbered D.says end images may_give g.K.Sink.says begins g.N.Serving.masters requests replicas sinks olds fresh news run known runs left lost collected i q at_q as_long in
+    let marks_at : Party → PassKnown = λ p. p.marks in
+    let total = sum (map (λ (p : Party). loss_count p) news) in
+    let theirs = all_theirs g.N.Marking.marks g.N.Serving.content_marks (length news) (c.requires.mark_lanes ∙ ap (λ (n : ℕ). 1 + n) (sym long)) (c.requires.content_lanes ∙ ap (λ (n : ℕ). 1 + n) (sym long)) known.marks c.close-depot.ensures.mark_parties in
+    let together : total ≡ length known.marks = add_up marks_at known.marks news numbers theirs collected.marked in
+    let told : lost ≡ nat_lt 0 total = collected.told ∙ any_made marks_at news in
+    let depot = c.close-depot.result.depot in
     record {
       order = known.order;
       places = c.close-depot.ensures.order;
       runs_count = ap (length {A = SessionRun}) collected.runs_are ∙ (length-map news (λ (p : Party). p.run) ∙ many);
       sinks_count = ap (length {A = g.row.K.Denot}) collected.sinks_are ∙ (length-map news (λ (p : Party). p.sink) ∙ many);
-      flags = map (λ (p : Party). is_marked p) news;
-      flags_count = length-map news (λ (p : Party). is_marked p) ∙ many;
-      told = collected.told ∙ any_map (λ (p : Party). is_marked p) news;
+      losses = map (λ (p : Party). loss_count p) news;
+      losses_count = length-map news (λ (p : Party). loss_count p) ∙ many;
+      told = told;
       served = served_all D.says end images may_give g.K.Sink.says begins g.N.Serving.masters requests replicas sinks olds fresh news run known runs left lost collected;
       among = subst Among (sym asked) (among_of g.N.Naming.run (length requests) c.requires.lanes known.order c.close-depot.ensures.parties);
       can = c.close-depot.ensures.can;
       stored = c.close-depot.ensures.stored;
       ran_by = c.close-depot.ensures.ran;
       followed = c.close-depot.ensures.followed;
-      caused = c.close-depot.ensures.faults;
-      lost = λ is. c.close-depot.ensures.marks (collected.marked is);
+      failures = subst (λ (n : ℕ). HaveRisenBy (fault_count c.close-depot.result.order.items + n) g.N.Serving.faults (D.says.faults (disk_of depot.journal)) g.N.Serving.content_faults (D.says.faults (archive_disk_of depot.archive)))
+          (sym together) c.close-depot.ensures.failures;
+      stand = λ is. c.close-depot.ensures.stand (let none = ltb-false 0 total (sym told ∙ is) in omega (arith, none, together));
     }

@@ -16,15 +16,14 @@ invariant_of-self g c =
     let end = g.N.Naming.end in
     let images = g.N.Imaging.images in
     let begins = g.N.Serving.begins in
-    let faults_then = g.N.Serving.faults in
     let order = c.self.inside.order in
     let placing = c.place-lanes.ensures in
     let entry : Taken = record c.args.taken { lanes = c.place-lanes.result } in
     let used : ℕ = if g.A.ArchiveLane.is_held then c.args.taken.end else end_after end order in
     let on : GoesOnQuietly D.says rows end images begins c.args.lane.now order = goes_on_quietly D.says rows end images begins c.args.lane.now order c.self.invariant.quiet placing.journal.behind in
     let entered : IsEntered rows end order entry used = entered_by rows end order c.place-lanes.new.order entry used placing.placed placing.of_journal placing.rows placing.end in
-    subst (λ (l : List Taken). KeepsOrder D.says rows end images begins g.N.Serving.masters faults_then l c.show.new.tables) (sym placing.placed)
-    (keeps_written D.says rows end images begins g.N.Serving.masters faults_then order c.self.inside.tables c.self.invariant entry used entered c.show.new.tables
+    subst (λ (l : List Taken). KeepsOrder D.says rows end images begins g.N.Serving.masters l c.show.new.tables) (sym placing.placed)
+    (keeps_written D.says rows end images begins g.N.Serving.masters order c.self.inside.tables c.self.invariant entry used entered c.show.new.tables
     c.show.ensures.same c.requires.unchanged
     (λ fine table.
     ap (λ (t : Tables). rows_of t table) (c.show.ensures.shown fine)

@@ -11,5 +11,5 @@ invariant_of-result g c =
     record {
       shown = λ table. c.requires.rows table ∙ sym (ap (λ (l : List Taken). rows_after g.N.Naming.rows l table) none);
       quiet = subst (AreQuiet g.N.Serving.begins g.N.Naming.rows g.N.Naming.end) (sym none) tt;
-      run = subst (WasRun D.says g.N.Naming.rows g.N.Naming.end g.N.Imaging.images g.N.Serving.begins g.N.Serving.masters g.N.Serving.faults) (sym none) c.requires.run;
+      run = subst (WasRun D.says g.N.Naming.rows g.N.Naming.end g.N.Imaging.images g.N.Serving.begins g.N.Serving.masters) (sym none) c.requires.run;
     }

@@ -1,4 +1,5 @@
 use Rattle.std.proofs.Common.{◌≡◌, ◌∷◌, ◌++◌, true, false, List, [], map, refl, sym, ap, subst, ◌∙◌}
+use Rattle.std.proofs.lemmas.Bool.{true≢false}
 use Rattle.locked_tables.specs.Taken.{archive_lane, end_after, placed_of, rows_after}
 use Rattle.locked_tables.specs.declared.taken.Taken.{Taken}
 use Rattle.order_words.specs.Lanes.{has_lane}
@@ -32,8 +33,8 @@ invariant_of-self g c =
           let is = due read in
           unwritten.leaves (rows_after rows order) (end_after end order) is.outcome (c.requires.proper since start at) (is.stands since start at) is.tells read;
     } in
-    subst (λ (l : List Taken). KeepsOrder D.says rows end images begins g.N.Serving.masters g.N.Serving.faults l c.self.inside.tables) (sym c.place.ensures.placed)
-    (keeps_quiet D.says rows end images begins g.N.Serving.masters g.N.Serving.faults order c.self.inside.tables c.self.invariant entry c.place.ensures.of_journal quiet)
+    subst (λ (l : List Taken). KeepsOrder D.says rows end images begins g.N.Serving.masters l c.self.inside.tables) (sym c.place.ensures.placed)
+    (keeps_quiet D.says rows end images begins g.N.Serving.masters order c.self.inside.tables c.self.invariant entry c.place.ensures.of_journal quiet)
 
 pub returns-clause-taken : goal.returns-clause-taken
 returns-clause-taken g c =
@@ -53,7 +54,8 @@ returns-clause-taken g c =
     refl refl (λ k. record { place = c.place-place.ensures k; reply = answer.reply })
     (λ since start at.
     c.place_unwritten-answer.ensures.answers start (map placed_of order) c.requires.tells.0 c.requires.tells.1
-    (λ read. reply_after D.says rows end images begins g.N.Serving.masters g.N.Serving.faults order run.0 run.1.0 run.1.1 c.args.request c.args.told (due read) since start at read))
+    (λ read. reply_after D.says rows end images begins g.N.Serving.masters order run.0 run.1.0 run.1.1 c.args.request c.args.told (due read) since start at read))
+    (λ touches. absurd (true≢false (sym touches ∙ c.place.ensures.of_journal)))
 
 pub returns-clause-lost : goal.returns-clause-lost
 returns-clause-lost g c = λ is.

@@ -42,6 +42,6 @@ returns-clause-settled g c =
             (subst (λ (l : List Taken). IsEndKnown end (end_after end l) archive) same learnt.still);
       };
       archive = subst (λ (l : List Taken). IsAtOrder l c.learn_held-archive.result) same learnt.learnt;
-      stores = subst (λ (l : List Taken). IfSome archive (λ guard. stores_of l ≡ stores_of (mutex_guard_value guard).list)) same learnt.stores;
+      stores = subst (λ (l : List Taken). IfSome archive (λ guard. stores_of l ≡ stores_of (mutex_guard_value guard))) same learnt.stores;
       without = λ gone. let unheld = learnt.held gone in (unheld, unstored unheld);
     }

@@ -9,7 +9,7 @@ use Rattle.shared_depot.proofs.common.CommonDepot.tell.Goals as goal
 pub invariant_of-self : goal.invariant_of-self
 invariant_of-self g c =
     let D = g.D.Disk in
-    subst (λ (l : List Taken). KeepsOrder D.says g.N.Naming.rows g.N.Naming.end g.N.Imaging.images g.N.Serving.begins g.N.Serving.masters g.N.Serving.faults l c.self.inside.tables)
+    subst (λ (l : List Taken). KeepsOrder D.says g.N.Naming.rows g.N.Naming.end g.N.Imaging.images g.N.Serving.begins g.N.Serving.masters l c.self.inside.tables)
     (sym c.tell.ensures.same) c.self.invariant
 
 pub returns-clause-heard : goal.returns-clause-heard
@@ -21,4 +21,4 @@ returns-clause-tells g c =
     let run = c.self.invariant.run in
     let known : c.tell.new.pass.list ≡ c.self.inside.order = ap (λ (k : PartyKnown). k.list) c.tell.ensures.told in
     subst (TellsAll D.says g.N.Naming.end g.N.Imaging.images g.N.Serving.begins g.N.Serving.masters) (sym known)
-    (tells_run D.says g.N.Naming.end g.N.Imaging.images g.N.Serving.begins g.N.Serving.masters g.N.Naming.rows g.N.Serving.faults c.self.inside.order run.0 run.1.0 run.1.1)
+    (tells_run D.says g.N.Naming.end g.N.Imaging.images g.N.Serving.begins g.N.Serving.masters g.N.Naming.rows c.self.inside.order run.0 run.1.0 run.1.1)

@@ -3,11 +3,11 @@ use mathlib.Core.List.{IsPrefix}
 use Rattle.locked_tables.specs.Known.{PartyKnown}
 use Rattle.locked_tables.specs.Taken.{of_party, placed_of}
 use Rattle.locked_tables.specs.declared.taken.Taken.{Taken}
-use Rattle.party_marks.specs.Marks.{has_marks}
 use Rattle.replica_turns.specs.Going.{is_lost}
 use Rattle.serial_depot.specs.Running.{HasRun}
 use Rattle.serial_depot.specs.declared.depot.SerialDepot.{SerialDepot}
 use Rattle.shared_depot.specs.Common.{HasAllStored, IsFollowed, KeepsOrder}
+use Rattle.shared_depot.specs.Replicas.{mark_count}
 use Rattle.shared_depot.proofs.Marks.{marked_still}
 use Rattle.shared_depot.proofs.Order.{depot_ran}
 use Rattle.shared_depot.proofs.common.CommonDepot.tell_alone.Goals as goal
@@ -15,7 +15,7 @@ use Rattle.shared_depot.proofs.common.CommonDepot.tell_alone.Goals as goal
 pub invariant_of-self : goal.invariant_of-self
 invariant_of-self g c =
     let D = g.D.Disk in
-    subst (λ (l : List Taken). KeepsOrder D.says g.N.Naming.rows g.N.Naming.end g.N.Imaging.images g.N.Serving.begins g.N.Serving.masters g.N.Serving.faults l c.self.inside.tables)
+    subst (λ (l : List Taken). KeepsOrder D.says g.N.Naming.rows g.N.Naming.end g.N.Imaging.images g.N.Serving.begins g.N.Serving.masters l c.self.inside.tables)
     (sym c.tell.ensures.same) c.self.invariant
 
 pub returns-clause-told : goal.returns-clause-told
@@ -37,7 +37,7 @@ returns-clause-told g c = λ request replica answer marks alone.
             (
               λ since start at.
                   subst (λ (l : List Taken). HasRun D.says depot since start (map placed_of l)) (sym known)
-                  (depot_ran D.says rows end images begins g.N.Serving.masters g.N.Serving.faults order run.0 run.1.0 run.1.1 archive here since start at),
+                  (depot_ran D.says rows end images begins g.N.Serving.masters order run.0 run.1.0 run.1.1 archive here since start at),
               subst (λ (l : List Taken). IsFollowed D.says begins g.N.Serving.masters l depot) (sym known) (run.1.1.followed archive here),
               alone.answered depot,
               here.room,
@@ -48,6 +48,6 @@ returns-clause-told g c = λ request replica answer marks alone.
         later = subst (IsPrefix c.args.pass.now.list) (sym known) c.tell.ensures.begins;
         own = subst (λ (l : List Taken). of_party party l ≡ of_party party c.args.pass.now.list) (sym known) c.tell.ensures.own;
         marks_party = refl;
-        marked = marked_still (has_marks marks.party marks.list) (is_lost answer) alone.kept;
+        marked = marked_still (mark_count marks) (is_lost answer) alone.kept;
       };
     }

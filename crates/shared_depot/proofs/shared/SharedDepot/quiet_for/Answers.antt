@@ -7,7 +7,7 @@ use Rattle.shared_depot.specs.declared.attempts.Settled.{Settled}
 use Rattle.shared_depot.proofs.shared.SharedDepot.quiet_for.Goals as goal
 
 pub returns-in-Ok-Some-clause-quiet : goal.returns-in-Ok-Some-clause-quiet
-returns-in-Ok-Some-clause-quiet g c =
+returns-in-Ok-Some-clause-quiet g c = λ request is_found.
     let rows = g.N.Naming.rows in
     let end = g.N.Naming.end in
     let images = g.N.Imaging.images in
@@ -25,10 +25,6 @@ returns-in-Ok-Some-clause-quiet g c =
     let so : IsSettled rows end order gathered was told settled = subst (λ (l : List Taken). IsSettled rows end l gathered was told settled) here at_first in
     record {
       unwritten = c.requires.unwritten;
-      tells = (c.requires.found.outcome, c.requires.found.tells);
-      due = λ read. due_after rows end images begins order gathered c.args.whole c.args.needs.now c.args.request.now was told c.requires.gathered c.requires.needs c.requires.proper c.requires.found so.still so.stores;
-      archive = tt;
-      failed = tt;
-      with_it = tt;
-      without = λ none. c.requires.read;
+      read = c.requires.read;
+      due = due_after rows end images begins order gathered c.args.whole c.args.needs.now request was told c.requires.gathered is_found so.still so.stores;
     }

@@ -8,7 +8,6 @@ use Rattle.shared_depot.proofs.Held.{kept_so}
 use Rattle.shared_depot.proofs.Outcomes.{due_after}
 use Rattle.shared_depot.specs.Room.{IsAtOrder, IsRoomFor}
 use Rattle.shared_depot.specs.Ready.{IsSettled}
-use Rattle.shared_depot.specs.Stored.{ArchiveKnown}
 use Rattle.shared_depot.specs.declared.attempts.Settled.{Settled}
 use Rattle.shared_depot.proofs.shared.SharedDepot.writing_for.Goals as goal
 
@@ -20,7 +19,7 @@ room_for-requires-clause-confirmed g c = (
 )
 
 pub returns-in-Ok-clause-writing : goal.returns-in-Ok-clause-writing
-returns-in-Ok-clause-writing g c =
+returns-in-Ok-clause-writing g c = λ request is_found.
     let rows = g.N.Naming.rows in
     let end = g.N.Naming.end in
     let gathered = c.args.gathered in
@@ -35,7 +34,8 @@ returns-in-Ok-clause-writing g c =
     record {
       room = subst (λ (l : List Taken). IsRoomFor rows l told c.in-Ok.room) c.deref.ensures c.in-Ok.ensures;
       archive = kept_so (IsAtOrder order) (not c.is_empty.result) settled.archive c.kept_where-archive.result kept.kept kept.given (λ yes. so.archive) (λ no. tt);
-      without = kept_so (λ (o : Option (MutexGuard ArchiveKnown)). o ≡ None → told.stores ≡ []) (not c.is_empty.result) settled.archive c.kept_where-archive.result kept.kept kept.given (λ yes gone. (so.without gone).1) (λ no gone. c.is_empty.ensures.0 (not-false c.is_empty.result no));
+      without = kept_so (λ (o : Option (MutexGuard (List Taken))). o ≡ None → told.stores ≡ []) (not c.is_empty.result) settled.archive c.kept_where-archive.result kept.kept kept.given (λ yes gone. (so.without gone).1) (λ no gone. c.is_empty.ensures.0 (not-false c.is_empty.result no));
+      some = c.requires.some;
       read = c.requires.read;
-      due = due_after rows end g.N.Imaging.images g.N.Serving.begins order gathered c.args.whole c.args.needs.now c.args.request.now was told c.requires.gathered c.requires.needs c.requires.proper c.requires.found so.still so.stores;
+      due = due_after rows end g.N.Imaging.images g.N.Serving.begins order gathered c.args.whole c.args.needs.now request was told c.requires.gathered is_found so.still so.stores;
     }

@@ -1,44 +1,116 @@
-use Rattle.std.proofs.Common.{◌≤◌, ◌+◌, Bool, cond, sym, subst, ◌∙◌}
+use Rattle.std.proofs.Common.{◌≡◌, [], Option, List, refl, sym, ap, subst, inr, ◌∙◌, append-nil}
+use Rattle.std.specs.Prelude.{IfSome}
+use Rattle.std.proofs.lemmas.Bool.{true≢false}
 use Rattle.archive_file.specs.Archive.{disk_of}
-use Rattle.outside_api.specs.Count.{counted}
+use Rattle.depot_commit.specs.Telling.{IsTold}
+use Rattle.depot_rows.specs.depot_model.declared.request.Request.{Request}
+use Rattle.locked_tables.specs.Taken.{end_after}
+use Rattle.locked_tables.specs.declared.taken.Taken.{Taken}
+use Rattle.shared_depot.specs.Common.{IsArchiveAfter, IsCountAfter, IsLostPlace}
+use Rattle.shared_depot.specs.Ready.{MayTake}
 use Rattle.shared_depot.specs.Room.{IsToldAfter}
-use Rattle.shared_depot.specs.Stored.{ArchiveKnown, lost_count}
-use Rattle.shared_depot.proofs.Marks.{mark_stays}
-use Rattle.shared_depot.proofs.Order.{archive_read}
-use Rattle.shared_depot.proofs.Stored.{caused_on, failed_caused}
+use Rattle.shared_depot.specs.Sharing.{IsTakenAt}
+use Rattle.shared_depot.specs.Stored.{is_lost}
+use Rattle.shared_depot.proofs.Marks.{count_learnt, count_on, count_placed}
+use Rattle.shared_depot.proofs.Order.{archive_learnt, archive_placed, archive_read}
+use Rattle.shared_depot.proofs.Stored.{lost_fails}
 use Rattle.shared_depot.proofs.stored_archive.StoredArchive.tell.Goals as goal
+
+-- ---- no memory was left, or the reply is printed
 
 pub invariant_of-self : goal.invariant_of-self
 invariant_of-self g c =
     let D = g.D.Disk in
-    let read = c.tell_reading.ensures in
-    let known : ArchiveKnown = record { list = c.self.inside.lane; failed = c.self.inside.failed } in (
-      archive_read D.says g.N.Naming.end g.N.Imaging.images g.N.Serving.begins g.N.Serving.content_faults known c.self.inside.archive c.tell_reading.new.archive c.self.invariant.0
-          (record { same = read.same; crash = read.crash; used = read.used }) read.never_falls known.failed
-          (caused_on _ g.N.Serving.content_faults (D.says.faults (disk_of c.self.inside.archive)) (D.says.faults (disk_of c.tell_reading.new.archive)) c.self.invariant.0.caused read.never_falls),
-      mark_stays g.N.Serving.content_faults (D.says.faults (disk_of c.self.inside.archive)) (D.says.faults (disk_of c.tell_reading.new.archive)) read.never_falls c.self.inside.marks.list c.self.invariant.1,
+    let read = c.tell_reading.ensures in (
+      archive_read D.says g.N.Naming.end g.N.Imaging.images g.N.Serving.begins c.self.inside.lane c.self.inside.archive c.tell_reading.new.archive c.self.invariant.0
+          (record { same = read.same; crash = read.crash; used = read.used }),
+      count_on is_lost g.N.Serving.content_faults (D.says.faults (disk_of c.self.inside.archive)) (D.says.faults (disk_of c.tell_reading.new.archive)) c.self.inside.lane c.self.inside.lane c.self.inside.marks.list read.never_falls
+          ([], append-nil c.self.inside.lane) refl (λ none. c.in_err-told.ensures.no_memory) c.self.invariant.1,
     )
 
-pub invariant_of-self-2 : goal.invariant_of-self-2
-invariant_of-self-2 g c =
+pub invariant_of-self-then-not-is_unread : goal.invariant_of-self-then-not-is_unread
+invariant_of-self-then-not-is_unread g c =
     let D = g.D.Disk in
-    let read = c.tell_reading.ensures in
-    let known : ArchiveKnown = record { list = c.self.inside.lane; failed = c.self.inside.failed } in
-    let unread = c.is_unread.result in (
-      archive_read D.says g.N.Naming.end g.N.Imaging.images g.N.Serving.begins g.N.Serving.content_faults known c.self.inside.archive c.tell_reading.new.archive c.self.invariant.0
-          (record { same = read.same; crash = read.crash; used = read.used }) read.never_falls c.either-self-inside.result
-          (subst (λ (b : Bool). counted (lost_count known.list + cond b 1 0) g.N.Serving.content_faults ≤ D.says.faults (disk_of c.tell_reading.new.archive)) (sym c.either-self-inside.ensures)
-          (failed_caused (lost_count known.list) g.N.Serving.content_faults (D.says.faults (disk_of c.self.inside.archive)) (D.says.faults (disk_of c.tell_reading.new.archive)) known.failed unread c.self.invariant.0.caused read.never_falls
-          (λ yes. c.in_ok-told.ensures.cause (sym c.is_unread.ensures ∙ yes)))),
-      mark_stays g.N.Serving.content_faults (D.says.faults (disk_of c.self.inside.archive)) (D.says.faults (disk_of c.tell_reading.new.archive)) read.never_falls c.self.inside.marks.list c.self.invariant.1,
+    let read = c.tell_reading.ensures in (
+      archive_read D.says g.N.Naming.end g.N.Imaging.images g.N.Serving.begins c.self.inside.lane c.self.inside.archive c.tell_reading.new.archive c.self.invariant.0
+          (record { same = read.same; crash = read.crash; used = read.used }),
+      count_on is_lost g.N.Serving.content_faults (D.says.faults (disk_of c.self.inside.archive)) (D.says.faults (disk_of c.tell_reading.new.archive)) c.self.inside.lane c.self.inside.lane c.self.inside.marks.list read.never_falls
+          ([], append-nil c.self.inside.lane) refl (λ none. c.in_ok-told.ensures.only (sym c.is_unread.ensures ∙ c.if-not-is_unread.true)) c.self.invariant.1,
     )
 
-pub returns-clause-reply : goal.returns-clause-reply
-returns-clause-reply g c = λ request number.
+pub returns-then-not-is_unread-clause-reading : goal.returns-then-not-is_unread-clause-reading
+returns-then-not-is_unread-clause-reading g c = record { tells = c.in_ok-told.ensures.told; read = sym c.is_unread.ensures ∙ c.if-not-is_unread.true; same = refl; kept = refl }
+
+pub returns-then-not-is_unread-clause-reply : goal.returns-then-not-is_unread-clause-reply
+returns-then-not-is_unread-clause-reply g c = λ request number.
     let D = g.D.Disk in
     let was = c.self.invariant.0 in
-    subst (λ (a : ArchiveKnown). IsToldAfter g.N.Naming.end g.N.Imaging.images g.N.Serving.begins a.list request c.args.outcome c.in_ok-told.told) c.self.view_is
+    subst (λ (l : List Taken). IsToldAfter g.N.Naming.end g.N.Imaging.images g.N.Serving.begins l request c.args.outcome c.in_ok-told.told) c.self.view_is
     (λ since start at rows from d stand is kept.
     let told = was.tells since start at in
     let image = was.among told.0 (g.met.D.Disk.reads_an_image (disk_of c.self.inside.archive) told.0 told.1) in
     c.in_ok-told.ensures.reply told.0 rows from d request told.1 number (kept.contents told.0 image) (is d stand))
+
+-- ---- a content couldn't be read
+
+pub place_quiet-answer-requires-clause-room : goal.place_quiet-answer-requires-clause-room
+place_quiet-answer-requires-clause-room g c =
+    let is = sym c.take.ensures.value ∙ c.unwrap-request.ensures in
+    (subst (λ (o : Option Request). IfSome o (MayTake g.N.Naming.places g.N.Serving.begins c.args.pass.now)) is c.requires.may).room
+
+pub place_quiet-answer-requires-clause-party : goal.place_quiet-answer-requires-clause-party
+place_quiet-answer-requires-clause-party g c =
+    let is = sym c.take.ensures.value ∙ c.unwrap-request.ensures in
+    (subst (λ (o : Option Request). IfSome o (MayTake g.N.Naming.places g.N.Serving.begins c.args.pass.now)) is c.requires.may).party
+
+pub place_quiet-answer-requires-clause-proper : goal.place_quiet-answer-requires-clause-proper
+place_quiet-answer-requires-clause-proper g c =
+    let is = sym c.take.ensures.value ∙ c.unwrap-request.ensures in
+    (subst (λ (o : Option Request). IfSome o (MayTake g.N.Naming.places g.N.Serving.begins c.args.pass.now)) is c.requires.may).proper
+
+pub place_quiet-answer-requires-clause-unwritten : goal.place_quiet-answer-requires-clause-unwritten
+place_quiet-answer-requires-clause-unwritten g c = inr (sym c.is_unread.ensures ∙ c.if-not-is_unread.false)
+
+pub place_quiet-answer-requires-clause-held : goal.place_quiet-answer-requires-clause-held
+place_quiet-answer-requires-clause-held g c = sym c.is_unread.ensures ∙ c.if-not-is_unread.false
+
+pub place_quiet-answer-requires-clause-due : goal.place_quiet-answer-requires-clause-due
+place_quiet-answer-requires-clause-due g c = λ read. absurd (true≢false (sym (sym c.is_unread.ensures ∙ c.if-not-is_unread.false) ∙ read))
+
+pub place_quiet-answer-requires-clause-end : goal.place_quiet-answer-requires-clause-end
+place_quiet-answer-requires-clause-end g c = λ held. c.end-end.ensures.end ∙ ap (end_after g.N.Naming.end) (c.learn_archive.ensures.learnt ∙ sym c.learn_archive.ensures.same)
+
+pub place_quiet-answer-requires-clause-tells : goal.place_quiet-answer-requires-clause-tells
+place_quiet-answer-requires-clause-tells g c =
+    let is = sym c.take.ensures.value ∙ c.unwrap-request.ensures in
+    let number = subst (λ (o : Option Request). IfSome o (λ request. request.number ≡ c.args.number)) is c.requires.number in
+    (c.args.outcome, subst (λ n. IsTold c.args.outcome n c.in_ok-told.told) (sym number) c.in_ok-told.ensures.told)
+
+pub invariant_of-self-2 : goal.invariant_of-self-2
+invariant_of-self-2 g c =
+    let D = g.D.Disk in
+    let end = g.N.Naming.end in
+    let images = g.N.Imaging.images in
+    let begins = g.N.Serving.begins in
+    let contents_then = g.N.Serving.content_faults in
+    let read = c.tell_reading.ensures in
+    let was = c.self.inside.archive in
+    let now = c.tell_reading.new.archive in
+    let order = c.deref_mut-held.result.now in
+    let placed = c.place_quiet-answer in
+    let place = subst (λ (l : List Taken). IsLostPlace l placed.new.self) c.learn_archive.ensures.same (placed.ensures.lost refl) in
+    let before = D.says.faults (disk_of was) in
+    let after = D.says.faults (disk_of now) in
+    let here = archive_learnt D.says end images begins c.self.inside.lane order was c.self.invariant.0 c.learn_archive.ensures.behind in (
+      subst (λ (l : List Taken). IsArchiveAfter D.says end images begins l now) (sym placed.ensures.archive.learnt)
+          (archive_placed D.says end images begins order placed.new.self was now here (record { same = read.same; crash = read.crash; used = read.used })
+          place),
+      subst (λ (l : List Taken). IsCountAfter is_lost contents_then after l c.self.inside.marks.list) (sym (placed.ensures.archive.learnt ∙ place.placed))
+          (count_placed is_lost contents_then before after order place.entry c.self.inside.marks.list read.never_falls (λ lost. c.in_ok-told.ensures.cause (sym c.is_unread.ensures ∙ c.if-not-is_unread.false))
+          (λ fine. absurd (true≢false (sym (lost_fails place.entry place.lost) ∙ fine))) (count_learnt contents_then before c.self.inside.lane order c.self.inside.marks.list c.learn_archive.ensures.behind c.self.invariant.1)),
+    )
+
+pub returns-clause-reading : goal.returns-clause-reading
+returns-clause-reading g c =
+    let is = sym c.take.ensures.value ∙ c.unwrap-request.ensures in
+    subst (λ (o : Option Request). IfSome o (λ request. IsTakenAt g.N.Serving.begins c.args.pass.now c.place_quiet-answer.new.pass request c.place_quiet-answer.result)) (sym is) c.place_quiet-answer.ensures.taken

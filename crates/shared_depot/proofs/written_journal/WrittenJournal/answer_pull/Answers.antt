@@ -1,20 +1,21 @@
-use Rattle.std.proofs.Common.{◌≡◌, ◌++◌, ◌||◌, ℕ, Bool, List, Err, map, refl, sym, ap, subst, ◌∙◌}
+use Rattle.std.proofs.Common.{◌≡◌, ◌+◌, ◌++◌, ℕ, List, length, Err, map, refl, sym, ap, subst, ◌∙◌}
 use mathlib.Core.List.{IsPrefix}
 use Rattle.disk_journal.specs.Stands.{disk_of}
 use Rattle.locked_tables.specs.Known.{PartyKnown}
 use Rattle.locked_tables.specs.Taken.{of_party, placed_of}
 use Rattle.locked_tables.specs.declared.taken.Taken.{Taken}
-use Rattle.party_marks.specs.Known.{PassKnown}
-use Rattle.party_marks.specs.Marks.{has_marks}
-use Rattle.replica_turns.specs.Going.{is_lost}
+use Rattle.party_marks.specs.Known.{MarksKnown, PassKnown}
+use Rattle.party_marks.specs.Marks.{marks_of}
+use Rattle.replica_turns.specs.Going.{is_lost, one_if}
 use Rattle.serial_depot.specs.Running.{HasRun}
 use Rattle.depot_commit.specs.Storing.{HasStored, stores_end}
 use Rattle.serial_depot.specs.declared.depot.SerialDepot.{SerialDepot}
 use Rattle.depot_commit.proofs.Moved.{over_fetched}
-use Rattle.shared_depot.specs.Common.{HasAllStored, HasRunOrder, IsFollowed, KeepsOrder}
-use Rattle.shared_depot.specs.Stored.{stores_of}
+use Rattle.shared_depot.specs.Common.{HasAllStored, HasRunOrder, IsCountAfter, IsFollowed, KeepsOrder}
+use Rattle.shared_depot.specs.Replicas.{mark_count}
+use Rattle.shared_depot.specs.Stored.{is_unwritten, stores_of}
 use Rattle.shared_depot.proofs.Committed.{run_on}
-use Rattle.shared_depot.proofs.Marks.{lost_caused, mark_caused, marked_before, same_caused}
+use Rattle.shared_depot.proofs.Marks.{count_answered, count_quietly, marked_before}
 use Rattle.shared_depot.proofs.Order.{depot_ran, run_fetched}
 use Rattle.shared_depot.proofs.Turns.{answered_so, without_memory}
 use Rattle.shared_depot.proofs.written_journal.WrittenJournal.answer_pull.Goals as goal
@@ -22,7 +23,7 @@ use Rattle.shared_depot.proofs.written_journal.WrittenJournal.answer_pull.Goals 
 pub invariant_of-held : goal.invariant_of-held
 invariant_of-held g c =
     let D = g.D.Disk in
-    subst (λ (l : List Taken). KeepsOrder D.says g.N.Naming.rows g.N.Naming.end g.N.Imaging.images g.N.Serving.begins g.N.Serving.masters g.N.Serving.faults l c.held.inside.tables)
+    subst (λ (l : List Taken). KeepsOrder D.says g.N.Naming.rows g.N.Naming.end g.N.Imaging.images g.N.Serving.begins g.N.Serving.masters l c.held.inside.tables)
     (sym c.tell.ensures.same) c.held.invariant
 
 pub invariant_of-self-2 : goal.invariant_of-self-2
@@ -37,13 +38,19 @@ invariant_of-self-2 g c =
     let tables = c.self.inside.tables in
     let old = c.self.inside.journal in
     let new = c.answer_by_journal-answer.new.journal in
-    let was = run_on D.says rows end images begins g.N.Serving.masters g.N.Serving.faults c.self.inside.lane order c.learn_journal.ensures.on tables old c.self.invariant.0 in (
-      subst (λ (l : List Taken). HasRunOrder D.says rows end images begins g.N.Serving.masters g.N.Serving.faults l tables new) (sym c.learn_journal.ensures.learnt)
-          (run_fetched D.says rows end images begins g.N.Serving.masters g.N.Serving.faults order tables old new was
-          (was.can.0, (was.can.1.0, next.fetched.stands was.can.0 was.can.1.0 was.can.1.1)) next.never_falls
+    let first = g.N.Serving.faults in
+    let before = D.says.faults (disk_of old) in
+    let now = D.says.faults (disk_of new) in
+    let answer = c.answer_by_journal-answer.result in
+    let was = run_on D.says rows end images begins g.N.Serving.masters c.self.inside.lane order c.learn_journal.ensures.on tables old c.self.invariant.0 in (
+      subst (λ (l : List Taken). HasRunOrder D.says rows end images begins g.N.Serving.masters l tables new) (sym c.learn_journal.ensures.learnt)
+          (run_fetched D.says rows end images begins g.N.Serving.masters order tables old new was
+          (was.can.0, (was.can.1.0, next.fetched.stands was.can.0 was.can.1.0 was.can.1.1))
           (λ since start places h. over_fetched D.says (HasStored images end (stores_of order)) (stores_end (stores_of order) end) tables old since start places h new next.fetched) next.fetched.groups),
-      mark_caused g.N.Serving.faults (D.says.faults (disk_of old)) (D.says.faults (disk_of new)) was.no_fewer next.never_falls _ (lost_caused c.answer_by_journal-answer.result _ next.cause) c.make_room.new.self.list
-          c.mark_lost.new.all.list c.mark_lost.ensures.caused (same_caused g.N.Serving.faults (D.says.faults (disk_of old)) c.self.inside.marks c.make_room.new.self c.make_room.ensures.same c.self.invariant.1),
+      subst (λ (l : List Taken). IsCountAfter is_unwritten first now l c.mark_lost.new.all.list) (sym c.learn_journal.ensures.learnt)
+          (count_answered is_unwritten first before now order c.make_room.new.self.list c.mark_lost.new.all.list answer next.never_falls next.cause next.only next.no_memory c.mark_lost.ensures.more
+          (subst (λ (m : MarksKnown). IsCountAfter is_unwritten first before order m.list) (sym c.make_room.ensures.same)
+          (count_quietly first before c.self.inside.lane order c.self.inside.marks.list c.learn_journal.ensures.on c.self.invariant.1))),
     )
 
 pub invariant_of-marks : goal.invariant_of-marks
@@ -52,7 +59,7 @@ invariant_of-marks g c = c.marks.invariant ∙ sym c.mark_lost.ensures.party
 pub invariant_of-self : goal.invariant_of-self
 invariant_of-self g c = (
   c.self.invariant.0,
-  same_caused g.N.Serving.faults (g.D.Disk.says.faults (disk_of c.self.inside.journal)) c.self.inside.marks c.make_room.new.self c.make_room.ensures.same c.self.invariant.1,
+  subst (λ (m : MarksKnown). IsCountAfter is_unwritten g.N.Serving.faults (g.D.Disk.says.faults (disk_of c.self.inside.journal)) c.self.inside.lane m.list) (sym c.make_room.ensures.same) c.self.invariant.1,
 )
 
 pub returns-in_default-clause-answer : goal.returns-in_default-clause-answer
@@ -69,7 +76,7 @@ returns-clause-answer g c =
     let order = c.deref_mut-held.result.now in
     let tables = c.self.inside.tables in
     let journal = c.self.inside.journal in
-    let was = run_on D.says rows end images begins g.N.Serving.masters g.N.Serving.faults c.self.inside.lane order c.learn_journal.ensures.on tables journal c.self.invariant.0 in
+    let was = run_on D.says rows end images begins g.N.Serving.masters c.self.inside.lane order c.learn_journal.ensures.on tables journal c.self.invariant.0 in
     let request = c.args.request.now in
     let replica = c.args.replica.now in
     let replica' = c.answer_by_journal-answer.new.self in
@@ -79,8 +86,8 @@ returns-clause-answer g c =
     let known : c.tell.new.pass.list ≡ order = told ∙ (c.held.view_is ∙ c.learn_journal.ensures.same) in
     let marks = c.marks.inside in
     let given = c.mark_lost.new.pass.list in
-    let lost : Bool = is_lost answer in
-    let marked : has_marks marks.journal.party given ≡ (has_marks marks.journal.party marks.journal.list || lost) = ap (λ (p : ℕ). has_marks p given) (sym c.mark_lost.ensures.party) ∙ c.mark_lost.ensures.marked in
+    let more = one_if (is_lost answer) in
+    let marked : length (marks_of marks.journal.party given) ≡ length (marks_of marks.journal.party marks.journal.list) + more = ap (λ (p : ℕ). length (marks_of p given)) (sym c.mark_lost.ensures.party) ∙ c.mark_lost.ensures.marked in
     record {
       answered = λ archive all.
           let depot : SerialDepot g.row.D.Denot = record { tables = tables; journal = journal; archive = archive } in
@@ -89,7 +96,7 @@ returns-clause-answer g c =
             (
               λ since start at.
                   subst (λ (l : List Taken). HasRun D.says depot since start (map placed_of l)) (sym known)
-                  (depot_ran D.says rows end images begins g.N.Serving.masters g.N.Serving.faults order tables journal was archive here since start at),
+                  (depot_ran D.says rows end images begins g.N.Serving.masters order tables journal was archive here since start at),
               subst (λ (l : List Taken). IsFollowed D.says begins g.N.Serving.masters l depot) (sym known) (was.followed archive here),
               λ formed. answered_so D.says depot replica replica' request answer (c.answer_by_journal-answer.ensures.answered depot refl formed) c.answer_by_journal-answer.ensures.kept,
               here.room,
@@ -101,8 +108,8 @@ returns-clause-answer g c =
         own = subst (λ (l : List Taken). of_party party l ≡ of_party party c.args.pass.now.list) (sym told) c.tell.ensures.own;
         marks_party = c.mark_lost.ensures.party ∙ ap (λ (k : PassKnown). k.party) c.marks.view_is;
         marked =
-            ap (λ (p : ℕ). has_marks p (given ++ marks.archive.list)) c.mark_lost.ensures.party
-            ∙ (marked_before marks.journal.party marks.journal.list given marks.archive.list lost marked
-            ∙ ap (λ (k : PassKnown). has_marks k.party k.list || lost) c.marks.view_is);
+            ap (λ (p : ℕ). length (marks_of p (given ++ marks.archive.list))) c.mark_lost.ensures.party
+            ∙ (marked_before marks.journal.party marks.journal.list given marks.archive.list more marked
+            ∙ ap (λ (k : PassKnown). mark_count k + more) c.marks.view_is);
       };
     }

@@ -1,18 +1,20 @@
-use Rattle.std.proofs.Common.{◌≡◌, Bool, List, [], refl, sym, ap, subst, ◌∙◌}
+use Rattle.std.proofs.Common.{◌≡◌, Bool, false, List, [], refl, sym, ap, subst, ◌∙◌}
 use Rattle.std.specs.Prelude.{if◌then◌else◌}
 use Rattle.depot_rows.specs.db_records.declared.change.Change.{Change}
-use Rattle.depot_rows.specs.table_changes.Changed.{AllRows, changed_by}
+use Rattle.depot_rows.specs.db_records.declared.table.TableId.{TableId}
+use Rattle.depot_rows.specs.table_changes.Changed.{AllRows, changed_by, rows_of}
 use Rattle.depot_rows.specs.table_store.declared.tables.Tables.{Tables}
 use Rattle.disk_journal.specs.Stands.{disk_of}
+use Rattle.disk_journal.specs.declared.journal.Journal.{Journal}
 use Rattle.locked_tables.specs.Taken.{rows_after}
 use Rattle.locked_tables.specs.declared.taken.Taken.{Taken}
-use Rattle.shared_depot.specs.Common.{HasRunOrder}
+use Rattle.shared_depot.specs.Common.{HasRunOrder, IsCountAfter}
 use Rattle.shared_depot.specs.Room.{IsDueAfter}
-use Rattle.shared_depot.specs.Stored.{stored_end}
-use Rattle.shared_depot.proofs.Committed.{committed_then, reply_then, stored_behind}
-use Rattle.shared_depot.proofs.Marks.{mark_stays}
+use Rattle.shared_depot.specs.Stored.{is_unwritten, stored_end}
+use Rattle.shared_depot.proofs.Committed.{changes_then, committed_then, reply_then, stored_behind}
+use Rattle.shared_depot.proofs.Marks.{count_placed, count_quietly}
 use Rattle.shared_depot.proofs.Order.{stored_there, taken_so}
-use Rattle.shared_depot.proofs.Stored.{lost_of, never_fails}
+use Rattle.shared_depot.proofs.Stored.{lost_of, never_fails, unwritten_only}
 use Rattle.shared_depot.proofs.written_journal.WrittenJournal.commit.Goals as goal
 
 pub place-requires-clause-can : goal.place-requires-clause-can
@@ -24,7 +26,7 @@ place-requires-clause-used g c =
     let end = g.N.Naming.end in
     subst (g.S.Store.ends_at c.args.store.now)
     (ap (stored_end end) (sym c.self.view_is)
-    ∙ sym (stored_there D.says g.N.Naming.rows end g.N.Imaging.images g.N.Serving.begins g.N.Serving.masters g.N.Serving.faults c.self.inside.lane c.self.inside.tables c.self.inside.journal c.self.invariant.0))
+    ∙ sym (stored_there D.says g.N.Naming.rows end g.N.Imaging.images g.N.Serving.begins g.N.Serving.masters c.self.inside.lane c.self.inside.tables c.self.inside.journal c.self.invariant.0))
     c.requires.used
 
 pub place-requires-clause-some : goal.place-requires-clause-some
@@ -36,9 +38,9 @@ pub invariant_of-self : goal.invariant_of-self
 invariant_of-self g c =
     let D = g.D.Disk in
     let same = c.in-Err.ensures.nothing in (
-      subst (λ (tables : Tables). HasRunOrder D.says g.N.Naming.rows g.N.Naming.end g.N.Imaging.images g.N.Serving.begins g.N.Serving.masters g.N.Serving.faults c.self.inside.lane tables c.place.new.journal) (sym same.0)
-          (subst (HasRunOrder D.says g.N.Naming.rows g.N.Naming.end g.N.Imaging.images g.N.Serving.begins g.N.Serving.masters g.N.Serving.faults c.self.inside.lane c.self.inside.tables) (sym same.1) c.self.invariant.0),
-      mark_stays g.N.Serving.faults (D.says.faults (disk_of c.self.inside.journal)) (D.says.faults (disk_of c.place.new.journal)) c.place.ensures.never_falls c.self.inside.marks.list c.self.invariant.1,
+      subst (λ (tables : Tables). HasRunOrder D.says g.N.Naming.rows g.N.Naming.end g.N.Imaging.images g.N.Serving.begins g.N.Serving.masters c.self.inside.lane tables c.place.new.journal) (sym same.0)
+          (subst (HasRunOrder D.says g.N.Naming.rows g.N.Naming.end g.N.Imaging.images g.N.Serving.begins g.N.Serving.masters c.self.inside.lane c.self.inside.tables) (sym same.1) c.self.invariant.0),
+      subst (λ (journal : Journal g.row.D.Denot). IsCountAfter is_unwritten g.N.Serving.faults (D.says.faults (disk_of journal)) c.self.inside.lane c.self.inside.marks.list) (sym same.1) c.self.invariant.1,
     )
 
 pub returns-in-Err-clause-nothing : goal.returns-in-Err-clause-nothing
@@ -64,15 +66,14 @@ enter-requires-clause-ran g c = λ order lanes on touches entered.
       c.place.new.tables,
       (
         c.place.new.journal,
-        committed_then D.says g.N.Naming.rows g.N.Naming.end g.N.Imaging.images g.N.Serving.begins g.N.Serving.masters g.N.Serving.faults
+        committed_then D.says g.N.Naming.rows g.N.Naming.end g.N.Imaging.images g.N.Serving.begins g.N.Serving.masters
             c.self.inside.lane c.self.inside.tables c.self.inside.journal c.self.invariant.0 c.args.request c.args.told
             (subst (λ (l : List Taken). IsDueAfter g.N.Naming.rows g.N.Naming.end g.N.Imaging.images g.N.Serving.begins l c.args.request c.args.told) (sym c.self.view_is) c.requires.due)
             c.requires.proper c.args.room.after
             (λ table. c.requires.room.after table ∙ ap (λ (l : List Taken). changed_by (rows_after g.N.Naming.rows l) c.args.told.changes table) (sym c.self.view_is))
-            c.place.new.tables c.place.new.journal c.place.ensures.can c.place.ensures.never_falls landed.answer entry refl refl c.in-Ok.ensures.changes c.in-Ok.ensures.rows order on lanes
+            c.place.new.tables c.place.new.journal c.place.ensures.can landed.answer entry refl refl c.in-Ok.ensures.changes c.in-Ok.ensures.rows order on lanes
             g.A.ArchiveLane.is_held landed.stored (λ none. c.in-Ok.ensures.none (c.requires.some none)) c.in-Ok.ensures.end refl c.archive_end.ensures.end
-            (λ none. never_fails (g.S.Store.faults c.args.store.now) (g.S.Store.faults c.place.new.store) landed.lost (g.met.S.Store.unfailing c.args.store.now (c.requires.held ∙ none)) (g.met.S.Store.unfailing c.place.new.store (c.requires.held ∙ none)) (λ lost. c.in-Ok.ensures.cause_contents lost c.requires.read))
-            touches entered c.in-Ok.ensures.ran c.in-Ok.ensures.grows c.in-Ok.ensures.cause,
+            touches entered c.in-Ok.ensures.ran c.in-Ok.ensures.grows,
       ),
     )
 
@@ -80,39 +81,57 @@ pub invariant_of-self-in-Ok : goal.invariant_of-self-in-Ok
 invariant_of-self-in-Ok g c =
     let D = g.D.Disk in
     let landed = c.in-Ok.landed in
-    let entry : Taken = record { request = c.args.request; fault = landed.answer.place.fault; lost = landed.lost; lanes = 0; changes = landed.changes; end = c.archive_end.result; stores = landed.stored } in (
-      subst (λ (l : List Taken). HasRunOrder D.says g.N.Naming.rows g.N.Naming.end g.N.Imaging.images g.N.Serving.begins g.N.Serving.masters g.N.Serving.faults l c.place.new.tables c.place.new.journal) (sym (c.enter.ensures.lane ∙ c.enter.ensures.placed))
-          (committed_then D.says g.N.Naming.rows g.N.Naming.end g.N.Imaging.images g.N.Serving.begins g.N.Serving.masters g.N.Serving.faults
+    let entry : Taken = record { request = c.args.request; fault = landed.answer.place.fault; lost = landed.lost; lanes = 0; changes = landed.changes; end = c.archive_end.result; stores = landed.stored } in
+    let placed : Taken = record entry { lanes = c.enter.result } in
+    let order = c.deref_mut-held.result.now in
+    let before = D.says.faults (disk_of c.self.inside.journal) in
+    let now = D.says.faults (disk_of c.place.new.journal) in
+    -- without the archive's lane its disk isn't asked
+    let unlost : g.A.ArchiveLane.is_held ≡ false → landed.lost ≡ false = λ none. never_fails (g.S.Store.faults c.args.store.now) (g.S.Store.faults c.place.new.store) landed.lost
+    (g.met.S.Store.unfailing c.args.store.now (c.requires.held ∙ none)) (g.met.S.Store.unfailing c.place.new.store (c.requires.held ∙ none)) (λ lost. c.in-Ok.ensures.cause_contents lost c.requires.read) in (
+      subst (λ (l : List Taken). HasRunOrder D.says g.N.Naming.rows g.N.Naming.end g.N.Imaging.images g.N.Serving.begins g.N.Serving.masters l c.place.new.tables c.place.new.journal) (sym (c.enter.ensures.lane ∙ c.enter.ensures.placed))
+          (committed_then D.says g.N.Naming.rows g.N.Naming.end g.N.Imaging.images g.N.Serving.begins g.N.Serving.masters
           c.self.inside.lane c.self.inside.tables c.self.inside.journal c.self.invariant.0 c.args.request c.args.told
           (subst (λ (l : List Taken). IsDueAfter g.N.Naming.rows g.N.Naming.end g.N.Imaging.images g.N.Serving.begins l c.args.request c.args.told) (sym c.self.view_is) c.requires.due)
           c.requires.proper c.args.room.after
           (λ table. c.requires.room.after table ∙ ap (λ (l : List Taken). changed_by (rows_after g.N.Naming.rows l) c.args.told.changes table) (sym c.self.view_is))
-          c.place.new.tables c.place.new.journal c.place.ensures.can c.place.ensures.never_falls landed.answer entry refl refl c.in-Ok.ensures.changes c.in-Ok.ensures.rows _ c.enter.ensures.on c.enter.result
+          c.place.new.tables c.place.new.journal c.place.ensures.can landed.answer entry refl refl c.in-Ok.ensures.changes c.in-Ok.ensures.rows _ c.enter.ensures.on c.enter.result
           g.A.ArchiveLane.is_held landed.stored (λ none. c.in-Ok.ensures.none (c.requires.some none)) c.in-Ok.ensures.end refl c.archive_end.ensures.end
-          (λ none. never_fails (g.S.Store.faults c.args.store.now) (g.S.Store.faults c.place.new.store) landed.lost (g.met.S.Store.unfailing c.args.store.now (c.requires.held ∙ none)) (g.met.S.Store.unfailing c.place.new.store (c.requires.held ∙ none)) (λ lost. c.in-Ok.ensures.cause_contents lost c.requires.read))
-          c.enter.ensures.of_archive c.enter.ensures.entered c.in-Ok.ensures.ran c.in-Ok.ensures.grows c.in-Ok.ensures.cause),
-      mark_stays g.N.Serving.faults (D.says.faults (disk_of c.self.inside.journal)) (D.says.faults (disk_of c.place.new.journal)) c.place.ensures.never_falls c.self.inside.marks.list c.self.invariant.1,
+          c.enter.ensures.of_archive c.enter.ensures.entered c.in-Ok.ensures.ran c.in-Ok.ensures.grows),
+      subst (λ (l : List Taken). IsCountAfter is_unwritten g.N.Serving.faults now l c.self.inside.marks.list) (sym (c.enter.ensures.lane ∙ c.enter.ensures.placed))
+          (count_placed is_unwritten g.N.Serving.faults before now order placed c.self.inside.marks.list c.place.ensures.never_falls
+          (λ failed. let only = unwritten_only g.A.ArchiveLane.is_held placed c.enter.ensures.of_archive unlost failed in c.in-Ok.ensures.cause only.0 only.1) c.in-Ok.ensures.only
+          (count_quietly g.N.Serving.faults before c.self.inside.lane order c.self.inside.marks.list c.enter.ensures.on c.self.invariant.1)),
     )
 
 pub returns-in-Ok-clause-taken : goal.returns-in-Ok-clause-taken
 returns-in-Ok-clause-taken g c =
     let D = g.D.Disk in
+    let rows = g.N.Naming.rows in
+    let end = g.N.Naming.end in
+    let images = g.N.Imaging.images in
+    let begins = g.N.Serving.begins in
+    let w = c.self.inside in
+    let new = c.place.new in
+    let room = c.args.room in
+    let told = c.args.told in
     let landed = c.in-Ok.landed in
     let taken : Taken = record { request = c.args.request; fault = landed.answer.place.fault; lost = landed.lost; lanes = 0; changes = landed.changes; end = c.archive_end.result; stores = landed.stored } in
     let entry : Taken = record taken { lanes = c.enter.result } in
-    taken_so g.N.Serving.begins _ c.enter.new.self c.args.pass.now c.enter.new.pass entry c.args.request landed.answer _ c.enter.ensures.placed c.enter.ensures.pass c.enter.ensures.own
+    let due = subst (λ (l : List Taken). IsDueAfter rows end images begins l c.args.request told) (sym c.self.view_is) c.requires.due in
+    let made : (table : TableId) → rows_of room.after table ≡ changed_by (rows_after rows w.lane) told.changes table = λ table. c.requires.room.after table ∙ ap (λ (l : List Taken). changed_by (rows_after rows l) told.changes table) (sym c.self.view_is) in
+    taken_so begins _ c.enter.new.self c.args.pass.now c.enter.new.pass entry c.args.request landed.answer _ c.enter.ensures.placed c.enter.ensures.pass c.enter.ensures.own
     refl refl (λ k. record { place = c.place-at.ensures k; reply = landed.answer.reply })
     (λ since start at. c.in-Ok.ensures.answers start _ c.requires.due.outcome c.requires.due.tells
-    (reply_then D.says g.N.Naming.rows g.N.Naming.end g.N.Imaging.images g.N.Serving.begins g.N.Serving.masters g.N.Serving.faults
-    c.self.inside.lane c.self.inside.tables c.self.inside.journal c.self.invariant.0 c.args.request c.args.told
-    (subst (λ (l : List Taken). IsDueAfter g.N.Naming.rows g.N.Naming.end g.N.Imaging.images g.N.Serving.begins l c.args.request c.args.told) (sym c.self.view_is) c.requires.due)
-    c.requires.proper c.args.room.after
-    (λ table. c.requires.room.after table ∙ ap (λ (l : List Taken). changed_by (rows_after g.N.Naming.rows l) c.args.told.changes table) (sym c.self.view_is))
-    c.place.new.tables c.place.new.journal c.place.ensures.can c.place.ensures.never_falls landed.answer taken refl refl c.in-Ok.ensures.changes c.in-Ok.ensures.rows _ c.enter.ensures.on c.enter.result since start at))
+    (reply_then D.says rows end images begins g.N.Serving.masters w.lane w.tables w.journal c.self.invariant.0 c.args.request told due c.requires.proper room.after made
+    new.tables new.journal c.place.ensures.can landed.answer taken refl refl c.in-Ok.ensures.changes c.in-Ok.ensures.rows _ c.enter.ensures.on c.enter.result since start at))
+    (λ touches since start at.
+    changes_then D.says rows end images begins g.N.Serving.masters w.lane w.tables w.journal c.self.invariant.0 c.args.request told due c.requires.proper room.after made
+    new.tables new.journal c.place.ensures.can landed.answer taken refl refl c.in-Ok.ensures.changes c.in-Ok.ensures.rows _ c.enter.ensures.on c.enter.result c.requires.changes since start at)
 
 pub returns-in-Ok-clause-stored : goal.returns-in-Ok-clause-stored
 returns-in-Ok-clause-stored g c =
     let landed = c.in-Ok.landed in
     let entry : Taken = record { request = c.args.request; fault = landed.answer.place.fault; lost = landed.lost; lanes = c.enter.result; changes = landed.changes; end = c.archive_end.result; stores = landed.stored } in
     stored_behind g.A.ArchiveLane.Learns _ g.S.Store.stores g.S.Store.faults _ c.enter.new.self entry c.args.lane.now c.enter.new.archive c.args.store.now c.place.new.store
-    c.enter.ensures.placed c.enter.ensures.archive c.enter.ensures.of_archive c.in-Ok.ensures.stores (λ lost. c.in-Ok.ensures.cause_contents (lost_of entry lost) c.requires.read)
+    c.enter.ensures.placed c.enter.ensures.archive c.enter.ensures.of_archive c.in-Ok.ensures.stores (λ lost. c.in-Ok.ensures.cause_contents (lost_of entry lost) c.requires.read) c.in-Ok.ensures.only_contents

@@ -1,0 +1,46 @@
+use Rattle.std.proofs.Common.{refl, sym, ap, ◌∙◌}
+use Rattle.std.proofs.lemmas.Bool.{true≢false}
+use Rattle.std.proofs.lemmas.Option.{IfSome_then}
+use Rattle.depot_commit.proofs.Stored.{on_err}
+use Rattle.std.specs.Option.{is_some}
+use Rattle.shared_depot.proofs.Tried.{may_on, none_of, some_on, tried_on, words_on}
+use Rattle.shared_depot.proofs.shared.SharedDepot.look.Goals as goal
+
+pub loop-look-init : goal.loop-look-init
+loop-look-init g c = record { pass = refl; asked = refl }
+
+pub attempt-requires-clause-some : goal.attempt-requires-clause-some
+attempt-requires-clause-some g c =
+    let at = c.loop-look in
+    some_on c.args.pass.now at.pass c.args.asked.now at.asked at.invariant.pass at.invariant.asked c.requires.some
+
+pub attempt-requires-clause-needs : goal.attempt-requires-clause-needs
+attempt-requires-clause-needs g c =
+    let at = c.loop-look in
+    words_on c.args.pass.now at.pass c.args.asked.now at.asked at.invariant.pass at.invariant.asked c.args.needs.now c.requires.needs
+
+pub attempt-requires-clause-may : goal.attempt-requires-clause-may
+attempt-requires-clause-may g c =
+    let at = c.loop-look in
+    may_on c.args.pass.now at.pass c.args.asked.now at.asked at.invariant.pass at.invariant.asked g.N.Naming.places g.N.Serving.begins c.requires.may
+
+pub loop-look-preserved : goal.loop-look-preserved
+loop-look-preserved g c =
+    let at = c.loop-look in
+    let same = c.in_ok-again.ensures.overtaken (none_of c.in_ok-again.again (sym c.is_some.ensures ∙ c.if-is_some.false)) in
+    record { pass = same.0 ∙ at.invariant.pass; asked = same.1 ∙ at.invariant.asked }
+
+pub returns-then-is_some-clause-tried : goal.returns-then-is_some-clause-tried
+returns-then-is_some-clause-tried g c =
+    let at = c.loop-look in
+    IfSome_then c.in_ok-again.again c.in_ok-again.ensures.tried
+    (tried_on c.args.pass.now at.pass c.args.asked.now at.asked at.invariant.pass at.invariant.asked g.N.Naming.rows g.N.Naming.end g.N.Imaging.images g.N.Serving.begins c.attempt.new.pass c.attempt.new.asked)
+
+pub returns-then-is_some-clause-overtaken : goal.returns-then-is_some-clause-overtaken
+returns-then-is_some-clause-overtaken g c = λ none. absurd (true≢false (sym c.if-is_some.true ∙ (c.is_some.ensures ∙ ap is_some none)))
+
+pub returns-clause-overtaken : goal.returns-clause-overtaken
+returns-clause-overtaken g c = λ none. (c.loop-look.invariant.pass, c.loop-look.invariant.asked)
+
+pub returns-in_err-again-clause-nothing : goal.returns-in_err-again-clause-nothing
+returns-in_err-again-clause-nothing g c = on_err c.from_residual.result _ (c.in_err-again.ensures.nothing ∙ c.loop-look.invariant.pass)

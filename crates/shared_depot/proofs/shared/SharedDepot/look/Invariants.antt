@@ -1,0 +1,9 @@
+use Rattle.std.proofs.Common.{◌≡◌}
+use Rattle.shared_depot.proofs.shared.SharedDepot.look.Given as goal
+
+-- no attempt so far did anything
+abbrev pub invariant-loop-look : goal.invariant-loop-look
+invariant-loop-look g l = record {
+  pass : l.pass ≡ l.fn.pass;
+  asked : l.asked ≡ l.fn.asked;
+}
