@@ -135,7 +135,7 @@ module _ {D S K H : Type 0} (outside : Outside D S K H) (old_doors new_doors : H
   keeps dump words it = dumps outside.disk outside.sink before after it.0
   keeps checkpoint words it = checkpoints outside.disk outside.sink before after outside.may_give it.0
   keeps (load seed count) words it = it.0.no_usage
-  keeps (schedule seed names) words it = runs_parties (IsDrawn outside.may_give seed) names it.runs
+  keeps (schedule seed names) words it = runs_parties (IsDrawn outside.may_give seed) names it
   keeps (serve names) words it = runs_parties AnyOrder names it
 
   -- ---- the promise

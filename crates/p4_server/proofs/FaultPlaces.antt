@@ -3,7 +3,7 @@ use Rattle.std.proofs.Common.{◌≡◌, ◌≤◌, ◌+◌, ℕ, zero, suc, Boo
 use Rattle.std.proofs.lemmas.List.Sums.{sum_by-cons}
 use Rattle.outside_api.specs.Count.{HasRisen}
 use Rattle.depot_rows.specs.depot_model.declared.order.Place.{Place}
-use Rattle.session_loop.specs.Served.{AreCaused, StandWithoutFaults, fault_count}
+use Rattle.session_loop.specs.Served.{AreCaused, HaveRisenBy, StandWithoutFaults, fault_count}
 use Rattle.p4_server.specs.Ends.{has_fault_place}
 
 fault_counted_here : (place : Place) (order : List Place) (b : Bool) → place.fault ≡ b → (has_fault_place order ≡ true → 1 ≤ fault_count order) → has_fault_place (place ∷ order) ≡ true → 1 ≤ fault_count (place ∷ order)
@@ -19,9 +19,9 @@ fault_counted (place ∷ order) e = fault_counted_here place order place.fault r
 
 -- a fault place comes only where a count rose
 pub place_rose : (order : List Place) (before now contents_before contents_now : ℕ) → AreCaused before now contents_before contents_now [] order → has_fault_place order ≡ true → HasRisen before now ⊎ HasRisen contents_before contents_now
-place_rose order before now contents_before contents_now (zero, m, count, risen, contents_risen) e =
-    let some = fault_counted order e in inr (omega (arith, some, count, contents_risen))
-place_rose order before now contents_before contents_now (suc n, m, count, risen, contents_risen) e = inl (omega (arith, risen))
+place_rose order before now contents_before contents_now (k, count, (zero, m, sum, risen, contents_risen)) e =
+    let some = fault_counted order e in inr (omega (arith, some, count, sum, contents_risen))
+place_rose order before now contents_before contents_now (k, count, (suc n, m, sum, risen, contents_risen)) e = inl (omega (arith, risen))
 
 -- a count that rose since has risen
 pub rose_since : (before opened now contents_before contents_opened contents_now : ℕ) → before ≤ opened → contents_before ≤ contents_opened
@@ -29,11 +29,17 @@ pub rose_since : (before opened now contents_before contents_opened contents_now
 rose_since before opened now contents_before contents_opened contents_now le contents_le (inl risen) = inl (omega (arith, le, risen))
 rose_since before opened now contents_before contents_opened contents_now le contents_le (inr risen) = inr (omega (arith, contents_le, risen))
 
--- fault places that came since the counts had risen already
+-- failures that came since the counts had risen already
+pub risen_since : (failures before opened now contents_before contents_opened contents_now : ℕ) → before ≤ opened → contents_before ≤ contents_opened
+    → HaveRisenBy failures opened now contents_opened contents_now → HaveRisenBy failures before now contents_before contents_now
+risen_since failures before opened now contents_before contents_opened contents_now le contents_le (n, m, sum, risen, contents_risen) =
+    (n, m, sum, omega (arith, le, risen), omega (arith, contents_le, contents_risen))
+
+-- fault places that came since then
 pub caused_since : (before opened now contents_before contents_opened contents_now : ℕ) (order : List Place) → before ≤ opened → contents_before ≤ contents_opened
     → AreCaused opened now contents_opened contents_now [] order → AreCaused before now contents_before contents_now [] order
-caused_since before opened now contents_before contents_opened contents_now order le contents_le (n, m, count, risen, contents_risen) =
-    (n, m, count, omega (arith, le, risen), omega (arith, contents_le, contents_risen))
+caused_since before opened now contents_before contents_opened contents_now order le contents_le (k, count, risen) =
+    (k, count, risen_since k before opened now contents_before contents_opened contents_now le contents_le risen)
 
 -- ---- counts that stand
 

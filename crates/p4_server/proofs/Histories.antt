@@ -1,5 +1,5 @@
 -- Runs that follow one another.
-use Rattle.std.proofs.Common.{◌≡◌, ◌≢◌, ℕ, List, [], Some, None, sym, subst, ◌∙◌, inl, inr}
+use Rattle.std.proofs.Common.{◌≡◌, ℕ, List, [], Some, None, sym, subst, ◌∙◌, inl, inr, arith}
 use Rattle.std.specs.Prelude.{map}
 use Rattle.std.proofs.Math.Path.{fun_ext}
 use Rattle.outside_api.specs.Disk.{Files}
@@ -15,8 +15,8 @@ use Rattle.p4_server.specs.Checkpoint.{BeginsOrNot, Checkpoints}
 use Rattle.p4_server.specs.Dump.{Dumps}
 use Rattle.p4_server.specs.Files.{BothOnlyRead}
 use Rattle.p4_server.specs.Headline.{Ordering}
-use Rattle.p4_server.specs.Histories.{AreNext, AreOfHistories, AreOfHistory, IsOfHistory, HasLookedWell, Tells}
-use Rattle.p4_server.specs.Init.{Inits}
+use Rattle.p4_server.specs.Histories.{AreNext, AreOfHistories, AreOfHistory, IsOfHistory, Tells}
+use Rattle.p4_server.specs.Init.{HasOnlyMade, Inits}
 use Rattle.p4_server.specs.Load.{Loads, LoadsFiles}
 use Rattle.p4_server.specs.Opening.{IsUnopened}
 use Rattle.p4_server.specs.Outside.{After, Before, Outside}
@@ -79,6 +79,14 @@ module _ {D : Type 0} (disk_says : DiskSays D) where
               (subst (WasWritten pair.past files) (fun_ext (one archive contents a w.archive_tells.1 a_reads)) pair.written);
         }
 
+    -- of files that are there a making touches nothing
+    making_leaves : (journal archive new_journal new_archive : D) (failed : Type 0) → AreOfHistories disk_says journal archive → HasOnlyMade disk_says journal new_journal archive new_archive failed
+        → AreOfHistories disk_says new_journal new_archive
+    making_leaves journal archive new_journal new_archive failed w made =
+        let start = (begins_with journal archive w).start in
+        let long = start.stand.committed.rest.root.long in
+        only_read journal archive new_journal new_archive w (made.kept start.journal_files start.journal_reads (λ none. omega (arith, long, none)))
+
 -- ---- runs
 
 abbrev Begins : {D K : Type 0} → DiskSays D → Before D K → Type 0
@@ -99,15 +107,6 @@ module _ {D S K : Type 0} (disk_says : DiskSays D) (sink_says : SinkSays K) (bef
     | inr other ↦ elim other [
       | inl there ↦ let clash : causes.Made ≡ causes.Done = sym there.cause_is ∙ done in absurd cc
       | inr failed ↦ let clash : causes.Fault ≡ causes.Done = sym failed.cause_is ∙ done in absurd cc
-    ]
-  ]
-
-  inits_leave : Inits disk_says sink_says before after → after.ended.cause ≢ causes.Fault → Begins disk_says before → Leaves disk_says after
-  inits_leave inits other w = elim inits.ends [
-    | inl inited ↦ inits_begin inits inited.cause_is w.journal_tells w.archive_tells
-    | inr rest ↦ elim rest [
-      | inl there ↦ only_read disk_says before.journal before.archive after.ended.journal after.ended.archive w there.untouched
-      | inr failed ↦ absurd (other failed.cause_is)
     ]
   ]
 
@@ -168,9 +167,9 @@ module _ {D S K H : Type 0} (outside : Outside D S K H) (reads : (disk : D) (fil
         ]
       ]
 
-  loads_leave : (seed count : ℕ) → Loads outside.disk outside.sink outside.may_give before after seed count → after.ended.cause ≢ causes.Fault → Begins outside.disk before → Leaves outside.disk after
-  loads_leave seed count loads other w = elim loads.ends [
-    | inl unbegun ↦ absurd (other unbegun.cause_is)
+  loads_leave : (seed count : ℕ) → Loads outside.disk outside.sink outside.may_give before after seed count → Begins outside.disk before → Leaves outside.disk after
+  loads_leave seed count loads w = elim loads.ends [
+    | inl unbegun ↦ making_leaves outside.disk reads one before.journal before.archive after.ended.journal after.ended.archive _ w unbegun.disks
     | inr begun ↦
         let made : AreOfHistories outside.disk begun.made_journal begun.made_archive = elim begun.files [
           | inl there ↦ only_read outside.disk before.journal before.archive begun.made_journal begun.made_archive w there.untouched
@@ -184,22 +183,22 @@ module _ {D S K H : Type 0} (outside : Outside D S K H) (reads : (disk : D) (fil
         (begins_with outside.disk reads one begun.made_journal begun.made_archive made) seed count begun.loads
   ]
 
-  keeps_leave : (words : List (List ℕ)) (job : Job) → HasLookedWell job after.ended.cause → Keeps outside old_doors new_doors words before after job → Begins outside.disk before → Leaves outside.disk after
-  keeps_leave words init well keeps w = inits_leave outside.disk outside.sink before after keeps.0 well w
-  keeps_leave words dump well keeps w = dumps_leave outside.disk outside.sink before after reads keeps.0 w
-  keeps_leave words checkpoint well keeps w = checkpoints_leave outside.disk outside.sink outside.may_give before after w (begins_with outside.disk reads one before.journal before.archive w) keeps.0
-  keeps_leave words (load seed count) well keeps w = loads_leave seed count keeps.0 well w
-  keeps_leave words (schedule seed names) well keeps w = runs_leave _ names keeps.runs w
-  keeps_leave words (serve names) well keeps w = runs_leave _ names keeps w
+  keeps_leave : (words : List (List ℕ)) (job : Job) → Keeps outside old_doors new_doors words before after job → Begins outside.disk before → Leaves outside.disk after
+  keeps_leave words init keeps w = making_leaves outside.disk reads one before.journal before.archive after.ended.journal after.ended.archive _ w keeps.0.disks
+  keeps_leave words dump keeps w = dumps_leave outside.disk outside.sink before after reads keeps.0 w
+  keeps_leave words checkpoint keeps w = checkpoints_leave outside.disk outside.sink outside.may_give before after w (begins_with outside.disk reads one before.journal before.archive w) keeps.0
+  keeps_leave words (load seed count) keeps w = loads_leave seed count keeps.0 w
+  keeps_leave words (schedule seed names) keeps w = runs_leave _ names keeps w
+  keeps_leave words (serve names) keeps w = runs_leave _ names keeps w
 
   same_job : {one other : Job} → Some one ≡ Some other → one ≡ other
   same_job e = cc
 
-  pub promise_leaves : (words : List (List ℕ)) (job : Job) → asked words ≡ Some job → HasLookedWell job after.ended.cause → KeepsPromise outside old_doors new_doors words before after → Begins outside.disk before → Leaves outside.disk after
-  promise_leaves words job asks well promise w = elim promise.kept [
-    | inl found ↦ keeps_leave words job well (subst (Keeps outside old_doors new_doors words before after) (same_job (sym found.asks ∙ asks)) found.keeps) w
+  pub promise_leaves : (words : List (List ℕ)) → KeepsPromise outside old_doors new_doors words before after → Begins outside.disk before → Leaves outside.disk after
+  promise_leaves words promise w = elim promise.kept [
+    | inl found ↦ keeps_leave words found.job found.keeps w
     | inr other ↦ elim other [
-      | inl unasked ↦ let clash : None ≡ Some job = sym unasked.asks ∙ asks in absurd cc
+      | inl unasked ↦ rw (unasked.refused.journal_is, unasked.refused.archive_is) w
       | inr refused ↦ rw (refused.journal_is, refused.archive_is) w
     ]
   ]

@@ -69,8 +69,9 @@ module _ {D S K : Type 0} (disk_says : DiskSays D) (sink_says : SinkSays K) (bef
       → LeavesOnly disk_says before.journal left_journal (AfterStep IsMaking (disk_says.may_leave before.journal))
       → Same (disk_says.seen before.archive) (disk_says.seen left_archive) ⊎ ((made ≡ Err DiskFault) × HasRisen (disk_says.faults before.archive) (disk_says.faults left_archive))
       → (made ≢ Err DiskFault → (disk_says.faults left_journal ≡ disk_says.faults before.journal) × (disk_says.faults left_archive ≡ disk_says.faults before.archive))
+      → ((files : Files) → disk_says.seen before.journal files → length (files 0) ≢ 0 → OnlyReads disk_says before.journal left_journal × (left_archive ≡ before.archive))
       → Inits disk_says sink_says before after
-  inits_of made told is committed stand unmade there untouched others causes journal_told archive_told images any_moment reads unfailed = record {
+  inits_of made told is committed stand unmade there untouched others causes journal_told archive_told images any_moment reads unfailed kept = record {
     told = told;
     ends = ends_of made is committed stand unmade there untouched others causes;
     disks = record {
@@ -80,6 +81,7 @@ module _ {D S K : Type 0} (disk_says : DiskSays D) (sink_says : SinkSays K) (bef
       any_moment = rw journal_is any_moment;
       archive_looks = rw archive_is looks;
       archive_reads = elim reads [ inl same ↦ inl (rw archive_is same) | inr failed ↦ inr (is ∙ ap cause_by failed.0, rw archive_is failed.1) ];
+      kept = λ files read some. record { journal = rw journal_is (kept files read some).0; archive = rw archive_is (only_read (kept files read some).1) };
     };
     stand = λ other.
         let stood = unfailed (λ failed. other (is ∙ ap cause_by failed)) in

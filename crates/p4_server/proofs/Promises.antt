@@ -23,6 +23,7 @@ use Rattle.p4_server.specs.declared.ended.PartyEnd.{PartyEnd}
 use Rattle.p4_server.specs.declared.party.NotRun.{NotRun}
 use Rattle.p4_server.specs.declared.party.NotRun.TheVariants.{Doors, Memory}
 use Rattle.p4_server.specs.Ends.{ends_cause, is_failed, is_faulty, party_end, has_fault_place, has_failed_party, has_faulty_party}
+use Rattle.p4_server.specs.Files.{DisksStand}
 use Rattle.p4_server.specs.Headline.{IsPartyEnd, Ordering}
 use Rattle.p4_server.specs.Lines.{run_lines, place_lines, end_lines, fault_line}
 use Rattle.p4_server.specs.Opening.{IsUnopened}
@@ -32,9 +33,7 @@ use Rattle.p4_server.specs.Runs.{IsShut, IsRun, IsWhole, RunsParties, SomeRose, 
 use Rattle.p4_server.proofs.FaultPlaces.{place_rose}
 use Rattle.p4_server.proofs.Openings.{fault_of_unopened, complete_of_unopened}
 use Rattle.p4_server.proofs.Together.{all_at, all_of, any_of, there}
-use Rattle.p4_server.specs.Schedule.{Schedules}
 use Rattle.p4_server.specs.Telling.{IsReport, IsTold, IsUntold}
-use Rattle.session_turns.specs.Drawn.{IsDrawn}
 
 -- ---- lines
 
@@ -74,7 +73,7 @@ of_fault false false false false e = absurd cc
 all_done : (lost place failed faulty : Bool) → lost ≡ false → place ≡ false → failed ≡ false → faulty ≡ false → cond (lost || (place || failed)) causes.Fault (cond faulty causes.Script causes.Done) ≡ causes.Done
 all_done lost place failed faulty a b c d = rw (a, b, c, d) refl
 
-pub not_fault : (cause : Cause) → (cause ≡ causes.Done) ⊎ (cause ≡ causes.Script) → cause ≢ causes.Fault
+not_fault : (cause : Cause) → (cause ≡ causes.Done) ⊎ (cause ≡ causes.Script) → cause ≢ causes.Fault
 not_fault cause (inl done) is = let clash : causes.Done ≡ causes.Fault = sym done ∙ is in cc
 not_fault cause (inr script) is = let clash : causes.Script ≡ causes.Fault = sym script ∙ is in cc
 
@@ -94,7 +93,7 @@ whole_told sink_says old_out new_out ended order parties sources lost (inr untol
 whole_told sink_says old_out new_out ended order parties sources lost (inr untold) (inr script) = let clash : causes.Memory ≡ causes.Script = sym untold.cause_is ∙ script in absurd cc
 
 -- parties that weren't run end so nowhere
-pub never_whole : (cause : Cause) (why : NotRun) → cause ≡ unrun_cause why → ¬ ((cause ≡ causes.Done) ⊎ (cause ≡ causes.Script))
+never_whole : (cause : Cause) (why : NotRun) → cause ≡ unrun_cause why → ¬ ((cause ≡ causes.Done) ⊎ (cause ≡ causes.Script))
 never_whole cause Doors is whole = not_fault cause whole is
 never_whole cause Memory is (inl done) = let clash : causes.Memory ≡ causes.Done = sym is ∙ done in cc
 never_whole cause Memory is (inr script) = let clash : causes.Memory ≡ causes.Script = sym is ∙ script in cc
@@ -215,11 +214,16 @@ module _ {D S K H : Type 0} (outside : Outside D S K H) (old_doors new_doors : H
     | inr untold ↦ inr untold.cause_is
   ]
 
-  pub parties_run : Only → Ran → Promised
-  parties_run only run = record {
+  -- where all is done, or a script has a fault and nothing failed, no count of the disks rose
+  abbrev Stood : Type 0
+  Stood = (after.ended.cause ≡ causes.Done) ⊎ (after.ended.cause ≡ causes.Script) → DisksStand outside.disk before after
+
+  pub parties_run : Only → Ran → Stood → Promised
+  parties_run only run stood = record {
     ends = inr (inr run);
     doors = only;
     fault = fault_of run;
+    stand = stood;
     complete = λ d start whole none. complete_of run whole none;
   }
 
@@ -240,6 +244,7 @@ module _ {D S K H : Type 0} (outside : Outside D S K H) (old_doors new_doors : H
     ends = inr (inl shut);
     doors = only;
     fault = fault_of_shut shut;
+    stand = λ whole. elim shut.why [ inl fault ↦ absurd (not_fault after.ended.cause whole fault.0) | inr memory ↦ absurd (never_whole after.ended.cause Memory memory whole) ];
     complete = λ d start whole none. complete_of_shut shut none;
   }
 
@@ -248,13 +253,6 @@ module _ {D S K H : Type 0} (outside : Outside D S K H) (old_doors new_doors : H
     ends = inl (record { unopened = unopened; doors_stay = stay });
     doors = rw stay (record { inputs = λ other apart. refl; outputs = λ other apart. refl });
     fault = λ is. inr (inr (inl (fault_of_unopened outside.disk outside.sink before after unopened.why is)));
-    complete = λ d start whole none. inr (complete_of_unopened outside.disk outside.sink before after unopened.why d start (λ rose. none (inr (inr (inl rose)))));
-  }
-
-module _ {D S K H : Type 0} (outside : Outside D S K H) (old_doors new_doors : H) (before : Before D K) (after : After D S K) (seed : ℕ) (names : List (List ℕ)) where
-  -- the turns of files that weren't opened
-  pub schedules_unopened : new_doors ≡ old_doors → IsUnopened outside.disk outside.sink before after → Schedules outside old_doors new_doors before after seed names
-  schedules_unopened stay unopened = record {
-    runs = parties_unopened outside old_doors new_doors before after (IsDrawn outside.may_give seed) names stay unopened;
     stand = λ whole. unopened.stand (not_fault after.ended.cause whole);
+    complete = λ d start whole none. inr (complete_of_unopened outside.disk outside.sink before after unopened.why d start (λ rose. none (inr (inr (inl rose)))));
   }

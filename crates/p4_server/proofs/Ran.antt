@@ -1,5 +1,5 @@
 -- The parties of a run, from what came by their doors, what was read of their scripts and how their turns ended.
-use Rattle.std.proofs.Common.{◌≡◌, ℕ, ◌+◌, Bool, false, List, get_or, length, map, Option, Some, None, refl, sym, ap, subst, ◌∙◌, arith}
+use Rattle.std.proofs.Common.{◌≡◌, ℕ, ◌+◌, Bool, List, get_or, length, map, Option, Some, None, refl, sym, ap, subst, ◌∙◌, arith}
 use Rattle.std.specs.Prelude.{slice_get, option_map}
 use Rattle.std.proofs.lemmas.Option.{slice_get_within, slice_get-map}
 use Rattle.outside_api.specs.Count.{HasRisen}
@@ -21,7 +21,7 @@ use Rattle.session_loop.specs.declared.session.SessionRun.{SessionRun}
 use Rattle.wire_text.specs.declared.script.ScriptEnd.{ScriptEnd}
 use Rattle.p4_server.specs.declared.ended.PartyEnd.{PartyEnd}
 use Rattle.p4_server.specs.Ends.{ended_party, ended_parties, run_of}
-use Rattle.p4_server.specs.Headline.{AreEnds, AreReplies, AreRepliesTold, IsPartyEnd, IsPartyOf, IsRunFrom, Ordering}
+use Rattle.p4_server.specs.Headline.{AreEnds, AreReplies, AreRepliesTold, HaveFailed, IsPartyEnd, IsPartyOf, IsRunFrom, Ordering}
 use Rattle.p4_server.specs.Parties.{AreRead, HaveCome, IsPair, IsRead}
 use Rattle.p4_server.proofs.Ending.{ended_at, ended_length, run_is, runs_are}
 use Rattle.p4_server.proofs.Together.{at_once, there}
@@ -117,62 +117,62 @@ module _ {S K : Type 0} (source_says : SourceSays S) (sink_says : SinkSays K) wh
           rw f.is (end_of i f.place f.place_is (inputs name) (outputs name) f.was source f.first f.sink f.session f.replica f.run f.end f.pair f.one f.ended);
     }
 
-    module _ {D : Type 0} (disk_says : DiskSays D) (may_give : ℕ → Type 0) (since : ℕ) (start : List Deed) (order : List Place) (lost : Bool)
+    module _ {D : Type 0} (disk_says : DiskSays D) (may_give : ℕ → Type 0) (since : ℕ) (start : List Deed) (order : List Place) (turn_counts : ℕ → Option (List ℕ)) (lost : Bool) (from depot : SerialDepot D)
         (served : AreServed may_give sessions replicas start runs (map sink_says.given firsts) (map sink_says.given sinks) order)
-        (copies : AreReplicasServed disk_says may_give sessions replicas since start order runs lost (map sink_says.given firsts) (map sink_says.given sinks)) where
-      abbrev Replies : Bool → ℕ → Option ReplicaScript → ℕ → Bool → Option (List ℕ) → Option (List ℕ) → Type 0
-      Replies flag number replica commands failed was now = AreReplies disk_says source_says sink_says may_give since start sessions order flag number replica commands failed was now
+        (copies : AreReplicasServed disk_says may_give sessions replicas since start order turn_counts runs lost (λ k. HaveFailed disk_says from depot k) (map sink_says.given firsts) (map sink_says.given sinks)) where
+      abbrev Replies : Option (List ℕ) → ℕ → ℕ → Option ReplicaScript → ℕ → Bool → Option (List ℕ) → Option (List ℕ) → Type 0
+      Replies at_turns losses number replica commands failed was now = AreReplies disk_says source_says sink_says may_give since start sessions order at_turns losses number replica commands failed was now
 
-      abbrev Party : Bool → Option (List ℕ) → Option (List ℕ) → ℕ → Option Session → Option ReplicaScript → S → PartyEnd K → Type 0
-      Party flag input output number session replica source party = IsPartyOf disk_says source_says sink_says may_give since start sessions order flag input output number session replica source party
+      abbrev Party : Option (List ℕ) → ℕ → Option (List ℕ) → Option (List ℕ) → ℕ → Option Session → Option ReplicaScript → S → PartyEnd K → Type 0
+      Party at_turns losses input output number session replica source party = IsPartyOf disk_says source_says sink_says may_give since start sessions order at_turns losses input output number session replica source party
 
       given_at : (ks : List K) (i : ℕ) (k : K) → slice_get ks i ≡ Some k → slice_get (map sink_says.given ks) i ≡ Some (sink_says.given k)
       given_at ks i k at = slice_get-map sink_says.given ks i ∙ ap (option_map sink_says.given) at
 
       replies_at : (i : ℕ) (replica : Option ReplicaScript) (run : SessionRun) (first sink : K) → slice_get replicas i ≡ Some replica → slice_get runs i ≡ Some run → slice_get firsts i ≡ Some first → slice_get sinks i ≡ Some sink
-          → Replies (get_or copies.flags i false) (i + 1) replica run.commands run.failed (sink_says.given first) (sink_says.given sink)
+          → Replies (turn_counts i) (get_or copies.losses i 0) (i + 1) replica run.commands run.failed (sink_says.given first) (sink_says.given sink)
       replies_at i None run first sink replica_at run_at first_at sink_at = served.each i run (sink_says.given first) (sink_says.given sink) replica_at run_at (given_at firsts i first first_at) (given_at sinks i sink sink_at)
       replies_at i (Some script) run first sink replica_at run_at first_at sink_at =
           record { output = copies.each i script run (sink_says.given first) (sink_says.given sink) replica_at run_at (given_at firsts i first first_at) (given_at sinks i sink sink_at) }
 
       party_of : (i : ℕ) (name : List ℕ) (session : Option Session) (replica : Option ReplicaScript) (source : S) (party : PartyEnd K) → slice_get names i ≡ Some name → slice_get sessions i ≡ Some session → slice_get replicas i ≡ Some replica
-          → slice_get sources i ≡ Some source → slice_get (ended_parties 1 runs ends sinks) i ≡ Some party → Party (get_or copies.flags i false) (inputs name) (outputs name) (i + 1) session replica source party
+          → slice_get sources i ≡ Some source → slice_get (ended_parties 1 runs ends sinks) i ≡ Some party → Party (turn_counts i) (get_or copies.losses i 0) (inputs name) (outputs name) (i + 1) session replica source party
       party_of i name session replica source party name_at session_at replica_at source_at party_at =
           let f = found i name source party name_at source_at party_at in
-          let flag = get_or copies.flags i false in
+          let lost_here = get_or copies.losses i 0 in
           let same : session ≡ f.session = at_once sessions i f.session session f.session_at session_at in
           let same_replica : replica ≡ f.replica = at_once replicas i f.replica replica f.replica_at replica_at in
-          let P : Option (List ℕ) → Type 0 = λ o. Replies flag (i + 1) f.replica f.run.commands f.run.failed o (sink_says.given f.sink) in
-          let own : Party flag (inputs name) (outputs name) (i + 1) f.session f.replica source (ended_party f.place f.run f.end f.sink) = record {
+          let P : Option (List ℕ) → Type 0 = λ o. Replies (turn_counts i) lost_here (i + 1) f.replica f.run.commands f.run.failed o (sink_says.given f.sink) in
+          let own : Party (turn_counts i) lost_here (inputs name) (outputs name) (i + 1) f.session f.replica source (ended_party f.place f.run f.end f.sink) = record {
             ends = end_of i f.place f.place_is (inputs name) (outputs name) f.was source f.first f.sink f.session f.replica f.run f.end f.pair f.one f.ended;
             session_is = refl;
             replica_is = refl;
             replies = subst P f.pair.gives (replies_at i f.replica f.run f.first f.sink f.replica_at f.run_at f.first_at f.sink_at);
           } in
-          let with_session : Option Session → Type 0 = λ s. Party flag (inputs name) (outputs name) (i + 1) s f.replica source (ended_party f.place f.run f.end f.sink) in
-          let with_replica : Option ReplicaScript → Type 0 = λ r. Party flag (inputs name) (outputs name) (i + 1) session r source (ended_party f.place f.run f.end f.sink) in
-          let with_party : PartyEnd K → Type 0 = λ p. Party flag (inputs name) (outputs name) (i + 1) session replica source p in
+          let with_session : Option Session → Type 0 = λ s. Party (turn_counts i) lost_here (inputs name) (outputs name) (i + 1) s f.replica source (ended_party f.place f.run f.end f.sink) in
+          let with_replica : Option ReplicaScript → Type 0 = λ r. Party (turn_counts i) lost_here (inputs name) (outputs name) (i + 1) session r source (ended_party f.place f.run f.end f.sink) in
+          let with_party : PartyEnd K → Type 0 = λ p. Party (turn_counts i) lost_here (inputs name) (outputs name) (i + 1) session replica source p in
           subst with_party (sym f.is) (subst with_replica (sym same_replica) (subst with_session (sym same) own))
 
-      module _ (began : Past → Type 0) (copies_told : (past : Past) → began past → AreReplicasTold past start sessions replicas may_give order runs (map sink_says.given firsts) (map sink_says.given sinks)) where
+      module _ (began : Past → Type 0) (copies_told : (past : Past) → began past → AreReplicasTold past start sessions replicas may_give order turn_counts runs (map sink_says.given firsts) (map sink_says.given sinks)) where
         told_at : (past : Past) → began past
-            → AreRepliesTold disk_says source_says sink_says may_give since start past outputs names sessions replicas order (ended_parties 1 runs ends sinks)
+            → AreRepliesTold disk_says source_says sink_says may_give since start past outputs names sessions replicas order turn_counts (ended_parties 1 runs ends sinks)
         told_at past b i name script party name_at script_at party_at =
             let lt = slice_get_within names i name name_at in
             let source = there sources i (omega (arith, lt, read.sources_count, come.sources_count)) in
             let f = found i name source.0 party name_at source.1 party_at in
             let its_run : run_of party ≡ f.run = ap (λ (p : PartyEnd K). run_of p) f.is ∙ run_is f.place f.run f.end f.sink in
             let sink_is : sink_says.given party.sink ≡ sink_says.given f.sink = ap (λ (p : PartyEnd K). sink_says.given p.sink) f.is in
-            let T : SessionRun → Option (List ℕ) → Option (List ℕ) → Type 0 = λ r was now. IsToldOutput past start (map (placed sessions) order) may_give (i + 1) script r.commands r.failed was now in
+            let T : SessionRun → Option (List ℕ) → Option (List ℕ) → Type 0 = λ r was now. IsToldOutput past start (map (placed sessions) order) may_give (i + 1) script (turn_counts i) r.commands r.failed was now in
             let own : T f.run (sink_says.given f.first) (sink_says.given f.sink) = copies_told past b i script f.run (sink_says.given f.first) (sink_says.given f.sink) script_at f.run_at (given_at firsts i f.first f.first_at) (given_at sinks i f.sink f.sink_at) in
             subst (λ (r : SessionRun). T r (outputs name) (sink_says.given party.sink)) (sym its_run)
             (subst (λ (o : Option (List ℕ)). T f.run (outputs name) o) (sym sink_is) (subst (λ (o : Option (List ℕ)). T f.run o (sink_says.given f.sink)) f.pair.gives own))
 
-        pub run_from : (depot : SerialDepot D) (IsOrdered : Ordering) → HasRun disk_says depot since start (map (placed sessions) order) → ((past : Past) → began past → CanBeFollowed disk_says past start (map (placed sessions) order) depot)
-            → IsOrdered sessions replicas start order runs → IsRunFrom disk_says source_says sink_says may_give since start depot IsOrdered began inputs outputs names order lost (ended_parties 1 runs ends sinks) sources
-        run_from depot IsOrdered ran followed ordered =
+        pub run_from : (IsOrdered : Ordering) → HasRun disk_says depot since start (map (placed sessions) order) → ((past : Past) → began past → CanBeFollowed disk_says past start (map (placed sessions) order) depot)
+            → IsOrdered sessions replicas start order turn_counts runs → IsRunFrom disk_says source_says sink_says may_give since start from depot IsOrdered began inputs outputs names order lost (ended_parties 1 runs ends sinks) sources
+        run_from IsOrdered ran followed ordered =
             let P : List SessionRun → Type 0 = λ rs. IsOrder may_give (session_counts replicas rs) order in
-            let Q : List SessionRun → Type 0 = λ rs. IsOrdered sessions replicas start order rs in
+            let Q : List SessionRun → Type 0 = λ rs. IsOrdered sessions replicas start order turn_counts rs in
             record {
               headline = record {
                 sessions = sessions;
@@ -182,11 +182,13 @@ module _ {S K : Type 0} (source_says : SourceSays S) (sink_says : SinkSays K) wh
                 parties_count = ends_of.parties_count;
                 sources_count = ends_of.sources_count;
                 places = subst P (sym (runs_are 1 runs ends sinks runs_count ends_count)) served.places;
-                flags = copies.flags;
+                losses = copies.losses;
                 told = copies.told;
+                turn_counts = turn_counts;
                 each = party_of;
               };
               ran = ran;
+              failures = copies.failures;
               ordered = subst Q (sym (runs_are 1 runs ends sinks runs_count ends_count)) ordered;
               told = told_at;
               followed = followed;
@@ -194,9 +196,9 @@ module _ {S K : Type 0} (source_says : SourceSays S) (sink_says : SinkSays K) wh
 
 -- where a run began is said by less
 module _ {D S K : Type 0} (disk_says : DiskSays D) (source_says : SourceSays S) (sink_says : SinkSays K) (may_give : ℕ → Type 0) (since : ℕ) (start : List Deed) where
-  pub began_from : (depot : SerialDepot D) (IsOrdered : Ordering) (began other : Past → Type 0) (inputs outputs : List ℕ → Option (List ℕ)) (names : List (List ℕ)) (order : List Place) (lost : Bool) (parties : List (PartyEnd K)) (sources : List S)
+  pub began_from : (from depot : SerialDepot D) (IsOrdered : Ordering) (began other : Past → Type 0) (inputs outputs : List ℕ → Option (List ℕ)) (names : List (List ℕ)) (order : List Place) (lost : Bool) (parties : List (PartyEnd K)) (sources : List S)
       → ((past : Past) → other past → began past)
-      → IsRunFrom disk_says source_says sink_says may_give since start depot IsOrdered began inputs outputs names order lost parties sources
-      → IsRunFrom disk_says source_says sink_says may_give since start depot IsOrdered other inputs outputs names order lost parties sources
-  began_from depot IsOrdered began other inputs outputs names order lost parties sources leads r =
-      record { headline = r.headline; ran = r.ran; ordered = r.ordered; told = λ past b. r.told past (leads past b); followed = λ past b. r.followed past (leads past b) }
+      → IsRunFrom disk_says source_says sink_says may_give since start from depot IsOrdered began inputs outputs names order lost parties sources
+      → IsRunFrom disk_says source_says sink_says may_give since start from depot IsOrdered other inputs outputs names order lost parties sources
+  began_from from depot IsOrdered began other inputs outputs names order lost parties sources leads r =
+      record { headline = r.headline; ran = r.ran; failures = r.failures; ordered = r.ordered; told = λ past b. r.told past (leads past b); followed = λ past b. r.followed past (leads past b) }

@@ -1,8 +1,9 @@
 -- A depot in files that is opened, asked and closed.
-use Rattle.std.proofs.Common.{◌≡◌, ◌≤◌, ℕ, Bool, true, List, [], length, refl, sym, subst, ◌∙◌, ◌⊎◌, inl, inr, arith}
+use Rattle.std.proofs.Common.{◌≡◌, ◌≤◌, ◌+◌, ℕ, Bool, true, List, [], length, refl, sym, subst, ◌∙◌, ◌⊎◌, inl, inr, arith}
+use Rattle.std.specs.List.{sum}
 use Rattle.outside_api.specs.Count.{HasRisen}
 use Rattle.depot_rows.specs.depot_model.declared.order.Place.{Place}
-use Rattle.session_loop.specs.Served.{AreCaused}
+use Rattle.session_loop.specs.Served.{AreCaused, fault_count}
 use Rattle.archive_file.specs.Archive as archives
 use Rattle.outside_api.specs.Disk.{Files}
 use Rattle.outside_api.specs.Says.{DiskSays}
@@ -36,7 +37,7 @@ use Rattle.p4_server.specs.Headline.{AreEnds, IsRunFrom, Ordering}
 use Rattle.p4_server.specs.Outside.{After, Before, Outside}
 use Rattle.p4_server.specs.Runs.{AreKept, IsRun, IsShut, unrun_cause}
 use Rattle.p4_server.specs.Telling.{IsReport, IsToldAlone, IsUntold}
-use Rattle.p4_server.proofs.FaultPlaces.{caused_since, rose_since}
+use Rattle.p4_server.proofs.FaultPlaces.{caused_since, risen_since, rose_since}
 use Rattle.p4_server.proofs.Contents.{contents_opened, deletes_opened}
 use Rattle.p4_server.proofs.Openings.{read_at_start}
 
@@ -158,17 +159,18 @@ module _ {D S K H : Type 0} (outside : Outside D S K H) (old_doors new_doors : H
   }
 
   -- the parties were run over the depot
-  pub run_of : (depot : SerialDepot D) (opened : D) (opened_faults opened_contents : ℕ) (order : List Place) (lost : Bool) (parties : List (PartyEnd K)) (sources : List S) → after.ended.journal ≡ disk_of depot.journal → after.ended.archive ≡ archives.disk_of depot.archive → HasOpened outside.disk before.journal before.archive opened → after.ended.order ≡ order
+  pub run_of : (from depot : SerialDepot D) (opened : D) (order : List Place) (lost : Bool) (parties : List (PartyEnd K)) (sources : List S) → after.ended.journal ≡ disk_of depot.journal → after.ended.archive ≡ archives.disk_of depot.archive → HasOpened outside.disk before.journal before.archive opened → after.ended.order ≡ order
       → AreEnds outside.source outside.sink (outside.doors.input old_doors) names parties sources
-      → ((d : List Deed) → IsStart outside.disk before.journal before.archive d → IsRunFrom outside.disk outside.source outside.sink outside.may_give (outside.disk.moment opened) d depot IsOrdered (AreWritten outside.disk before.journal before.archive) (outside.doors.input old_doors) (outside.doors.output old_doors) names order lost parties sources)
-      → outside.disk.faults before.journal ≤ opened_faults → outside.disk.faults before.archive ≤ opened_contents
-      → AreCaused opened_faults (outside.disk.faults (disk_of depot.journal)) opened_contents (outside.disk.faults (archives.disk_of depot.archive)) [] order
-      → (lost ≡ true → HasRisen opened_faults (outside.disk.faults (disk_of depot.journal)) ⊎ HasRisen opened_contents (outside.disk.faults (archives.disk_of depot.archive)))
+      → ((d : List Deed) → IsStart outside.disk before.journal before.archive d → IsRunFrom outside.disk outside.source outside.sink outside.may_give (outside.disk.moment opened) d from depot IsOrdered (AreWritten outside.disk before.journal before.archive) (outside.doors.input old_doors) (outside.doors.output old_doors) names order lost parties sources)
+      → outside.disk.faults before.journal ≤ outside.disk.faults (disk_of from.journal) → outside.disk.faults before.archive ≤ outside.disk.faults (archives.disk_of from.archive)
+      → AreCaused (outside.disk.faults (disk_of from.journal)) (outside.disk.faults (disk_of depot.journal)) (outside.disk.faults (archives.disk_of from.archive)) (outside.disk.faults (archives.disk_of depot.archive)) [] order
+      → (lost ≡ true → HasRisen (outside.disk.faults (disk_of from.journal)) (outside.disk.faults (disk_of depot.journal)) ⊎ HasRisen (outside.disk.faults (archives.disk_of from.archive)) (outside.disk.faults (archives.disk_of depot.archive)))
       → IsReport outside.sink before.out after.out after.ended order parties sources lost ⊎ IsUntold after.ended
       → IsRun outside old_doors new_doors before after IsOrdered names
-  run_of depot opened opened_faults opened_contents order lost parties sources journal_is archive_is opens order_is ends runs no_fewer contents_no_fewer counts lost_rose told =
-      let P : List Place → Type 0 = λ o. (d : List Deed) → IsStart outside.disk before.journal before.archive d → IsRunFrom outside.disk outside.source outside.sink outside.may_give (outside.disk.moment opened) d depot IsOrdered (AreWritten outside.disk before.journal before.archive) (outside.doors.input old_doors) (outside.doors.output old_doors) names o lost parties sources in
+  run_of from depot opened order lost parties sources journal_is archive_is opens order_is ends runs no_fewer contents_no_fewer counts lost_rose told =
+      let P : List Place → Type 0 = λ o. (d : List Deed) → IsStart outside.disk before.journal before.archive d → IsRunFrom outside.disk outside.source outside.sink outside.may_give (outside.disk.moment opened) d from depot IsOrdered (AreWritten outside.disk before.journal before.archive) (outside.doors.input old_doors) (outside.doors.output old_doors) names o lost parties sources in
       let all = subst P (sym order_is) runs in
+      let faults = outside.disk.faults in
       record {
         parties = parties;
         sources = sources;
@@ -177,16 +179,18 @@ module _ {D S K H : Type 0} (outside : Outside D S K H) (old_doors new_doors : H
         is_opened = opens;
         lost = lost;
         lost_rose = λ is. rw (journal_is, archive_is)
-            (rose_since (outside.disk.faults before.journal) opened_faults (outside.disk.faults (disk_of depot.journal)) (outside.disk.faults before.archive) opened_contents (outside.disk.faults (archives.disk_of depot.archive)) no_fewer contents_no_fewer (lost_rose is));
+            (rose_since (faults before.journal) (faults (disk_of from.journal)) (faults (disk_of depot.journal)) (faults before.archive) (faults (archives.disk_of from.archive)) (faults (archives.disk_of depot.archive)) no_fewer contents_no_fewer (lost_rose is));
         run = λ d start. record {
           headline = (all d start).headline;
           ordered = (all d start).ordered;
           told = (all d start).told;
+          failures = rw (journal_is, archive_is)
+              (risen_since (fault_count after.ended.order + sum (all d start).headline.losses) (faults before.journal) (faults (disk_of from.journal)) (faults (disk_of depot.journal)) (faults before.archive) (faults (archives.disk_of from.archive)) (faults (archives.disk_of depot.archive)) no_fewer contents_no_fewer (all d start).failures);
           kept = are_kept depot opened journal_is archive_is d _ (all d start).ran;
           goes_on = λ past w. leaves_of outside.disk after.ended.journal after.ended.archive depot (outside.disk.moment opened) journal_is archive_is d _ (all d start).ran past ((all d start).followed past w);
         };
         fault_places = rw (journal_is, archive_is, order_is)
-            (caused_since (outside.disk.faults before.journal) opened_faults (outside.disk.faults (disk_of depot.journal)) (outside.disk.faults before.archive) opened_contents (outside.disk.faults (archives.disk_of depot.archive)) order no_fewer contents_no_fewer counts);
+            (caused_since (faults before.journal) (faults (disk_of from.journal)) (faults (disk_of depot.journal)) (faults before.archive) (faults (archives.disk_of from.archive)) (faults (archives.disk_of depot.archive)) order no_fewer contents_no_fewer counts);
         told = elim told [ inl report ↦ inl (report.parties_are, report.sources_are, report.told) | inr untold ↦ inr untold ];
       }
 

@@ -1,11 +1,8 @@
 -- Files that the program wrote from the first change on: what runs that follow one another leave of them, and begin with.
-use Rattle.std.specs.Prelude.{◌≢◌, List}
+use Rattle.std.specs.Prelude.{List}
 use Rattle.outside_api.specs.Disk.{Files, NoMore}
 use Rattle.outside_api.specs.Says.{DiskSays}
 use Rattle.depot_rows.specs.depot_model.Deeds.{Deed}
-use Rattle.end_lines.specs.declared.cause.Cause.{Cause}
-use Rattle.end_lines.specs.declared.cause.Cause.TheVariants as causes
-use Rattle.program_words.specs.Words.{Job, init, load}
 use Rattle.recovery.specs.Standing.{StandFor}
 use Rattle.replica_turns.specs.Master.{AllFit, Past}
 use Rattle.replica_turns.specs.Written.{AreWritten, Leave, WasWritten}
@@ -43,9 +40,3 @@ pub record AreNext {D : Type 0} (disk_says : DiskSays D) (journal archive next_j
   pub archive_tells : Tells disk_says next_archive
   pub journal_images : NoMore (disk_says.may_leave journal) (disk_says.may_leave next_journal)
   pub archive_images : NoMore (disk_says.may_leave archive) (disk_says.may_leave next_archive)
-
--- `init` and `load` ended otherwise than by a fault, which may be one of making files
-abbrev pub HasLookedWell : Job → Cause → Type 0
-HasLookedWell init cause = cause ≢ causes.Fault
-HasLookedWell (load seed count) cause = cause ≢ causes.Fault
-HasLookedWell _ cause = Unit {0}

@@ -33,6 +33,8 @@ module _ {D : Type 0} (disk_says : DiskSays D) (old_journal journal old_archive 
     pub any_moment : LeavesOnly disk_says old_journal journal (AfterStep IsMaking (disk_says.may_leave old_journal))
     pub archive_looks : LooksOnly disk_says old_archive archive
     pub archive_reads : Same (disk_says.seen old_archive) (disk_says.seen archive) ⊎ (failed × HasRisen (disk_says.faults old_archive) (disk_says.faults archive))
+    -- Where the root isn't empty nothing is touched.
+    pub kept : (files : Files) → disk_says.seen old_journal files → length (files 0) ≢ 0 → BothOnlyRead disk_says old_journal journal old_archive archive
 
 module _ {D S K : Type 0} (disk_says : DiskSays D) (sink_says : SinkSays K) (before : Before D K) (after : After D S K) where
   -- The root was empty, and whatever a crash leaves stands for the empty depot, with the other files of the journal's disk as they were read.

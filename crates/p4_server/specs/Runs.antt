@@ -1,5 +1,6 @@
 -- What a mode promises that runs parties: the headline, from each depot that the files stood for.
-use Rattle.std.specs.Prelude.{◌≡◌, ◌⊎◌, ◌≤◌, ℕ, Bool, true, List, [], length, map, All, Any, IsSomeAnd, Option, None}
+use Rattle.std.specs.Prelude.{◌≡◌, ◌⊎◌, ◌≤◌, ◌+◌, ℕ, Bool, true, List, [], length, map, All, Any, IsSomeAnd, Option, None}
+use Rattle.std.specs.List.{sum}
 use Rattle.outside_api.specs.Count.{HasRisen}
 use Rattle.outside_api.specs.Disk.{Files}
 use Rattle.depot_rows.specs.depot_model.Deeds.{Deed}
@@ -8,14 +9,14 @@ use Rattle.depot_runs.specs.Run.{placed}
 use Rattle.replica_turns.specs.Master.{Past}
 use Rattle.replica_turns.specs.Written.{AreWritten, Leave, PairGoesOn}
 use Rattle.session_loop.specs.Asking.{asking_of}
-use Rattle.session_loop.specs.Served.{AreCaused}
+use Rattle.session_loop.specs.Served.{AreCaused, HaveRisenBy, fault_count}
 use Rattle.end_lines.specs.declared.cause.Cause.{Cause}
 use Rattle.end_lines.specs.declared.cause.Cause.TheVariants as causes
 use Rattle.p4_server.specs.declared.ended.PartyEnd.{PartyEnd}
 use Rattle.p4_server.specs.declared.party.NotRun.{NotRun}
 use Rattle.p4_server.specs.declared.party.NotRun.TheVariants.{Doors, Memory}
 use Rattle.p4_server.specs.Ends.{run_of}
-use Rattle.p4_server.specs.Files.{IsStart, EachPair, GoOn, HasOpened, PairIsKept, DiskRose}
+use Rattle.p4_server.specs.Files.{IsStart, EachPair, GoOn, HasOpened, PairIsKept, DiskRose, DisksStand}
 use Rattle.p4_server.specs.Headline.{AreEnds, AreRepliesTold, IsHeadline, Ordering}
 use Rattle.p4_server.specs.Opening.{IsUnopened}
 use Rattle.p4_server.specs.Outside.{After, Before, Outside}
@@ -64,10 +65,12 @@ module _ {D S K H : Type 0} (outside : Outside D S K H) (old_doors new_doors : H
   -- the headline from that depot on, how its order came about, and what the files hold after the places of the order
   pub record IsRunKept (opened : D) (lost : Bool) (parties : List (PartyEnd K)) (sources : List S) (d : List Deed) : Type 0 where
     pub headline : IsHeadline outside.disk outside.source outside.sink outside.may_give (outside.disk.moment opened) d (outside.doors.input old_doors) (outside.doors.output old_doors) names after.ended.order lost parties sources
-    pub ordered : IsOrdered headline.sessions headline.replicas d after.ended.order (map run_of parties)
+    pub ordered : IsOrdered headline.sessions headline.replicas d after.ended.order headline.turn_counts (map run_of parties)
     -- where the files stood as they were written, the replies of replicas are those for numbers of changes
     pub told : (past : Past) → AreWritten outside.disk before.journal before.archive past
-        → AreRepliesTold outside.disk outside.source outside.sink outside.may_give (outside.disk.moment opened) d past (outside.doors.output old_doors) names headline.sessions headline.replicas after.ended.order parties
+        → AreRepliesTold outside.disk outside.source outside.sink outside.may_give (outside.disk.moment opened) d past (outside.doors.output old_doors) names headline.sessions headline.replicas after.ended.order headline.turn_counts parties
+    -- Fault places and replies of replicas that say that a disk failed are together at most as many as the counts of the two disks rose.
+    pub failures : HaveRisenBy (fault_count after.ended.order + sum headline.losses) (outside.disk.faults before.journal) (outside.disk.faults after.ended.journal) (outside.disk.faults before.archive) (outside.disk.faults after.ended.archive)
     pub kept : AreKept opened d (map (placed headline.sessions) after.ended.order)
     -- and it goes on from what was done before
     pub goes_on : (past : Past) → AreWritten outside.disk before.journal before.archive past → Leave outside.disk after.ended.journal after.ended.archive (PairGoesOn past d (map (placed headline.sessions) after.ended.order))
@@ -94,5 +97,7 @@ module _ {D S K H : Type 0} (outside : Outside D S K H) (old_doors new_doors : H
     pub doors : OnlyTheseCome (outside.doors.input old_doors) (outside.doors.output old_doors) (outside.doors.input new_doors) (outside.doors.output new_doors) names
     -- A fault comes only where a count of faults rose.
     pub fault : after.ended.cause ≡ causes.Fault → SomeRose
+    -- Where all is done, or a script has a fault and nothing failed, no count of the disks rose.
+    pub stand : (after.ended.cause ≡ causes.Done) ⊎ (after.ended.cause ≡ causes.Script) → DisksStand outside.disk before after
     -- Where a depot stands in the files, each script is whole and no count rises, all is done, or memory was wanting.
     pub complete : (d : List Deed) → IsStart outside.disk before.journal before.archive d → All (λ name. IsWhole (outside.doors.input old_doors name)) names → ¬ SomeRose → (after.ended.cause ≡ causes.Done) ⊎ (after.ended.cause ≡ causes.Memory)

@@ -6,7 +6,7 @@ use Rattle.p4_server.specs.Runs.{RunsParties}
 
 -- the order to which the threads come: nothing more is said of it
 abbrev pub AnyOrder : Ordering
-AnyOrder sessions replicas start order runs = Unit {0}
+AnyOrder sessions replicas start order turn_counts runs = Unit {0}
 
 module _ {D S K H : Type 0} (outside : Outside D S K H) (old_doors new_doors : H) (before : Before D K) (after : After D S K) (names : List (List ℕ)) where
   -- The parties are run, whatever order their threads come to.

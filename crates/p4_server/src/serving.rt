@@ -1,13 +1,13 @@
 //! The parties of a run, each on a thread of its own.
 
-ghost use Rattle.std.specs.Prelude.{◌≡◌, ◌≤◌, ◌⊎◌, [], ℕ, List, Err, length, true, IfOk};
+ghost use Rattle.std.specs.Prelude.{◌≡◌, ◌≤◌, ◌⊎◌, [], ℕ, List, Err, length, true, false, IfOk};
 ghost use Rattle.outside_api.specs.Count.{HasRisen};
 ghost use Rattle.archive_file.specs.Archive.{disk_of as archive_disk_of};
 ghost use Rattle.disk_journal.specs.Stands.{disk_of};
 ghost use Rattle.depot_rows.specs.depot_model.Deeds.{Deed};
 ghost use Rattle.party_threads.specs.replica_turns.Master.{CanBeFollowed};
 ghost use Rattle.party_threads.specs.serial_depot.Running.{CanTake, HasRun};
-ghost use Rattle.session_loop.specs.Served.{AreCaused};
+ghost use Rattle.session_loop.specs.Served.{AreCaused, StandWithoutFaults};
 ghost use Rattle.p4_server.specs.declared.party.NotRun.{NotRun};
 ghost use Rattle.p4_server.specs.Headline.{AreEnds, IsRunFrom};
 ghost use Rattle.p4_server.specs.Parties.{AreDifferent, CanBeTold, OnlyTheseCome, parties_of};
@@ -48,7 +48,8 @@ where
     ensures told { IfOk result.run CanBeTold }
     ensures ends { IfOk result.run (λ run. AreEnds H.In.says H.Out.says (H.says.input doors.old) (words_of names.now) (parties_of run) run.sources.items) }
     ensures run { (since : ℕ) (start : List Deed) → HasRun D.says depot since start [] → IfOk result.run (λ run.
-        IsRunFrom D.says H.In.says H.Out.says (C.says.may_give clock.now) since start result.depot AnyOrder (λ past. CanBeFollowed D.says past start [] depot) (H.says.input doors.old) (H.says.output doors.old) (words_of names.now) run.order run.lost (parties_of run) run.sources.items) }
+        IsRunFrom D.says H.In.says H.Out.says (C.says.may_give clock.now) since start depot result.depot AnyOrder (λ past. CanBeFollowed D.says past start [] depot) (H.says.input doors.old) (H.says.output doors.old) (words_of names.now) run.order run.lost (parties_of run) run.sources.items) }
+    ensures stand { IfOk result.run (λ run. run.lost ≡ false → StandWithoutFaults (D.says.faults (disk_of depot.journal)) (D.says.faults (disk_of result.depot.journal)) (D.says.faults (archive_disk_of depot.archive)) (D.says.faults (archive_disk_of result.depot.archive)) [] run.order) }
     ensures lost { IfOk result.run (λ run. run.lost ≡ true → HasRisen (D.says.faults (disk_of depot.journal)) (D.says.faults (disk_of result.depot.journal)) ⊎ HasRisen (D.says.faults (archive_disk_of depot.archive)) (D.says.faults (archive_disk_of result.depot.archive))) }
     ensures faults { IfOk result.run (λ run. AreCaused (D.says.faults (disk_of depot.journal)) (D.says.faults (disk_of result.depot.journal)) (D.says.faults (archive_disk_of depot.archive)) (D.says.faults (archive_disk_of result.depot.archive)) [] run.order) }
     ensures unrun { (why : NotRun) → result.run ≡ Err why → result.depot ≡ depot }

@@ -6,8 +6,8 @@ returns-clause-begun g c = λ old_doors new_doors words before after asks promis
     promise_begins _ g.met.D.Disk.reads_an_image g.met.D.Disk.reads_one old_doors new_doors before after words asks promise done tells archive_tells
 
 pub returns-clause-goes_on : goal.returns-clause-goes_on
-returns-clause-goes_on g c = λ old_doors new_doors words before after job asks well promise w.
-    promise_leaves _ g.met.D.Disk.reads_an_image g.met.D.Disk.reads_one old_doors new_doors before after words job asks well promise w
+returns-clause-goes_on g c = λ old_doors new_doors words before after promise w.
+    promise_leaves _ g.met.D.Disk.reads_an_image g.met.D.Disk.reads_one old_doors new_doors before after words promise w
 
 pub returns-clause-next : goal.returns-clause-next
 returns-clause-next g c = next_of g.D.Disk.says

@@ -46,5 +46,8 @@ returns-in-Err-DiskFault-clause-loads g c =
         any_moment = rw end.journal failed.any_moment;
         archive_looks = rw end.archive failed.archive_looks;
         archive_reads = elim failed.archive_reads [ inl same ↦ inl (rw end.archive same) | inr sync ↦ inr (end.cause, rw end.archive sync.1) ];
+        kept = λ files reads some.
+            let both = both_only_read g.D.Disk.says g.met.D.Disk.only_now c.args.journal c.make_files.new.journal c.args.archive c.make_files.new.archive (failed.kept files reads some) in
+            record { journal = rw end.journal both.journal; archive = rw end.archive both.archive };
       };
     })

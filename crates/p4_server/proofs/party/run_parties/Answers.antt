@@ -54,9 +54,10 @@ returns-in-Ok-run_sessions-clause-run g c = λ since start ran.
     let formed = c.in-Ok-read_scripts.ensures.formed.sessions_formed in
     let replicas_formed = c.in-Ok-read_scripts.ensures.formed.replicas_formed in
     let run = c.in-Ok-run_sessions.ensures in
-    rw c.from_vec.ensures (run_from _ _ _ _ _ _ _ _ _ _ _ _ _ c.in-Ok.ensures.came c.in-Ok-read_scripts.ensures.read run.ends _ _ since start _ _ (run.served since start formed ran) (run.replicas since start formed replicas_formed ran) _
-    (λ past began. run.told past since start began.0 formed replicas_formed ran began.1) _ _
-    (run.ran since start formed ran) (λ past began. run.master past since start began.0 formed ran began.1) (run.drawn since start formed ran))
+    let counted = run.counted since start formed ran in
+    rw c.from_vec.ensures (run_from _ _ _ _ _ _ _ _ _ _ _ _ _ c.in-Ok.ensures.came c.in-Ok-read_scripts.ensures.read run.ends _ _ since start _ _ _ _ _ (run.served since start formed ran) (counted.served replicas_formed) _
+    (λ past began. counted.told replicas_formed past began.0 began.1) _
+    (run.ran since start formed ran) (λ past began. run.master past since start began.0 formed ran began.1) counted.drawn)
 
 pub returns-in-Ok-run_sessions-clause-faults : goal.returns-in-Ok-run_sessions-clause-faults
 returns-in-Ok-run_sessions-clause-faults g c = rw c.from_vec.ensures c.in-Ok-run_sessions.ensures.faults

@@ -6,7 +6,7 @@ use Rattle.p4_server.specs.Parties.{parties_of}
 use Rattle.program_words.specs.Words.{words_of}
 use Rattle.p4_server.proofs.Openings.{opened_of, unopened_of}
 use Rattle.p4_server.proofs.FaultPlaces.{stand_left}
-use Rattle.p4_server.proofs.Promises.{never_whole, parties_run, parties_shut, schedules_unopened, whole_told}
+use Rattle.p4_server.proofs.Promises.{parties_run, parties_shut, parties_unopened, whole_told}
 use Rattle.p4_server.proofs.Ran.{began_from}
 use Rattle.p4_server.proofs.Scheduled.{begins, can_take, run_of, shut_of, why_unrun}
 use Rattle.p4_server.proofs.Writtens.{opened_master}
@@ -21,7 +21,7 @@ pub returns-in-Err-clause-schedules : goal.returns-in-Err-clause-schedules
 returns-in-Err-clause-schedules g c =
     let opens = c.in-Err.ensures in
     let end = c.end_unopened.ensures in
-    schedules_unopened _ _ _ _ _ _ (words_of c.args.names.now) refl (unopened_of _ _ _ _ _ _ end.journal end.archive c.in-Err.found.fault end.told end.cause
+    parties_unopened _ _ _ _ _ _ (words_of c.args.names.now) refl (unopened_of _ _ _ _ _ _ end.journal end.archive c.in-Err.found.fault end.told end.cause
     opens.journal_told opens.archive_told opens.journal_looks.no_more opens.archive_looks.no_more opens.journal_looks.any_moment opens.archive_looks.any_moment opens.unmade opens.exactly (λ j a d j_reads a_reads stand. (opens.stands j a d j_reads a_reads stand).0) opens.damaged opens.cause opens.unopened opens.unfailed)
 
 pub returns-in-Ok-run-clause-schedules : goal.returns-in-Ok-run-clause-schedules
@@ -31,24 +31,22 @@ returns-in-Ok-run-clause-schedules g c =
     let end = c.told.ensures in
     let party = c.in-Ok-run.run' in
     let opened = disk_of c.in-Ok.opened.journal in
-    record {
-      runs = parties_run _ _ _ _ _ _ (words_of c.args.names.now) served.only (run_of _ _ _ _ _ _ (words_of c.args.names.now)
-          c.run_parties-depot.result.depot opened (g.D.Disk.says.faults (disk_of c.new-depot.result.journal)) (g.D.Disk.says.faults (archives.disk_of c.new-depot.result.archive)) party.order party.lost (parties_of party) party.sources.items
-          (end.journal ∙ c.close-journal.ensures.journal) (end.archive ∙ c.close-journal.ensures.archive) (opened_of _ _ _ c.in-Ok.opened opens.exactly opens.whole opens.journal_looks opens.journal_synced) end.order (rw c.in-Ok-run.is at served.ends)
-          (λ d start.
-          let ran = begins g.D.Disk.says c.args.journal c.args.archive c.in-Ok.opened c.new-depot.result c.new-depot.ensures opens.«open» opens.journal_synced opens.archive_synced g.met.D.Disk.reads_an_image g.met.D.Disk.only_now g.met.D.Disk.reads_one opens.held
-          (λ j a d j_reads a_reads stand. (opens.stands j a d j_reads a_reads stand).1) d start in
-          began_from _ _ _ _ _ _ _ _ _ _ _ _ _ _ _ _ _ (opened_master g.D.Disk.says c.args.journal c.args.archive c.in-Ok.opened
-          opens.«open».0 opens.«open».1 opens.journal_synced opens.archive_synced g.met.D.Disk.reads_an_image opens.held d start c.new-depot.result c.new-depot.ensures ran) (rw c.in-Ok-run.is at (served.run (g.D.Disk.says.moment opened) d ran)))
-          (rw c.new-depot.ensures opens.cause.journal_never_falls) (rw c.new-depot.ensures opens.cause.archive_never_falls) (rw c.in-Ok-run.is at served.faults) (rw c.in-Ok-run.is at served.lost) end.told);
-      stand = λ is.
-          let whole = whole_told _ _ _ _ _ _ _ _ end.told is in
-          let began = opens.unfailed (λ no. no) in
-          let stood = stand_left g.D.Disk.says.faults (end.journal ∙ c.close-journal.ensures.journal) (end.archive ∙ c.close-journal.ensures.archive) end.order
-          (ap (λ (depot : SerialDepot g.row.D.Denot). g.D.Disk.says.faults (disk_of depot.journal)) c.new-depot.ensures ∙ began.0, ap (λ (depot : SerialDepot g.row.D.Denot). g.D.Disk.says.faults (archives.disk_of depot.archive)) c.new-depot.ensures ∙ began.1)
-          ((rw c.in-Ok-run.is at served.stand) whole.0) whole.1 in
-          record { journal = stood.0; archive = stood.1 };
-    }
+    parties_run _ _ _ _ _ _ (words_of c.args.names.now) served.only (run_of _ _ _ _ _ _ (words_of c.args.names.now)
+    c.new-depot.result c.run_parties-depot.result.depot opened party.order party.lost (parties_of party) party.sources.items
+    (end.journal ∙ c.close-journal.ensures.journal) (end.archive ∙ c.close-journal.ensures.archive) (opened_of _ _ _ c.in-Ok.opened opens.exactly opens.whole opens.journal_looks opens.journal_synced) end.order (rw c.in-Ok-run.is at served.ends)
+    (λ d start.
+    let ran = begins g.D.Disk.says c.args.journal c.args.archive c.in-Ok.opened c.new-depot.result c.new-depot.ensures opens.«open» opens.journal_synced opens.archive_synced g.met.D.Disk.reads_an_image g.met.D.Disk.only_now g.met.D.Disk.reads_one opens.held
+    (λ j a d j_reads a_reads stand. (opens.stands j a d j_reads a_reads stand).1) d start in
+    began_from _ _ _ _ _ _ _ _ _ _ _ _ _ _ _ _ _ _ (opened_master g.D.Disk.says c.args.journal c.args.archive c.in-Ok.opened
+    opens.«open».0 opens.«open».1 opens.journal_synced opens.archive_synced g.met.D.Disk.reads_an_image opens.held d start c.new-depot.result c.new-depot.ensures ran) (rw c.in-Ok-run.is at (served.run (g.D.Disk.says.moment opened) d ran)))
+    (rw c.new-depot.ensures opens.cause.journal_never_falls) (rw c.new-depot.ensures opens.cause.archive_never_falls) (rw c.in-Ok-run.is at served.faults) (rw c.in-Ok-run.is at served.lost) end.told)
+    (λ is.
+    let whole = whole_told _ _ _ _ _ _ _ _ end.told is in
+    let began = opens.unfailed (λ no. no) in
+    let stood = stand_left g.D.Disk.says.faults (end.journal ∙ c.close-journal.ensures.journal) (end.archive ∙ c.close-journal.ensures.archive) end.order
+    (ap (λ (depot : SerialDepot g.row.D.Denot). g.D.Disk.says.faults (disk_of depot.journal)) c.new-depot.ensures ∙ began.0, ap (λ (depot : SerialDepot g.row.D.Denot). g.D.Disk.says.faults (archives.disk_of depot.archive)) c.new-depot.ensures ∙ began.1)
+    ((rw c.in-Ok-run.is at served.stand) whole.0) whole.1 in
+    record { journal = stood.0; archive = stood.1 })
 
 pub returns-in-Err-run-clause-schedules : goal.returns-in-Err-run-clause-schedules
 returns-in-Err-run-clause-schedules g c =
@@ -57,14 +55,11 @@ returns-in-Err-run-clause-schedules g c =
     let end = c.end_alone.ensures in
     let opened = disk_of c.in-Ok.opened.journal in
     let same = served.unrun c.in-Err-run.why c.in-Err-run.is in
-    record {
-      runs = parties_shut _ _ _ _ _ _ (words_of c.args.names.now) served.only (shut_of _ _ _ _ _ _ (words_of c.args.names.now) c.new-depot.result opened
-          (end.journal ∙ (c.close-journal.ensures.journal ∙ ap (λ (depot : SerialDepot g.row.D.Denot). disk_of depot.journal) same))
-          (end.archive ∙ (c.close-journal.ensures.archive ∙ ap (λ (depot : SerialDepot g.row.D.Denot). archives.disk_of depot.archive) same))
-          (opened_of _ _ _ c.in-Ok.opened opens.exactly opens.whole opens.journal_looks opens.journal_synced) end.told
-          (why_unrun _ _ _ c.in-Err-run.why (end.cause ∙ c.cause_of_unrun.ensures) (λ e. served.doors (c.in-Err-run.is ∙ ap Err e)))
-          (begins g.D.Disk.says c.args.journal c.args.archive c.in-Ok.opened c.new-depot.result c.new-depot.ensures opens.«open» opens.journal_synced opens.archive_synced g.met.D.Disk.reads_an_image g.met.D.Disk.only_now g.met.D.Disk.reads_one opens.held
-          (λ j a d j_reads a_reads stand. (opens.stands j a d j_reads a_reads stand).1))
-          (λ d start. opened_master g.D.Disk.says c.args.journal c.args.archive c.in-Ok.opened opens.«open».0 opens.«open».1 opens.journal_synced opens.archive_synced g.met.D.Disk.reads_an_image opens.held d start c.new-depot.result c.new-depot.ensures));
-      stand = λ is. absurd (never_whole _ c.in-Err-run.why (end.cause ∙ c.cause_of_unrun.ensures) is);
-    }
+    parties_shut _ _ _ _ _ _ (words_of c.args.names.now) served.only (shut_of _ _ _ _ _ _ (words_of c.args.names.now) c.new-depot.result opened
+    (end.journal ∙ (c.close-journal.ensures.journal ∙ ap (λ (depot : SerialDepot g.row.D.Denot). disk_of depot.journal) same))
+    (end.archive ∙ (c.close-journal.ensures.archive ∙ ap (λ (depot : SerialDepot g.row.D.Denot). archives.disk_of depot.archive) same))
+    (opened_of _ _ _ c.in-Ok.opened opens.exactly opens.whole opens.journal_looks opens.journal_synced) end.told
+    (why_unrun _ _ _ c.in-Err-run.why (end.cause ∙ c.cause_of_unrun.ensures) (λ e. served.doors (c.in-Err-run.is ∙ ap Err e)))
+    (begins g.D.Disk.says c.args.journal c.args.archive c.in-Ok.opened c.new-depot.result c.new-depot.ensures opens.«open» opens.journal_synced opens.archive_synced g.met.D.Disk.reads_an_image g.met.D.Disk.only_now g.met.D.Disk.reads_one opens.held
+    (λ j a d j_reads a_reads stand. (opens.stands j a d j_reads a_reads stand).1))
+    (λ d start. opened_master g.D.Disk.says c.args.journal c.args.archive c.in-Ok.opened opens.«open».0 opens.«open».1 opens.journal_synced opens.archive_synced g.met.D.Disk.reads_an_image opens.held d start c.new-depot.result c.new-depot.ensures))

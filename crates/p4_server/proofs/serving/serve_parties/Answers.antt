@@ -54,9 +54,12 @@ returns-in-Ok-run_on_threads-clause-run g c = λ since start ran.
     let formed = c.in-Ok-read_scripts.ensures.formed.sessions_formed in
     let replicas_formed = c.in-Ok-read_scripts.ensures.formed.replicas_formed in
     let run = c.in-Ok-run_on_threads.ensures in
-    rw c.from_vec.ensures (run_from _ _ _ _ _ _ _ _ _ _ _ _ _ c.in-Ok.ensures.came c.in-Ok-read_scripts.ensures.read run.ends _ _ since start _ _ (run.served since start formed ran) (run.replicas since start formed replicas_formed ran) _
-    (λ past began. run.told past since start began.0 formed replicas_formed ran began.1) _ _
+    rw c.from_vec.ensures (run_from _ _ _ _ _ _ _ _ _ _ _ _ _ c.in-Ok.ensures.came c.in-Ok-read_scripts.ensures.read run.ends _ _ since start _ _ _ _ _ (run.served since start formed ran) (run.replicas since start formed replicas_formed ran) _
+    (λ past began. run.told past since start began.0 formed replicas_formed ran began.1) _
     (run.ran since start formed ran) (λ past began. run.master past since start began.0 formed ran began.1) tt)
 
 pub returns-in-Ok-run_on_threads-clause-faults : goal.returns-in-Ok-run_on_threads-clause-faults
 returns-in-Ok-run_on_threads-clause-faults g c = rw c.from_vec.ensures c.in-Ok-run_on_threads.ensures.faults
+
+pub returns-in-Ok-run_on_threads-clause-stand : goal.returns-in-Ok-run_on_threads-clause-stand
+returns-in-Ok-run_on_threads-clause-stand g c = rw c.from_vec.ensures c.in-Ok-run_on_threads.ensures.stand
