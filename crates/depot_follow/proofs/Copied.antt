@@ -11,9 +11,9 @@ use Rattle.depot_rows.specs.db_records.declared.table.TableId.TheVariants.{Rev}
 use Rattle.depot_rows.specs.depot_model.Deeds.{Deed}
 use Rattle.depot_rows.specs.table_changes.Changed.{AllRows, changed_by, no_rows, rows_of}
 use Rattle.depot_rows.specs.table_store.declared.tables.Tables.{Tables}
-use Rattle.disk_journal.specs.Stands.{Doubtful, HasWithOrWithout, generation_of_journal}
+use Rattle.disk_journal.specs.Stands.{Doubtful, HasWithOrWithout, disk_of, generation_of_journal}
 use Rattle.recovery.specs.Contents.{IsSpotDamage}
-use Rattle.recovery.specs.Holding.{joined, spots_end}
+use Rattle.recovery.specs.Holding.{Hold, joined, spots_end}
 use Rattle.recovery.specs.Looking.{OnlyReads}
 use Rattle.recovery.specs.Rules.{DeletesAreUnplaced}
 use Rattle.recovery.specs.Standing.{HasContents, StandFor}
@@ -21,20 +21,22 @@ use Rattle.replica_chain.specs.Chronicle.{Chronicle, changes_of, generations_of,
 use Rattle.replica_chain.specs.Copying.{AtBadContent}
 use Rattle.replica_chain.specs.Ends.{IsLinkLooked}
 use Rattle.replica_chain.specs.Masters.{GoesOnBehindNode, HasAllOf, IsBehind, IsDepotThen}
-use Rattle.replica_chain.specs.Node.{IsNode}
+use Rattle.replica_chain.specs.Node.{IsNode, files_of}
 use Rattle.replica_chain.specs.Opening.{IsFresh}
 use Rattle.replica_chain.specs.declared.fault.NodeFault.{NodeFault}
 use Rattle.replica_chain.specs.declared.node.Node.{Node}
+use Rattle.replica_chain.specs.declared.node.Pair.{Pair}
+use Rattle.recovery.proofs.Held.{rows_once}
 use Rattle.replica_chain.proofs.Copies.{earlier_alike, fresh_behind}
 use Rattle.replica_chain.proofs.Following.{closed_texts_long}
+use Rattle.replica_chain.proofs.Grouping.{settled_stands}
 use Rattle.replica_chain.proofs.Growing.{texts_long}
 use Rattle.replica_chain.proofs.Prefixes.{files_stand}
 use Rattle.replica_chain.proofs.Reached.{followed_node, goes_looked, goes_read, goes_then}
 use Rattle.replica_chain.proofs.Steps.{its_generation}
 use Rattle.replica_chain.proofs.Told.{node_tells}
 use Rattle.replica_chain.proofs.Whole.{has_all}
-use Rattle.depot_follow.specs.Following.{AgreeWith, Follows, HasAll, HasBroken, HasOtherRows, HasStopped, IsPosition, IsSoFar, StandAlike, TakesAll}
-use Rattle.depot_follow.specs.Opening.{files_of}
+use Rattle.depot_follow.specs.Following.{AgreeWith, Follows, HasAll, HasBroken, HasOtherRows, HasStopped, IsPosition, IsSoFar, StandAlike, StandForItsDepots, TakesAll}
 use Rattle.depot_follow.specs.declared.ended.ChainCause.TheVariants as causes
 use Rattle.depot_follow.specs.declared.ended.ChainEnded.{ChainEnded}
 
@@ -156,6 +158,15 @@ module _ {D : Type 0} (disk_says : DiskSays D) (image_of : (disk : D) (files : F
       (stands.generation ∙ generation_is ∙ n.stands.generation ∙ its_generation disk_says up theirs n) last.was j a used_last
       (subst (λ (doubt : Doubtful). HasWithOrWithout last.was doubt j) all.nothing_more (last.stands.holds j left)) last.has (its_generation disk_says node_last theirs last)
       (record { within = front.within; is = front.is ∙ take-take used_last used (archive 0) shorter }) (omega (arith, shorter, within)) last.contents.ends
+
+  -- files that an upstream reads have its rows and its generation, where nothing of it is in doubt
+  pub its_depots : (up node : Node D) (files : Pair D) → IsFresh disk_says up → StandAlike disk_says up node files → StandForItsDepots disk_says up node files
+  its_depots up node files fresh alike theirs journal archive sees there n begins d stands =
+      let committed = (settled_stands disk_says up theirs n fresh.settled).holds journal (image_of (disk_of up.link.journal) journal sees) in
+      let ours : Hold journal (rows_made theirs) = record { was = n.was; committed = committed; has = n.has } in
+      let other : Hold journal stands.rows = record { was = stands.was; committed = stands.committed; has = stands.has } in
+      let rows : stands.rows ≡ rows_made theirs = λ i table. rows_once journal (rows_made theirs) stands.rows ours other table i in
+      alike theirs journal archive there n begins d stands (rows ∙ sym n.rows) (sym stands.committed.root ∙ committed.root ∙ sym n.stands.generation)
 
   module _ {K : Type 0} (sink_says : SinkSays K) where
     pub copied_by : (up node : Node D) (old_out new_out : K) (ended : ChainEnded D) → IsFresh disk_says node → Follows disk_says sink_says up node old_out new_out ended → ended.cause ≡ causes.Done → StandAlike disk_says up node ended.node

@@ -7,7 +7,7 @@ use Rattle.recovery.specs.declared.fault.OpenFault.{OpenFault}
 use Rattle.recovery.specs.declared.fault.OpenFault.TheVariants.{Unmade, Damaged, DiskFault, Memory}
 use Rattle.replica_chain.specs.Chronicle.{Chronicle}
 use Rattle.replica_chain.specs.Masters.{GoesOnBehindNode, HasNoFewer}
-use Rattle.replica_chain.specs.Node.{IsNode}
+use Rattle.replica_chain.specs.Node.{IsNode, files_of}
 use Rattle.replica_chain.specs.declared.node.Node.{Node}
 use Rattle.replica_chain.specs.declared.node.Pair.{Pair}
 use Rattle.replica_chain.specs.declared.opening.NotNode.{NotNode}
@@ -15,7 +15,7 @@ use Rattle.depot_follow.specs.Chain.{After, Before, Chains}
 use Rattle.depot_follow.specs.Ends.{IsEndedBy, cause_by_node, cause_by_upstream, status_of}
 use Rattle.depot_follow.specs.Following.{AgreeWith, AreVerified, Follows, FollowsFrom, GotLines, HasAll, HasBroken, HasNotOpened, HasStopped, IsAllTold, IsPosition, IsSoFar, TakesAll}
 use Rattle.depot_follow.specs.Lines.{chain_line}
-use Rattle.depot_follow.specs.Opening.{IsNotOpened, IsNotOpenedOrMade, IsOpenedFrom, PairRose, files_of, left_by}
+use Rattle.depot_follow.specs.Opening.{IsNotOpened, IsNotOpenedOrMade, IsOpenedFrom, PairRose, left_by}
 use Rattle.depot_follow.specs.declared.ended.ChainCause.{ChainCause}
 use Rattle.depot_follow.specs.declared.ended.ChainCause.TheVariants as causes
 use Rattle.depot_follow.specs.declared.ended.ChainEnded.{ChainEnded}

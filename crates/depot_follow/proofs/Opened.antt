@@ -5,12 +5,13 @@ use Rattle.std.specs.Result.{IfErr}
 use Rattle.outside_api.specs.Disk.{Files}
 use Rattle.outside_api.specs.Moments.{then, weaker}
 use Rattle.outside_api.specs.Says.{DiskSays}
-use Rattle.depot_rows.specs.table_changes.Changed.{AllRows}
+use Rattle.depot_rows.specs.table_changes.Changed.{AllRows, rows_of}
 use Rattle.disk_journal.specs.Images.{HasCommitted}
 use Rattle.disk_journal.specs.Made.{made}
 use Rattle.recovery.specs.Contents.{HoldWhole}
 use Rattle.recovery.specs.Damage.{IsDamage}
 use Rattle.recovery.specs.Faults.{SaysNothing, Tells}
+use Rattle.recovery.specs.Holding.{Hold}
 use Rattle.recovery.specs.Looking.{AreCauses, OnlyReads}
 use Rattle.recovery.specs.Opening.{HasSynced, LooksOnly}
 use Rattle.recovery.specs.Standing.{StandFor}
@@ -18,12 +19,12 @@ use Rattle.recovery.specs.declared.fault.OpenFault.{OpenFault}
 use Rattle.recovery.specs.declared.fault.OpenFault.TheVariants.{Unmade, Damaged, DiskFault, Memory}
 use Rattle.recovery.proofs.Whole.{hold_of}
 use Rattle.replica_chain.specs.Chronicle.{Chronicle}
-use Rattle.replica_chain.specs.Node.{IsNode}
+use Rattle.replica_chain.specs.Node.{IsNode, files_of}
 use Rattle.replica_chain.specs.Opening.{AreWritten, IsDiskFault, IsFresh, IsUnmade, OpensOrSaysNothing, archive_disk, journal_disk}
 use Rattle.replica_chain.specs.declared.node.Node.{Node}
 use Rattle.replica_chain.specs.declared.node.Pair.{Pair}
 use Rattle.replica_chain.specs.declared.opening.NotNode.{NotNode}
-use Rattle.depot_follow.specs.Opening.{IsBare, IsNotOpened, IsNotOpenedOrMade, IsOpenedFrom, IsOpenedOrMade, IsThere, NeverFalls, PairRose, files_of, left_by, no_changes}
+use Rattle.depot_follow.specs.Opening.{IsBare, IsNotOpened, IsNotOpenedOrMade, IsOpenedFrom, IsOpenedOrMade, IsThere, NeverFalls, PairRose, left_by, no_changes}
 use Rattle.depot_follow.proofs.Followed.{falls_on, rose_on}
 use Rattle.depot_follow.proofs.Made.{made_written}
 
@@ -31,6 +32,7 @@ use Rattle.depot_follow.proofs.Made.{made_written}
 pub record Opens {D : Type 0} (disk_says : DiskSays D) (journal archive : D) (r : Result (Node D) (NotNode D)) : Type 0 where
   pub node : (c : Chronicle) (files contents : Files) → disk_says.seen journal files → disk_says.seen archive contents → AreWritten c files → IfOk r (λ node. IsNode disk_says node c)
   pub fresh : IfOk r (IsFresh disk_says)
+  pub holds : (files : Files) → disk_says.seen journal files → IfOk r (λ node. Hold files (rows_of node.tables))
   pub opens : (files contents : Files) (rows : AllRows) → disk_says.seen journal files → disk_says.seen archive contents → HoldWhole files contents rows → OpensOrSaysNothing r
   pub damaged : (files contents : Files) → disk_says.seen journal files → disk_says.seen archive contents → IfErr r (λ found. Tells (IsDamage files contents) found.fault)
   pub unmade : (files : Files) → disk_says.seen journal files → IsUnmade r → length (files 0) ≡ 0
@@ -45,6 +47,7 @@ module _ {D : Type 0} (disk_says : DiskSays D) where
   pub opened_of : (journal archive : D) (r : Result (Node D) (NotNode D)) → Opens disk_says journal archive r → IfOk r (IsOpenedFrom disk_says (record { journal = journal; archive = archive }))
   opened_of journal archive (Err found) says = tt
   opened_of journal archive (Ok node) says = record {
+    holds = says.holds;
     synced = record { journal = says.journal_synced; archive = says.archive_synced };
     looked = record { journal = says.journal_looks; archive = says.archive_looks };
     never_falls = record { journal = says.cause.journal_never_falls; archive = says.cause.archive_never_falls };
@@ -93,6 +96,7 @@ module _ {D : Type 0} (disk_says : DiskSays D) where
 
     opened_behind : (node : Node D) → IsOpenedFrom disk_says between node → IsOpenedFrom disk_says before node
     opened_behind node opened = record {
+      holds = λ j j_reads. opened.holds j (reads.same.kept j j_reads);
       synced = record { journal = synced_behind old mid _ reads opened.synced.journal; archive = opened.synced.archive };
       looked = record { journal = looked_behind old mid _ reads opened.looked.journal; archive = opened.looked.archive };
       never_falls = falls_on disk_says before between (files_of node) never_fell opened.never_falls;

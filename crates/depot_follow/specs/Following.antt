@@ -11,7 +11,7 @@ use Rattle.depot_rows.specs.db_records.Record.{is_live}
 use Rattle.depot_rows.specs.db_records.declared.table.TableId.TheVariants.{Rev}
 use Rattle.depot_rows.specs.depot_model.Deeds.{Deed}
 use Rattle.depot_rows.specs.table_changes.Changed.{rows_of}
-use Rattle.disk_journal.specs.Stands.{generation_of_journal}
+use Rattle.disk_journal.specs.Stands.{disk_of, generation_of_journal}
 use Rattle.recovery.specs.Contents.{AreWhole, IsSpotDamage}
 use Rattle.recovery.specs.Holding.{spots_end}
 use Rattle.recovery.specs.Standing.{StandFor}
@@ -20,7 +20,7 @@ use Rattle.replica_chain.specs.Apart.{IsApart, IsComparison}
 use Rattle.replica_chain.specs.Chronicle.{Chronicle, changes_of, rows_made, texts_of}
 use Rattle.replica_chain.specs.Ends.{HasTexts, IsLooked, link_says}
 use Rattle.replica_chain.specs.Masters.{GoesOnBehindNode, HasAllOf, HasNoFewer, IsBehind}
-use Rattle.replica_chain.specs.Node.{IsNode}
+use Rattle.replica_chain.specs.Node.{IsNode, files_of}
 use Rattle.replica_chain.specs.Pulling.{HasStopped as IsPullStopped}
 use Rattle.replica_chain.specs.declared.apart.Departure.{Departure}
 use Rattle.replica_chain.specs.declared.fault.NodeFault.{NodeFault}
@@ -30,7 +30,7 @@ use Rattle.wire_text.specs.Giving.{GotFront}
 use Rattle.end_lines.specs.Telling.{OutGot}
 use Rattle.depot_follow.specs.Lines.{chain_line, done_lines}
 use Rattle.depot_follow.specs.Ends.{cause_by_node, cause_by_pull}
-use Rattle.depot_follow.specs.Opening.{IsNotOpenedOrMade, IsOpenedOrMade, PairRose, files_of}
+use Rattle.depot_follow.specs.Opening.{IsNotOpenedOrMade, IsOpenedOrMade, PairRose}
 use Rattle.depot_follow.specs.declared.ended.ChainCause.{ChainCause}
 use Rattle.depot_follow.specs.declared.ended.ChainCause.TheVariants as causes
 use Rattle.depot_follow.specs.declared.ended.ChainEnded.{ChainEnded}
@@ -68,6 +68,11 @@ abbrev pub StandAlike : {D : Type 0} → DiskSays D → Node D → Node D → Pa
 StandAlike disk_says up node files = (theirs : Chronicle) (journal archive : Files) → disk_says.seen (archive_disk_of up.archive) archive → IsNode disk_says up theirs → BeginsAlike disk_says node theirs archive
     → (d : List Deed) (stands : StandFor d journal archive) → stands.rows ≡ rows_of up.tables → stands.was.generation ≡ generation_of_journal up.link.journal
     → (j a : Files) → disk_says.may_leave files.journal j → disk_says.may_leave files.archive a → StandFor d j a
+
+-- So it does for each depot for which the files stand that the upstream reads.
+abbrev pub StandForItsDepots : {D : Type 0} → DiskSays D → Node D → Node D → Pair D → Type 0
+StandForItsDepots disk_says up node files = (theirs : Chronicle) (journal archive : Files) → disk_says.seen (disk_of up.link.journal) journal → disk_says.seen (archive_disk_of up.archive) archive → IsNode disk_says up theirs
+    → BeginsAlike disk_says node theirs archive → (d : List Deed) → StandFor d journal archive → (j a : Files) → disk_says.may_leave files.journal j → disk_says.may_leave files.archive a → StandFor d j a
 
 -- Two nodes were only looked at.
 pub record AreLooked {D : Type 0} (disk_says : DiskSays D) (up node up_last node_last : Node D) : Type 0 where

@@ -4,25 +4,20 @@ use Rattle.std.specs.Prelude.{◌≡◌, ◌≢◌, ◌⊎◌, ◌≤◌, [], le
 use Rattle.outside_api.specs.Count.{HasRisen}
 use Rattle.outside_api.specs.Disk.{Files}
 use Rattle.outside_api.specs.Says.{DiskSays}
-use Rattle.archive_file.specs.Archive.{disk_of as archive_disk_of}
-use Rattle.depot_rows.specs.table_changes.Changed.{AllRows}
-use Rattle.disk_journal.specs.Stands.{disk_of}
+use Rattle.depot_rows.specs.table_changes.Changed.{AllRows, rows_of}
 use Rattle.recovery.specs.Contents.{HoldWhole}
 use Rattle.recovery.specs.Damage.{IsDamage}
 use Rattle.recovery.specs.Faults.{SaysNothing, Tells}
+use Rattle.recovery.specs.Holding.{Hold}
 use Rattle.recovery.specs.Opening.{HasSynced, LooksOnly}
 use Rattle.recovery.specs.declared.fault.OpenFault.{OpenFault}
 use Rattle.recovery.specs.declared.fault.OpenFault.TheVariants.{DiskFault, Unmade}
 use Rattle.replica_chain.specs.Chronicle.{Chronicle}
-use Rattle.replica_chain.specs.Node.{IsNode}
+use Rattle.replica_chain.specs.Node.{IsNode, files_of}
 use Rattle.replica_chain.specs.Opening.{AreWritten, IsFresh}
 use Rattle.replica_chain.specs.declared.node.Node.{Node}
 use Rattle.replica_chain.specs.declared.node.Pair.{Pair}
 use Rattle.replica_chain.specs.declared.opening.NotNode.{NotNode}
-
--- the two disks of a node
-abbrev pub files_of : {D : Type 0} → Node D → Pair D
-files_of node = record { journal = disk_of node.link.journal; archive = archive_disk_of node.archive }
 
 -- those of files that weren't opened
 abbrev pub left_by : {D : Type 0} → NotNode D → Pair D
@@ -68,8 +63,10 @@ module _ {D : Type 0} (disk_says : DiskSays D) where
   abbrev pub HaveWritten : Pair D → Chronicle → Type 0
   HaveWritten files c = (j a : Files) × disk_says.seen files.journal j × disk_says.seen files.archive a × AreWritten c j
 
-  -- The files were opened: both disks only synced, and nothing is in doubt. Of files that were written from the first change on the node has all changes.
+  -- The files were opened: both disks only synced, nothing is in doubt, and the node's rows are those that the files hold. Of files that were written from the first
+  -- change on the node has all changes.
   pub record IsOpenedFrom (files : Pair D) (node : Node D) : Type 0 where
+    pub holds : (j : Files) → disk_says.seen files.journal j → Hold j (rows_of node.tables)
     pub synced : PairSynced files (files_of node)
     pub looked : PairLooked files (files_of node)
     pub never_falls : NeverFalls files (files_of node)

@@ -4,10 +4,10 @@ ghost use Rattle.std.specs.Prelude.{◌≡◌, ◌⊎◌, Err, IfOk, OnOk};
 ghost use Rattle.std.specs.Result.{IfErr};
 ghost use Rattle.replica_chain.specs.Chronicle.{Chronicle};
 ghost use Rattle.replica_chain.specs.Masters.{GoesOnBehindNode, HasNoFewer};
-ghost use Rattle.replica_chain.specs.Node.{CanFollow, IsNode};
+ghost use Rattle.replica_chain.specs.Node.{CanFollow, IsNode, files_of};
 ghost use Rattle.depot_rows.specs.table_changes.Changed.{rows_of};
 ghost use Rattle.depot_follow.specs.Following.{AgreeWith, AreVerified, HasStopped, HaveStopped, IsPosition, IsSoFar, TakesAll};
-ghost use Rattle.depot_follow.specs.Opening.{NeverFalls, PairRose, files_of};
+ghost use Rattle.depot_follow.specs.Opening.{NeverFalls, PairRose};
 ghost use Rattle.depot_follow.specs.declared.ended.ChainCause.TheVariants as causes;
 
 use crate::ended::ChainCause;

@@ -12,5 +12,5 @@ mod telling;
 mod top;
 
 pub use ended::{ChainCause, ChainEnded};
-pub use laws::new_nodes_begin_alike;
+pub use laws::{copies_have_its_depots, new_nodes_begin_alike};
 pub use top::chain_top;

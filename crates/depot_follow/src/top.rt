@@ -2,12 +2,12 @@
 
 ghost use Rattle.std.specs.Prelude.{◌≡◌};
 ghost use Rattle.program_words.specs.Words.{words_of};
-ghost use Rattle.replica_chain.specs.Node.{CanFollow};
+ghost use Rattle.replica_chain.specs.Node.{CanFollow, files_of};
 ghost use Rattle.depot_follow.specs.Chain.{Chains};
 ghost use Rattle.depot_follow.specs.Ends.{IsEndedBy, cause_by_node, status_of};
 ghost use Rattle.depot_follow.specs.Following.{Follows, FollowsFrom, GotLines};
 ghost use Rattle.depot_follow.specs.Lines.{chain_line};
-ghost use Rattle.depot_follow.specs.Opening.{files_of, left_by};
+ghost use Rattle.depot_follow.specs.Opening.{left_by};
 
 use crate::ended::{ChainCause, ChainEnded, cause_of_node, cause_of_upstream, ended_by};
 use crate::following::follow;

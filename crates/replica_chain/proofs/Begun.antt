@@ -3,6 +3,7 @@ use Rattle.std.proofs.Common.{◌≡◌, ◌⊎◌, inl, inr, ℕ, ◌+◌, ◌<
 use Rattle.std.specs.Prelude.{map}
 use Rattle.outside_api.specs.Link.{IsEarlier}
 use Rattle.outside_api.specs.Moments.{LeavesOnly, weaker}
+use Rattle.outside_api.specs.Reaching.{once}
 use Rattle.outside_api.specs.Says.{DiskSays}
 use Rattle.checkpoint_file.specs.Checkpoint.{IsCheckpointOf, checkpoint_text, puts_of}
 use Rattle.depot_rows.specs.table_changes.Changed.{AllRows, changed_in, rows_of}
@@ -15,19 +16,21 @@ use Rattle.recovery.specs.Holding.{HasAllRows, group_texts}
 use Rattle.replica_pull.specs.Replica.{beginning}
 use Rattle.replica_chain.specs.Chronicle.{Chronicle, rows_made, texts_of, with_beginning}
 use Rattle.replica_chain.specs.Ends.{KeepsScanned}
-use Rattle.replica_chain.specs.Masters.{GoesOnBehind, HasNoFewer, HasSomeOf, IsBehind, Upstream}
-use Rattle.replica_chain.specs.Node.{CanFollow, IsNode, IsSettled}
+use Rattle.replica_chain.specs.Masters.{GoesOnBehind, HasNoFewer, HaveSomeOf, IsBehind, Upstream}
+use Rattle.replica_chain.specs.Moments.{LeavePairs}
+use Rattle.replica_chain.specs.Node.{CanFollow, IsNode, IsSettled, files_of}
 use Rattle.replica_chain.specs.Pulling.{HasPassed, IsUnpassed, IsWhereItWas}
 use Rattle.replica_chain.specs.declared.fault.NodeFault.{NodeFault}
 use Rattle.replica_chain.specs.declared.fault.NodeFault.TheVariants.{DiskFault, Memory}
 use Rattle.replica_chain.specs.declared.link.NodeLink.{NodeLink}
 use Rattle.replica_chain.specs.declared.node.Node.{Node}
+use Rattle.replica_chain.proofs.Copied.{front_itself}
 use Rattle.replica_chain.proofs.Generations.{has_next, opening_behind, opening_node, passed_behind, passed_moment, passed_node, texts_next, unpassed_behind, unpassed_node}
 use Rattle.replica_chain.proofs.Grouping.{settled_stands}
 use Rattle.replica_chain.proofs.Growing.{earlier_begun, earlier_self}
 use Rattle.replica_chain.proofs.Rests.{with_link}
 use Rattle.replica_chain.proofs.Settled.{settled_can, where_settled}
-use Rattle.replica_chain.proofs.Steps.{all_earlier, some_committed}
+use Rattle.replica_chain.proofs.Steps.{all_earlier, some_behind}
 
 -- what was written of a checkpoint is still as it was, or in doubt
 pub in_doubt : {A : Type 0} (S K : List ℕ → Type 0) {text other : List ℕ} → text ≡ other → A ⊎ S text → K text → A ⊎ (S other × K other)
@@ -85,15 +88,23 @@ module _ {D : Type 0} (disk_says : DiskSays D) (old : Node D) (settled : IsSettl
           opening_behind disk_says old (with_link old link) c up b settled refl older scanned unwritten_where refl text e
           (has_next disk_says old c b.is_node rows next next_is last made (doubted.1 (texts_next disk_says old c b.is_node rows next next_is last made))) doubted.0
 
-      -- each image since has some of the changes upstream
+      -- each pair of images since has some of the changes upstream
       unwritten_moments : (c : Chronicle) (up : Upstream) (b : IsBehind disk_says old c up) → IsEarlier (texts_of (with_beginning c)) up.texts → IsUnwritten b.is_node.was
-          → LeavesOnly disk_says (disk_of old.link.journal) (disk_of link.journal) (HasEither b.is_node.was (with_generation b.is_node.was text)) → LeavesOnly disk_says (disk_of old.link.journal) (disk_of link.journal) (HasSomeOf c up.texts)
+          → LeavesOnly disk_says (disk_of old.link.journal) (disk_of link.journal) (HasEither b.is_node.was (with_generation b.is_node.was text)) → LeavePairs disk_says (HaveSomeOf c up) (files_of old) (files_of (with_link old link))
       unwritten_moments c up b e (inl still) moments =
-          weaker disk_says (disk_of old.link.journal) (disk_of link.journal) (HasCommitted b.is_node.was) (HasSomeOf c up.texts) (some_committed disk_says old c b.is_node up.texts (all_earlier disk_says old c up b)) still.any_moment
+          let n = b.is_node in
+          let ends = n.contents.ends in
+          once (inl (
+            refl,
+            weaker disk_says (disk_of old.link.journal) (disk_of link.journal) (HasCommitted n.was) _ (some_behind disk_says old c up b nothing c refl n.has (all_earlier disk_says old c up b) (omega (arith, ends))) still.any_moment,
+          ))
       unwritten_moments c up b e (inr doubted) moments =
           let n = b.is_node in
-          weaker disk_says (disk_of old.link.journal) (disk_of link.journal) (HasEither n.was (with_generation n.was text)) (HasSomeOf c up.texts)
-          (passed_moment disk_says old (with_link old link) c up b settled refl text e (has_next disk_says old c n rows next next_is last made (doubted.1 (texts_next disk_says old c n rows next next_is last made)))) moments
+          once (inl (
+            refl,
+            weaker disk_says (disk_of old.link.journal) (disk_of link.journal) (HasEither n.was (with_generation n.was text)) _
+                (passed_moment disk_says old (with_link old link) c up b settled refl text e (has_next disk_says old c n rows next next_is last made (doubted.1 (texts_next disk_says old c n rows next next_is last made)))) moments,
+          ))
 
       pub unwritten_goes : ((was : Committed) → Stands disk_says old.link.journal was nothing → LeavesOnly disk_says (disk_of old.link.journal) (disk_of link.journal) (HasEither was (with_generation was text)))
           → (c : Chronicle) (up : Upstream) → IsBehind disk_says old c up → IsEarlier (texts_of (with_beginning c)) up.texts
@@ -106,6 +117,7 @@ module _ {D : Type 0} (disk_says : DiskSays D) (old : Node D) (settled : IsSettl
             no_fewer = earlier_self c;
             later = up;
             grown = inl refl;
+            more = front_itself up.bytes;
             texts_told = refl;
             bytes_told = refl;
             behind = unwritten_behind c up b e (found n.was stands);
@@ -167,10 +179,12 @@ module _ {D : Type 0} (disk_says : DiskSays D) (old : Node D) (settled : IsSettl
               no_fewer = earlier_begun c;
               later = up;
               grown = inl refl;
+              more = front_itself up.bytes;
               texts_told = refl;
               bytes_told = refl;
               behind = passed_behind disk_says old begun c up b settled refl text e (begun_has c n) (begun_passed generation) (written n.was stands) (closes n.was (map (group_texts 1) c.closed) stands n.keeps) scanned;
-              any_moment =
-                  weaker disk_says (disk_of old.link.journal) (disk_of link.journal) (HasEither n.was (with_generation n.was text)) (HasSomeOf c up.texts)
-                  (passed_moment disk_says old begun c up b settled refl text e (begun_has c n)) (moments n.was stands);
+              any_moment = once (inl (
+                refl,
+                weaker disk_says (disk_of old.link.journal) (disk_of link.journal) (HasEither n.was (with_generation n.was text)) _ (passed_moment disk_says old begun c up b settled refl text e (begun_has c n)) (moments n.was stands),
+              ));
             }

@@ -2,7 +2,6 @@
 use Rattle.std.proofs.Common.{◌≡◌, ◌⊎◌, inl, inr, ℕ, ◌+◌, ◌≤◌, List, length, take, Result, Ok, Err, sym, ap, subst, ◌∙◌, arith}
 use Rattle.std.specs.Result.{IsErrAnd}
 use Rattle.outside_api.specs.Count.{HasRisen}
-use Rattle.outside_api.specs.Disk.{Files}
 use Rattle.outside_api.specs.Link.{Answers, Fits, IsEarlier, text_of}
 use Rattle.outside_api.specs.Says.{DiskSays, LinkSays}
 use Rattle.outside_api.specs.declared.link.Fetched.{Fetched}
@@ -10,7 +9,7 @@ use Rattle.outside_api.specs.declared.link.Fetched.TheVariants as fetches
 use Rattle.archive_file.specs.Archive.{Has}
 use Rattle.depot_rows.specs.db_records.declared.change.Change.{Change}
 use Rattle.depot_rows.specs.table_changes.Changed.{changed_in, rows_of}
-use Rattle.disk_journal.specs.Stands.{disk_of, generation_of_journal}
+use Rattle.disk_journal.specs.Stands.{generation_of_journal}
 use Rattle.journal_groups.specs.Reader.{State}
 use Rattle.journal_groups.specs.declared.moved.Moved.{Moved}
 use Rattle.journal_groups.specs.declared.moved.Moved.TheVariants as moves
@@ -70,6 +69,7 @@ module _ {D : Type 0} (disk_says : DiskSays D) (c : Chronicle) (up : Upstream) (
     no_fewer = step.no_fewer;
     later = step.later;
     grown = grown_on up.texts now step.later.texts (inr more) step.grown;
+    more = step.more;
     texts_told = subst T (sym step.texts_told) told;
     bytes_told = step.bytes_told;
     behind = step.behind;
@@ -84,6 +84,7 @@ told_as disk_says old new c up S T B E texts_lead bytes_lead step = record {
   no_fewer = step.no_fewer;
   later = step.later;
   grown = step.grown;
+  more = step.more;
   texts_told = texts_lead step.later.texts step.texts_told;
   bytes_told = bytes_lead step.later.bytes step.bytes_told;
   behind = step.behind;
@@ -114,10 +115,9 @@ fetched_stands disk_says node c up n_is link_says link n buffer piece f is told 
 
 -- a node that did nothing
 pub unmoved_goes : {D : Type 0} (disk_says : DiskSays D) (node : Node D) (c : Chronicle) (up : Upstream) (T : List (List ℕ) → Type 0) (B : List ℕ → Type 0)
-    → ((image : Files) → disk_says.left_since (disk_of node.link.journal) (disk_says.moment (disk_of node.link.journal)) image → disk_says.may_leave (disk_of node.link.journal) image)
     → B up.bytes → IsBehind disk_says node c up → (now : List (List ℕ)) → T now → IsEarlier up.texts now → GoesOnBehind disk_says node node c up T B
-unmoved_goes disk_says node c up T B only bytes b now told more =
-    goes_later disk_says c up now more node node T B told (at_first disk_says node c (told_now disk_says c up now more) B only bytes (behind_later disk_says c up now more node b))
+unmoved_goes disk_says node c up T B bytes b now told more =
+    goes_later disk_says c up now more node node T B told (at_first disk_says node c (told_now disk_says c up now more) B bytes (behind_later disk_says c up now more node b))
 
 -- ---- another link, of the same generation, before
 

@@ -26,7 +26,7 @@ use Rattle.replica_pull.specs.Replica.{beginning}
 use Rattle.replica_pull.proofs.Counted.{empty_no_group}
 use Rattle.replica_chain.specs.Chronicle.{Chronicle, changes_of, generations_of, rows_made, texts_of, with_beginning}
 use Rattle.replica_chain.specs.Ends.{KeepsScanned}
-use Rattle.replica_chain.specs.Masters.{HasSomeOf, IsBehind, Upstream}
+use Rattle.replica_chain.specs.Masters.{HaveSomeOf, IsBehind, Upstream}
 use Rattle.replica_chain.specs.Node.{HasContentsOf, HasFrontTo, IsNode, IsSettled, reach_of}
 use Rattle.replica_chain.specs.Pulling.{HasPassed, IsWhereItWas}
 use Rattle.replica_chain.specs.declared.node.Node.{Node}
@@ -34,7 +34,7 @@ use Rattle.recovery.proofs.OneGroup.{all-push}
 use Rattle.replica_chain.proofs.Grouping.{settled_contents}
 use Rattle.replica_chain.proofs.Growing.{changes_begun, rows_begun, texts_are}
 use Rattle.replica_chain.proofs.Nodes.{no_doubt, none_pending, same_node}
-use Rattle.replica_chain.proofs.Steps.{all_earlier, its_generation, some_doubted}
+use Rattle.replica_chain.proofs.Steps.{all_earlier, its_generation, some_behind}
 
 -- the counter's change has a text
 pub beginning_text : (generation : ℕ) → generation ≤ 4095 → AreRecords (beginning generation ∷ [])
@@ -152,10 +152,13 @@ module _ {D : Type 0} (disk_says : DiskSays D) (old new : Node D) (c : Chronicle
       subst (λ (l : List Record). HasFrontTo (disk_says.may_leave (archive_disk_of new.archive)) (max (used_of new.archive) (spots_end l)) up.bytes)
       (sym (ap (λ (rows : AllRows). rows Rev) (rows_begun c))) its_front
 
-  -- every image since has some of the changes upstream
+  -- each pair of images has some of the changes upstream, with the beginning or without it
   pub passed_moment : (text : List ℕ) → IsEarlier (texts_of (with_beginning c)) up.texts → HasAllRows (with_generation n.was text) (rows_made (with_beginning c))
-      → (image : Files) → HasEither n.was (with_generation n.was text) image → HasSomeOf c up.texts image
-  passed_moment text next has = some_doubted disk_says old c n up.texts (opening text) (with_beginning c) refl has next
+      → (journal : Files) → HasEither n.was (with_generation n.was text) journal → (archive : Files) → disk_says.may_leave (archive_disk_of old.archive) archive → HaveSomeOf c up journal archive
+  passed_moment text next has =
+      let ends = n.contents.ends in
+      let revisions = ap (λ (rows : AllRows). spots_end (rows Rev)) (rows_begun c) in
+      some_behind disk_says old c up b (opening text) (with_beginning c) refl has next (omega (arith, ends, revisions))
 
   module _ (older : (before : List (List (List ℕ))) → KeepsOlder disk_says old.link.journal before → KeepsOlder disk_says new.link.journal before) (scanned : KeepsScanned disk_says old.link new.link) (where_is : IsWhereItWas old new) (rest : new.rest ≡ old.rest) where
     its_rest : Has (text_of up.texts (length c.closed)) (record { at = new.at; length = length new.rest }) new.rest

@@ -84,11 +84,22 @@ module _ {D : Type 0} (disk_says : DiskSays D) (old : Node D) (c : Chronicle) (u
   abbrev n : IsNode disk_says old c
   n = b.is_node
 
-  used_front : HasFrontTo (disk_says.may_leave (archive_disk_of old.archive)) (used_of old.archive) up.bytes
+  pub used_front : HasFrontTo (disk_says.may_leave (archive_disk_of old.archive)) (used_of old.archive) up.bytes
   used_front = shorter (disk_says.may_leave (archive_disk_of old.archive)) (reach_of old.archive (rows_made n.pending)) (used_of old.archive) up.bytes (omega arith) b.front
 
   abbrev pub now_with : List ℕ → Upstream
   now_with bytes = record { texts = up.texts; bytes = bytes }
+
+  -- the spots of the rows that a group more makes end no further
+  pub ends_after : (changes : List Change) → spots_end (rows_made (with_changes c changes) Rev) ≤ max (used_of old.archive) (named_ends changes)
+  ends_after changes =
+      subst (λ (rows : AllRows). spots_end (rows Rev) ≤ max (used_of old.archive) (named_ends changes)) (sym (rows_push c changes))
+      (ends_changed (rows_made c) changes (max (used_of old.archive) (named_ends changes)) (let ends = n.contents.ends in omega (arith, ends)) (omega arith))
+
+  -- the bytes that were told when its contents were brought, which have grown
+  pub bytes_now : (told_before told_now : List ℕ → Type 0) (archive : Archive D) (changes : List Change) → AreBrought disk_says told_before told_now old.archive archive changes → told_before up.bytes
+      → (now : List ℕ) × (told_now now × (IsFront up.bytes now × HasFrontTo (disk_says.may_leave (archive_disk_of archive)) (max (used_of old.archive) (named_ends changes)) now))
+  bytes_now told_before told_now archive changes brought told = brought.copied.told up.bytes told used_front
 
   module _ (new : Node D) (keeps : KeepsUsed disk_says old.archive new.archive) (older : (before : List (List (List ℕ))) → KeepsOlder disk_says old.link.journal before → KeepsOlder disk_says new.link.journal before)
       (scanned : KeepsScanned disk_says old.link new.link) (where_is : IsWhereItWas old new) (rest : new.rest ≡ old.rest) where
@@ -116,16 +127,8 @@ module _ {D : Type 0} (disk_says : DiskSays D) (old : Node D) (c : Chronicle) (u
     module _ (image : (files : Files) → disk_says.seen (archive_disk_of new.archive) files → disk_says.may_leave (archive_disk_of new.archive) files) (told_before told_now : List ℕ → Type 0)
         (changes : List Change) (is_group : IsGroup changes) (fit : AllFitIn (rows_of old.tables) changes) (brought : AreBrought disk_says told_before told_now old.archive new.archive changes)
         (told : told_before up.bytes) (next : IsEarlier (texts_of (with_changes c changes)) up.texts) where
-      pub bytes_now : (now : List ℕ) × (told_now now × (IsFront up.bytes now × HasFrontTo (disk_says.may_leave (archive_disk_of new.archive)) (max (used_of old.archive) (named_ends changes)) now))
-      bytes_now = brought.copied.told up.bytes told used_front
-
-      ends_after : spots_end (rows_made (with_changes c changes) Rev) ≤ max (used_of old.archive) (named_ends changes)
-      ends_after =
-          subst (λ (rows : AllRows). spots_end (rows Rev) ≤ max (used_of old.archive) (named_ends changes)) (sym (rows_push c changes))
-          (ends_changed (rows_made c) changes (max (used_of old.archive) (named_ends changes)) (let ends = n.contents.ends in omega (arith, ends)) (omega arith))
-
       -- the group is in doubt
-      pub doubted_behind : Stands disk_says new.link.journal n.was (group (group_text (length n.was.groups + 1) changes)) → IsBehind disk_says new c (now_with bytes_now.0)
+      pub doubted_behind : Stands disk_says new.link.journal n.was (group (group_text (length n.was.groups + 1) changes)) → IsBehind disk_says new c (now_with (bytes_now told_before told_now new.archive changes brought told).0)
       unfolding doubted_node same_node
       doubted_behind stands = record {
         is_node = doubted_node disk_says old c n settled new keeps older image told_before told_now changes is_group fit brought where_is scanned stands;
@@ -133,8 +136,9 @@ module _ {D : Type 0} (disk_says : DiskSays D) (old : Node D) (c : Chronicle) (u
         rest = same_rest;
         no_group = same_none;
         front =
-            shorter (disk_says.may_leave (archive_disk_of new.archive)) (max (used_of old.archive) (named_ends changes)) (reach_of new.archive (rows_made (with_changes c changes))) bytes_now.0
-            (let ends = ends_after in let same = keeps.used in omega (arith, ends, same)) bytes_now.1.1.1;
+            (let now = bytes_now told_before told_now new.archive changes brought told in
+            shorter (disk_says.may_leave (archive_disk_of new.archive)) (max (used_of old.archive) (named_ends changes)) (reach_of new.archive (rows_made (with_changes c changes))) now.0
+            (let same = keeps.used in omega (arith, ends_after changes, same)) now.1.1.1);
       }
 
   -- the group was committed
@@ -142,18 +146,10 @@ module _ {D : Type 0} (disk_says : DiskSays D) (old : Node D) (c : Chronicle) (u
       (image : (files : Files) → disk_says.seen (archive_disk_of new.archive) files → disk_says.may_leave (archive_disk_of new.archive) files) (told_before told_now : List ℕ → Type 0)
       (changes : List Change) (is_group : IsGroup changes) (brought : AreBrought disk_says told_before told_now old.archive new.archive changes)
       (told : told_before up.bytes) (next : IsEarlier (texts_of (with_changes c changes)) up.texts) where
-    pub taken_now : (now : List ℕ) × (told_now now × (IsFront up.bytes now × HasFrontTo (disk_says.may_leave (archive_disk_of new.archive)) (max (used_of old.archive) (named_ends changes)) now))
-    taken_now = brought.copied.told up.bytes told used_front
-
-    taken_ends : spots_end (rows_made (with_changes c changes) Rev) ≤ max (used_of old.archive) (named_ends changes)
-    taken_ends =
-        subst (λ (rows : AllRows). spots_end (rows Rev) ≤ max (used_of old.archive) (named_ends changes)) (sym (rows_push c changes))
-        (ends_changed (rows_made c) changes (max (used_of old.archive) (named_ends changes)) (let ends = n.contents.ends in omega (arith, ends)) (omega arith))
-
     pub taken_behind : (end : ℕ) → HasTakenGroup old kept changes end → end ≡ old.at + (5 + length (group_text old.number changes))
         → Stands disk_says kept.link.journal (with_group n.was (group_text (length n.was.groups + 1) changes)) nothing → KeepsOlder disk_says kept.link.journal (map (group_texts 1) c.closed)
         → KeepsScanned disk_says old.link kept.link → archive_disk_of kept.archive ≡ archive_disk_of new.archive → used_of kept.archive ≡ max (used_of old.archive) (named_ends changes)
-        → Has (text_of up.texts (length c.closed)) (record { at = kept.at; length = length kept.rest }) kept.rest → HasNoGroup kept.number kept.rest → IsBehind disk_says kept (with_changes c changes) (now_with taken_now.0)
+        → Has (text_of up.texts (length c.closed)) (record { at = kept.at; length = length kept.rest }) kept.rest → HasNoGroup kept.number kept.rest → IsBehind disk_says kept (with_changes c changes) (now_with (bytes_now told_before told_now new.archive changes brought told).0)
     unfolding taken_node grown_node
     taken_behind end taken end_is stands keeps_older scanned same used rest none = record {
       is_node = taken_node disk_says old c n settled new keeps older image told_before told_now changes is_group taken.fit brought kept end taken end_is stands keeps_older scanned same used;
@@ -161,7 +157,8 @@ module _ {D : Type 0} (disk_says : DiskSays D) (old : Node D) (c : Chronicle) (u
       rest = rest;
       no_group = none;
       front =
-          subst (λ (disk : D). HasFrontTo (disk_says.may_leave disk) (reach_of kept.archive (rows_made (with_changes c changes))) taken_now.0) (sym same)
-          (shorter (disk_says.may_leave (archive_disk_of new.archive)) (max (used_of old.archive) (named_ends changes)) (reach_of kept.archive (rows_made (with_changes c changes))) taken_now.0
-          (let ends = taken_ends in omega (arith, ends, used)) taken_now.1.1.1);
+          (let now = bytes_now told_before told_now new.archive changes brought told in
+          subst (λ (disk : D). HasFrontTo (disk_says.may_leave disk) (reach_of kept.archive (rows_made (with_changes c changes))) now.0) (sym same)
+          (shorter (disk_says.may_leave (archive_disk_of new.archive)) (max (used_of old.archive) (named_ends changes)) (reach_of kept.archive (rows_made (with_changes c changes))) now.0
+          (omega (arith, ends_after changes, used)) now.1.1.1));
     }

@@ -12,6 +12,7 @@ pub mod Grouping
 pub mod Growing
 pub mod Kept
 pub mod Looked
+pub mod Moments
 pub mod Named
 pub mod Nodes
 pub mod Opened

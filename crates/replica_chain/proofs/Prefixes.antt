@@ -1,6 +1,6 @@
 -- Nodes behind nodes, and nodes behind a master, which open to the depots after the first of its changes.
-use Rattle.std.proofs.Common.{◌≡◌, inl, inr, ℕ, suc, ◌+◌, ◌^◌, ◌≤◌, ◌<◌, List, [], ◌∷◌, ◌++◌, length, take, drop, refl, sym, ap, subst, ◌∙◌, append_assoc, arith, length-append}
-use Rattle.std.specs.Prelude.{codes, map}
+use Rattle.std.proofs.Common.{◌≡◌, ℕ, suc, ◌+◌, ◌^◌, ◌≤◌, ◌<◌, List, [], ◌∷◌, ◌++◌, length, take, drop, refl, sym, ap, subst, ◌∙◌, append_assoc, arith, length-append}
+use Rattle.std.specs.Prelude.{codes, map, min}
 use Rattle.std.specs.List.{AllByRecursion}
 use Rattle.std.proofs.Math.Seq.{take-append_seam}
 use Rattle.std.proofs.lemmas.List.{append-nil, take-append-drop, length-map}
@@ -19,8 +19,8 @@ use Rattle.depot_rows.specs.depot_model.Records.{record_of}
 use Rattle.depot_rows.specs.depot_model.Rules.{value_of}
 use Rattle.depot_rows.specs.Standing.{Stand}
 use Rattle.depot_rows.specs.table_changes.Changed.{AllRows, changed_by, no_rows}
-use Rattle.disk_journal.specs.Images.{Committed, HasCommitted, with_generation, with_group}
-use Rattle.disk_journal.specs.Stands.{Doubtful, nothing, group, opening, HasWithOrWithout}
+use Rattle.disk_journal.specs.Images.{Committed, HasCommitted}
+use Rattle.disk_journal.specs.Stands.{Doubtful, nothing, group, opening}
 use Rattle.journal_groups.specs.Groups.{IsGroup, groups_text}
 use Rattle.recovery.specs.Holding.{HasAllRows, joined, spots_end}
 use Rattle.recovery.specs.Rules.{DeletesAreUnplaced}
@@ -28,17 +28,20 @@ use Rattle.recovery.specs.Standing.{HasContent, HasContents, StandFor}
 use Rattle.replica_pull.specs.Prefix.{begun, changes_from, first_rows}
 use Rattle.replica_pull.specs.Replica.{beginning}
 use Rattle.replica_pull.proofs.Firsts.{begins}
-use Rattle.replica_chain.specs.Chronicle.{Chronicle, changes_of, generations_of, rows_made, texts_of, with_beginning, with_changes}
+use Rattle.replica_chain.specs.Chronicle.{Chronicle, changes_of, generations_of, rows_made, texts_of}
 use Rattle.replica_chain.specs.Ends.{HasTexts}
-use Rattle.replica_chain.specs.Masters.{IsBehind, IsDepotThen, IsMaster, OpensToAPrefix, StandsAfter, Upstream}
-use Rattle.replica_chain.specs.Node.{HasFrontTo, IsPending, reach_of, with_doubt}
+use Rattle.replica_chain.specs.Masters.{HaveSomeOf, IsBehind, IsDepotThen, IsMaster, OpensToAPrefix, StandsAfter, Upstream}
+use Rattle.replica_chain.specs.Moments.{LeavePairs}
+use Rattle.replica_chain.specs.Node.{HasFrontTo, IsPending, reach_of}
 use Rattle.replica_chain.specs.declared.node.Node.{Node}
+use Rattle.replica_chain.specs.declared.node.Pair.{Pair}
 use Rattle.replica_chain.proofs.Chains.{at_spot, earlier_on, front_on, shorter}
 use Rattle.replica_chain.proofs.Following.{front_of, has_later}
 use Rattle.recovery.proofs.GoodSpots.{row_end}
 use Rattle.recovery.proofs.OneGroup.{all-push}
-use Rattle.replica_chain.proofs.Growing.{changes_begun, changes_push, groups_push}
-use Rattle.replica_chain.proofs.Steps.{all_earlier, its_generation}
+use Rattle.replica_chain.proofs.Growing.{changes_begun, changes_push, earlier_self, groups_push}
+use Rattle.replica_chain.proofs.Moments.{weaker_pairs}
+use Rattle.replica_chain.proofs.Steps.{all_earlier, some_pending}
 use Rattle.replica_chain.proofs.Told.{told_texts}
 
 -- ---- changes at the front of others
@@ -89,6 +92,22 @@ earlier_changes c later are both e =
     first_changes 0 c.closed c.newest (generations_of later) (length (groups_text 1 c.newest)) are both f.closed f.newest
     (let there = f.there in omega (arith, there, length-map (generations_of later) (groups_text 1), length-append later.closed (later.newest ∷ [])))
 
+-- ---- what is in doubt
+
+-- what is in doubt is at most one change more
+one_more : (c : Chronicle) (doubt : Doubtful) (pending : Chronicle) → IsPending c doubt pending → length (changes_of pending) ≤ length (changes_of c) + 1
+one_more c nothing pending is = omega (arith, ap (λ (p : Chronicle). length (changes_of p)) is)
+one_more c (group text) pending of = omega (arith, ap (λ (p : Chronicle). length (changes_of p)) of.3, ap length (changes_push c of.0), length-append (changes_of c) (of.0 ∷ []))
+one_more c (opening checkpoint) pending is =
+    omega (arith, ap (λ (p : Chronicle). length (changes_of p)) is, ap length (changes_begun c), length-append (changes_of c) ((beginning (1 + length c.closed) ∷ []) ∷ []))
+
+-- and it is whole groups
+pending_groups : (c : Chronicle) (doubt : Doubtful) (pending : Chronicle) → IsPending c doubt pending → AllByRecursion (AllByRecursion IsGroup) (generations_of c) → AllByRecursion (AllByRecursion IsGroup) (generations_of pending)
+pending_groups c nothing pending is are = subst (λ (p : Chronicle). AllByRecursion (AllByRecursion IsGroup) (generations_of p)) (sym is) are
+pending_groups c (group text) pending of are = subst (λ (p : Chronicle). AllByRecursion (AllByRecursion IsGroup) (generations_of p)) (sym of.3) (groups_push c of.0 are of.1)
+pending_groups c (opening checkpoint) pending is are =
+    subst (λ (p : Chronicle). AllByRecursion (AllByRecursion IsGroup) (generations_of p)) (sym is) (all-push (AllByRecursion IsGroup) (generations_of c) [] are tt)
+
 -- ---- depots after the first changes
 
 -- Files that have these changes, and the first of the bytes as far as the spots of the rows, stand for the depot.
@@ -137,53 +156,41 @@ module _ (theirs : Chronicle) (bytes : List ℕ) (after : ℕ → List Deed) (ma
         let n = length (changes_of c) in
         files_stand (generations_of theirs) bytes n (after n) (master.each n few) c rows_are (master.generation c earlier)
 
-  module _ {D : Type 0} (disk_says : DiskSays D) (node : Node D) (mine : Chronicle) (b : IsBehind disk_says node mine (record { texts = texts_of theirs; bytes = bytes })) where
-    module _ (journal archive : Files) (front : Has (archive 0) (record { at = 0; length = reach_of node.archive (rows_made (b.is_node.pending)) }) (take (reach_of node.archive (rows_made (b.is_node.pending))) bytes)) where
-      after_then : (c : Chronicle) (was : Committed) → AllByRecursion (AllByRecursion IsGroup) (generations_of c) → IsEarlier (texts_of c) (texts_of theirs) → length (changes_of mine) ≤ length (changes_of c) → length (changes_of c) ≤ length (changes_of mine) + 1
-          → HasCommitted was journal → HasAllRows was (rows_made c) → was.generation ≡ length c.closed → spots_end (rows_made c Rev) ≤ reach_of node.archive (rows_made (b.is_node.pending))
-          → StandsAfter after (length (changes_of theirs)) (length (changes_of mine)) journal archive
-      after_then c was are earlier fewer more committed has generation ends = record {
+  -- a pair of images that has some of its changes stands for the depot after so many, no more than those of a chronicle that has all of these
+  pairs_stand : (mine last : Chronicle) → AllByRecursion (AllByRecursion IsGroup) (generations_of mine) → AllByRecursion (AllByRecursion IsGroup) (generations_of last) → IsEarlier (texts_of last) (texts_of theirs) → (journal archive : Files)
+      → HaveSomeOf mine (record { texts = texts_of last; bytes = bytes }) journal archive → StandsAfter after (length (changes_of mine)) (min (length (changes_of last)) (length (changes_of theirs))) journal archive
+  pairs_stand mine last are last_are earlier journal archive some =
+      let has = some.has in
+      let c = some.then in
+      let upstream = earlier_on (texts_of c) (texts_of last) (texts_of theirs) some.earlier earlier in
+      let fewer = earlier_changes mine c are has.are_groups some.no_fewer in
+      let more = earlier_changes c last has.are_groups last_are some.earlier in
+      record {
         changes = length (changes_of c);
-        no_fewer = fewer;
-        one_more = more;
-        no_more = few c are earlier;
-        stands = stands_then c are earlier was journal archive (reach_of node.archive (rows_made (b.is_node.pending))) committed has generation front b.front.within ends;
+        no_fewer = omega (arith, ap length fewer.1, length-append (changes_of mine) fewer.0);
+        no_more = omega (arith, ap length more.1, length-append (changes_of c) more.0, few c has.are_groups upstream);
+        stands = stands_then c has.are_groups upstream has.was journal archive (spots_end (rows_made c Rev)) has.committed has.rows has.generation some.front some.within (omega arith);
       }
 
-      -- what is committed alone
-      without : HasCommitted (b.is_node.was) journal → StandsAfter after (length (changes_of theirs)) (length (changes_of mine)) journal archive
-      without committed =
-          let m = b.is_node in
-          after_then mine m.was m.are_groups (all_earlier disk_says node mine (record { texts = texts_of theirs; bytes = bytes }) b) (omega arith) (omega arith) committed m.has (its_generation disk_says node mine m)
-          (let ends = m.contents.ends in omega (arith, ends))
+  -- so it does at every moment
+  pub pairs_open : {D : Type 0} (disk_says : DiskSays D) (mine : Chronicle) → AllByRecursion (AllByRecursion IsGroup) (generations_of mine) → (old new : Pair D)
+      → LeavePairs disk_says (HaveSomeOf mine (record { texts = texts_of theirs; bytes = bytes })) old new → LeavePairs disk_says (StandsAfter after (length (changes_of mine)) (length (changes_of theirs))) old new
+  pairs_open disk_says mine are old new pairs =
+      weaker_pairs disk_says (HaveSomeOf mine (record { texts = texts_of theirs; bytes = bytes })) (StandsAfter after (length (changes_of mine)) (length (changes_of theirs)))
+      (λ journal archive some.
+      let s = pairs_stand mine theirs are master.are_groups (earlier_self theirs) journal archive some in
+      let no_more = s.no_more in
+      record { changes = s.changes; no_fewer = s.no_fewer; no_more = omega (arith, no_more); stands = s.stands }) old new pairs
 
-      -- and with what is in doubt
-      with_it : (c : Chronicle) (was : Committed) → b.is_node.pending ≡ c → AllByRecursion (AllByRecursion IsGroup) (generations_of c) → length (changes_of mine) ≤ length (changes_of c) → length (changes_of c) ≤ length (changes_of mine) + 1
-          → HasCommitted was journal → HasAllRows was (rows_made (b.is_node.pending)) → was.generation ≡ length c.closed → StandsAfter after (length (changes_of theirs)) (length (changes_of mine)) journal archive
-      with_it c was is are fewer more committed has generation =
-          after_then c was are (subst (λ (p : Chronicle). IsEarlier (texts_of p) (texts_of theirs)) is b.earlier) fewer more committed (subst (λ (p : Chronicle). HasAllRows was (rows_made p)) is has) generation
-          (let same = ap (λ (p : Chronicle). spots_end (rows_made p Rev)) is in omega (arith, same))
-
-      stands_doubted : (doubt : Doubtful) → IsPending mine doubt (b.is_node.pending) → HasAllRows (with_doubt (b.is_node.was) doubt) (rows_made (b.is_node.pending)) → HasWithOrWithout (b.is_node.was) doubt journal
-          → StandsAfter after (length (changes_of theirs)) (length (changes_of mine)) journal archive
-      stands_doubted nothing is has image = without image
-      stands_doubted (group text) of has (inl image) = without image
-      stands_doubted (group text) of has (inr image) =
-          let m = b.is_node in
-          with_it (with_changes mine of.0) (with_group m.was text) of.3 (groups_push mine of.0 m.are_groups of.1)
-          (omega (arith, ap length (changes_push mine of.0), length-append (changes_of mine) (of.0 ∷ []))) (omega (arith, ap length (changes_push mine of.0), length-append (changes_of mine) (of.0 ∷ []))) image has (its_generation disk_says node mine m)
-      stands_doubted (opening checkpoint) is has (inl image) = without image
-      stands_doubted (opening checkpoint) is has (inr image) =
-          let m = b.is_node in
-          with_it (with_beginning mine) (with_generation m.was checkpoint) is (all-push (AllByRecursion IsGroup) (generations_of mine) [] m.are_groups tt)
-          (omega (arith, ap length (changes_begun mine), length-append (changes_of mine) ((beginning (1 + length mine.closed) ∷ []) ∷ []))) (omega (arith, ap length (changes_begun mine), length-append (changes_of mine) ((beginning (1 + length mine.closed) ∷ []) ∷ []))) image has
-          (omega (arith, its_generation disk_says node mine m, length-append mine.closed (mine.newest ∷ [])))
-
-    -- each pair of images stands for such a depot
-    pub opens : OpensToAPrefix disk_says node after (length (changes_of theirs)) (length (changes_of mine))
-    opens journal archive left there =
-        let m = b.is_node in
-        stands_doubted journal archive (b.front.has archive there) m.doubt m.is_pending m.pending_has (m.stands.holds journal left)
+  -- each pair of images of a node behind it stands for such a depot
+  pub opens : {D : Type 0} (disk_says : DiskSays D) (node : Node D) (mine : Chronicle) → IsBehind disk_says node mine (record { texts = texts_of theirs; bytes = bytes })
+      → OpensToAPrefix disk_says node after (length (changes_of theirs)) (length (changes_of mine))
+  opens disk_says node mine b journal archive left there =
+      let m = b.is_node in
+      let some = some_pending disk_says node mine (record { texts = texts_of theirs; bytes = bytes }) b journal archive left there in
+      let s = pairs_stand mine m.pending m.are_groups (pending_groups mine m.doubt m.pending m.is_pending m.are_groups) b.earlier journal archive some in
+      let no_more = s.no_more in
+      record { changes = s.changes; no_fewer = s.no_fewer; no_more = omega (arith, no_more, one_more mine m.doubt m.pending m.is_pending); stands = s.stands }
 
 -- ---- nodes behind nodes
 

@@ -1,7 +1,7 @@
 -- Nodes that others followed: they tell what they told.
-use Rattle.std.proofs.Common.{◌≡◌, ℕ, ◌^◌, ◌<◌, List, length, take, refl, sym, ap, subst, ◌∙◌, arith}
+use Rattle.std.proofs.Common.{◌≡◌, inl, inr, ℕ, ◌^◌, ◌<◌, List, length, take, refl, sym, ap, subst, ◌∙◌, arith}
 use Rattle.outside_api.specs.Disk.{Files}
-use Rattle.outside_api.specs.Moments.{LeavesOnly, started, then, weaker}
+use Rattle.outside_api.specs.Moments.{started, then, weaker}
 use Rattle.outside_api.specs.Reaching.{Reaches, holds, once, stays, then as reach}
 use Rattle.outside_api.specs.Says.{DiskSays}
 use Rattle.archive_file.specs.Archive.{disk_of as archive_disk_of, used_of}
@@ -13,15 +13,17 @@ use Rattle.recovery.specs.Texts.{HasTexts}
 use Rattle.replica_chain.specs.Chronicle.{Chronicle, texts_of}
 use Rattle.replica_chain.specs.Copying.{KeepsContents}
 use Rattle.replica_chain.specs.Ends.{IsLinkLooked, TellsTexts}
-use Rattle.replica_chain.specs.Masters.{GoesOnBehind, GoesOnBehindNode, HasSomeOf, IsBehind, StaysBehind, TellsGroups, Upstream, WasFollowed}
-use Rattle.replica_chain.specs.Node.{IsNode}
+use Rattle.replica_chain.specs.Masters.{GoesOnBehind, GoesOnBehindNode, HaveSomeOf, IsBehind, StaysBehind, TellsGroups, Upstream, WasFollowed}
+use Rattle.replica_chain.specs.Moments.{LeavePairs}
+use Rattle.replica_chain.specs.Node.{IsNode, files_of}
 use Rattle.replica_chain.specs.declared.link.NodeLink.{NodeLink}
 use Rattle.replica_chain.specs.declared.node.Node.{Node}
 use Rattle.replica_chain.proofs.Looked.{looked_behind, looked_node, read_behind, read_node}
 use Rattle.replica_chain.proofs.Chains.{earlier_on}
 use Rattle.replica_chain.proofs.Growing.{earlier_self}
 use Rattle.replica_chain.proofs.Kept.{keeps_first, keeps_on, keeps_read}
-use Rattle.replica_chain.proofs.Steps.{some_more, some_now, some_read}
+use Rattle.replica_chain.proofs.Moments.{weaker_pairs}
+use Rattle.replica_chain.proofs.Steps.{some_more, some_now}
 use Rattle.replica_chain.proofs.Told.{looked_on, node_tells, not_looked, told_texts}
 
 module _ {D : Type 0} (disk_says : DiskSays D) (only_now : (disk : D) (image : Files) → disk_says.left_since disk (disk_says.moment disk) image → disk_says.may_leave disk image) where
@@ -117,7 +119,7 @@ module _ {D : Type 0} (disk_says : DiskSays D) (only_now : (disk : D) (image : F
     now = c;
     no_fewer = earlier_self c;
     behind = b;
-    any_moment = started disk_says (disk_of node.link.journal) (HasSomeOf c up.texts) (λ image left. some_now disk_says node c up b image (only_now (disk_of node.link.journal) image left));
+    any_moment = stays;
   }
 
   pub goes_first : (up node : Node D) → GoesOnBehindNode disk_says up up node node
@@ -130,17 +132,12 @@ module _ {D : Type 0} (disk_says : DiskSays D) (only_now : (disk : D) (image : F
     behind = λ mine theirs bytes n told b.
         let one = first.behind mine theirs bytes n told b in
         let two = second.behind one.now theirs bytes (followed_node up up_mid first.followed theirs n) (followed_told up up_mid first.followed bytes told) one.behind in
-        let texts = texts_of theirs in
-        let start = disk_of old.link.journal in
-        let middle = disk_of mid.link.journal in
-        let last = disk_of new.link.journal in
+        let told_of : Upstream = record { texts = texts_of theirs; bytes = bytes } in
         record {
           now = two.now;
           no_fewer = earlier_on (texts_of mine) (texts_of one.now) (texts_of two.now) one.no_fewer two.no_fewer;
           behind = two.behind;
-          any_moment =
-              then disk_says start middle last (HasSomeOf mine texts) one.any_moment
-              (weaker disk_says middle last (HasSomeOf one.now texts) (HasSomeOf mine texts) (λ image some. some_more mine one.now texts image one.no_fewer some) two.any_moment);
+          any_moment = reach one.any_moment (weaker_pairs disk_says (HaveSomeOf one.now told_of) (HaveSomeOf mine told_of) (some_more mine one.now told_of one.no_fewer) (files_of mid) (files_of new) two.any_moment);
         };
   }
 
@@ -156,7 +153,10 @@ module _ {D : Type 0} (disk_says : DiskSays D) (only_now : (disk : D) (image : F
           now = c;
           no_fewer = earlier_self c;
           behind = looked_behind disk_says node mine looked c told_of b;
-          any_moment = some_read disk_says node c told_of b (disk_of mine.journal) looked.journal.reads.any_moment;
+          any_moment = once (inl (
+            refl,
+            weaker disk_says (disk_of node.link.journal) (disk_of mine.journal) (disk_says.may_leave (disk_of node.link.journal)) _ (some_now disk_says node c told_of b) looked.journal.reads.any_moment,
+          ));
         };
   }
 
@@ -172,7 +172,11 @@ module _ {D : Type 0} (disk_says : DiskSays D) (only_now : (disk : D) (image : F
           now = c;
           no_fewer = earlier_self c;
           behind = read_behind disk_says node archive reads used c told_of b;
-          any_moment = (stays_first node c told_of b).any_moment;
+          any_moment = once (inr (
+            refl,
+            weaker disk_says (archive_disk_of node.archive) (archive_disk_of archive) (disk_says.may_leave (archive_disk_of node.archive)) _
+                (λ image there journal left. some_now disk_says node c told_of b journal left image there) reads.any_moment,
+          ));
         };
   }
 
@@ -205,5 +209,5 @@ module _ {D : Type 0} (disk_says : DiskSays D) (only_now : (disk : D) (image : F
               now = goes.now;
               no_fewer = goes.no_fewer;
               behind = subst (IsBehind disk_says new goes.now) same goes.behind;
-              any_moment = subst (λ (told : Upstream). LeavesOnly disk_says (disk_of old.link.journal) (disk_of new.link.journal) (HasSomeOf mine told.texts)) same goes.any_moment;
+              any_moment = subst (λ (told : Upstream). LeavePairs disk_says (HaveSomeOf mine told) (files_of old) (files_of new)) same goes.any_moment;
             }

@@ -85,6 +85,7 @@ module _ {D : Type 0} (disk_says : DiskSays D) where
     no_fewer = step.no_fewer;
     later = step.later;
     grown = step.grown;
+    more = step.more;
     texts_told = step.texts_told;
     bytes_told = step.bytes_told;
     behind = step.behind;
@@ -100,6 +101,7 @@ module _ {D : Type 0} (disk_says : DiskSays D) where
     no_fewer = step.no_fewer;
     later = step.later;
     grown = step.grown;
+    more = step.more;
     texts_told = step.texts_told;
     bytes_told = step.bytes_told;
     behind = rested_behind new step.now step.later rest step.behind has none;
@@ -113,6 +115,7 @@ module _ {D : Type 0} (disk_says : DiskSays D) where
     no_fewer = step.no_fewer;
     later = step.later;
     grown = step.grown;
+    more = step.more;
     texts_told = step.texts_told;
     bytes_told = step.bytes_told;
     behind = emptied_behind new rest is step.now step.later step.behind;

@@ -1,9 +1,10 @@
 -- A group that a node tries to take: where the node is then, whether it can follow, and what is behind what.
-use Rattle.std.proofs.Common.{◌≡◌, ◌⊎◌, inl, inr, ℕ, ◌+◌, ◌-◌, ◌<◌, ◌^◌, max, List, [], ◌++◌, length, refl, sym, ap, subst, ◌∙◌, arith}
+use Rattle.std.proofs.Common.{◌≡◌, ◌⊎◌, inl, inr, ℕ, ◌+◌, ◌-◌, ◌<◌, ◌^◌, max, List, [], ◌++◌, length, take, refl, sym, ap, subst, ◌∙◌, arith}
 use Rattle.std.specs.Prelude.{map}
 use Rattle.outside_api.specs.Disk.{Files}
 use Rattle.outside_api.specs.Link.{IsEarlier, text_of}
 use Rattle.outside_api.specs.Moments.{LeavesOnly, weaker}
+use Rattle.outside_api.specs.Reaching.{once, then}
 use Rattle.outside_api.specs.Says.{DiskSays}
 use Rattle.archive_file.specs.Archive.{AllHave, Has, disk_of as archive_disk_of, used_of}
 use Rattle.archive_file.specs.Contents.{IsFront}
@@ -11,27 +12,31 @@ use Rattle.archive_file.specs.declared.archive.Archive.{Archive}
 use Rattle.depot_rows.specs.db_records.declared.change.Change.{Change}
 use Rattle.depot_rows.specs.table_changes.Changed.{AllFitIn, changed_by, rows_of}
 use Rattle.depot_rows.specs.table_store.declared.tables.Tables.{Tables}
-use Rattle.disk_journal.specs.Images.{Committed, HasEither, with_group}
+use Rattle.disk_journal.specs.Images.{Committed, HasCommitted, HasEither, with_group}
 use Rattle.disk_journal.specs.Keeping.{KeepsOlder}
 use Rattle.disk_journal.specs.Stands.{Doubtful, nothing, group, IsStill, Stands, disk_of, generation_of_journal}
 use Rattle.disk_journal.specs.declared.journal.Journal.{Journal}
 use Rattle.journal_groups.specs.Groups.{IsGroup, group_text, mark, open_byte}
-use Rattle.recovery.specs.Holding.{group_texts}
+use Rattle.recovery.specs.Holding.{HasAllRows, group_texts}
 use Rattle.replica_pull.specs.Prefix.{HasNoGroup}
 use Rattle.replica_pull.proofs.Counted.{empty_no_group}
-use Rattle.replica_chain.specs.Chronicle.{Chronicle, texts_of, with_changes}
+use Rattle.replica_chain.specs.Chronicle.{Chronicle, rows_made, texts_of, with_changes}
 use Rattle.replica_chain.specs.Copying.{AreBrought, KeepsUsed, named_ends}
 use Rattle.replica_chain.specs.Ends.{KeepsScanned}
-use Rattle.replica_chain.specs.Masters.{GoesOnBehind, HasNoFewer, HasSomeOf, IsBehind, Upstream}
-use Rattle.replica_chain.specs.Node.{AllReach, CanFollow, IsNode, IsSettled}
+use Rattle.replica_chain.specs.Masters.{GoesOnBehind, HasNoFewer, HaveSomeOf, IsBehind, Upstream}
+use Rattle.replica_chain.specs.Moments.{LeavePairs}
+use Rattle.replica_chain.specs.Node.{AllReach, CanFollow, HasFrontTo, IsNode, IsSettled, files_of}
 use Rattle.replica_chain.specs.Pulling.{HasTakenGroup, IsWhereItWas}
 use Rattle.replica_chain.specs.declared.link.NodeLink.{NodeLink}
 use Rattle.replica_chain.specs.declared.node.Node.{Node}
+use Rattle.replica_chain.specs.declared.node.Pair.{Pair}
+use Rattle.replica_chain.proofs.Brought.{kept_front}
+use Rattle.replica_chain.proofs.Chains.{grown}
 use Rattle.replica_chain.proofs.Following.{earlier_with}
-use Rattle.replica_chain.proofs.Grouping.{bytes_now, doubted_behind, doubted_node, still_behind, still_node, taken_behind, taken_node, taken_now}
+use Rattle.replica_chain.proofs.Grouping.{bytes_now, doubted_behind, doubted_node, ends_after, settled_stands, still_behind, still_node, taken_behind, taken_node, used_front}
 use Rattle.replica_chain.proofs.Growing.{earlier_push, earlier_self}
 use Rattle.replica_chain.proofs.Nodes.{next_is, pushed_has}
-use Rattle.replica_chain.proofs.Steps.{all_earlier, some_with_group}
+use Rattle.replica_chain.proofs.Steps.{all_earlier, some_committed, some_with_group}
 
 -- ---- archives
 
@@ -139,6 +144,63 @@ next_stands disk_says old c up b changes end end_is has =
     earlier_with c changes up.texts old.at (end - old.at) (all_earlier disk_says old c up b) n.at size
     (subst (λ (k : ℕ). Has (text_of up.texts (length c.closed)) (record { at = old.at; length = end - old.at }) (mark open_byte ++ group_text k changes)) n.number has)
 
+-- ---- pairs of images
+
+-- contents were brought beside a journal of which nothing is in doubt, and then it was written
+module _ {D : Type 0} (disk_says : DiskSays D) (old new : Node D) (c : Chronicle) (up later : Upstream) (b : IsBehind disk_says old c up) (settled : IsSettled disk_says old) (keeps : KeepsUsed disk_says old.archive new.archive)
+    (more : IsFront up.bytes later.bytes) (same : later.texts ≡ up.texts) where
+  abbrev images : Files → Type 0
+  images = disk_says.may_leave (archive_disk_of new.archive)
+
+  brought_later : HasFrontTo images (used_of old.archive) later.bytes
+  brought_later = grown images (used_of old.archive) up.bytes later.bytes more (kept_front disk_says old.archive new.archive keeps up.bytes (used_front disk_says old c up b settled))
+
+  upstream_later : IsEarlier (texts_of c) later.texts
+  upstream_later = subst (IsEarlier (texts_of c)) (sym same) (all_earlier disk_says old c up b)
+
+  -- while contents are brought each image of the archive keeps what is used
+  pairs_bringing : LeavePairs disk_says (HaveSomeOf c later) (files_of old) (record { journal = disk_of old.link.journal; archive = archive_disk_of new.archive })
+  pairs_bringing =
+      let n = b.is_node in
+      let used = used_of old.archive in
+      let first = grown (disk_says.may_leave (archive_disk_of old.archive)) used up.bytes later.bytes more (used_front disk_says old c up b settled) in
+      once (inr (
+        refl,
+        weaker disk_says (archive_disk_of old.archive) (archive_disk_of new.archive) (λ image. Has (image 0) (record { at = 0; length = used }) (take used later.bytes)) _
+            (λ archive has journal left.
+            some_committed disk_says old c n later (λ image. Has (image 0) (record { at = 0; length = used }) (take used later.bytes)) used (record { within = first.within; has = λ image has. has }) journal archive has upstream_later
+            n.contents.ends ((settled_stands disk_says old c n settled).holds journal left))
+            (keeps.any_moment (record { at = 0; length = used }) (take used later.bytes) (omega arith) first.has),
+      ))
+
+  -- the journal was only looked at
+  pub pairs_still : LeavesOnly disk_says (disk_of old.link.journal) (disk_of new.link.journal) (HasCommitted b.is_node.was) → LeavePairs disk_says (HaveSomeOf c later) (files_of old) (files_of new)
+  pairs_still moments =
+      let n = b.is_node in
+      then pairs_bringing (once (inl (
+        refl,
+        weaker disk_says (disk_of old.link.journal) (disk_of new.link.journal) (HasCommitted n.was) _
+            (λ journal has archive there. some_committed disk_says old c n later images (used_of old.archive) brought_later journal archive there upstream_later n.contents.ends has) moments,
+      )))
+
+  -- the group was written, whose contents are there
+  pub pairs_brought : (changes : List Change) → IsGroup changes → HasFrontTo images (max (used_of old.archive) (named_ends changes)) later.bytes
+      → HasAllRows (with_group b.is_node.was (group_text (length b.is_node.was.groups + 1) changes)) (rows_made (with_changes c changes)) → IsEarlier (texts_of (with_changes c changes)) up.texts
+      → LeavesOnly disk_says (disk_of old.link.journal) (disk_of new.link.journal) (HasEither b.is_node.was (with_group b.is_node.was (group_text (length b.is_node.was.groups + 1) changes)))
+      → LeavePairs disk_says (HaveSomeOf c later) (files_of old) (files_of new)
+  pairs_brought changes is_group front rows next moments =
+      let n = b.is_node in
+      let text = group_text (length n.was.groups + 1) changes in
+      let ends = n.contents.ends in
+      then pairs_bringing (once (inl (
+        refl,
+        weaker disk_says (disk_of old.link.journal) (disk_of new.link.journal) (HasEither n.was (with_group n.was text)) _
+            (λ journal has archive there.
+            some_with_group disk_says old c n later images (max (used_of old.archive) (named_ends changes)) front journal archive there changes text is_group (ap (λ (k : ℕ). group_text k changes) (next_is disk_says old new c n)) rows
+            (subst (IsEarlier (texts_of (with_changes c changes))) (sym same) next) (omega (arith, ends)) (ends_after disk_says old c up b settled changes) has)
+            moments,
+      )))
+
 -- ---- a group that wasn't taken
 
 module _ {D : Type 0} (disk_says : DiskSays D) (old new : Node D) (settled : IsSettled disk_says old) (keeps : KeepsUsed disk_says old.archive new.archive)
@@ -161,37 +223,35 @@ module _ {D : Type 0} (disk_says : DiskSays D) (old new : Node D) (settled : IsS
   module _ (c : Chronicle) (up : Upstream) (b : IsBehind disk_says old c up) (rest : new.rest ≡ old.rest) (told : told_before up.bytes)
       (grows : (before : List ℕ) → told_before before → (now : List ℕ) × (told_now now × IsFront before now)) (next : IsEarlier (texts_of (with_changes c changes)) up.texts)
       (moments : LeavesOnly disk_says (disk_of old.link.journal) (disk_of new.link.journal) (HasEither b.is_node.was (with_group b.is_node.was (group_text (length b.is_node.was.groups + 1) changes)))) where
-    all_some : LeavesOnly disk_says (disk_of old.link.journal) (disk_of new.link.journal) (HasSomeOf c up.texts)
-    all_some =
-        let n = b.is_node in
-        let text = group_text (length n.was.groups + 1) changes in
-        weaker disk_says (disk_of old.link.journal) (disk_of new.link.journal) (HasEither n.was (with_group n.was text)) (HasSomeOf c up.texts)
-        (some_with_group disk_says old c n up.texts changes text (ap (λ (k : ℕ). group_text k changes) (next_is disk_says old new c n)) (pushed_has disk_says old new c n changes is_group fit) next) moments
-
     pub tried_behind : IsUncommitted b.is_node.was → GoesOnBehind disk_says old new c up (λ texts. texts ≡ up.texts) told_now
     tried_behind (inl still) =
         let more = grows up.bytes told in
+        let later : Upstream = record { texts = up.texts; bytes = more.0 } in
         record {
           now = c;
           no_fewer = earlier_self c;
-          later = record { texts = up.texts; bytes = more.0 };
+          later = later;
           grown = inl refl;
+          more = more.1.1;
           texts_told = refl;
           bytes_told = more.1.0;
           behind = still_behind disk_says old c up b settled new keeps older scanned where_is rest more.0 more.1.1 still.stands;
-          any_moment = all_some;
+          any_moment = pairs_still disk_says old new c up later b settled keeps more.1.1 refl still.any_moment;
         }
     tried_behind (inr doubted) =
-        let bytes = bytes_now disk_says old c up b settled new keeps older scanned where_is rest image told_before told_now changes is_group fit doubted.1 told next in
+        let n = b.is_node in
+        let bytes = bytes_now disk_says old c up b settled told_before told_now new.archive changes doubted.1 told in
+        let later : Upstream = record { texts = up.texts; bytes = bytes.0 } in
         record {
           now = c;
           no_fewer = earlier_self c;
-          later = record { texts = up.texts; bytes = bytes.0 };
+          later = later;
           grown = inl refl;
+          more = bytes.1.1.0;
           texts_told = refl;
           bytes_told = bytes.1.0;
           behind = doubted_behind disk_says old c up b settled new keeps older scanned where_is rest image told_before told_now changes is_group fit doubted.1 told next doubted.0;
-          any_moment = all_some;
+          any_moment = pairs_brought disk_says old new c up later b settled keeps bytes.1.1.0 refl changes is_group bytes.1.1.1 (pushed_has disk_says old new c n changes is_group fit) next moments;
         }
 
 -- ---- a group that was taken
@@ -226,22 +286,25 @@ module _ {D : Type 0} (disk_says : DiskSays D) (old new kept : Node D) (settled 
   committed_behind c up b told next stands moments has =
       let n = b.is_node in
       let text = group_text (length n.was.groups + 1) changes in
-      let bytes = taken_now disk_says old c up b settled new kept keeps older image told_before told_now changes is_group brought told next in
-      let run = weaker disk_says (disk_of old.link.journal) (disk_of new.link.journal) (HasEither n.was (with_group n.was text)) (HasSomeOf c up.texts)
-      (some_with_group disk_says old c n up.texts changes text (ap (λ (k : ℕ). group_text k changes) (next_is disk_says old new c n)) (pushed_has disk_says old new c n changes is_group taken.fit) next) moments in
+      let bytes = bytes_now disk_says old c up b settled told_before told_now new.archive changes brought told in
+      let later : Upstream = record { texts = up.texts; bytes = bytes.0 } in
+      let files : files_of kept ≡ files_of new = λ i. record { journal = disk_of (link i).journal; archive = same i } in
       let there : Has (text_of up.texts (length c.closed)) (record { at = kept.at; length = length kept.rest }) kept.rest =
       subst (λ (at : ℕ). Has (text_of up.texts (length c.closed)) (record { at = at; length = length kept.rest }) kept.rest) (sym taken.at)
       (subst (λ (l : List ℕ). Has (text_of up.texts (length c.closed)) (record { at = end; length = length l }) l) (sym rest) has) in
       record {
         now = with_changes c changes;
         no_fewer = earlier_push c changes;
-        later = record { texts = up.texts; bytes = bytes.0 };
+        later = later;
         grown = inl refl;
+        more = bytes.1.1.0;
         texts_told = refl;
         bytes_told = bytes.1.0;
         behind = taken_behind disk_says old c up b settled new kept keeps older image told_before told_now changes is_group brought told next end taken end_is
             (committed_stands (with_group n.was text) stands) (committed_older c n) committed_scanned same used there (subst (HasNoGroup kept.number) (sym rest) (empty_no_group kept.number));
-        any_moment = subst (λ (l : NodeLink D). LeavesOnly disk_says (disk_of old.link.journal) (disk_of l.journal) (HasSomeOf c up.texts)) (sym link) run;
+        any_moment =
+            subst (λ (now : Pair D). LeavePairs disk_says (HaveSomeOf c later) (files_of old) now) (sym files)
+            (pairs_brought disk_says old new c up later b settled keeps bytes.1.1.0 refl changes is_group bytes.1.1.1 (pushed_has disk_says old new c n changes is_group taken.fit) next moments);
       }
 
 -- what was taken, by the parts of the node

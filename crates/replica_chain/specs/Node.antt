@@ -11,13 +11,14 @@ use Rattle.depot_rows.specs.db_records.declared.table.TableId.TheVariants.{Rev}
 use Rattle.depot_rows.specs.table_changes.Changed.{AllRows, rows_of}
 use Rattle.disk_journal.specs.Images.{Committed, with_generation, with_group}
 use Rattle.disk_journal.specs.Keeping.{KeepsOlder}
-use Rattle.disk_journal.specs.Stands.{Doubtful, nothing, group, opening, Stands, generation_of_journal}
+use Rattle.disk_journal.specs.Stands.{Doubtful, nothing, group, opening, Stands, disk_of, generation_of_journal}
 use Rattle.journal_groups.specs.Groups.{IsGroup, group_text, groups_text}
 use Rattle.recovery.specs.Contents.{AreWhole}
 use Rattle.recovery.specs.Holding.{HasAllRows, group_texts, spots_end}
 use Rattle.replica_chain.specs.Chronicle.{Chronicle, changes_of, generations_of, rows_made, with_beginning, with_changes}
 use Rattle.replica_chain.specs.Ends.{IsScanned}
 use Rattle.replica_chain.specs.declared.node.Node.{Node}
+use Rattle.replica_chain.specs.declared.node.Pair.{Pair}
 
 -- ---- what is in doubt
 
@@ -58,6 +59,10 @@ pub record HasContentsOf {D : Type 0} (disk_says : DiskSays D) (archive : Archiv
   pub pending_whole : AreWhole bytes (pending Rev)
 
 -- ---- a node
+
+-- its two disks
+abbrev pub files_of : {D : Type 0} → Node D → Pair D
+files_of node = record { journal = disk_of node.link.journal; archive = archive_disk_of node.archive }
 
 -- The node has these changes: each image of its journal's disk has their groups, its rows are those that they make, and its archive has the contents. It counts
 -- the changes, and the bytes of their texts. What is in doubt is none of them, and its contents are there too.

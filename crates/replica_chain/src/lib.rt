@@ -21,8 +21,9 @@ mod verifying;
 pub use apart::Departure;
 pub use fault::NodeFault;
 pub use laws::{
-    nodes_behind_nodes, nodes_have_their_depots, nodes_open_to_prefixes, nodes_opened_are_behind,
-    nodes_stay_while_followed, nodes_tell_their_changes, nodes_that_have_all,
+    nodes_behind_nodes, nodes_have_their_depots, nodes_open_at_every_moment,
+    nodes_open_to_prefixes, nodes_opened_are_behind, nodes_stay_while_followed,
+    nodes_tell_their_changes, nodes_that_have_all,
 };
 pub use link::NodeLink;
 pub use node::{Node, Pair};

@@ -9,10 +9,11 @@ ghost use Rattle.outside_api.specs.Disk.{Files};
 ghost use Rattle.recovery.specs.Contents.{HoldWhole};
 ghost use Rattle.recovery.specs.Damage.{IsDamage};
 ghost use Rattle.recovery.specs.Faults.{Tells};
+ghost use Rattle.recovery.specs.Holding.{Hold};
 ghost use Rattle.recovery.specs.Looking.{AreCauses};
 ghost use Rattle.recovery.specs.Opening.{HasSynced, LooksOnly};
 ghost use Rattle.recovery.specs.declared.fault.OpenFault.TheVariants.{DiskFault};
-ghost use Rattle.depot_rows.specs.table_changes.Changed.{AllRows};
+ghost use Rattle.depot_rows.specs.table_changes.Changed.{AllRows, rows_of};
 ghost use Rattle.replica_chain.specs.Chronicle.{Chronicle};
 ghost use Rattle.replica_chain.specs.Node.{CanFollow, IsNode};
 ghost use Rattle.replica_chain.specs.Opening.{AreWritten, IsDiskFault, IsFresh, IsUnmade, OpensOrSaysNothing, archive_disk, journal_disk};
@@ -86,6 +87,8 @@ impl<D: Disk> Node<D> {
         ensures node { (c : Chronicle) (files contents : Files) → D.says.seen journal files → D.says.seen archive contents → AreWritten c files →
             IfOk result (λ node. IsNode D.says node c) }
         ensures fresh { IfOk result (IsFresh D.says) }
+        // Its rows are those that the files hold.
+        ensures holds { (files : Files) → D.says.seen journal files → IfOk result (λ node. Hold files (rows_of node.tables)) }
         // It is opened as a depot's files are.
         ensures opens { (files contents : Files) (rows : AllRows) → D.says.seen journal files → D.says.seen archive contents → HoldWhole files contents rows → OpensOrSaysNothing result }
         ensures damaged { (files contents : Files) → D.says.seen journal files → D.says.seen archive contents → IfErr result (λ found. Tells (IsDamage files contents) found.fault) }

@@ -1,8 +1,8 @@
 use Rattle.std.proofs.Common.{rules, ◌≡◌, Result, Err, sym, subst}
 use Rattle.std.specs.Result.{IfErr}
+use Rattle.replica_chain.specs.Node.{files_of}
 use Rattle.replica_chain.proofs.Reached.{goes_first, goes_then}
 use Rattle.depot_follow.specs.Following.{HaveStopped}
-use Rattle.depot_follow.specs.Opening.{files_of}
 use Rattle.depot_follow.specs.declared.ended.ChainCause.{ChainCause}
 use Rattle.depot_follow.proofs.Followed.{falls_on, no_fewer_now, no_fewer_on, same_falls, stopped_on}
 use Rattle.depot_follow.proofs.following.pull_all.Goals as goal

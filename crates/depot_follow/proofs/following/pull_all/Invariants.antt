@@ -1,7 +1,7 @@
 use Rattle.replica_chain.specs.Chronicle.{Chronicle}
 use Rattle.replica_chain.specs.Masters.{GoesOnBehindNode, HasNoFewer}
-use Rattle.replica_chain.specs.Node.{CanFollow, IsNode}
-use Rattle.depot_follow.specs.Opening.{NeverFalls, files_of}
+use Rattle.replica_chain.specs.Node.{CanFollow, IsNode, files_of}
+use Rattle.depot_follow.specs.Opening.{NeverFalls}
 use Rattle.depot_follow.proofs.following.pull_all.Given as goal
 
 abbrev pub invariant-loop : goal.invariant-loop

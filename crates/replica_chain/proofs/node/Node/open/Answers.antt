@@ -74,6 +74,9 @@ returns-in-Ok-count_journal-clause-fresh g c =
     let open_now = c.in-Ok.ensures.open in
     opened_fresh says opened open_now.0 open_now.1 journal looked c.in-Ok-count_journal.counts node of c.args.archive c.in-Ok.ensures.archive_synced c.in-Ok.ensures.within
 
+pub returns-in-Ok-count_journal-clause-holds : goal.returns-in-Ok-count_journal-clause-holds
+returns-in-Ok-count_journal-clause-holds g c = λ files sees. rw c.node_of.ensures.parts.2 (c.in-Ok.ensures.held files sees)
+
 pub returns-in-Ok-count_journal-clause-journal_synced : goal.returns-in-Ok-count_journal-clause-journal_synced
 returns-in-Ok-count_journal-clause-journal_synced g c =
     rw c.node_of.ensures.parts.0 (synced_then g.D.Disk.says _ _ _ c.in-Ok.ensures.journal_synced.same c.in-Ok.ensures.journal_synced.durable c.count_journal.ensures.looked.reads)

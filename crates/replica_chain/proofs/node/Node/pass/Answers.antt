@@ -1,7 +1,7 @@
 use Rattle.std.proofs.Common.{◌≡◌, ◌+◌, ◌<◌, ◌≤◌, ℕ, ap, arith, refl}
 use Rattle.std.proofs.lemmas.Bool.Decides.{nat_tests}
 use Rattle.depot_rows.specs.table_changes.Changed.{rows_of}
-use Rattle.disk_journal.specs.Stands.{disk_of, generation_of_journal}
+use Rattle.disk_journal.specs.Stands.{generation_of_journal}
 use Rattle.replica_chain.proofs.Growing.{earlier_self}
 use Rattle.replica_chain.proofs.Begun.{begun_can, begun_fewer, begun_goes, begun_passed, unpassed, unwritten_can, unwritten_fewer, unwritten_goes, unwritten_where}
 use Rattle.replica_chain.proofs.Steps.{at_first}
@@ -22,7 +22,7 @@ returns-then-generation-ge-LAST-clause-node g c = λ chronicle n. record { now =
 pub returns-then-generation-ge-LAST-clause-behind : goal.returns-then-generation-ge-LAST-clause-behind
 returns-then-generation-ge-LAST-clause-behind g c = λ chronicle up b next.
     let node = c.args.self.now in
-    at_first g.D.Disk.says node chronicle up (λ bytes. bytes ≡ up.bytes) (g.met.D.Disk.only_now (disk_of node.link.journal)) refl b
+    at_first g.D.Disk.says node chronicle up (λ bytes. bytes ≡ up.bytes) refl b
 
 pub returns-in_err-tables-clause-node : goal.returns-in_err-tables-clause-node
 returns-in_err-tables-clause-node g c = λ chronicle n. record { now = chronicle; no_fewer = earlier_self chronicle; is_node = n }
@@ -30,7 +30,7 @@ returns-in_err-tables-clause-node g c = λ chronicle n. record { now = chronicle
 pub returns-in_err-tables-clause-behind : goal.returns-in_err-tables-clause-behind
 returns-in_err-tables-clause-behind g c = λ chronicle up b next.
     let node = c.args.self.now in
-    at_first g.D.Disk.says node chronicle up (λ bytes. bytes ≡ up.bytes) (g.met.D.Disk.only_now (disk_of node.link.journal)) refl b
+    at_first g.D.Disk.says node chronicle up (λ bytes. bytes ≡ up.bytes) refl b
 
 -- ---- it was begun
 

@@ -2,7 +2,6 @@ use Rattle.std.proofs.Common.{◌≡◌, ◌⊎◌, inr, ℕ, ◌+◌, ◌≤◌
 use Rattle.outside_api.specs.Link.{Fits}
 use Rattle.outside_api.specs.declared.link.Fetched.{Fetched}
 use Rattle.outside_api.specs.declared.link.Fetched.TheVariants as fetches
-use Rattle.disk_journal.specs.Stands.{disk_of}
 use Rattle.replica_chain.specs.Pulling.{HasStopped, IsFetched, IsUnread}
 use Rattle.replica_chain.proofs.Closing.{begun_earlier}
 use Rattle.replica_chain.proofs.Followed.{behind_later, fetched_stands, goes_later, is_fetched, told_as, told_now, unmoved_goes}
@@ -22,7 +21,7 @@ pub returns-in_err-fetched-clause-behind : goal.returns-in_err-fetched-clause-be
 returns-in_err-fetched-clause-behind g c = λ chronicle up told bytes groups b.
     let node = c.args.self.now in
     let more = c.fetch.ensures.grows up.texts told in
-    unmoved_goes g.D.Disk.says node chronicle up (g.L.Link.says.tells c.fetch.new.self) (g.C.Contents.tells c.args.contents.now) (g.met.D.Disk.only_now (disk_of node.link.journal)) bytes b more.0 more.1 more.2
+    unmoved_goes g.D.Disk.says node chronicle up (g.L.Link.says.tells c.fetch.new.self) (g.C.Contents.tells c.args.contents.now) bytes b more.0 more.1 more.2
 
 pub returns-in-End-clause-node : goal.returns-in-End-clause-node
 returns-in-End-clause-node g c = λ chronicle n. record { now = chronicle; no_fewer = earlier_self chronicle; is_node = n }
@@ -45,7 +44,7 @@ pub returns-in-End-clause-behind : goal.returns-in-End-clause-behind
 returns-in-End-clause-behind g c = λ chronicle up told bytes groups b.
     let node = c.args.self.now in
     let more = c.fetch.ensures.grows up.texts told in
-    unmoved_goes g.D.Disk.says node chronicle up (g.L.Link.says.tells c.fetch.new.self) (g.C.Contents.tells c.args.contents.now) (g.met.D.Disk.only_now (disk_of node.link.journal)) bytes b more.0 more.1 more.2
+    unmoved_goes g.D.Disk.says node chronicle up (g.L.Link.says.tells c.fetch.new.self) (g.C.Contents.tells c.args.contents.now) bytes b more.0 more.1 more.2
 
 -- ---- the next generation
 

@@ -35,7 +35,7 @@ returns-in_err-piece-clause-behind g c = λ chronicle up told bytes groups b.
     let T = g.L.Link.says.tells c.args.link.now in
     let B = g.C.Contents.tells c.args.contents.now in
     told_as g.D.Disk.says node node chronicle up (λ texts. texts ≡ up.texts) T B B (λ texts is. subst T (sym is) told) (λ bytes has. has)
-    (at_first g.D.Disk.says node chronicle up B (g.met.D.Disk.only_now (disk_of node.link.journal)) bytes b)
+    (at_first g.D.Disk.says node chronicle up B bytes b)
 
 -- ---- what is in doubt can't be settled
 

@@ -3,7 +3,6 @@ use Rattle.archive_file.specs.Archive.{disk_of as archive_disk_of, used_of}
 use Rattle.depot_rows.specs.table_changes.Changed.{rows_of}
 use Rattle.depot_rows.specs.table_store.declared.tables.Tables.{Tables}
 use Rattle.disk_journal.specs.Images.{with_group}
-use Rattle.disk_journal.specs.Stands.{disk_of}
 use Rattle.journal_groups.specs.Groups.{group_text}
 use Rattle.replica_chain.specs.Copying.{named_ends}
 use Rattle.replica_chain.specs.Pulling.{HasTakenGroup, IsRefused}
@@ -35,7 +34,7 @@ returns-in_err-tables-clause-node g c = λ chronicle n. record { now = chronicle
 pub returns-in_err-tables-clause-behind : goal.returns-in_err-tables-clause-behind
 returns-in_err-tables-clause-behind g c = λ chronicle up told b has.
     let node = c.args.self.now in
-    at_first g.D.Disk.says node chronicle up (g.C.Contents.tells c.args.contents.now) (g.met.D.Disk.only_now (disk_of node.link.journal)) told b
+    at_first g.D.Disk.says node chronicle up (g.C.Contents.tells c.args.contents.now) told b
 
 -- ---- it wasn't committed
 

@@ -2,7 +2,6 @@ use Rattle.std.proofs.Common.{◌≡◌, ℕ, List, [], ◌∷◌, ◌++◌, len
 use Rattle.outside_api.specs.Link.{text_of}
 use Rattle.depot_rows.specs.db_records.declared.change.Change.{Change}
 use Rattle.depot_rows.specs.table_changes.Changed.{AllFitIn, rows_of}
-use Rattle.disk_journal.specs.Stands.{disk_of}
 use Rattle.journal_groups.specs.Groups.{IsGroup, group_text}
 use Rattle.journal_groups.specs.Causes.{GoesOn}
 use Rattle.journal_groups.specs.Reader.{HasRecords, HasTaken}
@@ -32,7 +31,7 @@ loop-changes-init g c =
       rest = c.requires.rest;
       taken = ([], (refl, no_group node c.args.reader.now c.requires.at c.requires.number));
       node = λ chronicle n. record { now = chronicle; no_fewer = earlier_self chronicle; is_node = n };
-      behind = λ chronicle up told b stands. (at_first g.D.Disk.says node chronicle up (g.C.Contents.tells c.args.contents.now) (g.met.D.Disk.only_now (disk_of node.link.journal)) told b, stands);
+      behind = λ chronicle up told b stands. (at_first g.D.Disk.says node chronicle up (g.C.Contents.tells c.args.contents.now) told b, stands);
       reached = stays;
       keeps = keeps_first g.D.Disk.says g.met.D.Disk.only_now node.archive;
       contents_count = omega arith;

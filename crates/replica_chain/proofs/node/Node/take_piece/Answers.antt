@@ -1,5 +1,4 @@
 use Rattle.std.proofs.Common.{◌≡◌, inl, inr, ℕ, ◌-◌, List, [], ◌++◌, length, drop, refl, ap, ◌∙◌, arith, length-append}
-use Rattle.disk_journal.specs.Stands.{disk_of}
 use Rattle.journal_groups.specs.Reader.{State}
 use Rattle.replica_chain.specs.Pulling.{IsUntaken, with_piece}
 use Rattle.replica_chain.specs.declared.fault.NodeFault.TheVariants.{BadFeed, Memory}
@@ -33,7 +32,7 @@ returns-then-size-self-clause-behind g c = λ chronicle up told b has.
     let says = g.D.Disk.says in
     let node = c.args.self.now in
     let B = g.C.Contents.tells c.args.contents.now in
-    to_emptied says node node c.replace-rest.new.dest (c.replace-rest.ensures.after ∙ c.new.ensures) chronicle up (λ texts. texts ≡ up.texts) B (at_first says node chronicle up B (g.met.D.Disk.only_now (disk_of node.link.journal)) told b)
+    to_emptied says node node c.replace-rest.new.dest (c.replace-rest.ensures.after ∙ c.new.ensures) chronicle up (λ texts. texts ≡ up.texts) B (at_first says node chronicle up B told b)
 
 -- ---- there is no memory for the rest and the piece together
 
@@ -57,7 +56,7 @@ returns-in_err-text-clause-behind g c = λ chronicle up told b has.
     let says = g.D.Disk.says in
     let node = c.args.self.now in
     let B = g.C.Contents.tells c.args.contents.now in
-    to_emptied says node node c.replace-rest.new.dest (c.replace-rest.ensures.after ∙ c.new.ensures) chronicle up (λ texts. texts ≡ up.texts) B (at_first says node chronicle up B (g.met.D.Disk.only_now (disk_of node.link.journal)) told b)
+    to_emptied says node node c.replace-rest.new.dest (c.replace-rest.ensures.after ∙ c.new.ensures) chronicle up (λ texts. texts ≡ up.texts) B (at_first says node chronicle up B told b)
 
 -- ---- groups were taken, and then one wasn't
 
