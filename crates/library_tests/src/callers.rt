@@ -17,8 +17,10 @@ use depot_rows::tables::Tables;
 use depot_rows::views::{Mapped, View};
 use disk_journal::{Journal, make_files};
 use memory_world::MemoryDisk;
+use named_files::Asker;
 use outside_api::{Disk, Fetched};
 use record_text::{print_record, read_record};
+use row_reads::who_of;
 use std::alloc::{AllocError, Global};
 
 /// A path of a depot.
@@ -214,7 +216,18 @@ fn count_named(alloc: Global, tables: &Tables, argument: &[u8]) -> Option<usize>
     let main = path_of(alloc, b"//depot/main/a.c")?;
     let old = path_of(alloc, b"//depot/old/a.c")?;
     let files = vec![in alloc; main, old].ok()?;
-    let named = named(alloc, tables, &caller, &argument, files.as_slice(), false).ok()?;
+    let who = who_of(alloc, tables, &caller).ok()?;
+    let asker = Asker::with(alloc, tables, &caller, who).ok()?;
+    let named = named(
+        alloc,
+        tables,
+        &caller,
+        &asker,
+        &argument,
+        files.as_slice(),
+        false,
+    )
+    .ok()?;
     Some(named.len())
 }
 
