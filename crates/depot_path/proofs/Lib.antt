@@ -2,6 +2,7 @@ pub mod Answers
 pub mod Spelling
 pub mod Units
 pub mod Paths
+pub mod PlainPaths
 pub mod Texts
 pub mod Rows
 pub mod Columns

@@ -22,11 +22,11 @@ record Alike (text path : List ℕ) : Type 0 where
 false_true : (let b : Bool = false in b) ≡ true → ⊥
 false_true e = absurd cc
 
-and_left : (a b : Bool) → (a && b) ≡ true → a ≡ true
+pub and_left : (a b : Bool) → (a && b) ≡ true → a ≡ true
 and_left true b e = refl
 and_left false b e = absurd (false_true e)
 
-and_right : (a b : Bool) → (a && b) ≡ true → b ≡ true
+pub and_right : (a b : Bool) → (a && b) ≡ true → b ≡ true
 and_right true b e = e
 and_right false b e = absurd (false_true e)
 
@@ -134,10 +134,10 @@ passes text e0 =
       dots = or_second _ _ (no_fault_here _ _ _ e5);
     }
 
-both : (a b : Bool) → a ≡ true → b ≡ true → (a && b) ≡ true
+pub both : (a b : Bool) → a ≡ true → b ≡ true → (a && b) ≡ true
 both a b e f = cc
 
-not_false : (a : Bool) → a ≡ false → not a ≡ true
+pub not_false : (a : Bool) → a ≡ false → not a ≡ true
 not_false a e = ap not e
 
 short : (m n : ℕ) → nat_lt 1024 m ≡ false → m ≡ n → nat_le n 1024 ≡ true
@@ -175,7 +175,7 @@ not_long m n e f = grind (arith, nat_tests)
 not_few : (m n : ℕ) → nat_le 2 n ≡ true → m ≡ n → nat_lt m 2 ≡ false
 not_few m n e f = grind (arith, nat_tests)
 
-not_not : (a : Bool) → not a ≡ true → a ≡ false
+pub not_not : (a : Bool) → not a ≡ true → a ≡ false
 not_not true e = absurd cc
 not_not false e = refl
 

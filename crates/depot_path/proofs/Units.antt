@@ -173,7 +173,7 @@ rest_2 b = cond (b == 0xE0) (Some (tail 2 0xA0 0xBF)) (rest_3 b)
 fine_2 : (b : ℕ) → IsFine (rest_2 b)
 fine_2 b = fine_if (b == 0xE0) (Some (tail 2 0xA0 0xBF)) (rest_3 b) refl (fine_3 b)
 
-abbrev rest_1 : ℕ → Option Tail
+abbrev pub rest_1 : ℕ → Option Tail
 rest_1 b = cond (is_between 0xC2 0xDF b) (Some (tail 1 0x80 0xBF)) (rest_2 b)
 
 fine_1 : (b : ℕ) → IsFine (rest_1 b)
@@ -327,7 +327,7 @@ is_two_dots (Percent ∷ part) = refl
 
 -- ---- what a list of marks spells is read as meant
 
-escaped_plain : (b : ℕ) → IsPlain b → escaped b ≡ b ∷ []
+pub escaped_plain : (b : ℕ) → IsPlain b → escaped b ≡ b ∷ []
 escaped_plain b h = simp (h.no_at, h.no_hash, h.no_star, h.no_percent)
 
 length_cons : (b : ℕ) (xs ys : List ℕ) → length xs ≡ length ys → length (b ∷ xs) ≡ length (b ∷ ys)

@@ -99,3 +99,24 @@ path_fault text = first_fault (
 -- the path that a text spells, or the first fault
 abbrev pub path_of : List ℕ → Result (List ℕ) PathFault
 path_of text = unless (path_fault text) (unescaped 0 text)
+
+-- ---- paths that are printed as they are kept
+
+-- a byte that means itself alone, and may stand behind the other one: no second slash, and no dot behind a slash or a dot
+abbrev pub is_plain_after : ℕ → ℕ → Bool
+is_plain_after before b =
+    nat_le 0x20 b && nat_le b 0x7E && not (is_among (codes "@#*%") b)
+    && not ((b == 0x2F) && (before == 0x2F)) && not ((b == 0x2E) && ((before == 0x2F) || (before == 0x2E)))
+
+-- each byte may stand behind the one before it, and the last is no slash
+abbrev pub are_plain_after : ℕ → List ℕ → Bool
+are_plain_after before [] = not (before == 0x2F)
+are_plain_after before (b ∷ text) = is_plain_after before b && are_plain_after b text
+
+-- two components or more, as they stand behind the two slashes
+abbrev pub are_plain_components : List ℕ → Bool
+are_plain_components text = is_among text 0x2F && are_plain_after 0x2F text
+
+-- a path of printing ASCII bytes without escapes, none of whose components begins with a dot or has two in a row
+abbrev pub is_plain_path : List ℕ → Bool
+is_plain_path text = nat_le (length text) 1024 && begins_with_slashes text && are_plain_components (drop 2 text)

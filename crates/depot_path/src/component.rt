@@ -14,7 +14,7 @@ pub(crate) fn begins_with_slashes(text: &[u8]) -> bool
 }
 
 /// What follows the two slashes.
-fn after_slashes(text: &[u8]) -> &[u8]
+pub(crate) fn after_slashes(text: &[u8]) -> &[u8]
     ensures { result.now ≡ drop 2 text.now }
 {
     text.get(2..).unwrap_or(&[])

@@ -66,7 +66,7 @@ fn push_printed(text: &mut Vec<u8>, byte: u8) -> Result<(), AllocError>
 pub fn print_bytes(alloc: Global, path: &[u8]) -> Result<Text, AllocError>
     ensures { IfOk result (λ text. text ≡ printed path.now) }
 {
-    let mut text = Vec::new(alloc);
+    let mut text = Vec::with_capacity(alloc, path.len())?;
     for byte in path {
         push_printed(&mut text, *byte)?;
     }

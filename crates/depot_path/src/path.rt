@@ -12,6 +12,7 @@ use crate::component::{
 };
 use crate::escape::{escape_at, escape_length, has_bad_escape, print_bytes};
 use crate::fault::PathFault;
+use crate::plain::is_plain_path;
 use crate::text::Text;
 use std::alloc::{AllocError, Global};
 use std::marker::Model;
@@ -114,6 +115,9 @@ fn is_short_as_printed(path: &[u8]) -> bool
 pub fn is_path(bytes: &[u8]) -> bool
     ensures { result ≡ path_test bytes.now }
 {
+    if is_plain_path(bytes) {
+        return true;
+    }
     is_short_as_printed(bytes)
         && begins_with_slashes(bytes)
         && !has_one_component(bytes)
@@ -129,6 +133,12 @@ impl DepotPath {
     pub fn read(alloc: Global, text: &[u8]) -> Result<Self, PathFault>
         ensures { Answers PathFault.Memory result (path_of text.now) }
     {
+        if is_plain_path(text) {
+            let Ok(bytes) = Text::from_bytes(alloc, text) else {
+                return Err(PathFault::Memory);
+            };
+            return Ok(DepotPath { bytes });
+        }
         if let Some(fault) = path_fault(text) {
             return Err(fault);
         }
