@@ -4,13 +4,16 @@ ghost use Rattle.std.specs.Prelude.{◌≡◌, IfOk};
 ghost use Rattle.depot_rows.specs.depot_model.Rules.{is_printed_path as path_test, is_kept_name as kept_test, is_move_word as move_test, is_delete_word as delete_test, is_one_of, action_words};
 ghost use Rattle.row_rules.specs.Tests.{how_words, status_words, is_moved as moved_test};
 
-use depot_rows::paths::{DepotPath, PathFault};
+use depot_rows::paths::{DepotPath, PathFault, is_plain_path};
 use std::alloc::{AllocError, Global};
 
 /// Whether a text is a path as it is printed.
 pub(crate) fn is_path(alloc: Global, text: &[u8]) -> Result<bool, AllocError>
     ensures { IfOk result (λ is. is ≡ path_test text.now) }
 {
+    if is_plain_path(text) {
+        return Ok(true);
+    }
     match DepotPath::read(alloc, text) {
         Ok(path) => {
             let printed = path.print(alloc)?;
