@@ -1,6 +1,9 @@
 //! Changes of tables.
 
+ghost use Rattle.std.specs.Prelude.{◌≡◌, IfOk};
+
 use crate::record::Record;
+use std::alloc::AllocError;
 
 /// What is done with a row.
 #[derive(Clone, Copy, PartialEq, Eq)]
@@ -23,6 +26,23 @@ pub struct Change {
 impl Drop for Change {
     fn drop(self) {
         let Change { op: _, row: _ } = self;
+    }
+}
+
+impl Change {
+    /// The same change once more. The one error is want of memory.
+    pub fn copy(&self) -> Result<Change, AllocError>
+        ensures { IfOk result (λ change. change ≡ self.now) }
+    {
+        self.clone()
+    }
+
+    /// The row, which takes no memory.
+    pub fn into_row(self) -> Record
+        ensures { result ≡ self.row }
+    {
+        let Change { op: _, row } = self;
+        row
     }
 }
 

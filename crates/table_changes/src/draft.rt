@@ -54,14 +54,26 @@ impl TablesDraft {
         self.draft(change.row.table()).fits(change)
     }
 
-    /// Makes a change that fits. The one error is want of memory, and then the rows stay as they were.
+    /// Makes a copy of a change that fits. The one error is want of memory, and then the rows stay as they
+    /// were.
     pub fn change(&mut self, alloc: Global, change: &Change) -> Result<(), AllocError>
         requires { FitsIn (rows_of_draft self.old) change.now }
         ensures ok { OnOk result (rows_of_draft self.new ≡ changed_in (rows_of_draft self.old) change.now) }
         ensures err { OnErr result (rows_of_draft self.new ≡ rows_of_draft self.old) }
         ensures end { self.new.archive_end ≡ self.old.archive_end }
     {
-        self.drafts[change.row.table().number()].change(alloc, change)
+        self.take(alloc, change.copy()?)
+    }
+
+    /// Makes a change that fits, and keeps its row. The one error is want of memory, and then the rows
+    /// stay as they were.
+    pub fn take(&mut self, alloc: Global, change: Change) -> Result<(), AllocError>
+        requires { FitsIn (rows_of_draft self.old) change }
+        ensures ok { OnOk result (rows_of_draft self.new ≡ changed_in (rows_of_draft self.old) change) }
+        ensures err { OnErr result (rows_of_draft self.new ≡ rows_of_draft self.old) }
+        ensures end { self.new.archive_end ≡ self.old.archive_end }
+    {
+        self.drafts[change.row.table().number()].take(alloc, change)
     }
 
     /// The tables with these rows. The one error is want of memory.

@@ -92,18 +92,29 @@ impl Draft {
         change.row.table() == self.table && fits(&self.tree, change)
     }
 
-    /// Makes a change that fits. The one error is want of memory, and then the rows stay as they
+    /// Makes a copy of a change that fits. The one error is want of memory, and then the rows stay as they
     /// were.
     pub fn change(&mut self, alloc: Global, change: &Change) -> Result<(), AllocError>
         requires { Fits self.old change.now }
         ensures ok { OnOk result (self.new ≡ with_rows self.old (changed_once self.old.rows change.now)) }
         ensures err { OnErr result (self.new ≡ self.old) }
     {
+        self.take(alloc, change.copy()?)
+    }
+
+    /// Makes a change that fits, and keeps its row. The one error is want of memory, and then the rows
+    /// stay as they were.
+    pub fn take(&mut self, alloc: Global, change: Change) -> Result<(), AllocError>
+        requires { Fits self.old change }
+        ensures ok { OnOk result (self.new ≡ with_rows self.old (changed_once self.old.rows change)) }
+        ensures err { OnErr result (self.new ≡ self.old) }
+    {
+        let op = change.op;
         self.protects = None;
-        let row = SharedRow::copy_of(alloc, &change.row)?;
-        if change.op != Op::Remove {
-            change_place(&mut self.marked, alloc, change.op, &row)?;
-            return self.tree.change(alloc, change.op, &row);
+        let row = SharedRow::new(alloc, change.into_row())?;
+        if op != Op::Remove {
+            change_place(&mut self.marked, alloc, op, &row)?;
+            return self.tree.change(alloc, op, &row);
         }
         self.tree.change(alloc, Op::Remove, &row)?;
         // Without memory for it the place stays: it costs a look-up, and finds nothing.

@@ -23,12 +23,12 @@ impl Model for SharedRow {
 }
 
 impl SharedRow {
-    /// A copy of a row. The one error is want of memory.
-    pub(crate) fn copy_of(alloc: Global, row: &Record) -> Result<SharedRow, AllocError>
-        ensures { IfOk result (λ shared. shared ≡ row.now) }
+    /// A row, of which this is the first share. The one error is want of memory.
+    pub(crate) fn new(alloc: Global, row: Record) -> Result<SharedRow, AllocError>
+        ensures { IfOk result (λ shared. shared ≡ row) }
     {
         Ok(SharedRow {
-            row: Arc::new(alloc, row.copy()?)?,
+            row: Arc::new(alloc, row)?,
         })
     }
 

@@ -1,31 +1,13 @@
-use Rattle.std.proofs.Common.{◌≡◌, ℕ, OnOk, get_or, set, ap, subst, sym, ◌∙◌}
-use Rattle.table_store.specs.db_records.Table.{table_number}
-use Rattle.table_changes.specs.Changed.{changed_in}
-use Rattle.table_changes.specs.InOrder.{all_numbers, numbers_of}
-use Rattle.table_changes.proofs.Drafts.{fits_at, order_after, rows_after, rows_at}
+use Rattle.std.proofs.Common.{◌≡◌, OnOk, subst, sym}
+use Rattle.table_store.specs.db_records.declared.change.Change.{Change}
+use Rattle.table_changes.specs.Changed.{FitsIn, changed_in}
+use Rattle.table_changes.specs.Drafts.{rows_of_draft}
 use Rattle.table_changes.proofs.draft.TablesDraft.change.Goals as goal
 
-pub change-requires : goal.change-requires
-change-requires c =
-    let self = c.args.self.now in
-    let old = c.index_mut.result.now in
-    let At : ℕ → Type 0 = λ at. old ≡ get_or self.drafts.items at old in
-    fits_at self.drafts.items self.in_order c.args.change.now old (subst At (c.number.ensures ∙ ap table_number c.table.ensures) c.index_mut.ensures.value) c.requires
-
-pub invariant_of-self-clause-in_order : goal.invariant_of-self-clause-in_order
-invariant_of-self-clause-in_order c =
-    let self = c.args.self.now in
-    let old = c.index_mut.result.now in
-    let at_is = c.number.ensures ∙ ap table_number c.table.ensures in
-    let At : ℕ → Type 0 = λ at. old ≡ get_or self.drafts.items at old in
-    let Ordered : ℕ → Type 0 = λ at. numbers_of (set self.drafts.items at c.change.new.self) ≡ all_numbers in
-    subst Ordered (sym at_is) (order_after self.drafts.items self.in_order c.args.change.now old (subst At at_is c.index_mut.ensures.value) c.change.new.self c.change.result c.change.ensures.ok c.change.ensures.err)
+pub take-requires : goal.take-requires
+take-requires c = subst (λ (change : Change). FitsIn (rows_of_draft c.args.self.now) change) (sym c.in_ok-copy.ensures) c.requires
 
 pub returns-clause-ok : goal.returns-clause-ok
 returns-clause-ok c =
-    let self = c.args.self.now in
-    let old = c.index_mut.result.now in
-    let at_is = c.number.ensures ∙ ap table_number c.table.ensures in
-    let At : ℕ → Type 0 = λ at. old ≡ get_or self.drafts.items at old in
-    let Changed : ℕ → Type 0 = λ at. OnOk c.change.result (rows_at (set self.drafts.items at c.change.new.self) ≡ changed_in (rows_at self.drafts.items) c.args.change.now) in
-    subst Changed (sym at_is) (rows_after self.drafts.items self.in_order c.args.change.now old (subst At at_is c.index_mut.ensures.value) c.change.new.self c.change.result c.change.ensures.ok)
+    let rows = rows_of_draft c.args.self.now in
+    subst (λ (change : Change). OnOk c.take.result (rows_of_draft c.take.new.self ≡ changed_in rows change)) c.in_ok-copy.ensures c.take.ensures.ok
