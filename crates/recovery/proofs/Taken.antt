@@ -1,8 +1,8 @@
 -- The puts of a checkpoint that were taken of its file.
-use Rattle.std.proofs.Common.{◌≡◌, ℕ, ◌+◌, ◌*◌, ◌<◌, ◌≤◌, List, [], ◌∷◌, ◌++◌, length, Option, Some, refl, sym, ap, subst, ◌∙◌, arith, append_assoc}
+use Rattle.std.proofs.Common.{◌≡◌, ℕ, ◌+◌, ◌*◌, ◌<◌, ◌≤◌, List, [], ◌∷◌, ◌++◌, length, Option, Some, None, Result, Ok, Err, OnOk, refl, sym, ap, subst, ◌∙◌, arith, append_assoc}
 use Rattle.outside_api.specs.Disk.{Files}
 use Rattle.depot_rows.specs.db_records.declared.change.Change.{Change}
-use Rattle.depot_rows.specs.table_changes.Changed.{AllRows, FitsIn, changed_in, no_rows}
+use Rattle.depot_rows.specs.table_changes.Changed.{AllRows, AllFitIn, FitsIn, changed_by, changed_in, no_rows}
 use Rattle.record_text.specs.Grammar.{IsRecord, largest_wide}
 use Rattle.journal_groups.specs.Groups.{body_of, change_text, head_of}
 use Rattle.journal_groups.specs.Reading.{window_at}
@@ -10,7 +10,7 @@ use Rattle.journal_groups.proofs.Whole.{records_joined}
 use Rattle.recovery.specs.Damage.{IsCheckpointDamage}
 use Rattle.recovery.specs.Holding.{ArePuts}
 use Rattle.recovery.specs.Pieces.{IsStop, KnowsEnd, text_left}
-use Rattle.recovery.specs.Reading.{HasCheckpoint, HasPut, HasTaken}
+use Rattle.recovery.specs.Reading.{HasCheckpoint, HasPut, HasTaken, IsLastOf}
 use Rattle.recovery.specs.declared.pieces.FileGroups.{FileGroups}
 use Rattle.recovery.proofs.CheckpointDamage.{long_more, put_damage, record_damage, text_more}
 use Rattle.recovery.proofs.Fits.{changed_joined, fits_behind}
@@ -18,16 +18,40 @@ use Rattle.recovery.proofs.PutsFit.{puts_fit}
 
 -- ---- one put more
 
--- a put above the others fits
-pub put_fits : (puts : List Change) (last : Option Change) (rows : AllRows) (change : Change) → HasPut puts last rows → ArePuts (puts ++ change ∷ []) → FitsIn rows change
-put_fits puts last rows change has more =
-    subst (λ (r : AllRows). FitsIn r change) (sym has.rows_are) (fits_behind no_rows puts (change ∷ []) (puts_fit (puts ++ change ∷ []) more)).0
+-- the last of some puts was put behind all others
+pub last_put : (puts : List Change) (waiting : Option Change) (rows : AllRows) → HasPut puts waiting rows → IsLastOf puts waiting
+last_put puts None rows has = has.all_but_last.0
+last_put puts (Some last) rows has = (has.all_but_last.0, has.all_but_last.1.0)
 
-pub one_put : (puts : List Change) (last : Option Change) (rows after : AllRows) (change : Change) → HasPut puts last rows → ArePuts (puts ++ change ∷ []) → after ≡ changed_in rows change → HasPut (puts ++ change ∷ []) (Some change) after
-one_put puts last rows after change has more made = record {
+-- the put that waits fits
+pub waiting_fits : (puts : List Change) (waiting : Change) (rows : AllRows) → HasPut puts (Some waiting) rows → FitsIn rows waiting
+waiting_fits puts waiting rows has =
+    let front = has.all_but_last.0 in
+    let all : puts ≡ front ++ waiting ∷ [] = has.all_but_last.1.0 in
+    let fit : AllFitIn no_rows (front ++ waiting ∷ []) = subst (AllFitIn no_rows) all (puts_fit puts has.are_puts) in
+    subst (λ (r : AllRows). FitsIn r waiting) (sym has.all_but_last.1.1) (fits_behind no_rows front (waiting ∷ []) fit).0
+
+-- where it is made, all are
+waiting_put : (puts : List Change) (waiting : Change) (rows after : AllRows) → HasPut puts (Some waiting) rows → after ≡ changed_in rows waiting → after ≡ changed_by no_rows puts
+waiting_put puts waiting rows after has made =
+    let front = has.all_but_last.0 in
+    made
+    ∙ ap (λ (r : AllRows). changed_in r waiting) has.all_but_last.1.1
+    ∙ sym (changed_joined no_rows front (waiting ∷ []))
+    ∙ ap (λ (l : List Change). changed_by no_rows l) (sym has.all_but_last.1.0)
+
+pub waiting_made : {A E : Type 0} (puts : List Change) (waiting : Change) (rows after : AllRows) (r : Result A E) → HasPut puts (Some waiting) rows → OnOk r (after ≡ changed_in rows waiting) → OnOk r (after ≡ changed_by no_rows puts)
+waiting_made puts waiting rows after (Ok a) has made = waiting_put puts waiting rows after has made
+waiting_made puts waiting rows after (Err e) has made = tt
+
+pub none_waits : (puts : List Change) (rows : AllRows) → HasPut puts None rows → rows ≡ changed_by no_rows puts
+none_waits puts rows has = has.all_but_last.1 ∙ ap (λ (l : List Change). changed_by no_rows l) (sym has.all_but_last.0)
+
+-- a put more waits, after the one before it was made
+pub one_put : (puts : List Change) (after : AllRows) (change : Change) → ArePuts (puts ++ change ∷ []) → after ≡ changed_by no_rows puts → HasPut (puts ++ change ∷ []) (Some change) after
+one_put puts after change more made = record {
   are_puts = more;
-  last_is = (puts, refl);
-  rows_are = made ∙ ap (λ (r : AllRows). changed_in r change) has.rows_are ∙ sym (changed_joined no_rows puts (change ∷ []));
+  all_but_last = (puts, (refl, made));
 }
 
 -- ---- what was taken of the file
@@ -89,13 +113,13 @@ module _ (seen : Files → Type 0) (generation left : ℕ) (groups : FileGroups)
         ((taken.text files read).1 ∙ ap (λ (t : List ℕ). head_of generation taken.size ++ (body_of puts ++ t)) first) taken.at
 
 -- all of its records were taken
-pub checkpoint_taken : (seen : Files → Type 0) (generation : ℕ) (groups : FileGroups) (puts : List Change) (last : Option Change) (rows : AllRows) → HasTaken seen generation groups 0 puts → HasPut puts last rows → HasCheckpoint seen generation rows
-checkpoint_taken seen generation groups puts last rows taken has =
+pub checkpoint_taken : (seen : Files → Type 0) (generation : ℕ) (groups : FileGroups) (puts : List Change) (rows : AllRows) → HasTaken seen generation groups 0 puts → ArePuts puts → rows ≡ changed_by no_rows puts → HasCheckpoint seen generation rows
+checkpoint_taken seen generation groups puts rows taken are put =
     let whole : taken.size ≡ length (body_of puts) = omega (arith, taken.sizes) in
     record {
       puts = puts;
-      is = record { are_puts = has.are_puts; is_group = (taken.are_records, omega (arith, taken.wide, whole)); fit = puts_fit puts has.are_puts };
-      rows_are = has.rows_are;
+      is = record { are_puts = are; is_group = (taken.are_records, omega (arith, taken.wide, whole)); fit = puts_fit puts are };
+      rows_are = put;
       text = λ files read. record {
         behind = text_left groups files;
         is = (taken.text files read).1 ∙ ap (λ (n : ℕ). head_of generation n ++ (body_of puts ++ text_left groups files)) whole ∙ sym (append_assoc (head_of generation (length (body_of puts))) (body_of puts) (text_left groups files));

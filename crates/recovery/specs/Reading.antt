@@ -33,11 +33,15 @@ abbrev pub IsLastOf : List Change → Option Change → Type 0
 IsLastOf changes None = changes ≡ []
 IsLastOf changes (Some last) = (front : List Change) × (changes ≡ front ++ last ∷ [])
 
--- these puts were made where there were no rows, and this is the last
-pub record HasPut (puts : List Change) (last : Option Change) (rows : AllRows) : Type 0 where
+-- these rows are left where there were none and all of some changes were made but the last
+abbrev pub AllButLast : List Change → Option Change → AllRows → Type 0
+AllButLast changes None rows = (changes ≡ []) × (rows ≡ no_rows)
+AllButLast changes (Some last) rows = (front : List Change) × ((changes ≡ front ++ last ∷ []) × (rows ≡ changed_by no_rows front))
+
+-- these puts were made where there were no rows, but for the last, which waits
+pub record HasPut (puts : List Change) (waiting : Option Change) (rows : AllRows) : Type 0 where
   pub are_puts : ArePuts puts
-  pub last_is : IsLastOf puts last
-  pub rows_are : rows ≡ changed_by no_rows puts
+  pub all_but_last : AllButLast puts waiting rows
 
 -- the head of the checkpoint of a generation and records were taken of its file, and so many bytes of records are to come
 pub record HasTaken (seen : Files → Type 0) (generation : ℕ) (groups : FileGroups) (left : ℕ) (records : List Change) : Type 0 where

@@ -1,7 +1,8 @@
 //! The puts of a checkpoint, one after another.
 
-ghost use Rattle.std.specs.Prelude.{◌↔◌, [], ◌∷◌, ◌++◌, List, IfOk, IsTrue, IsFalse};
+ghost use Rattle.std.specs.Prelude.{◌≡◌, ◌↔◌, [], ◌∷◌, ◌++◌, List, IfOk, IsTrue, IsFalse, OnOk};
 ghost use Rattle.depot_rows.specs.db_records.declared.change.Change.{Change};
+ghost use Rattle.depot_rows.specs.table_changes.Changed.{changed_by, no_rows};
 ghost use Rattle.depot_rows.specs.table_changes.Drafts.{rows_of_draft};
 ghost use Rattle.recovery.specs.Holding.{ArePuts};
 ghost use Rattle.recovery.specs.Reading.{HasPut, IsLastOf};
@@ -23,8 +24,23 @@ fn follows(last: &Option<Change>, change: &Change) -> bool
     }
 }
 
-/// Makes a change in a draft, where it puts a row above the last one that was put, and tells whether it does. The one error
-/// is want of memory, after which nothing is said of the draft.
+/// Makes the put that waits in a draft, if there is one.
+pub(crate) fn put_waiting(
+    alloc: Global,
+    draft: &mut TablesDraft,
+    waiting: Option<Change>,
+) -> Result<(), AllocError>
+    requires { (puts : List Change) × HasPut puts waiting (rows_of_draft draft.old) }
+    ensures { (puts : List Change) → HasPut puts waiting (rows_of_draft draft.old) → OnOk result (rows_of_draft draft.new ≡ changed_by no_rows puts) }
+{
+    match waiting {
+        Some(change) => draft.take(alloc, change),
+        None => Ok(()),
+    }
+}
+
+/// Has a change wait to be made in a draft, where it puts a row above the one of the put that waited, which it makes. Tells whether it
+/// does. The one error is want of memory, after which nothing is said of the draft.
 pub(crate) fn put_above(
     alloc: Global,
     draft: &mut TablesDraft,
@@ -39,14 +55,6 @@ pub(crate) fn put_above(
         drop(change);
         return Ok(false);
     }
-    match draft.change(alloc, &change) {
-        Ok(()) => {
-            drop(last.replace(change));
-            Ok(true)
-        }
-        Err(error) => {
-            drop(change);
-            Err(error)
-        }
-    }
+    put_waiting(alloc, draft, last.replace(change))?;
+    Ok(true)
 }

@@ -20,7 +20,7 @@ ghost use Rattle.recovery.specs.declared.fault.OpenFault.TheVariants.{DiskFault}
 
 use crate::fault::OpenFault;
 use crate::pieces::FileGroups;
-use crate::puts::put_above;
+use crate::puts::{put_above, put_waiting};
 use depot_rows::changes::TablesDraft;
 use depot_rows::paths::{Sequence, Text};
 use depot_rows::records::Change;
@@ -154,7 +154,7 @@ fn put_all<D: Disk>(
             }
         }
     }
-    drop(last);
+    put_waiting(alloc, draft, last)?;
     Ok(())
 }
 

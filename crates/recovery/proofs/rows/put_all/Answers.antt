@@ -38,10 +38,13 @@ returns-in-Err-clause-damaged g c = λ generation begun last files read.
     let taken = taken_alike (g.D.Disk.says.seen c.args.disk.now) (g.D.Disk.says.seen loop.disk) generation loop.left loop.groups here.0 loop.invariant.reads.same.no_more here.1.0 in
     passed_damage ℕ P P {X = Unit {0}} (Err c.in-Err.fault) c.in-Err.fault refl (c.in-Err.ensures.damaged generation here.0 taken here.1.1 last files (loop.invariant.reads.same.kept files read)) (λ place bad. bad)
 
+pub put_waiting-requires : goal.put_waiting-requires
+put_waiting-requires g c = let begun = c.requires.taken in let here = c.loop-left.invariant.so_far begun.0 begun.1 in (here.0, here.1.1)
+
 pub returns-clause-rows : goal.returns-clause-rows
 returns-clause-rows g c = λ generation begun.
     let loop = c.loop-left in
     let seen = g.D.Disk.says.seen c.args.disk.now in
     let here = loop.invariant.so_far generation begun in
     let none : loop.left ≡ 0 = omega (arith, c.loop-left-test.false) in
-    checkpoint_taken seen generation loop.groups here.0 loop.last (rows_of_draft loop.draft) (subst (λ (n : ℕ). HasTaken seen generation loop.groups n here.0) none here.1.0) here.1.1
+    checkpoint_taken seen generation loop.groups here.0 (rows_of_draft c.put_waiting.new.draft) (subst (λ (n : ℕ). HasTaken seen generation loop.groups n here.0) none here.1.0) here.1.1.are_puts (c.in_ok-put_waiting.ensures here.0 here.1.1)
